@@ -1,0 +1,12 @@
+//! Lists of bytes, of UTF-16 units and of names; folding; little-endian fields; the kinds of fault.
+#![tactic(auto)]
+
+mod fault;
+mod fields;
+mod folding;
+mod lists;
+
+pub use fault::{HiveFault, HiveKind, ReadStop};
+pub use fields::{put_u16, put_u32, put_u64, u16_at, u32_at, u64_at};
+pub use folding::{compare_folded, fold, same_folded};
+pub use lists::{Bytes, Names, Row, Units};
