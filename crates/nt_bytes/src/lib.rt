@@ -1,12 +1,20 @@
-//! Lists of bytes, of UTF-16 units and of names; folding; little-endian fields; the kinds of fault.
+//! Lists of bytes, of UTF-16 units and of names; folding; little-endian fields; strings in values;
+//! lines and words of texts; the kinds of fault.
 #![tactic(auto)]
 
 mod fault;
 mod fields;
 mod folding;
 mod lists;
+mod strings;
+mod text;
 
 pub use fault::{HiveFault, HiveKind, ReadStop};
 pub use fields::{put_u16, put_u32, put_u64, u16_at, u32_at, u64_at};
 pub use folding::{compare_folded, fold, same_folded};
 pub use lists::{Bytes, Names, Row, Units};
+pub use strings::{multi_sz, narrow, sz, wide};
+pub use text::{are_digits, first_line, hex_digit, is_named, trim, value_of};
+
+#[cfg(test)]
+mod tests;

@@ -1,13 +1,14 @@
 //! Growing lists that contracts see as lists.
 
-ghost use Rattle.std.specs.Prelude.{◌≡◌, ℕ, List, [], ◌∷◌, ◌++◌, length, take, drop, slice_index_or, ◌+◌, ◌<◌, ◌≤◌, IfOk, OnOk, OnErr};
+ghost use Rattle.std.specs.Prelude.{◌≡◌, ◌==◌, ℕ, List, [], ◌∷◌, ◌++◌, length, take, drop, slice_index_or, ◌+◌, ◌<◌, ◌≤◌, IfOk, OnOk, OnErr, slice_get};
+ghost use Rattle.std.specs.Option.{option_copied};
 ghost use Rattle.std.specs.Int.{w16, w32, to_le_bytes};
 ghost use lib.ListN.{replicate};
 
 use std::alloc::{AllocError, Global};
 use std::marker::Model;
 
-/// UTF-16 units.
+/// UTF-16 units, as of a name or of a text in a value. Contracts see them as a list of numbers.
 #[derive(Debug, Drop)]
 pub struct Units {
     units: Vec<u16>,
@@ -20,6 +21,7 @@ impl Model for Units {
 }
 
 impl Units {
+    /// The empty list. It takes no memory yet.
     pub fn new(alloc: Global) -> Units
         ensures { result ≡ [] }
     {
@@ -28,6 +30,7 @@ impl Units {
         }
     }
 
+    /// A copy of the units.
     pub fn from_slice(alloc: Global, units: &[u16]) -> Result<Units, AllocError>
         ensures { IfOk result (λ u. u ≡ units.now) }
     {
@@ -36,18 +39,21 @@ impl Units {
         })
     }
 
+    /// The same list. Nothing is copied.
     pub fn from_vec(units: Vec<u16>) -> Units
         ensures { result ≡ units.items }
     {
         Units { units }
     }
 
+    /// The same list. Nothing is copied.
     pub fn into_vec(self) -> Vec<u16>
         ensures { result.items ≡ self }
     {
         self.units
     }
 
+    /// Puts one more behind. Without memory for it the list stays as it was.
     pub fn push(&mut self, unit: u16) -> Result<(), AllocError>
         ensures ok { OnOk result (self.new ≡ self.old ++ unit ∷ []) }
         ensures err { OnErr result (self.new ≡ self.old) }
@@ -56,20 +62,35 @@ impl Units {
         Ok(())
     }
 
+    /// What is in the list, in order.
     pub fn as_slice(&self) -> &[u16]
         ensures { result.now ≡ self.now }
     {
         self.units.as_slice()
     }
 
+    /// How many units there are.
     pub fn len(&self) -> usize
         ensures { result ≡ length self.now }
     {
         self.units.len()
     }
+
+    pub fn is_empty(&self) -> bool
+        ensures { result ≡ (length self.now == 0) }
+    {
+        self.units.is_empty()
+    }
+
+    /// The same units in memory of their own.
+    pub fn copy(&self, alloc: Global) -> Result<Units, AllocError>
+        ensures { IfOk result (λ u. u ≡ self.now) }
+    {
+        Units::from_slice(alloc, self.as_slice())
+    }
 }
 
-/// Bytes.
+/// Bytes, which contracts see as a list of numbers.
 #[derive(Debug, Drop)]
 pub struct Bytes {
     bytes: Vec<u8>,
@@ -82,6 +103,7 @@ impl Model for Bytes {
 }
 
 impl Bytes {
+    /// The empty list. It takes no memory yet.
     pub fn new(alloc: Global) -> Bytes
         ensures { result ≡ [] }
     {
@@ -90,18 +112,21 @@ impl Bytes {
         }
     }
 
+    /// The same list. Nothing is copied.
     pub fn from_vec(bytes: Vec<u8>) -> Bytes
         ensures { result ≡ bytes.items }
     {
         Bytes { bytes }
     }
 
+    /// The same list. Nothing is copied.
     pub fn into_vec(self) -> Vec<u8>
         ensures { result.items ≡ self }
     {
         self.bytes
     }
 
+    /// A copy of the bytes.
     pub fn from_slice(alloc: Global, bytes: &[u8]) -> Result<Bytes, AllocError>
         ensures { IfOk result (λ b. b ≡ bytes.now) }
     {
@@ -110,6 +135,7 @@ impl Bytes {
         })
     }
 
+    /// Puts one more behind. Without memory for it the list stays as it was.
     pub fn push(&mut self, byte: u8) -> Result<(), AllocError>
         ensures ok { OnOk result (self.new ≡ self.old ++ byte ∷ []) }
         ensures err { OnErr result (self.new ≡ self.old) }
@@ -118,6 +144,7 @@ impl Bytes {
         Ok(())
     }
 
+    /// What is in the list, in order.
     pub fn as_slice(&self) -> &[u8]
         ensures { result.now ≡ self.now }
     {
@@ -126,12 +153,27 @@ impl Bytes {
 }
 
 impl Bytes {
+    /// How many bytes there are.
     pub fn len(&self) -> usize
         ensures { result ≡ length self.now }
     {
         self.bytes.len()
     }
 
+    pub fn is_empty(&self) -> bool
+        ensures { result ≡ (length self.now == 0) }
+    {
+        self.bytes.is_empty()
+    }
+
+    /// The same bytes in memory of their own.
+    pub fn copy(&self, alloc: Global) -> Result<Bytes, AllocError>
+        ensures { IfOk result (λ b. b ≡ self.now) }
+    {
+        Bytes::from_slice(alloc, self.as_slice())
+    }
+
+    /// Puts the bytes behind. Without memory for them the list stays as it was.
     pub fn append(&mut self, bytes: &[u8]) -> Result<(), AllocError>
         ensures ok { OnOk result (self.new ≡ self.old ++ bytes.now) }
         ensures err { OnErr result (self.new ≡ self.old) }
@@ -139,6 +181,7 @@ impl Bytes {
         self.bytes.extend_from_slice(bytes)
     }
 
+    /// Puts a number of two bytes behind, the low byte first.
     pub fn put_u16(&mut self, v: u16) -> Result<(), AllocError>
         ensures ok { OnOk result (self.new ≡ self.old ++ to_le_bytes w16 v) }
         ensures err { OnErr result (self.new ≡ self.old) }
@@ -146,6 +189,7 @@ impl Bytes {
         self.bytes.extend_from_slice(&v.to_le_bytes())
     }
 
+    /// Puts a number of four bytes behind, the low byte first.
     pub fn put_u32(&mut self, v: u32) -> Result<(), AllocError>
         ensures ok { OnOk result (self.new ≡ self.old ++ to_le_bytes w32 v) }
         ensures err { OnErr result (self.new ≡ self.old) }
@@ -153,6 +197,7 @@ impl Bytes {
         self.bytes.extend_from_slice(&v.to_le_bytes())
     }
 
+    /// Puts n zero bytes behind.
     pub fn append_zeros(&mut self, n: usize) -> Result<(), AllocError>
         ensures { OnOk result (self.new ≡ self.old ++ replicate n 0) }
     {
@@ -182,7 +227,7 @@ impl Bytes {
     }
 }
 
-/// Names, as in a path from the root down.
+/// Names, as in a path from the root down. Contracts see them as a list of lists of units.
 #[derive(Debug, Drop)]
 pub struct Names {
     names: Vec<Units>,
@@ -195,6 +240,7 @@ impl Model for Names {
 }
 
 impl Names {
+    /// The empty list. It takes no memory yet.
     pub fn new(alloc: Global) -> Names
         ensures { result ≡ [] }
     {
@@ -203,6 +249,7 @@ impl Names {
         }
     }
 
+    /// Puts one more behind. Without memory for it the list stays as it was.
     pub fn push(&mut self, name: Units) -> Result<(), AllocError>
         ensures ok { OnOk result (self.new ≡ self.old ++ name ∷ []) }
         ensures err { OnErr result (self.new ≡ self.old) }
@@ -211,12 +258,34 @@ impl Names {
         Ok(())
     }
 
+    /// What is in the list, in order.
     pub fn as_slice(&self) -> &[Units]
         ensures { result.now ≡ self.now }
     {
         self.names.as_slice()
     }
 
+    /// How many names there are.
+    pub fn len(&self) -> usize
+        ensures { result ≡ length self.now }
+    {
+        self.names.len()
+    }
+
+    pub fn is_empty(&self) -> bool
+        ensures { result ≡ (length self.now == 0) }
+    {
+        self.names.is_empty()
+    }
+
+    /// The same names in memory of their own.
+    pub fn copy(&self, alloc: Global) -> Result<Names, AllocError>
+        ensures { IfOk result (λ n. n ≡ self.now) }
+    {
+        Names::from_slice(alloc, self.as_slice())
+    }
+
+    /// A copy of each name, in order.
     pub fn from_slice(alloc: Global, names: &[Units]) -> Result<Names, AllocError>
         ensures { IfOk result (λ n. n ≡ names.now) }
     {
@@ -230,7 +299,7 @@ impl Names {
 
 /// A growing list of any items, which contracts see as a list. A crate names its own lists by
 /// an alias, as `type Offsets = Row<u32>`.
-#[derive(Drop)]
+#[derive(Debug, Drop)]
 pub struct Row<T> {
     items: Vec<T>,
 }
@@ -244,6 +313,7 @@ impl<T> Model for Row<T> {
 }
 
 impl<T: Drop> Row<T> {
+    /// The empty list. It takes no memory yet.
     pub fn new(alloc: Global) -> Row<T>
         ensures { result ≡ [] }
     {
@@ -252,18 +322,21 @@ impl<T: Drop> Row<T> {
         }
     }
 
+    /// The same list. Nothing is copied.
     pub fn from_vec(items: Vec<T>) -> Row<T>
         ensures { result ≡ items.items }
     {
         Row { items }
     }
 
+    /// The same list. Nothing is copied.
     pub fn into_vec(self) -> Vec<T>
         ensures { result.items ≡ self }
     {
         self.items
     }
 
+    /// Puts one more behind. Without memory for it the list stays as it was.
     pub fn push(&mut self, item: T) -> Result<(), AllocError>
         ensures ok { OnOk result (self.new ≡ self.old ++ item ∷ []) }
         ensures err { OnErr result (self.new ≡ self.old) }
@@ -272,9 +345,30 @@ impl<T: Drop> Row<T> {
         Ok(())
     }
 
+    /// What is in the list, in order.
     pub fn as_slice(&self) -> &[T]
         ensures { result.now ≡ self.now }
     {
         self.items.as_slice()
+    }
+
+    /// How many items there are.
+    pub fn len(&self) -> usize
+        ensures { result ≡ length self.now }
+    {
+        self.items.len()
+    }
+
+    pub fn is_empty(&self) -> bool
+        ensures { result ≡ (length self.now == 0) }
+    {
+        self.items.is_empty()
+    }
+
+    /// The item at this place, counted from 0, if there are that many.
+    pub fn get(&self, place: usize) -> Option<&T>
+        ensures { option_copied result ≡ slice_get self.now place }
+    {
+        self.items.as_slice().get(place)
     }
 }

@@ -1,0 +1,55 @@
+-- Numbers and strings in values (regf format, value data), and the lines and words of texts.
+use Rattle.std.specs.Prelude.{ℕ, ◌+◌, ◌-◌, ◌*◌, Bool, ◌&&◌, ◌||◌, not, List, [], ◌∷◌, length, take, drop, ◌==◌}
+use Rattle.std.specs.List.{prefix_len, suffix_len, take_while, list_all, before_first, slice_split}
+use Rattle.std.specs.Char.{is_ascii_digit}
+use Rattle.std.specs.Str.{str_eq_ignore_ascii_case}
+
+-- the units of the bytes, each from a low and a high byte; an odd last byte is left out
+abbrev pub wide_of : List ℕ → List ℕ
+wide_of [] = []
+wide_of (low ∷ []) = []
+wide_of (low ∷ high ∷ rest) = (low + 256 * high) ∷ wide_of rest
+
+-- the units of a name that is stored with one byte per unit
+abbrev pub narrow_of : List ℕ → List ℕ
+narrow_of bytes = bytes
+
+abbrev pub is_zero : ℕ → Bool
+is_zero unit = unit == 0
+
+-- a string: the units up to the first zero unit
+abbrev pub sz_of : List ℕ → List ℕ
+sz_of bytes = before_first is_zero (wide_of bytes)
+
+abbrev pub is_item : List ℕ → Bool
+is_item units = not (length units == 0)
+
+-- the parts between zero units, before the first empty one
+abbrev pub items_of : List ℕ → List (List ℕ)
+items_of units = take_while is_item (slice_split is_zero units)
+
+-- a list of strings, each with a zero unit after it, which the last may lack
+abbrev pub multi_sz_of : List ℕ → List (List ℕ)
+multi_sz_of bytes = items_of (wide_of bytes)
+
+-- a space or a tab
+abbrev pub is_blank : ℕ → Bool
+is_blank c = c == 32 || c == 9
+
+abbrev pub without_front_blanks : List ℕ → List ℕ
+without_front_blanks text = drop (prefix_len is_blank text) text
+
+abbrev pub without_last_blanks : List ℕ → List ℕ
+without_last_blanks text = take (length text - suffix_len is_blank text) text
+
+-- the text without the blanks at both its ends
+abbrev pub trimmed : List ℕ → List ℕ
+trimmed text = without_last_blanks (without_front_blanks text)
+
+-- one or more decimal digits
+abbrev pub is_digits : List ℕ → Bool
+is_digits word = not (length word == 0) && list_all is_ascii_digit word
+
+-- the two texts are the same but for the case of `a` to `z`
+abbrev pub names_same : List ℕ → List ℕ → Bool
+names_same a b = str_eq_ignore_ascii_case a b
