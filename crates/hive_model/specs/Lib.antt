@@ -1,0 +1,16 @@
+pub mod Tree
+pub mod Forms
+pub mod Bins
+pub mod Walk
+pub mod Stands
+pub mod Packed
+pub mod Edit
+pub mod Image
+pub mod Base
+pub mod Recovery
+pub mod Carries
+pub mod Log
+pub mod Valid
+pub mod Size
+pub mod State
+pub mod Load

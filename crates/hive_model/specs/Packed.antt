@@ -1,0 +1,283 @@
+-- The packed form of a tree: one bin, in which each key stands with its cells one behind another, and behind them its
+-- children in order (the forms: regf format 1.3; the order of the cells, what is shared and the length of the lists:
+-- this project's own).
+--
+-- The cells of a key, in order:
+--     its node
+--     its class, if it is not empty
+--     its descriptor, if it is not empty and not the one of the key above
+--     its value list, if it has values, and then for each value its cell and a cell for data of over four bytes
+--     its subkey list, if it has children: one `lf` for at most 500, else an `ri` and its `lf` lists, each but the last full
+--     its children, each with all its cells
+use Rattle.std.specs.Prelude.{ℕ, zero, suc, ◌+◌, ◌-◌, ◌*◌, ◌/◌, ◌%◌, ◌==◌, nat_eq, nat_lt, max, true, false, if◌then◌else◌, List, [], ◌∷◌, ◌++◌, length, take, drop, map}
+use Rattle.std.specs.Int.{w32, from_le_bytes}
+use Rattle.std.specs.List.{flat_map}
+use lib.ListN.{replicate}
+use lib.Pointwise.{pointwise}
+use Rattle.hive_model.specs.Tree.{Item, Head, Tree, Trees, key, none, more, listed, head}
+use Rattle.hive_model.specs.Size.{cell, is_narrow, name_bytes, item_size, items_size, class_size, has_own, security_size, node_size, part_count, list_size, count, size}
+use Rattle.hive_model.specs.Bins.{Cell, Bin, cell_bytes, spelled}
+use Rattle.hive_model.specs.Forms.{KeyNode, key_node_text, KeyValue, key_value_text, security_text, offsets_text, lf_text, ri_text, hint_of}
+use Rattle.hive_model.specs.Walk.{nowhere}
+
+-- ---- cells in a row, each known by what is spelled in it
+
+-- a payload, filled with zeros to the end of its cell
+unfoldable pub filled : List ℕ → List ℕ
+filled p = p ++ replicate (cell (length p) - 4 - length p) 0
+
+-- an allocated cell with this payload
+abbrev pub used_cell : List ℕ → Cell
+used_cell p = record { used = true; payload = filled p }
+
+-- its bytes
+unfoldable pub cell_text : List ℕ → List ℕ
+cell_text p = cell_bytes (used_cell p)
+
+-- the bytes of cells in a row
+abbrev pub text : List (List ℕ) → List ℕ
+text ps = flat_map cell_text ps
+
+-- ---- a value
+
+-- what a value's cell says that stands here; data of at most four bytes stand in it
+abbrev pub item_form : ℕ → Item → KeyValue
+item_form at v = record {
+  size = if nat_lt 4 (length v.bytes) then length v.bytes else 2147483648 + length v.bytes;
+  offset = if nat_lt 4 (length v.bytes) then at + cell (20 + name_bytes v.name) else from_le_bytes w32 (v.bytes ++ replicate (4 - length v.bytes) 0);
+  kind = v.kind;
+  flags = if is_narrow v.name then 1 else 0;
+  name = v.name;
+}
+
+-- the cell of a value's data of over four bytes
+abbrev pub data_cells : List ℕ → List (List ℕ)
+data_cells bytes = if nat_lt 4 (length bytes) then bytes ∷ [] else []
+
+-- a value's cell, and one for its data
+unfoldable pub item_cells : ℕ → Item → List (List ℕ)
+item_cells at v = key_value_text (item_form at v) ∷ data_cells v.bytes
+
+-- values one behind another from here on
+abbrev pub cells_of_items : ℕ → List Item → List (List ℕ)
+cells_of_items at [] = []
+cells_of_items at (v ∷ vs) = item_cells at v ++ cells_of_items (at + item_size v) vs
+
+-- where they begin
+abbrev pub item_places : ℕ → List Item → List ℕ
+item_places at [] = []
+item_places at (v ∷ vs) = at ∷ item_places (at + item_size v) vs
+
+-- the value list and the values
+unfoldable pub items_cells : ℕ → List Item → List (List ℕ)
+items_cells at [] = []
+items_cells at (v ∷ vs) = let first = at + cell (4 * length (v ∷ vs)) in offsets_text (item_places first (v ∷ vs)) ∷ cells_of_items first (v ∷ vs)
+
+-- ---- the ring of security cells
+
+-- the place, if a descriptor has its own cell there
+abbrev pub own_place : List ℕ → ℕ → List ℕ → List ℕ
+own_place shared at s = if has_own shared s then at ∷ [] else []
+
+-- where the descriptor of a key begins, if it has a cell
+abbrev pub descriptor_place : ℕ → Head → ℕ
+descriptor_place at h = at + node_size h + class_size h.class
+
+-- where the children of a key with n children begin, under a key with this descriptor
+abbrev pub first_child : List ℕ → ℕ → Head → ℕ → ℕ
+first_child shared at h n = descriptor_place at h + security_size shared h.security + items_size h.values + list_size n
+
+-- where security cells stand in a tree, in order
+abbrev mutual
+  pub ring : List ℕ → ℕ → Tree → List ℕ
+  ring shared at (key h ts) = own_place shared (descriptor_place at h) h.security ++ ring_of_all h.security (first_child shared at h (count ts)) ts
+
+  pub ring_of_all : List ℕ → ℕ → Trees → List ℕ
+  ring_of_all shared at none = []
+  ring_of_all shared at (more t ts) = ring shared at t ++ ring_of_all shared (at + size shared t) ts
+
+-- the first of a list, or the last
+abbrev pub first_or : ℕ → List ℕ → ℕ
+first_or d [] = d
+first_or d (x ∷ xs) = x
+
+abbrev pub last_or : ℕ → List ℕ → ℕ
+last_or d [] = d
+last_or d (x ∷ xs) = last_or x xs
+
+-- what stands behind a place, or else this
+abbrev pub behind : ℕ → List ℕ → ℕ → ℕ
+behind otherwise [] at = otherwise
+behind otherwise (x ∷ xs) at = if x == at then first_or otherwise xs else behind otherwise xs at
+
+-- what stands before a place, or else this
+abbrev pub ahead : ℕ → List ℕ → ℕ → ℕ
+ahead otherwise [] at = otherwise
+ahead otherwise (x ∷ xs) at = if x == at then otherwise else ahead x xs at
+
+-- the links of the security cell at a place: behind the last stands the first (regf format, Key security)
+abbrev pub forward : List ℕ → ℕ → ℕ
+forward places at = behind (first_or 0 places) places at
+
+abbrev pub backward : List ℕ → ℕ → ℕ
+backward places at = ahead (last_or 0 places) places at
+
+-- how many keys use the descriptor of the key above them, in a tree or among trees
+abbrev mutual
+  pub sharers : List ℕ → Tree → ℕ
+  sharers s (key h ts) = if pointwise nat_eq s h.security then 1 + sharers_of_all s ts else 0
+
+  pub sharers_of_all : List ℕ → Trees → ℕ
+  sharers_of_all s none = 0
+  sharers_of_all s (more t ts) = sharers s t + sharers_of_all s ts
+
+-- ---- a key
+
+-- what is told to the children of a key: where it stands, its descriptor, where that stands, and the ring
+pub record Above : Type 0 where
+  pub place : ℕ
+  pub security : List ℕ
+  pub security_place : ℕ
+  pub ring : List ℕ
+
+-- what is told to the root
+abbrev pub top : List ℕ → Above
+top ring = record { place = nowhere; security = []; security_place = nowhere; ring = ring }
+
+-- where the descriptor of a key stands, which would have its own cell here
+abbrev pub security_place_of : Above → ℕ → List ℕ → ℕ
+security_place_of up at [] = nowhere
+security_place_of up at (b ∷ s) = if has_own up.security (b ∷ s) then at else up.security_place
+
+-- what a key that stands here tells its children
+abbrev pub below : Above → ℕ → Head → Above
+below up at h = record { place = at; security = h.security; security_place = security_place_of up (descriptor_place at h) h.security; ring = up.ring }
+
+-- where the value list, the subkey list and the children of a key begin
+abbrev pub values_place : Above → ℕ → Head → ℕ
+values_place up at h = descriptor_place at h + security_size up.security h.security
+
+abbrev pub list_place : Above → ℕ → Head → ℕ
+list_place up at h = values_place up at h + items_size h.values
+
+abbrev pub children_place : Above → ℕ → Head → ℕ → ℕ
+children_place up at h n = list_place up at h + list_size n
+
+-- the greatest of what is measured of items; 0 of none
+abbrev pub greatest : {X : Type 0} → (X → ℕ) → List X → ℕ
+greatest measure [] = 0
+greatest measure (x ∷ xs) = max (measure x) (greatest measure xs)
+
+-- a place, if there is anything to stand there
+abbrev pub place_of_some : ℕ → ℕ → ℕ
+place_of_some n at = if n == 0 then nowhere else at
+
+-- the flags as they are stored: the bit 0x0020 says that the name has one byte a unit (regf format, Key node)
+abbrev pub stored_flags : List ℕ → ℕ → ℕ
+stored_flags name flags = flags - flags / 32 % 2 * 32 + (if is_narrow name then 32 else 0)
+
+-- what the node of a key with these children says; lengths of names are those in UTF-16
+abbrev pub node_of : Above → ℕ → Head → List Tree → KeyNode
+node_of up at h keys = record {
+  flags = stored_flags h.name h.flags;
+  stamp = h.stamp;
+  parent = up.place;
+  child_count = length keys;
+  volatile_count = 0;
+  child_list = place_of_some (length keys) (list_place up at h);
+  volatile_list = nowhere;
+  value_count = length h.values;
+  value_list = place_of_some (length h.values) (values_place up at h);
+  security = security_place_of up (descriptor_place at h) h.security;
+  class = place_of_some (length h.class) (at + node_size h);
+  greatest_child_name = greatest (λ k. 2 * length (head k).name) keys;
+  greatest_child_class = greatest (λ k. length (head k).class) keys;
+  greatest_value_name = greatest (λ (v : Item). 2 * length v.name) h.values;
+  greatest_value_size = greatest (λ (v : Item). length v.bytes) h.values;
+  class_length = length h.class;
+  name = h.name;
+}
+
+-- the cell of a class
+unfoldable pub class_cells : List ℕ → List (List ℕ)
+class_cells [] = []
+class_cells (b ∷ c) = (b ∷ c) ∷ []
+
+-- the cell of a descriptor, which so many keys below use too
+unfoldable pub security_cells : Above → ℕ → List ℕ → ℕ → List (List ℕ)
+security_cells up at s others =
+    if has_own up.security s then security_text (record { forward = forward up.ring at; backward = backward up.ring at; uses = 1 + others; descriptor = s }) ∷ [] else []
+
+-- all cells of a key before its subkey lists
+unfoldable pub head_cells : Above → ℕ → Head → Trees → List (List ℕ)
+head_cells up at h ts =
+    key_node_text (node_of up at h (listed ts))
+    ∷ (class_cells h.class ++ (security_cells up (descriptor_place at h) h.security (sharers_of_all h.security ts) ++ items_cells (values_place up at h) h.values))
+
+-- ---- the subkey lists
+
+-- where full lists begin that stand one behind another, so many of them
+abbrev pub part_places : ℕ → ℕ → List ℕ
+part_places zero at = []
+part_places (suc n) at = at ∷ part_places n (at + cell 4004)
+
+-- lists of 500 entries and then of the rest, so many of them
+abbrev pub parts : ℕ → List ℕ → List (List ℕ) → List (List ℕ)
+parts zero places hints = []
+parts (suc n) places hints = lf_text (take 500 places) (take 500 hints) ∷ parts n (drop 500 places) (drop 500 hints)
+
+-- the lists of children at these places, with the bytes of their names: one, or a list of lists
+unfoldable pub list_cells : ℕ → List ℕ → List (List ℕ) → List (List ℕ)
+list_cells at places hints =
+    if length places == 0 then []
+    else if nat_lt (length places) 501 then lf_text places hints ∷ []
+    else ri_text (part_places (part_count (length places)) (at + cell (4 + 4 * part_count (length places)))) ∷ parts (part_count (length places)) places hints
+
+-- where trees begin that stand one behind another
+abbrev pub places : List ℕ → ℕ → Trees → List ℕ
+places shared at none = []
+places shared at (more t ts) = at ∷ places shared (at + size shared t) ts
+
+-- the bytes of a key's name in the list that it is in
+abbrev pub hint : Tree → List ℕ
+hint t = hint_of (is_narrow (head t).name) (head t).name
+
+-- ---- a tree
+
+-- the cells of a key and all below it, and of keys one behind another
+abbrev mutual
+  pub cells_of : Above → ℕ → Tree → List (List ℕ)
+  cells_of up at (key h ts) =
+      head_cells up at h ts
+      ++ (list_cells (list_place up at h) (places h.security (children_place up at h (count ts)) ts) (map hint (listed ts))
+      ++ cells_of_all (below up at h) (children_place up at h (count ts)) ts)
+
+  pub cells_of_all : Above → ℕ → Trees → List (List ℕ)
+  cells_of_all up at none = []
+  cells_of_all up at (more t ts) = cells_of up at t ++ cells_of_all up (at + size up.security t) ts
+
+-- the cells of a packed tree, from the place of the root on, which is behind the bin's header
+abbrev pub packed_cells : Tree → List (List ℕ)
+packed_cells t = cells_of (top (ring [] 32 t)) 32 t
+
+-- ---- the bins data
+
+-- how many bytes the bin has up to the end of the last cell in use
+abbrev pub whole : Tree → ℕ
+whole t = 32 + size [] t
+
+-- up to a multiple of 4096 bytes (regf format, Hive bin header)
+abbrev pub rounded : ℕ → ℕ
+rounded n = (n + 4095) / 4096 * 4096
+
+-- a free cell of so many bytes, if there are any
+abbrev pub free_cells : ℕ → List Cell
+free_cells n = if n == 0 then [] else record { used = false; payload = replicate (n - 4) 0 } ∷ []
+
+-- the one bin: all cells of the tree, and a free cell that fills it
+unfoldable pub packed_bins : Tree → List Bin
+packed_bins t = record { ignored = replicate 20 0; cells = map used_cell (packed_cells t) ++ free_cells (rounded (whole t) - whole t) } ∷ []
+
+-- the packed form: the bytes of that bin
+unfoldable pub packed : Tree → List ℕ
+packed t = spelled 0 (packed_bins t)

@@ -1,0 +1,91 @@
+-- How many bytes the cells of a tree take where each key stands in cells of its own (regf format; which cells share
+-- and how long the lists are is this project's own).
+use Rattle.std.specs.Prelude.{ℕ, ◌+◌, ◌*◌, ◌/◌, ◌%◌, min, Bool, false, not, ◌==◌, nat_eq, nat_lt, if◌then◌else◌, List, [], ◌∷◌, length}
+use Rattle.std.specs.List.{list_all}
+use lib.Pointwise.{pointwise}
+use Rattle.hive_model.specs.Tree.{Item, Head, Tree, Trees, key, none, more, listed}
+
+-- a cell's size: the payload behind four bytes for the size, up to a multiple of eight (regf format, Hive bin cell)
+abbrev pub cell : ℕ → ℕ
+cell payload = 8 * ((payload + 11) / 8)
+
+-- each unit of the name is below 256, so that one byte is enough for it
+abbrev pub is_narrow : List ℕ → Bool
+is_narrow name = list_all (λ u. nat_lt u 256) name
+
+-- a name's length as it is spelled: one byte for each unit of a narrow name, else two (regf format, Key node)
+abbrev pub name_bytes : List ℕ → ℕ
+name_bytes name = if is_narrow name then length name else 2 * length name
+
+-- the cell of a value's data, which up to four bytes stand in the value itself (regf format, Key value)
+abbrev pub data_size : List ℕ → ℕ
+data_size bytes = if nat_lt 4 (length bytes) then cell (length bytes) else 0
+
+-- the cells of a value (regf format, Key value)
+abbrev pub item_size : Item → ℕ
+item_size v = cell (20 + name_bytes v.name) + data_size v.bytes
+
+-- the cells of values one behind another
+abbrev pub items_sum : List Item → ℕ
+items_sum [] = 0
+items_sum (v ∷ vs) = item_size v + items_sum vs
+
+-- the value list and the cells of its values (regf format, Value list)
+abbrev pub items_size : List Item → ℕ
+items_size [] = 0
+items_size (v ∷ vs) = cell (4 * length (v ∷ vs)) + items_sum (v ∷ vs)
+
+-- the cell of a class (regf format, Key node)
+abbrev pub class_size : List ℕ → ℕ
+class_size [] = 0
+class_size (b ∷ c) = cell (length (b ∷ c))
+
+-- a descriptor has a cell of its own, unless it is empty or the one of the key above (this project's own)
+abbrev pub has_own : List ℕ → List ℕ → Bool
+has_own shared [] = false
+has_own shared (b ∷ s) = not (pointwise nat_eq shared (b ∷ s))
+
+-- the cell of a descriptor under a key with another one (regf format, Key security)
+abbrev pub security_size : List ℕ → List ℕ → ℕ
+security_size shared s = if has_own shared s then cell (20 + length s) else 0
+
+-- the cell of a key node (regf format, Key node)
+abbrev pub node_size : Head → ℕ
+node_size h = cell (76 + name_bytes h.name)
+
+-- the cells of a key but those of its lists and children, under a key with this descriptor
+abbrev pub head_size : List ℕ → Head → ℕ
+head_size shared h = node_size h + class_size h.class + security_size shared h.security + items_size h.values
+
+-- how many lists of at most 500 entries n children fill (this project's own)
+abbrev pub part_count : ℕ → ℕ
+part_count n = (n + 499) / 500
+
+-- the lists of n children: one of at most 500, or a list of such lists, each but the last full (regf format, Subkeys
+-- list; the number is this project's own)
+abbrev pub list_size : ℕ → ℕ
+list_size n =
+    if n == 0 then 0
+    else if nat_lt n 501 then cell (4 + 8 * n)
+    else cell (4 + 4 * part_count n) + n / 500 * cell 4004 + (if n % 500 == 0 then 0 else cell (4 + 8 * (n % 500)))
+
+-- how many children these are
+abbrev pub count : Trees → ℕ
+count ts = length (listed ts)
+
+-- the cells of a key and of all below it, under a key with this descriptor; of the root, [] stands above
+abbrev mutual
+  pub size : List ℕ → Tree → ℕ
+  size shared (key h ts) = head_size shared h + list_size (count ts) + size_of_all h.security ts
+
+  pub size_of_all : List ℕ → Trees → ℕ
+  size_of_all shared none = 0
+  size_of_all shared (more t ts) = size shared t + size_of_all shared ts
+
+-- a sum as 64 bits hold it: past the greatest number it is that one
+abbrev pub capped : ℕ → ℕ
+capped n = min n 18446744073709551615
+
+-- the bulk of a tree: the bin's header of 32 bytes and all cells (this project's own)
+abbrev pub bulk_of : Tree → ℕ
+bulk_of t = capped (32 + size [] t)

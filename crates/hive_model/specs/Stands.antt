@@ -1,0 +1,99 @@
+-- Which tree stands in cells (regf format 1.3, key node and what it names).
+use Rattle.std.specs.Prelude.{◌≡◌, ◌≤◌, ◌<◌, ℕ, ◌-◌, ◌==◌, if◌then◌else◌, MatchBool, List, [], ◌∷◌, length, Option, Some, None, Result, Ok, Err}
+use Rattle.std.specs.List.{All}
+use Rattle.nt_bytes.specs.declared.fault.HiveKind.{HiveKind}
+use Rattle.hive_model.specs.Forms.{◌>>=◌, KeyNode, key_node_at, is_narrow_key, KeyValue, key_value_at, data_inside, bytes_in, security_at, offsets_in}
+use Rattle.hive_model.specs.Tree.{Tree, Trees, key, none, more, listed, Head, head, Item}
+use Rattle.hive_model.specs.Bins.{Cells}
+use Rattle.hive_model.specs.Walk.{reading, nowhere, entries_at, all_checks, AreUsedOnce}
+use Rattle.hive_model.specs.Valid.{KeysDiffer, ItemsDiffer, levels}
+
+-- ---- what a key node and a value say of themselves
+
+-- a node's flags without the bit that says how its name is stored
+abbrev pub tree_flags : ℕ → ℕ
+tree_flags flags = if is_narrow_key flags then flags - 32 else flags
+
+-- a key's class: the first bytes of its cell, and none where the length is 0
+unfoldable pub class_of : Cells → KeyNode → Result (List ℕ) HiveKind
+class_of cells node = if node.class_length == 0 then Ok [] else reading (bytes_in node.class_length) cells node.class
+
+-- a key's descriptor, empty where it has none
+unfoldable pub security_of : Cells → KeyNode → Result (List ℕ) HiveKind
+security_of cells node = if node.security == nowhere then Ok [] else reading security_at cells node.security >>= λ s. Ok s.descriptor
+
+-- data that the value holds, or else those of a cell
+abbrev pub data_or : Option (List ℕ) → Result (List ℕ) HiveKind → Result (List ℕ) HiveKind
+data_or (Some bytes) other = Ok bytes
+data_or None other = other
+
+-- a value's data
+unfoldable pub data_of : Cells → KeyValue → Result (List ℕ) HiveKind
+data_of cells value = data_or (data_inside value) (reading (bytes_in value.size) cells value.offset)
+
+-- the value that stands at an offset
+unfoldable pub item_at : Cells → ℕ → Result Item HiveKind
+item_at cells at =
+    reading key_value_at cells at >>= λ value. data_of cells value >>= λ bytes.
+    Ok (record { name = value.name; kind = value.kind; bytes = bytes })
+
+-- the values that stand at these offsets, in order
+abbrev pub items_at : Cells → List ℕ → Result (List Item) HiveKind
+items_at cells [] = Ok []
+items_at cells (at ∷ rest) = item_at cells at >>= λ item. items_at cells rest >>= λ items. Ok (item ∷ items)
+
+-- a key's values
+unfoldable pub values_of : Cells → KeyNode → Result (List Item) HiveKind
+values_of cells node =
+    if node.value_count == 0 then Ok [] else reading (offsets_in node.value_count) cells node.value_list >>= items_at cells
+
+-- ---- a tree
+
+-- the list at an offset names these children, in order
+abbrev pub ListsAt : Cells → ℕ → List ℕ → Type 0
+ListsAt cells at offsets = entries_at cells at ≡ Ok offsets
+
+-- a key's children are at these offsets: as many as its node counts; where that is none, its list is not looked at
+abbrev pub ListsChildren : Cells → KeyNode → List ℕ → Type 0
+ListsChildren cells node offsets =
+    MatchBool (node.child_count == 0) (offsets ≡ []) (ListsAt cells node.child_list offsets × (length offsets ≡ node.child_count))
+
+-- a key is here, with all that it says of itself, and its children are at these offsets
+pub record KeyStands (cells : Cells) (at : ℕ) (h : Head) (offsets : List ℕ) : Type 0 where
+  pub node : KeyNode
+  pub read : reading key_node_at cells at ≡ Ok node
+  pub name : h.name ≡ node.name
+  pub flags : h.flags ≡ tree_flags node.flags
+  pub stamp : h.stamp ≡ node.stamp
+  pub class : class_of cells node ≡ Ok h.class
+  pub security : security_of cells node ≡ Ok h.security
+  pub values : values_of cells node ≡ Ok h.values
+  pub children : ListsChildren cells node offsets
+
+abbrev mutual
+  -- the tree stands at the offset
+  pub Stands : Cells → ℕ → Tree → Type 0
+  Stands cells at (key h ts) = (offsets : List ℕ) × KeyStands cells at h offsets × AllStand cells offsets ts
+
+  -- the trees stand at the offsets, in order
+  pub AllStand : Cells → List ℕ → Trees → Type 0
+  AllStand cells offsets none = offsets ≡ []
+  AllStand cells offsets (more t ts) = (at : ℕ) × (rest : List ℕ) × (offsets ≡ at ∷ rest) × Stands cells at t × AllStand cells rest ts
+
+-- ---- well-formed cells
+
+-- each key but the topmost has a name, and the names of siblings and of a key's values differ by fold
+abbrev mutual
+  pub HasApartNames : Tree → Type 0
+  HasApartNames (key h ts) = ItemsDiffer h.values × All (λ t. 0 < length (head t).name) (listed ts) × KeysDiffer (listed ts) × HaveApartNames ts
+
+  pub HaveApartNames : Trees → Type 0
+  HaveApartNames none = Unit {0}
+  HaveApartNames (more t ts) = HasApartNames t × HaveApartNames ts
+
+-- The cells are well-formed at the root, and this tree stands there.
+pub record IsWellFormed (cells : Cells) (root : ℕ) (t : Tree) : Type 0 where
+  pub stands : Stands cells root t
+  pub levels : levels t ≤ 512
+  pub names : HasApartNames t
+  pub once : AreUsedOnce [] (all_checks cells root)

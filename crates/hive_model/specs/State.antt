@@ -1,0 +1,8 @@
+-- The state of a hive: what is in it, and how often it was committed.
+use Rattle.std.specs.Prelude.{ℕ}
+use Rattle.hive_model.specs.Tree.{Tree}
+
+-- the tree, and the sequence number of the base block (regf format 1.3, base block)
+pub record HiveState : Type 0 where
+  pub tree : Tree
+  pub sequence : ℕ

@@ -1,0 +1,60 @@
+-- Which trees a hive can hold: names, lengths and levels as the cells of keys and values have room for.
+use Rattle.std.specs.Prelude.{◌≡◌, ◌≤◌, ◌<◌, ℕ, ◌+◌, ◌/◌, ◌%◌, ◌^◌, ◌==◌, max, Bool, false, List, length}
+use Rattle.std.specs.List.{All, AllPairs, list_any}
+use Rattle.nt_bytes.specs.Folding.{folds_same}
+use Rattle.hive_model.specs.Tree.{Item, Head, Tree, Trees, key, none, more, head, listed}
+
+-- a value that a cell can hold (regf format, Key value: a name length of two bytes for wide names, a data size of 31 bits)
+pub record IsItem (v : Item) : Type 0 where
+  pub name : length v.name ≤ 16383
+  pub bytes : length v.bytes < 2 ^ 31
+
+-- no two keys have names that fold to one (Windows Internals 4th edition, the registry)
+abbrev pub KeysDiffer : List Tree → Type 0
+KeysDiffer keys = AllPairs (λ a b. folds_same (head b).name (head a).name ≡ false) keys
+
+-- no two values have names that fold to one (Windows Internals 4th edition, the registry)
+abbrev pub ItemsDiffer : List Item → Type 0
+ItemsDiffer items = AllPairs (λ (a : Item) (b : Item). folds_same b.name a.name ≡ false) items
+
+-- a backslash, which parts the names of a path
+abbrev pub is_backslash : ℕ → Bool
+is_backslash unit = unit == 0x5C
+
+-- a key with these children that its cell can hold (regf format, Key node; the longest name is that of the registry).
+-- The flag 0x0020 says how the cell spells the name, and is no flag of the key.
+pub record IsKey (h : Head) (keys : List Tree) : Type 0 where
+  pub name : length h.name ≤ 255
+  pub no_backslash : list_any is_backslash h.name ≡ false
+  pub flags : h.flags / 32 % 2 ≡ 0
+  pub class : length h.class < 2 ^ 16
+  pub security : length h.security < 2 ^ 32
+  pub item_count : length h.values < 2 ^ 32
+  pub items : All IsItem h.values
+  pub items_differ : ItemsDiffer h.values
+  pub key_count : length keys < 2 ^ 32
+  pub keys_named : All (λ t. 0 < length (head t).name) keys
+  pub keys_differ : KeysDiffer keys
+
+-- each key of the tree can be held (this project's own)
+abbrev mutual
+  pub HoldsKeys : Tree → Type 0
+  HoldsKeys (key h ts) = IsKey h (listed ts) × AllHoldKeys ts
+
+  pub AllHoldKeys : Trees → Type 0
+  AllHoldKeys none = Unit {0}
+  AllHoldKeys (more t ts) = HoldsKeys t × AllHoldKeys ts
+
+-- how many levels the tree has, that of the topmost key among them
+abbrev mutual
+  pub levels : Tree → ℕ
+  levels (key h ts) = most_levels ts + 1
+
+  pub most_levels : Trees → ℕ
+  most_levels none = 0
+  most_levels (more t ts) = max (levels t) (most_levels ts)
+
+-- a tree that a hive can hold (regf format; at most 512 levels is the registry's)
+pub record IsValid (t : Tree) : Type 0 where
+  pub keys : HoldsKeys t
+  pub levels : levels t ≤ 512
