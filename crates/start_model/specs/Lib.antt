@@ -1,0 +1,11 @@
+pub mod Judge
+pub mod Demand
+pub mod Entries
+pub mod Lines
+pub mod Order
+pub mod Ready
+pub mod Sets
+pub mod Events
+pub mod Machine
+pub mod Run
+pub mod Fits

@@ -1,0 +1,198 @@
+-- What is a start that runs, and what does one step of it do?
+--
+-- The phases, ErrorControl and the fallback on LastKnownGood: Windows Internals, 4th edition, startup. That attempts go
+-- one at a time, that failures are told in advance, and which events are refused, is this project's own.
+use Rattle.std.specs.Prelude.{ℕ, zero, suc, ◌-◌, Bool, true, false, ◌||◌, ◌&&◌, not, ◌==◌, if◌then◌else◌, List, [], ◌∷◌, ◌++◌, map, slice_get, remove, Option, None, Some, option_map, option_and_then}
+use Rattle.nt_bytes.specs.Folding.{folded, folds_same}
+use Rattle.hive_model.specs.Tree.{Tree}
+use Rattle.start_model.specs.Ready.{Label, next_of}
+use Rattle.start_model.specs.Judge.{Judgement, Ignore, judgement_of}
+use Rattle.start_model.specs.Entries.{Entry, Phase, Boot, System, Automatic, Done, need_of}
+use Rattle.start_model.specs.Order.{plan_of}
+use Rattle.start_model.specs.Events.{Event, BootNow, Go, Fail, Edits, Flush, Logon, Off, CutNow, Arm, is_protected}
+use Rattle.start_model.specs.Lines.{Verdict, Good, GoodUnsaved, Running, RefusedWord, OffReason, RunningReason, EarlyReason, AgainReason, IdleReason, ProtectedReason}
+
+-- a start that runs
+pub record Start : Type 0 where
+  -- the number of the set that it took
+  pub number : ℕ
+  -- it took LastKnownGood
+  pub on_good : Bool
+  pub phase : Phase
+  -- the entries of the phase that were not attempted, in their order
+  pub waiting : List Entry
+  -- the folded names that were attempted
+  pub tried : List (List ℕ)
+  pub started : List Label
+  pub logged_on : Bool
+  -- whether the good start was saved; none where it was not tried yet
+  pub saved : Option Bool
+  -- the set as the start began with it, until it is saved
+  pub clone : Option Tree
+
+-- the machine: a start that runs, the attempts that are to fail, and whether the next start falls back
+pub record MachineState : Type 0 where
+  pub start : Option Start
+  pub failures : List (List ℕ × ℕ)
+  pub fallback_due : Bool
+
+-- a machine that is off, with nothing noted
+abbrev pub off_machine : MachineState
+off_machine = record { start = None; failures = []; fallback_due = false }
+
+-- ---- failures to come, by folded name
+
+abbrev pub failures_of : List (List ℕ × ℕ) → List ℕ → ℕ
+failures_of [] name = 0
+failures_of (f ∷ fs) name = if folds_same f.0 name then f.1 else failures_of fs name
+
+-- one fewer for a name
+abbrev pub one_failure_less : List (List ℕ × ℕ) → List ℕ → List (List ℕ × ℕ)
+one_failure_less [] name = []
+one_failure_less (f ∷ fs) name = if folds_same f.0 name then (f.0, f.1 - 1) ∷ fs else f ∷ one_failure_less fs name
+
+-- so many for a name, in place of an earlier number
+abbrev pub with_failures : List (List ℕ × ℕ) → List ℕ → ℕ → List (List ℕ × ℕ)
+with_failures [] name count = (folded name, count) ∷ []
+with_failures (f ∷ fs) name count = if folds_same f.0 name then (f.0, count) ∷ fs else f ∷ with_failures fs name count
+
+abbrev pub failing : List ℕ → ℕ → MachineState → MachineState
+failing name count m = record m { failures = with_failures m.failures name count }
+
+-- ---- an attempt
+
+-- what came of an attempt
+pub record Tried : Type 0 where
+  pub name : List ℕ
+  pub ok : Bool
+  pub judgement : Judgement
+
+-- the place among the waiting of the next attempt; none where the phase is at its end
+abbrev pub next_in : Start → Option ℕ
+next_in s = next_of s.started (map need_of s.waiting)
+
+abbrev pub label_of : Entry → Label
+label_of e = (folded e.name, option_map folded e.group)
+
+abbrev pub after_attempt : Start → ℕ → Entry → Bool → Start
+after_attempt s place e ok = record s {
+  waiting = remove s.waiting place;
+  tried = s.tried ++ folded e.name ∷ [];
+  started = if ok then s.started ++ label_of e ∷ [] else s.started;
+}
+
+abbrev pub attempt_at : MachineState → Start → Bool → ℕ → Entry → MachineState × Tried
+attempt_at m s usable place e =
+    let ok : Bool = failures_of m.failures e.name == 0 in (
+      record m { start = Some (after_attempt s place e ok); failures = one_failure_less m.failures e.name },
+      record { name = e.name; ok = ok; judgement = if ok then Ignore else judgement_of e.control s.on_good usable },
+    )
+
+-- the first ready entry is attempted; `usable` says whether LastKnownGood names a set of the live tree
+abbrev pub attempt_in : MachineState → Start → Bool → Option (MachineState × Tried)
+attempt_in m s usable = option_and_then (λ place. option_map (attempt_at m s usable place) (slice_get s.waiting place)) (next_in s)
+
+-- none where no start runs, or its phase is at its end
+unfoldable pub attempt_of : MachineState → Bool → Option (MachineState × Tried)
+attempt_of m usable = option_and_then (λ s. attempt_in m s usable) m.start
+
+-- ---- a change of phase
+
+abbrev pub phase_after : Phase → Phase
+phase_after Boot = System
+phase_after System = Automatic
+phase_after Automatic = Done
+phase_after Done = Done
+
+abbrev pub unmet_in : Start → List (List ℕ)
+unmet_in s = map (λ e. e.name) s.waiting
+
+-- the next phase takes its entries from the set as it is then
+abbrev pub after_phase : Tree → Start → Start
+after_phase set s = record s { phase = phase_after s.phase; waiting = plan_of set (phase_after s.phase) s.tried }
+
+-- ---- the beginning, the logon, the save, the end
+
+abbrev pub begun_with : Tree → ℕ → Bool → Start
+begun_with set number on_good = record {
+  number = number;
+  on_good = on_good;
+  phase = Boot;
+  waiting = plan_of set Boot [];
+  tried = [];
+  started = [];
+  logged_on = false;
+  saved = None;
+  clone = Some set;
+}
+
+abbrev pub is_done : Phase → Bool
+is_done Done = true
+is_done Boot = false
+is_done System = false
+is_done Automatic = false
+
+-- the automatic phase begins the time in which a user may log on
+abbrev pub takes_logons : Phase → Bool
+takes_logons Boot = false
+takes_logons System = false
+takes_logons Automatic = true
+takes_logons Done = true
+
+-- a start is good once the automatic phase is done and a user has logged on
+abbrev pub is_good : Start → Bool
+is_good s = is_done s.phase && s.logged_on
+
+-- a good start that was not yet tried to be saved
+abbrev pub save_due : Start → Bool
+save_due s = is_good s && is_unsaved s.saved
+  where
+    is_unsaved : Option Bool → Bool
+    is_unsaved None = true
+    is_unsaved (Some done) = false
+
+abbrev pub ending_with : Option Bool → Verdict
+ending_with None = GoodUnsaved
+ending_with (Some true) = Good
+ending_with (Some false) = GoodUnsaved
+
+-- the verdict of a start that ends by switching off, or with the script
+abbrev pub ending_of : Start → Verdict
+ending_of s = if is_good s then ending_with s.saved else Running
+
+abbrev pub ended : Bool → MachineState → MachineState
+ended falls_back m = record m { start = None; fallback_due = m.fallback_due || falls_back }
+
+abbrev pub with_start : Start → MachineState → MachineState
+with_start s m = record m { start = Some s }
+
+-- ---- which events are refused, before they are looked at any further
+
+abbrev pub refused_off : Event → Option RefusedWord
+refused_off (BootNow entry good) = None
+refused_off (Go steps) = Some OffReason
+refused_off (Fail name count) = None
+refused_off (Edits edit) = Some OffReason
+refused_off Flush = Some OffReason
+refused_off Logon = Some OffReason
+refused_off Off = Some OffReason
+refused_off (CutNow keep) = Some OffReason
+refused_off (Arm arming) = None
+
+abbrev pub refused_running : Start → Event → Option RefusedWord
+refused_running s (BootNow entry good) = Some RunningReason
+refused_running s (Go steps) = if is_done s.phase then Some IdleReason else None
+refused_running s (Fail name count) = None
+refused_running s (Edits edit) = if is_protected edit then Some ProtectedReason else None
+refused_running s Flush = None
+refused_running s Logon = if not (takes_logons s.phase) then Some EarlyReason else (if s.logged_on then Some AgainReason else None)
+refused_running s Off = None
+refused_running s (CutNow keep) = None
+refused_running s (Arm arming) = None
+
+abbrev pub refusal_in : Option Start → Event → Option RefusedWord
+refusal_in None e = refused_off e
+refusal_in (Some s) e = refused_running s e
+
+abbrev pub refusal_of : MachineState → Event → Option RefusedWord
+refusal_of m e = refusal_in m.start e
