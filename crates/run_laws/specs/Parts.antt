@@ -1,0 +1,14 @@
+-- What came of the first events of a script? (this project's own)
+use Rattle.std.specs.Prelude.{ℕ, List, [], ◌∷◌, Option}
+use Rattle.start_model.specs.Events.{Event}
+use Rattle.start_model.specs.Run.{RunState, Woken, Outcome, Choice, RunResult, play, then_run, reached, event_step_of}
+
+-- the events in order, and then what `last` makes of it
+abbrev pub run_until : (RunState → List Woken → List Outcome → RunResult) → (Option ℕ → Choice) → List Event → RunState → List Woken → List Outcome → RunResult
+run_until last choice [] m wakes outcomes = last m wakes outcomes
+run_until last choice (e ∷ es) m wakes outcomes =
+    let first : RunResult = play (event_step_of choice e m) wakes outcomes in then_run (run_until last choice es) first first.rest
+
+-- the events alone: the script goes on behind them
+abbrev pub part_of : (Option ℕ → Choice) → List Event → RunState → List Woken → List Outcome → RunResult
+part_of choice es m wakes outcomes = run_until reached choice es m wakes outcomes

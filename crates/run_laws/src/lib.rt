@@ -1,0 +1,13 @@
+//! What holds of every run, apart from any code.
+//!
+//! Where no operation of the disk is cut or fails, the run is the quiet one. A `go` without a number takes as many steps of the starter as there can be, so a loop that steps until
+//! the start is done or over says the same.
+#![tactic(auto)]
+
+mod going;
+mod parts;
+mod quiet;
+
+pub use going::more_steps_change_nothing;
+pub use parts::a_run_goes_on_event_by_event;
+pub use quiet::without_stops_the_run_is_the_quiet_one;
