@@ -1,0 +1,22 @@
+-- Words on what a cut may leave, for the crates that write to a disk.
+use Rattle.std.specs.Prelude.{◌≡◌, Bool, true, false, List, [], ◌∷◌}
+use Rattle.hive_model.specs.Image.{Address, Image, Write, IsCrashImage}
+use Rattle.nt_edge.specs.Disk.{DiskState}
+
+-- each write goes to an address of this kind
+abbrev pub EachWrite : (Address → Bool) → List Write → Type 0
+EachWrite p [] = Unit {0}
+EachWrite p (w ∷ ws) = (p w.0 ≡ true) × EachWrite p ws
+
+-- the second image has what the first has, but perhaps at addresses of this kind
+abbrev pub AgreeOutside : (Address → Bool) → Image → Image → Type 0
+AgreeOutside p before after = (a : Address) → p a ≡ false → after a ≡ before a
+
+-- whatever a cut at this moment leaves has P
+abbrev pub EachCrash : DiskState → (Image → Type 0) → Type 0
+EachCrash s P = (c : Image) → IsCrashImage s.held s.flight c → P c
+
+-- from the first state on, all that was done is writes to addresses of this kind, and all are in flight
+pub record Writing (p : Address → Bool) (first s : DiskState) : Type 0 where
+  pub held : s.held ≡ first.held
+  pub only : EachWrite p s.flight

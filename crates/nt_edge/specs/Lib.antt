@@ -1,0 +1,5 @@
+pub mod Bench
+pub mod Book
+pub mod Crash
+pub mod Disk
+pub mod Host
