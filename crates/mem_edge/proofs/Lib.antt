@@ -1,0 +1,5 @@
+pub mod ArmLemmas
+pub mod CutLemmas
+pub mod FlightLemmas
+pub mod KeepLemmas
+pub mod RoomLemmas

@@ -1,0 +1,6 @@
+use Rattle.std.proofs.Common.{rules}
+use Rattle.mem_edge.proofs.ArmLemmas.{fault_within}
+use Rattle.mem_edge.proofs.bench.MemDiskBench.arm_fault.Goals as goal
+
+pub invariant_of-self-2-clause-orders : goal.invariant_of-self-2-clause-orders
+invariant_of-self-2-clause-orders c = fault_within c.args.self.now.orders c.args.call c.args.n _ _ (search rules)

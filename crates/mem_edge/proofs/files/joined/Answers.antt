@@ -1,0 +1,18 @@
+use Rattle.std.proofs.Common.{◌<◌, length, None, ◌∙◌, ap, arith, length-append, length-take}
+use Rattle.std.proofs.lemmas.List.{get_or-take}
+use Rattle.hive_model.specs.Image.{bytes_of}
+use Rattle.mem_edge.specs.Views.{content_of}
+use Rattle.mem_edge.proofs.CutLemmas.{joined_each}
+use Rattle.mem_edge.proofs.files.joined.Goals as goal
+
+pub loop-sector-preserved : goal.loop-sector-preserved
+loop-sector-preserved c =
+    let old = c.loop-sector.bytes.items in
+    let i = c.loop-sector.sector-index in
+    let so_far = c.loop-sector.invariant in
+    let pushed = c.in_ok-extend_from_slice.ensures.items in
+    let inside : i < c.count_of.result = omega (arith, length-take c.count_of.result c.args.sectors.now) in
+    record {
+      long = omega (arith, ap length pushed, length-append old c.bytes_in.result, c.bytes_in.ensures.whole);
+      each = joined_each c.args.sectors.now i old c.bytes_in.result _ so_far.long c.bytes_in.ensures.whole (c.bytes_in.ensures.bytes ∙ ap (λ s. bytes_of (content_of s)) (get_or-take c.count_of.result c.args.sectors.now i None inside)) pushed so_far.each;
+    }

@@ -1,0 +1,13 @@
+use Rattle.std.proofs.Common.{◌≡◌, length}
+use Rattle.hive_model.specs.Image.{overlaid}
+use Rattle.mem_edge.specs.Views.{held_of, writes_of, Holds, odd_ones}
+use Rattle.mem_edge.proofs.image.MemImage.lay_odd.Given as goal
+
+abbrev pub invariant-loop-rest : goal.invariant-loop-rest
+invariant-loop-rest l = record {
+  laid : overlaid (held_of l.self) (writes_of (odd_ones l.rest)) ≡ overlaid (held_of l.fn.self) (writes_of (odd_ones l.flight));
+  room : Holds l.self l.rest;
+}
+
+abbrev pub decreases-loop-rest : goal.decreases-loop-rest
+decreases-loop-rest l = length l.rest

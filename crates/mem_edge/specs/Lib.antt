@@ -1,0 +1,6 @@
+pub mod Files
+pub mod Hosts
+pub mod Laws
+pub mod Orders
+pub mod State
+pub mod Views

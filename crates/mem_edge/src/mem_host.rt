@@ -1,0 +1,171 @@
+//! A host in memory that can be told to fail.
+
+ghost use Rattle.std.specs.Prelude.{◌≡◌, ◌-◌, ◌↔◌, IsTrue};
+ghost use Rattle.nt_edge.specs.Host.{IsWithinEnds};
+
+use nt_bytes::Bytes;
+use nt_edge::{Host, HostStop};
+use std::alloc::{AllocError, Global};
+use std::collections::BTreeMap;
+
+/// Files and what was said, in memory. It fails where it was told to, and nowhere else but for
+/// want of memory.
+#[derive(Drop)]
+pub struct MemHost {
+    alloc: Global,
+    pub(crate) files: BTreeMap<String, Vec<u8>>,
+    pub(crate) said: Vec<u8>,
+    pub(crate) reads: u64,
+    pub(crate) writes: u64,
+    // how many calls are still to come until the one that fails, that one among them; 0: none is to fail
+    pub(crate) fail_read: u64,
+    pub(crate) fail_write: u64,
+    ghost ends: { IsWithinEnds reads writes },
+}
+
+impl MemHost {
+    ghost use Rattle.std.specs.Prelude.{◌≡◌, ◌≤◌, ℕ, List, [], None, option_map, OnOk, OnErr};
+    ghost use Rattle.nt_edge.specs.Host.{Puts};
+    ghost use Rattle.mem_edge.specs.Hosts.{files_of};
+
+    /// A host with no file, to which nothing was said, and whose counts are zero. Takes no memory.
+    pub fn new(alloc: Global) -> MemHost
+        ensures files { (q : List ℕ) → files_of result q ≡ None }
+        ensures said { result.said.items ≡ [] }
+        ensures reads { result.reads ≡ 0 }
+        ensures writes { result.writes ≡ 0 }
+    {
+        MemHost {
+            alloc,
+            files: BTreeMap::new(alloc),
+            said: Vec::new(alloc),
+            reads: 0,
+            writes: 0,
+            fail_read: 0,
+            fail_write: 0,
+        }
+    }
+
+    /// Gives the file these bytes. A refusal leaves all the files as they were.
+    pub fn add(&mut self, name: &str, bytes: &[u8]) -> Result<(), AllocError>
+        ensures put { OnOk result (Puts (files_of self.old) (files_of self.new) name.now bytes.now) }
+        ensures same { OnErr result (files_of self.new ≡ files_of self.old) }
+        ensures said { self.new.said ≡ self.old.said }
+        ensures reads { self.new.reads ≡ self.old.reads }
+        ensures writes { self.new.writes ≡ self.old.writes }
+    {
+        let name = String::from_str(self.alloc, name)?;
+        let bytes = Vec::from_slice(self.alloc, bytes)?;
+        self.files.insert(name, bytes)?;
+        Ok(())
+    }
+
+    /// Lets the n-th `get` from now on fail, n from 1, in place of one that was to fail before.
+    pub fn fail_read(&mut self, n: u64)
+        requires { 1 ≤ n }
+        ensures next { self.new.fail_read ≡ n }
+        ensures other { self.new.fail_write ≡ self.old.fail_write }
+        ensures files { self.new.files ≡ self.old.files }
+        ensures said { self.new.said ≡ self.old.said }
+        ensures reads { self.new.reads ≡ self.old.reads }
+        ensures writes { self.new.writes ≡ self.old.writes }
+    {
+        self.fail_read = n;
+    }
+
+    /// Lets the n-th call from now on that is a `put` or a `say` fail, n from 1, in place of one
+    /// that was to fail before.
+    pub fn fail_write(&mut self, n: u64)
+        requires { 1 ≤ n }
+        ensures next { self.new.fail_write ≡ n }
+        ensures other { self.new.fail_read ≡ self.old.fail_read }
+        ensures files { self.new.files ≡ self.old.files }
+        ensures said { self.new.said ≡ self.old.said }
+        ensures reads { self.new.reads ≡ self.old.reads }
+        ensures writes { self.new.writes ≡ self.old.writes }
+    {
+        self.fail_write = n;
+    }
+
+    /// What was said so far.
+    pub fn said(&self) -> &[u8]
+        ensures { result.now ≡ self.now.said.items }
+    {
+        self.said.as_slice()
+    }
+
+    /// The bytes of the file, or none exactly where there is no such file.
+    pub fn file(&self, name: &str) -> Option<&[u8]>
+        ensures { option_map (λ bytes. bytes.now) result ≡ files_of self.now name.now }
+    {
+        match self.files.get(name) {
+            None => None,
+            Some(bytes) => Some(bytes.as_slice()),
+        }
+    }
+}
+
+/// Counts a call, and tells whether it is the one that fails.
+fn is_due(left: &mut u64) -> bool
+    ensures due { IsTrue result ↔ (left.old ≡ 1) }
+    ensures counted { left.new ≡ left.old - 1 }
+{
+    if *left == 0 {
+        return false;
+    }
+    *left -= 1;
+    *left == 0
+}
+
+impl Host for MemHost {
+    ghost use Rattle.std.specs.Prelude.{true};
+    ghost use Rattle.mem_edge.specs.Hosts.{files_of, bounded_law};
+
+    ghost tells = { true };
+
+    ghost files = { files_of };
+
+    ghost said = { λ h. h.said.items };
+
+    ghost reads = { λ h. h.reads };
+
+    ghost writes = { λ h. h.writes };
+
+    fn get(&mut self, name: &str) -> Result<Option<Bytes>, HostStop> {
+        if is_due(&mut self.fail_read) {
+            self.reads = self.reads.saturating_add(1);
+            return Err(HostStop::Read);
+        }
+        match self.files.get(name) {
+            None => Ok(None),
+            Some(bytes) => match Bytes::from_slice(self.alloc, bytes) {
+                Ok(bytes) => Ok(Some(bytes)),
+                Err(_) => Err(HostStop::Memory),
+            },
+        }
+    }
+
+    fn put(&mut self, name: &str, bytes: &[u8]) -> Result<(), HostStop> {
+        if is_due(&mut self.fail_write) {
+            self.writes = self.writes.saturating_add(1);
+            return Err(HostStop::Write);
+        }
+        match self.add(name, bytes) {
+            Ok(()) => Ok(()),
+            Err(_) => Err(HostStop::Memory),
+        }
+    }
+
+    fn say(&mut self, bytes: &[u8]) -> Result<(), HostStop> {
+        if is_due(&mut self.fail_write) {
+            self.writes = self.writes.saturating_add(1);
+            return Err(HostStop::Write);
+        }
+        match self.said.extend_from_slice(bytes) {
+            Ok(()) => Ok(()),
+            Err(_) => Err(HostStop::Memory),
+        }
+    }
+
+    ghost bounded = { bounded_law };
+}

@@ -1,0 +1,99 @@
+//! A host in memory that never fails but for want of memory.
+
+ghost use Rattle.std.specs.Prelude.{◌≡◌, ℕ, List, [], None, true, option_map, OnOk, OnErr};
+ghost use Rattle.nt_edge.specs.Host.{Puts};
+ghost use Rattle.mem_edge.specs.Hosts.{quiet_files_of, quiet_law};
+
+use nt_bytes::Bytes;
+use nt_edge::{Host, HostStop};
+use std::alloc::{AllocError, Global};
+use std::collections::BTreeMap;
+
+/// Files and what was said, in memory. Its counts of faults are the constant 0.
+#[derive(Drop)]
+pub struct QuietHost {
+    alloc: Global,
+    pub(crate) files: BTreeMap<String, Vec<u8>>,
+    pub(crate) said: Vec<u8>,
+}
+
+impl QuietHost {
+    /// A host with no file, to which nothing was said. Takes no memory.
+    pub fn new(alloc: Global) -> QuietHost
+        ensures files { (q : List ℕ) → quiet_files_of result q ≡ None }
+        ensures said { result.said.items ≡ [] }
+    {
+        QuietHost {
+            alloc,
+            files: BTreeMap::new(alloc),
+            said: Vec::new(alloc),
+        }
+    }
+
+    /// Gives the file these bytes. A refusal leaves all the files as they were.
+    pub fn add(&mut self, name: &str, bytes: &[u8]) -> Result<(), AllocError>
+        ensures put { OnOk result (Puts (quiet_files_of self.old) (quiet_files_of self.new) name.now bytes.now) }
+        ensures same { OnErr result (quiet_files_of self.new ≡ quiet_files_of self.old) }
+        ensures said { self.new.said ≡ self.old.said }
+    {
+        let name = String::from_str(self.alloc, name)?;
+        let bytes = Vec::from_slice(self.alloc, bytes)?;
+        self.files.insert(name, bytes)?;
+        Ok(())
+    }
+
+    /// What was said so far.
+    pub fn said(&self) -> &[u8]
+        ensures { result.now ≡ self.now.said.items }
+    {
+        self.said.as_slice()
+    }
+
+    /// The bytes of the file, or none exactly where there is no such file.
+    pub fn file(&self, name: &str) -> Option<&[u8]>
+        ensures { option_map (λ bytes. bytes.now) result ≡ quiet_files_of self.now name.now }
+    {
+        match self.files.get(name) {
+            None => None,
+            Some(bytes) => Some(bytes.as_slice()),
+        }
+    }
+}
+
+impl Host for QuietHost {
+    ghost tells = { true };
+
+    ghost files = { quiet_files_of };
+
+    ghost said = { λ h. h.said.items };
+
+    ghost reads = { λ h. 0 };
+
+    ghost writes = { λ h. 0 };
+
+    fn get(&mut self, name: &str) -> Result<Option<Bytes>, HostStop> {
+        match self.files.get(name) {
+            None => Ok(None),
+            Some(bytes) => match Bytes::from_slice(self.alloc, bytes) {
+                Ok(bytes) => Ok(Some(bytes)),
+                Err(_) => Err(HostStop::Memory),
+            },
+        }
+    }
+
+    fn put(&mut self, name: &str, bytes: &[u8]) -> Result<(), HostStop> {
+        match self.add(name, bytes) {
+            Ok(()) => Ok(()),
+            Err(_) => Err(HostStop::Memory),
+        }
+    }
+
+    fn say(&mut self, bytes: &[u8]) -> Result<(), HostStop> {
+        match self.said.extend_from_slice(bytes) {
+            Ok(()) => Ok(()),
+            Err(_) => Err(HostStop::Memory),
+        }
+    }
+
+    ghost bounded = { quiet_law };
+}

@@ -1,0 +1,113 @@
+//! The writes in flight, with the latest one to each sector at hand.
+
+ghost use Rattle.std.specs.Prelude.{◌≡◌, List, [], ◌∷◌, ◌++◌, None, OnOk, OnErr};
+ghost use Rattle.hive_model.specs.Image.{Address, put, overlaid};
+ghost use Rattle.mem_edge.specs.Views.{content_of, latest_of, write_of, writes_of, flying};
+
+use nt_edge::{Address, HiveFile};
+use std::alloc::{AllocError, Global};
+use std::collections::BTreeMap;
+
+/// The bytes of a sector, or none where it is absent.
+pub type Sector = Option<[u8; 512]>;
+
+/// A write that is in flight.
+#[derive(Clone, Copy, Debug)]
+pub struct InFlight {
+    pub at: Address,
+    pub bytes: [u8; 512],
+}
+
+/// The bytes of the latest write in flight to each sector that has one.
+#[derive(Drop)]
+pub struct Latest {
+    pub primary: BTreeMap<u32, [u8; 512]>,
+    pub log: BTreeMap<u32, [u8; 512]>,
+}
+
+/// The writes in flight, the oldest first.
+#[derive(Drop)]
+pub struct Flight {
+    pub writes: Vec<InFlight>,
+    pub latest: Latest,
+    ghost found: { (a : Address) → latest_of latest a ≡ flying (writes_of writes.items) a },
+}
+
+impl Latest {
+    /// Takes no memory.
+    pub fn new(alloc: Global) -> Latest
+        ensures { (a : Address) → latest_of result a ≡ None }
+    {
+        Latest {
+            primary: BTreeMap::new(alloc),
+            log: BTreeMap::new(alloc),
+        }
+    }
+
+    pub fn get(&self, at: Address) -> Sector
+        ensures { content_of result ≡ latest_of self.now at }
+    {
+        let file = match at.file {
+            HiveFile::Primary => &self.primary,
+            HiveFile::Log => &self.log,
+        };
+        file.get(&at.sector).copied()
+    }
+
+    /// Takes a write for the latest to its sector.
+    pub fn lay(&mut self, at: Address, bytes: &[u8; 512]) -> Result<(), AllocError>
+        ensures laid { OnOk result
+            ((a : Address) → latest_of self.new a ≡ put (latest_of self.old) (at, bytes.now) a) }
+        ensures before { OnErr result ((a : Address) → latest_of self.new a ≡ latest_of self.old a) }
+    {
+        match at.file {
+            HiveFile::Primary => {
+                self.primary.insert(at.sector, *bytes)?;
+                Ok(())
+            }
+            HiveFile::Log => {
+                self.log.insert(at.sector, *bytes)?;
+                Ok(())
+            }
+        }
+    }
+}
+
+impl Flight {
+    /// No write in flight. Takes no memory.
+    pub fn new(alloc: Global) -> Flight
+        ensures { result.writes.items ≡ [] }
+    {
+        Flight {
+            writes: Vec::new(alloc),
+            latest: Latest::new(alloc),
+        }
+    }
+
+    /// The bytes of the latest write in flight to a sector.
+    pub fn get(&self, at: Address) -> Sector
+        ensures { content_of result ≡ flying (writes_of self.now.writes.items) at }
+    {
+        self.latest.get(at)
+    }
+
+    /// Puts one more write in flight. A refusal leaves all as it was.
+    pub fn push(&mut self, at: Address, bytes: &[u8; 512]) -> Result<(), AllocError>
+        ensures pushed { OnOk result
+            (writes_of self.new.writes.items ≡ writes_of self.old.writes.items ++ (at, bytes.now) ∷ []) }
+        ensures before { OnErr result (self.new.writes.items ≡ self.old.writes.items) }
+    {
+        self.writes.reserve(1)?;
+        self.latest.lay(at, bytes)?;
+        self.writes.push(InFlight { at, bytes: *bytes })?;
+        Ok(())
+    }
+
+    /// No write is in flight any more.
+    pub fn clear(&mut self, alloc: Global)
+        ensures { self.new.writes.items ≡ [] }
+    {
+        self.writes.clear();
+        self.latest = Latest::new(alloc);
+    }
+}
