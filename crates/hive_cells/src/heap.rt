@@ -1,0 +1,60 @@
+//! The heap of cells.
+
+ghost use Rattle.std.specs.Prelude.{◌≡◌};
+ghost use Rattle.hive_model.specs.Bins.{cell_at, look_up, payload_of, placed, spelled, Sees};
+
+use crate::lookup::head;
+use nt_bytes::{HiveFault, HiveKind};
+use std::marker::Model;
+
+/// Cells, in the bytes of their bins: at most 16,777,216 bytes. One flag for eight bytes says
+/// whether a cell begins there.
+#[derive(Drop)]
+pub struct CellHeap {
+    pub(crate) bytes: Vec<u8>,
+    pub(crate) starts: Vec<bool>,
+}
+
+impl Model for CellHeap {
+    ghost use Rattle.std.specs.Prelude.{List};
+    ghost use Rattle.std.specs.Coded.{coded_list};
+    ghost use Rattle.hive_model.specs.Bins.{Bin, coded_bin};
+    ghost use Rattle.hive_cells.specs.Reading.{bins_of, IsKept};
+
+    ghost Value = { List Bin };
+
+    ghost coded = { coded_list coded_bin };
+
+    ghost view = { λ a. bins_of a.bytes.items };
+
+    ghost invariant = { λ a. IsKept a.bytes.items a.starts.items };
+}
+
+impl CellHeap {
+    /// The payload of the allocated cell that begins at this offset. `OutOfRange` where no cell
+    /// begins there, `FreeCell` where that cell is free, both at the offset.
+    pub fn payload(&self, at: u32) -> Result<&[u8], HiveFault>
+        ensures { Sees (λ p. p.now) result (placed at (look_up self.now at)) }
+    {
+        let bytes = self.bytes.as_slice();
+        let place = at as usize;
+        match head(bytes, self.starts.as_slice(), place) {
+            None => Err(HiveFault {
+                kind: HiveKind::OutOfRange,
+                at,
+            }),
+            Some((false, _size)) => Err(HiveFault {
+                kind: HiveKind::FreeCell,
+                at,
+            }),
+            Some((true, size)) => Ok(&bytes[place + 4..place + size]),
+        }
+    }
+
+    /// The bins data.
+    pub fn bytes(&self) -> &[u8]
+        ensures { result.now ≡ spelled 0 self.now }
+    {
+        self.bytes.as_slice()
+    }
+}

@@ -1,0 +1,39 @@
+//! Where cells begin, and what stands there.
+
+ghost use Rattle.std.specs.Prelude.{◌≡◌, ◌+◌, ◌≤◌, false, length, slice_index_or};
+ghost use Rattle.std.specs.Option.{IfSome, option_map};
+ghost use Rattle.hive_model.specs.Bins.{cell_at};
+ghost use Rattle.hive_cells.specs.Reading.{bins_of, head_of, IsKept};
+
+use nt_bytes::u32_at;
+
+/// Does a cell begin at this slot of eight bytes?
+fn begins(starts: &[bool], slot: usize) -> bool
+    ensures { result ≡ slice_index_or starts.now slot false }
+{
+    if slot < starts.len() {
+        starts[slot]
+    } else {
+        false
+    }
+}
+
+/// The cell that begins here: is it allocated, and its size in bytes.
+pub(crate) fn head(bytes: &[u8], starts: &[bool], at: usize) -> Option<(bool, usize)>
+    requires { IsKept bytes.now starts.now }
+    ensures exact { result ≡ option_map head_of (cell_at (bins_of bytes.now) at) }
+    ensures within { IfSome result (λ h. (8 ≤ h.1) × (at + h.1 ≤ length bytes.now)) }
+{
+    if at % 8 != 0 {
+        return None;
+    }
+    if !begins(starts, at / 8) {
+        return None;
+    }
+    let head = u32_at(bytes, at);
+    if head < 0x8000_0000 {
+        Some((false, head as usize))
+    } else {
+        Some((true, (0x1_0000_0000 - u64::from(head)) as usize))
+    }
+}

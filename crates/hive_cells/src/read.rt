@@ -1,0 +1,145 @@
+//! Bins and cells checked.
+
+ghost use Rattle.std.specs.Prelude.{◌≡◌, ℕ, ◌+◌, ◌%◌, ◌<◌, ◌≤◌, ◌++◌, false, length, replicate, IfOk, OnOk, MatchResult};
+ghost use Rattle.hive_model.specs.Bins.{header_at, size_at, placed, Sees, BinFails, BinsFault, IsBins};
+ghost use Rattle.hive_cells.specs.Reading.{BinRead, Stops};
+
+use crate::heap::CellHeap;
+use nt_bytes::{Bytes, HiveFault, HiveKind, ReadStop, u32_at};
+use std::alloc::{AllocError, Global};
+
+/// The size in a bin's header.
+#[tactic(auto, unfolding(hive_model::specs::Bins::header_at))]
+fn header(rest: &[u8], at: u32) -> Result<u32, HiveFault>
+    ensures exact { Sees (λ size. size) result (placed at (header_at at rest.now)) }
+    ensures bounds { IfOk result (λ size. (4096 ≤ size) × (size ≤ length rest.now) × (size % 4096 ≡ 0)) }
+{
+    if rest.len() < 4 {
+        return Err(HiveFault {
+            kind: HiveKind::BinSign,
+            at,
+        });
+    }
+    if u32_at(rest, 0) != 0x6e69_6268 {
+        return Err(HiveFault {
+            kind: HiveKind::BinSign,
+            at,
+        });
+    }
+    if rest.len() < 8 {
+        return Err(HiveFault {
+            kind: HiveKind::BinOffset,
+            at,
+        });
+    }
+    if u32_at(rest, 4) != at {
+        return Err(HiveFault {
+            kind: HiveKind::BinOffset,
+            at,
+        });
+    }
+    if rest.len() < 12 {
+        return Err(HiveFault {
+            kind: HiveKind::BinSize,
+            at,
+        });
+    }
+    let size = u32_at(rest, 8);
+    if size < 4096 {
+        return Err(HiveFault {
+            kind: HiveKind::BinSize,
+            at,
+        });
+    }
+    if rest.len() < size as usize {
+        return Err(HiveFault {
+            kind: HiveKind::BinSize,
+            at,
+        });
+    }
+    if size % 4096 != 0 {
+        return Err(HiveFault {
+            kind: HiveKind::BinSize,
+            at,
+        });
+    }
+    Ok(size)
+}
+
+/// The size of a cell.
+#[tactic(auto, unfolding(hive_model::specs::Bins::size_at))]
+fn size(rest: &[u8], room: usize, at: u32) -> Result<usize, HiveFault>
+    requires { 4 ≤ length rest.now }
+    ensures exact { Sees (λ size. size) result (placed at (size_at room rest.now)) }
+    ensures bounds { IfOk result (λ size. (8 ≤ size) × (size ≤ room)) }
+{
+    let head = u32_at(rest, 0);
+    let size = if head < 0x8000_0000 {
+        u64::from(head)
+    } else {
+        0x1_0000_0000 - u64::from(head)
+    };
+    if size < 8 {
+        return Err(HiveFault {
+            kind: HiveKind::CellSize,
+            at,
+        });
+    }
+    if size % 8 != 0 {
+        return Err(HiveFault {
+            kind: HiveKind::CellSize,
+            at,
+        });
+    }
+    if (room as u64) < size {
+        return Err(HiveFault {
+            kind: HiveKind::CellPastBin,
+            at,
+        });
+    }
+    Ok(size as usize)
+}
+
+pub(crate) fn push_false(starts: &mut Vec<bool>, count: usize) -> Result<(), AllocError>
+    ensures { OnOk result (starts.new.items ≡ starts.old.items ++ replicate count false) }
+{
+    for _i in 0..count {
+        starts.push(false)?;
+    }
+    Ok(())
+}
+
+/// Reads a bin, and says how long it is.
+fn read_bin(rest: &[u8], at: u32, starts: &mut Vec<bool>) -> Result<usize, ReadStop>
+    requires small { at + length rest.now ≤ 16777216 }
+    requires some { 0 < length rest.now }
+    ensures exact { MatchResult result (λ size. BinRead at rest.now starts.old.items starts.new.items size) (Stops (BinFails at rest.now)) }
+    ensures within { IfOk result (λ size. size ≤ length rest.now) }
+{
+    let total = header(rest, at)? as usize;
+    push_false(starts, 4)?;
+    let mut cell = 32;
+    'cells: while cell < total {
+        let found = size(&rest[cell..], total - cell, at + cell as u32)?;
+        starts.push(true)?;
+        push_false(starts, found / 8 - 1)?;
+        cell += found;
+    }
+    Ok(total)
+}
+
+/// The heap that these bytes are, or the first check that fails.
+pub fn read_cells(alloc: Global, bins: Bytes) -> Result<CellHeap, ReadStop>
+    requires { length bins ≤ 16777216 }
+    ensures { MatchResult result (IsBins bins) (Stops (BinsFault bins)) }
+{
+    let mut starts = Vec::new(alloc);
+    let bytes = bins.into_vec();
+    let all = bytes.as_slice();
+    let mut at = 0;
+    'reading: while at < all.len() {
+        let size = read_bin(&all[at..], at as u32, &mut starts)?;
+        at += size;
+    }
+    Ok(CellHeap { bytes, starts })
+}
