@@ -1,0 +1,44 @@
+-- The forms of the code as those of the book.
+use Rattle.hive_model.specs.Forms.{KeyNode, KeyValue, SecurityCell, SubkeyList, Li, Lf, Ri}
+use Rattle.hive_model.specs.Forms.{ListKind as BookKind}
+use Rattle.cell_forms.specs.declared.key_node.NkForm.{NkForm}
+use Rattle.cell_forms.specs.declared.key_value.VkForm.{VkForm}
+use Rattle.cell_forms.specs.declared.security.SkForm.{SkForm}
+use Rattle.cell_forms.specs.declared.lists.ListForm.{ListForm}
+use Rattle.cell_forms.specs.declared.lists.ListKind.{ListKind}
+use Rattle.cell_forms.specs.declared.lists.ListKind.TheVariants as kinds
+
+abbrev pub key_node_of : NkForm → KeyNode
+key_node_of f = record {
+  flags = f.flags;
+  stamp = f.stamp;
+  parent = f.parent;
+  child_count = f.child_count;
+  volatile_count = f.volatile_count;
+  child_list = f.child_list;
+  volatile_list = f.volatile_list;
+  value_count = f.value_count;
+  value_list = f.value_list;
+  security = f.security;
+  class = f.class;
+  greatest_child_name = f.greatest_child_name;
+  greatest_child_class = f.greatest_child_class;
+  greatest_value_name = f.greatest_value_name;
+  greatest_value_size = f.greatest_value_size;
+  class_length = f.class_length;
+  name = f.name;
+}
+
+abbrev pub key_value_of : VkForm → KeyValue
+key_value_of f = record { size = f.size; offset = f.offset; kind = f.kind; flags = f.flags; name = f.name }
+
+abbrev pub security_of : SkForm → SecurityCell
+security_of f = record { forward = f.forward; backward = f.backward; uses = f.uses; descriptor = f.descriptor }
+
+abbrev pub kind_of : ListKind → BookKind
+kind_of kinds.Li = Li
+kind_of kinds.Lf = Lf
+kind_of kinds.Ri = Ri
+
+abbrev pub subkey_list_of : ListForm → SubkeyList
+subkey_list_of f = record { kind = kind_of f.kind; offsets = f.offsets }

@@ -1,0 +1,125 @@
+//! Key nodes.
+
+ghost use Rattle.std.specs.Prelude.{◌≡◌, ◌<◌, ◌≤◌, ℕ, true, length, slice_index, IfOk};
+ghost use Rattle.hive_model.specs.Forms.{Gives, is_narrow_key, key_node_in, key_node_at, key_node_text};
+ghost use Rattle.cell_forms.specs.Views.{key_node_of};
+
+use crate::names::{append_name, fault, name_size, read_key_name};
+use nt_bytes::{Bytes, HiveKind, ReadStop, Units, u16_at, u32_at, u64_at};
+use std::alloc::{AllocError, Global};
+
+/// A key node, its numbers as they are stored. Offsets are bytes in the bins data, 0xFFFFFFFF is
+/// none. `flags` has the bit 0x0020 where the name is stored with one byte a unit.
+#[derive(Debug, Drop)]
+pub struct NkForm {
+    pub flags: u16,
+    pub stamp: u64,
+    pub parent: u32,
+    pub child_count: u32,
+    pub volatile_count: u32,
+    pub child_list: u32,
+    pub volatile_list: u32,
+    pub value_count: u32,
+    pub value_list: u32,
+    pub security: u32,
+    pub class: u32,
+    pub greatest_child_name: u32,
+    pub greatest_child_class: u32,
+    pub greatest_value_name: u32,
+    pub greatest_value_size: u32,
+    pub class_length: u16,
+    pub name: Units,
+}
+
+/// Is a key's name stored with one byte a unit?
+fn is_narrow(flags: u16) -> bool
+    ensures { result ≡ is_narrow_key flags }
+{
+    flags / 0x20 % 2 == 1
+}
+
+/// Reads a key node. `FormShort` where the payload is shorter than the fixed part or the name,
+/// `FormSign` where it does not begin with `nk`, `FormLength` where a wide name has half a unit,
+/// `FormName` where the name is over 255 units or has a backslash; each at `at`.
+#[tactic(auto, unfolding(hive_model::specs::Forms::key_node_at))]
+pub fn read_nk(alloc: Global, payload: &[u8], at: u32) -> Result<NkForm, ReadStop>
+    ensures { Gives key_node_of at result (key_node_at payload.now) }
+{
+    if payload.len() < 2 {
+        return Err(fault(HiveKind::FormShort, at));
+    }
+    if u16_at(payload, 0) != 0x6b6e {
+        return Err(fault(HiveKind::FormSign, at));
+    }
+    if payload.len() < 76 {
+        return Err(fault(HiveKind::FormShort, at));
+    }
+    let end = 76 + usize::from(u16_at(payload, 72));
+    if payload.len() < end {
+        return Err(fault(HiveKind::FormShort, at));
+    }
+    let is_narrow = is_narrow(u16_at(payload, 2));
+    let name = read_key_name(alloc, is_narrow, &payload[76..end], at)?;
+    Ok(fields(payload, name))
+}
+
+/// The fields of a payload, with this name.
+fn fields(payload: &[u8], name: Units) -> NkForm
+    requires { 76 ≤ length payload.now }
+    ensures { key_node_of result ≡ key_node_in payload.now name }
+{
+    NkForm {
+        flags: u16_at(payload, 2),
+        stamp: u64_at(payload, 4),
+        parent: u32_at(payload, 16),
+        child_count: u32_at(payload, 20),
+        volatile_count: u32_at(payload, 24),
+        child_list: u32_at(payload, 28),
+        volatile_list: u32_at(payload, 32),
+        value_count: u32_at(payload, 36),
+        value_list: u32_at(payload, 40),
+        security: u32_at(payload, 44),
+        class: u32_at(payload, 48),
+        greatest_child_name: u32_at(payload, 52),
+        greatest_child_class: u32_at(payload, 56),
+        greatest_value_name: u32_at(payload, 60),
+        greatest_value_size: u32_at(payload, 64),
+        class_length: u16_at(payload, 74),
+        name,
+    }
+}
+
+/// The payload that a key node is spelled as. The two fields without a name are zero.
+#[tactic(auto, unfolding(hive_model::specs::Forms::key_node_text))]
+pub fn nk_bytes(alloc: Global, form: &NkForm) -> Result<Bytes, AllocError>
+    requires short { length form.now.name ≤ 255 }
+    requires narrow { is_narrow_key form.now.flags ≡ true → (k : ℕ) → slice_index form.now.name k < 256 }
+    ensures { IfOk result (λ b. b ≡ key_node_text (key_node_of form.now)) }
+{
+    let name = form.name.as_slice();
+    let is_narrow = is_narrow(form.flags);
+    let mut bytes = Bytes::new(alloc);
+    bytes.push(0x6e)?;
+    bytes.push(0x6b)?;
+    bytes.put_u16(form.flags)?;
+    bytes.append(&form.stamp.to_le_bytes())?;
+    bytes.put_u32(0)?;
+    bytes.put_u32(form.parent)?;
+    bytes.put_u32(form.child_count)?;
+    bytes.put_u32(form.volatile_count)?;
+    bytes.put_u32(form.child_list)?;
+    bytes.put_u32(form.volatile_list)?;
+    bytes.put_u32(form.value_count)?;
+    bytes.put_u32(form.value_list)?;
+    bytes.put_u32(form.security)?;
+    bytes.put_u32(form.class)?;
+    bytes.put_u32(form.greatest_child_name)?;
+    bytes.put_u32(form.greatest_child_class)?;
+    bytes.put_u32(form.greatest_value_name)?;
+    bytes.put_u32(form.greatest_value_size)?;
+    bytes.put_u32(0)?;
+    bytes.put_u16(name_size(is_narrow, name) as u16)?;
+    bytes.put_u16(form.class_length)?;
+    append_name(&mut bytes, is_narrow, name)?;
+    Ok(bytes)
+}

@@ -1,0 +1,101 @@
+//! Key values.
+
+ghost use Rattle.std.specs.Prelude.{◌≡◌, ◌<◌, ◌≤◌, ℕ, true, length, slice_index, IfOk};
+ghost use Rattle.hive_model.specs.Forms.{Gives, is_narrow_value, key_value_at, key_value_text};
+ghost use Rattle.hive_model.specs.Forms.{data_inside as data_inside_of};
+ghost use Rattle.cell_forms.specs.Views.{key_value_of};
+
+use crate::names::{append_name, fault, name_size, read_value_name};
+use nt_bytes::{Bytes, HiveKind, ReadStop, Units, u16_at, u32_at};
+use std::alloc::{AllocError, Global};
+
+/// A value, its numbers as they are stored. `size` is bytes of data; with its top bit set the data
+/// are the first bytes of the offset field. `flags` has the bit 1 where the name is stored with
+/// one byte a unit.
+#[derive(Debug, Drop)]
+pub struct VkForm {
+    pub size: u32,
+    pub offset: u32,
+    pub kind: u32,
+    pub flags: u16,
+    pub name: Units,
+}
+
+/// Is a value's name stored with one byte a unit?
+fn is_narrow(flags: u16) -> bool
+    ensures { result ≡ is_narrow_value flags }
+{
+    flags % 2 == 1
+}
+
+/// Reads a value. `FormShort` where the payload is shorter than the fixed part or the name,
+/// `FormSign` where it does not begin with `vk`, `FormLength` where data in place are over 4 bytes
+/// or a wide name has half a unit, `FormName` where the name is over 16,383 units; each at `at`.
+#[tactic(auto, unfolding(hive_model::specs::Forms::key_value_at))]
+pub fn read_vk(alloc: Global, payload: &[u8], at: u32) -> Result<VkForm, ReadStop>
+    ensures { Gives key_value_of at result (key_value_at payload.now) }
+{
+    if payload.len() < 2 {
+        return Err(fault(HiveKind::FormShort, at));
+    }
+    if u16_at(payload, 0) != 0x6b76 {
+        return Err(fault(HiveKind::FormSign, at));
+    }
+    if payload.len() < 20 {
+        return Err(fault(HiveKind::FormShort, at));
+    }
+    let end = 20 + usize::from(u16_at(payload, 2));
+    if payload.len() < end {
+        return Err(fault(HiveKind::FormShort, at));
+    }
+    let size = u32_at(payload, 4);
+    if size > 0x8000_0004 {
+        return Err(fault(HiveKind::FormLength, at));
+    }
+    let flags = u16_at(payload, 16);
+    let name = read_value_name(alloc, is_narrow(flags), &payload[20..end], at)?;
+    Ok(VkForm {
+        size,
+        offset: u32_at(payload, 8),
+        kind: u32_at(payload, 12),
+        flags,
+        name,
+    })
+}
+
+/// The data that the value holds itself, in place or empty; none where a cell of their own at
+/// `offset` holds them.
+pub fn data_inside(alloc: Global, form: &VkForm) -> Result<Option<Bytes>, AllocError>
+    ensures { IfOk result (λ d. d ≡ data_inside_of (key_value_of form.now)) }
+{
+    if form.size >= 0x8000_0000 {
+        let length = (form.size - 0x8000_0000).min(4) as usize;
+        return Ok(Some(Bytes::from_slice(alloc, &form.offset.to_le_bytes()[..length])?));
+    }
+    if form.size == 0 {
+        return Ok(Some(Bytes::new(alloc)));
+    }
+    Ok(None)
+}
+
+/// The payload that a value is spelled as. The field without a name is zero.
+#[tactic(auto, unfolding(hive_model::specs::Forms::key_value_text))]
+pub fn vk_bytes(alloc: Global, form: &VkForm) -> Result<Bytes, AllocError>
+    requires short { length form.now.name ≤ 16383 }
+    requires narrow { is_narrow_value form.now.flags ≡ true → (k : ℕ) → slice_index form.now.name k < 256 }
+    ensures { IfOk result (λ b. b ≡ key_value_text (key_value_of form.now)) }
+{
+    let name = form.name.as_slice();
+    let is_narrow = is_narrow(form.flags);
+    let mut bytes = Bytes::new(alloc);
+    bytes.push(0x76)?;
+    bytes.push(0x6b)?;
+    bytes.put_u16(name_size(is_narrow, name) as u16)?;
+    bytes.put_u32(form.size)?;
+    bytes.put_u32(form.offset)?;
+    bytes.put_u32(form.kind)?;
+    bytes.put_u16(form.flags)?;
+    bytes.put_u16(0)?;
+    append_name(&mut bytes, is_narrow, name)?;
+    Ok(bytes)
+}

@@ -1,0 +1,39 @@
+//! What is spelled is read back, whatever fills the cell behind it.
+
+ghost use Rattle.std.specs.Prelude.{◌≡◌, ◌<◌, ◌^◌, ◌++◌, ℕ, List, length, Ok};
+ghost use Rattle.hive_model.specs.Forms.{KeyNode, IsKeyNode, key_node_at, key_node_text};
+ghost use Rattle.hive_model.specs.Forms.{KeyValue, IsKeyValue, key_value_at, key_value_text};
+ghost use Rattle.hive_model.specs.Forms.{SecurityCell, IsSecurityCell, security_at, security_text};
+ghost use Rattle.hive_model.specs.Forms.{AreOffsets, AreHints, Li, Lf, Ri, list_at, li_text, lf_text, ri_text, offsets_in, offsets_text, bytes_in};
+
+/// A key node.
+pub fn key_node_is_read_back()
+    ensures { (n : KeyNode) (slack : List ℕ) → IsKeyNode n → key_node_at (key_node_text n ++ slack) ≡ Ok n }
+{}
+
+/// A value.
+pub fn key_value_is_read_back()
+    ensures { (v : KeyValue) (slack : List ℕ) → IsKeyValue v → key_value_at (key_value_text v ++ slack) ≡ Ok v }
+{}
+
+/// A security cell.
+pub fn security_is_read_back()
+    ensures { (s : SecurityCell) (slack : List ℕ) → IsSecurityCell s → security_at (security_text s ++ slack) ≡ Ok s }
+{}
+
+/// A list of subkeys of each kind.
+pub fn list_is_read_back()
+    ensures li { (offsets slack : List ℕ) → length offsets < 2 ^ 16 → AreOffsets offsets → list_at (li_text offsets ++ slack) ≡ Ok (record { kind = Li; offsets = offsets }) }
+    ensures lf { (offsets : List ℕ) (hints : List (List ℕ)) (slack : List ℕ) → length offsets ≡ length hints → length offsets < 2 ^ 16 → AreOffsets offsets → AreHints hints → list_at (lf_text offsets hints ++ slack) ≡ Ok (record { kind = Lf; offsets = offsets }) }
+    ensures ri { (offsets slack : List ℕ) → length offsets < 2 ^ 16 → AreOffsets offsets → list_at (ri_text offsets ++ slack) ≡ Ok (record { kind = Ri; offsets = offsets }) }
+{}
+
+/// A value list.
+pub fn offsets_are_read_back()
+    ensures { (offsets slack : List ℕ) → AreOffsets offsets → offsets_in (length offsets) (offsets_text offsets ++ slack) ≡ Ok offsets }
+{}
+
+/// Plain bytes.
+pub fn bytes_are_read_back()
+    ensures { (bytes slack : List ℕ) → bytes_in (length bytes) (bytes ++ slack) ≡ Ok bytes }
+{}

@@ -1,0 +1,106 @@
+//! Names as cells store them: one byte a unit, or UTF-16.
+
+ghost use Rattle.std.specs.Prelude.{◌≡◌, ◌<◌, ◌≤◌, ◌*◌, ◌++◌, ℕ, true, length, slice_index, IfOk, OnOk};
+ghost use Rattle.nt_bytes.specs.declared.fault.ReadStop.TheVariants.{Fault};
+ghost use Rattle.hive_model.specs.Forms.{Gives, wide_text, stored_name, name_text, key_name_at, value_name_at};
+
+use nt_bytes::{Bytes, HiveFault, HiveKind, ReadStop, Units, narrow, wide};
+use std::alloc::{AllocError, Global};
+
+/// A fault of this kind at this offset.
+pub(crate) fn fault(kind: HiveKind, at: u32) -> ReadStop
+    ensures { result ≡ Fault (record { kind = kind; at = at }) }
+{
+    ReadStop::Fault(HiveFault { kind, at })
+}
+
+fn stored(alloc: Global, is_narrow: bool, bytes: &[u8]) -> Result<Units, AllocError>
+    ensures { IfOk result (λ u. u ≡ stored_name is_narrow bytes.now) }
+{
+    if is_narrow {
+        narrow(alloc, bytes)
+    } else {
+        wide(alloc, bytes)
+    }
+}
+
+/// The name of a key. `FormLength` where a wide name has half a unit, `FormName` where the name
+/// is over 255 units or has a backslash. It may be empty.
+#[tactic(auto, unfolding(hive_model::specs::Forms::key_name_at))]
+pub(crate) fn read_key_name(
+    alloc: Global,
+    is_narrow: bool,
+    bytes: &[u8],
+    at: u32,
+) -> Result<Units, ReadStop>
+    ensures { Gives (λ u. u) at result (key_name_at is_narrow bytes.now) }
+{
+    if !is_narrow && bytes.len() % 2 == 1 {
+        return Err(fault(HiveKind::FormLength, at));
+    }
+    let name = stored(alloc, is_narrow, bytes)?;
+    if name.len() > 255 || name.as_slice().contains(&0x5c) {
+        return Err(fault(HiveKind::FormName, at));
+    }
+    Ok(name)
+}
+
+/// The name of a value. `FormLength` where a wide name has half a unit, `FormName` where the name
+/// is over 16,383 units.
+#[tactic(auto, unfolding(hive_model::specs::Forms::value_name_at))]
+pub(crate) fn read_value_name(
+    alloc: Global,
+    is_narrow: bool,
+    bytes: &[u8],
+    at: u32,
+) -> Result<Units, ReadStop>
+    ensures { Gives (λ u. u) at result (value_name_at is_narrow bytes.now) }
+{
+    if !is_narrow && bytes.len() % 2 == 1 {
+        return Err(fault(HiveKind::FormLength, at));
+    }
+    let name = stored(alloc, is_narrow, bytes)?;
+    if name.len() > 16_383 {
+        return Err(fault(HiveKind::FormName, at));
+    }
+    Ok(name)
+}
+
+/// Appends units as pairs of bytes.
+fn append_wide(out: &mut Bytes, units: &[u16]) -> Result<(), AllocError>
+    ensures { OnOk result (out.new ≡ out.old ++ wide_text units.now) }
+{
+    let mut rest = units;
+    'pairs: loop {
+        let [unit, more @ ..] = rest else {
+            return Ok(());
+        };
+        out.put_u16(*unit)?;
+        rest = more;
+    }
+}
+
+/// Appends a name as it is stored.
+pub(crate) fn append_name(out: &mut Bytes, is_narrow: bool, name: &[u16]) -> Result<(), AllocError>
+    requires { is_narrow ≡ true → (k : ℕ) → slice_index name.now k < 256 }
+    ensures { OnOk result (out.new ≡ out.old ++ name_text is_narrow name.now) }
+{
+    if is_narrow {
+        out.append_narrow(name)
+    } else {
+        append_wide(out, name)
+    }
+}
+
+/// How many bytes a name is stored in.
+pub(crate) fn name_size(is_narrow: bool, name: &[u16]) -> usize
+    requires { length name.now ≤ 16383 }
+    ensures exact { result ≡ length (name_text is_narrow name.now) }
+    ensures bounds { result ≤ 2 * length name.now }
+{
+    if is_narrow {
+        name.len()
+    } else {
+        2 * name.len()
+    }
+}
