@@ -1,0 +1,6 @@
+pub mod Trees
+pub mod Sums
+pub mod Places
+pub mod Outcomes
+pub mod Changes
+pub mod Stepping

@@ -1,0 +1,7 @@
+use Rattle.std.proofs.Common.{◌≡◌, take}
+use Rattle.hive_model.specs.Size.{capped, size}
+use Rattle.std.specs.Prelude.{sum_by}
+use Rattle.reg_tree.proofs.key.+cells_size.Given as goal
+
+abbrev pub invariant-Keys::cells_size-loop-child : goal.invariant-Keys::cells_size-loop-child
+invariant-Keys::cells_size-loop-child l = l.total ≡ capped (sum_by (size l.shared) (take l.child-index l.child-items))

@@ -1,0 +1,17 @@
+use Rattle.std.proofs.Common.{◌≡◌, ap, sym, ◌∙◌, Some, None}
+use Rattle.std.specs.Prelude.{position}
+use Rattle.hive_model.specs.Tree.{is_item}
+use Rattle.hive_model.specs.Edit.{without_first}
+use Rattle.reg_tree.proofs.Places.{gone_at, none_gone}
+use Rattle.reg_tree.proofs.value.Values.remove.Goals as goal
+
+pub returns-in-Some : goal.returns-in-Some
+returns-in-Some c =
+    let ks = c.self.inside.items.items in
+    let found : position (is_item c.args.name.now) ks ≡ Some c.in-Some.at = cc in
+    c.remove-gone.ensures.items ∙ sym (gone_at (is_item c.args.name.now) ks c.in-Some.at c.remove-gone.result found) ∙ ap (without_first (is_item c.args.name.now)) c.self.view_is
+
+pub returns-in_default : goal.returns-in_default
+returns-in_default c =
+    let nowhere : position (is_item c.args.name.now) c.args.self.now ≡ None = cc in
+    sym (none_gone (is_item c.args.name.now) c.args.self.now nowhere)

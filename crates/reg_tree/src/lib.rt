@@ -1,0 +1,25 @@
+//! Registry trees: keys and values, seen as the trees of the book of hives.
+//!
+//! A lookup answers the key or value itself, by folded names, the first in order where several fold
+//! alike. Edits are made in steps, all or none. Nothing here knows of cells or bytes of a hive.
+#![tactic(auto)]
+
+mod apply;
+mod bulk;
+mod change;
+mod copy;
+mod find;
+mod key;
+mod levels;
+mod lists;
+mod same;
+mod steps;
+mod stop;
+#[cfg(test)]
+mod tests;
+mod value;
+
+pub use key::{Key, Keys};
+pub use steps::{Steps, TreeStep};
+pub use stop::EditStop;
+pub use value::{Value, Values};
