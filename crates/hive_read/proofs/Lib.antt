@@ -1,0 +1,16 @@
+pub mod Marks
+pub mod TakenLemmas
+pub mod Walks
+pub mod ValueWalks
+pub mod ListWalks
+pub mod KeyWalks
+pub mod Apart
+pub mod Passing
+pub mod Firsts
+pub mod Making
+pub mod One
+pub mod Standing
+pub mod Wellformed
+pub mod FormFacts
+pub mod ValidTrees
+pub mod Loading

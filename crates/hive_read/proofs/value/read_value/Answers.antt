@@ -1,0 +1,45 @@
+use Rattle.std.proofs.Common.{◌≡◌, List, ◌∷◌, [], refl, sym, ap, ◌∙◌}
+use Rattle.std.proofs.lemmas.Result.{err_from_is_err_and}
+use Rattle.hive_model.specs.Bins.{look_up}
+use Rattle.hive_model.specs.Walk.{name_check, data_checks}
+use Rattle.cell_forms.specs.Views.{key_value_of}
+use Rattle.hive_read.proofs.Walks.{stops-on, walk-on, walk-off}
+use Rattle.hive_read.proofs.ValueWalks.{value-off, value-named, item-stands}
+use Rattle.hive_read.proofs.value.read_value.Goals as goal
+
+pub returns-in_err-form-clause-walked : goal.returns-in_err-form-clause-walked
+returns-in_err-form-clause-walked c = λ names k.
+    let p = err_from_is_err_and c.from_residual.result c.from_residual.ensures.1 in
+    rw (p.1, p.2) (stops-on c.in_err-form.field-0.0 _ _ (λ f. value-off (look_up c.args.cells.now) c.args.used.now names c.args.at f) c.in_err-form.ensures)
+
+pub returns-in_err-take_name-clause-walked : goal.returns-in_err-take_name-clause-walked
+returns-in_err-take_name-clause-walked c = λ names k.
+    let p = err_from_is_err_and c.from_residual-in_err-take_name.result c.from_residual-in_err-take_name.ensures.1 in
+    let cells = look_up c.args.cells.now in
+    let u = c.in_ok-form.ensures in
+    let v = key_value_of c.in_ok-form.form in
+    rw (p.1, p.2) (stops-on c.in_err-take_name.field-0.0 _ _
+    (λ f e. value-named cells c.args.used.now c.use_value.new.used names c.args.at v u.0 u.1 ∙ walk-off cells c.use_value.new.used (name_check names c.args.at v.name ∷ []) (data_checks cells v) f e)
+    (rw c.as_slice.ensures at (c.in_err-take_name.ensures.walked names k cells c.use_value.new.used)))
+
+pub returns-in_err-bytes-clause-walked : goal.returns-in_err-bytes-clause-walked
+returns-in_err-bytes-clause-walked c = λ names k.
+    let p = err_from_is_err_and c.from_residual-in_err-bytes.result c.from_residual-in_err-bytes.ensures.1 in
+    let cells = look_up c.args.cells.now in
+    let u = c.in_ok-form.ensures in
+    let v = key_value_of c.in_ok-form.form in
+    let t = rw c.as_slice.ensures at (c.in_ok-take_name.ensures.walked names k cells c.use_value.new.used) in
+    rw (p.1, p.2) (stops-on c.in_err-bytes.field-0.0 _ _
+    (λ f e. value-named cells c.args.used.now c.use_value.new.used names c.args.at v u.0 u.1 ∙ walk-on cells c.use_value.new.used c.use_value.new.used (name_check names c.args.at v.name ∷ []) (data_checks cells v) t.0 ∙ e)
+    c.in_err-bytes.ensures)
+
+pub returns-clause-walked : goal.returns-clause-walked
+returns-clause-walked c = λ names k.
+    let cells = look_up c.args.cells.now in
+    let u = c.in_ok-form.ensures in
+    let v = key_value_of c.in_ok-form.form in
+    let t = rw c.as_slice.ensures at (c.in_ok-take_name.ensures.walked names k cells c.use_value.new.used) in
+    let b = c.in_ok-bytes.ensures in (
+      value-named cells c.args.used.now c.use_value.new.used names c.args.at v u.0 u.1 ∙ walk-on cells c.use_value.new.used c.use_value.new.used (name_check names c.args.at v.name ∷ []) (data_checks cells v) t.0 ∙ b.0,
+      item-stands cells c.args.at v c.in_ok-bytes.bytes u.1 b.1,
+    )

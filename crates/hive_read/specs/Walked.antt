@@ -1,0 +1,65 @@
+-- A walk over checks that keeps which cells were used, and what a reader on its way did.
+use Rattle.std.specs.Prelude.{◌≡◌, ℕ, Bool, true, false, ◌&&◌, not, if◌then◌else◌, List, [], ◌∷◌, Option, Some, None, Result, Ok, Err}
+use Rattle.std.specs.Ordering.{nat_cmp}
+use Rattle.std.specs.FinMap as map
+use Rattle.nt_bytes.specs.declared.fault.HiveKind.{HiveKind}
+use Rattle.nt_bytes.specs.declared.fault.HiveKind.TheVariants.{Shared}
+use Rattle.nt_bytes.specs.declared.fault.HiveFault.{HiveFault}
+use Rattle.nt_bytes.specs.declared.fault.ReadStop.{ReadStop}
+use Rattle.nt_bytes.specs.declared.fault.ReadStop.TheVariants as stops
+use Rattle.hive_model.specs.Forms.{◌>>=◌, KeyNode}
+use Rattle.hive_model.specs.Bins.{Cells, placed}
+use Rattle.hive_model.specs.Tree.{Tree, trees, head}
+use Rattle.hive_model.specs.Walk.{Check, uses, tests, reading, node_at, names_of, first_fault}
+use Rattle.hive_model.specs.Stands.{Stands, AllStand, ListsChildren, IsWellFormed}
+
+-- the cells that were used, and whether as security
+abbrev pub Seen : Type 0
+Seen = map.FinMap nat_cmp Bool
+
+-- not both times as security
+abbrev pub clashes : Option Bool → Bool → Bool
+clashes None security = false
+clashes (Some before) security = not (before && security)
+
+abbrev pub fault : {A : Type 0} → HiveKind → ℕ → Result A HiveFault
+fault kind at = Err (record { kind = kind; at = at })
+
+-- the cells that were used once this one is too
+abbrev pub marked : Seen → ℕ → Bool → List ℕ → Result Seen HiveFault
+marked seen at security payload = if clashes (map.get seen at) security then fault Shared at else Ok (map.insert seen at security)
+
+-- the cells that were used after a check, or its fault
+abbrev pub check : Cells → Seen → Check → Result Seen HiveFault
+check cells seen (tests at None) = Ok seen
+check cells seen (tests at (Some kind)) = fault kind at
+check cells seen (uses at security) = placed at (cells at) >>= marked seen at security
+
+-- the same after checks
+abbrev pub walk : Cells → Seen → List Check → Result Seen HiveFault
+walk cells seen [] = Ok seen
+walk cells seen (c ∷ cs) = check cells seen c >>= λ after. walk cells after cs
+
+-- it stopped at the fault of this outcome, or for want of memory
+abbrev pub Stops : Result Seen HiveFault → ReadStop → Type 0
+Stops outcome stops.Memory = Unit {0}
+Stops outcome (stops.Fault f) = outcome ≡ Err f
+
+-- it did what this outcome says, and left these cells used, or stopped so
+abbrev pub Steps : {X : Type 0} → (X → Type 0) → Result Seen HiveFault → Seen → Result X ReadStop → Type 0
+Steps Means outcome new (Ok x) = (outcome ≡ Ok new) × Means x
+Steps Means outcome new (Err e) = Stops outcome e
+
+-- what reading the tree at a root answers: the tree that stands there in well-formed cells, or the first fault
+abbrev pub Reads : Cells → ℕ → Result Tree ReadStop → Type 0
+Reads cells root (Ok t) = IsWellFormed cells root t × (first_fault cells root ≡ None)
+Reads cells root (Err stops.Memory) = Unit {0}
+Reads cells root (Err (stops.Fault f)) = first_fault cells root ≡ Some f
+
+-- a key stands here, under its name
+abbrev pub KeyRead : Cells → Bool → ℕ → Tree → Type 0
+KeyRead cells root at t = Stands cells at t × (names_of (λ (node : KeyNode). node.name) (reading (node_at root) cells at) ≡ (head t).name ∷ [])
+
+-- trees stand as the children of a node
+abbrev pub ChildrenRead : Cells → KeyNode → List Tree → Type 0
+ChildrenRead cells node ts = (offsets : List ℕ) × ListsChildren cells node offsets × AllStand cells offsets (trees ts)
