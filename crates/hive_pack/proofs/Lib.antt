@@ -1,0 +1,15 @@
+pub mod Rows
+pub mod Written
+pub mod Turning
+pub mod Parts
+pub mod Counts
+pub mod Rising
+pub mod Whole
+pub mod Found
+pub mod Items
+pub mod Named
+pub mod Standing
+pub mod Heap
+pub mod Once
+pub mod Singly
+pub mod Formed

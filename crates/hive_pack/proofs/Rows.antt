@@ -1,0 +1,306 @@
+-- Cells in a row: how many bytes they take.
+use Rattle.std.proofs.Common.{◌≡◌, ◌≤◌, ◌<◌, ℕ, zero, suc, ◌+◌, ◌*◌, ◌-◌, ◌/◌, ◌%◌, Bool, true, false, eqb, List, [], ◌∷◌, ◌++◌, length, take, drop, map, min, ◌⊎◌, inl, inr, refl, sym, ap, ◌∙◌, append_assoc, arith}
+use Rattle.std.specs.Prelude.{◌==◌, nat_lt, if◌then◌else◌}
+use Rattle.std.specs.Int.{w32, to_le_bytes}
+use Rattle.std.proofs.lemmas.List.{length-append, length-replicate, length-take, length-drop, length-map}
+use lib.ListN.{replicate}
+use Rattle.std.proofs.lemmas.Bool.{ne_eqb, le-ltb, cases_lt}
+use Rattle.hive_model.specs.Tree.{Item, Head, Tree, Trees, key, none, more, listed, head}
+use Rattle.hive_model.specs.Size.{cell, is_narrow, name_bytes, item_size, items_sum, items_size, class_size, has_own, security_size, head_size, part_count, list_size, count, size, size_of_all}
+use Rattle.hive_model.specs.Bins.{cell_bytes}
+use Rattle.hive_model.specs.Forms.{name_text, KeyNode, is_narrow_key, key_node_text, KeyValue, is_narrow_value, key_value_text, SecurityCell, security_text, offsets_text, entries_text, AreHints, lf_text, ri_text, hint_of}
+use Rattle.hive_model.specs.Packed.{filled, cell_text, text, item_form, item_cells, cells_of_items, item_places, items_cells, forward, backward, descriptor_place, sharers_of_all, Above, below, values_place, list_place, children_place, stored_flags, node_of, class_cells, security_cells, head_cells, part_places, parts, list_cells, places, hint, cells_of, cells_of_all}
+use Rattle.hive_model.proofs.Spelling.{length_wide}
+
+-- how many bytes cells with these payloads take
+abbrev pub space : List (List ℕ) → ℕ
+space [] = 0
+space (p ∷ ps) = cell (length p) + space ps
+
+pub space_append : (a b : List (List ℕ)) → space (a ++ b) ≡ space a + space b
+space_append [] b = omega arith
+space_append (p ∷ ps) b = omega (arith, space_append ps b)
+
+-- ---- one payload
+
+pub length_name_text : (name : List ℕ) → length (name_text (is_narrow name) name) ≡ name_bytes name
+length_name_text name = go (is_narrow name)
+  where
+    go : (b : Bool) → length (name_text b name) ≡ (if b then length name else 2 * length name)
+    go true = refl
+    go false = length_wide name
+
+pub narrow_stored : (name : List ℕ) (flags : ℕ) → is_narrow_key (stored_flags name flags) ≡ is_narrow name
+narrow_stored name flags = go (is_narrow name)
+  where
+    go : (b : Bool) → eqb ((flags - flags / 32 % 2 * 32 + (if b then 32 else 0)) / 32 % 2) 1 ≡ b
+    go true = let e : (flags - flags / 32 % 2 * 32 + 32) / 32 % 2 ≡ 1 = omega arith in rw e refl
+    go false = let e : (flags - flags / 32 % 2 * 32 + 0) / 32 % 2 ≡ 0 = omega arith in rw e refl
+
+pub narrow_value : (name : List ℕ) → is_narrow_value (if is_narrow name then 1 else 0) ≡ is_narrow name
+narrow_value name = go (is_narrow name)
+  where
+    go : (b : Bool) → is_narrow_value (if b then 1 else 0) ≡ b
+    go true = refl
+    go false = refl
+
+length_key_node : (n : KeyNode) → length (key_node_text n) ≡ 76 + length (name_text (is_narrow_key n.flags) n.name)
+unfolding key_node_text
+length_key_node n = omega arith
+
+pub length_node : (up : Above) (at : ℕ) (h : Head) (keys : List Tree) → length (key_node_text (node_of up at h keys)) ≡ 76 + name_bytes h.name
+length_node up at h keys =
+    length_key_node (node_of up at h keys)
+    ∙ ap (λ b. 76 + length (name_text b h.name)) (narrow_stored h.name h.flags)
+    ∙ ap (λ n. 76 + n) (length_name_text h.name)
+
+length_key_value : (v : KeyValue) → length (key_value_text v) ≡ 20 + length (name_text (is_narrow_value v.flags) v.name)
+unfolding key_value_text
+length_key_value v = omega arith
+
+pub length_value : (at : ℕ) (v : Item) → length (key_value_text (item_form at v)) ≡ 20 + name_bytes v.name
+length_value at v =
+    length_key_value (item_form at v)
+    ∙ ap (λ b. 20 + length (name_text b v.name)) (narrow_value v.name)
+    ∙ ap (λ n. 20 + n) (length_name_text v.name)
+
+pub length_security : (s : SecurityCell) → length (security_text s) ≡ 20 + length s.descriptor
+unfolding security_text
+length_security s = omega arith
+
+pub length_offsets_text : (os : List ℕ) → length (offsets_text os) ≡ 4 * length os
+length_offsets_text [] = refl
+length_offsets_text (o ∷ os) = omega (arith, length_offsets_text os)
+
+length_entries_text : (os : List ℕ) (hs : List (List ℕ)) → length os ≡ length hs → AreHints hs → length (entries_text os hs) ≡ 8 * length os
+length_entries_text [] hs e f = refl
+length_entries_text (o ∷ os) [] e f = absurd (omega arith)
+length_entries_text (o ∷ os) (h ∷ hs) e f = omega (arith, length-append h (entries_text os hs), f.0, length_entries_text os hs (omega arith) f.1)
+
+pub length_lf : (os : List ℕ) (hs : List (List ℕ)) → length os ≡ length hs → AreHints hs → length (lf_text os hs) ≡ 4 + 8 * length os
+unfolding lf_text
+length_lf os hs e f = omega (arith, length_entries_text os hs e f)
+
+pub length_ri : (os : List ℕ) → length (ri_text os) ≡ 4 + 4 * length os
+unfolding ri_text
+length_ri os = omega (arith, length_offsets_text os)
+
+-- ---- their cells
+
+pub length_filled : (p : List ℕ) → length (filled p) ≡ cell (length p) - 4
+unfolding filled
+length_filled p = omega (arith, length-append p (replicate (cell (length p) - 4 - length p) 0), length-replicate {A = ℕ} (cell (length p) - 4 - length p) 0)
+
+-- four bytes for the size, with the sign of an allocated cell, and the payload
+pub cell_text_is : (p : List ℕ) → cell_text p ≡ to_le_bytes w32 (4294967296 - cell (length p)) ++ filled p
+unfolding cell_text cell_bytes
+cell_text_is p =
+    let n : 4 + length (filled p) ≡ cell (length p) = omega (arith, length_filled p) in
+    ap (λ k. to_le_bytes w32 (4294967296 - k) ++ filled p) n
+
+-- what is there once a cell was appended part by part
+pub cell_written : (old one two new p : List ℕ) (size : ℕ) → size ≡ cell (length p) → one ≡ old ++ to_le_bytes w32 (4294967296 - size) → two ≡ one ++ p → new ≡ two ++ replicate (size - 4 - length p) 0 → new ≡ old ++ cell_text p
+unfolding filled
+cell_written old one two new p size s a b c =
+    let z : List ℕ = replicate (size - 4 - length p) 0 in
+    let w = to_le_bytes w32 (4294967296 - size) in
+    c ∙ ap (λ (x : List ℕ). x ++ z) (b ∙ ap (λ (x : List ℕ). x ++ p) a) ∙ append_assoc (old ++ w) p z ∙ append_assoc old w (p ++ z)
+    ∙ (λ j. old ++ (to_le_bytes w32 (4294967296 - s j) ++ (p ++ replicate (s j - 4 - length p) 0))) ∙ ap (λ (x : List ℕ). old ++ x) (sym (cell_text_is p))
+
+pub length_cell : (p : List ℕ) → length (cell_text p) ≡ cell (length p)
+length_cell p = ap (λ (x : List ℕ). length x) (cell_text_is p) ∙ omega (arith, length_filled p)
+
+pub length_text : (ps : List (List ℕ)) → length (text ps) ≡ space ps
+length_text [] = refl
+length_text (p ∷ ps) = omega (arith, length-append (cell_text p) (text ps), length_cell p, length_text ps)
+
+-- ---- values
+
+pub space_value : (at : ℕ) (v : Item) → space (item_cells at v) ≡ item_size v
+unfolding item_cells
+space_value at v =
+    ap (λ (n : ℕ). cell n + space (if nat_lt 4 (length v.bytes) then v.bytes ∷ [] else [])) (length_value at v) ∙ go (nat_lt 4 (length v.bytes))
+  where
+    go : (b : Bool) → cell (20 + name_bytes v.name) + space (if b then v.bytes ∷ [] else []) ≡ cell (20 + name_bytes v.name) + (if b then cell (length v.bytes) else 0)
+    go true = omega arith
+    go false = refl
+
+pub space_values : (at : ℕ) (vs : List Item) → space (cells_of_items at vs) ≡ items_sum vs
+space_values at [] = refl
+space_values at (v ∷ vs) = omega (arith, space_append (item_cells at v) (cells_of_items (at + item_size v) vs), space_value at v, space_values (at + item_size v) vs)
+
+pub length_item_places : (at : ℕ) (vs : List Item) → length (item_places at vs) ≡ length vs
+length_item_places at [] = refl
+length_item_places at (v ∷ vs) = omega (arith, length_item_places (at + item_size v) vs)
+
+pub length_values_list : (first : ℕ) (vs : List Item) → length (offsets_text (item_places first vs)) ≡ 4 * length vs
+length_values_list first vs = length_offsets_text (item_places first vs) ∙ ap (λ k. 4 * k) (length_item_places first vs)
+
+pub space_all_values : (at : ℕ) (vs : List Item) → space (items_cells at vs) ≡ items_size vs
+unfolding items_cells
+space_all_values at [] = refl
+space_all_values at (v ∷ vs) =
+    let first = at + cell (4 * length (v ∷ vs)) in
+    omega (arith, length_values_list first (v ∷ vs), space_values first (v ∷ vs))
+
+-- ---- a key's own cells
+
+pub space_class : (c : List ℕ) → space (class_cells c) ≡ class_size c
+unfolding class_cells
+space_class [] = refl
+space_class (b ∷ c) = omega arith
+
+pub space_security : (up : Above) (at : ℕ) (s : List ℕ) (n : ℕ) → space (security_cells up at s n) ≡ security_size up.security s
+unfolding security_cells
+space_security up at s n = go (has_own up.security s) (record { forward = forward up.ring at; backward = backward up.ring at; uses = 1 + n; descriptor = s })
+  where
+    go : (b : Bool) (p : SecurityCell) → space (if b then security_text p ∷ [] else []) ≡ (if b then cell (20 + length p.descriptor) else 0)
+    go true p = omega (arith, length_security p)
+    go false p = refl
+
+pub space_head : (up : Above) (at : ℕ) (h : Head) (ts : Trees) → space (head_cells up at h ts) ≡ head_size up.security h
+unfolding head_cells
+space_head up at h ts =
+    let vs = items_cells (values_place up at h) h.values in
+    let sec = security_cells up (descriptor_place at h) h.security (sharers_of_all h.security ts) in
+    omega (
+      arith,
+      length_node up at h (listed ts),
+      space_append (class_cells h.class) (sec ++ vs),
+      space_append sec vs,
+      space_class h.class,
+      space_security up (descriptor_place at h) h.security (sharers_of_all h.security ts),
+      space_all_values (values_place up at h) h.values,
+    )
+
+-- ---- subkey lists
+
+pub hints_take : (n : ℕ) (hs : List (List ℕ)) → AreHints hs → AreHints (take n hs)
+hints_take zero hs f = tt
+hints_take (suc n) [] f = tt
+hints_take (suc n) (h ∷ hs) f = (f.0, hints_take n hs f.1)
+
+pub hints_drop : (n : ℕ) (hs : List (List ℕ)) → AreHints hs → AreHints (drop n hs)
+hints_drop zero hs f = f
+hints_drop (suc n) [] f = tt
+hints_drop (suc n) (h ∷ hs) f = hints_drop n hs f.1
+
+pub length_hint_of : (b : Bool) (name : List ℕ) → length (hint_of b name) ≡ 4
+length_hint_of true [] = refl
+length_hint_of true (a ∷ []) = refl
+length_hint_of true (a ∷ b ∷ []) = refl
+length_hint_of true (a ∷ b ∷ c ∷ []) = refl
+length_hint_of true (a ∷ b ∷ c ∷ d ∷ name) = refl
+length_hint_of false name = refl
+
+pub hints_of : (ts : List Tree) → AreHints (map hint ts)
+hints_of [] = tt
+hints_of (t ∷ ts) = (length_hint_of (is_narrow (head t).name) (head t).name, hints_of ts)
+
+-- the lists of n entries without the list of them
+tail_size : ℕ → ℕ
+tail_size n = n / 500 * 4008 + (if n % 500 == 0 then 0 else cell (4 + 8 * (n % 500)))
+
+tail_full : (n : ℕ) → 500 ≤ n → cell (4 + 8 * 500) + tail_size (n - 500) ≡ tail_size n
+unfolding tail_size
+tail_full n h =
+    let q : (n - 500) / 500 + 1 ≡ n / 500 = omega arith in
+    let r : (n - 500) % 500 ≡ n % 500 = omega arith in
+    ap (λ k. cell (4 + 8 * 500) + ((n - 500) / 500 * 4008 + (if k == 0 then 0 else cell (4 + 8 * k)))) r ∙ omega (arith, q)
+
+tail_last : (n : ℕ) → 0 < n → n < 500 → cell (4 + 8 * n) ≡ tail_size n
+unfolding tail_size
+tail_last n h l =
+    let q : n / 500 ≡ 0 = omega arith in
+    let r : n % 500 ≡ n = omega arith in
+    let some : eqb n 0 ≡ false = ne_eqb n 0 (λ e. omega arith) in
+    rw (q, r, some) (omega arith)
+
+no_tail : (n : ℕ) → n ≡ 0 → tail_size n ≡ 0
+unfolding tail_size
+no_tail n e = rw e refl
+
+space_parts : (k n : ℕ) (os : List ℕ) (hs : List (List ℕ)) → length os ≡ n → length os ≡ length hs → AreHints hs → part_count n ≡ k → space (parts k os hs) ≡ tail_size n
+space_parts zero n os hs l e f p = sym (no_tail n (omega arith))
+space_parts (suc k) n os hs l e f p =
+    let first : length (lf_text (take 500 os) (take 500 hs)) ≡ 4 + 8 * min 500 n = length_lf (take 500 os) (take 500 hs) (omega (arith, length-take 500 os, length-take 500 hs)) (hints_take 500 hs f) ∙ omega (arith, length-take 500 os) in
+    let rest : space (parts k (drop 500 os) (drop 500 hs)) ≡ tail_size (n - 500) =
+    space_parts k (n - 500) (drop 500 os) (drop 500 hs) (omega (arith, length-drop 500 os)) (omega (arith, length-drop 500 os, length-drop 500 hs)) (hints_drop 500 hs f) (omega arith) in
+    ap (λ x. cell x + space (parts k (drop 500 os) (drop 500 hs))) first ∙ ap (λ x. cell (4 + 8 * min 500 n) + x) rest ∙ step (cases_lt n 500)
+  where
+    step : (n < 500) ⊎ (500 ≤ n) → cell (4 + 8 * min 500 n) + tail_size (n - 500) ≡ tail_size n
+    step (inl l) =
+        let m : min 500 n ≡ n = omega arith in
+        rw m (omega (arith, no_tail (n - 500) (omega arith), tail_last n (omega arith) l))
+    step (inr l) =
+        let m : min 500 n ≡ 500 = omega arith in
+        rw m (tail_full n l)
+
+pub length_part_places : (n at : ℕ) → length (part_places n at) ≡ n
+length_part_places zero at = refl
+length_part_places (suc n) at = omega (arith, length_part_places n (at + cell 4004))
+
+pub space_list : (at : ℕ) (os : List ℕ) (hs : List (List ℕ)) → length os ≡ length hs → AreHints hs → space (list_cells at os hs) ≡ list_size (length os)
+unfolding list_cells tail_size
+space_list at os hs e f = go (length os == 0) (nat_lt (length os) 501)
+  where
+    n : ℕ
+    n = length os
+
+    starts : List ℕ
+    starts = part_places (part_count n) (at + cell (4 + 4 * part_count n))
+
+    go : (b c : Bool) → space (if b then [] else if c then lf_text os hs ∷ [] else ri_text starts ∷ parts (part_count n) os hs)
+        ≡ (if b then 0 else if c then cell (4 + 8 * n) else cell (4 + 4 * part_count n) + n / 500 * cell 4004 + (if n % 500 == 0 then 0 else cell (4 + 8 * (n % 500))))
+    go true c = refl
+    go false true = omega (arith, length_lf os hs e f)
+    go false false =
+        ap (λ x. cell x + space (parts (part_count n) os hs)) (length_ri starts ∙ ap (λ x. 4 + 4 * x) (length_part_places (part_count n) (at + cell (4 + 4 * part_count n))))
+        ∙ ap (λ x. cell (4 + 4 * part_count n) + x) (space_parts (part_count n) n os hs refl e f refl)
+        ∙ omega arith
+
+pub many_lists : (n : ℕ) → 501 ≤ n → cell (4 + 4 * part_count n) + n / 500 * 4008 ≤ list_size n
+many_lists n h =
+    let a : eqb n 0 ≡ false = ne_eqb n 0 (λ e. omega arith) in
+    let b : nat_lt n 501 ≡ false = le-ltb n 501 (omega arith) in
+    rw (a, b) (omega arith)
+
+pub lists_many : (at : ℕ) (os : List ℕ) (hs : List (List ℕ)) → 501 ≤ length os
+    → text (list_cells at os hs) ≡ cell_text (ri_text (part_places (part_count (length os)) (at + cell (4 + 4 * part_count (length os))))) ++ text (parts (part_count (length os)) os hs)
+unfolding list_cells
+lists_many at os hs h =
+    let a : eqb (length os) 0 ≡ false = ne_eqb (length os) 0 (λ e. omega arith) in
+    let b : nat_lt (length os) 501 ≡ false = le-ltb (length os) 501 (omega arith) in
+    rw (a, b) refl
+
+-- ---- a tree
+
+pub length_places : (shared : List ℕ) (at : ℕ) (ts : Trees) → length (places shared at ts) ≡ count ts
+length_places shared at none = refl
+length_places shared at (more t ts) = omega (arith, length_places shared (at + size shared t) ts)
+
+pub same_hints : (shared : List ℕ) (at : ℕ) (ts : Trees) → length (places shared at ts) ≡ length (map hint (listed ts))
+same_hints shared at ts = length_places shared at ts ∙ sym (length-map (listed ts) hint)
+
+pub space_lists : (list_at : ℕ) (shared : List ℕ) (at : ℕ) (ts : Trees) → space (list_cells list_at (places shared at ts) (map hint (listed ts))) ≡ list_size (count ts)
+space_lists list_at shared at ts = space_list list_at (places shared at ts) (map hint (listed ts)) (same_hints shared at ts) (hints_of (listed ts)) ∙ ap list_size (length_places shared at ts)
+
+mutual
+  pub space_tree : (up : Above) (at : ℕ) (t : Tree) → space (cells_of up at t) ≡ size up.security t
+  space_tree up at (key h ts) =
+      let first = children_place up at h (count ts) in
+      let lists = list_cells (list_place up at h) (places h.security first ts) (map hint (listed ts)) in
+      omega (
+        arith,
+        space_append (head_cells up at h ts) (lists ++ cells_of_all (below up at h) first ts),
+        space_append lists (cells_of_all (below up at h) first ts),
+        space_head up at h ts,
+        space_lists (list_place up at h) h.security first ts,
+        space_trees (below up at h) first ts,
+      )
+
+  pub space_trees : (up : Above) (at : ℕ) (ts : Trees) → space (cells_of_all up at ts) ≡ size_of_all up.security ts
+  space_trees up at none = refl
+  space_trees up at (more t ts) = omega (arith, space_append (cells_of up at t) (cells_of_all up (at + size up.security t) ts), space_tree up at t, space_trees up (at + size up.security t) ts)
+
+pub ruleset lengths = (length_node, length_value, length_security)

@@ -1,0 +1,12 @@
+-- What the writer's own types say, and lists of places that rise.
+use Rattle.std.specs.Prelude.{ℕ, ◌<◌, List, length, slice_index_or}
+use Rattle.hive_model.specs.Packed.{Above}
+use Rattle.hive_pack.specs.declared.security.Up.{Up}
+
+-- what a key tells its children, as the book has it
+abbrev pub above : Up → Above
+above up = record { place = up.place; security = up.security.now; security_place = up.security_place; ring = up.ring.now }
+
+-- each place is below all later ones
+abbrev pub IsRising : List ℕ → Type 0
+IsRising xs = (i j : ℕ) → i < j → j < length xs → slice_index_or xs i 0 < slice_index_or xs j 0

@@ -1,0 +1,23 @@
+//! The packed form of a tree: the bins data in which each key stands with its cells one behind
+//! another.
+//!
+//! `pack` appends cell after cell, and fills each list of offsets in once they are known, so its
+//! work is linear in the tree. Rules: regf format 1.3 for the cells, this project's own for their
+//! order, for which descriptors share a cell, and for the length of the lists.
+#![tactic(auto)]
+
+mod bins;
+mod forms;
+mod laws;
+mod lists;
+mod numbers;
+mod ring;
+mod security;
+mod sizes;
+#[cfg(test)]
+mod tests;
+mod values;
+mod write;
+
+pub use bins::pack;
+pub use laws::{packed_cells_are_well_formed, packed_form_is_its_bins, packed_tree_stands};

@@ -1,0 +1,40 @@
+//! The bytes of a packed root with nothing below it.
+
+ghost use Rattle.std.specs.Prelude.{◌≤◌, IfOk};
+ghost use Rattle.hive_model.specs.Valid.{IsValid};
+ghost use Rattle.hive_model.specs.Size.{bulk_of};
+
+use super::*;
+use nt_bytes::{Bytes, narrow};
+use reg_tree::{Key, Keys, Values};
+use std::alloc::{AllocError, Global};
+use std::test::Fail;
+
+fn root(alloc: Global) -> Result<Key, AllocError>
+    ensures valid { IfOk result IsValid }
+    ensures small { IfOk result (λ k. bulk_of k ≤ 16773120) }
+{
+    Ok(Key {
+        name: narrow(alloc, b"R")?,
+        flags: 0x000c,
+        stamp: 0,
+        class: Bytes::new(alloc),
+        security: Bytes::new(alloc),
+        values: Values::new(alloc),
+        children: Keys::new(alloc),
+    })
+}
+
+#[test]
+fn a_root_alone(rt: HostRuntime) -> Result<(), Fail> {
+    let tree = root(rt.alloc())?;
+    let bins = pack(rt.alloc(), &tree)?;
+    assert_eq!(rt; bins.len(), 4096);
+    let bytes = bins.as_slice();
+    assert_eq!(rt;
+        bytes[32..40],
+        [0xa8, 0xff, 0xff, 0xff, 0x6e, 0x6b, 0x2c, 0x00][..]
+    );
+    assert_eq!(rt; bytes[120..124], [0x88, 0x0f, 0x00, 0x00][..]);
+    Ok(())
+}
