@@ -1,0 +1,10 @@
+pub mod Runs
+pub mod Ranks
+pub mod Bits
+pub mod LogParts
+pub mod Finding
+pub mod Opened
+pub mod Text
+pub mod Appending
+pub mod SoFar
+pub mod Looked

@@ -1,0 +1,19 @@
+use Rattle.std.proofs.Common.{◌≡◌, ◌≤◌, ◌+◌, ◌*◌, length, true}
+use Rattle.hive_model.specs.Recovery.{primary_in, bins_short, bit, rank}
+use Rattle.nt_edge.specs.Disk.{CountsGrow}
+use Rattle.hive_log.specs.Mixing.{mixed}
+use Rattle.hive_log.proofs.SoFar.{ReadSoFar}
+use Rattle.hive_log.proofs.gathering.read_bins.Given as goal
+
+abbrev pub invariant-loop-i : goal.invariant-loop-i
+invariant-loop-i g l = record {
+  on : (g.D.Disk.state l.disk).on ≡ true;
+  held : g.D.Disk.tells ≡ true → (g.D.Disk.state l.disk).held ≡ (g.D.Disk.state l.fn.disk).held;
+  flight : g.D.Disk.tells ≡ true → (g.D.Disk.state l.disk).flight ≡ (g.D.Disk.state l.fn.disk).flight;
+  long : length l.bytes ≡ 512 * l.i;
+  place : l.taken ≡ rank (bit l.bitmap) l.i;
+  small : l.taken ≤ l.i;
+  read : g.D.Disk.tells ≡ true → ReadSoFar (mixed (primary_in (g.D.Disk.state l.fn.disk).held) l.run (bit l.bitmap)) bins_short l.count l.bytes l.i;
+  history : (g.D.Disk.state l.disk).history ≡ (g.D.Disk.state l.fn.disk).history;
+  counts : CountsGrow (g.D.Disk.state l.fn.disk) (g.D.Disk.state l.disk);
+}

@@ -1,0 +1,37 @@
+use Rattle.std.proofs.Common.{◌≡◌, ◌*◌, ◌/◌, Result, Ok, Err, List, [], ℕ, refl, sym, ◌∙◌, ap, subst, arith}
+use Rattle.std.proofs.lemmas.Result.{err_from_is_err_and}
+use Rattle.nt_bytes.specs.declared.fault.HiveFault.{HiveFault}
+use Rattle.hive_model.specs.Base.{Base}
+use Rattle.hive_model.specs.Recovery.{primary_in, bins_short, bit, gathered, recovered_of}
+use Rattle.hive_log.specs.Mixing.{mixed}
+use Rattle.hive_log.specs.Shown.{read_of}
+use Rattle.hive_log.proofs.Looked.{fault_as, no_run, clean_fault, clean_ok, clean_carries}
+use Rattle.hive_log.proofs.looking.read_clean.Goals as goal
+
+pub read_bins-requires-clause-run_long : goal.read_bins-requires-clause-run_long
+read_bins-requires-clause-run_long g c = no_run (c.base.inside.size / 512)
+
+pub returns-in_err-bins-clause-exact : goal.returns-in_err-bins-clause-exact
+returns-in_err-bins-clause-exact g c = λ tells.
+    let h = (g.D.Disk.state c.args.disk.now).held in
+    let base = c.args.base in
+    let e : c.base.inside.size ≡ base.size = ap (λ (b : Base). b.size) c.base.view_is in
+    let all : ℕ → Result (List ℕ) HiveFault = λ s. gathered (mixed (primary_in h) [] (bit [])) bins_short 0 (s / 512) in
+    let p = err_from_is_err_and c.from_residual.result c.from_residual.ensures.1 in
+    rw (p.1, p.2)
+    (fault_as read_of c.in_err-bins.field-0.0 (all c.base.inside.size) (recovered_of h)
+    (λ f is. clean_fault h base (c.requires.block tells) c.requires.clean f (ap all (sym e) ∙ is)) (c.in_err-bins.ensures.bins tells))
+
+pub returns-clause-exact : goal.returns-clause-exact
+returns-clause-exact g c = λ tells.
+    let h = (g.D.Disk.state c.args.disk.now).held in
+    let e : c.base.inside.size ≡ c.args.base.size = ap (λ (b : Base). b.size) c.base.view_is in
+    let all : ℕ → Result (List ℕ) HiveFault = λ s. gathered (mixed (primary_in h) [] (bit [])) bins_short 0 (s / 512) in
+    clean_ok h c.args.base (c.requires.block tells) c.requires.clean c.in_ok-bins.bins (ap all (sym e) ∙ c.in_ok-bins.ensures.bins tells)
+
+pub returns-clause-carries : goal.returns-clause-carries
+returns-clause-carries g c = λ tells.
+    let e : c.base.inside.size ≡ c.args.base.size = ap (λ (b : Base). b.size) c.base.view_is in
+    let count : c.base.inside.size / 512 ≡ c.args.base.size / 512 = ap (λ n. n / 512) e in
+    clean_carries (g.D.Disk.state c.args.disk.now).held c.args.base (c.requires.block tells) c.requires.clean c.in_ok-bins.bins c.requires.size
+    (c.in_ok-bins.ensures.long ∙ ap (λ n. 512 * n) count) (λ i small. c.in_ok-bins.ensures.sectors tells i (omega (arith, count)))

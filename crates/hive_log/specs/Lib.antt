@@ -1,0 +1,5 @@
+pub mod FilesState
+pub mod Found
+pub mod Mixing
+pub mod Shown
+pub mod Stops

@@ -1,0 +1,62 @@
+//! The bitmap of a log: a bit for each sector of the new bins data.
+
+ghost use Rattle.std.specs.Prelude.{◌≡◌, ◌<◌, ◌≤◌, ◌+◌, ◌*◌, ◌/◌, ℕ, true, ◌++◌, length, take, codes, slice_index};
+ghost use Rattle.hive_model.specs.Recovery as book;
+ghost use Rattle.hive_model.specs.Recovery.{bit, sector};
+ghost use Rattle.hive_model.specs.Log.{bitmap_text};
+
+/// Bit i, of the lowest first. There is none past the end.
+#[tactic(auto, unfolding(hive_model::specs::Recovery::bit))]
+pub fn has_bit(bitmap: &[u8], i: usize) -> bool
+    ensures { result ≡ bit bitmap.now i }
+{
+    if i / 8 < bitmap.len() {
+        (bitmap[i / 8] >> (i % 8)) % 2 == 1
+    } else {
+        false
+    }
+}
+
+/// Turns every bit on.
+pub fn mark_all(into: &mut [u8; 4096])
+    ensures { (k : ℕ) → k < 4096 → slice_index into.new k ≡ 255 }
+{
+    for byte in into.iter_mut() {
+        *byte = 0xff;
+    }
+}
+
+/// How many sectors `DIRT` and the bits take for bins data of this size in bytes.
+pub fn bitmap_sectors(size: usize) -> usize
+    requires { size ≤ 16777216 }
+    ensures { result ≡ book.bitmap_sectors size }
+{
+    (size / 4096 + 515) / 512
+}
+
+/// Sector k of `DIRT` and the bits, for bins data of this size in bytes.
+pub fn bitmap_sector(bitmap: &[u8], size: usize, k: usize, into: &mut [u8; 512])
+    requires bits { size / 4096 ≤ length bitmap.now }
+    requires inside { k < book.bitmap_sectors size }
+    requires few { size ≤ 16777216 }
+    ensures { into.new ≡ sector (bitmap_text (bit bitmap.now) size) k }
+{
+    for j in 0..512 {
+        into[j] = bitmap_byte(bitmap, size / 4096, 512 * k + j);
+    }
+}
+
+/// Byte `at` of `DIRT` and n bytes of bits, with zeros behind them.
+fn bitmap_byte(bitmap: &[u8], n: usize, at: usize) -> u8
+    requires { n ≤ length bitmap.now }
+    ensures { result ≡ slice_index (codes "DIRT" ++ take n bitmap.now) at }
+{
+    let sign = b"DIRT";
+    if at < 4 {
+        sign[at]
+    } else if at - 4 < n {
+        bitmap[at - 4]
+    } else {
+        0
+    }
+}

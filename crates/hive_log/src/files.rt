@@ -1,0 +1,86 @@
+//! Two files as a disk that can only be read.
+
+ghost use Rattle.std.specs.Prelude.{◌≡◌, ◌*◌, ◌+◌, ◌≤◌, ◌<◌, true, Some, None, IfOk, length};
+ghost use Rattle.hive_model.specs.Image as image;
+ghost use Rattle.hive_model.specs.Recovery.{recovered_of};
+ghost use Rattle.nt_edge.specs.declared.disk.Presence.TheVariants.{Whole, Absent};
+ghost use Rattle.hive_log.specs.Stops.{ReadsFiles};
+
+use crate::{LoadStop, Reading, Recovered, read_recovered};
+use nt_bytes::ReadStop;
+use nt_edge::{Address, Disk, DiskStop, HiveFile, Presence};
+use std::alloc::Global;
+
+/// The first 65,536 sectors of two files, as a disk whose every write wants for memory.
+#[derive(Drop)]
+struct Files<'a> {
+    primary: &'a [u8],
+    log: &'a [u8],
+}
+
+impl Disk for Files<'_> {
+    ghost use Rattle.std.specs.Prelude.{true};
+    ghost use Rattle.hive_log.specs.FilesState.{files_state, files_bounded};
+
+    ghost tells = { true };
+
+    ghost state = { files_state };
+
+    fn read(&mut self, at: Address, into: &mut [u8; 512]) -> Result<Presence, DiskStop> {
+        let bytes = match at.file {
+            HiveFile::Primary => self.primary,
+            HiveFile::Log => self.log,
+        };
+        if at.sector < 65_536 {
+            Ok(file_sector(bytes, at.sector as usize, into))
+        } else {
+            Ok(Presence::Absent)
+        }
+    }
+
+    fn write(&mut self, _at: Address, _bytes: &[u8; 512]) -> Result<(), DiskStop> {
+        Err(DiskStop::Memory)
+    }
+
+    fn sync(&mut self) -> Result<(), DiskStop> {
+        Err(DiskStop::Memory)
+    }
+
+    ghost bounded = { files_bounded };
+}
+
+/// Sector n of a file, filled up with zeros, unless it lies past the end.
+fn file_sector(bytes: &[u8], n: usize, into: &mut [u8; 512]) -> Presence
+    requires { n < 65536 }
+    ensures whole { result ≡ Whole → image.sector_of bytes.now n ≡ Some (image.Bytes into.new) }
+    ensures absent { result ≡ Absent → image.sector_of bytes.now n ≡ None }
+{
+    if bytes.len() <= 512 * n {
+        return Presence::Absent;
+    }
+    let rest = &bytes[512 * n..];
+    *into = [0; 512];
+    if rest.len() < 512 {
+        into[..rest.len()].copy_from_slice(rest);
+    } else {
+        into.copy_from_slice(&rest[..512]);
+    }
+    Presence::Whole
+}
+
+/// What two files are recovered as; an empty log is an absent one. `Fault` is the first check that fails.
+pub fn recovered(alloc: Global, primary: &[u8], log: &[u8]) -> Result<Recovered, ReadStop>
+    ensures { ReadsFiles result (recovered_of (image.image_of primary.now log.now)) }
+{
+    let mut files = Files { primary, log };
+    match read_recovered(alloc, &mut files) {
+        Ok(
+            Reading {
+                recovered,
+                bitmap: _,
+            },
+        ) => Ok(recovered),
+        Err(LoadStop::Fault(fault)) => Err(ReadStop::Fault(fault)),
+        Err(_) => Err(ReadStop::Memory),
+    }
+}

@@ -1,0 +1,28 @@
+//! The log of a hive: what a commit writes first, and what a hive is recovered as.
+//!
+//! `log_sectors` spells the log of a change. The small functions on sectors and bits are what a commit
+//! shares with it, which writes the same log sector by sector. Rules: docs/format.md, "The log".
+#![tactic(auto)]
+
+mod bitmap;
+mod blocks;
+mod files;
+mod gathering;
+mod looking;
+mod outcome;
+mod sectors;
+mod spelling;
+mod stops;
+
+pub use bitmap::{bitmap_sector, bitmap_sectors, has_bit, mark_all};
+pub use blocks::{
+    bits_behind, count_bits, first_run_sector, follows, read_bitmap, read_log_block,
+    read_primary_block,
+};
+pub use files::recovered;
+pub use gathering::{read_bins, read_log_run, short_log};
+pub use looking::{Reading, read_recovered};
+pub use outcome::Recovered;
+pub use sectors::{copy_sector, logged_block, sector_of};
+pub use spelling::log_sectors;
+pub use stops::LoadStop;
