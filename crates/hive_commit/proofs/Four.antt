@@ -1,0 +1,238 @@
+-- What a cut in each stage of a commit leaves.
+use Rattle.std.proofs.Common.{◌≡◌, ◌⊎◌, ◌<◌, ◌≤◌, ◌+◌, ◌*◌, ◌/◌, ◌%◌, ◌^◌, ℕ, Bool, true, false, List, length, get_or, Some, Ok, refl, sym, ◌∙◌, ap, subst, arith, inl, inr, ⊎_elim}
+use Rattle.std.proofs.lemmas.Bool.{ne_eqb}
+use Rattle.nt_bytes.specs.declared.fault.HiveKind.TheVariants.{NotRegf}
+use Rattle.hive_model.specs.Base.{Base, IsBase, base_of, base_text, is_bins_size, fault_at}
+use Rattle.hive_model.specs.Image.{Primary, Log, Address, Image, Bytes, IsCrashImage}
+use Rattle.hive_model.specs.Recovery.{primary_in, log_in, sector, bit, and_then, bytes_or, recovered_of}
+use Rattle.hive_model.specs.Carries.{HasBase, HasBins, HasLog, Carries, IsRecoveredAs}
+use Rattle.hive_model.specs.Log.{log_of}
+use Rattle.hive_model.proofs.BaseLemmas.{base_back, IsChecked, base_in_checked}
+use Rattle.nt_edge.specs.Disk.{DiskState}
+use Rattle.nt_edge.specs.Crash.{AgreeOutside, EachCrash}
+use Rattle.hive_log.proofs.Appending.{sized, all_on}
+use Rattle.hive_log.proofs.Finding.{carries_recovered}
+use Rattle.hive_log.proofs.Opened.{IsOpened, IsCommitOf, opened_recovered}
+use Rattle.hive_commit.specs.Stages.{in_log, is_base, is_marked, BlockIsBeforeOr, HasMarked, next_number, opened_of, closed_of, IsBeforeOrAfter}
+use Rattle.hive_commit.specs.Fitting.{NumbersFit, TextsFit}
+use Rattle.hive_commit.specs.Growing.{bin_at, log_at}
+use Rattle.hive_commit.proofs.Growth.{unmarked_at}
+
+-- what is held may be left
+pub held_left : (s : DiskState) → IsCrashImage s.held s.flight s.held
+held_left s a = inl refl
+
+pub either : (b : Bool) → (b ≡ true) ⊎ (b ≡ false)
+either true = inl refl
+either false = inr refl
+
+pub no_base : (i : ℕ) → is_base (bin_at i) ≡ false
+no_base i = ne_eqb (8 + i) 0 (λ e. absurd (omega arith))
+
+-- a base block in the same sector
+pub same_block : (before after : Image) (base : Base) → primary_in after 0 ≡ primary_in before 0 → HasBase before base → HasBase after base
+same_block before after base same has = ap (λ c. and_then (bytes_or (fault_at NotRegf 0) c) (λ block. base_of block 0)) same ∙ has
+
+-- facts on an image that hold of one that agrees with it
+module _ (p : Address → Bool) (before after : Image) (agree : AgreeOutside p before after) where
+  pub base_along : (base : Base) → p (record { file = Primary; sector = 0 }) ≡ false → HasBase before base → HasBase after base
+  base_along base out has = same_block before after base (agree _ out) has
+
+  pub log_along : (log : List ℕ) → ((n : ℕ) → p (log_at n) ≡ false) → HasLog before log → HasLog after log
+  log_along log out has = λ n small. agree (log_at n) (out n) ∙ has n small
+
+  pub bins_along : (bins : List ℕ) → ((i : ℕ) → p (bin_at i) ≡ false) → HasBins before bins → HasBins after bins
+  bins_along bins out has = λ i small. agree (bin_at i) (out i) ∙ has i small
+
+  pub carries_along : (base : Base) (bins : List ℕ) → p (record { file = Primary; sector = 0 }) ≡ false → ((i : ℕ) → p (bin_at i) ≡ false) → Carries before base bins → Carries after base bins
+  carries_along base bins out_base out is = record { block = base_along base out_base is.block; clean = is.clean; size = is.size; bins_there = bins_along bins out is.bins_there }
+
+-- a base block that was written
+pub written_base : (image : Image) (base : Base) → IsBase base → base.kind ≡ 0 → primary_in image 0 ≡ Some (Bytes (base_text base)) → HasBase image base
+written_base image base fits kind there = ap (λ c. and_then (bytes_or (fault_at NotRegf 0) c) (λ block. base_of block 0)) there ∙ ap (base_of (base_text base)) (sym kind) ∙ base_back base fits
+
+-- what is asked of a commit, as the stages want it
+pub record IsAsked (base : Base) (old new : List ℕ) (root : ℕ) (bits : ℕ → Bool) : Type 0 where
+  pub fits : IsBase base
+  pub kind : base.kind ≡ 0
+  pub clean : base.first ≡ base.second
+  pub whole_old : 512 * (length old / 512) ≡ length old
+  pub sized_new : is_bins_size (length new) ≡ true
+  pub root_fits : root < 2 ^ 32
+  pub same : (i : ℕ) → 512 * i < length new → bits i ≡ false → (512 * i < length old) × (sector new i ≡ sector old i)
+
+module _ (base : Base) (old new : List ℕ) (root : ℕ) (bits : ℕ → Bool) (a : IsAsked base old new root bits) where
+  abbrev opened : Base
+  opened = opened_of base
+
+  abbrev closed : Base
+  closed = closed_of base new root
+
+  opened_fits : IsBase opened
+  opened_fits = record {
+    first_fits = omega arith;
+    second_fits = a.fits.second_fits;
+    stamp_fits = a.fits.stamp_fits;
+    minor_is = a.fits.minor_is;
+    kind_fits = a.fits.kind_fits;
+    root_fits = a.fits.root_fits;
+    size_is = a.fits.size_is;
+    cluster_fits = a.fits.cluster_fits;
+    name_long = a.fits.name_long;
+    name_bytes = a.fits.name_bytes;
+    rest_long = a.fits.rest_long;
+    rest_bytes = a.fits.rest_bytes;
+  }
+
+  closed_as : (k : ℕ) → k < 2 ^ 32 → IsBase (record closed { kind = k })
+  closed_as k small = record {
+    first_fits = omega arith;
+    second_fits = omega arith;
+    stamp_fits = a.fits.stamp_fits;
+    minor_is = a.fits.minor_is;
+    kind_fits = small;
+    root_fits = a.root_fits;
+    size_is = a.sized_new;
+    cluster_fits = a.fits.cluster_fits;
+    name_long = a.fits.name_long;
+    name_bytes = a.fits.name_bytes;
+    rest_long = a.fits.rest_long;
+    rest_bytes = a.fits.rest_bytes;
+  }
+
+  closed_fits : IsBase closed
+  closed_fits = closed_as base.kind a.fits.kind_fits
+
+  pub logged_fits : IsBase (record closed { kind = 1 })
+  logged_fits = closed_as 1 (omega arith)
+
+  commit_of : IsCommitOf opened closed new
+  commit_of = record {
+    odd = λ e. absurd (omega (arith, a.fits.first_fits, a.fits.second_fits, a.clean, e));
+    first = refl;
+    second = refl;
+    kind = a.kind;
+    size = refl;
+    fits = logged_fits;
+    pages = (sized (length new) a.sized_new).pages;
+  }
+
+  before : (image : Image) → Carries image base old → IsRecoveredAs image base old
+  before image is = record { dirty = false; recovered = carries_recovered image base old is a.whole_old }
+
+  after : (image : Image) → IsOpened image opened closed bits new → IsRecoveredAs image closed new
+  after image is = record { dirty = true; recovered = opened_recovered image opened closed bits new commit_of is }
+
+  closed_after : (image : Image) → Carries image closed new → IsRecoveredAs image closed new
+  closed_after image is = record { dirty = false; recovered = carries_recovered image closed new is (omega (arith, (sized (length new) a.sized_new).pages)) }
+
+  module _ (h0 : Image) (is0 : Carries h0 base old) where
+    -- stage 1
+    pub in_log_stage : (c : Image) → AgreeOutside in_log h0 c → IsRecoveredAs c base old
+    in_log_stage c agree = before c (carries_along in_log h0 c agree base old refl (λ i. refl) is0)
+
+    module _ (h1 : Image) (agree1 : AgreeOutside in_log h0 h1) (logged : HasLog h1 (log_of bits new closed)) where
+      is1 : Carries h1 base old
+      is1 = carries_along in_log h0 h1 agree1 base old refl (λ i. refl) is0
+
+      opened_is : (c : Image) → AgreeOutside is_base h1 c → primary_in c 0 ≡ Some (Bytes (base_text opened)) → IsOpened c opened closed bits new
+      opened_is c agree block = record {
+        block = written_base c opened opened_fits a.kind block;
+        logged = log_along is_base h1 c agree (log_of bits new closed) (λ n. refl) logged;
+        unmarked = λ i small off. let old_one = a.same i small off in agree (bin_at i) (no_base i) ∙ is1.bins_there i old_one.0 ∙ ap (λ b. Some (Bytes b)) (sym old_one.1);
+      }
+
+      -- stage 2
+      pub opened_stage : (c : Image) → AgreeOutside is_base h1 c → BlockIsBeforeOr h1 opened c → IsBeforeOrAfter base old closed new c
+      opened_stage c agree block = ⊎_elim
+          (λ is. inl (before c (record {
+            block = same_block h1 c base is is1.block;
+            clean = a.clean;
+            size = is1.size;
+            bins_there = bins_along is_base h1 c agree old no_base is1.bins_there;
+          })))
+          (λ is. inr (after c (opened_is c agree is)))
+          block
+
+      module _ (h2 : Image) (agree2 : AgreeOutside is_base h1 h2) (block2 : primary_in h2 0 ≡ Some (Bytes (base_text opened))) where
+        is2 : IsOpened h2 opened closed bits new
+        is2 = opened_is h2 agree2 block2
+
+        bins_is : (c : Image) → AgreeOutside (is_marked bits) h2 c → IsOpened c opened closed bits new
+        bins_is c agree = record {
+          block = base_along (is_marked bits) h2 c agree opened refl is2.block;
+          logged = log_along (is_marked bits) h2 c agree (log_of bits new closed) (λ n. refl) is2.logged;
+          unmarked = λ i small off. agree (bin_at i) (unmarked_at bits i off) ∙ is2.unmarked i small off;
+        }
+
+        -- stage 3
+        pub bins_stage : (c : Image) → AgreeOutside (is_marked bits) h2 c → IsRecoveredAs c closed new
+        bins_stage c agree = after c (bins_is c agree)
+
+        module _ (h3 : Image) (agree3 : AgreeOutside (is_marked bits) h2 h3) (written : HasMarked h3 bits new) where
+          is3 : IsOpened h3 opened closed bits new
+          is3 = bins_is h3 agree3
+
+          all_new : HasBins h3 new
+          all_new i small = ⊎_elim (λ on. written i small on) (λ off. is3.unmarked i small off) (either (bits i))
+
+          pub closed_carries : (c : Image) → AgreeOutside is_base h3 c → primary_in c 0 ≡ Some (Bytes (base_text closed)) → Carries c closed new
+          closed_carries c agree block = record {
+            block = written_base c closed closed_fits a.kind block;
+            clean = refl;
+            size = refl;
+            bins_there = bins_along is_base h3 c agree new no_base all_new;
+          }
+
+          -- stage 4
+          pub closed_stage : (c : Image) → AgreeOutside is_base h3 c → BlockIsBeforeOr h3 closed c → IsRecoveredAs c closed new
+          closed_stage c agree block = ⊎_elim
+              (λ is. after c (record {
+                block = same_block h3 c opened is is3.block;
+                logged = log_along is_base h3 c agree (log_of bits new closed) (λ n. refl) is3.logged;
+                unmarked = λ i small off. agree (bin_at i) (no_base i) ∙ is3.unmarked i small off;
+              }))
+              (λ is. closed_after c (closed_carries c agree is))
+              block
+
+          -- the log stays
+          pub closed_logged : (c : Image) → AgreeOutside is_base h3 c → HasLog c (log_of bits new closed)
+          closed_logged c agree = log_along is_base h3 c agree (log_of bits new closed) (λ n. refl) is3.logged
+
+-- what is known of the base block of a commit
+pub is_base_of : (base : Base) → NumbersFit base → TextsFit base → IsChecked 0 base → IsBase base
+is_base_of base numbers texts checked = record {
+  first_fits = numbers.first_fits;
+  second_fits = numbers.second_fits;
+  stamp_fits = numbers.stamp_fits;
+  minor_is = checked.minor_is;
+  kind_fits = omega (arith, checked.kind_is);
+  root_fits = numbers.root_fits;
+  size_is = checked.size_is;
+  cluster_fits = numbers.cluster_fits;
+  name_long = texts.name_long;
+  name_bytes = texts.name_bytes;
+  rest_long = texts.rest_long;
+  rest_bytes = texts.rest_bytes;
+}
+
+pub asked : (image : Image) (base : Base) (old new : List ℕ) (root : ℕ) (bitmap : List ℕ) → Carries image base old → NumbersFit base → TextsFit base → is_bins_size (length new) ≡ true → root < 2 ^ 32
+    → ((k : ℕ) → k < 4096 → get_or bitmap k 0 ≡ 255) → IsAsked base old new root (bit bitmap)
+asked image base old new root bitmap is numbers texts size root_fits ones =
+    let checked = base_in_checked (primary_in image) base is.block in
+    record {
+      fits = is_base_of base numbers texts checked;
+      kind = checked.kind_is;
+      clean = is.clean;
+      whole_old = omega (arith, (sized base.size checked.size_is).pages, is.size);
+      sized_new = size;
+      root_fits = root_fits;
+      same = λ i small off. let on : bit bitmap i ≡ true = all_on bitmap ones i (omega (arith, (sized (length new) size).high)) in absurd (cc);
+    }
+
+-- what a stage said of a base block that is this one
+pub along_log : (image : Image) (bits : ℕ → Bool) (new : List ℕ) (made base : Base) → made ≡ base → HasLog image (log_of bits new made) → HasLog image (log_of bits new base)
+along_log image bits new made base same has = subst (λ (b : Base). HasLog image (log_of bits new b)) same has
+
+pub along_block : (before after : Image) (made base : Base) → made ≡ base → BlockIsBeforeOr before made after → BlockIsBeforeOr before base after
+along_block before after made base same has = subst (λ (b : Base). BlockIsBeforeOr before b after) same has

@@ -1,0 +1,56 @@
+-- One more sector of a log or of bins data.
+use Rattle.std.proofs.Common.{◌≡◌, ◌⊎◌, ◌<◌, ◌≤◌, ◌+◌, ◌-◌, ◌==◌, ◌&&◌, ℕ, zero, suc, Bool, true, false, List, length, Option, Some, Result, Ok, Err, refl, sym, ◌∙◌, ap, arith, ⊎_elim, ◌*◌}
+use Rattle.std.specs.Prelude.{nat_le, OnOk}
+use Rattle.std.proofs.lemmas.Bool.{ne_eqb, le-leb}
+use Rattle.hive_model.specs.Image.{Primary, Log, Address, Image, Content, Bytes, put, same_address}
+use Rattle.hive_model.specs.Recovery.{primary_in, log_in, sector}
+use Rattle.hive_model.specs.Carries.{HasLog}
+use Rattle.nt_edge.proofs.Images.{put_here, put_other}
+use Rattle.hive_log.proofs.Ranks.{split}
+use Rattle.hive_commit.specs.Stages.{is_marked}
+use Rattle.hive_commit.specs.Growing.{log_at, bin_at, HasFront, HasMarkedBelow}
+
+pub front_more : (image after : Image) (log bytes : List ℕ) (n : ℕ) → HasFront image log n → bytes ≡ sector log n → after ≡ put image (log_at n, bytes) → HasFront after log (n + 1)
+front_more image after log bytes n so_far is put_is = record {
+  each = λ m below. ap (λ (i : Image). log_in i m) put_is ∙ ⊎_elim
+      (λ less. put_other image (log_at n, bytes) (log_at m) (ne_eqb n m (λ e. absurd (omega arith))) ∙ so_far.each m less)
+      (λ same. ap (λ k. log_in (put image (log_at n, bytes)) k) same ∙ put_here image (log_at n) bytes ∙ ap (λ b. Some (Bytes b)) is ∙ ap (λ k. Some (Bytes (sector log k))) (sym same))
+      (split m n (omega arith));
+}
+
+pub front_none : (image : Image) (log : List ℕ) → HasFront image log 0
+front_none image log = record { each = λ m below. absurd (omega arith) }
+
+pub front_along : (image : Image) (log : List ℕ) (m n : ℕ) → m ≡ n → HasFront image log m → HasFront image log n
+front_along image log m n same has = record { each = λ k below. has.each k (omega arith) }
+
+pub marked_at : (bits : ℕ → Bool) (i : ℕ) → bits i ≡ true → is_marked bits (bin_at i) ≡ true
+marked_at bits i on =
+    let back : (8 + i) - 8 ≡ i = omega arith in
+    ap (λ b. b && bits ((8 + i) - 8)) (le-leb 8 (8 + i) (omega arith)) ∙ ap bits back ∙ on
+
+pub unmarked_at : (bits : ℕ → Bool) (i : ℕ) → bits i ≡ false → is_marked bits (bin_at i) ≡ false
+unmarked_at bits i off =
+    let back : (8 + i) - 8 ≡ i = omega arith in
+    ap (λ b. b && bits ((8 + i) - 8)) (le-leb 8 (8 + i) (omega arith)) ∙ ap bits back ∙ off
+
+pub marked_skip : (image : Image) (bits : ℕ → Bool) (bins : List ℕ) (i : ℕ) → HasMarkedBelow image bits bins i → bits i ≡ false → HasMarkedBelow image bits bins (i + 1)
+marked_skip image bits bins i so_far off = record {
+  each = λ j below on. ⊎_elim (λ less. so_far.each j less on) (λ same. let here : bits j ≡ false = ap bits same ∙ off in absurd (cc)) (split j i (omega arith));
+}
+
+pub marked_more : (image after : Image) (bits : ℕ → Bool) (bins bytes : List ℕ) (i : ℕ) → HasMarkedBelow image bits bins i → bytes ≡ sector bins i → after ≡ put image (bin_at i, bytes) → HasMarkedBelow after bits bins (i + 1)
+marked_more image after bits bins bytes i so_far is put_is = record {
+  each = λ j below on. ap (λ (m : Image). primary_in m (8 + j)) put_is ∙ ⊎_elim
+      (λ less. put_other image (bin_at i, bytes) (bin_at j) (ne_eqb (8 + i) (8 + j) (λ e. absurd (omega arith))) ∙ so_far.each j less on)
+      (λ same. ap (λ k. primary_in (put image (bin_at i, bytes)) (8 + k)) same ∙ put_here image (bin_at i) bytes ∙ ap (λ b. Some (Bytes b)) is ∙ ap (λ k. Some (Bytes (sector bins k))) (sym same))
+      (split j i (omega arith));
+}
+
+pub marked_none : (image : Image) (bits : ℕ → Bool) (bins : List ℕ) → HasMarkedBelow image bits bins 0
+marked_none image bits bins = record { each = λ j below. absurd (omega arith) }
+
+-- once it is held, the whole log
+pub logged_from : {T E : Type 0} (r : Result T E) (image held : Image) (log : List ℕ) (n : ℕ) → OnOk r (held ≡ image) → HasFront image log n → length log ≡ 512 * n → OnOk r (HasLog held log)
+logged_from (Ok x) image held log n same has long = λ m small. ap (λ (i : Image). log_in i m) same ∙ has.each m (omega arith)
+logged_from (Err e) image held log n same has long = tt

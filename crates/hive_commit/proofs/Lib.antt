@@ -1,0 +1,5 @@
+pub mod Growth
+pub mod Settling
+pub mod Four
+pub mod Restored
+pub mod Kept

@@ -1,0 +1,161 @@
+use Rattle.std.proofs.Common.{◌≡◌, ◌<◌, ◌*◌, length, refl, sym, ◌∙◌, ap, subst, arith, rules, true, inl, inr, Some, Ok, Err}
+use Rattle.hive_model.specs.Base.{Base, IsBase, base_text}
+use Rattle.hive_model.specs.Image.{Bytes}
+use Rattle.hive_model.specs.Recovery.{bit}
+use Rattle.hive_model.specs.Carries.{HasLog}
+use Rattle.hive_model.specs.Log.{log_of, logged_bits}
+use Rattle.hive_log.proofs.Appending.{sized, all_on, logged_on, log_same}
+use Rattle.hive_commit.specs.Stages.{closed_of, opened_of}
+use Rattle.hive_commit.proofs.Four.{asked, held_left, along_log, along_block, logged_fits, in_log_stage, opened_stage, bins_stage, closed_stage, closed_carries, closed_logged}
+use Rattle.hive_commit.proofs.change.change.Goals as goal
+
+pub write_log-requires-clause-fits : goal.write_log-requires-clause-fits
+write_log-requires-clause-fits g c = λ tells.
+    let is = asked (g.D.Disk.state c.args.disk.now).held c.args.base.now c.args.old.now c.args.new.now c.args.root c.mark_all.new.into (c.requires.carries tells) c.numbers_fit.ensures c.texts_fit.ensures c.requires.sized (search rules) c.mark_all.ensures in
+    let base = c.args.base.now in
+    let old = c.args.old.now in
+    let new = c.args.new.now in
+    let root = c.args.root in
+    let bits = bit c.mark_all.new.into in
+    let closed = closed_of base new root in
+    let s0 = g.D.Disk.state c.args.disk.now in
+    subst (λ (b : Base). IsBase (record b { kind = 1 })) (sym c.closed_block-closed.ensures) (logged_fits base old new root bits is)
+
+pub returns-in_err-write_log-clause-crash : goal.returns-in_err-write_log-clause-crash
+returns-in_err-write_log-clause-crash g c = λ tells image left.
+    let is = asked (g.D.Disk.state c.args.disk.now).held c.args.base.now c.args.old.now c.args.new.now c.args.root c.mark_all.new.into (c.requires.carries tells) c.numbers_fit.ensures c.texts_fit.ensures c.requires.sized (search rules) c.mark_all.ensures in
+    let base = c.args.base.now in
+    let old = c.args.old.now in
+    let new = c.args.new.now in
+    let root = c.args.root in
+    let bits = bit c.mark_all.new.into in
+    let closed = closed_of base new root in
+    let s0 = g.D.Disk.state c.args.disk.now in
+    inl (in_log_stage base old new root bits is s0.held (c.requires.carries tells) image (c.write_log.ensures.crash tells image left))
+
+pub returns-in_err-write_block-clause-crash : goal.returns-in_err-write_block-clause-crash
+returns-in_err-write_block-clause-crash g c = λ tells image left.
+    let is = asked (g.D.Disk.state c.args.disk.now).held c.args.base.now c.args.old.now c.args.new.now c.args.root c.mark_all.new.into (c.requires.carries tells) c.numbers_fit.ensures c.texts_fit.ensures c.requires.sized (search rules) c.mark_all.ensures in
+    let base = c.args.base.now in
+    let old = c.args.old.now in
+    let new = c.args.new.now in
+    let root = c.args.root in
+    let bits = bit c.mark_all.new.into in
+    let closed = closed_of base new root in
+    let s0 = g.D.Disk.state c.args.disk.now in
+    let s1 = g.D.Disk.state c.write_log.new.disk in
+    let agree1 = c.write_log.ensures.crash tells s1.held (held_left s1) in
+    let logged = along_log s1.held bits new c.closed_block-closed.result closed c.closed_block-closed.ensures (c.in_ok-write_log.ensures.logged tells) in
+    opened_stage base old new root bits is s0.held (c.requires.carries tells) s1.held agree1 logged image (c.write_block.ensures.crash tells image left)
+    (along_block s1.held image c.opened_block.result (opened_of base) c.opened_block.ensures (c.write_block.ensures.block tells image left))
+
+pub returns-in_err-write_bins-clause-crash : goal.returns-in_err-write_bins-clause-crash
+returns-in_err-write_bins-clause-crash g c = λ tells image left.
+    let is = asked (g.D.Disk.state c.args.disk.now).held c.args.base.now c.args.old.now c.args.new.now c.args.root c.mark_all.new.into (c.requires.carries tells) c.numbers_fit.ensures c.texts_fit.ensures c.requires.sized (search rules) c.mark_all.ensures in
+    let base = c.args.base.now in
+    let old = c.args.old.now in
+    let new = c.args.new.now in
+    let root = c.args.root in
+    let bits = bit c.mark_all.new.into in
+    let closed = closed_of base new root in
+    let s0 = g.D.Disk.state c.args.disk.now in
+    let s1 = g.D.Disk.state c.write_log.new.disk in
+    let agree1 = c.write_log.ensures.crash tells s1.held (held_left s1) in
+    let logged = along_log s1.held bits new c.closed_block-closed.result closed c.closed_block-closed.ensures (c.in_ok-write_log.ensures.logged tells) in
+    let s2 = g.D.Disk.state c.write_block.new.disk in
+    let agree2 = c.write_block.ensures.crash tells s2.held (held_left s2) in
+    let block2 = c.in_ok-write_block.ensures.written tells ∙ ap (λ b. Some (Bytes (base_text b))) c.opened_block.ensures in
+    inr (bins_stage base old new root bits is s0.held (c.requires.carries tells) s1.held agree1 logged s2.held agree2 block2 image (c.write_bins.ensures.crash tells image left))
+
+pub returns-in_err-write_block-2-clause-crash : goal.returns-in_err-write_block-2-clause-crash
+returns-in_err-write_block-2-clause-crash g c = λ tells image left.
+    let is = asked (g.D.Disk.state c.args.disk.now).held c.args.base.now c.args.old.now c.args.new.now c.args.root c.mark_all.new.into (c.requires.carries tells) c.numbers_fit.ensures c.texts_fit.ensures c.requires.sized (search rules) c.mark_all.ensures in
+    let base = c.args.base.now in
+    let old = c.args.old.now in
+    let new = c.args.new.now in
+    let root = c.args.root in
+    let bits = bit c.mark_all.new.into in
+    let closed = closed_of base new root in
+    let s0 = g.D.Disk.state c.args.disk.now in
+    let s1 = g.D.Disk.state c.write_log.new.disk in
+    let agree1 = c.write_log.ensures.crash tells s1.held (held_left s1) in
+    let logged = along_log s1.held bits new c.closed_block-closed.result closed c.closed_block-closed.ensures (c.in_ok-write_log.ensures.logged tells) in
+    let s2 = g.D.Disk.state c.write_block.new.disk in
+    let agree2 = c.write_block.ensures.crash tells s2.held (held_left s2) in
+    let block2 = c.in_ok-write_block.ensures.written tells ∙ ap (λ b. Some (Bytes (base_text b))) c.opened_block.ensures in
+    let s3 = g.D.Disk.state c.write_bins.new.disk in
+    let agree3 = c.write_bins.ensures.crash tells s3.held (held_left s3) in
+    let written = c.in_ok-write_bins.ensures.written tells in
+    inr (closed_stage base old new root bits is s0.held (c.requires.carries tells) s1.held agree1 logged s2.held agree2 block2 s3.held agree3 written image (c.write_block-2.ensures.crash tells image left)
+    (along_block s3.held image c.closed_block-closed.result closed c.closed_block-closed.ensures (c.write_block-2.ensures.block tells image left)))
+
+pub returns-clause-crash : goal.returns-clause-crash
+returns-clause-crash g c = λ tells image left.
+    let is = asked (g.D.Disk.state c.args.disk.now).held c.args.base.now c.args.old.now c.args.new.now c.args.root c.mark_all.new.into (c.requires.carries tells) c.numbers_fit.ensures c.texts_fit.ensures c.requires.sized (search rules) c.mark_all.ensures in
+    let base = c.args.base.now in
+    let old = c.args.old.now in
+    let new = c.args.new.now in
+    let root = c.args.root in
+    let bits = bit c.mark_all.new.into in
+    let closed = closed_of base new root in
+    let s0 = g.D.Disk.state c.args.disk.now in
+    let s1 = g.D.Disk.state c.write_log.new.disk in
+    let agree1 = c.write_log.ensures.crash tells s1.held (held_left s1) in
+    let logged = along_log s1.held bits new c.closed_block-closed.result closed c.closed_block-closed.ensures (c.in_ok-write_log.ensures.logged tells) in
+    let s2 = g.D.Disk.state c.write_block.new.disk in
+    let agree2 = c.write_block.ensures.crash tells s2.held (held_left s2) in
+    let block2 = c.in_ok-write_block.ensures.written tells ∙ ap (λ b. Some (Bytes (base_text b))) c.opened_block.ensures in
+    let s3 = g.D.Disk.state c.write_bins.new.disk in
+    let agree3 = c.write_bins.ensures.crash tells s3.held (held_left s3) in
+    let written = c.in_ok-write_bins.ensures.written tells in
+    inr (closed_stage base old new root bits is s0.held (c.requires.carries tells) s1.held agree1 logged s2.held agree2 block2 s3.held agree3 written image (c.write_block-2.ensures.crash tells image left)
+    (along_block s3.held image c.closed_block-closed.result closed c.closed_block-closed.ensures (c.write_block-2.ensures.block tells image left)))
+
+pub returns-clause-carries : goal.returns-clause-carries
+returns-clause-carries g c = λ tells.
+    let is = asked (g.D.Disk.state c.args.disk.now).held c.args.base.now c.args.old.now c.args.new.now c.args.root c.mark_all.new.into (c.requires.carries tells) c.numbers_fit.ensures c.texts_fit.ensures c.requires.sized (search rules) c.mark_all.ensures in
+    let base = c.args.base.now in
+    let old = c.args.old.now in
+    let new = c.args.new.now in
+    let root = c.args.root in
+    let bits = bit c.mark_all.new.into in
+    let closed = closed_of base new root in
+    let s0 = g.D.Disk.state c.args.disk.now in
+    let s1 = g.D.Disk.state c.write_log.new.disk in
+    let agree1 = c.write_log.ensures.crash tells s1.held (held_left s1) in
+    let logged = along_log s1.held bits new c.closed_block-closed.result closed c.closed_block-closed.ensures (c.in_ok-write_log.ensures.logged tells) in
+    let s2 = g.D.Disk.state c.write_block.new.disk in
+    let agree2 = c.write_block.ensures.crash tells s2.held (held_left s2) in
+    let block2 = c.in_ok-write_block.ensures.written tells ∙ ap (λ b. Some (Bytes (base_text b))) c.opened_block.ensures in
+    let s3 = g.D.Disk.state c.write_bins.new.disk in
+    let agree3 = c.write_bins.ensures.crash tells s3.held (held_left s3) in
+    let written = c.in_ok-write_bins.ensures.written tells in
+    let s4 = g.D.Disk.state c.write_block-2.new.disk in
+    let agree4 = c.write_block-2.ensures.crash tells s4.held (held_left s4) in
+    let block4 = c.in_ok-write_block-2.ensures.written tells ∙ ap (λ b. Some (Bytes (base_text b))) c.closed_block-closed.ensures in
+    closed_carries base old new root bits is s0.held (c.requires.carries tells) s1.held agree1 logged s2.held agree2 block2 s3.held agree3 written s4.held agree4 block4
+
+pub returns-clause-logged : goal.returns-clause-logged
+returns-clause-logged g c = λ tells.
+    let is = asked (g.D.Disk.state c.args.disk.now).held c.args.base.now c.args.old.now c.args.new.now c.args.root c.mark_all.new.into (c.requires.carries tells) c.numbers_fit.ensures c.texts_fit.ensures c.requires.sized (search rules) c.mark_all.ensures in
+    let base = c.args.base.now in
+    let old = c.args.old.now in
+    let new = c.args.new.now in
+    let root = c.args.root in
+    let bits = bit c.mark_all.new.into in
+    let closed = closed_of base new root in
+    let s0 = g.D.Disk.state c.args.disk.now in
+    let s1 = g.D.Disk.state c.write_log.new.disk in
+    let agree1 = c.write_log.ensures.crash tells s1.held (held_left s1) in
+    let logged = along_log s1.held bits new c.closed_block-closed.result closed c.closed_block-closed.ensures (c.in_ok-write_log.ensures.logged tells) in
+    let s2 = g.D.Disk.state c.write_block.new.disk in
+    let agree2 = c.write_block.ensures.crash tells s2.held (held_left s2) in
+    let block2 = c.in_ok-write_block.ensures.written tells ∙ ap (λ b. Some (Bytes (base_text b))) c.opened_block.ensures in
+    let s3 = g.D.Disk.state c.write_bins.new.disk in
+    let agree3 = c.write_bins.ensures.crash tells s3.held (held_left s3) in
+    let written = c.in_ok-write_bins.ensures.written tells in
+    let s4 = g.D.Disk.state c.write_block-2.new.disk in
+    let agree4 = c.write_block-2.ensures.crash tells s4.held (held_left s4) in
+    let block4 = c.in_ok-write_block-2.ensures.written tells ∙ ap (λ b. Some (Bytes (base_text b))) c.closed_block-closed.ensures in
+    subst (HasLog s4.held) (log_same bits (logged_bits old new) new closed (λ j small. all_on c.mark_all.new.into c.mark_all.ensures j (omega (arith, (sized (length new) c.requires.sized).high)) ∙ sym (logged_on old new j)))
+    (closed_logged base old new root bits is s0.held (c.requires.carries tells) s1.held agree1 logged s2.held agree2 block2 s3.held agree3 written s4.held agree4)

@@ -1,0 +1,25 @@
+use Rattle.std.proofs.Common.{◌≡◌, ◌+◌, refl, sym, ◌∙◌, ap, arith}
+use Rattle.nt_edge.specs.Disk.{now_of}
+use Rattle.hive_commit.specs.Stages.{in_log}
+use Rattle.hive_commit.proofs.Growth.{front_more, front_along}
+use Rattle.hive_commit.proofs.parts.write_log_bitmap.Goals as goal
+
+pub returns-in_err-put_sector-clause-writing : goal.returns-in_err-put_sector-clause-writing
+returns-in_err-put_sector-clause-writing g c = λ tells first so_far. c.put_sector.ensures.writing tells in_log first refl (c.loop-k.invariant.writing tells first so_far)
+
+pub loop-k-preserved : goal.loop-k-preserved
+loop-k-preserved g c =
+    let s = g.D.Disk.state c.loop-k.disk in
+    let t = g.D.Disk.state c.put_sector.new.disk in
+    record {
+      on = grind arith;
+      writing = λ tells first so_far. c.put_sector.ensures.writing tells in_log first refl (c.loop-k.invariant.writing tells first so_far);
+      front = λ tells log bits so_far.
+          let next : 1 + c.loop-k.k + 1 ≡ 1 + (c.loop-k.k + 1) = omega arith in
+          front_along (now_of t) log (1 + c.loop-k.k + 1) (1 + (c.loop-k.k + 1)) next
+          (front_more (now_of s) (now_of t) log c.bitmap_sector.new.into (1 + c.loop-k.k) (c.loop-k.invariant.front tells log bits so_far)
+          (c.bitmap_sector.ensures ∙ sym (bits c.loop-k.k (omega (arith, c.loop-k-test.true, c.bitmap_sectors-k-end.ensures))))
+          (c.in_ok-put_sector.ensures.put tells));
+      history = c.put_sector.ensures.history ∙ c.loop-k.invariant.history;
+      counts = grind arith;
+    }

@@ -1,0 +1,35 @@
+use Rattle.std.proofs.Common.{◌≡◌, ◌+◌, ◌*◌, length, refl, sym, ◌∙◌, ap, arith, rules, true}
+use Rattle.hive_model.specs.Image.{put}
+use Rattle.hive_model.specs.Recovery.{bit, rank, first_dirty}
+use Rattle.nt_edge.specs.Disk.{now_of}
+use Rattle.hive_log.proofs.Ranks.{rank_on}
+use Rattle.hive_commit.specs.Stages.{in_log}
+use Rattle.hive_commit.specs.Growing.{log_at}
+use Rattle.hive_commit.proofs.Growth.{front_more, front_along}
+use Rattle.hive_commit.proofs.parts.write_log_run.Goals as goal
+
+pub returns-in_err-put_sector-clause-writing : goal.returns-in_err-put_sector-clause-writing
+returns-in_err-put_sector-clause-writing g c = λ tells first so_far. c.put_sector.ensures.writing tells in_log first refl (c.loop-i.invariant.writing tells first so_far)
+
+pub loop-i-preserved : goal.loop-i-preserved
+loop-i-preserved g c =
+    let s = g.D.Disk.state c.loop-i.disk in
+    let t = g.D.Disk.state c.put_sector.new.disk in
+    let bits = bit c.args.bitmap.now in
+    let first_one = first_dirty (length c.args.new.now) in
+    let on : bits c.loop-i.i ≡ true = search rules in
+    let more = rank_on bits c.loop-i.i on in
+    record {
+      on = grind arith;
+      place = omega (arith, more, c.loop-i.invariant.place);
+      small = omega arith;
+      writing = λ tells first so_far. c.put_sector.ensures.writing tells in_log first refl (c.loop-i.invariant.writing tells first so_far);
+      front = λ tells log marked so_far.
+          let next : first_one + rank bits c.loop-i.i + 1 ≡ first_one + rank bits (c.loop-i.i + 1) = omega (arith, more) in
+          front_along (now_of t) log (first_one + rank bits c.loop-i.i + 1) (first_one + rank bits (c.loop-i.i + 1)) next
+          (front_more (now_of s) (now_of t) log c.copy_sector.new.into (first_one + rank bits c.loop-i.i) (c.loop-i.invariant.front tells log marked so_far)
+          (c.copy_sector.ensures ∙ sym (marked c.loop-i.i (omega arith) on))
+          (c.in_ok-put_sector.ensures.put tells ∙ ap (λ n. put (now_of s) (log_at n, c.copy_sector.new.into)) c.loop-i.invariant.place));
+      history = c.put_sector.ensures.history ∙ c.loop-i.invariant.history;
+      counts = grind arith;
+    }

@@ -1,0 +1,21 @@
+use Rattle.std.proofs.Common.{◌≡◌, ◌<◌, ◌≤◌, ◌+◌, ◌*◌, true, ℕ, List, length}
+use Rattle.hive_model.specs.Recovery.{sector, bit, rank, first_dirty}
+use Rattle.nt_edge.specs.Disk.{DiskState, CountsGrow, now_of}
+use Rattle.nt_edge.specs.Crash.{Writing}
+use Rattle.hive_commit.specs.Stages.{in_log}
+use Rattle.hive_commit.specs.Growing.{HasFront}
+use Rattle.hive_commit.proofs.parts.write_log_run.Given as goal
+
+abbrev pub invariant-loop-i : goal.invariant-loop-i
+invariant-loop-i g l = record {
+  on : (g.D.Disk.state l.disk).on ≡ true;
+  place : l.number ≡ first_dirty (length l.new) + rank (bit l.bitmap) l.i;
+  small : l.number ≤ 100 + l.i;
+  writing : g.D.Disk.tells ≡ true → (first : DiskState) → Writing in_log first (g.D.Disk.state l.fn.disk) → Writing in_log first (g.D.Disk.state l.disk);
+  front : g.D.Disk.tells ≡ true → (log : List ℕ)
+      → ((i : ℕ) → 512 * i < length l.new → bit l.bitmap i ≡ true → sector log (first_dirty (length l.new) + rank (bit l.bitmap) i) ≡ sector l.new i)
+      → HasFront (now_of (g.D.Disk.state l.fn.disk)) log (first_dirty (length l.new))
+      → HasFront (now_of (g.D.Disk.state l.disk)) log (first_dirty (length l.new) + rank (bit l.bitmap) l.i);
+  history : (g.D.Disk.state l.disk).history ≡ (g.D.Disk.state l.fn.disk).history;
+  counts : CountsGrow (g.D.Disk.state l.fn.disk) (g.D.Disk.state l.disk);
+}

@@ -1,0 +1,5 @@
+pub mod Fitting
+pub mod Growing
+pub mod Stages
+pub mod Stops
+pub mod Untouched

@@ -1,0 +1,42 @@
+-- What each stage of a commit leaves. (This project's own.)
+use Rattle.std.specs.Prelude.{◌≡◌, ◌⊎◌, ◌<◌, ◌+◌, ◌-◌, ◌*◌, ◌%◌, ◌&&◌, nat_le, Bool, true, false, ℕ, List, length, Some}
+use Rattle.hive_model.specs.Base.{Base, base_text}
+use Rattle.hive_model.specs.Image.{File, Primary, Log, Address, Image, Bytes, same_file, same_address}
+use Rattle.hive_model.specs.Recovery.{primary_in, sector}
+use Rattle.hive_model.specs.Carries.{IsRecoveredAs}
+
+-- an address in the log
+abbrev pub in_log : Address → Bool
+in_log a = same_file a.file Log
+
+-- the address of the primary's base block
+abbrev pub is_base : Address → Bool
+is_base a = same_address a (record { file = Primary; sector = 0 })
+
+-- the address of a bins sector of the primary whose bit is on
+abbrev pub is_marked : (ℕ → Bool) → Address → Bool
+is_marked bits a = same_file a.file Primary && (nat_le 8 a.sector && bits (a.sector - 8))
+
+-- the primary's base block is the one from before, or this one
+abbrev pub BlockIsBeforeOr : Image → Base → Image → Type 0
+BlockIsBeforeOr before base after = (primary_in after 0 ≡ primary_in before 0) ⊎ (primary_in after 0 ≡ Some (Bytes (base_text base)))
+
+-- the bins sectors of the primary whose bit is on are those of the data
+abbrev pub HasMarked : Image → (ℕ → Bool) → List ℕ → Type 0
+HasMarked image bits bins = (i : ℕ) → 512 * i < length bins → bits i ≡ true → primary_in image (8 + i) ≡ Some (Bytes (sector bins i))
+
+-- the sequence number after this one
+abbrev pub next_number : ℕ → ℕ
+next_number n = (n + 1) % 4294967296
+
+-- the base block that opens a commit: the first number is the next, all else is as before
+abbrev pub opened_of : Base → Base
+opened_of base = record base { first = next_number base.first }
+
+-- the base block that closes it: both numbers are the next, and size and root are the new ones
+abbrev pub closed_of : Base → List ℕ → ℕ → Base
+closed_of base new root = record base { first = next_number base.first; second = next_number base.first; size = length new; root = root }
+
+-- the image is recovered as what was before the commit, or as what is after it
+abbrev pub IsBeforeOrAfter : Base → List ℕ → Base → List ℕ → Image → Type 0
+IsBeforeOrAfter base old closed new image = IsRecoveredAs image base old ⊎ IsRecoveredAs image closed new

@@ -1,0 +1,127 @@
+//! A commit: the log, the base block opened, the sectors, the base block closed.
+
+ghost use Rattle.std.specs.Prelude.{◌≡◌, true, [], length, IfOk, OnOk, IsOk};
+ghost use Rattle.hive_model.specs.Base.{is_bins_size};
+ghost use Rattle.hive_model.specs.Carries.{Carries, HasLog};
+ghost use Rattle.hive_model.specs.Log.{log_of, logged_bits};
+ghost use Rattle.nt_edge.specs.Host.{Rises};
+ghost use Rattle.nt_edge.specs.Disk.{CountsGrow, HasCause, IsOnUnlessLost};
+ghost use Rattle.nt_edge.specs.Crash.{EachCrash};
+ghost use Rattle.hive_commit.specs.Stages.{next_number, opened_of, closed_of, IsBeforeOrAfter};
+ghost use Rattle.hive_commit.specs.Stops.{HasCommitCause, IsOnAfterCommit};
+
+use crate::{CommitStop, numbers_fit, texts_fit, write_bins, write_block, write_log};
+use hive_log::mark_all;
+use nt_edge::{Disk, DiskStop};
+use regf_base::BaseBlock;
+
+/// Puts new bins data with their root in the place of old ones. The disk is on, has nothing in flight and
+/// carries the base block and the old data; the size of the new data in bytes is a multiple of 4096 from
+/// 4096 to 16,777,216. A refusal is the disk's own, and leaves the old data or the new.
+pub fn commit<D: Disk>(
+    disk: &mut D,
+    base: &BaseBlock,
+    old: &[u8],
+    new: &[u8],
+    root: u32,
+) -> Result<BaseBlock, CommitStop>
+    requires on { (D.state disk.old).on ≡ true }
+    requires still { D.tells ≡ true → (D.state disk.old).flight ≡ [] }
+    requires carries { D.tells ≡ true → Carries (D.state disk.old).held base.now old.now }
+    requires sized { is_bins_size (length new.now) ≡ true }
+    // At Ok the answer is the base block from before with the next number twice, the new size and the new
+    // root, and the disk carries it with the new bins data.
+    ensures answered { IfOk result (λ b. b ≡ closed_of base.now new.now root) }
+    ensures still { D.tells ≡ true → OnOk result ((D.state disk.new).flight ≡ []) }
+    ensures carries { D.tells ≡ true → OnOk result (Carries (D.state disk.new).held (closed_of base.now new.now root) new.now) }
+    // At every exit a cut leaves what is recovered as before or as after.
+    ensures crash { D.tells ≡ true → EachCrash (D.state disk.new)
+        (IsBeforeOrAfter base.now old.now (closed_of base.now new.now root) new.now) }
+    // The log begins with the file that `log_sectors` spells.
+    ensures logged { D.tells ≡ true → OnOk result (HasLog (D.state disk.new).held
+        (log_of (logged_bits old.now new.now) new.now (closed_of base.now new.now root))) }
+    ensures history { (D.state disk.new).history ≡ (D.state disk.old).history }
+    ensures counts { CountsGrow (D.state disk.old) (D.state disk.new) }
+    ensures cause { HasCommitCause (D.state disk.old) (D.state disk.new) result }
+    ensures power { IsOnAfterCommit (D.state disk.new) result }
+    // There is no other refusal: where no count rose, the commit is done.
+    ensures done { (Rises (D.state disk.old).cuts (D.state disk.new).cuts → ⊥) → (Rises (D.state disk.old).faults (D.state disk.new).faults → ⊥)
+        → (Rises (D.state disk.old).lacks (D.state disk.new).lacks → ⊥) → IsOk result }
+{
+    let closed = change(disk, base, old, new, root)?;
+    Ok(closed)
+}
+
+fn change<D: Disk>(
+    disk: &mut D,
+    base: &BaseBlock,
+    old: &[u8],
+    new: &[u8],
+    root: u32,
+) -> Result<BaseBlock, DiskStop>
+    requires on { (D.state disk.old).on ≡ true }
+    requires still { D.tells ≡ true → (D.state disk.old).flight ≡ [] }
+    requires carries { D.tells ≡ true → Carries (D.state disk.old).held base.now old.now }
+    requires sized { is_bins_size (length new.now) ≡ true }
+    ensures answered { IfOk result (λ b. b ≡ closed_of base.now new.now root) }
+    ensures still { D.tells ≡ true → OnOk result ((D.state disk.new).flight ≡ []) }
+    ensures carries { D.tells ≡ true → OnOk result (Carries (D.state disk.new).held (closed_of base.now new.now root) new.now) }
+    ensures crash { D.tells ≡ true → EachCrash (D.state disk.new)
+        (IsBeforeOrAfter base.now old.now (closed_of base.now new.now root) new.now) }
+    ensures logged { D.tells ≡ true → OnOk result (HasLog (D.state disk.new).held
+        (log_of (logged_bits old.now new.now) new.now (closed_of base.now new.now root))) }
+    ensures history { (D.state disk.new).history ≡ (D.state disk.old).history }
+    ensures counts { CountsGrow (D.state disk.old) (D.state disk.new) }
+    ensures cause { HasCause (D.state disk.old) (D.state disk.new) result }
+    ensures power { IsOnUnlessLost (D.state disk.new) result }
+    ensures done { (Rises (D.state disk.old).cuts (D.state disk.new).cuts → ⊥) → (Rises (D.state disk.old).faults (D.state disk.new).faults → ⊥)
+        → (Rises (D.state disk.old).lacks (D.state disk.new).lacks → ⊥) → IsOk result }
+{
+    numbers_fit(base);
+    texts_fit(base);
+    let closed = closed_block(base, new.len() as u32, root);
+    let mut bitmap = [0; 4096];
+    mark_all(&mut bitmap);
+    write_log(disk, &closed, &bitmap, new)?;
+    write_block(disk, &opened_block(base))?;
+    write_bins(disk, &bitmap, new)?;
+    write_block(disk, &closed)?;
+    Ok(closed)
+}
+
+/// The base block that opens a commit.
+fn opened_block(base: &BaseBlock) -> BaseBlock
+    ensures { result ≡ opened_of base.now }
+{
+    BaseBlock {
+        first: base.first.wrapping_add(1),
+        second: base.second,
+        stamp: base.stamp,
+        minor: base.minor,
+        kind: base.kind,
+        root: base.root,
+        size: base.size,
+        cluster: base.cluster,
+        name: base.name,
+        rest: base.rest,
+    }
+}
+
+/// The base block that closes a commit.
+fn closed_block(base: &BaseBlock, size: u32, root: u32) -> BaseBlock
+    ensures { result ≡ record base.now { first = next_number base.now.first; second = next_number base.now.first; size = size; root = root } }
+{
+    let next = base.first.wrapping_add(1);
+    BaseBlock {
+        first: next,
+        second: next,
+        stamp: base.stamp,
+        minor: base.minor,
+        kind: base.kind,
+        root,
+        size,
+        cluster: base.cluster,
+        name: base.name,
+        rest: base.rest,
+    }
+}

@@ -1,0 +1,69 @@
+//! What a disk stands for, and a recovery that leaves it clean.
+
+ghost use Rattle.std.specs.Prelude.{◌≡◌, true, [], length, List, ℕ, IfOk, OnOk};
+ghost use Rattle.hive_model.specs.Base.{Base, is_bins_size};
+ghost use Rattle.hive_model.specs.Image.{Image};
+ghost use Rattle.hive_model.specs.Recovery.{recovered_of};
+ghost use Rattle.hive_model.specs.Carries.{Carries, IsRecoveredAs};
+ghost use Rattle.nt_edge.specs.Host.{Rises};
+ghost use Rattle.nt_edge.specs.Disk.{CountsGrow};
+ghost use Rattle.nt_edge.specs.Crash.{EachCrash};
+ghost use Rattle.hive_log.specs.Stops.{Reads, HasLoadCause, IsOnAfterLoad};
+ghost use Rattle.hive_commit.specs.Untouched.{IsUntouched, IsUnwritten};
+
+use crate::restore;
+use hive_log::{LoadStop, Reading, Recovered, read_recovered};
+use nt_edge::Disk;
+use std::alloc::Global;
+
+/// Reads what the disk stands for, and writes nothing. The disk is on and has nothing in flight. `Fault`
+/// is the first check that fails; want of memory alone is free.
+pub fn look<D: Disk>(alloc: Global, disk: &mut D) -> Result<Recovered, LoadStop>
+    requires on { (D.state disk.old).on ≡ true }
+    requires still { D.tells ≡ true → (D.state disk.old).flight ≡ [] }
+    ensures exact { D.tells ≡ true → Reads result (recovered_of (D.state disk.old).held) }
+    ensures held { D.tells ≡ true → (D.state disk.new).held ≡ (D.state disk.old).held }
+    ensures flight { D.tells ≡ true → (D.state disk.new).flight ≡ (D.state disk.old).flight }
+    ensures sized { IfOk result (λ r. is_bins_size (length r.bins) ≡ true) }
+    ensures history { (D.state disk.new).history ≡ (D.state disk.old).history }
+    ensures counts { CountsGrow (D.state disk.old) (D.state disk.new) }
+    ensures cause { HasLoadCause (D.state disk.old) (D.state disk.new) result }
+    ensures power { IsOnAfterLoad (D.state disk.new) result }
+{
+    let Reading {
+        recovered,
+        bitmap: _,
+    } = read_recovered(alloc, disk)?;
+    Ok(recovered)
+}
+
+/// Reads what the disk stands for, and leaves the primary clean with it. The disk is on and has nothing in
+/// flight. `Fault` is the first check that fails, and has written nothing; all memory is taken before the
+/// first write. A clean primary is not written, and the log never.
+pub fn recover<D: Disk>(alloc: Global, disk: &mut D) -> Result<Recovered, LoadStop>
+    requires on { (D.state disk.old).on ≡ true }
+    requires still { D.tells ≡ true → (D.state disk.old).flight ≡ [] }
+    ensures exact { D.tells ≡ true → Reads result (recovered_of (D.state disk.old).held) }
+    ensures still { D.tells ≡ true → OnOk result ((D.state disk.new).flight ≡ []) }
+    ensures carries { D.tells ≡ true → IfOk result (λ r. Carries (D.state disk.new).held r.base r.bins) }
+    ensures sized { IfOk result (λ r. is_bins_size (length r.bins) ≡ true) }
+    // At every exit a cut leaves what is recovered as the disk was at entry.
+    ensures crash { D.tells ≡ true → (base : Base) (bins : List ℕ) → IsRecoveredAs (D.state disk.old).held base bins
+        → EachCrash (D.state disk.new) (λ (c : Image). IsRecoveredAs c base bins) }
+    ensures unwritten { D.tells ≡ true → IsUnwritten (D.state disk.old) (D.state disk.new) result }
+    ensures history { (D.state disk.new).history ≡ (D.state disk.old).history }
+    ensures counts { CountsGrow (D.state disk.old) (D.state disk.new) }
+    ensures cause { HasLoadCause (D.state disk.old) (D.state disk.new) result }
+    ensures power { IsOnAfterLoad (D.state disk.new) result }
+{
+    let Reading { recovered, bitmap } = read_recovered(alloc, disk)?;
+    if recovered.dirty {
+        restore(
+            disk,
+            &recovered.base,
+            bitmap.as_slice(),
+            recovered.bins.as_slice(),
+        )?;
+    }
+    Ok(recovered)
+}

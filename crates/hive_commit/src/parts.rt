@@ -1,0 +1,152 @@
+//! The steps of the stages: writes that stay in flight, and the sync that settles them.
+
+ghost use Rattle.std.specs.Prelude.{◌≡◌, ◌<◌, ◌≤◌, ◌+◌, ◌*◌, ◌/◌, true, Bool, ℕ, List, Some, [], length, OnOk};
+ghost use Rattle.hive_model.specs.Base.{base_text};
+ghost use Rattle.hive_model.specs.Image as book;
+ghost use Rattle.hive_model.specs.Image.{put};
+ghost use Rattle.hive_model.specs.Recovery.{bit, sector, rank, first_dirty};
+ghost use Rattle.hive_model.specs.Recovery as recovery;
+ghost use Rattle.hive_model.specs.Log.{bitmap_text};
+ghost use Rattle.nt_edge.specs.Disk.{DiskState, CountsGrow, HasCause, IsOnUnlessLost, now_of};
+ghost use Rattle.nt_edge.specs.Crash.{EachCrash, AgreeOutside, Writing};
+ghost use Rattle.hive_commit.specs.Stages.{in_log, is_marked};
+ghost use Rattle.hive_commit.specs.Growing.{HasFront, HasMarkedBelow};
+
+use hive_log::{bitmap_sector, bitmap_sectors, copy_sector, has_bit, logged_block};
+use nt_edge::{Address, Disk, DiskStop, HiveFile};
+use regf_base::{BaseBlock, base_bytes};
+
+/// Writes a sector, and leaves it in flight.
+pub fn put_sector<D: Disk>(disk: &mut D, at: Address, bytes: &[u8; 512]) -> Result<(), DiskStop>
+    requires on { (D.state disk.old).on ≡ true }
+    ensures writing { D.tells ≡ true → (p : book.Address → Bool) (first : DiskState) → p at ≡ true
+        → Writing p first (D.state disk.old) → Writing p first (D.state disk.new) }
+    ensures put { D.tells ≡ true → OnOk result (now_of (D.state disk.new) ≡ put (now_of (D.state disk.old)) (at, bytes.now)) }
+    ensures history { (D.state disk.new).history ≡ (D.state disk.old).history }
+    ensures counts { CountsGrow (D.state disk.old) (D.state disk.new) }
+    ensures cause { HasCause (D.state disk.old) (D.state disk.new) result }
+    ensures power { IsOnUnlessLost (D.state disk.new) result }
+{
+    disk.write(at, bytes)
+}
+
+/// Syncs. A cut then leaves what it may have left before, or all that was in flight.
+pub fn settle<D: Disk>(disk: &mut D) -> Result<(), DiskStop>
+    requires on { (D.state disk.old).on ≡ true }
+    ensures crash { D.tells ≡ true → (p : book.Address → Bool) (first : DiskState)
+        → Writing p first (D.state disk.old) → EachCrash (D.state disk.new) (AgreeOutside p first.held) }
+    ensures still { D.tells ≡ true → OnOk result ((D.state disk.new).flight ≡ []) }
+    ensures held { D.tells ≡ true → OnOk result ((D.state disk.new).held ≡ now_of (D.state disk.old)) }
+    ensures history { (D.state disk.new).history ≡ (D.state disk.old).history }
+    ensures counts { CountsGrow (D.state disk.old) (D.state disk.new) }
+    ensures cause { HasCause (D.state disk.old) (D.state disk.new) result }
+    ensures power { IsOnUnlessLost (D.state disk.new) result }
+{
+    disk.sync()
+}
+
+/// The log's base block.
+pub fn write_log_block<D: Disk>(disk: &mut D, base: &BaseBlock) -> Result<(), DiskStop>
+    requires on { (D.state disk.old).on ≡ true }
+    ensures writing { D.tells ≡ true → (first : DiskState) → Writing in_log first (D.state disk.old) → Writing in_log first (D.state disk.new) }
+    ensures front { D.tells ≡ true → OnOk result ((log : List ℕ) → sector log 0 ≡ base_text (record base.now { kind = 1 })
+        → HasFront (now_of (D.state disk.new)) log 1) }
+    ensures history { (D.state disk.new).history ≡ (D.state disk.old).history }
+    ensures counts { CountsGrow (D.state disk.old) (D.state disk.new) }
+    ensures cause { HasCause (D.state disk.old) (D.state disk.new) result }
+    ensures power { IsOnUnlessLost (D.state disk.new) result }
+{
+    let mut sector = [0; 512];
+    base_bytes(&logged_block(base), &mut sector);
+    let at = Address {
+        file: HiveFile::Log,
+        sector: 0,
+    };
+    put_sector(disk, at, &sector)
+}
+
+/// The log's bitmap, behind its base block.
+pub fn write_log_bitmap<D: Disk>(disk: &mut D, bitmap: &[u8], size: usize) -> Result<(), DiskStop>
+    requires on { (D.state disk.old).on ≡ true }
+    requires few { size ≤ 16777216 }
+    requires bits { size / 4096 ≤ length bitmap.now }
+    ensures writing { D.tells ≡ true → (first : DiskState) → Writing in_log first (D.state disk.old) → Writing in_log first (D.state disk.new) }
+    ensures front { D.tells ≡ true → OnOk result ((log : List ℕ)
+        → ((k : ℕ) → k < recovery.bitmap_sectors size → sector log (1 + k) ≡ sector (bitmap_text (bit bitmap.now) size) k)
+        → HasFront (now_of (D.state disk.old)) log 1 → HasFront (now_of (D.state disk.new)) log (first_dirty size)) }
+    ensures history { (D.state disk.new).history ≡ (D.state disk.old).history }
+    ensures counts { CountsGrow (D.state disk.old) (D.state disk.new) }
+    ensures cause { HasCause (D.state disk.old) (D.state disk.new) result }
+    ensures power { IsOnUnlessLost (D.state disk.new) result }
+{
+    let mut sector = [0; 512];
+    for k in 0..bitmap_sectors(size) {
+        bitmap_sector(bitmap, size, k, &mut sector);
+        let at = Address {
+            file: HiveFile::Log,
+            sector: 1 + k as u32,
+        };
+        put_sector(disk, at, &sector)?;
+    }
+    Ok(())
+}
+
+/// The log's run of sectors whose bit is on, behind its bitmap.
+pub fn write_log_run<D: Disk>(disk: &mut D, bitmap: &[u8], new: &[u8]) -> Result<(), DiskStop>
+    requires on { (D.state disk.old).on ≡ true }
+    requires whole { 512 * (length new.now / 512) ≡ length new.now }
+    requires few { length new.now ≤ 16777216 }
+    ensures writing { D.tells ≡ true → (first : DiskState) → Writing in_log first (D.state disk.old) → Writing in_log first (D.state disk.new) }
+    ensures front { D.tells ≡ true → OnOk result ((log : List ℕ)
+        → ((i : ℕ) → 512 * i < length new.now → bit bitmap.now i ≡ true → sector log (first_dirty (length new.now) + rank (bit bitmap.now) i) ≡ sector new.now i)
+        → HasFront (now_of (D.state disk.old)) log (first_dirty (length new.now))
+        → HasFront (now_of (D.state disk.new)) log (first_dirty (length new.now) + rank (bit bitmap.now) (length new.now / 512))) }
+    ensures history { (D.state disk.new).history ≡ (D.state disk.old).history }
+    ensures counts { CountsGrow (D.state disk.old) (D.state disk.new) }
+    ensures cause { HasCause (D.state disk.old) (D.state disk.new) result }
+    ensures power { IsOnUnlessLost (D.state disk.new) result }
+{
+    let mut sector = [0; 512];
+    let mut number = 1 + bitmap_sectors(new.len()) as u32;
+    for i in 0..new.len() / 512 {
+        if !has_bit(bitmap, i) {
+            continue;
+        }
+        copy_sector(new, i, &mut sector);
+        let at = Address {
+            file: HiveFile::Log,
+            sector: number,
+        };
+        put_sector(disk, at, &sector)?;
+        number += 1;
+    }
+    Ok(())
+}
+
+/// The bins sectors of the primary whose bit is on.
+pub fn write_marked<D: Disk>(disk: &mut D, bitmap: &[u8], new: &[u8]) -> Result<(), DiskStop>
+    requires on { (D.state disk.old).on ≡ true }
+    requires whole { 512 * (length new.now / 512) ≡ length new.now }
+    requires few { length new.now ≤ 16777216 }
+    ensures writing { D.tells ≡ true → (first : DiskState) → Writing (is_marked (bit bitmap.now)) first (D.state disk.old)
+        → Writing (is_marked (bit bitmap.now)) first (D.state disk.new) }
+    ensures written { D.tells ≡ true → OnOk result (HasMarkedBelow (now_of (D.state disk.new)) (bit bitmap.now) new.now (length new.now / 512)) }
+    ensures history { (D.state disk.new).history ≡ (D.state disk.old).history }
+    ensures counts { CountsGrow (D.state disk.old) (D.state disk.new) }
+    ensures cause { HasCause (D.state disk.old) (D.state disk.new) result }
+    ensures power { IsOnUnlessLost (D.state disk.new) result }
+{
+    let mut sector = [0; 512];
+    for i in 0..new.len() / 512 {
+        if !has_bit(bitmap, i) {
+            continue;
+        }
+        copy_sector(new, i, &mut sector);
+        let at = Address {
+            file: HiveFile::Primary,
+            sector: 8 + i as u32,
+        };
+        put_sector(disk, at, &sector)?;
+    }
+    Ok(())
+}

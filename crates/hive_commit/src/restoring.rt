@@ -1,0 +1,40 @@
+//! The writing half of a recovery.
+
+ghost use Rattle.std.specs.Prelude.{◌≡◌, ◌≤◌, ◌*◌, ◌/◌, [], true, length, OnOk};
+ghost use Rattle.hive_model.specs.Image.{Image};
+ghost use Rattle.hive_model.specs.Carries.{Carries, IsRecoveredAs};
+ghost use Rattle.nt_edge.specs.Disk.{CountsGrow, HasCause, IsOnUnlessLost};
+ghost use Rattle.nt_edge.specs.Crash.{EachCrash};
+ghost use Rattle.hive_log.specs.Found.{Found};
+
+use crate::{numbers_fit, texts_fit, write_bins, write_block};
+use nt_edge::{Disk, DiskStop};
+use regf_base::BaseBlock;
+
+/// Writes what was found into the primary: the log's sectors, and then the base block. Whatever a cut
+/// leaves is recovered as the same. The log is not written.
+pub fn restore<D: Disk>(
+    disk: &mut D,
+    closed: &BaseBlock,
+    bitmap: &[u8],
+    bins: &[u8],
+) -> Result<(), DiskStop>
+    requires on { (D.state disk.old).on ≡ true }
+    requires still { D.tells ≡ true → (D.state disk.old).flight ≡ [] }
+    requires found { D.tells ≡ true → Found (D.state disk.old).held closed.now bitmap.now bins.now }
+    requires whole { 512 * (length bins.now / 512) ≡ length bins.now }
+    requires few { length bins.now ≤ 16777216 }
+    ensures still { D.tells ≡ true → OnOk result ((D.state disk.new).flight ≡ []) }
+    ensures carries { D.tells ≡ true → OnOk result (Carries (D.state disk.new).held closed.now bins.now) }
+    ensures crash { D.tells ≡ true → EachCrash (D.state disk.new) (λ (c : Image). IsRecoveredAs c closed.now bins.now) }
+    ensures history { (D.state disk.new).history ≡ (D.state disk.old).history }
+    ensures counts { CountsGrow (D.state disk.old) (D.state disk.new) }
+    ensures cause { HasCause (D.state disk.old) (D.state disk.new) result }
+    ensures power { IsOnUnlessLost (D.state disk.new) result }
+{
+    numbers_fit(closed);
+    texts_fit(closed);
+    write_bins(disk, bitmap, bins)?;
+    write_block(disk, closed)?;
+    Ok(())
+}
