@@ -1,0 +1,16 @@
+//! ARC paths: which directory, on which partition of which disk, a boot.ini entry means.
+//!
+//! `read_arc` answers the path that a text is, or the first fault from the left with its place; it
+//! asks nothing of the text. Rules: Microsoft's documentation of boot.ini; docs/texts.md, "ARC paths".
+#![tactic(auto)]
+
+mod arc;
+mod reading;
+mod writing;
+
+pub use arc::{Arc, ArcFault, ArcFaultKind, ArcKind, ArcStop};
+pub use reading::read_arc;
+pub use writing::{a_path_is_read_again, arc_text, same_arc};
+
+#[cfg(test)]
+mod tests;
