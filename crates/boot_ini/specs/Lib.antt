@@ -1,0 +1,4 @@
+pub mod Keys
+pub mod Entries
+pub mod Ini
+pub mod Choice

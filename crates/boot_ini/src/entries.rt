@@ -1,0 +1,143 @@
+//! An entry of `[operating systems]`.
+
+ghost use Rattle.std.specs.Prelude.{◌≡◌, ◌<◌, ◌≤◌, ◌++◌, [], ◌∷◌, length, IfOk, Option};
+ghost use Rattle.std.specs.List.{position_or_len, before_first, after_first};
+ghost use Rattle.boot_ini.specs.Entries.{is_quote, is_slash, is_quoted, title_of, behind_title, is_switch, switches_in, entry_of};
+ghost use Rattle.nt_bytes.specs.Text.{is_blank};
+
+use crate::ini::{OsEntry, Switches};
+use crate::keys::split_line;
+use nt_bytes::{Bytes, trim};
+use std::alloc::{AllocError, Global};
+
+fn quote_place(text: &[u8]) -> usize
+    ensures place { result ≡ position_or_len is_quote text.now }
+    ensures bound { result ≤ length text.now }
+{
+    let mut place = 0;
+    for c in text {
+        if *c == b'"' {
+            return place;
+        }
+        place += 1;
+    }
+    place
+}
+
+fn slash_place(text: &[u8]) -> usize
+    ensures place { result ≡ position_or_len is_slash text.now }
+    ensures bound { result ≤ length text.now }
+{
+    let mut place = 0;
+    for c in text {
+        if *c == b'/' {
+            return place;
+        }
+        place += 1;
+    }
+    place
+}
+
+fn blank_place(text: &[u8]) -> usize
+    ensures place { result ≡ position_or_len is_blank text.now }
+    ensures bound { result ≤ length text.now }
+{
+    let mut place = 0;
+    for c in text {
+        if *c == b' ' || *c == b'\t' {
+            return place;
+        }
+        place += 1;
+    }
+    place
+}
+
+/// The quoted title behind the `"`, and what follows the closing one.
+fn split_quoted(inside: &[u8]) -> (&[u8], &[u8])
+    ensures title { result.0.now ≡ before_first is_quote inside.now }
+    ensures behind { result.1.now ≡ after_first is_quote inside.now }
+{
+    let place = quote_place(inside);
+    let title = inside.split_at(place).0;
+    if place == inside.len() {
+        return (title, &[]);
+    }
+    (title, inside.split_at(place + 1).1)
+}
+
+/// The title, and what follows it.
+fn split_title(text: &[u8]) -> (&[u8], &[u8])
+    ensures title { result.0.now ≡ title_of text.now }
+    ensures behind { result.1.now ≡ behind_title text.now }
+{
+    if let [b'"', inside @ ..] = text {
+        return split_quoted(inside);
+    }
+    let (title, behind) = text.split_at(slash_place(text));
+    (trim(title), behind)
+}
+
+/// The word at the front, and what follows the blank behind it.
+fn split_word(text: &[u8]) -> (&[u8], &[u8])
+    requires { 0 < length text.now }
+    ensures word { result.0.now ≡ before_first is_blank text.now }
+    ensures behind { result.1.now ≡ after_first is_blank text.now }
+    ensures shorter { length result.1.now < length text.now }
+{
+    let place = blank_place(text);
+    let word = text.split_at(place).0;
+    if place == text.len() {
+        return (word, &[]);
+    }
+    (word, text.split_at(place + 1).1)
+}
+
+fn begins_switch(word: &[u8]) -> bool
+    ensures { result ≡ is_switch word.now }
+{
+    matches!(word, [b'/', ..])
+}
+
+/// The words that begin with `/`.
+fn switches(alloc: Global, text: &[u8]) -> Result<Switches, AllocError>
+    ensures { IfOk result (λ s. s ≡ switches_in text.now) }
+{
+    let mut found = Switches::new(alloc);
+    let mut rest = text;
+    while !rest.is_empty() {
+        let (word, behind) = split_word(rest);
+        if begins_switch(word) {
+            found.push(Bytes::from_slice(alloc, word)?)?;
+        }
+        rest = behind;
+    }
+    Ok(found)
+}
+
+fn made_entry(alloc: Global, path: &[u8], text: &[u8]) -> Result<OsEntry, AllocError>
+    ensures path { IfOk result (λ e. e.path ≡ path.now) }
+    ensures title { IfOk result (λ e. e.title ≡ title_of text.now) }
+    ensures switches { IfOk result (λ e. e.switches ≡ switches_in (behind_title text.now)) }
+{
+    let (title, behind) = split_title(text);
+    Ok(OsEntry {
+        path: Bytes::from_slice(alloc, path)?,
+        title: Bytes::from_slice(alloc, title)?,
+        switches: switches(alloc, behind)?,
+    })
+}
+
+/// The entry on a line, if it has a path and a `=` behind it.
+pub fn entry_on(alloc: Global, line: &[u8]) -> Result<Option<OsEntry>, AllocError>
+    ensures { IfOk result (λ e. e ≡ entry_of line.now) }
+{
+    match split_line(line) {
+        Some((path, text)) => {
+            if path.is_empty() {
+                return Ok(None);
+            }
+            Ok(Some(made_entry(alloc, path, text)?))
+        }
+        None => Ok(None),
+    }
+}
