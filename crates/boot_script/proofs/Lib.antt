@@ -1,0 +1,4 @@
+pub mod WordLemmas
+pub mod SpellingLemmas
+pub mod ScriptLemmas
+pub mod PathLemmas
