@@ -1,0 +1,134 @@
+//! One entry of a service.
+
+ghost use Rattle.std.specs.Prelude.{◌≡◌, codes, IfOk};
+ghost use Rattle.start_model.specs.Entries.{entry_of, control_in, named_group};
+ghost use Rattle.hive_model.specs.Tree.{find_text};
+ghost use Rattle.std.specs.Option.{option_copied};
+
+use nt_bytes::{Names, Row, Units};
+use reg_tree::Key;
+use std::alloc::{AllocError, Global};
+use std::marker::Model;
+
+/// What the key of a service says.
+#[derive(Drop)]
+pub struct Entry {
+    pub name: Units,
+    /// `Start`: 0 boot, 1 system, 2 automatic, 3 on demand, 4 disabled.
+    pub start: u32,
+    /// `Type`: a bit of 0x0B for a driver, else one of 0x30 for a service.
+    pub kind: u32,
+    /// `ErrorControl`: 0 ignore, 1 normal, 2 severe, 3 critical.
+    pub control: u32,
+    pub group: Option<Units>,
+    pub tag: Option<u32>,
+    /// `DependOnService`.
+    pub services: Names,
+    /// `DependOnGroup`.
+    pub groups: Names,
+}
+
+/// Entries, in the order of the registry or of a phase.
+pub type Entries = Row<Entry>;
+
+impl Model for Entry {
+    ghost use Rattle.start_model.specs.Entries.{Entry as Item};
+
+    ghost Value = { Item };
+
+    ghost view = { λ a. record { name = a.name; start = a.start; kind = a.kind; control = a.control; group = a.group; tag = a.tag; services = a.services; groups = a.groups } };
+}
+
+const START: [u16; 5] = [0x53, 0x74, 0x61, 0x72, 0x74];
+
+const TYPE: [u16; 4] = [0x54, 0x79, 0x70, 0x65];
+
+const ERROR_CONTROL: [u16; 12] = [
+    0x45, 0x72, 0x72, 0x6f, 0x72, 0x43, 0x6f, 0x6e, 0x74, 0x72, 0x6f, 0x6c,
+];
+
+const GROUP: [u16; 5] = [0x47, 0x72, 0x6f, 0x75, 0x70];
+
+const TAG: [u16; 3] = [0x54, 0x61, 0x67];
+
+const DEPEND_ON_SERVICE: [u16; 15] = [
+    0x44, 0x65, 0x70, 0x65, 0x6e, 0x64, 0x4f, 0x6e, 0x53, 0x65, 0x72, 0x76, 0x69, 0x63, 0x65,
+];
+
+const DEPEND_ON_GROUP: [u16; 13] = [
+    0x44, 0x65, 0x70, 0x65, 0x6e, 0x64, 0x4f, 0x6e, 0x47, 0x72, 0x6f, 0x75, 0x70,
+];
+
+/// The entry that a child of `Services` is, or none where `Start` or `Type` is no DWORD.
+pub fn read_entry(alloc: Global, key: &Key) -> Result<Option<Entry>, AllocError>
+    ensures { IfOk result (λ e. e ≡ entry_of key.now) }
+{
+    let Some(start) = key.dword(&START) else {
+        return Ok(None);
+    };
+    let Some(kind) = key.dword(&TYPE) else {
+        return Ok(None);
+    };
+    Ok(Some(Entry {
+        name: Units::from_slice(alloc, key.name.as_slice())?,
+        start,
+        kind,
+        control: control(key),
+        group: group(alloc, key)?,
+        tag: key.dword(&TAG),
+        services: key.strings(alloc, &DEPEND_ON_SERVICE)?,
+        groups: key.strings(alloc, &DEPEND_ON_GROUP)?,
+    }))
+}
+
+/// The value of `ErrorControl`: 1 where it is missing or above 3.
+fn control(key: &Key) -> u32
+    ensures { result ≡ control_in key.now }
+{
+    match key.dword(&ERROR_CONTROL) {
+        Some(control) => { if control <= 3 { control } else { 1 } }
+        None => 1,
+    }
+}
+
+/// The value of `Group`: none where it is missing or empty.
+fn group(alloc: Global, key: &Key) -> Result<Option<Units>, AllocError>
+    ensures { IfOk result (λ g. g ≡ named_group (find_text (codes "Group") key.now)) }
+{
+    match key.text(alloc, &GROUP)? {
+        Some(name) => {
+            if name.len() == 0 {
+                Ok(None)
+            } else {
+                Ok(Some(name))
+            }
+        }
+        None => Ok(None),
+    }
+}
+
+impl Entry {
+    pub fn copy(&self, alloc: Global) -> Result<Entry, AllocError>
+        ensures { IfOk result (λ e. e ≡ self.now) }
+    {
+        Ok(Entry {
+            name: Units::from_slice(alloc, self.name.as_slice())?,
+            start: self.start,
+            kind: self.kind,
+            control: self.control,
+            group: copy_group(alloc, self.group.as_ref())?,
+            tag: self.tag,
+            services: Names::from_slice(alloc, self.services.as_slice())?,
+            groups: Names::from_slice(alloc, self.groups.as_slice())?,
+        })
+    }
+}
+
+fn copy_group(alloc: Global, group: Option<&Units>) -> Result<Option<Units>, AllocError>
+    ensures { IfOk result (λ g. g ≡ option_copied group.entry) }
+{
+    match group {
+        Some(name) => Ok(Some(Units::from_slice(alloc, name.as_slice())?)),
+        None => Ok(None),
+    }
+}

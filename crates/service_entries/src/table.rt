@@ -1,0 +1,123 @@
+//! A table of entries by folded name, in registry order.
+
+ghost use Rattle.std.specs.Prelude.{◌≡◌, ◌+◌, ◌<◌, ◌^◌, ◌++◌, ◌∷◌, [], All, length, IfOk, OnOk, false, slice_get};
+ghost use Rattle.std.specs.List.{filter_map};
+ghost use Rattle.std.specs.Option.{option_copied};
+ghost use Rattle.nt_bytes.specs.Folding.{folds_same, folded};
+ghost use Rattle.hive_model.specs.Valid.{HoldsKeys, KeysDiffer};
+ghost use Rattle.service_entries.specs.Named.{place_named};
+ghost use Rattle.start_model.specs.Entries.{entries_of, entry_of, services_of};
+
+use crate::entry::{Entry, read_entry};
+use indexmap::IndexMap;
+use nt_bytes::{Units, fold};
+use reg_tree::Key;
+use std::alloc::{AllocError, Global};
+use std::marker::Model;
+
+/// Entries in registry order.
+#[derive(Drop)]
+pub struct ServiceTable {
+    by_name: IndexMap<Vec<u16>, Entry>,
+}
+
+impl Model for ServiceTable {
+    ghost use Rattle.std.specs.Prelude.{List};
+    ghost use Rattle.indexmap.specs.IndexMap.{values};
+    ghost use Rattle.start_model.specs.Entries.{Entry as Item};
+    ghost use Rattle.service_entries.specs.Keyed.{AreKeyed};
+
+    ghost Value = { List Item };
+
+    ghost view = { λ a. values a.by_name };
+
+    ghost invariant = { λ a. AreKeyed a.by_name.entries };
+}
+
+impl ServiceTable {
+    fn new(alloc: Global) -> ServiceTable
+        ensures { result ≡ [] }
+    {
+        ServiceTable {
+            by_name: IndexMap::new(alloc),
+        }
+    }
+
+    /// Adds an entry behind the others. No other one has its name.
+    fn push(&mut self, entry: Entry, alloc: Global) -> Result<(), AllocError>
+        requires new { All (λ e. folds_same entry.name e.name ≡ false) self.old }
+        requires few { length self.old + 1 < 2 ^ 32 }
+        ensures { OnOk result (self.new ≡ self.old ++ entry ∷ []) }
+    {
+        let key = folded(alloc, entry.name.as_slice())?;
+        self.by_name.insert(key, entry)?;
+        Ok(())
+    }
+
+    /// The entry at a place, or none where that is past the end.
+    pub fn get(&self, place: u32) -> Option<&Entry>
+        ensures { option_copied result ≡ slice_get self.now place }
+    {
+        let (_, entry) = self.by_name.get_index(place as usize)?;
+        Some(entry)
+    }
+
+    /// The place of the entry with this folded name, or none where no entry has it.
+    pub fn place_of(&self, folded: &[u16]) -> Option<u32>
+        ensures { result ≡ place_named folded.now self.now }
+    {
+        match self.by_name.get_index_of(folded) {
+            Some(at) => Some(at as u32),
+            None => None,
+        }
+    }
+
+    /// How many entries there are.
+    pub fn len(&self) -> usize
+        ensures len { result ≡ length self.now }
+        ensures few { result < 2 ^ 32 }
+    {
+        self.by_name.len()
+    }
+}
+
+/// A name with each unit folded.
+pub fn folded(alloc: Global, name: &[u16]) -> Result<Vec<u16>, AllocError>
+    ensures { IfOk result (λ v. v.items ≡ folded name.now) }
+{
+    name.iter().map(|u| fold(*u)).collect(alloc)
+}
+
+const SERVICES: [u16; 8] = [0x53, 0x65, 0x72, 0x76, 0x69, 0x63, 0x65, 0x73];
+
+/// The entries of a control set.
+pub fn entries(alloc: Global, set: &Key) -> Result<ServiceTable, AllocError>
+    requires { HoldsKeys set.now }
+    ensures { IfOk result (λ t. t ≡ entries_of set.now) }
+{
+    entries_among(alloc, services(set))
+}
+
+/// The keys of the services.
+fn services(set: &Key) -> &[Key]
+    ensures { result.now ≡ services_of set.now }
+{
+    match set.child(&SERVICES) {
+        Some(services) => services.subkeys(),
+        None => &[],
+    }
+}
+
+fn entries_among(alloc: Global, keys: &[Key]) -> Result<ServiceTable, AllocError>
+    requires differ { KeysDiffer keys.now }
+    requires few { length keys.now < 2 ^ 32 }
+    ensures { IfOk result (λ t. t ≡ filter_map entry_of keys.now) }
+{
+    let mut table = ServiceTable::new(alloc);
+    for key in keys {
+        if let Some(entry) = read_entry(alloc, key)? {
+            table.push(entry, alloc)?;
+        }
+    }
+    Ok(table)
+}
