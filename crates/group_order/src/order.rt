@@ -1,0 +1,167 @@
+//! The groups of `ServiceGroupOrder`, each with its tags of `GroupOrderList`.
+
+ghost use Rattle.std.specs.Prelude.{◌≡◌, ◌+◌, ◌*◌, ◌^◌, ◌<◌, ◌≤◌, [], ◌∷◌, codes, map, length, IfOk};
+ghost use Rattle.std.specs.List.{range_with_len};
+ghost use Rattle.std.specs.Option.{option_copied};
+ghost use Rattle.hive_model.specs.Tree.{find_key};
+ghost use Rattle.hive_model.specs.Valid.{HoldsKeys};
+ghost use Rattle.start_model.specs.Order.{listed_groups, number_in, order_of, orders_of, tag_bytes, tags_of};
+ghost use Rattle.group_order.specs.Few.{AreFew};
+
+use nt_bytes::{Names, Row, Units, u32_at};
+use reg_tree::Key;
+use std::alloc::{AllocError, Global};
+use std::marker::Model;
+
+const CONTROL: [u16; 7] = [0x43, 0x6f, 0x6e, 0x74, 0x72, 0x6f, 0x6c];
+
+const SERVICE_GROUP_ORDER: [u16; 17] = [
+    0x53, 0x65, 0x72, 0x76, 0x69, 0x63, 0x65, 0x47, 0x72, 0x6f, 0x75, 0x70, 0x4f, 0x72, 0x64, 0x65,
+    0x72,
+];
+
+const GROUP_ORDER_LIST: [u16; 14] = [
+    0x47, 0x72, 0x6f, 0x75, 0x70, 0x4f, 0x72, 0x64, 0x65, 0x72, 0x4c, 0x69, 0x73, 0x74,
+];
+
+const LIST: [u16; 4] = [0x4c, 0x69, 0x73, 0x74];
+
+/// The type of binary data.
+const BINARY: u32 = 3;
+
+/// Tags, the first one to be started first.
+pub type Tags = Row<u32>;
+
+/// A group and the order of its tags.
+#[derive(Drop)]
+pub struct GroupOrder {
+    pub name: Units,
+    pub tags: Tags,
+}
+
+impl Model for GroupOrder {
+    ghost use Rattle.start_model.specs.Order.{GroupOrder as Ordered};
+
+    ghost Value = { Ordered };
+
+    ghost view = { λ a. record { name = a.name; tags = a.tags } };
+}
+
+/// The groups in their order.
+#[derive(Drop)]
+pub struct Orders {
+    items: Vec<GroupOrder>,
+}
+
+impl Model for Orders {
+    ghost use Rattle.std.specs.Prelude.{List};
+    ghost use Rattle.start_model.specs.Order.{GroupOrder as Ordered};
+    ghost use Rattle.group_order.specs.Few.{AreFew};
+
+    ghost Value = { List Ordered };
+
+    ghost view = { λ a. a.items.items };
+
+    ghost invariant = { λ a. AreFew a.items.items };
+}
+
+impl Orders {
+    pub fn as_slice(&self) -> &[GroupOrder]
+        ensures same { result.now ≡ self.now }
+        ensures few { AreFew self.now }
+    {
+        self.items.as_slice()
+    }
+}
+
+/// The orders of a control set.
+#[tactic(auto, using(start_model::proofs::HeldLemmas::listed_groups_few))]
+pub fn read_orders(alloc: Global, set: &Key) -> Result<Orders, AllocError>
+    requires { HoldsKeys set.now }
+    ensures { IfOk result (λ o. o ≡ orders_of set.now) }
+{
+    let groups = listed_groups(alloc, set)?;
+    orders_among(alloc, &groups, below_control(set, &GROUP_ORDER_LIST))
+}
+
+/// The key of this name below `Control`.
+fn below_control<'a>(set: &'a Key, name: &[u16]) -> Option<&'a Key>
+    ensures { option_copied result ≡ find_key (codes "Control" ∷ name.now ∷ []) set.now }
+{
+    set.child(&CONTROL)?.child(name)
+}
+
+/// The groups of `ServiceGroupOrder` in their order.
+fn listed_groups(alloc: Global, set: &Key) -> Result<Names, AllocError>
+    ensures { IfOk result (λ g. g ≡ listed_groups set.now) }
+{
+    match below_control(set, &SERVICE_GROUP_ORDER) {
+        Some(key) => key.strings(alloc, &LIST),
+        None => Ok(Names::new(alloc)),
+    }
+}
+
+/// The orders that these groups have in `GroupOrderList`.
+fn orders_among(alloc: Global, groups: &Names, lists: Option<&Key>) -> Result<Orders, AllocError>
+    requires few { length groups.now < 2 ^ 32 }
+    ensures { IfOk result (λ o. o ≡ map (order_of (option_copied lists.entry)) groups.now) }
+{
+    let mut items = Vec::new(alloc);
+    for name in groups.as_slice() {
+        items.push(read_order(alloc, name, lists)?)?;
+    }
+    Ok(Orders { items })
+}
+
+fn read_order(alloc: Global, name: &Units, lists: Option<&Key>) -> Result<GroupOrder, AllocError>
+    ensures order { IfOk result (λ o. o ≡ order_of (option_copied lists.entry) name.now) }
+    ensures few { IfOk result (λ o. length o.tags < 2 ^ 32) }
+{
+    Ok(GroupOrder {
+        name: Units::from_slice(alloc, name.as_slice())?,
+        tags: read_tags(alloc, tag_bytes(lists, name.as_slice()))?,
+    })
+}
+
+/// The bytes of the binary value of this name.
+fn tag_bytes<'a>(lists: Option<&'a Key>, name: &[u16]) -> &'a [u8]
+    ensures { result.now ≡ tag_bytes (option_copied lists.entry) name.now }
+{
+    match lists {
+        None => &[],
+        Some(key) => match key.value(name) {
+            None => &[],
+            Some(value) => if value.kind == BINARY {
+                value.bytes.as_slice()
+            } else {
+                &[]
+            },
+        },
+    }
+}
+
+/// The tags that a value of `GroupOrderList` holds: a count and that many numbers, as far as they go.
+fn read_tags(alloc: Global, bytes: &[u8]) -> Result<Tags, AllocError>
+    ensures tags { IfOk result (λ t. t ≡ tags_of bytes.now) }
+    ensures few { IfOk result (λ t. length t < 2 ^ 32) }
+{
+    if bytes.len() < 4 {
+        return Ok(Tags::new(alloc));
+    }
+    let held = (bytes.len() - 4) / 4;
+    let count = u32_at(bytes, 0) as usize;
+    numbers(alloc, bytes, held.min(count))
+}
+
+/// This many numbers behind the count.
+fn numbers(alloc: Global, bytes: &[u8], count: usize) -> Result<Tags, AllocError>
+    requires within { 4 + 4 * count ≤ length bytes.now }
+    ensures tags { IfOk result (λ t. t ≡ map (λ k. number_in bytes.now (4 + 4 * k)) (range_with_len 0 count)) }
+    ensures len { IfOk result (λ t. length t ≡ count) }
+{
+    let mut items = Vec::new(alloc);
+    for k in 0..count {
+        items.push(u32_at(bytes, 4 + 4 * k))?;
+    }
+    Ok(Tags::from_vec(items))
+}

@@ -1,0 +1,85 @@
+//! Where an entry stands by its group and its tag.
+
+ghost use Rattle.std.specs.Prelude.{◌≡◌, ◌≤◌, ◌<◌, ◌^◌, length, nat_eq, position, IfSome};
+ghost use Rattle.nt_bytes.specs.Folding.{folds_same};
+ghost use Rattle.std.specs.Option.{option_copied, option_map_or};
+ghost use Rattle.start_model.specs.Order.{group_place, tag_place, tag_place_in, first_place};
+ghost use Rattle.group_order.specs.Few.{AreFew};
+
+use crate::order::{GroupOrder, Orders};
+use nt_bytes::{Units, same_folded};
+
+/// The place of the group, and the place of the tag where tags count.
+pub fn rank(
+    orders: &Orders,
+    group: Option<&Units>,
+    tag: Option<u32>,
+    tags_count: bool,
+) -> (u32, u32)
+    ensures group { result.0 ≡ group_place orders.now (option_copied group.entry) }
+    ensures tag { result.1 ≡ tag_place orders.now (option_copied group.entry) tag tags_count }
+{
+    let orders = orders.as_slice();
+    let place = place_of_group(orders, group);
+    let in_group = if tags_count {
+        place_of_tag(orders, place, tag)
+    } else {
+        0
+    };
+    (place as u32, in_group as u32)
+}
+
+fn place_of_group(orders: &[GroupOrder], group: Option<&Units>) -> usize
+    ensures place { result ≡ group_place orders.now (option_copied group.entry) }
+    ensures within { result ≤ length orders.now }
+{
+    match group {
+        None => orders.len(),
+        Some(name) => match named(orders, name.as_slice()) {
+            None => orders.len(),
+            Some(at) => at,
+        },
+    }
+}
+
+fn named(orders: &[GroupOrder], name: &[u16]) -> Option<usize>
+    ensures place { result ≡ position (λ o. folds_same name.now o.name) orders.now }
+    ensures within { IfSome result (λ at. at < length orders.now) }
+{
+    orders
+        .iter()
+        .position(|o| same_folded(name, o.name.as_slice()))
+}
+
+fn place_of_tag(orders: &[GroupOrder], place: usize, tag: Option<u32>) -> usize
+    requires few { AreFew orders.now }
+    ensures place { result ≡ tag_place_in orders.now place tag }
+    ensures small { result < 2 ^ 32 }
+{
+    if place < orders.len() {
+        let order = &orders[place];
+        place_among(order.tags.as_slice(), tag)
+    } else {
+        0
+    }
+}
+
+fn place_among(tags: &[u32], tag: Option<u32>) -> usize
+    ensures place { result ≡ option_map_or (λ t. first_place (λ x. nat_eq x t) tags.now) tag (length tags.now) }
+    ensures within { result ≤ length tags.now }
+{
+    match tag {
+        None => tags.len(),
+        Some(t) => match tag_at(tags, t) {
+            None => tags.len(),
+            Some(at) => at,
+        },
+    }
+}
+
+fn tag_at(tags: &[u32], tag: u32) -> Option<usize>
+    ensures place { result ≡ position (λ x. nat_eq x tag) tags.now }
+    ensures within { IfSome result (λ at. at < length tags.now) }
+{
+    tags.iter().position(|x| *x == tag)
+}
