@@ -1,0 +1,22 @@
+use Rattle.std.proofs.Common.{◌≡◌, ℕ, ◌&&◌, Bool, filter, length, sym, ap, ◌∙◌, arith}
+use Rattle.std.specs.List.{range_with_len}
+use Rattle.start_model.specs.Demand.{member, starts_at}
+use Rattle.dependencies.proofs.PulledLemmas.{pulled_of-least, filter-range_push, filter-range_skip}
+use Rattle.dependencies.proofs.demand.all_pulled.Goals as goal
+use Rattle.dependencies.proofs.demand.all_pulled.Goals.{then-is_pulled+in_ok-push, else-is_pulled}
+
+pub loop-place-preserved : goal.loop-place-preserved
+loop-place-preserved c =
+    let p : ℕ → Bool = λ q. starts_at c.args.needs.now 3 q && member c.args.taken.now q in
+    elim c.if-is_pulled.branch [
+      | then-is_pulled+in_ok-push w ↦
+          w.places-is ∙ w.in_ok-push.ensures.ok ∙ filter-range_push p c.loop-place.place c.loop-place.places c.loop-place.invariant (sym w.if-is_pulled.ensures)
+      | else-is_pulled w ↦ w.places-is ∙ filter-range_skip p c.loop-place.place c.loop-place.places c.loop-place.invariant (sym w.if-is_pulled.ensures)
+    ]
+
+pub returns : goal.returns
+returns c =
+    let needs = c.args.needs.now in
+    let p : ℕ → Bool = λ q. starts_at needs 3 q && member c.args.taken.now q in
+    let n : c.loop-place.place ≡ length needs = omega arith in
+    c.loop-place.invariant ∙ ap (λ k. filter p (range_with_len 0 k)) n ∙ sym (pulled_of-least needs c.args.taken.now c.requires.least)

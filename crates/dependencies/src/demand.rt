@@ -1,0 +1,163 @@
+//! Which entries of Start 3 the automatic phase takes.
+
+ghost use Rattle.std.specs.Prelude.{◌≡◌, ℕ, ◌-◌, ◌^◌, ◌<◌, Bool, true, List, ◌&&◌, not, length, IfOk, OnOk};
+ghost use Rattle.start_model.specs.Demand.{Need, IsClosed, is_taken, automatic_of, pulled_of, pulls, starts_at, member};
+ghost use Rattle.dependencies.specs.Work.{IsLeast, IsWork, PullsIn, is_alone};
+
+use crate::need::{Need, Needs, Places};
+use std::alloc::{AllocError, Global};
+
+/// The places of the entries of Start 2 and of those that they pull in, in rising order. The table has
+/// the drivers and services of a set that were not tried, in the order of the registry.
+pub fn automatic(alloc: Global, table: &Needs) -> Result<Places, AllocError>
+    requires { length table.now < 2 ^ 32 }
+    ensures places { IfOk result (λ places. places ≡ automatic_of table.now) }
+{
+    let needs = table.as_slice();
+    let taken = least_set(alloc, needs)?;
+    all_taken(alloc, needs, taken.as_slice())
+}
+
+/// The places of the entries of Start 3 that the entries of Start 2 pull in, in rising order.
+pub fn pulled(alloc: Global, table: &Needs) -> Result<Places, AllocError>
+    requires { length table.now < 2 ^ 32 }
+    ensures places { IfOk result (λ places. places ≡ pulled_of table.now) }
+{
+    let needs = table.as_slice();
+    let taken = least_set(alloc, needs)?;
+    all_pulled(alloc, needs, taken.as_slice())
+}
+
+/// What is taken is the least of the closed sets of places.
+pub fn taken_is_the_least_closed_set()
+    ensures closed { (table : List Need) → IsClosed table (is_taken table) }
+    ensures least { (table : List Need) (set : ℕ → Bool) → IsClosed table set → (q : ℕ) → q < length table → is_taken table q ≡ true → set q ≡ true }
+{}
+
+/// The places that are taken.
+fn all_taken(alloc: Global, needs: &[Need], taken: &[bool]) -> Result<Places, AllocError>
+    requires few { length needs.now < 2 ^ 32 }
+    requires least { IsLeast needs.now taken.now }
+    ensures { IfOk result (λ places. places ≡ automatic_of needs.now) }
+{
+    let mut places = Places::new(alloc);
+    for place in 0..needs.len() {
+        if is_in(taken, place) {
+            places.push(place as u32)?;
+        }
+    }
+    Ok(places)
+}
+
+/// The places of the entries of Start 3 that are taken.
+fn all_pulled(alloc: Global, needs: &[Need], taken: &[bool]) -> Result<Places, AllocError>
+    requires few { length needs.now < 2 ^ 32 }
+    requires least { IsLeast needs.now taken.now }
+    ensures { IfOk result (λ places. places ≡ pulled_of needs.now) }
+{
+    let mut places = Places::new(alloc);
+    for place in 0..needs.len() {
+        if is_pulled(needs, taken, place) {
+            places.push(place as u32)?;
+        }
+    }
+    Ok(places)
+}
+
+fn is_in(taken: &[bool], place: usize) -> bool
+    requires { place < length taken.now }
+    ensures { result ≡ member taken.now place }
+{
+    taken[place]
+}
+
+/// Whether the entry at a place is taken and has Start 3.
+fn is_pulled(needs: &[Need], taken: &[bool], place: usize) -> bool
+    requires place { place < length needs.now }
+    requires len { length taken.now ≡ length needs.now }
+    ensures { result ≡ (starts_at needs.now 3 place && member taken.now place) }
+{
+    starts(needs, place, 3) && taken[place]
+}
+
+/// Whether the entry at `to` is not taken, and the one at `from` pulls it in.
+fn is_new(needs: &[Need], taken: &[bool], from: usize, to: usize) -> bool
+    requires from { from < length needs.now }
+    requires to { to < length needs.now }
+    requires len { length taken.now ≡ length needs.now }
+    ensures { result ≡ (not (member taken.now to) && pulls needs.now from to) }
+{
+    !taken[to] && pulls(needs, from, to)
+}
+
+/// Whether the entry at a place has this Start value.
+fn starts(needs: &[Need], place: usize, start: u32) -> bool
+    requires { place < length needs.now }
+    ensures { result ≡ starts_at needs.now start place }
+{
+    let need = &needs[place];
+    need.start == start
+}
+
+/// Whether the entry at `from` pulls in the one at `to`.
+fn pulls(needs: &[Need], from: usize, to: usize) -> bool
+    requires from { from < length needs.now }
+    requires to { to < length needs.now }
+    ensures { result ≡ pulls needs.now from to }
+{
+    let named = &needs[to];
+    let naming = &needs[from];
+    named.start == 3 && naming.depends_on(named.name.as_slice())
+}
+
+/// For each place, whether it is in the least set.
+fn least_set(alloc: Global, needs: &[Need]) -> Result<Vec<bool>, AllocError>
+    ensures { IfOk result (λ taken. IsLeast needs.now taken.items) }
+{
+    let mut taken = Vec::new(alloc);
+    let mut work = Vec::new(alloc);
+    for place in 0..needs.len() {
+        let first = starts(needs, place, 2);
+        taken.push(first)?;
+        if first {
+            work.push(place)?;
+        }
+    }
+    'work: while let Some(place) = work.pop() {
+        pull(needs, place, &mut taken, &mut work)?;
+    }
+    Ok(taken)
+}
+
+/// Whether the entry at a place names no other.
+fn is_alone(needs: &[Need], place: usize) -> bool
+    requires { place < length needs.now }
+    ensures { result ≡ is_alone needs.now place }
+{
+    let need = &needs[place];
+    need.services.as_slice().is_empty()
+}
+
+/// Takes in what the entry at a place pulls in, and notes as work what was not there before.
+fn pull(
+    needs: &[Need],
+    place: usize,
+    taken: &mut Vec<bool>,
+    work: &mut Vec<usize>,
+) -> Result<(), AllocError>
+    requires place { place < length needs.now }
+    requires work { IsWork needs.now taken.old.items work.old.items }
+    ensures work { OnOk result (IsWork needs.now taken.new.items work.new.items) }
+    ensures pulls { OnOk result (PullsIn needs.now place taken.old.items work.old.items taken.new.items work.new.items) }
+{
+    if is_alone(needs, place) {
+        return Ok(());
+    }
+    for q in 0..needs.len() {
+        if is_new(needs, taken.as_slice(), place, q) {
+            taken[q] = true;
+            work.push(q)?;
+        }
+    }
+    Ok(())
+}

@@ -1,0 +1,47 @@
+//! What an entry needs, and lists of such needs, of places in them, and of what was started.
+
+ghost use Rattle.std.specs.Prelude.{◌≡◌};
+ghost use Rattle.std.specs.List.{list_any};
+ghost use Rattle.nt_bytes.specs.Folding.{folds_same};
+
+use nt_bytes::{Names, Row, Units, same_folded};
+use std::marker::Model;
+
+/// An entry's name, Start value, own group, and the names and groups that it depends on.
+#[derive(Drop)]
+pub struct Need {
+    pub name: Units,
+    pub start: u32,
+    pub group: Option<Units>,
+    pub services: Names,
+    pub groups: Names,
+}
+
+impl Model for Need {
+    ghost use Rattle.start_model.specs.Demand.{Need as Needed};
+
+    ghost Value = { Needed };
+
+    ghost view = { λ a. record { name = a.name; start = a.start; group = a.group; services = a.services; groups = a.groups } };
+}
+
+impl Need {
+    /// Whether DependOnService has this name.
+    pub fn depends_on(&self, name: &[u16]) -> bool
+        ensures { result ≡ list_any (folds_same name.now) self.now.services }
+    {
+        self.services
+            .as_slice()
+            .iter()
+            .any(|s| same_folded(name, s.as_slice()))
+    }
+}
+
+/// Needs, in the order of the registry or of a phase.
+pub type Needs = Row<Need>;
+
+/// Places in a list, from 0.
+pub type Places = Row<u32>;
+
+/// Who was started, the first one first: the folded name, and the folded group where there is one.
+pub type Started = Row<(Units, Option<Units>)>;
