@@ -1,0 +1,54 @@
+//! The entries of a phase, each before the next.
+
+ghost use Rattle.std.specs.Prelude.{◌≡◌, slice_get, map, List, IfOk};
+ghost use Rattle.std.specs.List.{filter_map};
+ghost use Rattle.hive_model.specs.Valid.{HoldsKeys};
+ghost use Rattle.start_model.specs.Order.{plan_of};
+ghost use Rattle.boot_phases.specs.Phases.{phase_in};
+
+use crate::phase::{Phase, tags_count};
+use crate::rank::{Rank, in_order, ranks_at};
+use crate::taken::taken;
+use crate::tried::Tried;
+use group_order::read_orders;
+use nt_bytes::Names;
+use reg_tree::Key;
+use service_entries::{Entries, Entry, ServiceTable, entries};
+use std::alloc::{AllocError, Global};
+
+/// What a phase takes of a control set, in its order. `tried` has the names that were tried before in this
+/// start, which are not taken again.
+pub fn plan(alloc: Global, set: &Key, phase: Phase, tried: &Names) -> Result<Entries, AllocError>
+    requires { HoldsKeys set.now }
+    ensures { IfOk result (λ p. p ≡ plan_of set.now (phase_in phase) tried.now) }
+{
+    let table = entries(alloc, set)?;
+    let orders = read_orders(alloc, set)?;
+    let tried = Tried::new(alloc, tried)?;
+    let places = taken(alloc, &table, phase, &tried)?;
+    let mut ranks = ranks_at(alloc, &table, &orders, tags_count(phase), places.as_slice())?;
+    in_order(&mut ranks);
+    entries_at(alloc, &table, ranks.as_slice())
+}
+
+/// The entries of these ranks.
+fn entries_at(alloc: Global, table: &ServiceTable, ranks: &[Rank]) -> Result<Entries, AllocError>
+    ensures { IfOk result (λ e. e ≡ filter_map (λ r. slice_get table.now r.place) ranks.now) }
+{
+    let mut entries = Entries::new(alloc);
+    for rank in ranks {
+        if let Some(entry) = entry_at(alloc, table, rank)? {
+            entries.push(entry)?;
+        }
+    }
+    Ok(entries)
+}
+
+fn entry_at(alloc: Global, table: &ServiceTable, rank: &Rank) -> Result<Option<Entry>, AllocError>
+    ensures { IfOk result (λ e. e ≡ slice_get table.now rank.now.place) }
+{
+    match table.get(rank.place) {
+        Some(entry) => Ok(Some(entry.copy(alloc)?)),
+        None => Ok(None),
+    }
+}

@@ -1,0 +1,200 @@
+//! Which entries a phase takes.
+
+ghost use Rattle.std.specs.Prelude.{◌≡◌, ◌<◌, ◌^◌, false, slice_get, length, IfOk};
+ghost use Rattle.std.specs.List.{filter_map};
+ghost use Rattle.std.specs.Option.{option_map, option_map_or};
+ghost use Rattle.start_model.specs.Entries.{is_driver, is_driver_of, is_open, is_service, automatic_among, need_of, needs_at, places_of, taken_of};
+ghost use Rattle.boot_phases.specs.Phases.{phase_in};
+
+use crate::phase::Phase;
+use crate::tried::Tried;
+use dependencies::{Need, Needs, Places, automatic};
+use service_entries::{Entry, ServiceTable};
+use std::alloc::{AllocError, Global};
+
+/// The places of the entries that a phase takes, rising.
+pub(crate) fn taken(
+    alloc: Global,
+    table: &ServiceTable,
+    phase: Phase,
+    tried: &Tried,
+) -> Result<Places, AllocError>
+    ensures { IfOk result (λ p. p ≡ taken_of table.now (phase_in phase) tried.now) }
+{
+    match phase {
+        Phase::Boot => drivers(alloc, table, 0, tried),
+        Phase::System => drivers(alloc, table, 1, tried),
+        Phase::Automatic => automatic_places(alloc, table, tried),
+        Phase::Done => Ok(Places::new(alloc)),
+    }
+}
+
+// ---- drivers
+
+/// The places of the untried drivers of this Start.
+fn drivers(
+    alloc: Global,
+    table: &ServiceTable,
+    start: u32,
+    tried: &Tried,
+) -> Result<Places, AllocError>
+    ensures { IfOk result (λ p. p ≡ places_of (is_driver_of start tried.now) table.now) }
+{
+    let mut places = Places::new(alloc);
+    for place in 0..table.len() {
+        let takes = is_driver_at(alloc, table, place as u32, start, tried)?;
+        if takes {
+            places.push(place as u32)?;
+        }
+    }
+    Ok(places)
+}
+
+fn is_driver_at(
+    alloc: Global,
+    table: &ServiceTable,
+    place: u32,
+    start: u32,
+    tried: &Tried,
+) -> Result<bool, AllocError>
+    ensures { IfOk result (λ b. b ≡ option_map_or (is_driver_of start tried.now) (slice_get table.now place) false) }
+{
+    match table.get(place) {
+        Some(entry) => is_driver_of(alloc, entry, start, tried),
+        None => Ok(false),
+    }
+}
+
+fn is_driver_of(alloc: Global, entry: &Entry, start: u32, tried: &Tried) -> Result<bool, AllocError>
+    ensures { IfOk result (λ b. b ≡ is_driver_of start tried.now entry.now) }
+{
+    if !is_driver(entry.kind) || entry.start != start {
+        return Ok(false);
+    }
+    Ok(!tried.has(alloc, entry)?)
+}
+
+/// Whether this Type is that of a driver.
+fn is_driver(kind: u32) -> bool
+    ensures { result ≡ is_driver kind }
+{
+    kind & 0x0b != 0
+}
+
+/// Whether this Type is that of a service.
+fn is_service(kind: u32) -> bool
+    ensures { result ≡ is_service kind }
+{
+    kind & 0x30 != 0 && kind & 0x0b == 0
+}
+
+// ---- the automatic phase
+
+/// The places of the entries that the automatic phase takes.
+fn automatic_places(
+    alloc: Global,
+    table: &ServiceTable,
+    tried: &Tried,
+) -> Result<Places, AllocError>
+    ensures { IfOk result (λ p. p ≡ automatic_among table.now (places_of (is_open tried.now) table.now)) }
+{
+    let open = open_places(alloc, table, tried)?;
+    let needs = needs_at(alloc, table, open.as_slice())?;
+    let taken = automatic(alloc, &needs)?;
+    chosen(alloc, open.as_slice(), taken.as_slice())
+}
+
+/// The places of the untried drivers and services.
+fn open_places(alloc: Global, table: &ServiceTable, tried: &Tried) -> Result<Places, AllocError>
+    ensures places { IfOk result (λ p. p ≡ places_of (is_open tried.now) table.now) }
+    ensures few { IfOk result (λ p. length p < 2 ^ 32) }
+{
+    let mut places = Places::new(alloc);
+    for place in 0..table.len() {
+        let open = is_open_at(alloc, table, place as u32, tried)?;
+        if open {
+            places.push(place as u32)?;
+        }
+    }
+    Ok(places)
+}
+
+fn is_open_at(
+    alloc: Global,
+    table: &ServiceTable,
+    place: u32,
+    tried: &Tried,
+) -> Result<bool, AllocError>
+    ensures { IfOk result (λ b. b ≡ option_map_or (is_open tried.now) (slice_get table.now place) false) }
+{
+    match table.get(place) {
+        Some(entry) => is_open(alloc, entry, tried),
+        None => Ok(false),
+    }
+}
+
+fn is_open(alloc: Global, entry: &Entry, tried: &Tried) -> Result<bool, AllocError>
+    ensures { IfOk result (λ b. b ≡ is_open tried.now entry.now) }
+{
+    if !is_driver(entry.kind) && !is_service(entry.kind) {
+        return Ok(false);
+    }
+    Ok(!tried.has(alloc, entry)?)
+}
+
+/// What the entries at these places need.
+fn needs_at(alloc: Global, table: &ServiceTable, places: &[u32]) -> Result<Needs, AllocError>
+    requires { length places.now < 2 ^ 32 }
+    ensures needs { IfOk result (λ n. n ≡ needs_at table.now places.now) }
+    ensures few { IfOk result (λ n. length n < 2 ^ 32) }
+{
+    let mut needs = Needs::new(alloc);
+    for place in places {
+        if let Some(need) = need_at(alloc, table, *place)? {
+            needs.push(need)?;
+        }
+    }
+    Ok(needs)
+}
+
+fn need_at(alloc: Global, table: &ServiceTable, place: u32) -> Result<Option<Need>, AllocError>
+    ensures { IfOk result (λ n. n ≡ option_map need_of (slice_get table.now place)) }
+{
+    match table.get(place) {
+        Some(entry) => Ok(Some(need_of(alloc, entry)?)),
+        None => Ok(None),
+    }
+}
+
+/// What an entry needs.
+pub fn need_of(alloc: Global, entry: &Entry) -> Result<Need, AllocError>
+    ensures { IfOk result (λ n. n ≡ need_of entry.now) }
+{
+    let copy = entry.copy(alloc)?;
+    Ok(Need {
+        name: copy.name,
+        start: copy.start,
+        group: copy.group,
+        services: copy.services,
+        groups: copy.groups,
+    })
+}
+
+/// The places that stand at these indices of a list of places.
+fn chosen(alloc: Global, places: &[u32], indices: &[u32]) -> Result<Places, AllocError>
+    ensures { IfOk result (λ p. p ≡ filter_map (slice_get places.now) indices.now) }
+{
+    let mut chosen = Places::new(alloc);
+    for index in indices {
+        if let Some(place) = place_at(places, *index) {
+            chosen.push(place)?;
+        }
+    }
+    Ok(chosen)
+}
+
+fn place_at(places: &[u32], index: u32) -> Option<u32>
+    ensures { result ≡ slice_get places.now index }
+{
+    places.get(index as usize).copied()
+}
