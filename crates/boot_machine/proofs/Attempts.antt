@@ -1,0 +1,37 @@
+-- An attempt of the first ready entry, in its parts.
+use Rattle.std.proofs.Common.{◌≡◌, ℕ, ◌==◌, Bool, true, false, not, List, Option, Some, Result, Ok, Err, subst, refl, ap, ◌∙◌}
+use Rattle.std.specs.Prelude.{if◌then◌else◌, IfOk}
+use Rattle.start_model.specs.Entries.{Entry}
+use Rattle.start_model.specs.Judge.{Judgement, Ignore, judgement_of}
+use Rattle.start_model.specs.Machine.{MachineState, Start, failures_of, one_failure_less, attempt_in, attempt_of}
+use Rattle.boot_machine.specs.declared.tried.Tried as code
+use Rattle.boot_machine.specs.Steps.{TakesNext, noted}
+use Rattle.boot_machine.specs.Views.{tried_in}
+
+not_not : (b : Bool) → not (not b) ≡ b
+not_not true = refl
+not_not false = refl
+
+pub attempted : (m : MachineState) (s s1 s2 : Start) (old fs : List (List ℕ × ℕ)) (usable : Bool) (e : Entry) (fails : Bool) (word : Judgement)
+    → TakesNext s s1 e → s2 ≡ noted s1 e (not fails) → m.failures ≡ old → fails ≡ not (failures_of old e.name == 0) → fs ≡ one_failure_less old e.name
+    → word ≡ (if not fails then Ignore else judgement_of e.control s.on_good usable)
+    → attempt_in m s usable ≡ Some (record m { start = Some s2; failures = fs }, record { name = e.name; ok = not fails; judgement = word })
+attempted m s s1 s2 old fs usable e fails word t n same f l w =
+    let ok : not fails ≡ (failures_of old e.name == 0) = ap not f ∙ not_not (failures_of old e.name == 0) in
+    rw (t.next, t.entry, n, t.taken, l, w, same, ok) refl
+
+attempt_running : (m : MachineState) (s : Start) (usable : Bool) → m.start ≡ Some s → attempt_of m usable ≡ attempt_in m s usable
+unfolding attempt_of
+attempt_running m s usable h = rw h refl
+
+abbrev made : Option Start → List (List ℕ × ℕ) → Bool → MachineState
+made start failures due = record { start = start; failures = failures; fallback_due = due }
+
+pub attempt_whole : {E : Type 0} (m : MachineState) (inner : Option Start) (s s2 : Start) (old fs : List (List ℕ × ℕ)) (due usable : Bool) (r : Result code.Tried E)
+    → made inner old due ≡ m → inner ≡ Some s
+    → IfOk r (λ t. (m : MachineState) → m.failures ≡ old → attempt_in m s usable ≡ Some (record m { start = Some s2; failures = fs }, tried_in t))
+    → IfOk r (λ t. attempt_of m usable ≡ Some (made (Some s2) fs due, tried_in t))
+attempt_whole m inner s s2 old fs due usable (Ok t) same running h =
+    subst (λ (m : MachineState). attempt_of m usable ≡ Some (made (Some s2) fs due, tried_in t)) same
+    (attempt_running (made inner old due) s usable running ∙ h (made inner old due) refl)
+attempt_whole m inner s s2 old fs due usable (Err e) same running h = tt

@@ -1,0 +1,3 @@
+pub mod Places
+pub mod Noted
+pub mod Attempts

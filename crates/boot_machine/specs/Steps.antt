@@ -1,0 +1,50 @@
+-- What are the steps of the machine, where the book has no word for them? (this project's own)
+use Rattle.std.specs.Prelude.{◌≡◌, ℕ, Bool, true, false, not, [], ◌∷◌, ◌++◌, slice_get, remove, Option, Some, None, option_map, if◌then◌else◌}
+use Rattle.nt_bytes.specs.Folding.{folded}
+use Rattle.start_model.specs.Entries.{Entry}
+use Rattle.start_model.specs.Lines.{Verdict, Good, GoodUnsaved, Running, FallBack, Stopped, Cut, Device, Full, NoNumber, NoEntry, OtherLoader, NoSystem, NoControlSet, NoLastKnownGood}
+use Rattle.start_model.specs.Machine.{Start, MachineState, next_in, label_of}
+
+abbrev pub is_there : {X : Type 0} → Option X → Bool
+is_there None = false
+is_there (Some x) = true
+
+-- the running start is changed; nothing is done where none runs
+abbrev pub on_start : (Start → Start) → MachineState → MachineState
+on_start change m = record m { start = option_map change m.start }
+
+-- no start runs that has an entry to attempt
+abbrev pub is_at_end : Option Start → Bool
+is_at_end None = true
+is_at_end (Some s) = not (is_there (next_in s))
+
+-- the first ready entry is taken out of the waiting ones
+pub record TakesNext (old new : Start) (e : Entry) : Type 0 where
+  pub place : ℕ
+  pub next : next_in old ≡ Some place
+  pub entry : slice_get old.waiting place ≡ Some e
+  pub taken : new ≡ record old { waiting = remove old.waiting place }
+
+-- an attempt is noted: the name as tried, and the entry as started where it was
+abbrev pub noted : Start → Entry → Bool → Start
+noted s e ok = record s {
+  tried = s.tried ++ folded e.name ∷ [];
+  started = if ok then s.started ++ label_of e ∷ [] else s.started;
+}
+
+-- the verdict after which the next start takes LastKnownGood
+abbrev pub falls_back : Verdict → Bool
+falls_back Good = false
+falls_back GoodUnsaved = false
+falls_back Running = false
+falls_back FallBack = true
+falls_back Stopped = false
+falls_back Cut = false
+falls_back Device = false
+falls_back Full = false
+falls_back NoNumber = false
+falls_back NoEntry = false
+falls_back OtherLoader = false
+falls_back NoSystem = false
+falls_back NoControlSet = false
+falls_back NoLastKnownGood = false

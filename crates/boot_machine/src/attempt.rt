@@ -1,0 +1,47 @@
+//! An attempt of an entry.
+
+ghost use Rattle.std.specs.Prelude.{◌≡◌, true, IfOk, Some, if◌then◌else◌};
+ghost use Rattle.error_control.specs.Judgement.{judgement_in};
+ghost use Rattle.start_model.specs.Judge.{Ignore, judgement_of};
+ghost use Rattle.start_model.specs.Machine.{MachineState, next_in, attempt_in};
+ghost use Rattle.boot_machine.specs.Steps.{is_there};
+ghost use Rattle.boot_machine.specs.Views.{tried_in};
+
+use crate::failures::Failures;
+use crate::start::Start;
+use crate::tried::Tried;
+use error_control::{Judgement, judge};
+use std::alloc::{AllocError, Global};
+
+/// Attempts the first ready entry. It fails where a failure of its name is to come, which is then taken.
+pub(crate) fn attempt(
+    alloc: Global,
+    start: &mut Start,
+    failures: &mut Failures,
+    usable: bool,
+) -> Result<Tried, AllocError>
+    requires { is_there (next_in start.old) ≡ true }
+    ensures { IfOk result (λ t. (m : MachineState) → m.failures ≡ failures.old → attempt_in m start.old usable ≡ Some (record m { start = Some start.new; failures = failures.new }, tried_in t)) }
+{
+    let on_good = start.on_good();
+    let entry = start.take_next();
+    let ok = !failures.take(entry.name.as_slice());
+    start.note(alloc, &entry, ok)?;
+    let judgement = judged(ok, entry.control, on_good, usable);
+    Ok(Tried {
+        name: entry.name,
+        ok,
+        judgement,
+    })
+}
+
+/// What follows from an attempt.
+fn judged(ok: bool, control: u32, on_good: bool, usable: bool) -> Judgement
+    ensures { judgement_in result ≡ (if ok then Ignore else judgement_of control on_good usable) }
+{
+    if ok {
+        Judgement::Ignore
+    } else {
+        judge(control, on_good, usable)
+    }
+}

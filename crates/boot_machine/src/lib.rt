@@ -1,0 +1,22 @@
+//! The machine of a start, step by step.
+//!
+//! `Machine` is seen as the book's machine: a start that runs, the failures to come, and whether the
+//! next start falls back. Each call is one named step of it. It knows nothing of a disk or of a tree but
+//! the control set that it is handed. After want of memory nothing is said of the machine. Rules:
+//! Windows Internals, 4th edition, startup; docs/startup.md.
+#![tactic(auto)]
+
+mod accept;
+mod attempt;
+mod failures;
+mod machine;
+mod place;
+mod refusal;
+mod start;
+mod tried;
+
+pub use boot_phases::Phase;
+pub use error_control::Judgement;
+pub use machine::Machine;
+pub use refusal::Refusal;
+pub use tried::Tried;

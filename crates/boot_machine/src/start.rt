@@ -1,0 +1,281 @@
+//! A start that runs.
+
+ghost use Rattle.std.specs.Prelude.{◌≡◌, ◌∷◌, [], ◌++◌, ◌<◌, true, not, Some, None, map, length, IfOk, IfSome, OnOk, option_map, if◌then◌else◌};
+ghost use Rattle.std.specs.Option.{option_copied};
+ghost use Rattle.nt_bytes.specs.Folding.{folded};
+ghost use Rattle.hive_model.specs.Valid.{HoldsKeys};
+ghost use Rattle.boot_phases.specs.Phases.{phase_in};
+ghost use Rattle.boot_report.specs.Report.{verdict_of};
+ghost use Rattle.start_model.specs.Machine.{next_in, label_of, phase_after, unmet_in, after_phase, begun_with, is_done, takes_logons, is_good, save_due, ending_with, ending_of};
+ghost use Rattle.boot_machine.specs.Steps.{is_there, TakesNext, noted};
+
+use crate::failures::folded_units;
+use crate::place::next_place;
+use boot_phases::{Phase, plan};
+use boot_report::Verdict;
+use dependencies::Started;
+use nt_bytes::{Names, Units};
+use reg_tree::Key;
+use service_entries::Entry;
+use std::alloc::{AllocError, Global};
+use std::marker::Model;
+
+/// A start that runs.
+#[derive(Drop)]
+pub(crate) struct Start {
+    pub(crate) number: u32,
+    pub(crate) on_good: bool,
+    pub(crate) phase: Phase,
+    pub(crate) waiting: Vec<Entry>,
+    /// Folded.
+    pub(crate) tried: Names,
+    pub(crate) started: Started,
+    pub(crate) logged_on: bool,
+    pub(crate) saved: Option<bool>,
+    pub(crate) clone: Option<Key>,
+}
+
+impl Model for Start {
+    ghost use Rattle.start_model.specs.Machine.{Start as Running};
+    ghost use Rattle.boot_machine.specs.Codes.{coded_start};
+    ghost use Rattle.boot_phases.specs.Phases.{phase_in};
+
+    ghost Value = { Running };
+
+    ghost coded = { coded_start };
+
+    ghost view = { λ a. record { number = a.number; on_good = a.on_good; phase = phase_in a.phase; waiting = a.waiting.items; tried = a.tried; started = a.started; logged_on = a.logged_on; saved = a.saved; clone = a.clone } };
+}
+
+impl Start {
+    /// A start at the beginning of its boot phase. It copies the set as its clone.
+    pub(crate) fn begun(
+        alloc: Global,
+        set: &Key,
+        number: u32,
+        on_good: bool,
+    ) -> Result<Start, AllocError>
+        requires { HoldsKeys set.now }
+        ensures { IfOk result (λ s. s ≡ begun_with set.now number on_good) }
+    {
+        let tried = Names::new(alloc);
+        let waiting = plan(alloc, set, Phase::Boot, &tried)?;
+        let clone = set.copy(alloc)?;
+        Ok(Start {
+            number,
+            on_good,
+            phase: Phase::Boot,
+            waiting: waiting.into_vec(),
+            tried,
+            started: Started::new(alloc),
+            logged_on: false,
+            saved: None,
+            clone: Some(clone),
+        })
+    }
+
+    pub(crate) fn phase(&self) -> Phase
+        ensures { phase_in result ≡ self.now.phase }
+    {
+        self.phase
+    }
+
+    pub(crate) fn logged_on(&self) -> bool
+        ensures { result ≡ self.now.logged_on }
+    {
+        self.logged_on
+    }
+
+    /// It took LastKnownGood.
+    pub(crate) fn on_good(&self) -> bool
+        ensures { result ≡ self.now.on_good }
+    {
+        self.on_good
+    }
+
+    /// The number of the set that it took, and whether it took LastKnownGood.
+    pub(crate) fn set(&self) -> (u32, bool)
+        ensures { result ≡ (self.now.number, self.now.on_good) }
+    {
+        (self.number, self.on_good)
+    }
+
+    /// Whether no waiting entry is ready.
+    pub(crate) fn is_at_end(&self) -> bool
+        ensures { result ≡ not (is_there (next_in self.now)) }
+    {
+        self.next().is_none()
+    }
+
+    /// The place among the waiting of the next attempt.
+    pub(crate) fn next(&self) -> Option<usize>
+        ensures place { result ≡ next_in self.now }
+        ensures within { IfSome result (λ at. at < length self.now.waiting) }
+    {
+        next_place(self.waiting.as_slice(), &self.started)
+    }
+
+    /// Takes the first ready entry out of the waiting ones.
+    pub(crate) fn take_next(&mut self) -> Entry
+        requires { is_there (next_in self.old) ≡ true }
+        ensures { TakesNext self.old self.new result }
+    {
+        let at = self.next().unwrap();
+        self.waiting.remove(at)
+    }
+
+    /// Notes an attempt.
+    pub(crate) fn note(&mut self, alloc: Global, entry: &Entry, ok: bool) -> Result<(), AllocError>
+        ensures { OnOk result (self.new ≡ noted self.old entry.now ok) }
+    {
+        let name = folded_units(alloc, entry.name.as_slice())?;
+        self.tried.push(name)?;
+        note_started(alloc, &mut self.started, entry, ok)
+    }
+
+    /// Goes on to the next phase, whose entries the set has now, and answers the names of those that wait.
+    pub(crate) fn next_phase(&mut self, alloc: Global, set: &Key) -> Result<Names, AllocError>
+        requires { HoldsKeys set.now }
+        ensures start { IfOk result (λ _. self.new ≡ after_phase set.now self.old) }
+        ensures unmet { IfOk result (λ names. names ≡ unmet_in self.old) }
+    {
+        let phase = phase_after(self.phase);
+        let waiting = plan(alloc, set, phase, &self.tried)?;
+        let unmet = names_of(alloc, self.waiting.as_slice())?;
+        self.phase = phase;
+        self.waiting = waiting.into_vec();
+        Ok(unmet)
+    }
+
+    pub(crate) fn log_on(&mut self)
+        ensures { self.new ≡ record self.old { logged_on = true } }
+    {
+        self.logged_on = true;
+    }
+
+    /// Notes whether the good start was saved.
+    pub(crate) fn note_saved(&mut self, ok: bool)
+        ensures { self.new ≡ record self.old { saved = Some ok } }
+    {
+        self.saved = Some(ok);
+    }
+
+    pub(crate) fn take_clone(&mut self) -> Option<Key>
+        ensures clone { result ≡ self.old.clone }
+        ensures taken { self.new ≡ record self.old { clone = None } }
+    {
+        self.clone.take()
+    }
+
+    /// Whether the start is good and no save was tried.
+    pub(crate) fn save_due(&self) -> bool
+        ensures { result ≡ save_due self.now }
+    {
+        self.is_good() && self.saved.is_none()
+    }
+
+    fn is_good(&self) -> bool
+        ensures { result ≡ is_good self.now }
+    {
+        is_done(self.phase) && self.logged_on
+    }
+
+    /// The verdict where the start ends by switching off, or with the script.
+    pub(crate) fn ending(&self) -> Verdict
+        ensures { verdict_of result ≡ ending_of self.now }
+    {
+        if self.is_good() {
+            ending_with(self.saved)
+        } else {
+            Verdict::Running
+        }
+    }
+}
+
+fn ending_with(saved: Option<bool>) -> Verdict
+    ensures { verdict_of result ≡ ending_with saved }
+{
+    match saved {
+        Some(true) => Verdict::Good,
+        Some(false) => Verdict::GoodUnsaved,
+        None => Verdict::GoodUnsaved,
+    }
+}
+
+// ---- phases
+
+fn phase_after(phase: Phase) -> Phase
+    ensures { phase_in result ≡ phase_after (phase_in phase) }
+{
+    match phase {
+        Phase::Boot => Phase::System,
+        Phase::System => Phase::Automatic,
+        Phase::Automatic | Phase::Done => Phase::Done,
+    }
+}
+
+pub(crate) fn is_done(phase: Phase) -> bool
+    ensures { result ≡ is_done (phase_in phase) }
+{
+    match phase {
+        Phase::Done => true,
+        Phase::Boot | Phase::System | Phase::Automatic => false,
+    }
+}
+
+/// Whether a user may log on in the phase.
+pub(crate) fn takes_logons(phase: Phase) -> bool
+    ensures { result ≡ takes_logons (phase_in phase) }
+{
+    match phase {
+        Phase::Automatic | Phase::Done => true,
+        Phase::Boot | Phase::System => false,
+    }
+}
+
+// ---- names
+
+/// The names of the entries.
+fn names_of(alloc: Global, entries: &[Entry]) -> Result<Names, AllocError>
+    ensures { IfOk result (λ names. names ≡ map (λ e. e.name) entries.now) }
+{
+    let mut names = Names::new(alloc);
+    for entry in entries {
+        names.push(Units::from_slice(alloc, entry.name.as_slice())?)?;
+    }
+    Ok(names)
+}
+
+/// Notes an entry as started where it was.
+fn note_started(
+    alloc: Global,
+    started: &mut Started,
+    entry: &Entry,
+    ok: bool,
+) -> Result<(), AllocError>
+    ensures { OnOk result (started.new ≡ (if ok then started.old ++ label_of entry.now ∷ [] else started.old)) }
+{
+    if ok {
+        let label = label(alloc, entry)?;
+        started.push(label)?;
+    }
+    Ok(())
+}
+
+/// The folded name, and the folded group where there is one.
+fn label(alloc: Global, entry: &Entry) -> Result<(Units, Option<Units>), AllocError>
+    ensures { IfOk result (λ l. l ≡ label_of entry.now) }
+{
+    let name = folded_units(alloc, entry.name.as_slice())?;
+    let group = folded_group(alloc, entry.group.as_ref())?;
+    Ok((name, group))
+}
+
+fn folded_group(alloc: Global, group: Option<&Units>) -> Result<Option<Units>, AllocError>
+    ensures { IfOk result (λ g. g ≡ option_map folded (option_copied group.entry)) }
+{
+    match group {
+        Some(name) => Ok(Some(folded_units(alloc, name.as_slice())?)),
+        None => Ok(None),
+    }
+}
