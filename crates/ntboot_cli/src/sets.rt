@@ -1,0 +1,103 @@
+//! The control sets of a tree.
+
+ghost use Rattle.std.specs.Prelude.{◌≤◌, IfSome};
+ghost use Rattle.hive_model.specs.Valid.{HoldsKeys};
+
+use reg_tree::Key;
+use std::marker::Model;
+
+/// The four numbers of `Select`, each 0 where it is absent or no DWORD.
+#[derive(Clone, Copy)]
+pub(crate) struct SelectNumbers {
+    pub current: u32,
+    pub default: u32,
+    pub failed: u32,
+    pub good: u32,
+}
+
+impl Model for SelectNumbers {
+    ghost use Rattle.start_model.specs.Sets.{SelectNumbers as Numbers};
+
+    ghost Value = { Numbers };
+
+    ghost view = { λ a. record { current = a.current; default = a.default; failed = a.failed; good = a.good } };
+
+    ghost inverse = { λ n. record { current = n.current; default = n.default; failed = n.failed; good = n.good } };
+}
+
+/// `Select`.
+const SELECT: [u16; 6] = [0x53, 0x65, 0x6c, 0x65, 0x63, 0x74];
+
+/// `Current`.
+const CURRENT: [u16; 7] = [0x43, 0x75, 0x72, 0x72, 0x65, 0x6e, 0x74];
+
+/// `Default`.
+const DEFAULT: [u16; 7] = [0x44, 0x65, 0x66, 0x61, 0x75, 0x6c, 0x74];
+
+/// `Failed`.
+const FAILED: [u16; 6] = [0x46, 0x61, 0x69, 0x6c, 0x65, 0x64];
+
+/// `LastKnownGood`.
+const GOOD: [u16; 13] = [
+    0x4c, 0x61, 0x73, 0x74, 0x4b, 0x6e, 0x6f, 0x77, 0x6e, 0x47, 0x6f, 0x6f, 0x64,
+];
+
+/// A number of the key, 0 where it is absent or no DWORD.
+fn number_in(name: &[u16], select: Option<&Key>) -> u32 {
+    match select {
+        None => 0,
+        Some(key) => match key.dword(name) {
+            Some(number) => number,
+            None => 0,
+        },
+    }
+}
+
+pub(crate) fn select_numbers(tree: &Key) -> SelectNumbers {
+    let select = tree.child(&SELECT);
+    SelectNumbers {
+        current: number_in(&CURRENT, select),
+        default: number_in(&DEFAULT, select),
+        failed: number_in(&FAILED, select),
+        good: number_in(&GOOD, select),
+    }
+}
+
+/// The digit of a number at this power of ten.
+fn digit(number: u32, power: u32) -> u16
+    requires { 1 ≤ power }
+{
+    48 + (number / power % 10) as u16
+}
+
+/// The set of a number, where the number is from 1 to 999 and the root has the set.
+#[tactic(auto, using(hive_model::proofs::HeldLemmas::held_child))]
+pub(crate) fn set_of(tree: &Key, number: u32) -> Option<&Key>
+    requires { HoldsKeys tree.now }
+    ensures { IfSome result (λ set. HoldsKeys set.now) }
+{
+    if number < 1 || 999 < number {
+        return None;
+    }
+    let name: [u16; 13] = [
+        0x43,
+        0x6f,
+        0x6e,
+        0x74,
+        0x72,
+        0x6f,
+        0x6c,
+        0x53,
+        0x65,
+        0x74,
+        digit(number, 100),
+        digit(number, 10),
+        digit(number, 1),
+    ];
+    tree.child(&name)
+}
+
+/// Whether the beginning of a start on Default changes nothing: Current is Default, and LastKnownGood names another set.
+pub(crate) fn begins_unchanged(numbers: SelectNumbers) -> bool {
+    numbers.current == numbers.default && numbers.good != numbers.default
+}

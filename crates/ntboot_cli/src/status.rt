@@ -1,0 +1,44 @@
+//! How a call of the program ends.
+
+/// The exit status. What is said with it is one line, but for `Done` and a run that came to what is not built.
+#[derive(Clone, Copy, Debug, PartialEq, Eq)]
+pub enum Status {
+    /// All was done; the report was said.
+    Done,
+    /// The words have no reading. Said: `bad usage`.
+    Usage,
+    /// A file that the words name is absent. Said: `no file NAME`.
+    NoFile,
+    /// The script has no reading. Said: `script fault LINE KIND`.
+    ScriptFault,
+    /// boot.ini is over 65,536 bytes, or has over 64 entries. Said: `boot.ini fault KIND`.
+    BootIniFault,
+    /// The hive has a fault. Said: `hive fault KIND at OFFSET`.
+    HiveFault,
+    /// A file could not be read: the host's count of read faults rose. Nothing more is said.
+    ReadFault,
+    /// Something could not be said: the host's count of write faults rose. Nothing more is said.
+    WriteFault,
+    /// What was asked for isn't built yet. Said last: `not built`.
+    NotBuilt,
+    /// There was no memory. Nothing more is said.
+    Memory,
+}
+
+impl Status {
+    /// The program's exit number.
+    pub fn code(self) -> u8 {
+        match self {
+            Status::Done => 0,
+            Status::Usage => 1,
+            Status::NoFile => 2,
+            Status::ScriptFault => 3,
+            Status::BootIniFault => 4,
+            Status::HiveFault => 5,
+            Status::ReadFault => 6,
+            Status::WriteFault => 7,
+            Status::NotBuilt => 8,
+            Status::Memory => 9,
+        }
+    }
+}
