@@ -1,0 +1,51 @@
+#!/usr/bin/env python3
+"""Runs the built program over tests/runs: in each folder `words` (one a line) and the input files, and what must be said
+(`stdout`) with which exit status (`status`). Prints each run that differs, then 'N passed, N failed'."""
+import os
+import shutil
+import subprocess
+import sys
+import tempfile
+
+HERE = os.path.dirname(os.path.abspath(__file__))
+PROGRAM = os.path.join(HERE, "..", "crates", "ntboot", "out", "ntboot")
+
+
+def read(path):
+    with open(path, "rb") as f:
+        return f.read()
+
+
+def run(program, folder):
+    """What the program says in a fresh folder with the inputs, and its exit status."""
+    with tempfile.TemporaryDirectory() as room:
+        for part in os.listdir(folder):
+            if part not in ("words", "stdout", "status"):
+                shutil.copy(os.path.join(folder, part), room)
+        words = read(os.path.join(folder, "words")).decode().split("\n")[:-1]
+        done = subprocess.run([program, *words], cwd=room, capture_output=True, timeout=120)
+        return done.stdout, done.returncode
+
+
+def main(words):
+    program = os.path.abspath(words[0] if words else PROGRAM)
+    if not os.path.exists(program):
+        print("no built program: run `rt ci` at the top first")
+        return 1
+    runs = os.path.join(HERE, "runs")
+    passed = failed = 0
+    for name in sorted(os.listdir(runs)):
+        folder = os.path.join(runs, name)
+        said, status = run(program, folder)
+        want, want_status = read(os.path.join(folder, "stdout")), int(read(os.path.join(folder, "status")))
+        if said == want and status == want_status:
+            passed += 1
+            continue
+        failed += 1
+        print(f"{name}: exit {status}, wanted {want_status}; said {said[:400]!r}, wanted {want[:400]!r}")
+    print(f"{passed} passed, {failed} failed")
+    return 1 if failed or not passed else 0
+
+
+if __name__ == "__main__":
+    sys.exit(main(sys.argv[1:]))
