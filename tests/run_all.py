@@ -27,6 +27,17 @@ def run(program, folder):
         return done.stdout, done.returncode
 
 
+def failing_hosts(program):
+    """A host whose first read fails, and one to which nothing can be said: each with its exit status, and what was said."""
+    with tempfile.TemporaryDirectory() as room:
+        os.mkdir(os.path.join(room, "script"))
+        words = [program, "run", "--hive", "hive", "--script", "script"]
+        read = subprocess.run(words, cwd=room, capture_output=True, timeout=120)
+        with open("/dev/full", "wb") as full:
+            write = subprocess.run(words[:1], cwd=room, stdout=full, timeout=120)
+    return [("a_read_fails", read.returncode, 6, read.stdout), ("nothing_can_be_said", write.returncode, 7, b"")]
+
+
 def main(words):
     program = os.path.abspath(words[0] if words else PROGRAM)
     if not os.path.exists(program):
@@ -43,6 +54,12 @@ def main(words):
             continue
         failed += 1
         print(f"{name}: exit {status}, wanted {want_status}; said {said[:400]!r}, wanted {want[:400]!r}")
+    for name, status, want_status, said in failing_hosts(program):
+        if status == want_status and said == b"":
+            passed += 1
+        else:
+            failed += 1
+            print(f"{name}: exit {status}, wanted {want_status}; said {said!r}")
     print(f"{passed} passed, {failed} failed")
     return 1 if failed or not passed else 0
 
