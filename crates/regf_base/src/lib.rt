@@ -8,6 +8,8 @@
 mod base;
 mod spelling;
 mod sum;
+#[cfg(test)]
+mod tests;
 
 pub use base::{BaseBlock, read_base};
 pub use spelling::{base_bytes, what_is_spelled_is_read_back};
