@@ -60,6 +60,7 @@ checksum_of sector = moved_off (mixed_words 127 sector)
 abbrev pub is_bins_size : ℕ → Bool
 is_bins_size size = (size % 4096 == 0) && (nat_le 4096 size && nat_le size 16777216)
 
+-- a fault of this kind at this byte
 abbrev pub fault_at : HiveKind → ℕ → HiveFault
 fault_at kind at = record { kind = kind; at = at }
 
@@ -95,6 +96,7 @@ fields_of sector = record {
   rest = slice_range sector 112 508;
 }
 
+-- the base block, unless there is a fault: then that
 abbrev pub unless_fault : Option HiveFault → Base → Result Base HiveFault
 unless_fault None base = Ok base
 unless_fault (Some fault) base = Err fault

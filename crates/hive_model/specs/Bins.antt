@@ -62,7 +62,7 @@ spelled at (b ∷ bs) = bin_bytes at b ++ spelled (at + bin_size b) bs
 
 -- ---- what has a spelling
 
--- a cell that can be spelled: of whole eight bytes, at least eight
+-- a cell that can be spelled: of whole eight bytes, at least eight and under 2,147,483,648
 pub record IsCell (c : Cell) : Type 0 where
   pub least : 8 ≤ cell_size c
   pub whole : cell_size c % 8 ≡ 0
@@ -74,7 +74,7 @@ pub record IsBin (b : Bin) : Type 0 where
   pub whole : bin_size b % 4096 ≡ 0
   pub cells : AllByRecursion IsCell b.cells
 
--- bins that can be spelled as the bins data of a hive
+-- bins that can be spelled as the bins data of a hive: at most 16,777,216 bytes together
 pub record IsHeap (bins : List Bin) : Type 0 where
   pub each : AllByRecursion IsBin bins
   pub small : bins_size bins ≤ 16777216
@@ -194,8 +194,10 @@ Sees view (Err e) answer = answer ≡ Err e
 
 -- ---- cells and bins as the logic codes them
 
+-- a cell as the pair of its flag and its payload, by which the logic tells cells apart
 abbrev pub coded_cell : Coded Cell
 coded_cell = code_by (Bool × List ℕ) (coded× coded_bool (coded_list coded_ℕ)) (λ c. (c.used, c.payload)) (λ p. record { used = p.0; payload = p.1 }) (λ _. refl)
 
+-- a bin as the pair of its ignored bytes and its cells, by which the logic tells bins apart
 abbrev pub coded_bin : Coded Bin
 coded_bin = code_by (List ℕ × List Cell) (coded× (coded_list coded_ℕ) (coded_list coded_cell)) (λ b. (b.ignored, b.cells)) (λ p. record { ignored = p.0; cells = p.1 }) (λ _. refl)

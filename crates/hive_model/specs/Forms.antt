@@ -195,7 +195,7 @@ pub record KeyValue : Type 0 where
   pub flags : ℕ
   pub name : List ℕ
 
--- the bit 1: the name has one byte a unit
+-- the lowest bit, of value 1: the name has one byte a unit
 abbrev pub is_narrow_value : ℕ → Bool
 is_narrow_value flags = flags % 2 == 1
 

@@ -12,7 +12,8 @@ pub record Address : Type 0 where
   pub file : File
   pub sector : ℕ
 
--- what a sector has
+-- what a sector has: its bytes, of which a disk's sector has 512. That is not asked here, since a read and a write of a disk
+-- are of 512 bytes
 pub data Content : Type 0 where
   Bytes : List ℕ → Content
 

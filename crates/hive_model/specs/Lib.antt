@@ -5,6 +5,7 @@ pub mod Walk
 pub mod Stands
 pub mod Packed
 pub mod Edit
+pub mod Footprint
 pub mod Image
 pub mod Base
 pub mod Recovery

@@ -4,7 +4,8 @@ use Rattle.std.specs.Prelude.{◌+◌, ◌-◌, ◌*◌, ◌/◌, ◌&&◌, Bool
 use Rattle.hive_model.specs.Base.{Base, base_text}
 use Rattle.hive_model.specs.Recovery.{sector, one_if, bitmap_sectors}
 
--- sector i of the new data is not that of the old: all 512 bytes have to be there in the old data and equal
+-- sector i of the new data, which has one of this number, is not that of the old: all 512 bytes have to be there in the old
+-- data and equal
 abbrev pub dirty : List ℕ → List ℕ → ℕ → Bool
 dirty old new i = not (nat_le (512 * i + 512) (length old) && bytes_eq (sector old i) (sector new i))
 

@@ -92,15 +92,17 @@ abbrev mutual
   pub ring : List ℕ → ℕ → Tree → List ℕ
   ring shared at (key h ts) = own_place shared (descriptor_place at h) h.security ++ ring_of_all h.security (first_child shared at h (count ts)) ts
 
+  -- where security cells stand in trees one behind another from here on, under a key with this descriptor, in order
   pub ring_of_all : List ℕ → ℕ → Trees → List ℕ
   ring_of_all shared at none = []
   ring_of_all shared at (more t ts) = ring shared at t ++ ring_of_all shared (at + size shared t) ts
 
--- the first of a list, or the last
+-- the first of a list, or else this
 abbrev pub first_or : ℕ → List ℕ → ℕ
 first_or d [] = d
 first_or d (x ∷ xs) = x
 
+-- the last of a list, or else this
 abbrev pub last_or : ℕ → List ℕ → ℕ
 last_or d [] = d
 last_or d (x ∷ xs) = last_or x xs
@@ -115,18 +117,20 @@ abbrev pub ahead : ℕ → List ℕ → ℕ → ℕ
 ahead otherwise [] at = otherwise
 ahead otherwise (x ∷ xs) at = if x == at then otherwise else ahead x xs at
 
--- the links of the security cell at a place: behind the last stands the first (regf format, Key security)
+-- the place of the security cell behind the one at a place; behind the last stands the first (regf format, Key security)
 abbrev pub forward : List ℕ → ℕ → ℕ
 forward places at = behind (first_or 0 places) places at
 
+-- the place of the security cell before the one at a place; before the first stands the last (regf format, Key security)
 abbrev pub backward : List ℕ → ℕ → ℕ
 backward places at = ahead (last_or 0 places) places at
 
--- how many keys use the descriptor of the key above them, in a tree or among trees
+-- how many keys of a tree use this descriptor's cell, as the key above does: those that have it, as each key between does
 abbrev mutual
   pub sharers : List ℕ → Tree → ℕ
   sharers s (key h ts) = if pointwise nat_eq s h.security then 1 + sharers_of_all s ts else 0
 
+  -- how many keys of these trees use this descriptor's cell, as the key above them does
   pub sharers_of_all : List ℕ → Trees → ℕ
   sharers_of_all s none = 0
   sharers_of_all s (more t ts) = sharers s t + sharers_of_all s ts
@@ -153,13 +157,15 @@ security_place_of up at (b ∷ s) = if has_own up.security (b ∷ s) then at els
 abbrev pub below : Above → ℕ → Head → Above
 below up at h = record { place = at; security = h.security; security_place = security_place_of up (descriptor_place at h) h.security; ring = up.ring }
 
--- where the value list, the subkey list and the children of a key begin
+-- where the value list of a key begins
 abbrev pub values_place : Above → ℕ → Head → ℕ
 values_place up at h = descriptor_place at h + security_size up.security h.security
 
+-- where the subkey list of a key begins
 abbrev pub list_place : Above → ℕ → Head → ℕ
 list_place up at h = values_place up at h + items_size h.values
 
+-- where the first child of a key with n children begins
 abbrev pub children_place : Above → ℕ → Head → ℕ → ℕ
 children_place up at h n = list_place up at h + list_size n
 
@@ -244,7 +250,7 @@ hint t = hint_of (is_narrow (head t).name) (head t).name
 
 -- ---- a tree
 
--- the cells of a key and all below it, and of keys one behind another
+-- the cells of a key that stands here, and of all below it
 abbrev mutual
   pub cells_of : Above → ℕ → Tree → List (List ℕ)
   cells_of up at (key h ts) =
@@ -252,6 +258,7 @@ abbrev mutual
       ++ (list_cells (list_place up at h) (places h.security (children_place up at h (count ts)) ts) (map hint (listed ts))
       ++ cells_of_all (below up at h) (children_place up at h (count ts)) ts)
 
+  -- the cells of keys one behind another, each with all below it, from here on
   pub cells_of_all : Above → ℕ → Trees → List (List ℕ)
   cells_of_all up at none = []
   cells_of_all up at (more t ts) = cells_of up at t ++ cells_of_all up (at + size up.security t) ts

@@ -22,9 +22,11 @@ pub record Recovered : Type 0 where
 abbrev pub Sectors : Type 0
 Sectors = ℕ → Option Content
 
+-- the sectors of the primary of an image
 abbrev pub primary_in : Image → Sectors
 primary_in image n = image (record { file = Primary; sector = n })
 
+-- the sectors of the log of an image
 abbrev pub log_in : Image → Sectors
 log_in image n = image (record { file = Log; sector = n })
 
@@ -42,6 +44,7 @@ abbrev pub bytes_or : HiveFault → Option Content → Result (List ℕ) HiveFau
 bytes_or fault None = Err fault
 bytes_or fault (Some (Bytes bytes)) = Ok bytes
 
+-- one text behind another, or the first fault of the two
 abbrev pub joined : Result (List ℕ) HiveFault → Result (List ℕ) HiveFault → Result (List ℕ) HiveFault
 joined (Err fault) rest = Err fault
 joined (Ok bytes) (Err fault) = Err fault
@@ -60,6 +63,7 @@ bins_short i = fault_at Size 40
 abbrev pub log_short : ℕ → HiveFault
 log_short n = fault_at LogShort (512 * n)
 
+-- the bins data with this base block, and whether the log was needed; or the fault of the bins data
 abbrev pub recovered_with : Bool → Base → Result (List ℕ) HiveFault → Result Recovered HiveFault
 recovered_with dirty base (Err fault) = Err fault
 recovered_with dirty base (Ok bins) = Ok (record { base = base; bins = bins; dirty = dirty })
@@ -72,6 +76,7 @@ by_primary primary base = recovered_with false base (gathered (λ i. primary (8 
 unfoldable pub bit : List ℕ → ℕ → Bool
 bit bitmap i = slice_index bitmap (i / 8) / 2 ^ (i % 8) % 2 == 1
 
+-- 1 where the test holds, else 0
 abbrev pub one_if : Bool → ℕ
 one_if b = if b then 1 else 0
 
@@ -115,7 +120,7 @@ bitmap_in log size = and_then (bytes_or (log_short 1) (log 1)) (bitmap_behind lo
 abbrev pub closed_by : Base → Base → Base
 closed_by opened logged = record logged { first = opened.first; second = opened.first; kind = 0 }
 
--- the log's numbers: both are the primary's first one
+-- what a dirty primary and its log's base block are recovered as; the log's two numbers have to be the primary's first one
 abbrev pub by_logged : Sectors → Sectors → Base → Base → Result Recovered HiveFault
 by_logged primary log opened logged =
     if (logged.first == opened.first) && (logged.second == opened.first)

@@ -78,6 +78,7 @@ abbrev mutual
   pub size : List ℕ → Tree → ℕ
   size shared (key h ts) = head_size shared h + list_size (count ts) + size_of_all h.security ts
 
+  -- the cells of keys one behind another and of all below them, under a key with this descriptor
   pub size_of_all : List ℕ → Trees → ℕ
   size_of_all shared none = 0
   size_of_all shared (more t ts) = size shared t + size_of_all shared ts

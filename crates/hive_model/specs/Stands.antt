@@ -87,6 +87,7 @@ abbrev mutual
   pub HasApartNames : Tree → Type 0
   HasApartNames (key h ts) = ItemsDiffer h.values × All (λ t. 0 < length (head t).name) (listed ts) × KeysDiffer (listed ts) × HaveApartNames ts
 
+  -- the names are apart in each of these trees
   pub HaveApartNames : Trees → Type 0
   HaveApartNames none = Unit {0}
   HaveApartNames (more t ts) = HasApartNames t × HaveApartNames ts

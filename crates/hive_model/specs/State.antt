@@ -1,4 +1,4 @@
--- The state of a hive: what is in it, and how often it was committed.
+-- The state of a hive: its tree, and its sequence number, which each commit raises by one modulo 2^32.
 use Rattle.std.specs.Prelude.{ℕ}
 use Rattle.hive_model.specs.Tree.{Tree}
 

@@ -30,6 +30,7 @@ mutual
   pub data Tree : Type 0 where
     key : Head → Trees → Tree
 
+  -- the children of a key, in order
   pub data Trees : Type 0 where
     none : Trees
     more : Tree → Trees → Trees
@@ -105,6 +106,7 @@ abbrev mutual
   pub key_count : Tree → ℕ
   key_count (key h ts) = 1 + keys_count ts
 
+  -- how many keys trees have together
   pub keys_count : Trees → ℕ
   keys_count none = 0
   keys_count (more t ts) = key_count t + keys_count ts
@@ -146,6 +148,7 @@ abbrev mutual
   pub tree_code : Tree → Gv
   tree_code (key h ts) = gcons (coded_head.code h) (trees_code ts)
 
+  -- trees as pairs of the first and the rest, and nil for none (this project's own)
   pub trees_code : Trees → Gv
   trees_code none = gnil
   trees_code (more t ts) = gcons (tree_code t) (trees_code ts)
@@ -155,6 +158,7 @@ mutual
   pub tree_code-inj : (x y : Tree) → tree_code x ≡ tree_code y → x ≡ y
   tree_code-inj (key h ts) (key i us) p = λ j. key (coded_head.inj h i (ap first_code p) j) (trees_code-inj ts us (ap second_code p) j)
 
+  -- lists of children with one code are one
   pub trees_code-inj : (x y : Trees) → trees_code x ≡ trees_code y → x ≡ y
   trees_code-inj none none p = refl
   trees_code-inj none (more u us) p = absurd cc
@@ -174,6 +178,7 @@ abbrev mutual
   pub weight : Tree → ℕ
   weight (key h ts) = 1 + weight_of_all ts
 
+  -- the weights of the children of a key together, and one more for each (this project's own)
   pub weight_of_all : Trees → ℕ
   weight_of_all none = 0
   weight_of_all (more t ts) = weight t + 1 + weight_of_all ts
@@ -183,10 +188,12 @@ abbrev pub weights : List Tree → ℕ
 weights [] = 0
 weights (t ∷ ts) = weight t + 1 + weights ts
 
+-- a list of trees weighs as much as the children that it makes
 pub weights-trees : (ts : List Tree) → weight_of_all (trees ts) ≡ weights ts
 weights-trees [] = refl
 weights-trees (t ∷ ts) = ap (λ n. weight t + 1 + n) (weights-trees ts)
 
+-- the greatest weight in a list, and one, is at most the weight of the list
 pub most_le-weights : (ts : List Tree) → most (λ t. weight t + 1) ts ≤ weights ts
 most_le-weights [] = omega arith
 most_le-weights (t ∷ ts) = omega (arith, most_le-weights ts)

@@ -41,6 +41,7 @@ abbrev mutual
   pub HoldsKeys : Tree → Type 0
   HoldsKeys (key h ts) = IsKey h (listed ts) × AllHoldKeys ts
 
+  -- each key of each of these trees can be held (this project's own)
   pub AllHoldKeys : Trees → Type 0
   AllHoldKeys none = Unit {0}
   AllHoldKeys (more t ts) = HoldsKeys t × AllHoldKeys ts
@@ -50,6 +51,7 @@ abbrev mutual
   pub levels : Tree → ℕ
   levels (key h ts) = most_levels ts + 1
 
+  -- the levels of the deepest of these trees, 0 where there is none
   pub most_levels : Trees → ℕ
   most_levels none = 0
   most_levels (more t ts) = max (levels t) (most_levels ts)

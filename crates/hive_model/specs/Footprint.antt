@@ -1,0 +1,231 @@
+-- Which cells may an edit in place change, and how long may the bins data become by it? (this project's own; the sizes of
+-- cells: regf format 1.3)
+--
+-- A path is looked up in the cells from before the edit: a node stays where it is, so the key of a later step is an old
+-- node at the same path, or new. Whether a step adds a key, and which cells it needs, is judged by the trees before and
+-- after it.
+use Rattle.std.specs.Prelude.{ℕ, ◌+◌, ◌-◌, ◌*◌, ◌/◌, ◌%◌, ◌==◌, nat_lt, Bool, false, if◌then◌else◌, List, [], ◌∷◌, ◌++◌, length, take, find, flat_map, sum_by, Contains, Option, Some, option_and_then, Result, Ok, Err}
+use Rattle.std.specs.List.{list_any}
+use Rattle.std.specs.Option.{option_map_or}
+use lib.ListN.{replicate}
+use Rattle.nt_bytes.specs.Folding.{folds_same}
+use Rattle.nt_bytes.specs.declared.fault.HiveKind.{HiveKind}
+use Rattle.hive_model.specs.Tree.{Item, Head, Tree, Trees, key, none, more, head, children, is_named, find_key, find_item}
+use Rattle.hive_model.specs.Size.{cell, name_bytes, data_size, class_size, security_size, node_size, part_count, count}
+use Rattle.hive_model.specs.Edit.{Step, set_value, delete_value, make_key, delete_key, copy_child, add_child, Refusal, has_child, after_step}
+use Rattle.hive_model.specs.Forms.{KeyNode, key_node_at, key_value_at, offsets_in}
+use Rattle.hive_model.specs.Bins.{Cells}
+use Rattle.hive_model.specs.Walk.{reading, entries_at, Check, uses, tests, names_of, security_checks, value_checks, entries_checks, key_checks}
+use Rattle.hive_model.specs.Packed.{rounded}
+
+-- ---- both
+
+-- what is made of the tree after a step, or of its refusal
+abbrev pub unless_refused : {A : Type 0} → A → Result Tree Refusal → (Tree → A) → A
+unless_refused otherwise (Ok t) next = next t
+unless_refused otherwise (Err e) next = otherwise
+
+-- the path of a key's parent; the root's own for the root
+abbrev pub parent_of : List (List ℕ) → List (List ℕ)
+parent_of path = take (length path - 1) path
+
+-- the key at a path is there and has a child of this name
+abbrev pub has_key : List (List ℕ) → List ℕ → Tree → Bool
+has_key parent name t = option_map_or (has_child name) (find_key parent t) false
+
+-- ---- cells from before the edit
+
+-- what is listed of something that was read; nothing where it was not
+abbrev pub of_read : {F : Type 0} → Result F HiveKind → (F → List ℕ) → List ℕ
+of_read (Ok x) listing = listing x
+of_read (Err kind) listing = []
+
+-- what is listed of the key node at an offset
+abbrev pub of_node : Cells → ℕ → (KeyNode → List ℕ) → List ℕ
+of_node cells at listing = of_read (reading key_node_at cells at) listing
+
+-- the cells that these checks use
+abbrev pub used_in : List Check → List ℕ
+used_in [] = []
+used_in (uses at security ∷ checks) = at ∷ used_in checks
+used_in (tests at kind ∷ checks) = used_in checks
+
+-- the cells that these checks use as security
+abbrev pub security_used_in : List Check → List ℕ
+security_used_in [] = []
+security_used_in (uses at security ∷ checks) = if security then at ∷ security_used_in checks else security_used_in checks
+security_used_in (tests at kind ∷ checks) = security_used_in checks
+
+-- the offsets of a key's children, in order
+unfoldable pub child_places : Cells → ℕ → List ℕ
+child_places cells at =
+    of_node cells at (λ node. if node.child_count == 0 then [] else of_read (entries_at cells node.child_list) (λ offsets. offsets))
+
+-- the key node at an offset has this name, letters of either case taken for one
+abbrev pub is_node_named : Cells → List ℕ → ℕ → Bool
+is_node_named cells name at = list_any (folds_same name) (names_of (λ node. node.name) (reading key_node_at cells at))
+
+-- the value at an offset has this name, letters of either case taken for one
+abbrev pub is_value_named : Cells → List ℕ → ℕ → Bool
+is_value_named cells name at = list_any (folds_same name) (names_of (λ value. value.name) (reading key_value_at cells at))
+
+-- the offset of the key that a path from this one leads to: at each name the first child that has it, in order
+abbrev pub key_place : Cells → List (List ℕ) → ℕ → Option ℕ
+key_place cells [] at = Some at
+key_place cells (name ∷ path) at = option_and_then (key_place cells path) (find (is_node_named cells name) (child_places cells at))
+
+-- what is listed of the offset of the key at a path; nothing where there is none
+abbrev pub of_key : Cells → ℕ → List (List ℕ) → (ℕ → List ℕ) → List ℕ
+of_key cells root path listing = option_map_or listing (key_place cells path root) []
+
+-- a key's subkey list, and the lists in it if it lists lists
+unfoldable pub list_cells_at : Cells → ℕ → List ℕ
+list_cells_at cells at = of_node cells at (λ node. if node.child_count == 0 then [] else used_in (entries_checks cells node.child_list))
+
+-- the cell of the value of this name among those at these offsets, and the cell of its data
+unfoldable pub named_value_cells : Cells → List ℕ → List ℕ → List ℕ
+named_value_cells cells name offsets = option_map_or (λ at. used_in (value_checks cells [] at)) (find (is_value_named cells name) offsets) []
+
+-- a key's value list, and the cells of its value of this name
+unfoldable pub value_cells_at : Cells → List ℕ → ℕ → List ℕ
+value_cells_at cells name at =
+    of_node cells at (λ node. if node.value_count == 0 then [] else
+    node.value_list ∷ of_read (reading (offsets_in node.value_count) cells node.value_list) (named_value_cells cells name))
+
+-- the security cell that a key uses
+unfoldable pub security_cell_at : Cells → ℕ → List ℕ
+security_cell_at cells at = of_node cells at (λ node. used_in (security_checks cells node))
+
+-- what the walk checks of the key at a path and of all below it
+unfoldable pub checks_below : Cells → ℕ → List (List ℕ) → List Check
+checks_below cells root path = option_map_or (key_checks (512 - length path) cells false []) (key_place cells path root) []
+
+-- ---- the footprint
+
+-- the paths of the keys that a step names
+abbrev pub named_keys : Step → List (List (List ℕ))
+named_keys (set_value path name kind bytes) = path ∷ []
+named_keys (delete_value path name) = path ∷ []
+named_keys (make_key parent name) = (parent ++ name ∷ []) ∷ []
+named_keys (delete_key path) = path ∷ []
+named_keys (copy_child from to) = (from ∷ []) ∷ (to ∷ []) ∷ []
+named_keys (add_child name k) = (name ∷ []) ∷ []
+
+-- the nodes of the named keys and of their parents
+unfoldable pub named_nodes : Cells → ℕ → Step → List ℕ
+named_nodes cells root step =
+    flat_map (λ path. of_key cells root path (λ at. at ∷ []) ++ of_key cells root (parent_of path) (λ at. at ∷ [])) (named_keys step)
+
+-- where a key is added: the lists of its parent, and the security cell that the parent uses
+abbrev pub adding_cells : Cells → ℕ → List ℕ
+adding_cells cells at = list_cells_at cells at ++ security_cell_at cells at
+
+-- The other cells of a step: of a value that is set or deleted the value list, its cell and that of its data; of a key that
+-- is added, copied or deleted the lists of its parent; for an added key the security cell that its parent uses, for a copied
+-- one those that it and the keys below it use; of a deleted key all cells, its own and below it. A key that is made where
+-- one of its name is changes nothing.
+abbrev pub changed_cells : Cells → ℕ → Tree → Step → List ℕ
+changed_cells cells root t (set_value path name kind bytes) = of_key cells root path (value_cells_at cells name)
+changed_cells cells root t (delete_value path name) = of_key cells root path (value_cells_at cells name)
+changed_cells cells root t (make_key parent name) = if has_key parent name t then [] else of_key cells root parent (adding_cells cells)
+changed_cells cells root t (delete_key path) = of_key cells root (parent_of path) (list_cells_at cells) ++ used_in (checks_below cells root path)
+changed_cells cells root t (copy_child from to) = list_cells_at cells root ++ security_used_in (checks_below cells root (from ∷ []))
+changed_cells cells root t (add_child name k) = adding_cells cells root
+
+-- the cells of a step on this tree
+abbrev pub step_cells : Cells → ℕ → Tree → Step → List ℕ
+step_cells cells root t step = named_nodes cells root step ++ changed_cells cells root t step
+
+-- the cells of steps in order, the first on this tree; a refused step ends them
+abbrev pub footprint_of : Cells → ℕ → Tree → List Step → List ℕ
+footprint_of cells root t [] = []
+footprint_of cells root t (step ∷ steps) =
+    step_cells cells root t step ++ unless_refused [] (after_step step t) (λ u. footprint_of cells root u steps)
+
+-- some step has the offset among its cells, where this tree stands at the root of these cells before the edit
+abbrev pub IsInFootprint : Cells → ℕ → Tree → List Step → ℕ → Type 0
+IsInFootprint cells root t steps offset = Contains (footprint_of cells root t steps) offset
+
+-- ---- the sizes of packed cells, one by one
+
+-- the size of one cell; none where it is 0
+abbrev pub some_cell : ℕ → List ℕ
+some_cell size = if size == 0 then [] else size ∷ []
+
+-- the sizes of a value's cell, and of one for its data of over four bytes
+abbrev pub item_sizes : Item → List ℕ
+item_sizes v = cell (20 + name_bytes v.name) ∷ some_cell (data_size v.bytes)
+
+-- the size of the value list of so many values; none for no values
+abbrev pub value_list_sizes : ℕ → List ℕ
+value_list_sizes n = if n == 0 then [] else cell (4 * n) ∷ []
+
+-- the sizes of the cells of a key but those of its lists and children, under a key with this descriptor
+abbrev pub head_sizes : List ℕ → Head → List ℕ
+head_sizes shared h =
+    node_size h
+    ∷ (some_cell (class_size h.class)
+    ++ (some_cell (security_size shared h.security)
+    ++ (value_list_sizes (length h.values) ++ flat_map item_sizes h.values)))
+
+-- the sizes of the lists of n children: one of at most 500, or a list of such lists, each but the last full
+unfoldable pub list_sizes : ℕ → List ℕ
+list_sizes n =
+    if n == 0 then []
+    else if nat_lt n 501 then cell (4 + 8 * n) ∷ []
+    else cell (4 + 4 * part_count n) ∷ (replicate (n / 500) (cell 4004) ++ (if n % 500 == 0 then [] else cell (4 + 8 * (n % 500)) ∷ []))
+
+-- the sizes of all cells of a key and below it, under a key with this descriptor
+abbrev mutual
+  pub sizes : List ℕ → Tree → List ℕ
+  sizes shared (key h ts) = head_sizes shared h ++ (list_sizes (count ts) ++ sizes_of_all h.security ts)
+
+  -- the sizes of all cells of keys one behind another and below them, under a key with this descriptor
+  pub sizes_of_all : List ℕ → Trees → List ℕ
+  sizes_of_all shared none = []
+  sizes_of_all shared (more t ts) = sizes shared t ++ sizes_of_all shared ts
+
+-- ---- the room that an edit may need
+
+-- the room for cells of these sizes: each by itself may need a new bin, with a header of 32 bytes and of whole 4096 bytes
+abbrev pub room_of : List ℕ → ℕ
+room_of cells = sum_by (λ size. rounded (size + 32)) cells
+
+-- the sizes of the value list of the key at a path, and of the cells of its value of this name
+abbrev pub value_sizes_in : List (List ℕ) → List ℕ → Tree → List ℕ
+value_sizes_in path name t =
+    option_map_or (λ k. value_list_sizes (length (head k).values) ++ option_map_or item_sizes (find_item name k) []) (find_key path t) []
+
+-- the sizes of the lists of the key at a path
+abbrev pub list_sizes_in : List (List ℕ) → Tree → List ℕ
+list_sizes_in path t = option_map_or (λ k. list_sizes (length (children k))) (find_key path t) []
+
+-- the sizes of all cells of the child of this name and below it, where the parent is at a path
+abbrev pub key_sizes_in : List (List ℕ) → List ℕ → Tree → List ℕ
+key_sizes_in parent name t =
+    option_map_or (λ k. option_map_or (sizes (head k).security) (find (is_named name) (children k)) []) (find_key parent t) []
+
+-- the sizes where the key at a path got a child of this name: of the lists of the key, and of all cells of the child and below it
+abbrev pub added_sizes_in : List (List ℕ) → List ℕ → Tree → List ℕ
+added_sizes_in parent name t = list_sizes_in parent t ++ key_sizes_in parent name t
+
+-- the sizes of the packed cells that a step may need, by the tree before it and the tree after it; a key that is made where
+-- one of its name is needs none
+abbrev pub needed_sizes : Tree → Step → Tree → List ℕ
+needed_sizes old (set_value path name kind bytes) new = value_sizes_in path name new
+needed_sizes old (delete_value path name) new = value_sizes_in path name new
+needed_sizes old (make_key parent name) new = if has_key parent name old then [] else added_sizes_in parent name new
+needed_sizes old (delete_key path) new = list_sizes_in (parent_of path) new
+needed_sizes old (copy_child from to) new = added_sizes_in [] to new
+needed_sizes old (add_child name k) new = added_sizes_in [] name new
+
+-- how long so many bytes of bins data may become by steps in order, the first on this tree: longer by the room for each cell
+-- of each step; a refused step ends it
+abbrev pub strain_of : ℕ → Tree → List Step → ℕ
+strain_of bytes t [] = bytes
+strain_of bytes t (step ∷ steps) =
+    unless_refused bytes (after_step step t) (λ u. strain_of (bytes + room_of (needed_sizes t step u)) u steps)
+
+-- how long so many bytes of bins data may become by writing the lists of so many children: longer by the room for each list
+abbrev pub list_strain_of : ℕ → ℕ → ℕ
+list_strain_of bytes n = bytes + room_of (list_sizes n)
