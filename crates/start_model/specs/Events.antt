@@ -1,18 +1,19 @@
 -- What does a line of the script ask for, and which edit is it? (this project's own)
-use Rattle.std.specs.Prelude.{ℕ, zero, suc, ◌-◌, Bool, true, false, ◌&&◌, ◌||◌, nat_le, if◌then◌else◌, List, [], ◌∷◌, length, take, drop, Option, codes}
+use Rattle.std.specs.Prelude.{ℕ, ◌-◌, Bool, false, ◌&&◌, ◌||◌, nat_le, if◌then◌else◌, List, [], ◌∷◌, length, take, drop, Option, codes}
 use Rattle.std.specs.List.{list_all}
 use Rattle.nt_bytes.specs.Folding.{folds_same}
 use Rattle.hive_model.specs.Image.{Keep, Arming}
 use Rattle.hive_model.specs.Edit.{Step, set_value, delete_value, make_key, delete_key}
 use Rattle.start_model.specs.Sets.{set_name}
 
--- a path is the list of its components
+-- an edit of a value or of a key at a path, which is the list of its components
 pub data Edit : Type 0 where
   Set : (path : List (List ℕ)) → (name : List ℕ) → (kind : ℕ) → (bytes : List ℕ) → Edit
   Delete : (path : List (List ℕ)) → (name : List ℕ) → Edit
   Make : (path : List (List ℕ)) → Edit
   Remove : (path : List (List ℕ)) → Edit
 
+-- what a line of the script asks for
 pub data Event : Type 0 where
   -- the wanted entry of boot.ini, counted from 1, and whether LastKnownGood is wanted
   BootNow : (entry : Option ℕ) → (last_known_good : Bool) → Event
@@ -28,16 +29,11 @@ pub data Event : Type 0 where
   -- orders a stop of the disk
   Arm : Arming → Event
 
-abbrev pub path_of : Edit → List (List ℕ)
-path_of (Set path name kind bytes) = path
-path_of (Delete path name) = path
-path_of (Make path) = path
-path_of (Remove path) = path
-
 -- `CurrentControlSet`, which stands for the set that the start took
 abbrev pub is_current : List ℕ → Bool
 is_current name = folds_same name (codes "CurrentControlSet")
 
+-- a decimal digit, 0x30 to 0x39
 abbrev pub is_digit_unit : ℕ → Bool
 is_digit_unit u = nat_le 48 u && nat_le u 57
 
@@ -49,6 +45,7 @@ names_a_set name = folds_same (take (length name - 3) name) (codes "ControlSet")
 abbrev pub is_protected_child : List ℕ → Bool
 is_protected_child name = folds_same name (codes "Select") || names_a_set name
 
+-- the path's first component is `Select` or a set by its number
 abbrev pub begins_protected : List (List ℕ) → Bool
 begins_protected [] = false
 begins_protected (first ∷ path) = is_protected_child first
@@ -71,10 +68,11 @@ abbrev pub resolved : ℕ → List (List ℕ) → List (List ℕ)
 resolved number [] = []
 resolved number (first ∷ path) = if is_current first then set_name number ∷ path else first ∷ path
 
--- all but the last component, and that
+-- all but the last component
 abbrev pub without_last : List (List ℕ) → List (List ℕ)
 without_last path = take (length path - 1) path
 
+-- the last component; empty where the path has none
 abbrev pub last_of : List (List ℕ) → List ℕ
 last_of [] = []
 last_of (name ∷ []) = name

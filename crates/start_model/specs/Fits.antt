@@ -1,9 +1,12 @@
 -- How is a run read off a report, and what holds of the trees in it? (this project's own)
-use Rattle.std.specs.Prelude.{◌≡◌, ◌⊎◌, ◌-◌, ℕ, Bool, true, false, not, ◌==◌, if◌then◌else◌, List, [], ◌∷◌, length, take, map, filter_map, Option, None, Some, option_map, bytes_eq, codes}
+use Rattle.std.specs.Prelude.{◌≡◌, ◌⊎◌, ◌-◌, ℕ, Bool, ◌==◌, if◌then◌else◌, List, [], ◌∷◌, length, take, filter_map, Option, None, Some, bytes_eq, codes}
 use Rattle.std.specs.List.{All, Contains, slice_split}
+use Rattle.nt_bytes.specs.declared.fault.HiveFault.{HiveFault}
+use Rattle.hive_model.specs.Image.{Image}
 use Rattle.hive_model.specs.Tree.{Tree}
 use Rattle.hive_model.specs.Edit.{renamed}
 use Rattle.hive_model.specs.State.{HiveState}
+use Rattle.hive_model.specs.Load.{Loads, LoadFault}
 use Rattle.start_model.specs.Lines as lines
 use Rattle.start_model.specs.Lines.{Line, StartLine, EntryLine, LoadLine, SetLine, CommitLine, SelectLine, PhaseLine, TryLine, UnmetLine, LogonLine, SaveRefusedLine, EditOkLine, FlushNothingLine, RefusedLine, VerdictLine, EndLine}
 use Rattle.start_model.specs.Sets.{set_of, select_numbers_of}
@@ -11,6 +14,7 @@ use Rattle.start_model.specs.Run.{Possible, Woken, Outcome, Finished, PowerCut, 
 
 -- ---- the outcomes that a report tells
 
+-- a verdict of a cut or a device fault is an outcome, before those of later lines; no other is
 abbrev pub verdict_outcome : lines.Verdict → List Outcome → List Outcome
 verdict_outcome lines.Cut more = PowerCut ∷ more
 verdict_outcome lines.Device more = DeviceFault ∷ more
@@ -28,6 +32,7 @@ outcomes_in (other ∷ ls) = outcomes_in ls
 abbrev pub whole_lines : List ℕ → List (List ℕ)
 whole_lines text = let parts : List (List ℕ) = slice_split (λ c. c == 10) text in take (length parts - 1) parts
 
+-- the line begins with the word
 abbrev pub begins_with : List ℕ → List ℕ → Bool
 begins_with word line = bytes_eq (take (length word) line) word
 
@@ -46,6 +51,15 @@ outcomes_of text = filter_map outcome_of (whole_lines text)
 
 -- ---- what the disk woke up with
 
+-- What the images of the wakes load as, in order. One with a fault has no load, and neither has any behind it: the run
+-- then ends as if no further wake were there.
+abbrev pub AreWoken : List Image → List Woken → Type 0
+AreWoken [] [] = Unit {0}
+AreWoken [] (w ∷ wakes) = ⊥
+AreWoken (i ∷ images) [] = (fault : HiveFault) × LoadFault i fault
+AreWoken (i ∷ images) (w ∷ wakes) = Loads i w.state w.dirty × AreWoken images wakes
+
+-- the state is the settled one, or the other one of an open change
 abbrev pub IsPossible : Possible → HiveState → Type 0
 IsPossible p state = (state ≡ p.settled) ⊎ (p.other ≡ Some state)
 
@@ -71,7 +85,7 @@ abbrev pub from_first_good : List Tree → List Tree
 from_first_good [] = []
 from_first_good (t ∷ ts) = if good_is_usable t then t ∷ ts else from_first_good ts
 
--- the set that LastKnownGood names in the first of the trees
+-- the set that LastKnownGood names in the first of the trees, where it names one there
 abbrev pub first_good_in : List Tree → List Tree
 first_good_in [] = []
 first_good_in (t ∷ ts) = option_to_sets (good_set_of t)
@@ -80,9 +94,9 @@ first_good_in (t ∷ ts) = option_to_sets (good_set_of t)
     option_to_sets None = []
     option_to_sets (Some set) = set ∷ []
 
--- a good set is equal to the first one, or to one that was saved after a good logon
+-- a good set is equal to the one that LastKnownGood named in the first tree, or to one that was saved after a good logon
 abbrev pub IsGoodSet : List Tree → List Tree → Tree → Type 0
-IsGoodSet trees clones set = (good : Tree) × ((Contains (first_good_in (from_first_good trees)) good ⊎ Contains clones good) × SameSet set good)
+IsGoodSet trees clones set = (good : Tree) × ((Contains (first_good_in trees) good ⊎ Contains clones good) × SameSet set good)
 
 -- LastKnownGood names a good set in the tree
 abbrev pub NamesGood : List Tree → List Tree → Tree → Type 0

@@ -9,3 +9,4 @@ pub mod Events
 pub mod Machine
 pub mod Run
 pub mod Fits
+pub mod Orders

@@ -102,18 +102,21 @@ pub data Line : Type 0 where
   -- the script was read to its end
   EndLine : Line
 
+-- the word for what a commit wrote
 abbrev pub commit_word : CommitWord → List ℕ
 commit_word BeginCommit = codes "begin"
 commit_word SaveCommit = codes "save"
 commit_word FlushCommit = codes "flush"
 commit_word OffCommit = codes "off"
 
+-- the word of a phase
 abbrev pub phase_word : PhaseWord → List ℕ
 phase_word BootPhase = codes "boot"
 phase_word SystemPhase = codes "system"
 phase_word AutomaticPhase = codes "automatic"
 phase_word DonePhase = codes "done"
 
+-- the words for how an attempt went
 abbrev pub try_word : TryWord → List ℕ
 try_word TryOk = codes "ok"
 try_word TryIgnored = codes "failed ignored"
@@ -121,6 +124,7 @@ try_word TryLogged = codes "failed logged"
 try_word TryFallBack = codes "failed fall-back"
 try_word TryStop = codes "failed stop"
 
+-- the first word of a script's line, as text
 abbrev pub event_word : EventWord → List ℕ
 event_word BootEvent = codes "boot"
 event_word GoEvent = codes "go"
@@ -135,6 +139,7 @@ event_word OffEvent = codes "off"
 event_word CutEvent = codes "cut"
 event_word FaultEvent = codes "fault"
 
+-- the word for why an event was refused
 abbrev pub refused_word : RefusedWord → List ℕ
 refused_word OffReason = codes "off"
 refused_word RunningReason = codes "running"
@@ -150,6 +155,7 @@ refused_word TooDeepReason = codes "too-deep"
 refused_word DataTooLongReason = codes "data-too-long"
 refused_word FullReason = codes "full"
 
+-- the word for how a start ended
 abbrev pub verdict_word : Verdict → List ℕ
 verdict_word Good = codes "good"
 verdict_word GoodUnsaved = codes "good-unsaved"
@@ -174,6 +180,7 @@ is_printable c = nat_le 0x20 c && nat_le c 0x7e
 abbrev pub escaped : ℕ → List ℕ
 escaped u = 92 ∷ 117 ∷ digit_glyph false (u / 4096) ∷ digit_glyph false (u / 256 % 16) ∷ digit_glyph false (u / 16 % 16) ∷ digit_glyph false (u % 16) ∷ []
 
+-- a unit of a name: as it is where it is printable, else escaped
 unfoldable pub unit_text : ℕ → List ℕ
 unit_text u = if is_printable u then u ∷ [] else escaped u
 
@@ -185,15 +192,19 @@ name_text units = flat_map unit_text units
 abbrev pub shown_byte : ℕ → ℕ
 shown_byte c = if is_printable c then c else 63
 
+-- a path of boot.ini, byte by byte
 abbrev pub path_text : List ℕ → List ℕ
 path_text path = map shown_byte path
 
+-- `recovered` where the log had to be taken, else `clean`
 abbrev pub load_word : Bool → List ℕ
 load_word recovered = if recovered then codes "recovered" else codes "clean"
 
+-- `last-known-good` where the start is on it, else `default`
 abbrev pub set_word : Bool → List ℕ
 set_word on_good = if on_good then codes "last-known-good" else codes "default"
 
+-- `full` where the hive would be too large, else `no-number`
 abbrev pub save_word : Bool → List ℕ
 save_word full = if full then codes "full" else codes "no-number"
 

@@ -2,7 +2,7 @@
 --
 -- The phases, ErrorControl and the fallback on LastKnownGood: Windows Internals, 4th edition, startup. That attempts go
 -- one at a time, that failures are told in advance, and which events are refused, is this project's own.
-use Rattle.std.specs.Prelude.{ℕ, zero, suc, ◌-◌, Bool, true, false, ◌||◌, ◌&&◌, not, ◌==◌, if◌then◌else◌, List, [], ◌∷◌, ◌++◌, map, slice_get, remove, Option, None, Some, option_map, option_and_then}
+use Rattle.std.specs.Prelude.{ℕ, ◌-◌, Bool, true, false, ◌||◌, ◌&&◌, not, ◌==◌, if◌then◌else◌, List, [], ◌∷◌, ◌++◌, map, slice_get, remove, Option, None, Some, option_map, option_and_then}
 use Rattle.nt_bytes.specs.Folding.{folded, folds_same}
 use Rattle.hive_model.specs.Tree.{Tree}
 use Rattle.start_model.specs.Ready.{Label, next_of}
@@ -42,6 +42,7 @@ off_machine = record { start = None; failures = []; fallback_due = false }
 
 -- ---- failures to come, by folded name
 
+-- how many attempts of a name are still to fail; 0 where nothing is noted
 abbrev pub failures_of : List (List ℕ × ℕ) → List ℕ → ℕ
 failures_of [] name = 0
 failures_of (f ∷ fs) name = if folds_same f.0 name then f.1 else failures_of fs name
@@ -56,6 +57,7 @@ abbrev pub with_failures : List (List ℕ × ℕ) → List ℕ → ℕ → List 
 with_failures [] name count = (folded name, count) ∷ []
 with_failures (f ∷ fs) name count = if folds_same f.0 name then (f.0, count) ∷ fs else f ∷ with_failures fs name count
 
+-- the machine with so many failures noted for a name
 abbrev pub failing : List ℕ → ℕ → MachineState → MachineState
 failing name count m = record m { failures = with_failures m.failures name count }
 
@@ -71,9 +73,12 @@ pub record Tried : Type 0 where
 abbrev pub next_in : Start → Option ℕ
 next_in s = next_of s.started (map need_of s.waiting)
 
+-- what is kept of a started entry: its folded name, and its folded group where it has one
 abbrev pub label_of : Entry → Label
 label_of e = (folded e.name, option_map folded e.group)
 
+-- the start after an attempt: the entry waits no more, its name was tried, and it was started where the attempt went
+-- well
 abbrev pub after_attempt : Start → ℕ → Entry → Bool → Start
 after_attempt s place e ok = record s {
   waiting = remove s.waiting place;
@@ -81,6 +86,8 @@ after_attempt s place e ok = record s {
   started = if ok then s.started ++ label_of e ∷ [] else s.started;
 }
 
+-- the attempt of the waiting entry at a place: it fails where failures of its name are to come, of which there is
+-- then one fewer
 abbrev pub attempt_at : MachineState → Start → Bool → ℕ → Entry → MachineState × Tried
 attempt_at m s usable place e =
     let ok : Bool = failures_of m.failures e.name == 0 in (
@@ -92,18 +99,20 @@ attempt_at m s usable place e =
 abbrev pub attempt_in : MachineState → Start → Bool → Option (MachineState × Tried)
 attempt_in m s usable = option_and_then (λ place. option_map (attempt_at m s usable place) (slice_get s.waiting place)) (next_in s)
 
--- none where no start runs, or its phase is at its end
+-- an attempt of the running start; none where no start runs, or its phase is at its end
 unfoldable pub attempt_of : MachineState → Bool → Option (MachineState × Tried)
 attempt_of m usable = option_and_then (λ s. attempt_in m s usable) m.start
 
 -- ---- a change of phase
 
+-- the next phase; behind the last stands the last
 abbrev pub phase_after : Phase → Phase
 phase_after Boot = System
 phase_after System = Automatic
 phase_after Automatic = Done
 phase_after Done = Done
 
+-- the names of the entries that still wait, in their order
 abbrev pub unmet_in : Start → List (List ℕ)
 unmet_in s = map (λ e. e.name) s.waiting
 
@@ -113,6 +122,8 @@ after_phase set s = record s { phase = phase_after s.phase; waiting = plan_of se
 
 -- ---- the beginning, the logon, the save, the end
 
+-- a start that begins: in its boot phase, with the entries that this takes of the set, nothing tried or started, and
+-- the set as its clone
 abbrev pub begun_with : Tree → ℕ → Bool → Start
 begun_with set number on_good = record {
   number = number;
@@ -126,6 +137,7 @@ begun_with set number on_good = record {
   clone = Some set;
 }
 
+-- the phase is the last one
 abbrev pub is_done : Phase → Bool
 is_done Done = true
 is_done Boot = false
@@ -151,6 +163,7 @@ save_due s = is_good s && is_unsaved s.saved
     is_unsaved None = true
     is_unsaved (Some done) = false
 
+-- the verdict of a good start: good where its save was done, else good but unsaved
 abbrev pub ending_with : Option Bool → Verdict
 ending_with None = GoodUnsaved
 ending_with (Some true) = Good
@@ -160,14 +173,17 @@ ending_with (Some false) = GoodUnsaved
 abbrev pub ending_of : Start → Verdict
 ending_of s = if is_good s then ending_with s.saved else Running
 
+-- no start runs; a fallback is due where this one falls back, or one was due before
 abbrev pub ended : Bool → MachineState → MachineState
 ended falls_back m = record m { start = None; fallback_due = m.fallback_due || falls_back }
 
+-- the machine with this start running
 abbrev pub with_start : Start → MachineState → MachineState
 with_start s m = record m { start = Some s }
 
 -- ---- which events are refused, before they are looked at any further
 
+-- why an event is refused while no start runs, if it is
 abbrev pub refused_off : Event → Option RefusedWord
 refused_off (BootNow entry good) = None
 refused_off (Go steps) = Some OffReason
@@ -179,6 +195,7 @@ refused_off Off = Some OffReason
 refused_off (CutNow keep) = Some OffReason
 refused_off (Arm arming) = None
 
+-- why an event is refused while this start runs, if it is
 abbrev pub refused_running : Start → Event → Option RefusedWord
 refused_running s (BootNow entry good) = Some RunningReason
 refused_running s (Go steps) = if is_done s.phase then Some IdleReason else None
@@ -190,9 +207,11 @@ refused_running s Off = None
 refused_running s (CutNow keep) = None
 refused_running s (Arm arming) = None
 
+-- why an event is refused, by whether a start runs, if it is
 abbrev pub refusal_in : Option Start → Event → Option RefusedWord
 refusal_in None e = refused_off e
 refusal_in (Some s) e = refused_running s e
 
+-- why the machine refuses an event, if it does
 abbrev pub refusal_of : MachineState → Event → Option RefusedWord
 refusal_of m e = refusal_in m.start e

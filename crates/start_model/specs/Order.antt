@@ -3,7 +3,7 @@
 -- By the place of the group in ServiceGroupOrder, then by the place of the tag in GroupOrderList, then
 -- as they stand in the registry (Windows Internals, 4th edition, startup; Microsoft's documentation of
 -- service entries). That the services of the automatic phase stand by group and not by tag is from there too.
-use Rattle.std.specs.Prelude.{ℕ, ◌+◌, ◌-◌, ◌*◌, ◌/◌, min, nat_lt, nat_eq, Bool, true, false, ◌==◌, codes, List, [], ◌∷◌, map, length, slice_get, slice_range, position, unwrap_or, Option, if◌then◌else◌}
+use Rattle.std.specs.Prelude.{ℕ, ◌+◌, ◌-◌, ◌*◌, ◌/◌, min, nat_lt, nat_eq, Bool, true, false, ◌==◌, codes, List, [], ◌∷◌, map, filter, not, length, slice_get, slice_range, position, unwrap_or, Option, if◌then◌else◌}
 use Rattle.std.specs.declared.cmp.Ordering.{Ordering}
 use Rattle.std.specs.Ordering.{nat_cmp, ordering_then, is_lt}
 use Rattle.std.specs.Option.{option_map, option_map_or}
@@ -35,6 +35,7 @@ tags_of bytes =
 abbrev pub tag_bytes : Option Tree → List ℕ → List ℕ
 tag_bytes lists group = option_map_or (λ t. option_map_or (λ v. if v.kind == 3 then v.bytes else []) (find_item group t) []) lists []
 
+-- a group with the tags that its value has
 abbrev pub order_of : Option Tree → List ℕ → GroupOrder
 order_of lists group = record { name = group; tags = tags_of (tag_bytes lists group) }
 
@@ -46,8 +47,14 @@ listed_groups set = option_map_or (find_strings (codes "List")) (find_key (codes
 abbrev pub tag_lists : Tree → Option Tree
 tag_lists set = find_key (codes "Control" ∷ codes "GroupOrderList" ∷ []) set
 
+-- the names without those that fold as one before them: a group that is listed again counts where it stands first (this project's own)
+abbrev pub first_names : List (List ℕ) → List (List ℕ)
+first_names [] = []
+first_names (n ∷ ns) = n ∷ filter (λ m. not (folds_same n m)) (first_names ns)
+
+-- the listed groups of a set with their tags, each where it stands first
 abbrev pub orders_of : Tree → List GroupOrder
-orders_of set = map (order_of (tag_lists set)) (listed_groups set)
+orders_of set = map (order_of (tag_lists set)) (first_names (listed_groups set))
 
 -- ---- the rank of an entry
 
@@ -81,6 +88,7 @@ pub record Rank : Type 0 where
   pub tag : ℕ
   pub place : ℕ
 
+-- the rank of the entry at this place among the set's entries
 abbrev pub rank_of : List GroupOrder → Bool → ℕ → Entry → Rank
 rank_of orders tags_count place e = record {
   group = group_place orders e.group;
@@ -94,6 +102,7 @@ rank_of orders tags_count place e = record {
 abbrev pub rank_order : Rank → Rank → Ordering
 rank_order a b = ordering_then (nat_cmp a.group b.group) (ordering_then (nat_cmp a.tag b.tag) (nat_cmp a.place b.place))
 
+-- the first rank is less than the second
 abbrev pub is_before : Rank → Rank → Bool
 is_before a b = is_lt (rank_order a b)
 

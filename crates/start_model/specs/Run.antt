@@ -2,8 +2,9 @@
 --
 -- An event is what it says, asks for and wakes; a run is the events in order. The order of a start is that of Windows
 -- Internals, 4th edition, startup; the script, the report and the stops are this project's own.
-use Rattle.std.specs.Prelude.{ℕ, zero, suc, ◌+◌, ◌%◌, Bool, true, false, ◌&&◌, ◌||◌, not, ◌==◌, if◌then◌else◌, List, [], ◌∷◌, ◌++◌, map, length, Option, None, Some, option_map, Result, Ok, Err, bytes_eq, codes}
+use Rattle.std.specs.Prelude.{ℕ, zero, suc, ◌+◌, ◌%◌, Bool, true, false, ◌&&◌, ◌||◌, not, ◌==◌, if◌then◌else◌, List, [], ◌∷◌, ◌++◌, map, length, Option, None, Some, Result, Ok, Err, bytes_eq, codes}
 use Rattle.std.specs.Option.{unwrap_or, option_map_or}
+use Rattle.hive_model.specs.Image.{ArmedCut, ArmedFault}
 use Rattle.hive_model.specs.Tree.{Tree, Trees, Item, Head, key, none, more, children, find_key}
 use Rattle.hive_model.specs.Edit.{Refusal, no_key, no_value, bad_name, exists, name_too_long, too_deep, data_too_long, full, edited}
 use Rattle.hive_model.specs.State.{HiveState}
@@ -12,8 +13,8 @@ use Rattle.start_model.specs.Lines.{Line, Verdict, RefusedWord, EventWord, Commi
 use Rattle.start_model.specs.Judge.{Judgement, Ignore, Log, FallBack, Stop}
 use Rattle.start_model.specs.Sets.{SelectNumbers, SetPlan, SetStop, NoControlSet, NoLastKnownGood, NoFreeNumber, select_numbers_of, usable_numbers_of, is_usable, set_of, begin_plan_of, save_plan_of, stepped}
 use Rattle.start_model.specs.Entries.{Phase, Boot, System, Automatic, Done}
-use Rattle.start_model.specs.Events.{Edit, Set, Delete, Make, Remove, Event, BootNow, Go, Fail, Edits, Flush, Logon, Off, CutNow, Arm, step_of}
-use Rattle.start_model.specs.Machine.{Start, MachineState, Tried, off_machine, failing, attempt_of, phase_after, unmet_in, after_phase, begun_with, is_done, is_good, save_due, ending_of, ended, with_start, refusal_of}
+use Rattle.start_model.specs.Events.{Set, Delete, Make, Remove, Event, BootNow, Go, Fail, Edits, Flush, Logon, Off, CutNow, Arm, step_of}
+use Rattle.start_model.specs.Machine.{Start, MachineState, Tried, off_machine, failing, attempt_of, unmet_in, after_phase, begun_with, is_done, save_due, ending_of, ended, with_start, refusal_of}
 
 -- ---- what the disk may hold, and what it wakes up with
 
@@ -22,9 +23,11 @@ pub record Possible : Type 0 where
   pub settled : HiveState
   pub other : Option HiveState
 
+-- the disk loads as this state and no other
 abbrev pub settled_at : HiveState → Possible
 settled_at state = record { settled = state; other = None }
 
+-- the disk loads as the state before a change, which is the settled one, or as the one after it
 abbrev pub open_between : HiveState → HiveState → Possible
 open_between before after = record { settled = before; other = Some after }
 
@@ -49,7 +52,8 @@ pub data Choice : Type 0 where
 
 -- ---- a run in its course
 
--- the machine, the tree with the edits of the running start, what the disk may load as, and how many starts there were
+-- the machine, the live tree with the edits of the running start, its sequence number and whether it was changed,
+-- what the disk may load as, and how many starts there were
 pub record RunState : Type 0 where
   pub machine : MachineState
   pub live : Tree
@@ -69,6 +73,7 @@ pub data Act : Type 0 where
   holds : Tree → Act → Act
   saves : Tree → Act → Act
 
+-- these lines in order, and then what follows
 abbrev pub say_all : List Line → Act → Act
 say_all [] act = act
 say_all (l ∷ ls) act = say l (say_all ls act)
@@ -104,25 +109,32 @@ committed what tree m next Finished =
 committed what tree m next PowerCut = stop_with lines.Cut (open_between m.disk.settled (next_state m tree)) m
 committed what tree m next DeviceFault = stop_with lines.Device (open_between m.disk.settled (next_state m tree)) m
 
+-- a commit of the tree: its outcome decides how it goes on, and until then the disk may load as before or as after
 abbrev pub commit : CommitWord → Tree → RunState → (RunState → Act) → Act
 commit what tree m next = ask (open_between m.disk.settled (next_state m tree)) (committed what tree m next)
 
 -- ---- the save of a good start
 
+-- the line of the four numbers
 abbrev pub select_line : SelectNumbers → Line
 select_line n = SelectLine n.current n.default n.failed n.good
 
+-- the start's save was tried, and was done or not; its clone is given up
 abbrev pub noted_saved : Bool → Start → RunState → RunState
 noted_saved ok s m = with_machine (with_start (record s { saved = Some ok; clone = None }) m.machine) m
 
+-- a line says why the save was refused, that is noted, and the run goes on
 abbrev pub save_refused : Bool → Start → RunState → (RunState → Act) → Act
 save_refused too_full s m next = say (SaveRefusedLine too_full) (next (noted_saved false s m))
 
+-- the save's steps led to a tree with the clone in it, which is committed, and the numbers are said; or the save is
+-- refused as full
 abbrev pub saved_as : Start → Tree → SelectNumbers → RunState → (RunState → Act) → Result Tree Refusal → Act
 saved_as s clone numbers m next (Ok tree) =
     saves clone (commit lines.SaveCommit tree m (λ after. say (select_line numbers) (next (noted_saved true s after))))
 saved_as s clone numbers m next (Err refusal) = save_refused true s m next
 
+-- the save by its plan; without one it is refused for want of a free number
 abbrev pub saved_by : Start → Tree → RunState → (RunState → Act) → Result SetPlan SetStop → Act
 saved_by s clone m next (Ok plan) = saved_as s clone plan.numbers m next (stepped m.live plan.steps)
 saved_by s clone m next (Err stop) = save_refused false s m next
@@ -139,6 +151,7 @@ save_where_due (Some s) m next = if save_due s then save s s.clone m next else n
 
 -- ---- the starter
 
+-- a key with nothing, in the place of a set that is not there
 abbrev pub no_set : Tree
 no_set = key (record { name = []; flags = 0; stamp = 0; class = []; security = []; values = [] }) none
 
@@ -150,18 +163,21 @@ live_set m number = unwrap_or (set_of m.live number) no_set
 abbrev pub good_is_usable : Tree → Bool
 good_is_usable live = is_usable live (select_numbers_of live).good
 
+-- the line of a phase that begins
 abbrev pub phase_line : Phase → Line
 phase_line Boot = PhaseLine lines.BootPhase
 phase_line System = PhaseLine lines.SystemPhase
 phase_line Automatic = PhaseLine lines.AutomaticPhase
 phase_line Done = PhaseLine lines.DonePhase
 
+-- the words of a failed attempt, by its judgement
 abbrev pub failed_word : Judgement → TryWord
 failed_word Ignore = lines.TryIgnored
 failed_word Log = lines.TryLogged
 failed_word FallBack = lines.TryFallBack
 failed_word Stop = lines.TryStop
 
+-- the line of an attempt
 abbrev pub try_line : Tried → Line
 try_line t = TryLine t.name (if t.ok then lines.TryOk else failed_word t.judgement)
 
@@ -172,13 +188,15 @@ judged Log m next = next m
 judged FallBack m next = end_with lines.FallBack true m
 judged Stop m next = end_with lines.Stopped false m
 
--- the phase is at its end: what still waits is unmet, and the next one begins
+-- the phase is at its end: what still waits is unmet, the next one begins, and a start that became good by that is
+-- saved
 abbrev pub phase_step : Start → RunState → (RunState → Act) → Act
 phase_step s m next =
     let after : Start = after_phase (live_set m s.number) s in
     say_all (map UnmetLine (unmet_in s)) (say (phase_line after.phase)
     (save_where_due (Some after) (with_machine (with_start after m.machine) m) next))
 
+-- an attempt that was made is said and judged; where there is none, the phase ends
 abbrev pub starter_step : Start → RunState → (RunState → Act) → Option (MachineState × Tried) → Act
 starter_step s m next (Some one) = say (try_line one.1) (judged one.1.judgement (with_machine one.0 m) next)
 starter_step s m next None = phase_step s m next
@@ -199,6 +217,7 @@ abbrev pub enough_steps : Option Start → RunState → ℕ
 enough_steps None m = 0
 enough_steps (Some s) m = length s.waiting + length (option_map_or children (find_key (codes "Services" ∷ []) (live_set m s.number)) []) + 3
 
+-- so many steps of the starter, or without a number all that there can be
 abbrev pub go_act : Option ℕ → RunState → Act
 go_act (Some n) m = go_steps n m
 go_act None m = go_steps (enough_steps m.machine.start m) m
@@ -211,18 +230,21 @@ begin_start number on_good numbers m =
     say (select_line numbers) (say (PhaseLine lines.BootPhase)
     (done (with_machine (with_start (begun_with (live_set m number) number on_good) m.machine) m)))
 
--- a plan without steps leaves the tree as it is, and nothing is committed
+-- the steps led to a tree, which is committed before the start begins; or the start ends as full
 abbrev pub begin_changed : ℕ → Bool → SetPlan → RunState → Result Tree Refusal → Act
 begin_changed number on_good plan m (Ok tree) =
     commit lines.BeginCommit tree m (begin_start number on_good plan.numbers)
 begin_changed number on_good plan m (Err refusal) = end_with lines.Full false m
 
+-- the begin by its plan: the `set` line, a commit where the plan has steps, and the start
 abbrev pub begin_with : Bool → SetPlan → RunState → Act
 begin_with on_good plan m =
     say (SetLine plan.chosen on_good)
     (if length plan.steps == 0 then begin_start plan.chosen on_good plan.numbers m
     else begin_changed plan.chosen on_good plan m (stepped m.live plan.steps))
 
+-- the begin by its plan, or the verdict where there is none; for want of a free number that stands behind the `set`
+-- line
 abbrev pub begin_by : Bool → RunState → ℕ → Result SetPlan SetStop → Act
 begin_by on_good m taken (Ok plan) = begin_with on_good plan m
 begin_by on_good m taken (Err NoControlSet) = end_with lines.NoControlSet false m
@@ -235,6 +257,7 @@ take_set on_good m =
     let numbers : SelectNumbers = select_numbers_of m.live in
     begin_by on_good m (if on_good then numbers.good else numbers.default) (begin_plan_of numbers (usable_numbers_of m.live) on_good)
 
+-- the hive was loaded, its line is said and a set is taken; or the load was stopped, and the start ends
 abbrev pub loaded : Bool → RunState → Woken → Outcome → Act
 loaded on_good m w Finished =
     say (LoadLine w.state.sequence w.dirty) (take_set on_good (record m { live = w.state.tree; sequence = w.state.sequence; changed = false }))
@@ -245,6 +268,7 @@ loaded on_good m w DeviceFault = end_with lines.Device false m
 abbrev pub woken : Bool → RunState → Woken → Act
 woken on_good m w = holds w.state.tree (ask (settled_at w.state) (loaded on_good (record m { disk = settled_at w.state }) w))
 
+-- the entry is said and the disk turned on; or the start ends before that
 abbrev pub chosen : Bool → RunState → Choice → Act
 chosen on_good m (EntryTaken number path entry_on_good) = say (EntryLine number path) (wake m.disk (woken (on_good || entry_on_good) m))
 chosen on_good m NoEntry = end_with lines.NoEntry false m
@@ -260,12 +284,14 @@ boot_act choice entry last_known_good m =
 
 -- ---- the other events
 
+-- two lists of values are one
 abbrev pub same_items : List Item → List Item → Bool
 same_items [] [] = true
 same_items [] (y ∷ ys) = false
 same_items (x ∷ xs) [] = false
 same_items (x ∷ xs) (y ∷ ys) = bytes_eq x.name y.name && (x.kind == y.kind) && bytes_eq x.bytes y.bytes && same_items xs ys
 
+-- two keys are one but for their children
 abbrev pub same_head : Head → Head → Bool
 same_head a b =
     bytes_eq a.name b.name && (a.flags == b.flags) && (a.stamp == b.stamp) && bytes_eq a.class b.class && bytes_eq a.security b.security && same_items a.values b.values
@@ -281,6 +307,7 @@ abbrev mutual
   same_trees (more t ts) none = false
   same_trees (more t ts) (more u us) = same_tree t u && same_trees ts us
 
+-- the first word of an event's line; of an ordered stop it is that of its kind
 abbrev pub event_word_of : Event → EventWord
 event_word_of (BootNow entry good) = lines.BootEvent
 event_word_of (Go steps) = lines.GoEvent
@@ -293,9 +320,10 @@ event_word_of Flush = lines.FlushEvent
 event_word_of Logon = lines.LogonEvent
 event_word_of Off = lines.OffEvent
 event_word_of (CutNow keep) = lines.CutEvent
-event_word_of (Arm arming) = lines.FaultEvent
+event_word_of (Arm (ArmedCut call n keep)) = lines.CutEvent
+event_word_of (Arm (ArmedFault call n)) = lines.FaultEvent
 
--- no edit of a script finds that a key is there already
+-- the word of an edit's refusal; that a key is there already is none that an edit of a script meets
 abbrev pub reason_of : Refusal → RefusedWord
 reason_of no_key = lines.NoKeyReason
 reason_of no_value = lines.NoValueReason
@@ -306,24 +334,28 @@ reason_of too_deep = lines.TooDeepReason
 reason_of data_too_long = lines.DataTooLongReason
 reason_of full = lines.FullReason
 
+-- the edited tree is the live one, and is changed where it is unlike the one before; or the refusal is said
 abbrev pub edit_done : Event → RunState → Result Tree Refusal → Act
 edit_done e m (Ok tree) = say EditOkLine (done (record m { live = tree; changed = m.changed || not (same_tree m.live tree) }))
 edit_done e m (Err refusal) = say (RefusedLine (event_word_of e) (reason_of refusal)) (done m)
 
+-- a changed tree is committed; else a line says that there was nothing
 abbrev pub flush_act : RunState → Act
 flush_act m = if m.changed then commit lines.FlushCommit m.live m done else say FlushNothingLine (done m)
 
+-- a changed tree is committed, and the start ends with its verdict
 abbrev pub off_act : Start → RunState → Act
 off_act s m =
     if m.changed then commit lines.OffCommit m.live m (end_with (ending_of s) false)
     else end_with (ending_of s) false m
 
+-- the logon is said and noted, and a start that became good by it is saved
 abbrev pub logon_act : Start → RunState → Act
 logon_act s m =
     let after : Start = record s { logged_on = true } in
     say LogonLine (save_where_due (Some after) (with_machine (with_start after m.machine) m) done)
 
--- the state stays the settled one, whatever the outcome is called
+-- the power is cut: one outcome is taken, whatever it is called, and the state stays the settled one
 abbrev pub cut_act : RunState → Act
 cut_act m = ask m.disk (λ outcome. end_with lines.Cut false m)
 
@@ -351,10 +383,12 @@ idle_act choice Off m = done m
 idle_act choice (CutNow keep) m = done m
 idle_act choice (Arm arming) m = done m
 
+-- an event that was not refused, with a start that runs or none
 abbrev pub accepted_act : (Option ℕ → Choice) → Option Start → Event → RunState → Act
 accepted_act choice None e m = idle_act choice e m
 accepted_act choice (Some s) e m = running_act s e m
 
+-- the line of a refusal, or else what the event does
 abbrev pub act_unless : (Option ℕ → Choice) → Event → RunState → Option RefusedWord → Act
 act_unless choice e m (Some reason) = say (RefusedLine (event_word_of e) reason) (done m)
 act_unless choice e m None = accepted_act choice m.machine.start e m
@@ -376,9 +410,11 @@ pub record RunResult : Type 0 where
   pub disk : Possible
   pub rest : Option (RunState × List Woken × List Outcome)
 
+-- the result of a run that needs a wake or an outcome and has none, with what the disk may load as then
 abbrev pub ran_out : Possible → RunResult
 ran_out disk = record { lines = []; expects = []; trees = []; clones = []; disk = disk; rest = None }
 
+-- the result of a run that came to this state, with the wakes and outcomes that are left
 abbrev pub reached : RunState → List Woken → List Outcome → RunResult
 reached m wakes outcomes = record { lines = []; expects = []; trees = []; clones = []; disk = m.disk; rest = Some (m, wakes, outcomes) }
 
@@ -404,6 +440,7 @@ behind first second = record {
   rest = second.rest;
 }
 
+-- the first result, and behind it what follows from its state; the first alone where it ran out
 abbrev pub then_run : (RunState → List Woken → List Outcome → RunResult) → RunResult → Option (RunState × List Woken × List Outcome) → RunResult
 then_run go first None = first
 then_run go first (Some (m, wakes, outcomes)) = behind first (go m wakes outcomes)
@@ -413,6 +450,7 @@ abbrev pub closing_lines : Option Start → List Line
 closing_lines None = EndLine ∷ []
 closing_lines (Some s) = VerdictLine (ending_of s) ∷ EndLine ∷ []
 
+-- the end of the script: its closing lines, in this state
 abbrev pub closed : RunState → List Woken → List Outcome → RunResult
 closed m wakes outcomes = record (reached m wakes outcomes) { lines = closing_lines m.machine.start }
 
@@ -426,6 +464,8 @@ run_from choice (e ∷ es) m wakes outcomes =
 abbrev pub first_state : HiveState → RunState
 first_state placed = record { machine = off_machine; live = placed.tree; sequence = placed.sequence; changed = false; disk = settled_at placed; starts = 0 }
 
+-- what comes of a script, by the choice among the entries, the placed state, what the wakes load as and how the disk
+-- operations end
 unfoldable pub run_of : (Option ℕ → Choice) → List Event → HiveState → List Woken → List Outcome → RunResult
 run_of choice script placed wakes outcomes = run_from choice script (first_state placed) wakes outcomes
 
@@ -437,6 +477,7 @@ pub record Quiet : Type 0 where
   pub state : RunState
   pub dirty : Bool
 
+-- an event where each wake is the settled state and each operation is done
 abbrev pub quiet_play : Act → Bool → Quiet
 quiet_play (done m) dirty = record { lines = []; state = m; dirty = dirty }
 quiet_play (say l act) dirty = let q : Quiet = quiet_play act dirty in record q { lines = l ∷ q.lines }
@@ -445,6 +486,7 @@ quiet_play (wake disk next) dirty = quiet_play (next (record { state = disk.sett
 quiet_play (holds tree act) dirty = quiet_play act dirty
 quiet_play (saves clone act) dirty = quiet_play act dirty
 
+-- the lines of the rest of a script, played so from a state on
 abbrev pub quiet_from : (Option ℕ → Choice) → List Event → RunState → Bool → List Line
 quiet_from choice [] m dirty = closing_lines m.machine.start
 quiet_from choice (e ∷ es) m dirty =

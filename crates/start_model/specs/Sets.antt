@@ -23,6 +23,7 @@ pub record SelectNumbers : Type 0 where
 abbrev pub select_number : List ℕ → Option Tree → ℕ
 select_number name select = unwrap_or (option_and_then (find_dword name) select) 0
 
+-- the four numbers of the key `Select`; all are 0 where there is no such key
 abbrev pub numbers_in : Option Tree → SelectNumbers
 numbers_in select = record {
   current = select_number (codes "Current") select;
@@ -31,6 +32,7 @@ numbers_in select = record {
   good = select_number (codes "LastKnownGood") select;
 }
 
+-- the four numbers of the tree's key `Select`
 abbrev pub select_numbers_of : Tree → SelectNumbers
 select_numbers_of t = numbers_in (find_key (codes "Select" ∷ []) t)
 
@@ -53,6 +55,7 @@ is_usable t n = nat_le 1 n && nat_le n 999 && is_some (set_of t n)
 unfoldable pub usable_numbers_of : Tree → List ℕ
 usable_numbers_of t = filter (is_usable t) (range_with_len 1 999)
 
+-- the number is in the list
 abbrev pub has_number : List ℕ → ℕ → Bool
 has_number numbers n = list_any (λ k. k == n) numbers
 
@@ -77,6 +80,7 @@ pub data SetStop : Type 0 where
   -- each number from 1 to 999 names a set
   NoFreeNumber : SetStop
 
+-- Current, Default, Failed and LastKnownGood as a list
 abbrev pub four_of : SelectNumbers → List ℕ
 four_of n = n.current ∷ n.default ∷ n.failed ∷ n.good ∷ []
 
@@ -84,6 +88,7 @@ four_of n = n.current ∷ n.default ∷ n.failed ∷ n.good ∷ []
 abbrev pub retired_of : List ℕ → SelectNumbers → SelectNumbers → List ℕ
 retired_of usable old new = filter (λ n. has_number (four_of old) n && not (has_number (four_of new) n)) usable
 
+-- the steps that delete the sets that retire, in rising number
 abbrev pub deletions_of : List ℕ → SelectNumbers → SelectNumbers → List Step
 deletions_of usable old new = map (λ n. delete_key (set_name n ∷ [])) (retired_of usable old new)
 
@@ -91,6 +96,7 @@ deletions_of usable old new = map (λ n. delete_key (set_name n ∷ [])) (retire
 abbrev pub written : List ℕ → ℕ → ℕ → List Step
 written name old new = if old == new then [] else set_value (codes "Select" ∷ []) name 4 (to_le_bytes w32 new) ∷ []
 
+-- the steps that write the numbers that differ, in the order Current, Default, Failed, LastKnownGood
 abbrev pub writes_of : SelectNumbers → SelectNumbers → List Step
 writes_of old new =
     written (codes "Current") old.current new.current
@@ -135,6 +141,7 @@ begin_plan_of old usable last_known_good =
 
 -- ---- the save of a good start
 
+-- the plan of a save under this free number; no plan where there is none
 abbrev pub saved_plan : SelectNumbers → List ℕ → Tree → Option ℕ → Result SetPlan SetStop
 saved_plan old usable clone None = Err NoFreeNumber
 saved_plan old usable clone (Some free) = Ok (plan_with free usable old (record old { good = free }) (add_child (set_name free) clone ∷ []))
@@ -155,10 +162,12 @@ abbrev pub stepped : Tree → List Step → Result Tree Refusal
 stepped t [] = Ok t
 stepped t (s ∷ ss) = edited t (s ∷ ss)
 
+-- a number with the tree that steps led to; any refusal of the steps is called full
 abbrev pub changed_by : ℕ → Result Tree Refusal → Result (ℕ × Tree) ChangeStop
 changed_by chosen (Ok t) = Ok (chosen, t)
 changed_by chosen (Err e) = Err Full
 
+-- what a plan makes of the tree, or why nothing is changed
 abbrev pub planned : Tree → Result SetPlan SetStop → Result (ℕ × Tree) ChangeStop
 planned t (Ok plan) = changed_by plan.chosen (stepped t plan.steps)
 planned t (Err e) = Err (NoPlan e)
