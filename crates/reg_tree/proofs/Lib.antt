@@ -4,3 +4,6 @@ pub mod Places
 pub mod Outcomes
 pub mod Changes
 pub mod Stepping
+pub mod Unlike
+pub mod Sound
+pub mod Edited

@@ -1,3 +1,4 @@
 pub mod Makes
 pub mod Places
 pub mod Change
+pub mod Fitting

@@ -1,7 +1,10 @@
 //! Edits in steps, all or none.
 
 ghost use Rattle.std.specs.Prelude.{◌≡◌, length, map, Ok};
+ghost use Rattle.std.specs.List.{All};
 ghost use Rattle.hive_model.specs.Edit.{value_set, value_deleted, key_made, key_deleted, child_copied, child_added, after_step, edited, has_item, is_bad_name, with_child};
+ghost use Rattle.hive_model.specs.Valid.{IsValid};
+ghost use Rattle.reg_tree.specs.Fitting.{Fits};
 ghost use Rattle.reg_tree.specs.Makes.{Edits, Makes, step_of};
 
 use crate::change::Change;
@@ -168,9 +171,11 @@ impl Key {
     }
 
     /// Makes the steps in order, all or none. The first step that is refused decides; where none is,
-    /// a result whose bulk is over 16,773,120 bytes is `Full`. After an `Err` the tree is as before.
+    /// a result whose bulk is over 16,773,120 bytes is `Full`. After an `Err` the tree is as before. A tree
+    /// that a hive can hold stays one, where each key that a step brings along can be held too.
     pub fn apply(&mut self, alloc: Global, steps: Steps) -> Result<(), EditStop>
-        ensures { Makes self.old self.new result (edited self.old (map step_of steps)) }
+        ensures made { Makes self.old self.new result (edited self.old (map step_of steps)) }
+        ensures valid { IsValid self.old → All Fits (map step_of steps) → IsValid self.new }
     {
         let mut work = self.copy(alloc)?;
         let mut rest = steps.into_vec().into_iter();

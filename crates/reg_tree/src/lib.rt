@@ -10,6 +10,7 @@ mod change;
 mod copy;
 mod find;
 mod key;
+mod laws;
 mod levels;
 mod lists;
 mod same;
@@ -20,6 +21,7 @@ mod tests;
 mod value;
 
 pub use key::{Key, Keys};
+pub use laws::an_edited_tree_is_valid;
 pub use steps::{Steps, TreeStep};
 pub use stop::EditStop;
 pub use value::{Value, Values};
