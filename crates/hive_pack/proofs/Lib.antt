@@ -10,6 +10,8 @@ pub mod Items
 pub mod Named
 pub mod Standing
 pub mod Heap
+pub mod Sized
 pub mod Once
 pub mod Singly
 pub mod Formed
+pub mod Uses

@@ -115,7 +115,7 @@ secured cells node up p hi (b ∷ s) cs is a i le small g = go (pointwise nat_eq
         let some : eqb p nowhere ≡ false = ne_eqb _ _ (λ q. omega arith) in
         rw (place, some) (good_own p (p + cell (20 + length (b ∷ s))) hi up.security_place p _ (omega arith) (omega arith) size (good_tests (p + cell (20 + length (b ∷ s))) hi p p _ cs h))
 
-above_below : (up : Above) (at p : ℕ) (s : List ℕ) → IsAbove up at → at < p → (security_place_of up p s < p + security_size up.security s) ⊎ (security_place_of up p s ≡ nowhere)
+pub above_below : (up : Above) (at p : ℕ) (s : List ℕ) → IsAbove up at → at < p → (security_place_of up p s < p + security_size up.security s) ⊎ (security_place_of up p s ≡ nowhere)
 above_below up at p [] i l = inr refl
 above_below up at p (b ∷ s) i l = go (has_own up.security (b ∷ s)) i
   where
@@ -128,7 +128,7 @@ outside_of : (d lo hi : ℕ) → hi ≤ 16777216 → (d < lo) ⊎ (d ≡ nowhere
 outside_of d lo hi h (inl p) = inl p
 outside_of d lo hi h (inr p) = inr (omega arith)
 
-later_above : (up : Above) (at p : ℕ) → at ≤ p → IsAbove up at → IsAbove up p
+pub later_above : (up : Above) (at p : ℕ) → at ≤ p → IsAbove up at → IsAbove up p
 later_above up at p l (inl q) = inl (omega arith)
 later_above up at p l (inr q) = inr q
 

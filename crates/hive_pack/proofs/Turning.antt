@@ -1,6 +1,6 @@
 -- What stands behind and before a place in a ring whose places rise.
-use Rattle.std.proofs.Common.{◌≡◌, ◌≤◌, ◌<◌, ◌-◌, ◌⊎◌, inl, inr, ℕ, zero, suc, true, false, eqb, eq-eqb, List, [], ◌∷◌, length, get_or, drop, refl, ap, arith}
-use Rattle.std.proofs.lemmas.Bool.{ne_eqb}
+use Rattle.std.proofs.Common.{◌≡◌, ◌≤◌, ◌<◌, ◌-◌, ◌+◌, ◌⊎◌, inl, inr, ℕ, zero, suc, true, false, eqb, eq-eqb, List, [], ◌∷◌, length, get_or, drop, refl, sym, ap, ◌∙◌, arith}
+use Rattle.std.proofs.lemmas.Bool.{ne_eqb, cases_lt}
 use Rattle.hive_model.specs.Packed.{first_or, last_or, behind, ahead, forward, backward}
 use Rattle.hive_pack.specs.Writes.{IsRising}
 
@@ -78,3 +78,35 @@ cases_le (suc i) (suc j) le = go (cases_le i j (omega arith))
 
 pub weakly : (xs : List ℕ) → IsRising xs → (i j : ℕ) → i ≤ j → j < length xs → get_or xs i 0 ≤ get_or xs j 0
 weakly xs h i j le lt = elim (cases_le i j le) [ inl q ↦ omega (arith, h i j q lt) | inr q ↦ rw q (omega arith) ]
+
+-- ---- the ring by positions
+
+pub next_is : (xs : List ℕ) (at i : ℕ) → IsRising xs → i < length xs → get_or xs i 0 ≡ at → i + 1 < length xs → get_or xs (i + 1) 0 ≡ forward xs at
+next_is xs at i r lt e more =
+    let one : i + 1 ≡ suc i = omega arith in
+    ap (λ k. get_or xs k 0) one ∙ sym (behind_at (first_or 0 xs) xs at i lt e (λ k l. omega (arith, r k i l lt, e)) ∙ head_drop (first_or 0 xs) xs (suc i) (omega arith))
+
+pub next_of_last : (xs : List ℕ) (at i : ℕ) → IsRising xs → i < length xs → get_or xs i 0 ≡ at → length xs ≤ i + 1 → get_or xs 0 0 ≡ forward xs at
+next_of_last xs at i r lt e last = sym (behind_at (first_or 0 xs) xs at i lt e (λ k l. omega (arith, r k i l lt, e)) ∙ head_past (first_or 0 xs) xs (suc i) (omega arith) ∙ head_first xs (omega arith))
+
+pub before_is : (xs : List ℕ) (at i : ℕ) → IsRising xs → i < length xs → get_or xs i 0 ≡ at → 0 < i → get_or xs (i - 1) 0 ≡ backward xs at
+before_is xs at i r lt e some =
+    let one : suc (i - 1) ≡ i = omega arith in
+    sym (ahead_later (last_or 0 xs) xs at (i - 1) (omega arith) (ap (λ k. get_or xs k 0) one ∙ e) (λ k l. omega (arith, r k i (omega arith) lt, e)))
+
+pub before_first : (xs : List ℕ) (at i : ℕ) → 0 < length xs → get_or xs i 0 ≡ at → i ≡ 0 → get_or xs (length xs - 1) 0 ≡ backward xs at
+before_first xs at i lt e z = sym (ahead_first (last_or 0 xs) xs at lt (ap (λ k. get_or xs k 0) (sym z) ∙ e) ∙ last_at 0 xs lt)
+
+-- backward undoes forward
+pub turned_back : (xs : List ℕ) (i : ℕ) → IsRising xs → i < length xs → backward xs (forward xs (get_or xs i 0)) ≡ get_or xs i 0
+turned_back xs i r lt =
+    elim (cases_lt (i + 1) (length xs)) [
+      | inl more ↦
+          let there = next_is xs (get_or xs i 0) i r lt refl more in
+          let one : i + 1 - 1 ≡ i = omega arith in
+          sym (before_is xs (forward xs (get_or xs i 0)) (i + 1) r more there (omega arith)) ∙ ap (λ k. get_or xs k 0) one
+      | inr last ↦
+          let there = next_of_last xs (get_or xs i 0) i r lt refl last in
+          let one : length xs - 1 ≡ i = omega arith in
+          sym (before_first xs (forward xs (get_or xs i 0)) 0 (omega arith) there refl) ∙ ap (λ k. get_or xs k 0) one
+    ]

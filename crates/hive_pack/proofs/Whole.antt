@@ -65,7 +65,7 @@ unfolding cell_text
 used_text [] = refl
 used_text (p ∷ ps) = ap (λ (x : List ℕ). cell_bytes (used_cell p) ++ x) (used_text ps)
 
-free_size : (n : ℕ) → n % 8 ≡ 0 → cells_size (free_cells n) ≡ n
+pub free_size : (n : ℕ) → n % 8 ≡ 0 → cells_size (free_cells n) ≡ n
 free_size zero h = refl
 free_size (suc n) h =
     let some : eqb (suc n) 0 ≡ false = ne_eqb (suc n) 0 (λ e. omega arith) in

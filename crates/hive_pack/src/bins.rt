@@ -1,8 +1,9 @@
 //! The bins data of a packed tree.
 
-ghost use Rattle.std.specs.Prelude.{◌≡◌, ◌≤◌, ◌<◌, ◌%◌, ◌++◌, IfOk, OnOk};
+ghost use Rattle.std.specs.Prelude.{◌≡◌, ◌≤◌, ◌<◌, ◌%◌, ◌++◌, true, length, IfOk, OnOk};
 ghost use Rattle.std.specs.List.{flat_map};
 ghost use lib.ListN.{replicate};
+ghost use Rattle.hive_model.specs.Base.{is_bins_size};
 ghost use Rattle.hive_model.specs.Valid.{IsValid};
 ghost use Rattle.hive_model.specs.Size.{bulk_of};
 ghost use Rattle.hive_model.specs.Bins.{head_bytes, cell_bytes, look_up, IsBins};
@@ -25,6 +26,7 @@ pub fn pack(alloc: Global, tree: &Key) -> Result<Bytes, AllocError>
     requires valid { IsValid tree.now }
     requires room { bulk_of tree.now ≤ 16773120 }
     ensures bytes { IfOk result (λ b. b ≡ packed tree.now) }
+    ensures sized { IfOk result (λ b. is_bins_size (length b) ≡ true) }
     ensures bins { IfOk result (λ b. IsBins b (packed_bins tree.now)) }
     ensures well_formed { IfOk result (λ _. IsWellFormed (look_up (packed_bins tree.now)) 32 tree.now) }
 {

@@ -20,4 +20,7 @@ mod values;
 mod write;
 
 pub use bins::pack;
-pub use laws::{packed_cells_are_well_formed, packed_form_is_its_bins, packed_tree_stands};
+pub use laws::{
+    packed_cells_are_well_formed, packed_form_is_its_bins, packed_tree_stands,
+    security_cells_are_a_ring, security_cells_count_their_keys,
+};

@@ -1,12 +1,14 @@
-use Rattle.std.proofs.Common.{◌≡◌, ◌-◌, ◌++◌, List, [], ℕ, length, sym, ap, subst, ◌∙◌, arith}
+use Rattle.std.proofs.Common.{◌≡◌, ◌-◌, ◌++◌, List, [], ℕ, length, sym, ap, subst, ◌∙◌, true, arith}
 use Rattle.std.proofs.lemmas.List.{length-append}
 use Rattle.std.specs.List.{flat_map}
+use Rattle.hive_model.specs.Base.{is_bins_size}
 use Rattle.hive_model.specs.Bins.{cell_bytes}
 use Rattle.hive_model.specs.Packed.{ring, rounded, free_cells}
 use Rattle.hive_pack.specs.Writes.{IsRising}
 use Rattle.hive_pack.proofs.Heap.{packed_is_bins}
 use Rattle.hive_pack.proofs.Formed.{packed_is_well_formed}
 use Rattle.hive_pack.proofs.Rising.{ring_rises}
+use Rattle.hive_pack.proofs.Sized.{packed_is_sized}
 use Rattle.hive_pack.proofs.Whole.{eights, length_whole, length_header, whole_written}
 use Rattle.hive_pack.proofs.Written.{zeros}
 use Rattle.hive_pack.proofs.bins.pack.Goals as goal
@@ -48,6 +50,9 @@ returns-clause-bytes c =
     let r = after_nothing c.new-ring.result.items c.ring_of.new.ring.items (ring [] 32 c.args.tree.now) c.new-ring.ensures.items c.in_ok-_end.ensures.listed in
     whole_written c.deref.result.now c.args.tree.now c.append_zeros.new.self c.write_key.new.out c.put_free.new.out c.as_slice.result.now c.overwrite.new.self _ _ (c.deref.ensures.value ∙ r) k c.in_ok-write_key.ensures
     (ap rounded c.len-used.ensures) (ap (λ (n : ℕ). rounded c.len-used.result - n) c.len-used.ensures) c.in_ok-put_free.ensures (c.as_slice.ensures ∙ c.in_ok-header.ensures) c.overwrite.ensures
+
+pub returns-clause-sized : goal.returns-clause-sized
+returns-clause-sized c = subst (λ (b : List ℕ). is_bins_size (length b) ≡ true) (sym (returns-clause-bytes c)) (packed_is_sized c.args.tree.now c.requires.room)
 
 pub returns-clause-bins : goal.returns-clause-bins
 returns-clause-bins c = let bins = packed_is_bins c.args.tree.now c.requires.room in (bins.0, returns-clause-bytes c ∙ bins.1)

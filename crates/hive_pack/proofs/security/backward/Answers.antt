@@ -1,18 +1,9 @@
-use Rattle.std.proofs.Common.{◌≡◌, ◌⊎◌, inl, inr, ◌<◌, ◌≤◌, ℕ, ◌-◌, List, suc, get_or, length, sym, ap, ◌∙◌, arith, Ok, Err}
+use Rattle.std.proofs.Common.{◌≡◌, ◌⊎◌, inl, inr, ◌<◌, ◌≤◌, ℕ, ◌-◌, List, get_or, length, sym, ◌∙◌, arith, Ok, Err}
 use Rattle.std.proofs.lemmas.Bool.{cases_lt}
 use Rattle.std.proofs.lemmas.List.Sorted.{searched}
 use Rattle.hive_model.specs.Packed.{last_or, backward}
-use Rattle.hive_pack.specs.Writes.{IsRising}
-use Rattle.hive_pack.proofs.Turning.{ahead_none, ahead_first, ahead_later, last_at, weakly}
+use Rattle.hive_pack.proofs.Turning.{ahead_none, last_at, weakly, before_is, before_first}
 use Rattle.hive_pack.proofs.security.backward.Goals as goal
-
-before_is : (xs : List ℕ) (at i : ℕ) → IsRising xs → i < length xs → get_or xs i 0 ≡ at → 0 < i → get_or xs (i - 1) 0 ≡ backward xs at
-before_is xs at i r lt e some =
-    let one : suc (i - 1) ≡ i = omega arith in
-    sym (ahead_later (last_or 0 xs) xs at (i - 1) (omega arith) (ap (λ k. get_or xs k 0) one ∙ e) (λ k l. omega (arith, r k i (omega arith) lt, e)))
-
-last_is : (xs : List ℕ) (at i : ℕ) → 0 < length xs → get_or xs i 0 ≡ at → i ≡ 0 → get_or xs (length xs - 1) 0 ≡ backward xs at
-last_is xs at i lt e z = sym (ahead_first (last_or 0 xs) xs at lt (ap (λ k. get_or xs k 0) (sym z) ∙ e) ∙ last_at 0 xs lt)
 
 none_is : (xs : List ℕ) (at j : ℕ) → 0 < length xs → ((k : ℕ) → k < j → get_or xs k 0 < at) → ((k : ℕ) → j ≤ k → k < length xs → at < get_or xs k 0) → get_or xs (length xs - 1) 0 ≡ backward xs at
 none_is xs at j some low high = sym (ahead_none (last_or 0 xs) xs at (λ k lt e. go k lt e (cases_lt k j)) ∙ same ∙ last_at 0 xs some)
@@ -34,7 +25,7 @@ pub returns-else-i-gt0 : goal.returns-else-i-gt0
 returns-else-i-gt0 c =
     let xs = c.args.ring.now in
     let f = searched xs c.args.at (Ok c.in-Ok.i) c.in-Ok.ensures.position (weakly xs c.requires) in
-    last_is xs c.args.at c.in-Ok.i (omega arith) f.1 (omega arith)
+    before_first xs c.args.at c.in-Ok.i (omega arith) f.1 (omega arith)
 
 pub returns-in-Err : goal.returns-in-Err
 returns-in-Err c =

@@ -1,18 +1,9 @@
-use Rattle.std.proofs.Common.{◌≡◌, ◌⊎◌, inl, inr, ◌<◌, ◌≤◌, ℕ, ◌+◌, List, suc, get_or, length, sym, ap, ◌∙◌, arith, Ok, Err}
+use Rattle.std.proofs.Common.{◌≡◌, ◌⊎◌, inl, inr, ◌<◌, ◌≤◌, ℕ, List, get_or, length, sym, ◌∙◌, arith, Ok, Err}
 use Rattle.std.proofs.lemmas.Bool.{cases_lt}
 use Rattle.std.proofs.lemmas.List.Sorted.{searched}
 use Rattle.hive_model.specs.Packed.{first_or, forward}
-use Rattle.hive_pack.specs.Writes.{IsRising}
-use Rattle.hive_pack.proofs.Turning.{behind_none, behind_at, head_drop, head_past, head_first, weakly}
+use Rattle.hive_pack.proofs.Turning.{behind_none, head_first, weakly, next_is, next_of_last}
 use Rattle.hive_pack.proofs.security.forward.Goals as goal
-
-next_is : (xs : List ℕ) (at i : ℕ) → IsRising xs → i < length xs → get_or xs i 0 ≡ at → i + 1 < length xs → get_or xs (i + 1) 0 ≡ forward xs at
-next_is xs at i r lt e more =
-    let one : i + 1 ≡ suc i = omega arith in
-    ap (λ k. get_or xs k 0) one ∙ sym (behind_at (first_or 0 xs) xs at i lt e (λ k l. omega (arith, r k i l lt, e)) ∙ head_drop (first_or 0 xs) xs (suc i) (omega arith))
-
-last_is : (xs : List ℕ) (at i : ℕ) → IsRising xs → i < length xs → get_or xs i 0 ≡ at → length xs ≤ i + 1 → get_or xs 0 0 ≡ forward xs at
-last_is xs at i r lt e last = sym (behind_at (first_or 0 xs) xs at i lt e (λ k l. omega (arith, r k i l lt, e)) ∙ head_past (first_or 0 xs) xs (suc i) (omega arith) ∙ head_first xs (omega arith))
 
 none_is : (xs : List ℕ) (at j : ℕ) → 0 < length xs → ((k : ℕ) → k < j → get_or xs k 0 < at) → ((k : ℕ) → j ≤ k → k < length xs → at < get_or xs k 0) → get_or xs 0 0 ≡ forward xs at
 none_is xs at j some low high = sym (behind_none (first_or 0 xs) xs at (λ k lt e. go k lt e (cases_lt k j)) ∙ head_first xs some)
@@ -31,7 +22,7 @@ pub returns-else-i-ring : goal.returns-else-i-ring
 returns-else-i-ring c =
     let xs = c.args.ring.now in
     let f = searched xs c.args.at (Ok c.in-Ok.i) c.in-Ok.ensures.position (weakly xs c.requires) in
-    last_is xs c.args.at c.in-Ok.i c.requires f.0 f.1 (omega arith)
+    next_of_last xs c.args.at c.in-Ok.i c.requires f.0 f.1 (omega arith)
 
 pub returns-in-Err : goal.returns-in-Err
 returns-in-Err c =
