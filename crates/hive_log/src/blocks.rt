@@ -8,14 +8,15 @@ ghost use Rattle.nt_edge.specs.Disk.{CountsGrow};
 ghost use Rattle.hive_log.specs.Mixing.{front_in};
 ghost use Rattle.hive_log.specs.Stops.{Reads, HasLoadCause, IsOnAfterLoad};
 
-use crate::{LoadStop, bitmap_sectors, has_bit, read_log_run, short_log};
+use crate::gathering::{read_log_run, short_log};
+use crate::{LoadStop, bitmap_sectors, has_bit};
 use nt_bytes::{Bytes, HiveFault, HiveKind};
 use nt_edge::{Address, Disk, HiveFile, Presence};
 use regf_base::{BaseBlock, read_base};
 use std::alloc::{AllocError, Global};
 
 /// The primary's base block.
-pub fn read_primary_block<D: Disk>(disk: &mut D) -> Result<BaseBlock, LoadStop>
+pub(crate) fn read_primary_block<D: Disk>(disk: &mut D) -> Result<BaseBlock, LoadStop>
     requires on { (D.state disk.old).on ≡ true }
     requires still { D.tells ≡ true → (D.state disk.old).flight ≡ [] }
     ensures block { D.tells ≡ true → Reads result (base_in (primary_in (D.state disk.old).held)) }
@@ -42,7 +43,7 @@ pub fn read_primary_block<D: Disk>(disk: &mut D) -> Result<BaseBlock, LoadStop>
 }
 
 /// The log's base block. A fault of it is `LogBase` at the same byte.
-pub fn read_log_block<D: Disk>(disk: &mut D) -> Result<BaseBlock, LoadStop>
+pub(crate) fn read_log_block<D: Disk>(disk: &mut D) -> Result<BaseBlock, LoadStop>
     requires on { (D.state disk.old).on ≡ true }
     requires still { D.tells ≡ true → (D.state disk.old).flight ≡ [] }
     ensures block { D.tells ≡ true → Reads result (logged_in (log_in (D.state disk.old).held)) }
@@ -112,7 +113,11 @@ fn read_bitmap_front<D: Disk>(alloc: Global, disk: &mut D) -> Result<Bytes, Load
 }
 
 /// The whole bitmap with its signature, for bins data of this size in bytes.
-pub fn read_bitmap<D: Disk>(alloc: Global, disk: &mut D, size: u32) -> Result<Bytes, LoadStop>
+pub(crate) fn read_bitmap<D: Disk>(
+    alloc: Global,
+    disk: &mut D,
+    size: u32,
+) -> Result<Bytes, LoadStop>
     requires on { (D.state disk.old).on ≡ true }
     requires still { D.tells ≡ true → (D.state disk.old).flight ≡ [] }
     requires few { size ≤ 16777216 }
@@ -132,7 +137,7 @@ pub fn read_bitmap<D: Disk>(alloc: Global, disk: &mut D, size: u32) -> Result<By
 }
 
 /// How many of the first `count` bits are on.
-pub fn count_bits(bitmap: &[u8], count: u32) -> u32
+pub(crate) fn count_bits(bitmap: &[u8], count: u32) -> u32
     ensures count { result ≡ rank (bit bitmap.now) count }
     ensures small { result ≤ count }
 {
@@ -147,7 +152,7 @@ pub fn count_bits(bitmap: &[u8], count: u32) -> u32
 }
 
 /// The number in the log of the first sector whose bit is on, for bins data of this size in bytes.
-pub fn first_run_sector(size: u32) -> u32
+pub(crate) fn first_run_sector(size: u32) -> u32
     requires { is_bins_size size ≡ true }
     ensures value { result ≡ book.first_dirty size }
     ensures small { result ≤ 100 }
@@ -156,7 +161,7 @@ pub fn first_run_sector(size: u32) -> u32
 }
 
 /// The bits of a bitmap, behind its signature.
-pub fn bits_behind(alloc: Global, text: &[u8]) -> Result<Bytes, AllocError>
+pub(crate) fn bits_behind(alloc: Global, text: &[u8]) -> Result<Bytes, AllocError>
     requires { 4 ≤ length text.now }
     ensures { IfOk result (λ b. b ≡ drop 4 text.now) }
 {
@@ -164,7 +169,7 @@ pub fn bits_behind(alloc: Global, text: &[u8]) -> Result<Bytes, AllocError>
 }
 
 /// Whether both numbers of the log's base block are the primary's first one.
-pub fn follows(opened: &BaseBlock, logged: &BaseBlock) -> bool
+pub(crate) fn follows(opened: &BaseBlock, logged: &BaseBlock) -> bool
     ensures { result ≡ ((logged.now.first == opened.now.first) && (logged.now.second == opened.now.first)) }
 {
     logged.first == opened.first && logged.second == opened.first

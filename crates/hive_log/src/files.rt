@@ -1,6 +1,7 @@
 //! Two files as a disk that can only be read.
 
 ghost use Rattle.std.specs.Prelude.{◌≡◌, ◌*◌, ◌+◌, ◌≤◌, ◌<◌, true, Some, None, IfOk, length};
+ghost use Rattle.hive_model.specs.Base.{is_bins_size};
 ghost use Rattle.hive_model.specs.Image as image;
 ghost use Rattle.hive_model.specs.Recovery.{recovered_of};
 ghost use Rattle.nt_edge.specs.declared.disk.Presence.TheVariants.{Whole, Absent};
@@ -70,7 +71,8 @@ fn file_sector(bytes: &[u8], n: usize, into: &mut [u8; 512]) -> Presence
 
 /// What two files are recovered as; an empty log is an absent one. `Fault` is the first check that fails.
 pub fn recovered(alloc: Global, primary: &[u8], log: &[u8]) -> Result<Recovered, ReadStop>
-    ensures { ReadsFiles result (recovered_of (image.image_of primary.now log.now)) }
+    ensures exact { ReadsFiles result (recovered_of (image.image_of primary.now log.now)) }
+    ensures sized { IfOk result (λ r. is_bins_size (length r.bins) ≡ true) }
 {
     let mut files = Files { primary, log };
     match read_recovered(alloc, &mut files) {
@@ -81,6 +83,7 @@ pub fn recovered(alloc: Global, primary: &[u8], log: &[u8]) -> Result<Recovered,
             },
         ) => Ok(recovered),
         Err(LoadStop::Fault(fault)) => Err(ReadStop::Fault(fault)),
-        Err(_) => Err(ReadStop::Memory),
+        Err(LoadStop::Memory) => Err(ReadStop::Memory),
+        Err(LoadStop::PowerLost | LoadStop::Device) => unreachable!(),
     }
 }

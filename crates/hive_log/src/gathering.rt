@@ -11,13 +11,14 @@ ghost use Rattle.hive_log.specs.Stops.{Reads, HasLoadCause, IsOnAfterLoad};
 ghost use Rattle.nt_bytes.specs.declared.fault.HiveKind.TheVariants.{LogShort};
 ghost use Rattle.hive_log.specs.declared.stops.LoadStop.TheVariants.{Fault};
 
-use crate::{LoadStop, has_bit, sector_of};
+use crate::sectors::sector_of;
+use crate::{LoadStop, has_bit};
 use nt_bytes::{Bytes, HiveFault, HiveKind};
 use nt_edge::{Address, Disk, HiveFile, Presence};
 use std::alloc::Global;
 
 /// A sector of the log is absent.
-pub fn short_log(n: u32) -> LoadStop
+pub(crate) fn short_log(n: u32) -> LoadStop
     requires { n < 100000 }
     ensures { result ≡ Fault (fault_at LogShort (512 * n)) }
 {
@@ -38,7 +39,7 @@ fn short_bins() -> LoadStop
 }
 
 /// The sectors of the log from one number on, or `LogShort` at the byte of the first that is absent.
-pub fn read_log_run<D: Disk>(
+pub(crate) fn read_log_run<D: Disk>(
     alloc: Global,
     disk: &mut D,
     first: u32,
@@ -74,7 +75,7 @@ pub fn read_log_run<D: Disk>(
 
 /// The bins data: a sector whose bit is on is the next of the log's run, the others are read from the
 /// primary. An absent one is `Size`.
-pub fn read_bins<D: Disk>(
+pub(crate) fn read_bins<D: Disk>(
     alloc: Global,
     disk: &mut D,
     bitmap: &[u8],

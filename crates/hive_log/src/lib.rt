@@ -15,14 +15,9 @@ mod spelling;
 mod stops;
 
 pub use bitmap::{bitmap_sector, bitmap_sectors, has_bit, mark_all};
-pub use blocks::{
-    bits_behind, count_bits, first_run_sector, follows, read_bitmap, read_log_block,
-    read_primary_block,
-};
 pub use files::recovered;
-pub use gathering::{read_bins, read_log_run, short_log};
 pub use looking::{Reading, read_recovered};
 pub use outcome::Recovered;
-pub use sectors::{copy_sector, logged_block, sector_of};
+pub use sectors::{copy_sector, logged_block};
 pub use spelling::log_sectors;
 pub use stops::LoadStop;

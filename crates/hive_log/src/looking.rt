@@ -9,10 +9,12 @@ ghost use Rattle.hive_log.specs.Found.{Found};
 ghost use Rattle.hive_log.specs.Shown.{read_of};
 ghost use Rattle.hive_log.specs.Stops.{Reads, ReadsAs, HasLoadCause, IsOnAfterLoad};
 
-use crate::{
-    LoadStop, Recovered, bits_behind, count_bits, first_run_sector, follows, read_bins,
-    read_bitmap, read_log_block, read_log_run, read_primary_block,
+use crate::blocks::{
+    bits_behind, count_bits, first_run_sector, follows, read_bitmap, read_log_block,
+    read_primary_block,
 };
+use crate::gathering::{read_bins, read_log_run};
+use crate::{LoadStop, Recovered};
 use nt_bytes::{Bytes, HiveFault, HiveKind};
 use nt_edge::Disk;
 use regf_base::BaseBlock;
@@ -26,7 +28,7 @@ pub struct Reading {
     pub bitmap: Bytes,
 }
 
-/// Reads what the disk is recovered as: each sector that recovery asks for once, in its order.
+/// Reads what the disk is recovered as. What it holds and its record stay.
 pub fn read_recovered<D: Disk>(alloc: Global, disk: &mut D) -> Result<Reading, LoadStop>
     requires on { (D.state disk.old).on ≡ true }
     requires still { D.tells ≡ true → (D.state disk.old).flight ≡ [] }

@@ -7,7 +7,7 @@ use regf_base::BaseBlock;
 
 /// The sector of that number, 512 bytes.
 #[tactic(auto, unfolding(hive_model::specs::Recovery::sector))]
-pub fn sector_of(bytes: &[u8], i: usize) -> &[u8]
+pub(crate) fn sector_of(bytes: &[u8], i: usize) -> &[u8]
     requires { 512 * i + 512 ≤ length bytes.now }
     ensures value { result.now ≡ sector bytes.now i }
     ensures long { length result.now ≡ 512 }

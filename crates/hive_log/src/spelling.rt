@@ -5,14 +5,15 @@ ghost use Rattle.hive_model.specs.Base.{is_bins_size};
 ghost use Rattle.hive_model.specs.Recovery.{bit};
 ghost use Rattle.hive_model.specs.Log.{bitmap_text, marked_sectors, log_of, logged_bits};
 
-use crate::{bitmap_sector, bitmap_sectors, has_bit, logged_block, mark_all, sector_of};
+use crate::sectors::sector_of;
+use crate::{bitmap_sector, bitmap_sectors, has_bit, logged_block, mark_all};
 use nt_bytes::Bytes;
 use regf_base::{BaseBlock, base_bytes};
 use std::alloc::{AllocError, Global};
 
 /// The log for going from old to new bins data, whose size in bytes is a multiple of 4096 from 4096 to
 /// 16,777,216. The base block gives the size, the root and the sequence numbers; want of memory alone
-/// is refused.
+/// is refused. The old data decides nothing yet: each sector is logged, whether it differs or not.
 pub fn log_sectors(
     alloc: Global,
     old: &[u8],

@@ -10,7 +10,7 @@ use nt_edge::DiskStop;
 use std::alloc::AllocError;
 use thiserror::Error;
 
-/// Why a load stopped. The disk stands for the same hive as before.
+/// Why a load stopped. What the disk is recovered as, or the first fault that it has, is as before.
 #[derive(Clone, Copy, Debug, PartialEq, Eq, Error)]
 pub enum LoadStop {
     /// The hive has this fault.
