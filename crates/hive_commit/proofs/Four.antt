@@ -1,19 +1,19 @@
 -- What a cut in each stage of a commit leaves.
-use Rattle.std.proofs.Common.{◌≡◌, ◌⊎◌, ◌<◌, ◌≤◌, ◌+◌, ◌*◌, ◌/◌, ◌%◌, ◌^◌, ℕ, Bool, true, false, List, length, get_or, Some, Ok, refl, sym, ◌∙◌, ap, subst, arith, inl, inr, ⊎_elim}
+use Rattle.std.proofs.Common.{◌≡◌, ◌⊎◌, ◌<◌, ◌+◌, ◌*◌, ◌/◌, ◌^◌, ℕ, Bool, true, false, List, length, get_or, Some, refl, sym, ◌∙◌, ap, subst, arith, inl, inr, ⊎_elim}
 use Rattle.std.proofs.lemmas.Bool.{ne_eqb}
 use Rattle.nt_bytes.specs.declared.fault.HiveKind.TheVariants.{NotRegf}
 use Rattle.hive_model.specs.Base.{Base, IsBase, base_of, base_text, is_bins_size, fault_at}
-use Rattle.hive_model.specs.Image.{Primary, Log, Address, Image, Bytes, IsCrashImage}
-use Rattle.hive_model.specs.Recovery.{primary_in, log_in, sector, bit, and_then, bytes_or, recovered_of}
+use Rattle.hive_model.specs.Image.{Primary, Address, Image, Bytes, IsCrashImage}
+use Rattle.hive_model.specs.Recovery.{primary_in, sector, bit, and_then, bytes_or}
 use Rattle.hive_model.specs.Carries.{HasBase, HasBins, HasLog, Carries, IsRecoveredAs}
 use Rattle.hive_model.specs.Log.{log_of}
 use Rattle.hive_model.proofs.BaseLemmas.{base_back, IsChecked, base_in_checked}
 use Rattle.nt_edge.specs.Disk.{DiskState}
-use Rattle.nt_edge.specs.Crash.{AgreeOutside, EachCrash}
+use Rattle.nt_edge.specs.Crash.{AgreeOutside}
 use Rattle.hive_log.proofs.Appending.{sized, all_on}
 use Rattle.hive_log.proofs.Finding.{carries_recovered}
 use Rattle.hive_log.proofs.Opened.{IsOpened, IsCommitOf, opened_recovered}
-use Rattle.hive_commit.specs.Stages.{in_log, is_base, is_marked, BlockIsBeforeOr, HasMarked, next_number, opened_of, closed_of, IsBeforeOrAfter}
+use Rattle.hive_commit.specs.Stages.{in_log, is_base, is_marked, BlockIsBeforeOr, HasMarked, opened_of, closed_of, IsBeforeOrAfter}
 use Rattle.hive_commit.specs.Fitting.{NumbersFit, TextsFit}
 use Rattle.hive_commit.specs.Growing.{bin_at, log_at}
 use Rattle.hive_commit.proofs.Growth.{unmarked_at}
@@ -158,18 +158,18 @@ module _ (base : Base) (old new : List ℕ) (root : ℕ) (bits : ℕ → Bool) (
         is2 : IsOpened h2 opened closed bits new
         is2 = opened_is h2 agree2 block2
 
-        bins_is : (c : Image) → AgreeOutside (is_marked bits) h2 c → IsOpened c opened closed bits new
+        bins_is : (c : Image) → AgreeOutside (is_marked (length new) bits) h2 c → IsOpened c opened closed bits new
         bins_is c agree = record {
-          block = base_along (is_marked bits) h2 c agree opened refl is2.block;
-          logged = log_along (is_marked bits) h2 c agree (log_of bits new closed) (λ n. refl) is2.logged;
-          unmarked = λ i small off. agree (bin_at i) (unmarked_at bits i off) ∙ is2.unmarked i small off;
+          block = base_along (is_marked (length new) bits) h2 c agree opened refl is2.block;
+          logged = log_along (is_marked (length new) bits) h2 c agree (log_of bits new closed) (λ n. refl) is2.logged;
+          unmarked = λ i small off. agree (bin_at i) (unmarked_at (length new) bits i off) ∙ is2.unmarked i small off;
         }
 
         -- stage 3
-        pub bins_stage : (c : Image) → AgreeOutside (is_marked bits) h2 c → IsRecoveredAs c closed new
+        pub bins_stage : (c : Image) → AgreeOutside (is_marked (length new) bits) h2 c → IsRecoveredAs c closed new
         bins_stage c agree = after c (bins_is c agree)
 
-        module _ (h3 : Image) (agree3 : AgreeOutside (is_marked bits) h2 h3) (written : HasMarked h3 bits new) where
+        module _ (h3 : Image) (agree3 : AgreeOutside (is_marked (length new) bits) h2 h3) (written : HasMarked h3 bits new) where
           is3 : IsOpened h3 opened closed bits new
           is3 = bins_is h3 agree3
 

@@ -1,14 +1,14 @@
 -- One more sector of a log or of bins data.
-use Rattle.std.proofs.Common.{◌≡◌, ◌⊎◌, ◌<◌, ◌≤◌, ◌+◌, ◌-◌, ◌==◌, ◌&&◌, ℕ, zero, suc, Bool, true, false, List, length, Option, Some, Result, Ok, Err, refl, sym, ◌∙◌, ap, arith, ⊎_elim, ◌*◌}
-use Rattle.std.specs.Prelude.{nat_le, OnOk}
-use Rattle.std.proofs.lemmas.Bool.{ne_eqb, le-leb}
-use Rattle.hive_model.specs.Image.{Primary, Log, Address, Image, Content, Bytes, put, same_address}
+use Rattle.std.proofs.Common.{◌≡◌, ◌<◌, ◌≤◌, ◌+◌, ◌-◌, ◌&&◌, ℕ, Bool, true, false, List, length, Some, Result, Ok, Err, sym, ◌∙◌, ap, arith, ⊎_elim, ◌*◌}
+use Rattle.std.specs.Prelude.{nat_lt, OnOk}
+use Rattle.std.proofs.lemmas.Bool.{ne_eqb, le-leb, lt-leb, lt-ltb, le-ltb, and_from, and_left, and_right}
+use Rattle.hive_model.specs.Image.{Image, Bytes, put}
 use Rattle.hive_model.specs.Recovery.{primary_in, log_in, sector}
 use Rattle.hive_model.specs.Carries.{HasLog}
 use Rattle.nt_edge.proofs.Images.{put_here, put_other}
 use Rattle.hive_log.proofs.Ranks.{split}
 use Rattle.hive_commit.specs.Stages.{is_marked}
-use Rattle.hive_commit.specs.Growing.{log_at, bin_at, HasFront, HasMarkedBelow}
+use Rattle.hive_commit.specs.Growing.{log_at, primary_at, bin_at, HasFront, HasMarkedBelow}
 
 pub front_more : (image after : Image) (log bytes : List ℕ) (n : ℕ) → HasFront image log n → bytes ≡ sector log n → after ≡ put image (log_at n, bytes) → HasFront after log (n + 1)
 front_more image after log bytes n so_far is put_is = record {
@@ -24,15 +24,28 @@ front_none image log = record { each = λ m below. absurd (omega arith) }
 pub front_along : (image : Image) (log : List ℕ) (m n : ℕ) → m ≡ n → HasFront image log m → HasFront image log n
 front_along image log m n same has = record { each = λ k below. has.each k (omega arith) }
 
-pub marked_at : (bits : ℕ → Bool) (i : ℕ) → bits i ≡ true → is_marked bits (bin_at i) ≡ true
-marked_at bits i on =
-    let back : (8 + i) - 8 ≡ i = omega arith in
-    ap (λ b. b && bits ((8 + i) - 8)) (le-leb 8 (8 + i) (omega arith)) ∙ ap bits back ∙ on
+back : (i : ℕ) → (8 + i) - 8 ≡ i
+back i = omega arith
 
-pub unmarked_at : (bits : ℕ → Bool) (i : ℕ) → bits i ≡ false → is_marked bits (bin_at i) ≡ false
-unmarked_at bits i off =
-    let back : (8 + i) - 8 ≡ i = omega arith in
-    ap (λ b. b && bits ((8 + i) - 8)) (le-leb 8 (8 + i) (omega arith)) ∙ ap bits back ∙ off
+-- whether a bins sector is marked
+marked_is : (size : ℕ) (bits : ℕ → Bool) (i : ℕ) → is_marked size bits (bin_at i) ≡ (nat_lt (512 * i) size && bits i)
+marked_is size bits i =
+    ap (λ b. b && (nat_lt (512 * ((8 + i) - 8)) size && bits ((8 + i) - 8))) (le-leb 8 (8 + i) (omega arith))
+    ∙ ap (λ j. nat_lt (512 * j) size && bits j) (back i)
+
+pub marked_at : (size : ℕ) (bits : ℕ → Bool) (i : ℕ) → 512 * i < size → bits i ≡ true → is_marked size bits (bin_at i) ≡ true
+marked_at size bits i small on = marked_is size bits i ∙ and_from (nat_lt (512 * i) size) (bits i) (lt-ltb (512 * i) size small) on
+
+pub unmarked_at : (size : ℕ) (bits : ℕ → Bool) (i : ℕ) → bits i ≡ false → is_marked size bits (bin_at i) ≡ false
+unmarked_at size bits i off = marked_is size bits i ∙ and_right (nat_lt (512 * i) size) (bits i) off
+
+-- a sector behind the bins data is none of those that are marked
+pub unmarked_behind : (size : ℕ) (bits : ℕ → Bool) (i : ℕ) → size ≤ 512 * i → is_marked size bits (bin_at i) ≡ false
+unmarked_behind size bits i far = marked_is size bits i ∙ and_left (nat_lt (512 * i) size) (bits i) (le-ltb (512 * i) size far)
+
+-- nor is one before it
+pub unmarked_before : (size : ℕ) (bits : ℕ → Bool) (n : ℕ) → n < 8 → is_marked size bits (primary_at n) ≡ false
+unmarked_before size bits n small = ap (λ b. b && (nat_lt (512 * (n - 8)) size && bits (n - 8))) (lt-leb 8 n small)
 
 pub marked_skip : (image : Image) (bits : ℕ → Bool) (bins : List ℕ) (i : ℕ) → HasMarkedBelow image bits bins i → bits i ≡ false → HasMarkedBelow image bits bins (i + 1)
 marked_skip image bits bins i so_far off = record {

@@ -1,12 +1,13 @@
 -- What a recovery that wrote nothing, or that was stopped, leaves.
-use Rattle.std.proofs.Common.{◌≡◌, ◌⊎◌, List, ℕ, [], true, Result, Ok, refl, sym, ◌∙◌, ap, subst, ⊎_elim}
+use Rattle.std.proofs.Common.{◌≡◌, List, ℕ, [], Result, Ok, sym, ◌∙◌, ap, subst, ⊎_elim}
 use Rattle.hive_model.specs.Base.{Base}
-use Rattle.hive_model.specs.Image.{Address, Image, Write, IsCrashImage, IsInFlight}
-use Rattle.hive_model.specs.Recovery.{Recovered, recovered_of}
+use Rattle.hive_model.specs.Image.{Image, Write, IsCrashImage, IsInFlight}
+use Rattle.hive_model.specs.Recovery.{Recovered, recovered_of, log_in}
 use Rattle.hive_model.specs.Carries.{IsRecoveredAs}
 use Rattle.nt_bytes.specs.declared.fault.HiveFault.{HiveFault}
 use Rattle.nt_edge.specs.Disk.{DiskState}
 use Rattle.nt_edge.specs.Crash.{EachCrash}
+use Rattle.hive_commit.specs.Alone.{KeepsLog}
 
 -- with nothing in flight a cut leaves what is held
 pub only_held : (s : DiskState) (c : Image) → s.flight ≡ [] → IsCrashImage s.held s.flight c → c ≡ s.held
@@ -15,6 +16,13 @@ only_held s c none crash = λ i a. (⊎_elim (λ same. same) (λ flying. absurd 
 module _ (old new : DiskState) (held : new.held ≡ old.held) (none : new.flight ≡ []) where
   pub kept : (base : Base) (bins : List ℕ) → IsRecoveredAs old.held base bins → EachCrash new (λ (c : Image). IsRecoveredAs c base bins)
   kept base bins is c crash = subst (λ (i : Image). IsRecoveredAs i base bins) (sym (only_held new c none crash ∙ held)) is
+
+  pub kept_log : EachCrash new (KeepsLog old.held)
+  kept_log c crash n = ap (λ (i : Image). log_in i n) (only_held new c none crash ∙ held)
+
+-- the log is as before a state that held the same
+pub log_behind : (before held : Image) (s : DiskState) → held ≡ before → EachCrash s (KeepsLog held) → EachCrash s (KeepsLog before)
+log_behind before held s same each c crash n = each c crash n ∙ ap (λ (i : Image). log_in i n) same
 
 -- an image is recovered as one thing
 pub one_recovery : (image : Image) (base found : Base) (bins read : List ℕ) → IsRecoveredAs image base bins → IsRecoveredAs image found read → (found ≡ base) × (read ≡ bins)

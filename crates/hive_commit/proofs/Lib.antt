@@ -3,3 +3,4 @@ pub mod Settling
 pub mod Four
 pub mod Restored
 pub mod Kept
+pub mod Rest

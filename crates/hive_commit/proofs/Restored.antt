@@ -1,8 +1,8 @@
 -- What a cut in a recovery leaves.
-use Rattle.std.proofs.Common.{◌≡◌, ◌⊎◌, ◌<◌, ◌+◌, ◌*◌, ◌/◌, ◌^◌, ℕ, Bool, true, false, List, length, Some, Ok, refl, sym, ◌∙◌, ap, subst, arith, ⊎_elim}
+use Rattle.std.proofs.Common.{◌≡◌, ◌*◌, ◌/◌, ℕ, true, false, List, length, Some, refl, sym, ◌∙◌, ap, ⊎_elim}
 use Rattle.hive_model.specs.Base.{Base, IsBase, base_text, is_bins_size}
-use Rattle.hive_model.specs.Image.{Primary, Address, Image, Bytes}
-use Rattle.hive_model.specs.Recovery.{primary_in, log_in, sector, bit, closed_by}
+use Rattle.hive_model.specs.Image.{Primary, Image, Bytes}
+use Rattle.hive_model.specs.Recovery.{primary_in, log_in, bit}
 use Rattle.hive_model.specs.Carries.{HasBins, Carries, IsRecoveredAs}
 use Rattle.hive_model.proofs.BaseLemmas.{logged_in_checked}
 use Rattle.nt_edge.specs.Crash.{AgreeOutside}
@@ -36,14 +36,14 @@ module _ (image : Image) (closed : Base) (bitmap bins : List ℕ) (f : Found ima
   recovered : (c : Image) → Found c closed bitmap bins → IsRecoveredAs c closed bins
   recovered c found = record { dirty = true; recovered = found_recovered c closed bitmap bins found }
 
-  found_in_bins : (c : Image) → AgreeOutside (is_marked (bit bitmap)) image c → Found c closed bitmap bins
-  found_in_bins c agree = found_along image c closed bitmap bins f (λ n. agree (log_at n) refl) (agree (record { file = Primary; sector = 0 }) refl) (λ i off. agree (bin_at i) (unmarked_at (bit bitmap) i off))
+  found_in_bins : (c : Image) → AgreeOutside (is_marked (length bins) (bit bitmap)) image c → Found c closed bitmap bins
+  found_in_bins c agree = found_along image c closed bitmap bins f (λ n. agree (log_at n) refl) (agree (record { file = Primary; sector = 0 }) refl) (λ i off. agree (bin_at i) (unmarked_at (length bins) (bit bitmap) i off))
 
   -- the sectors are being written
-  pub kept_in_bins : (c : Image) → AgreeOutside (is_marked (bit bitmap)) image c → IsRecoveredAs c closed bins
+  pub kept_in_bins : (c : Image) → AgreeOutside (is_marked (length bins) (bit bitmap)) image c → IsRecoveredAs c closed bins
   kept_in_bins c agree = recovered c (found_in_bins c agree)
 
-  module _ (h : Image) (agree1 : AgreeOutside (is_marked (bit bitmap)) image h) (written : HasMarked h (bit bitmap) bins) where
+  module _ (h : Image) (agree1 : AgreeOutside (is_marked (length bins) (bit bitmap)) image h) (written : HasMarked h (bit bitmap) bins) where
     found_h : Found h closed bitmap bins
     found_h = found_in_bins h agree1
 

@@ -1,7 +1,7 @@
 -- What a write or a sync leaves, by its answer.
-use Rattle.std.proofs.Common.{◌≡◌, ◌⊎◌, ◌++◌, ◌∷◌, [], Bool, true, refl, sym, ◌∙◌, ap, Result, Ok, Err}
+use Rattle.std.proofs.Common.{◌≡◌, ◌⊎◌, ◌++◌, ◌∷◌, [], Bool, true, Result, Ok, Err}
 use Rattle.std.specs.Prelude.{OnOk, OnErr}
-use Rattle.hive_model.specs.Image.{Address, Image, Write, put}
+use Rattle.hive_model.specs.Image.{Address, Write, put}
 use Rattle.nt_edge.specs.Disk.{DiskState, now_of}
 use Rattle.nt_edge.specs.Crash.{EachCrash, AgreeOutside, Writing}
 use Rattle.nt_edge.proofs.Writing.{writing_crash, writing_more, writing_err, writing_same, synced_crash, now_more}

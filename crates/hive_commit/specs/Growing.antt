@@ -3,9 +3,15 @@ use Rattle.std.specs.Prelude.{◌≡◌, ◌<◌, ◌+◌, Bool, true, ℕ, List
 use Rattle.hive_model.specs.Image.{Primary, Log, Address, Image, Bytes}
 use Rattle.hive_model.specs.Recovery.{primary_in, log_in, sector}
 
+-- sector n of the log
 abbrev pub log_at : ℕ → Address
 log_at n = record { file = Log; sector = n }
 
+-- sector n of the primary
+abbrev pub primary_at : ℕ → Address
+primary_at n = record { file = Primary; sector = n }
+
+-- sector i of the bins data in the primary
 abbrev pub bin_at : ℕ → Address
 bin_at i = record { file = Primary; sector = 8 + i }
 

@@ -1,3 +1,4 @@
+pub mod Alone
 pub mod Fitting
 pub mod Growing
 pub mod Stages

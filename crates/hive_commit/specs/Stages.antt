@@ -1,7 +1,7 @@
 -- What each stage of a commit leaves. (This project's own.)
-use Rattle.std.specs.Prelude.{◌≡◌, ◌⊎◌, ◌<◌, ◌+◌, ◌-◌, ◌*◌, ◌%◌, ◌&&◌, nat_le, Bool, true, false, ℕ, List, length, Some}
+use Rattle.std.specs.Prelude.{◌≡◌, ◌⊎◌, ◌<◌, ◌+◌, ◌-◌, ◌*◌, ◌%◌, ◌&&◌, nat_le, nat_lt, Bool, true, ℕ, List, length, Some}
 use Rattle.hive_model.specs.Base.{Base, base_text}
-use Rattle.hive_model.specs.Image.{File, Primary, Log, Address, Image, Bytes, same_file, same_address}
+use Rattle.hive_model.specs.Image.{Primary, Log, Address, Image, Bytes, same_file, same_address}
 use Rattle.hive_model.specs.Recovery.{primary_in, sector}
 use Rattle.hive_model.specs.Carries.{IsRecoveredAs}
 
@@ -13,9 +13,9 @@ in_log a = same_file a.file Log
 abbrev pub is_base : Address → Bool
 is_base a = same_address a (record { file = Primary; sector = 0 })
 
--- the address of a bins sector of the primary whose bit is on
-abbrev pub is_marked : (ℕ → Bool) → Address → Bool
-is_marked bits a = same_file a.file Primary && (nat_le 8 a.sector && bits (a.sector - 8))
+-- the address of a bins sector of the primary, of bins data of this size, whose bit is on
+abbrev pub is_marked : ℕ → (ℕ → Bool) → Address → Bool
+is_marked size bits a = same_file a.file Primary && (nat_le 8 a.sector && (nat_lt (512 * (a.sector - 8)) size && bits (a.sector - 8)))
 
 -- the primary's base block is the one from before, or this one
 abbrev pub BlockIsBeforeOr : Image → Base → Image → Type 0

@@ -7,6 +7,7 @@ use Rattle.nt_edge.specs.declared.disk.DiskStop.TheVariants as disk
 use Rattle.hive_commit.specs.declared.stops.CommitStop.{CommitStop}
 use Rattle.hive_commit.specs.declared.stops.CommitStop.TheVariants as commit
 
+-- what a commit calls the disk's stop
 abbrev pub commit_stop_of : DiskStop → CommitStop
 commit_stop_of disk.PowerLost = commit.PowerLost
 commit_stop_of disk.Failed = commit.Device

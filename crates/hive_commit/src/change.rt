@@ -7,10 +7,13 @@ ghost use Rattle.hive_model.specs.Log.{log_of, logged_bits};
 ghost use Rattle.nt_edge.specs.Host.{Rises};
 ghost use Rattle.nt_edge.specs.Disk.{CountsGrow, HasCause, IsOnUnlessLost};
 ghost use Rattle.nt_edge.specs.Crash.{EachCrash};
+ghost use Rattle.hive_commit.specs.Alone.{KeepsRest};
 ghost use Rattle.hive_commit.specs.Stages.{next_number, opened_of, closed_of, IsBeforeOrAfter};
 ghost use Rattle.hive_commit.specs.Stops.{HasCommitCause, IsOnAfterCommit};
 
-use crate::{CommitStop, numbers_fit, texts_fit, write_bins, write_block, write_log};
+use crate::CommitStop;
+use crate::fitting::{numbers_fit, texts_fit};
+use crate::stages::{write_bins, write_block, write_log};
 use hive_log::mark_all;
 use nt_edge::{Disk, DiskStop};
 use regf_base::BaseBlock;
@@ -40,6 +43,8 @@ pub fn commit<D: Disk>(
     // The log begins with the file that `log_sectors` spells.
     ensures logged { D.tells ≡ true → OnOk result (HasLog (D.state disk.new).held
         (log_of (logged_bits old.now new.now) new.now (closed_of base.now new.now root))) }
+    // At every exit a cut leaves sectors 1 to 7 of the primary, and those behind the new data, as they were.
+    ensures rest { D.tells ≡ true → EachCrash (D.state disk.new) (KeepsRest (length new.now) (D.state disk.old).held) }
     ensures history { (D.state disk.new).history ≡ (D.state disk.old).history }
     ensures counts { CountsGrow (D.state disk.old) (D.state disk.new) }
     ensures cause { HasCommitCause (D.state disk.old) (D.state disk.new) result }
@@ -70,6 +75,7 @@ fn change<D: Disk>(
         (IsBeforeOrAfter base.now old.now (closed_of base.now new.now root) new.now) }
     ensures logged { D.tells ≡ true → OnOk result (HasLog (D.state disk.new).held
         (log_of (logged_bits old.now new.now) new.now (closed_of base.now new.now root))) }
+    ensures rest { D.tells ≡ true → EachCrash (D.state disk.new) (KeepsRest (length new.now) (D.state disk.old).held) }
     ensures history { (D.state disk.new).history ≡ (D.state disk.old).history }
     ensures counts { CountsGrow (D.state disk.old) (D.state disk.new) }
     ensures cause { HasCause (D.state disk.old) (D.state disk.new) result }

@@ -6,7 +6,7 @@ ghost use Rattle.hive_commit.specs.Fitting.{NumbersFit, TextsFit};
 use regf_base::BaseBlock;
 
 /// The numbers of a base block fit their places.
-pub fn numbers_fit(base: &BaseBlock)
+pub(crate) fn numbers_fit(base: &BaseBlock)
     ensures { NumbersFit base.now }
 {
     let _first = base.first;
@@ -17,7 +17,7 @@ pub fn numbers_fit(base: &BaseBlock)
 }
 
 /// The name and the rest of a base block have their lengths.
-pub fn texts_fit(base: &BaseBlock)
+pub(crate) fn texts_fit(base: &BaseBlock)
     ensures { TextsFit base.now }
 {
     are_bytes(&base.name);

@@ -14,9 +14,6 @@ mod stages;
 mod stops;
 
 pub use change::commit;
-pub use fitting::{numbers_fit, texts_fit};
 pub use hive_log::{LoadStop, Recovered};
 pub use loading::{look, recover};
-pub use restoring::restore;
-pub use stages::{write_bins, write_block, write_log};
 pub use stops::CommitStop;

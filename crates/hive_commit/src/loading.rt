@@ -9,9 +9,10 @@ ghost use Rattle.nt_edge.specs.Host.{Rises};
 ghost use Rattle.nt_edge.specs.Disk.{CountsGrow};
 ghost use Rattle.nt_edge.specs.Crash.{EachCrash};
 ghost use Rattle.hive_log.specs.Stops.{Reads, HasLoadCause, IsOnAfterLoad};
+ghost use Rattle.hive_commit.specs.Alone.{KeepsLog, KeepsRest, KeepsClean};
 ghost use Rattle.hive_commit.specs.Untouched.{IsUntouched, IsUnwritten};
 
-use crate::restore;
+use crate::restoring::restore;
 use hive_log::{LoadStop, Reading, Recovered, read_recovered};
 use nt_edge::Disk;
 use std::alloc::Global;
@@ -50,6 +51,13 @@ pub fn recover<D: Disk>(alloc: Global, disk: &mut D) -> Result<Recovered, LoadSt
     // At every exit a cut leaves what is recovered as the disk was at entry.
     ensures crash { D.tells ≡ true → (base : Base) (bins : List ℕ) → IsRecoveredAs (D.state disk.old).held base bins
         → EachCrash (D.state disk.new) (λ (c : Image). IsRecoveredAs c base bins) }
+    // At every exit a cut leaves the log as it was.
+    ensures log { D.tells ≡ true → EachCrash (D.state disk.new) (KeepsLog (D.state disk.old).held) }
+    // And sectors 1 to 7 of the primary, and those behind what is recovered.
+    ensures rest { D.tells ≡ true → (base : Base) (bins : List ℕ) → IsRecoveredAs (D.state disk.old).held base bins
+        → EachCrash (D.state disk.new) (KeepsRest (length bins) (D.state disk.old).held) }
+    // Where the primary was clean, all is as it was, whatever the answer.
+    ensures clean { D.tells ≡ true → KeepsClean (D.state disk.old) (D.state disk.new) }
     ensures unwritten { D.tells ≡ true → IsUnwritten (D.state disk.old) (D.state disk.new) result }
     ensures history { (D.state disk.new).history ≡ (D.state disk.old).history }
     ensures counts { CountsGrow (D.state disk.old) (D.state disk.new) }

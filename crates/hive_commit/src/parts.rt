@@ -128,8 +128,8 @@ pub fn write_marked<D: Disk>(disk: &mut D, bitmap: &[u8], new: &[u8]) -> Result<
     requires on { (D.state disk.old).on ≡ true }
     requires whole { 512 * (length new.now / 512) ≡ length new.now }
     requires few { length new.now ≤ 16777216 }
-    ensures writing { D.tells ≡ true → (first : DiskState) → Writing (is_marked (bit bitmap.now)) first (D.state disk.old)
-        → Writing (is_marked (bit bitmap.now)) first (D.state disk.new) }
+    ensures writing { D.tells ≡ true → (first : DiskState) → Writing (is_marked (length new.now) (bit bitmap.now)) first (D.state disk.old)
+        → Writing (is_marked (length new.now) (bit bitmap.now)) first (D.state disk.new) }
     ensures written { D.tells ≡ true → OnOk result (HasMarkedBelow (now_of (D.state disk.new)) (bit bitmap.now) new.now (length new.now / 512)) }
     ensures history { (D.state disk.new).history ≡ (D.state disk.old).history }
     ensures counts { CountsGrow (D.state disk.old) (D.state disk.new) }

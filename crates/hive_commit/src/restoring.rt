@@ -6,14 +6,16 @@ ghost use Rattle.hive_model.specs.Carries.{Carries, IsRecoveredAs};
 ghost use Rattle.nt_edge.specs.Disk.{CountsGrow, HasCause, IsOnUnlessLost};
 ghost use Rattle.nt_edge.specs.Crash.{EachCrash};
 ghost use Rattle.hive_log.specs.Found.{Found};
+ghost use Rattle.hive_commit.specs.Alone.{KeepsLog, KeepsRest};
 
-use crate::{numbers_fit, texts_fit, write_bins, write_block};
+use crate::fitting::{numbers_fit, texts_fit};
+use crate::stages::{write_bins, write_block};
 use nt_edge::{Disk, DiskStop};
 use regf_base::BaseBlock;
 
 /// Writes what was found into the primary: the log's sectors, and then the base block. Whatever a cut
 /// leaves is recovered as the same. The log is not written.
-pub fn restore<D: Disk>(
+pub(crate) fn restore<D: Disk>(
     disk: &mut D,
     closed: &BaseBlock,
     bitmap: &[u8],
@@ -27,6 +29,10 @@ pub fn restore<D: Disk>(
     ensures still { D.tells ≡ true → OnOk result ((D.state disk.new).flight ≡ []) }
     ensures carries { D.tells ≡ true → OnOk result (Carries (D.state disk.new).held closed.now bins.now) }
     ensures crash { D.tells ≡ true → EachCrash (D.state disk.new) (λ (c : Image). IsRecoveredAs c closed.now bins.now) }
+    // Whatever a cut leaves has the log as it was.
+    ensures log { D.tells ≡ true → EachCrash (D.state disk.new) (KeepsLog (D.state disk.old).held) }
+    // And sectors 1 to 7 of the primary, and those behind the bins data.
+    ensures rest { D.tells ≡ true → EachCrash (D.state disk.new) (KeepsRest (length bins.now) (D.state disk.old).held) }
     ensures history { (D.state disk.new).history ≡ (D.state disk.old).history }
     ensures counts { CountsGrow (D.state disk.old) (D.state disk.new) }
     ensures cause { HasCause (D.state disk.old) (D.state disk.new) result }

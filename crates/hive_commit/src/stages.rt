@@ -15,7 +15,7 @@ use nt_edge::{Address, Disk, DiskStop, HiveFile};
 use regf_base::{BaseBlock, base_bytes};
 
 /// Stage 1: the log, with the sectors whose bit is on.
-pub fn write_log<D: Disk>(
+pub(crate) fn write_log<D: Disk>(
     disk: &mut D,
     base: &BaseBlock,
     bitmap: &[u8],
@@ -43,7 +43,7 @@ pub fn write_log<D: Disk>(
 }
 
 /// Stages 2 and 4: the primary's base block.
-pub fn write_block<D: Disk>(disk: &mut D, base: &BaseBlock) -> Result<(), DiskStop>
+pub(crate) fn write_block<D: Disk>(disk: &mut D, base: &BaseBlock) -> Result<(), DiskStop>
     requires on { (D.state disk.old).on ≡ true }
     requires still { D.tells ≡ true → (D.state disk.old).flight ≡ [] }
     // Whatever a cut leaves has the old base block or this one, and all else as it was.
@@ -67,13 +67,13 @@ pub fn write_block<D: Disk>(disk: &mut D, base: &BaseBlock) -> Result<(), DiskSt
 }
 
 /// Stage 3: the bins sectors whose bit is on.
-pub fn write_bins<D: Disk>(disk: &mut D, bitmap: &[u8], new: &[u8]) -> Result<(), DiskStop>
+pub(crate) fn write_bins<D: Disk>(disk: &mut D, bitmap: &[u8], new: &[u8]) -> Result<(), DiskStop>
     requires on { (D.state disk.old).on ≡ true }
     requires still { D.tells ≡ true → (D.state disk.old).flight ≡ [] }
     requires whole { 512 * (length new.now / 512) ≡ length new.now }
     requires few { length new.now ≤ 16777216 }
     // Whatever a cut leaves has all else as it was.
-    ensures crash { D.tells ≡ true → EachCrash (D.state disk.new) (AgreeOutside (is_marked (bit bitmap.now)) (D.state disk.old).held) }
+    ensures crash { D.tells ≡ true → EachCrash (D.state disk.new) (AgreeOutside (is_marked (length new.now) (bit bitmap.now)) (D.state disk.old).held) }
     ensures still { D.tells ≡ true → OnOk result ((D.state disk.new).flight ≡ []) }
     ensures written { D.tells ≡ true → OnOk result (HasMarked (D.state disk.new).held (bit bitmap.now) new.now) }
     ensures history { (D.state disk.new).history ≡ (D.state disk.old).history }

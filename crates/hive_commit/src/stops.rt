@@ -12,7 +12,7 @@ pub enum CommitStop {
     /// The power was cut in a call of the disk, which is off now.
     #[error("PowerLost")]
     PowerLost,
-    /// A read, a write or a sync failed. The disk is on.
+    /// A write or a sync failed. The disk is on.
     #[error("Device")]
     Device,
     /// The disk had no memory. It is on.

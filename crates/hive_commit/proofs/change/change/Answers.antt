@@ -1,12 +1,13 @@
-use Rattle.std.proofs.Common.{◌≡◌, ◌<◌, ◌*◌, length, refl, sym, ◌∙◌, ap, subst, arith, rules, true, inl, inr, Some, Ok, Err}
+use Rattle.std.proofs.Common.{length, sym, ◌∙◌, ap, subst, arith, rules, inl, inr, Some}
 use Rattle.hive_model.specs.Base.{Base, IsBase, base_text}
 use Rattle.hive_model.specs.Image.{Bytes}
 use Rattle.hive_model.specs.Recovery.{bit}
 use Rattle.hive_model.specs.Carries.{HasLog}
-use Rattle.hive_model.specs.Log.{log_of, logged_bits}
+use Rattle.hive_model.specs.Log.{logged_bits}
 use Rattle.hive_log.proofs.Appending.{sized, all_on, logged_on, log_same}
 use Rattle.hive_commit.specs.Stages.{closed_of, opened_of}
 use Rattle.hive_commit.proofs.Four.{asked, held_left, along_log, along_block, logged_fits, in_log_stage, opened_stage, bins_stage, closed_stage, closed_carries, closed_logged}
+use Rattle.hive_commit.proofs.Rest.{rest_log, rest_base, rest_marked, rest_then}
 use Rattle.hive_commit.proofs.change.change.Goals as goal
 
 pub write_log-requires-clause-fits : goal.write_log-requires-clause-fits
@@ -159,3 +160,56 @@ returns-clause-logged g c = λ tells.
     let block4 = c.in_ok-write_block-2.ensures.written tells ∙ ap (λ b. Some (Bytes (base_text b))) c.closed_block-closed.ensures in
     subst (HasLog s4.held) (log_same bits (logged_bits old new) new closed (λ j small. all_on c.mark_all.new.into c.mark_all.ensures j (omega (arith, (sized (length new) c.requires.sized).high)) ∙ sym (logged_on old new j)))
     (closed_logged base old new root bits is s0.held (c.requires.carries tells) s1.held agree1 logged s2.held agree2 block2 s3.held agree3 written s4.held agree4)
+
+pub returns-in_err-write_log-clause-rest : goal.returns-in_err-write_log-clause-rest
+returns-in_err-write_log-clause-rest g c = λ tells image left.
+    let size = length c.args.new.now in
+    let s0 = g.D.Disk.state c.args.disk.now in
+    rest_log size s0.held image (c.write_log.ensures.crash tells image left)
+
+pub returns-in_err-write_block-clause-rest : goal.returns-in_err-write_block-clause-rest
+returns-in_err-write_block-clause-rest g c = λ tells image left.
+    let size = length c.args.new.now in
+    let s0 = g.D.Disk.state c.args.disk.now in
+    let s1 = g.D.Disk.state c.write_log.new.disk in
+    let one1 = rest_log size s0.held s1.held (c.write_log.ensures.crash tells s1.held (held_left s1)) in
+    rest_then size s0.held s1.held image one1 (rest_base size s1.held image (c.write_block.ensures.crash tells image left))
+
+pub returns-in_err-write_bins-clause-rest : goal.returns-in_err-write_bins-clause-rest
+returns-in_err-write_bins-clause-rest g c = λ tells image left.
+    let size = length c.args.new.now in
+    let s0 = g.D.Disk.state c.args.disk.now in
+    let s1 = g.D.Disk.state c.write_log.new.disk in
+    let one1 = rest_log size s0.held s1.held (c.write_log.ensures.crash tells s1.held (held_left s1)) in
+    let s2 = g.D.Disk.state c.write_block.new.disk in
+    let one2 = rest_base size s1.held s2.held (c.write_block.ensures.crash tells s2.held (held_left s2)) in
+    let rest2 = rest_then size s0.held s1.held s2.held one1 one2 in
+    rest_then size s0.held s2.held image rest2 (rest_marked size s2.held image (bit c.mark_all.new.into) (c.write_bins.ensures.crash tells image left))
+
+pub returns-in_err-write_block-2-clause-rest : goal.returns-in_err-write_block-2-clause-rest
+returns-in_err-write_block-2-clause-rest g c = λ tells image left.
+    let size = length c.args.new.now in
+    let s0 = g.D.Disk.state c.args.disk.now in
+    let s1 = g.D.Disk.state c.write_log.new.disk in
+    let one1 = rest_log size s0.held s1.held (c.write_log.ensures.crash tells s1.held (held_left s1)) in
+    let s2 = g.D.Disk.state c.write_block.new.disk in
+    let one2 = rest_base size s1.held s2.held (c.write_block.ensures.crash tells s2.held (held_left s2)) in
+    let rest2 = rest_then size s0.held s1.held s2.held one1 one2 in
+    let s3 = g.D.Disk.state c.write_bins.new.disk in
+    let one3 = rest_marked size s2.held s3.held (bit c.mark_all.new.into) (c.write_bins.ensures.crash tells s3.held (held_left s3)) in
+    let rest3 = rest_then size s0.held s2.held s3.held rest2 one3 in
+    rest_then size s0.held s3.held image rest3 (rest_base size s3.held image (c.write_block-2.ensures.crash tells image left))
+
+pub returns-clause-rest : goal.returns-clause-rest
+returns-clause-rest g c = λ tells image left.
+    let size = length c.args.new.now in
+    let s0 = g.D.Disk.state c.args.disk.now in
+    let s1 = g.D.Disk.state c.write_log.new.disk in
+    let one1 = rest_log size s0.held s1.held (c.write_log.ensures.crash tells s1.held (held_left s1)) in
+    let s2 = g.D.Disk.state c.write_block.new.disk in
+    let one2 = rest_base size s1.held s2.held (c.write_block.ensures.crash tells s2.held (held_left s2)) in
+    let rest2 = rest_then size s0.held s1.held s2.held one1 one2 in
+    let s3 = g.D.Disk.state c.write_bins.new.disk in
+    let one3 = rest_marked size s2.held s3.held (bit c.mark_all.new.into) (c.write_bins.ensures.crash tells s3.held (held_left s3)) in
+    let rest3 = rest_then size s0.held s2.held s3.held rest2 one3 in
+    rest_then size s0.held s3.held image rest3 (rest_base size s3.held image (c.write_block-2.ensures.crash tells image left))

@@ -1,4 +1,4 @@
-use Rattle.std.proofs.Common.{◌≡◌, ◌<◌, ℕ, ap, sym, ◌∙◌, subst, length}
+use Rattle.std.proofs.Common.{◌<◌, ap, sym, ◌∙◌, subst, length}
 use Rattle.std.specs.Prelude.{slice_index}
 use Rattle.hive_model.specs.Base.{Base}
 use Rattle.hive_commit.proofs.fitting.texts_fit.Goals as goal

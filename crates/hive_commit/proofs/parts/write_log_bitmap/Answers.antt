@@ -1,4 +1,4 @@
-use Rattle.std.proofs.Common.{◌≡◌, ◌+◌, refl, sym, ◌∙◌, ap, arith}
+use Rattle.std.proofs.Common.{◌≡◌, ◌+◌, refl, sym, ◌∙◌, arith}
 use Rattle.nt_edge.specs.Disk.{now_of}
 use Rattle.hive_commit.specs.Stages.{in_log}
 use Rattle.hive_commit.proofs.Growth.{front_more, front_along}

@@ -1,4 +1,4 @@
-use Rattle.std.proofs.Common.{◌≡◌, ◌<◌, ◌≤◌, ◌+◌, true, ℕ, List}
+use Rattle.std.proofs.Common.{◌≡◌, ◌<◌, ◌+◌, true, ℕ, List}
 use Rattle.hive_model.specs.Recovery.{sector, bit, bitmap_sectors}
 use Rattle.hive_model.specs.Log.{bitmap_text}
 use Rattle.nt_edge.specs.Disk.{DiskState, CountsGrow, now_of}

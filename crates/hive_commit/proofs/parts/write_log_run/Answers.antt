@@ -1,4 +1,4 @@
-use Rattle.std.proofs.Common.{◌≡◌, ◌+◌, ◌*◌, length, refl, sym, ◌∙◌, ap, arith, rules, true}
+use Rattle.std.proofs.Common.{◌≡◌, ◌+◌, length, refl, sym, ◌∙◌, ap, arith, rules, true}
 use Rattle.hive_model.specs.Image.{put}
 use Rattle.hive_model.specs.Recovery.{bit, rank, first_dirty}
 use Rattle.nt_edge.specs.Disk.{now_of}

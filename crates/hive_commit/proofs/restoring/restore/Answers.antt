@@ -1,6 +1,9 @@
-use Rattle.std.proofs.Common.{◌≡◌, refl, ◌∙◌}
+use Rattle.std.proofs.Common.{refl, ◌∙◌, length}
+use Rattle.hive_model.specs.Recovery.{bit}
+use Rattle.hive_commit.specs.Growing.{log_at}
 use Rattle.hive_commit.proofs.Four.{held_left}
 use Rattle.hive_commit.proofs.Restored.{kept_in_bins, kept_in_block, closed_again}
+use Rattle.hive_commit.proofs.Rest.{rest_base, rest_marked, rest_then}
 use Rattle.hive_commit.proofs.restoring.restore.Goals as goal
 
 pub returns-in_err-write_bins-clause-crash : goal.returns-in_err-write_bins-clause-crash
@@ -48,3 +51,36 @@ returns-clause-carries g c = λ tells.
     let t = g.D.Disk.state c.write_block.new.disk in
     closed_again image closed bitmap bins found c.numbers_fit.ensures c.texts_fit.ensures c.requires.whole h agree1 (c.in_ok-write_bins.ensures.written tells)
     t.held (c.write_block.ensures.crash tells t.held (held_left t)) (c.in_ok-write_block.ensures.written tells)
+
+pub returns-in_err-write_bins-clause-log : goal.returns-in_err-write_bins-clause-log
+returns-in_err-write_bins-clause-log g c = λ tells left crash n. c.write_bins.ensures.crash tells left crash (log_at n) refl
+
+pub returns-in_err-write_block-clause-log : goal.returns-in_err-write_block-clause-log
+returns-in_err-write_block-clause-log g c = λ tells left crash n.
+    let s = g.D.Disk.state c.write_bins.new.disk in
+    c.write_block.ensures.crash tells left crash (log_at n) refl ∙ c.write_bins.ensures.crash tells s.held (held_left s) (log_at n) refl
+
+pub returns-clause-log : goal.returns-clause-log
+returns-clause-log g c = λ tells left crash n.
+    let s = g.D.Disk.state c.write_bins.new.disk in
+    c.write_block.ensures.crash tells left crash (log_at n) refl ∙ c.write_bins.ensures.crash tells s.held (held_left s) (log_at n) refl
+
+pub returns-in_err-write_bins-clause-rest : goal.returns-in_err-write_bins-clause-rest
+returns-in_err-write_bins-clause-rest g c = λ tells left crash.
+    rest_marked (length c.args.bins.now) (g.D.Disk.state c.args.disk.now).held left (bit c.args.bitmap.now) (c.write_bins.ensures.crash tells left crash)
+
+pub returns-in_err-write_block-clause-rest : goal.returns-in_err-write_block-clause-rest
+returns-in_err-write_block-clause-rest g c = λ tells left crash.
+    let size = length c.args.bins.now in
+    let s0 = g.D.Disk.state c.args.disk.now in
+    let s1 = g.D.Disk.state c.write_bins.new.disk in
+    rest_then size s0.held s1.held left (rest_marked size s0.held s1.held (bit c.args.bitmap.now) (c.write_bins.ensures.crash tells s1.held (held_left s1)))
+    (rest_base size s1.held left (c.write_block.ensures.crash tells left crash))
+
+pub returns-clause-rest : goal.returns-clause-rest
+returns-clause-rest g c = λ tells left crash.
+    let size = length c.args.bins.now in
+    let s0 = g.D.Disk.state c.args.disk.now in
+    let s1 = g.D.Disk.state c.write_bins.new.disk in
+    rest_then size s0.held s1.held left (rest_marked size s0.held s1.held (bit c.args.bitmap.now) (c.write_bins.ensures.crash tells s1.held (held_left s1)))
+    (rest_base size s1.held left (c.write_block.ensures.crash tells left crash))

@@ -1,4 +1,4 @@
-use Rattle.std.proofs.Common.{refl}
+use Rattle.std.proofs.Common.{refl, length}
 use Rattle.hive_model.specs.Recovery.{bit}
 use Rattle.nt_edge.proofs.Writing.{writing_start, writing_crash}
 use Rattle.hive_commit.specs.Stages.{is_marked}
@@ -6,12 +6,12 @@ use Rattle.hive_commit.proofs.stages.write_bins.Goals as goal
 
 pub returns-in_err-write_marked-clause-crash : goal.returns-in_err-write_marked-clause-crash
 returns-in_err-write_marked-clause-crash g c = λ tells.
-    let p = is_marked (bit c.args.bitmap.now) in
+    let p = is_marked (length c.args.new.now) (bit c.args.bitmap.now) in
     let first = g.D.Disk.state c.args.disk.now in
     writing_crash p first (g.D.Disk.state c.write_marked.new.disk) (c.write_marked.ensures.writing tells first (writing_start p first first refl (c.requires.still tells)))
 
 pub returns-clause-crash : goal.returns-clause-crash
 returns-clause-crash g c = λ tells.
-    let p = is_marked (bit c.args.bitmap.now) in
+    let p = is_marked (length c.args.new.now) (bit c.args.bitmap.now) in
     let first = g.D.Disk.state c.args.disk.now in
     c.settle.ensures.crash tells p first (c.write_marked.ensures.writing tells first (writing_start p first first refl (c.requires.still tells)))

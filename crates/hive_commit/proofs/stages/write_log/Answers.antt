@@ -1,4 +1,4 @@
-use Rattle.std.proofs.Common.{◌≡◌, ◌+◌, ◌*◌, ◌/◌, length, refl, sym, ◌∙◌, ap, arith, Ok, Err}
+use Rattle.std.proofs.Common.{◌≡◌, ◌+◌, ◌*◌, ◌/◌, length, refl, arith}
 use Rattle.hive_model.specs.Recovery.{bit, rank, first_dirty}
 use Rattle.hive_model.specs.Log.{log_of}
 use Rattle.nt_edge.specs.Disk.{now_of}

@@ -1,0 +1,59 @@
+-- What a commit and a recovery leave alone.
+use Rattle.std.proofs.Common.{◌≡◌, ◌+◌, ℕ, Bool, List, [], length, Ok, ◌∙◌, ap, subst, refl, arith}
+use Rattle.std.proofs.lemmas.Bool.{ne_eqb}
+use Rattle.hive_model.specs.Base.{Base}
+use Rattle.hive_model.specs.Image.{Image}
+use Rattle.hive_model.specs.Recovery.{Recovered, primary_in, recovered_of}
+use Rattle.hive_model.specs.Carries.{IsRecoveredAs}
+use Rattle.nt_edge.specs.Disk.{DiskState}
+use Rattle.nt_edge.specs.Crash.{AgreeOutside, EachCrash}
+use Rattle.hive_commit.specs.Stages.{in_log, is_base, is_marked}
+use Rattle.hive_commit.specs.Growing.{primary_at, bin_at}
+use Rattle.hive_commit.specs.Alone.{KeepsRest}
+use Rattle.hive_commit.proofs.Growth.{unmarked_before, unmarked_behind}
+use Rattle.hive_commit.proofs.Four.{no_base}
+use Rattle.hive_commit.proofs.Kept.{only_held, one_recovery}
+
+module _ (size : ℕ) (before after : Image) where
+  pub rest_log : AgreeOutside in_log before after → KeepsRest size before after
+  rest_log agree = record {
+    head = λ n _ _. agree (primary_at n) refl;
+    behind = λ i _. agree (bin_at i) refl;
+  }
+
+  pub rest_base : AgreeOutside is_base before after → KeepsRest size before after
+  rest_base agree = record {
+    head = λ n more _. agree (primary_at n) (ne_eqb n 0 (λ e. absurd (omega arith)));
+    behind = λ i _. agree (bin_at i) (no_base i);
+  }
+
+  pub rest_marked : (bits : ℕ → Bool) → AgreeOutside (is_marked size bits) before after → KeepsRest size before after
+  rest_marked bits agree = record {
+    head = λ n _ small. agree (primary_at n) (unmarked_before size bits n small);
+    behind = λ i far. agree (bin_at i) (unmarked_behind size bits i far);
+  }
+
+  pub rest_same : after ≡ before → KeepsRest size before after
+  rest_same same = record {
+    head = λ n _ _. ap (λ (i : Image). primary_in i n) same;
+    behind = λ i _. ap (λ (m : Image). primary_in m (8 + i)) same;
+  }
+
+  -- one change behind another
+  pub rest_then : (last : Image) → KeepsRest size before after → KeepsRest size after last → KeepsRest size before last
+  rest_then last one two = record {
+    head = λ n more small. two.head n more small ∙ one.head n more small;
+    behind = λ i far. two.behind i far ∙ one.behind i far;
+  }
+
+-- what a recovery that wrote nothing leaves
+pub rest_kept : (old new : DiskState) (size : ℕ) → new.held ≡ old.held → new.flight ≡ [] → EachCrash new (KeepsRest size old.held)
+rest_kept old new size held none c crash = rest_same size old.held c (only_held new c none crash ∙ held)
+
+-- what a restoring leaves, where it was given what was read
+pub rest_restored : (old new : DiskState) (held : Image) (base : Base) (bins : List ℕ) (view : Recovered) (data_read : List ℕ) → held ≡ old.held → recovered_of old.held ≡ Ok view → data_read ≡ view.bins → IsRecoveredAs old.held base bins
+    → EachCrash new (KeepsRest (length data_read) held) → EachCrash new (KeepsRest (length bins) old.held)
+rest_restored old new held base bins view data_read held_is exact data_is is each c crash =
+    let other : IsRecoveredAs old.held view.base view.bins = record { dirty = view.dirty; recovered = exact } in
+    let same = one_recovery old.held base view.base bins view.bins is other in
+    subst (λ (l : List ℕ). KeepsRest (length l) old.held c) (data_is ∙ same.1) (subst (λ (h : Image). KeepsRest (length data_read) h c) held_is (each c crash))
