@@ -5,12 +5,14 @@ ghost use Rattle.std.specs.List.{range_with_len};
 ghost use Rattle.std.specs.Option.{option_copied};
 ghost use Rattle.hive_model.specs.Tree.{find_key};
 ghost use Rattle.hive_model.specs.Valid.{HoldsKeys};
-ghost use Rattle.start_model.specs.Order.{listed_groups, number_in, order_of, orders_of, tag_bytes, tags_of};
+ghost use Rattle.nt_bytes.specs.Folding.{folded};
+ghost use Rattle.start_model.specs.Order.{first_names, listed_groups, number_in, order_of, orders_of, tag_bytes, tags_of};
 ghost use Rattle.group_order.specs.Few.{AreFew};
 
-use nt_bytes::{Names, Row, Units, u32_at};
+use nt_bytes::{Names, Row, Units, fold, u32_at};
 use reg_tree::Key;
 use std::alloc::{AllocError, Global};
+use std::collections::HashSet;
 use std::marker::Model;
 
 const CONTROL: [u16; 7] = [0x43, 0x6f, 0x6e, 0x74, 0x72, 0x6f, 0x6c];
@@ -75,12 +77,13 @@ impl Orders {
 }
 
 /// The orders of a control set.
-#[tactic(auto, using(start_model::proofs::HeldLemmas::listed_groups_few))]
+#[tactic(auto, using(start_model::proofs::HeldLemmas::listed_groups_few, crate::proofs::NameLemmas::length_first_names))]
 pub fn read_orders(alloc: Global, set: &Key) -> Result<Orders, AllocError>
     requires { HoldsKeys set.now }
     ensures { IfOk result (λ o. o ≡ orders_of set.now) }
 {
-    let groups = listed_groups(alloc, set)?;
+    let listed = listed_groups(alloc, set)?;
+    let groups = first_names(alloc, &listed)?;
     orders_among(alloc, &groups, below_control(set, &GROUP_ORDER_LIST))
 }
 
@@ -99,6 +102,28 @@ fn listed_groups(alloc: Global, set: &Key) -> Result<Names, AllocError>
         Some(key) => key.strings(alloc, &LIST),
         None => Ok(Names::new(alloc)),
     }
+}
+
+/// The names without those that fold as one before them.
+fn first_names(alloc: Global, names: &Names) -> Result<Names, AllocError>
+    ensures { IfOk result (λ n. n ≡ first_names names.now) }
+{
+    let mut seen = HashSet::new(alloc);
+    let mut first = Names::new(alloc);
+    for name in names.as_slice() {
+        let is_new = seen.insert(folded(alloc, name.as_slice())?)?;
+        if is_new {
+            first.push(Units::from_slice(alloc, name.as_slice())?)?;
+        }
+    }
+    Ok(first)
+}
+
+/// A name with each unit folded.
+fn folded(alloc: Global, name: &[u16]) -> Result<Vec<u16>, AllocError>
+    ensures { IfOk result (λ v. v.items ≡ folded name.now) }
+{
+    name.iter().map(|u| fold(*u)).collect(alloc)
 }
 
 /// The orders that these groups have in `GroupOrderList`.
