@@ -4,10 +4,13 @@
 mod demand;
 mod need;
 mod next;
+mod order;
+mod started;
 
 pub use demand::{automatic, pulled, taken_is_the_least_closed_set};
-pub use need::{Need, Needs, Places, Started};
+pub use need::{Need, Needs, Places};
 pub use next::{groups_met, next_ready, ready, services_met};
+pub use started::Started;
 
 #[cfg(test)]
 mod tests;

@@ -1,4 +1,4 @@
-//! What an entry needs, and lists of such needs, of places in them, and of what was started.
+//! What an entry needs, and lists of such needs and of places in them.
 
 ghost use Rattle.std.specs.Prelude.{◌≡◌};
 ghost use Rattle.std.specs.List.{list_any};
@@ -42,6 +42,3 @@ pub type Needs = Row<Need>;
 
 /// Places in a list, from 0.
 pub type Places = Row<u32>;
-
-/// Who was started, the first one first: the folded name, and the folded group where there is one.
-pub type Started = Row<(Units, Option<Units>)>;

@@ -4,8 +4,9 @@ ghost use Rattle.std.specs.Prelude.{◌≡◌, ◌^◌, ◌<◌, length, positio
 ghost use Rattle.std.specs.List.{list_all};
 ghost use Rattle.start_model.specs.Ready.{is_ready, next_of, has_name, has_group};
 
-use crate::need::{Need, Needs, Started};
-use nt_bytes::{Units, same_folded};
+use crate::need::{Need, Needs};
+use crate::started::Started;
+use nt_bytes::Units;
 
 /// Whether each name that the entry depends on was started, and each group has a started member.
 pub fn ready(needs: &Need, started: &Started) -> bool
@@ -18,34 +19,14 @@ pub fn ready(needs: &Need, started: &Started) -> bool
 pub fn services_met(services: &[Units], started: &Started) -> bool
     ensures { result ≡ list_all (has_name started.now) services.now }
 {
-    services.iter().all(|s| has_started(started, s.as_slice()))
+    services.iter().all(|s| started.has_name(s.as_slice()))
 }
 
 /// Whether each of these groups has a started member.
 pub fn groups_met(groups: &[Units], started: &Started) -> bool
     ensures { result ≡ list_all (has_group started.now) groups.now }
 {
-    groups.iter().all(|g| has_member(started, g.as_slice()))
-}
-
-/// Whether an entry of this name was started.
-fn has_started(started: &Started, name: &[u16]) -> bool
-    ensures { result ≡ has_name started.now name.now }
-{
-    started
-        .as_slice()
-        .iter()
-        .any(|s| same_folded(name, s.0.as_slice()))
-}
-
-/// Whether an entry of this group was started.
-fn has_member(started: &Started, group: &[u16]) -> bool
-    ensures { result ≡ has_group started.now group.now }
-{
-    started.as_slice().iter().any(|s| match &s.1 {
-        Some(own) => same_folded(group, own.as_slice()),
-        None => false,
-    })
+    groups.iter().all(|g| started.has_group(g.as_slice()))
 }
 
 /// The place of the first waiting entry that is ready.

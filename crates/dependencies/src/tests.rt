@@ -1,7 +1,7 @@
 //! Demand start and readiness, by the rules as they are worded.
 
 use super::*;
-use nt_bytes::{Names, Units, narrow};
+use nt_bytes::{Names, narrow};
 use std::alloc::{AllocError, Global};
 use std::test::Fail;
 
@@ -31,8 +31,14 @@ fn need(
     })
 }
 
-fn started(alloc: Global, name: &[u8], group: &[u8]) -> Result<(Units, Option<Units>), AllocError> {
-    Ok((narrow(alloc, name)?, Some(narrow(alloc, group)?)))
+fn start(
+    alloc: Global,
+    started: &mut Started,
+    name: &[u8],
+    group: &[u8],
+) -> Result<(), AllocError> {
+    let group = Some(narrow(alloc, group)?);
+    started.push(alloc, narrow(alloc, name)?, group)
 }
 
 /// `S` names `D`, which names `E`: both start on demand. `X` is disabled, and nobody names `F`.
@@ -62,9 +68,9 @@ fn what_an_entry_needs_goes_first(rt: HostRuntime) -> Result<(), Fail> {
     waiting.push(need(alloc, b"D", 0, b"", b"G")?)?;
     let mut so_far = Started::new(alloc);
     assert_eq!(rt; next_ready(&waiting, &so_far), None);
-    so_far.push(started(alloc, b"M", b"g")?)?;
+    start(alloc, &mut so_far, b"M", b"g")?;
     assert_eq!(rt; next_ready(&waiting, &so_far), Some(1));
-    so_far.push(started(alloc, b"b", b"H")?)?;
+    start(alloc, &mut so_far, b"b", b"H")?;
     assert_eq!(rt; next_ready(&waiting, &so_far), Some(0));
     assert!(rt; ready(&need(alloc, b"C", 0, b"", b"")?, &so_far));
     Ok(())

@@ -1,0 +1,114 @@
+//! Who was started, found by name and by group without a scan.
+
+ghost use Rattle.std.specs.Prelude.{◌≡◌, ◌<◌, ◌∷◌, ◌++◌, [], IfOk, OnOk, OnErr, vec_len, vec_capacity};
+ghost use Rattle.start_model.specs.Ready.{has_name, has_group};
+
+use crate::order::{add, add_group, has};
+use nt_bytes::Units;
+use std::alloc::{AllocError, Global};
+use std::marker::Model;
+
+/// Who was started, the first one first: the folded name, and the folded group where there is one.
+/// Beside them stand the names and the groups in their order, in which one is found without a scan.
+#[derive(Drop)]
+pub struct Started {
+    entries: Vec<(Units, Option<Units>)>,
+    names: Vec<Units>,
+    groups: Vec<Units>,
+}
+
+impl Model for Started {
+    ghost use Rattle.std.specs.Prelude.{ℕ, List, Option};
+    ghost use Rattle.dependencies.specs.Index.{IsIndexed};
+
+    ghost Value = { List (List ℕ × Option (List ℕ)) };
+
+    ghost view = { λ a. a.entries.items };
+
+    ghost invariant = { λ a. IsIndexed a.entries.items a.names.items a.groups.items };
+}
+
+impl Started {
+    /// Nobody was started. It takes no memory yet.
+    pub fn new(alloc: Global) -> Started
+        ensures { result ≡ [] }
+    {
+        Started {
+            entries: Vec::new(alloc),
+            names: Vec::new(alloc),
+            groups: Vec::new(alloc),
+        }
+    }
+
+    /// Puts an entry behind the others. Without memory for it they stay as they were.
+    pub fn push(
+        &mut self,
+        alloc: Global,
+        name: Units,
+        group: Option<Units>,
+    ) -> Result<(), AllocError>
+        ensures ok { OnOk result (self.new ≡ self.old ++ (name, group) ∷ []) }
+        ensures err { OnErr result (self.new ≡ self.old) }
+    {
+        let own_name = name.copy(alloc)?;
+        let own_group = copied(alloc, &group)?;
+        make_room(&mut self.entries, &mut self.names, &mut self.groups)?;
+        put(&mut self.entries, (name, group));
+        add(&mut self.names, own_name);
+        add_group(&mut self.groups, own_group);
+        Ok(())
+    }
+
+    /// Whether an entry of this name was started.
+    pub(crate) fn has_name(&self, name: &[u16]) -> bool
+        ensures { result ≡ has_name self.now name.now }
+    {
+        has(self.names.as_slice(), name)
+    }
+
+    /// Whether an entry of this group was started.
+    pub(crate) fn has_group(&self, group: &[u16]) -> bool
+        ensures { result ≡ has_group self.now group.now }
+    {
+        has(self.groups.as_slice(), group)
+    }
+}
+
+/// Makes room for one more in each of the lists.
+fn make_room(
+    entries: &mut Vec<(Units, Option<Units>)>,
+    names: &mut Vec<Units>,
+    groups: &mut Vec<Units>,
+) -> Result<(), AllocError>
+    ensures entries { entries.new.items ≡ entries.old.items }
+    ensures names { names.new.items ≡ names.old.items }
+    ensures groups { groups.new.items ≡ groups.old.items }
+    ensures entry_room { OnOk result (vec_len entries.new < vec_capacity entries.new) }
+    ensures name_room { OnOk result (vec_len names.new < vec_capacity names.new) }
+    ensures group_room { OnOk result (vec_len groups.new < vec_capacity groups.new) }
+{
+    entries.reserve(1)?;
+    names.reserve(1)?;
+    groups.reserve(1)?;
+    Ok(())
+}
+
+/// Puts an entry behind the others, where there is room.
+fn put(entries: &mut Vec<(Units, Option<Units>)>, entry: (Units, Option<Units>))
+    requires { vec_len entries.old < vec_capacity entries.old }
+    ensures { entries.new.items ≡ entries.old.items ++ entry ∷ [] }
+{
+    match entries.push(entry) {
+        Ok(()) => {}
+        Err(_) => unreachable!(),
+    }
+}
+
+fn copied(alloc: Global, name: &Option<Units>) -> Result<Option<Units>, AllocError>
+    ensures { IfOk result (λ n. n ≡ name.now) }
+{
+    match name {
+        Some(units) => Ok(Some(units.copy(alloc)?)),
+        None => Ok(None),
+    }
+}
