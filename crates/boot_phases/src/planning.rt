@@ -11,14 +11,30 @@ use crate::rank::{Rank, in_order, ranks_at};
 use crate::taken::taken;
 use crate::tried::Tried;
 use group_order::read_orders;
-use nt_bytes::Names;
+use nt_bytes::Units;
 use reg_tree::Key;
 use service_entries::{Entries, Entry, ServiceTable, entries};
 use std::alloc::{AllocError, Global};
 
 /// What a phase takes of a control set, in its order. `tried` has the names that were tried before in this
-/// start, which are not taken again.
-pub fn plan(alloc: Global, set: &Key, phase: Phase, tried: &Names) -> Result<Entries, AllocError>
+/// start, which are not taken again. Where all phases are over nothing is read.
+pub fn plan(alloc: Global, set: &Key, phase: Phase, tried: &[Units]) -> Result<Entries, AllocError>
+    requires { HoldsKeys set.now }
+    ensures { IfOk result (λ p. p ≡ plan_of set.now (phase_in phase) tried.now) }
+{
+    match phase {
+        Phase::Done => Ok(Entries::new(alloc)),
+        Phase::Boot | Phase::System | Phase::Automatic => plan_phase(alloc, set, phase, tried),
+    }
+}
+
+/// What a phase takes, by table, orders and names that were read.
+fn plan_phase(
+    alloc: Global,
+    set: &Key,
+    phase: Phase,
+    tried: &[Units],
+) -> Result<Entries, AllocError>
     requires { HoldsKeys set.now }
     ensures { IfOk result (λ p. p ≡ plan_of set.now (phase_in phase) tried.now) }
 {

@@ -4,7 +4,7 @@ ghost use Rattle.std.specs.Prelude.{◌≡◌, IfOk};
 ghost use Rattle.start_model.specs.Entries.{was_tried};
 ghost use Rattle.boot_phases.specs.Names.{HasFolded};
 
-use nt_bytes::Names;
+use nt_bytes::Units;
 use service_entries::{Entry, folded};
 use std::alloc::{AllocError, Global};
 use std::collections::HashSet;
@@ -13,7 +13,7 @@ use std::marker::Model;
 /// Names, and what they fold to as a set.
 #[derive(Drop)]
 pub(crate) struct Tried<'a> {
-    names: &'a Names,
+    names: &'a [Units],
     by_name: HashSet<Vec<u16>>,
 }
 
@@ -29,7 +29,7 @@ impl<'a> Model for Tried<'a> {
 }
 
 impl<'a> Tried<'a> {
-    pub(crate) fn new(alloc: Global, names: &'a Names) -> Result<Tried<'a>, AllocError>
+    pub(crate) fn new(alloc: Global, names: &'a [Units]) -> Result<Tried<'a>, AllocError>
         ensures { IfOk result (λ t. t ≡ names.now) }
     {
         let by_name = folded_set(alloc, names)?;
@@ -45,11 +45,11 @@ impl<'a> Tried<'a> {
     }
 }
 
-fn folded_set(alloc: Global, names: &Names) -> Result<HashSet<Vec<u16>>, AllocError>
+fn folded_set(alloc: Global, names: &[Units]) -> Result<HashSet<Vec<u16>>, AllocError>
     ensures { IfOk result (λ s. HasFolded s names.now) }
 {
     let mut set = HashSet::new(alloc);
-    for name in names.as_slice() {
+    for name in names {
         set.insert(folded(alloc, name.as_slice())?)?;
     }
     Ok(set)

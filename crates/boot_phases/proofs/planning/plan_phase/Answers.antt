@@ -6,7 +6,7 @@ use Rattle.start_model.specs.Entries.{taken_of}
 use Rattle.start_model.specs.Order.{Rank, rank_of}
 use Rattle.boot_phases.specs.Phases.{phase_in}
 use Rattle.boot_phases.proofs.PlanLemmas.{planned}
-use Rattle.boot_phases.proofs.planning.plan.Goals as goal
+use Rattle.boot_phases.proofs.planning.plan_phase.Goals as goal
 
 pub returns : goal.returns
 returns c =
