@@ -1,7 +1,8 @@
 -- What are the steps of the machine, where the book has no word for them? (this project's own)
-use Rattle.std.specs.Prelude.{◌≡◌, ℕ, Bool, true, false, not, [], ◌∷◌, ◌++◌, slice_get, remove, Option, Some, None, option_map, if◌then◌else◌}
+use Rattle.std.specs.Prelude.{◌≡◌, ℕ, Bool, true, false, not, [], ◌∷◌, ◌++◌, ◌<◌, slice_get, remove, List, map, length, Option, Some, None, IfSome, option_map, if◌then◌else◌}
 use Rattle.nt_bytes.specs.Folding.{folded}
-use Rattle.start_model.specs.Entries.{Entry}
+use Rattle.start_model.specs.Entries.{Entry, need_of}
+use Rattle.start_model.specs.Ready.{Label, next_of}
 use Rattle.start_model.specs.Lines.{Verdict, Good, GoodUnsaved, Running, FallBack, Stopped, Cut, Device, Full, NoNumber, NoEntry, OtherLoader, NoSystem, NoControlSet, NoLastKnownGood}
 use Rattle.start_model.specs.Machine.{Start, MachineState, next_in, label_of}
 
@@ -18,12 +19,10 @@ abbrev pub is_at_end : Option Start → Bool
 is_at_end None = true
 is_at_end (Some s) = not (is_there (next_in s))
 
--- the first ready entry is taken out of the waiting ones
-pub record TakesNext (old new : Start) (e : Entry) : Type 0 where
-  pub place : ℕ
-  pub next : next_in old ≡ Some place
-  pub entry : slice_get old.waiting place ≡ Some e
-  pub taken : new ≡ record old { waiting = remove old.waiting place }
+-- the place is that of the first waiting entry that is ready
+pub record IsNext (next : Option ℕ) (started : List Label) (waiting : List Entry) : Type 0 where
+  pub place : next ≡ next_of started (map need_of waiting)
+  pub within : IfSome next (λ at. at < length waiting)
 
 -- an attempt is noted: the name as tried, and the entry as started where it was
 abbrev pub noted : Start → Entry → Bool → Start
@@ -31,6 +30,13 @@ noted s e ok = record s {
   tried = s.tried ++ folded e.name ∷ [];
   started = if ok then s.started ++ label_of e ∷ [] else s.started;
 }
+
+-- the first ready entry waits no more, and its attempt is noted
+pub record AttemptsNext (old new : Start) (e : Entry) (ok : Bool) : Type 0 where
+  pub place : ℕ
+  pub next : next_in old ≡ Some place
+  pub entry : slice_get old.waiting place ≡ Some e
+  pub after : new ≡ noted (record old { waiting = remove old.waiting place }) e ok
 
 -- the verdict after which the next start takes LastKnownGood
 abbrev pub falls_back : Verdict → Bool

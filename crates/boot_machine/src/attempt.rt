@@ -1,6 +1,6 @@
 //! An attempt of an entry.
 
-ghost use Rattle.std.specs.Prelude.{◌≡◌, true, IfOk, Some, if◌then◌else◌};
+ghost use Rattle.std.specs.Prelude.{◌≡◌, true, IfOk, OnErr, Some, if◌then◌else◌};
 ghost use Rattle.error_control.specs.Judgement.{judgement_in};
 ghost use Rattle.start_model.specs.Judge.{Ignore, judgement_of};
 ghost use Rattle.start_model.specs.Machine.{MachineState, next_in, attempt_in};
@@ -21,12 +21,12 @@ pub(crate) fn attempt(
     usable: bool,
 ) -> Result<Tried, AllocError>
     requires { is_there (next_in start.old) ≡ true }
-    ensures { IfOk result (λ t. (m : MachineState) → m.failures ≡ failures.old → attempt_in m start.old usable ≡ Some (record m { start = Some start.new; failures = failures.new }, tried_in t)) }
+    ensures attempt { IfOk result (λ t. (m : MachineState) → m.failures ≡ failures.old → attempt_in m start.old usable ≡ Some (record m { start = Some start.new; failures = failures.new }, tried_in t)) }
+    ensures kept { OnErr result (start.new ≡ start.old) }
+    ensures failures_kept { OnErr result (failures.new ≡ failures.old) }
 {
     let on_good = start.on_good();
-    let entry = start.take_next();
-    let ok = !failures.take(entry.name.as_slice());
-    start.note(alloc, &entry, ok)?;
+    let (entry, ok) = start.attempt_next(alloc, failures)?;
     let judgement = judged(ok, entry.control, on_good, usable);
     Ok(Tried {
         name: entry.name,

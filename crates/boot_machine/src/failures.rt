@@ -1,6 +1,6 @@
 //! The attempts that are to fail.
 
-ghost use Rattle.std.specs.Prelude.{◌≡◌, ◌==◌, ◌<◌, ◌-◌, ◌∷◌, ◌++◌, not, [], length, position, IfSome, IfOk, OnOk};
+ghost use Rattle.std.specs.Prelude.{◌≡◌, ◌==◌, ◌<◌, ◌-◌, ◌∷◌, ◌++◌, not, [], length, position, IfSome, IfOk, OnOk, OnErr};
 ghost use Rattle.nt_bytes.specs.Folding.{folded, folds_same};
 ghost use Rattle.start_model.specs.Machine.{failures_of, one_failure_less, with_failures};
 
@@ -67,7 +67,8 @@ impl Failures {
 
     /// Sets how many attempts of a name fail, in place of an earlier number.
     pub(crate) fn set(&mut self, alloc: Global, name: &[u16], count: u32) -> Result<(), AllocError>
-        ensures { OnOk result (self.new ≡ with_failures self.old name.now count) }
+        ensures ok { OnOk result (self.new ≡ with_failures self.old name.now count) }
+        ensures kept { OnErr result (self.new ≡ self.old) }
     {
         match self.place(name) {
             Some(at) => {
@@ -80,21 +81,31 @@ impl Failures {
 
     /// Notes a name behind the others.
     fn add(&mut self, alloc: Global, name: &[u16], count: u32) -> Result<(), AllocError>
-        ensures { OnOk result (self.new ≡ self.old ++ (folded name.now, count) ∷ []) }
+        ensures ok { OnOk result (self.new ≡ self.old ++ (folded name.now, count) ∷ []) }
+        ensures kept { OnErr result (self.new ≡ self.old) }
     {
         let name = folded_units(alloc, name)?;
         self.items.push(Failure { name, count })?;
         Ok(())
     }
 
+    /// Whether a failure of a name is to come.
+    pub(crate) fn has(&self, name: &[u16]) -> bool
+        ensures { result ≡ not (failures_of self.now name.now == 0) }
+    {
+        match self.place(name) {
+            Some(at) => is_to_come(&self.items[at]),
+            None => false,
+        }
+    }
+
     /// Takes one failure of a name, where one is to come.
-    pub(crate) fn take(&mut self, name: &[u16]) -> bool
-        ensures fails { result ≡ not (failures_of self.old name.now == 0) }
-        ensures less { self.new ≡ one_failure_less self.old name.now }
+    pub(crate) fn take(&mut self, name: &[u16])
+        ensures { self.new ≡ one_failure_less self.old name.now }
     {
         match self.place(name) {
             Some(at) => lower(&mut self.items[at]),
-            None => false,
+            None => {}
         }
     }
 }
@@ -105,12 +116,15 @@ fn put(failure: &mut Failure, count: u32)
     failure.count = count;
 }
 
-/// Takes one away, and answers whether there was one.
-fn lower(failure: &mut Failure) -> bool
-    ensures fails { result ≡ not (failure.old.1 == 0) }
-    ensures less { failure.new ≡ (failure.old.0, failure.old.1 - 1) }
+fn is_to_come(failure: &Failure) -> bool
+    ensures { result ≡ not (failure.now.1 == 0) }
 {
-    let fails = failure.count != 0;
+    failure.count != 0
+}
+
+/// Takes one away, where there is one.
+fn lower(failure: &mut Failure)
+    ensures { failure.new ≡ (failure.old.0, failure.old.1 - 1) }
+{
     failure.count = failure.count.saturating_sub(1);
-    fails
 }

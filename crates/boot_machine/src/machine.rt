@@ -1,6 +1,6 @@
 //! The machine.
 
-ghost use Rattle.std.specs.Prelude.{◌≡◌, true, false, [], IfOk, OnOk, Some, None, option_map, option_and_then};
+ghost use Rattle.std.specs.Prelude.{◌≡◌, true, false, [], IfOk, OnOk, OnErr, Some, None, option_map, option_and_then};
 ghost use Rattle.std.specs.Option.{option_map_or};
 ghost use Rattle.hive_model.specs.Valid.{HoldsKeys};
 ghost use Rattle.boot_phases.specs.Phases.{phase_in};
@@ -25,7 +25,7 @@ use std::alloc::{AllocError, Global};
 use std::marker::Model;
 
 /// A start that runs, if one does, the attempts that are to fail, and whether the next start falls back.
-/// After want of memory nothing is said of it.
+/// After want of memory it is as it was.
 #[derive(Drop)]
 pub struct Machine {
     pub(crate) start: Option<Start>,
@@ -106,7 +106,8 @@ impl Machine {
 
     /// Sets how many attempts of the folded name fail, in place of an earlier number.
     pub fn fail(&mut self, alloc: Global, name: Units, count: u32) -> Result<(), AllocError>
-        ensures { OnOk result (self.new ≡ failing name count self.old) }
+        ensures ok { OnOk result (self.new ≡ failing name count self.old) }
+        ensures kept { OnErr result (self.new ≡ self.old) }
     {
         self.failures.set(alloc, name.as_slice(), count)
     }
@@ -132,7 +133,8 @@ impl Machine {
     ) -> Result<(), AllocError>
         requires off { is_there self.old.start ≡ false }
         requires keys { HoldsKeys set.now }
-        ensures { OnOk result (self.new ≡ with_start (begun_with set.now number on_last_known_good) self.old) }
+        ensures ok { OnOk result (self.new ≡ with_start (begun_with set.now number on_last_known_good) self.old) }
+        ensures kept { OnErr result (self.new ≡ self.old) }
     {
         let start = Start::begun(alloc, set, number, on_last_known_good)?;
         self.start = Some(start);
@@ -153,7 +155,8 @@ impl Machine {
     /// run, and its phase must not be at its end.
     pub fn attempt(&mut self, alloc: Global, usable: bool) -> Result<Tried, AllocError>
         requires { is_at_end self.old.start ≡ false }
-        ensures { IfOk result (λ t. attempt_of self.old usable ≡ Some (self.new, tried_in t)) }
+        ensures attempt { IfOk result (λ t. attempt_of self.old usable ≡ Some (self.new, tried_in t)) }
+        ensures kept { OnErr result (self.new ≡ self.old) }
     {
         match &mut self.start {
             Some(start) => attempt(alloc, start, &mut self.failures, usable),
@@ -167,6 +170,7 @@ impl Machine {
         requires { HoldsKeys set.now }
         ensures machine { IfOk result (λ _. self.new ≡ on_start (after_phase set.now) self.old) }
         ensures unmet { IfOk result (λ names. names ≡ option_map_or unmet_in self.old.start []) }
+        ensures kept { OnErr result (self.new ≡ self.old) }
     {
         match &mut self.start {
             Some(start) => start.next_phase(alloc, set),

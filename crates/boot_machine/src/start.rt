@@ -1,15 +1,15 @@
 //! A start that runs.
 
-ghost use Rattle.std.specs.Prelude.{◌≡◌, ◌∷◌, [], ◌++◌, ◌<◌, true, not, Some, None, map, length, IfOk, IfSome, OnOk, option_map, if◌then◌else◌};
+ghost use Rattle.std.specs.Prelude.{◌≡◌, ◌∷◌, [], ◌++◌, ◌==◌, ◌<◌, vec_len, vec_capacity, true, not, Some, None, map, IfOk, OnOk, OnErr, option_map, if◌then◌else◌};
 ghost use Rattle.std.specs.Option.{option_copied};
 ghost use Rattle.nt_bytes.specs.Folding.{folded};
 ghost use Rattle.hive_model.specs.Valid.{HoldsKeys};
 ghost use Rattle.boot_phases.specs.Phases.{phase_in};
 ghost use Rattle.boot_report.specs.Report.{verdict_of};
-ghost use Rattle.start_model.specs.Machine.{next_in, label_of, phase_after, unmet_in, after_phase, begun_with, is_done, takes_logons, is_good, save_due, ending_with, ending_of};
-ghost use Rattle.boot_machine.specs.Steps.{is_there, TakesNext, noted};
+ghost use Rattle.start_model.specs.Machine.{next_in, label_of, failures_of, one_failure_less, phase_after, unmet_in, after_phase, begun_with, is_done, takes_logons, is_good, save_due, ending_with, ending_of};
+ghost use Rattle.boot_machine.specs.Steps.{is_there, AttemptsNext};
 
-use crate::failures::folded_units;
+use crate::failures::{Failures, folded_units};
 use crate::place::next_place;
 use boot_phases::{Phase, plan};
 use boot_report::Verdict;
@@ -28,23 +28,28 @@ pub(crate) struct Start {
     pub(crate) phase: Phase,
     pub(crate) waiting: Vec<Entry>,
     /// Folded.
-    pub(crate) tried: Names,
+    pub(crate) tried: Vec<Units>,
     pub(crate) started: Started,
     pub(crate) logged_on: bool,
     pub(crate) saved: Option<bool>,
     pub(crate) clone: Option<Key>,
+    /// The place among the waiting of the next attempt.
+    pub(crate) next: Option<usize>,
 }
 
 impl Model for Start {
     ghost use Rattle.start_model.specs.Machine.{Start as Running};
     ghost use Rattle.boot_machine.specs.Codes.{coded_start};
     ghost use Rattle.boot_phases.specs.Phases.{phase_in};
+    ghost use Rattle.boot_machine.specs.Steps.{IsNext};
 
     ghost Value = { Running };
 
     ghost coded = { coded_start };
 
-    ghost view = { λ a. record { number = a.number; on_good = a.on_good; phase = phase_in a.phase; waiting = a.waiting.items; tried = a.tried; started = a.started; logged_on = a.logged_on; saved = a.saved; clone = a.clone } };
+    ghost view = { λ a. record { number = a.number; on_good = a.on_good; phase = phase_in a.phase; waiting = a.waiting.items; tried = a.tried.items; started = a.started; logged_on = a.logged_on; saved = a.saved; clone = a.clone } };
+
+    ghost invariant = { λ a. IsNext a.next a.started a.waiting.items };
 }
 
 impl Start {
@@ -58,19 +63,22 @@ impl Start {
         requires { HoldsKeys set.now }
         ensures { IfOk result (λ s. s ≡ begun_with set.now number on_good) }
     {
-        let tried = Names::new(alloc);
-        let waiting = plan(alloc, set, Phase::Boot, &tried)?;
+        let tried = Vec::new(alloc);
+        let waiting = plan(alloc, set, Phase::Boot, tried.as_slice())?.into_vec();
+        let started = Started::new(alloc);
+        let next = next_place(waiting.as_slice(), &started);
         let clone = set.copy(alloc)?;
         Ok(Start {
             number,
             on_good,
             phase: Phase::Boot,
-            waiting: waiting.into_vec(),
+            waiting,
             tried,
-            started: Started::new(alloc),
+            started,
             logged_on: false,
             saved: None,
             clone: Some(clone),
+            next,
         })
     }
 
@@ -104,33 +112,34 @@ impl Start {
     pub(crate) fn is_at_end(&self) -> bool
         ensures { result ≡ not (is_there (next_in self.now)) }
     {
-        self.next().is_none()
+        self.next.is_none()
     }
 
-    /// The place among the waiting of the next attempt.
-    pub(crate) fn next(&self) -> Option<usize>
-        ensures place { result ≡ next_in self.now }
-        ensures within { IfSome result (λ at. at < length self.now.waiting) }
-    {
-        next_place(self.waiting.as_slice(), &self.started)
-    }
-
-    /// Takes the first ready entry out of the waiting ones.
-    pub(crate) fn take_next(&mut self) -> Entry
+    /// Takes the first ready entry out of the waiting ones, and notes its attempt. It fails where a failure
+    /// of its name is to come, which is then taken.
+    pub(crate) fn attempt_next(
+        &mut self,
+        alloc: Global,
+        failures: &mut Failures,
+    ) -> Result<(Entry, bool), AllocError>
         requires { is_there (next_in self.old) ≡ true }
-        ensures { TakesNext self.old self.new result }
+        ensures start { IfOk result (λ t. AttemptsNext self.old self.new t.0 t.1) }
+        ensures ok { IfOk result (λ t. t.1 ≡ (failures_of failures.old t.0.name == 0)) }
+        ensures failures { IfOk result (λ t. failures.new ≡ one_failure_less failures.old t.0.name) }
+        ensures kept { OnErr result (self.new ≡ self.old) }
+        ensures failures_kept { OnErr result (failures.new ≡ failures.old) }
     {
-        let at = self.next().unwrap();
-        self.waiting.remove(at)
-    }
-
-    /// Notes an attempt.
-    pub(crate) fn note(&mut self, alloc: Global, entry: &Entry, ok: bool) -> Result<(), AllocError>
-        ensures { OnOk result (self.new ≡ noted self.old entry.now ok) }
-    {
+        let at = self.next.unwrap();
+        let entry = &self.waiting[at];
         let name = folded_units(alloc, entry.name.as_slice())?;
-        self.tried.push(name)?;
-        note_started(alloc, &mut self.started, entry, ok)
+        let ok = !failures.has(entry.name.as_slice());
+        self.tried.reserve(1)?;
+        note_started(alloc, &mut self.started, &self.waiting[at], ok)?;
+        put(&mut self.tried, name);
+        let entry = self.waiting.remove(at);
+        self.next = next_place(self.waiting.as_slice(), &self.started);
+        failures.take(entry.name.as_slice());
+        Ok((entry, ok))
     }
 
     /// Goes on to the next phase, whose entries the set has now, and answers the names of those that wait.
@@ -138,12 +147,14 @@ impl Start {
         requires { HoldsKeys set.now }
         ensures start { IfOk result (λ _. self.new ≡ after_phase set.now self.old) }
         ensures unmet { IfOk result (λ names. names ≡ unmet_in self.old) }
+        ensures kept { OnErr result (self.new ≡ self.old) }
     {
         let phase = phase_after(self.phase);
-        let waiting = plan(alloc, set, phase, &self.tried)?;
+        let waiting = plan(alloc, set, phase, self.tried.as_slice())?;
         let unmet = names_of(alloc, self.waiting.as_slice())?;
         self.phase = phase;
         self.waiting = waiting.into_vec();
+        self.next = next_place(self.waiting.as_slice(), &self.started);
         Ok(unmet)
     }
 
@@ -246,6 +257,17 @@ fn names_of(alloc: Global, entries: &[Entry]) -> Result<Names, AllocError>
     Ok(names)
 }
 
+/// Puts a name behind the others, where there is room.
+fn put(names: &mut Vec<Units>, name: Units)
+    requires { vec_len names.old < vec_capacity names.old }
+    ensures { names.new.items ≡ names.old.items ++ name ∷ [] }
+{
+    match names.push(name) {
+        Ok(()) => {}
+        Err(_) => unreachable!(),
+    }
+}
+
 /// Notes an entry as started where it was.
 fn note_started(
     alloc: Global,
@@ -253,11 +275,12 @@ fn note_started(
     entry: &Entry,
     ok: bool,
 ) -> Result<(), AllocError>
-    ensures { OnOk result (started.new ≡ (if ok then started.old ++ label_of entry.now ∷ [] else started.old)) }
+    ensures ok { OnOk result (started.new ≡ (if ok then started.old ++ label_of entry.now ∷ [] else started.old)) }
+    ensures kept { OnErr result (started.new ≡ started.old) }
 {
     if ok {
-        let label = label(alloc, entry)?;
-        started.push(label)?;
+        let (name, group) = label(alloc, entry)?;
+        started.push(alloc, name, group)?;
     }
     Ok(())
 }
