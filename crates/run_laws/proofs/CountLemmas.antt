@@ -8,7 +8,7 @@ use Rattle.std.proofs.lemmas.List.{length-append}
 use Rattle.std.proofs.lemmas.Bool.{false≢true, eqb-true}
 use Rattle.hive_model.specs.Tree.{Tree}
 use Rattle.start_model.specs.Demand.{Need, IsClosed, is_taken, automatic_of}
-use Rattle.start_model.specs.Entries.{Entry, Phase, System, Automatic, entry_of, entries_of, services_of, need_of, is_driver, is_driver_of, is_open, was_tried, places_of, needs_at, taken_of}
+use Rattle.start_model.specs.Entries.{Entry, Phase, Boot, System, Automatic, Done, entry_of, entries_of, services_of, need_of, is_driver, is_driver_of, is_open, was_tried, places_of, needs_at, taken_of}
 use Rattle.start_model.specs.Order.{Rank, is_before, placed, ordered_of, orders_of, rank_of, tags_count_in, ranks_of, plan_of}
 use Rattle.dependencies.proofs.PulledLemmas.{is_taken-least_of_all}
 
@@ -207,3 +207,19 @@ apart (e ∷ es) = by_start (starts 1 e) refl (apart es)
 
 pub all_counts : (set : Tree) → system_count set + late_count set ≤ length (services_of set)
 all_counts set = omega (arith, apart (entries_of set), at_most entry_of (services_of set))
+
+number-most : {X : Type 0} (p : X → Bool) (xs : List X) → number p xs ≤ length xs
+number-most p [] = omega arith
+number-most p (x ∷ xs) = by_case (p x) (number-most p xs)
+  where
+    by_case : (b : Bool) → number p xs ≤ length xs → cond b (suc (number p xs)) (number p xs) ≤ suc (length xs)
+    by_case true le = omega arith
+    by_case false le = omega arith
+
+-- a phase takes no more entries than there are services
+pub plan_few : (set : Tree) (phase : Phase) (tried : List (List ℕ)) → length (plan_of set phase tried) ≤ length (services_of set)
+plan_few set Boot tried =
+    omega (arith, plan_within set Boot tried, drivers_taken 0 tried (entries_of set), number-most (starts 0) (entries_of set), at_most entry_of (services_of set))
+plan_few set System tried = omega (arith, system_plan set tried, all_counts set)
+plan_few set Automatic tried = omega (arith, automatic_plan set tried, all_counts set)
+plan_few set Done tried = omega (arith, plan_within set Done tried)
