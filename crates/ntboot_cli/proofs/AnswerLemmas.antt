@@ -1,5 +1,5 @@
 -- How a stop, a missing file and a text that was read answer the whole.
-use Rattle.std.proofs.Common.{◌≡◌, ◌⊎◌, ◌++◌, inl, inr, ℕ, Bool, true, false, List, [], Option, Some, None, refl, sym, ◌∙◌, subst, append-nil, length, map}
+use Rattle.std.proofs.Common.{◌≡◌, inl, inr, ℕ, Bool, true, false, List, [], Option, Some, None, refl, sym, ◌∙◌, subst, append-nil}
 use Rattle.std.specs.Prelude.{Result, Ok, Err, MatchBool}
 use Rattle.nt_edge.specs.Host.{Files, SaysFront}
 use Rattle.arc_path.specs.declared.arc.Arc.{Arc}
@@ -12,7 +12,6 @@ use Rattle.boot_script.specs.declared.stop.ScriptStop.TheVariants as stops
 use Rattle.boot_script.specs.Script.{GivesScript, script_of}
 use Rattle.boot_ini.specs.Ini.{ini_of}
 use Rattle.ntboot_cli.specs.declared.status.Status.{Status}
-use Rattle.ntboot_cli.specs.declared.status.Status.TheVariants as statuses
 use Rattle.ntboot_cli.specs.Words.{Asked}
 use Rattle.ntboot_cli.specs.Answer.{Answer, Answers, FetchFails, IsStop, no_file, too_long, too_many_entries, script_fault, not_built, bad_usage, AnswersHiveFile, AnswersIni, AnswersIniFile, AnswersIniName, AnswersEvents, AnswersRead, AnswersScript, AnswersSystem}
 

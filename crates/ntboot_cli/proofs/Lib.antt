@@ -1,3 +1,11 @@
 pub mod WordLemmas
 pub mod AnswerLemmas
 pub mod LoadLemmas
+pub mod SayLemmas
+pub mod SetLemmas
+pub mod RunLemmas
+pub mod StartLemmas
+pub mod TakeLemmas
+pub mod StepLemmas
+pub mod EventLemmas
+pub mod PlayLemmas

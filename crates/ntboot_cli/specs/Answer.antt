@@ -3,7 +3,7 @@
 -- The first obstacle decides, in this order: the words; the script, absent or without a reading, or with an event that is
 -- not built yet; boot.ini, absent, too long or with too many entries; the hive, absent or with a fault. Without an obstacle
 -- the report is said.
-use Rattle.std.specs.Prelude.{◌≡◌, ◌⊎◌, ◌++◌, ℕ, Bool, true, false, nat_lt, MatchBool, List, [], length, map, Option, Some, None, Result, Ok, Err, codes}
+use Rattle.std.specs.Prelude.{◌≡◌, ◌⊎◌, ◌++◌, ℕ, false, nat_lt, MatchBool, List, [], length, map, Option, Some, None, Result, Ok, Err, codes}
 use Rattle.std.specs.List.{list_all}
 use Rattle.std.specs.Fmt.{decimal}
 use Rattle.nt_bytes.specs.declared.fault.HiveFault.{HiveFault}
@@ -28,7 +28,11 @@ use Rattle.ntboot_cli.specs.declared.status.Status.{Status}
 use Rattle.ntboot_cli.specs.declared.status.Status.TheVariants.{Done, Usage, NoFile, ScriptFault as BadScript, BootIniFault, HiveFault as BadHive, NotBuilt, ReadFault, WriteFault, Memory}
 use Rattle.ntboot_cli.specs.Words.{Asked, words_of}
 use Rattle.ntboot_cli.specs.Kinds.{script_kind_word, hive_kind_word}
-use Rattle.ntboot_cli.specs.Built.{is_built}
+use Rattle.start_model.specs.Lines.{Line, text_of}
+use Rattle.start_model.specs.Events as events
+use Rattle.start_model.specs.Run.{Choice, RunState, quiet_run_of}
+use Rattle.ntboot_cli.specs.Built.{Said, is_built, report_of}
+use Rattle.ntboot_cli.specs.Choices.{choices}
 
 -- a status, and all that is said with it
 pub record Answer : Type 0 where
@@ -84,21 +88,35 @@ pub record HasCause (reads writes reads_after writes_after : ℕ) (status : Stat
 
 -- ---- the obstacles, in their order
 
--- a status with which a run of the script ends. That what it says is the text of the run is not stated here yet.
-abbrev pub IsPlayed : Status → Type 0
-IsPlayed status = (status ≡ Done) ⊎ ((status ≡ NotBuilt) ⊎ IsStop status)
+-- a status with which a run of the script ends
+abbrev pub IsEnding : Status → Type 0
+IsEnding status = (status ≡ Done) ⊎ ((status ≡ NotBuilt) ⊎ IsStop status)
+
+-- the whole report was said, up to its end or to what isn't built
+abbrev pub played_to : Option RunState → List Line → Answer
+played_to None lines = record { status = NotBuilt; text = text_of lines ++ codes "not built\n" }
+played_to (Some state) lines = record { status = Done; text = text_of lines }
+
+abbrev pub played : Said → Answer
+played report = played_to report.state report.lines
+
+-- The script is played on what the hive loads as: its report is said, as far as it is built, or a front of it where the
+-- outside stopped. A report that is said to its end is the text of the quiet run.
+pub record IsPlayed (choice : Option ℕ → Choice) (script : List events.Event) (placed : HiveState) (status : Status) (old new : List ℕ) : Type 0 where
+  pub report : Answers (played (report_of choice script placed)) status old new
+  pub quiet : status ≡ Done → new ≡ old ++ text_of (quiet_run_of choice script placed false)
 
 -- The hive has a first fault, and that is said; or it loads as a state, and the script is played on it; or the outside
 -- stopped before anything was said.
-abbrev pub AnswersHive : List ℕ → Status → List ℕ → List ℕ → Type 0
-AnswersHive hive status old new =
+abbrev pub AnswersHive : (Option ℕ → Choice) → List events.Event → List ℕ → Status → List ℕ → List ℕ → Type 0
+AnswersHive choice script hive status old new =
     ((fault : HiveFault) × (LoadFault (image_of hive []) fault) × Answers (hive_fault fault) status old new)
-    ⊎ (((state : HiveState) × (dirty : Bool) × (Loads (image_of hive []) state dirty) × IsPlayed status)
+    ⊎ (((state : HiveState) × (Loads (image_of hive []) state false) × IsPlayed choice script state status old new)
     ⊎ (IsStop status × (new ≡ old)))
 
 abbrev pub AnswersHiveFile : Arc → Asked → List Event → BootIni → Option (List ℕ) → Status → List ℕ → List ℕ → Type 0
 AnswersHiveFile system asked events ini None status old new = Answers (no_file asked.hive) status old new
-AnswersHiveFile system asked events ini (Some hive) status old new = AnswersHive hive status old new
+AnswersHiveFile system asked events ini (Some hive) status old new = AnswersHive (choices ini system) (map event_in events) hive status old new
 
 abbrev pub AnswersIni : Arc → Asked → Files → List Event → List ℕ → Status → List ℕ → List ℕ → Type 0
 AnswersIni system asked files events text status old new =

@@ -2,5 +2,10 @@ pub mod Words
 pub mod Views
 pub mod Kinds
 pub mod Built
+pub mod Choices
+pub mod Sets
+pub mod Ends
+pub mod Says
 pub mod Answer
 pub mod Loading
+pub mod Exits

@@ -1,5 +1,5 @@
 -- The words as the code holds them.
-use Rattle.std.specs.Prelude.{ℕ, List, Option, option_map}
+use Rattle.std.specs.Prelude.{option_map}
 use Rattle.ntboot_cli.specs.declared.words.Given.{Given as GivenWords}
 use Rattle.ntboot_cli.specs.declared.words.Asked.{Asked as AskedWords}
 use Rattle.ntboot_cli.specs.Words.{Given, Asked}

@@ -4,6 +4,7 @@
 #![tactic(auto)]
 
 mod kinds;
+mod laws;
 mod load;
 mod play;
 mod report_words;
@@ -13,5 +14,8 @@ mod status;
 mod top;
 mod words;
 
+pub use laws::{
+    a_beginning_is_built_where_it_changes_no_set, a_report_is_a_front_of_the_quiet_run,
+};
 pub use status::Status;
 pub use top::ntboot;

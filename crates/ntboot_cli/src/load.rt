@@ -1,9 +1,12 @@
 //! What a hive file loads as, without a log.
 
-ghost use Rattle.std.specs.Prelude.{[], IfOk, IfSome};
+ghost use Rattle.std.specs.Prelude.{◌≡◌, [], true, length, IfOk, IfSome};
+ghost use Rattle.std.specs.Option.{option_copied};
+ghost use Rattle.hive_model.specs.Base.{is_bins_size};
 ghost use Rattle.hive_model.specs.Image.{image_of};
 ghost use Rattle.hive_model.specs.Valid.{HoldsKeys};
 ghost use Rattle.ntboot_cli.specs.Loading.{HoldsAs, LoadsFile};
+ghost use Rattle.ntboot_cli.specs.Sets.{usable_set};
 
 use crate::sets::set_of;
 use hive_cells::read_cells;
@@ -22,14 +25,11 @@ pub struct Loaded {
 
 /// What was recovered holds: the tree and the sequence number, or the first fault of its bins and then of the tree in them.
 fn held_in(alloc: Global, found: Recovered) -> Result<Loaded, ReadStop>
+    requires sized { is_bins_size (length found.bins) ≡ true }
     ensures exact { HoldsAs found result }
     ensures held { IfOk result (λ l. HoldsKeys l.tree) }
 {
     let (root, sequence) = (found.base.root, found.base.first);
-    // A base block that is read has at most this size, so there is no more to hold.
-    if 16_777_216 < found.bins.len() {
-        return Err(ReadStop::Memory);
-    }
     match read_cells(alloc, found.bins) {
         Ok(cells) => match read_tree(alloc, &cells, root) {
             Ok(tree) => Ok(Loaded { tree, sequence }),
@@ -54,7 +54,8 @@ pub fn load(alloc: Global, file: &[u8]) -> Result<Loaded, ReadStop>
 /// The set of a number, where the number is from 1 to 999 and the root has the set.
 pub fn set_in(loaded: &Loaded, number: u32) -> Option<&Key>
     requires { HoldsKeys loaded.now.tree }
-    ensures { IfSome result (λ set. HoldsKeys set.now) }
+    ensures exact { option_copied result ≡ usable_set loaded.now.tree number }
+    ensures held { IfSome result (λ set. HoldsKeys set.now) }
 {
     set_of(&loaded.tree, number)
 }

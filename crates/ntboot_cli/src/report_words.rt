@@ -1,12 +1,24 @@
 //! The words of the report for what the machine and the script say.
 
+ghost use Rattle.std.specs.Prelude.{◌≡◌};
+ghost use Rattle.boot_machine.specs.Views.{event_in, refusal_in, tried_in};
+ghost use Rattle.boot_phases.specs.Phases.{phase_in};
+ghost use Rattle.boot_report.specs.Report.{event_of, refused_of, phase_of, try_of, verdict_of, line_of};
+ghost use Rattle.start_model.specs.Run.{event_word_of, phase_line, try_line, select_line};
+ghost use Rattle.start_model.specs.Lines.{PhaseLine, TryLine};
+ghost use Rattle.ntboot_cli.specs.Ends.{EndsAs};
+ghost use Rattle.ntboot_cli.specs.Sets.{missing};
+
+use crate::sets::SelectNumbers;
 use boot_machine::{Phase, Refusal, Tried};
-use boot_report::{EventWord, PhaseWord, RefusedWord, TryWord, Verdict};
+use boot_report::{EventWord, Line, PhaseWord, RefusedWord, TryWord, Verdict};
 use boot_script::Event;
 use error_control::Judgement;
 
 /// The first word of the event's line.
-pub(crate) fn event_word(event: &Event) -> EventWord {
+pub(crate) fn event_word(event: &Event) -> EventWord
+    ensures { event_of result ≡ event_word_of (event_in event.now) }
+{
     match event {
         Event::Boot { .. } => EventWord::Boot,
         Event::Go { .. } => EventWord::Go,
@@ -23,7 +35,9 @@ pub(crate) fn event_word(event: &Event) -> EventWord {
     }
 }
 
-pub(crate) fn refused_word(refusal: Refusal) -> RefusedWord {
+pub(crate) fn refused_word(refusal: Refusal) -> RefusedWord
+    ensures { refused_of result ≡ refusal_in refusal }
+{
     match refusal {
         Refusal::Off => RefusedWord::Off,
         Refusal::Running => RefusedWord::Running,
@@ -34,7 +48,9 @@ pub(crate) fn refused_word(refusal: Refusal) -> RefusedWord {
     }
 }
 
-pub(crate) fn phase_word(phase: Phase) -> PhaseWord {
+pub(crate) fn phase_word(phase: Phase) -> PhaseWord
+    ensures { PhaseLine (phase_of result) ≡ phase_line (phase_in phase) }
+{
     match phase {
         Phase::Boot => PhaseWord::Boot,
         Phase::System => PhaseWord::System,
@@ -44,7 +60,9 @@ pub(crate) fn phase_word(phase: Phase) -> PhaseWord {
 }
 
 /// How an attempt went.
-pub(crate) fn try_word(tried: &Tried) -> TryWord {
+pub(crate) fn try_word(tried: &Tried) -> TryWord
+    ensures { TryLine tried.now.name (try_of result) ≡ try_line (tried_in tried.now) }
+{
     if tried.ok {
         return TryWord::Ok;
     }
@@ -57,10 +75,35 @@ pub(crate) fn try_word(tried: &Tried) -> TryWord {
 }
 
 /// The verdict with which an attempt ends its start, if it does.
-pub(crate) fn verdict_after(tried: &Tried) -> Option<Verdict> {
+pub(crate) fn verdict_after(tried: &Tried) -> Option<Verdict>
+    ensures { EndsAs result tried.now.judgement }
+{
     match tried.judgement {
         Judgement::Ignore | Judgement::Log => None,
         Judgement::FallBack => Some(Verdict::FallBack),
         Judgement::Stop => Some(Verdict::Stopped),
+    }
+}
+
+/// The verdict where no set is there to be taken.
+pub(crate) fn missing(on_good: bool) -> Verdict
+    ensures { verdict_of result ≡ missing on_good }
+{
+    if on_good {
+        Verdict::NoLastKnownGood
+    } else {
+        Verdict::NoControlSet
+    }
+}
+
+/// The line of the four numbers.
+pub(crate) fn select_line(numbers: SelectNumbers) -> Line
+    ensures { line_of result ≡ select_line numbers }
+{
+    Line::Select {
+        current: numbers.current,
+        default: numbers.default,
+        failed: numbers.failed,
+        good: numbers.good,
     }
 }

@@ -1,7 +1,11 @@
 //! The control sets of a tree.
 
-ghost use Rattle.std.specs.Prelude.{◌≤◌, IfSome};
+ghost use Rattle.std.specs.Prelude.{◌≡◌, ◌+◌, ◌/◌, ◌%◌, ◌≤◌, IfSome};
+ghost use Rattle.std.specs.Option.{option_copied};
 ghost use Rattle.hive_model.specs.Valid.{HoldsKeys};
+ghost use Rattle.start_model.specs.Sets.{select_number, select_numbers_of, taken_number};
+ghost use Rattle.start_model.specs.Run.{good_is_usable};
+ghost use Rattle.ntboot_cli.specs.Sets.{usable_set, changes_sets};
 
 use reg_tree::Key;
 use std::marker::Model;
@@ -43,7 +47,9 @@ const GOOD: [u16; 13] = [
 ];
 
 /// A number of the key, 0 where it is absent or no DWORD.
-fn number_in(name: &[u16], select: Option<&Key>) -> u32 {
+fn number_in(name: &[u16], select: Option<&Key>) -> u32
+    ensures { result ≡ select_number name.now (option_copied select.entry) }
+{
     match select {
         None => 0,
         Some(key) => match key.dword(name) {
@@ -53,7 +59,10 @@ fn number_in(name: &[u16], select: Option<&Key>) -> u32 {
     }
 }
 
-pub(crate) fn select_numbers(tree: &Key) -> SelectNumbers {
+/// The numbers of the tree's `Select`.
+pub(crate) fn select_numbers(tree: &Key) -> SelectNumbers
+    ensures { result ≡ select_numbers_of tree.now }
+{
     let select = tree.child(&SELECT);
     SelectNumbers {
         current: number_in(&CURRENT, select),
@@ -66,6 +75,7 @@ pub(crate) fn select_numbers(tree: &Key) -> SelectNumbers {
 /// The digit of a number at this power of ten.
 fn digit(number: u32, power: u32) -> u16
     requires { 1 ≤ power }
+    ensures { result ≡ 48 + number / power % 10 }
 {
     48 + (number / power % 10) as u16
 }
@@ -74,7 +84,8 @@ fn digit(number: u32, power: u32) -> u16
 #[tactic(auto, using(hive_model::proofs::HeldLemmas::held_child))]
 pub(crate) fn set_of(tree: &Key, number: u32) -> Option<&Key>
     requires { HoldsKeys tree.now }
-    ensures { IfSome result (λ set. HoldsKeys set.now) }
+    ensures exact { option_copied result ≡ usable_set tree.now number }
+    ensures held { IfSome result (λ set. HoldsKeys set.now) }
 {
     if number < 1 || 999 < number {
         return None;
@@ -97,7 +108,37 @@ pub(crate) fn set_of(tree: &Key, number: u32) -> Option<&Key>
     tree.child(&name)
 }
 
-/// Whether the beginning of a start on Default changes nothing: Current is Default, and LastKnownGood names another set.
-pub(crate) fn begins_unchanged(numbers: SelectNumbers) -> bool {
-    numbers.current == numbers.default && numbers.good != numbers.default
+/// The number that a start takes: LastKnownGood or Default.
+pub(crate) fn taken_number(numbers: SelectNumbers, on_good: bool) -> u32
+    ensures { result ≡ taken_number numbers on_good }
+{
+    if on_good {
+        numbers.good
+    } else {
+        numbers.default
+    }
+}
+
+/// Whether the beginning of a start would change the sets: it is on LastKnownGood, which is then kept for itself
+/// alone; or Current isn't Default; or LastKnownGood names the set that is taken.
+pub(crate) fn changes_sets(numbers: SelectNumbers, on_good: bool) -> bool
+    ensures { result ≡ changes_sets numbers on_good }
+{
+    on_good || numbers.current != numbers.default || numbers.good == numbers.default
+}
+
+/// Whether LastKnownGood names a set of the tree.
+pub(crate) fn good_is_usable(tree: &Key) -> bool
+    requires { HoldsKeys tree.now }
+    ensures { result ≡ good_is_usable tree.now }
+{
+    let number = good_number(tree);
+    set_of(tree, number).is_some()
+}
+
+/// LastKnownGood of the tree's `Select`.
+fn good_number(tree: &Key) -> u32
+    ensures { result ≡ (select_numbers_of tree.now).good }
+{
+    select_numbers(tree).good
 }

@@ -1,5 +1,8 @@
 //! How a call of the program ends.
 
+ghost use Rattle.std.specs.Prelude.{◌≡◌};
+ghost use Rattle.ntboot_cli.specs.Exits.{exit_of};
+
 /// The exit status. What is said with it is one line, but for `Done` and a run that came to what is not built.
 #[derive(Clone, Copy, Debug, PartialEq, Eq)]
 pub enum Status {
@@ -27,7 +30,9 @@ pub enum Status {
 
 impl Status {
     /// The program's exit number.
-    pub fn code(self) -> u8 {
+    pub fn code(self) -> u8
+        ensures { result ≡ exit_of self }
+    {
         match self {
             Status::Done => 0,
             Status::Usage => 1,

@@ -1,10 +1,12 @@
 //! The top call: one obstacle after the other, and then the run.
 
-ghost use Rattle.std.specs.Prelude.{◌≡◌, true, length, map, Some, None, string_bytes, IsOk, IfOk};
+ghost use Rattle.std.specs.Prelude.{◌≡◌, ◌≤◌, ◌⊎◌, true, length, map, Some, None, string_bytes, IsOk, IfOk};
 ghost use Rattle.std.specs.List.{list_all};
 ghost use Rattle.boot_machine.specs.Views.{event_in};
 ghost use Rattle.ntboot_cli.specs.Answer.{HasCause, AnswersHive, AnswersHiveFile, AnswersIni, AnswersIniName, AnswersRead, AnswersScript, AnswersSystem, AnswersAll, IsBadUsage};
 ghost use Rattle.ntboot_cli.specs.Built.{is_built};
+ghost use Rattle.ntboot_cli.specs.Choices.{choices};
+ghost use Rattle.ntboot_cli.specs.Says.{IsPlayable, starts_in};
 ghost use Rattle.ntboot_cli.specs.Views.{asked_seen};
 ghost use Rattle.ntboot_cli.specs.Words.{words_of};
 ghost use Rattle.ntboot_cli.specs.declared.status.Status.TheVariants as statuses;
@@ -31,7 +33,8 @@ fn with_hive<H: Host>(
     hive: &Bytes,
     host: &mut H,
 ) -> Status
-    ensures answer { H.tells ≡ true → AnswersHive hive.now result (H.said host.old) (H.said host.new) }
+    requires playable { IsPlayable script.now }
+    ensures answer { H.tells ≡ true → AnswersHive (choices ini.now system.now) (map event_in script.now) hive.now result (H.said host.old) (H.said host.new) }
     ensures kept { result ≡ statuses.Usage → ⊥ }
     ensures files { H.tells ≡ true → H.files host.new ≡ H.files host.old }
     ensures cause { HasCause (H.reads host.old) (H.writes host.old) (H.reads host.new) (H.writes host.new) result }
@@ -59,6 +62,7 @@ fn with_ini<H: Host>(
     ini: &BootIni,
     host: &mut H,
 ) -> Status
+    requires playable { IsPlayable script.now }
     ensures answer { H.tells ≡ true → AnswersHiveFile system.now (asked_seen asked.entry) script.now ini.now (H.files host.old asked.entry.hive.now) result (H.said host.old) (H.said host.new) }
     ensures files { H.tells ≡ true → H.files host.new ≡ H.files host.old }
     ensures cause { HasCause (H.reads host.old) (H.writes host.old) (H.reads host.new) (H.writes host.new) result }
@@ -79,6 +83,7 @@ fn with_ini_text<H: Host>(
     text: &[u8],
     host: &mut H,
 ) -> Status
+    requires playable { IsPlayable script.now }
     ensures answer { H.tells ≡ true → AnswersIni system.now (asked_seen asked.entry) (H.files host.old) script.now text.now result (H.said host.old) (H.said host.new) }
     ensures files { H.tells ≡ true → H.files host.new ≡ H.files host.old }
     ensures cause { HasCause (H.reads host.old) (H.writes host.old) (H.reads host.new) (H.writes host.new) result }
@@ -106,6 +111,7 @@ fn with_script<H: Host>(
     script: &Script,
     host: &mut H,
 ) -> Status
+    requires playable { IsPlayable script.now }
     ensures answer { H.tells ≡ true → AnswersIniName system.now (asked_seen asked.entry) (H.files host.old) script.now (asked_seen asked.entry).boot_ini result (H.said host.old) (H.said host.new) }
     ensures files { H.tells ≡ true → H.files host.new ≡ H.files host.old }
     ensures cause { HasCause (H.reads host.old) (H.writes host.old) (H.reads host.new) (H.writes host.new) result }
@@ -153,6 +159,7 @@ fn with_events<H: Host>(
     script: Result<Script, ScriptStop>,
     host: &mut H,
 ) -> Status
+    requires few { IfOk script (λ s. starts_in s ≤ 64) }
     ensures answer { H.tells ≡ true → AnswersRead system.now (asked_seen asked.entry) (H.files host.old) script result (H.said host.old) (H.said host.new) }
     ensures files { H.tells ≡ true → H.files host.new ≡ H.files host.old }
     ensures cause { HasCause (H.reads host.old) (H.writes host.old) (H.reads host.new) (H.writes host.new) result }
@@ -191,6 +198,7 @@ fn with_system<H: Host>(alloc: Global, asked: Asked<'_>, system: &Arc, host: &mu
 fn run<H: Host>(alloc: Global, asked: Asked<'_>, host: &mut H) -> Status
     ensures answer { H.tells ≡ true → AnswersSystem (asked_seen asked.entry) (H.files host.old) (arc_of asked.entry.system.now) result (H.said host.old) (H.said host.new) }
     ensures usage { result ≡ statuses.Usage → IsBadUsage (Some (asked_seen asked.entry)) }
+    ensures refused { IsBadUsage (Some (asked_seen asked.entry)) → (result ≡ statuses.Usage) ⊎ ((result ≡ statuses.WriteFault) ⊎ (result ≡ statuses.Memory)) }
     ensures files { H.tells ≡ true → H.files host.new ≡ H.files host.old }
     ensures cause { HasCause (H.reads host.old) (H.writes host.old) (H.reads host.new) (H.writes host.new) result }
 {
@@ -205,6 +213,7 @@ fn run<H: Host>(alloc: Global, asked: Asked<'_>, host: &mut H) -> Status
 pub fn ntboot<H: Host>(alloc: Global, words: &[String], host: &mut H) -> Status
     ensures answer { H.tells ≡ true → AnswersAll (map string_bytes words.now) (H.files host.old) result (H.said host.old) (H.said host.new) }
     ensures usage { result ≡ statuses.Usage → IsBadUsage (words_of (map string_bytes words.now)) }
+    ensures refused { IsBadUsage (words_of (map string_bytes words.now)) → (result ≡ statuses.Usage) ⊎ ((result ≡ statuses.WriteFault) ⊎ (result ≡ statuses.Memory)) }
     ensures files { H.tells ≡ true → H.files host.new ≡ H.files host.old }
     ensures cause { HasCause (H.reads host.old) (H.writes host.old) (H.reads host.new) (H.writes host.new) result }
 {

@@ -1,8 +1,9 @@
-use Rattle.std.proofs.Common.{subst, ◌∙◌, ap, sym, List, ℕ}
+use Rattle.std.proofs.Common.{subst, sym, List, ℕ}
 use Rattle.ntboot_cli.specs.Answer.{AnswersEvents, AnswersScript}
 use Rattle.boot_script.specs.Script.{script_of}
 use Rattle.ntboot_cli.specs.Views.{asked_seen}
 use Rattle.ntboot_cli.proofs.AnswerLemmas.{absent_script, as_read}
+use Rattle.ntboot_cli.proofs.EventLemmas.{few_read}
 use Rattle.ntboot_cli.proofs.top.with_system.Goals as goal
 
 pub returns-in-Ok-clause-answer : goal.returns-in-Ok-clause-answer
@@ -24,3 +25,6 @@ pub returns-in-Err-clause-answer : goal.returns-in-Err-clause-answer
 returns-in-Err-clause-answer g c = λ tells.
     absent_script c.args.system.now (asked_seen c.args.asked) (g.H.Host.files c.args.host.now)
     (g.H.Host.files c.args.host.now c.args.asked.script.now) c.in-Err.status (g.H.Host.said c.args.host.now) (g.H.Host.said c.fetch.new.host) (c.in-Err.ensures.answer tells)
+
+pub with_events-requires : goal.with_events-requires
+with_events-requires g c = record { few = few_read c.as_slice.result.now c.read_script-script.result c.read_script-script.ensures.exact }

@@ -1,0 +1,223 @@
+-- Which set a number names, and what the beginning of a start on it changes.
+use Rattle.std.proofs.Common.{◌≡◌, ℕ, zero, suc, ◌+◌, ◌<◌, ◌≤◌, Bool, true, false, ◌&&◌, ◌||◌, not, cond, List, [], ◌∷◌, ◌++◌, length, Option, Some, None, Result, Ok, Err, refl, sym, ap, subst, ◌∙◌, arith}
+use Rattle.std.specs.Prelude.{◌/◌, ◌%◌, find, filter, nat_le, ◌==◌, option_and_then}
+use Rattle.std.specs.Option.{is_some}
+use Rattle.std.specs.List.{list_any, range_with_len}
+use Rattle.std.proofs.lemmas.Bool.{false≢true, true≢false, eqb-true, eq-eqb, ne_eqb, le-leb, leb-true}
+use Rattle.hive_model.specs.Tree.{Tree, find_key, children, is_named}
+use Rattle.hive_model.specs.Edit.{Step, Refusal}
+use Rattle.start_model.specs.Lines.{SetLine}
+use Rattle.start_model.specs.Sets.{SelectNumbers, SetPlan, select_numbers_of, set_of, set_name, is_usable, usable_numbers_of, has_number, free_number_of, taken_number, begun, plan_with, guarded_plan, deletions_of, four_of, writes_of, stepped}
+use Rattle.start_model.specs.Run.{RunState, end_with, begin_start, begin_changed, begin_with, begin_by, take_set}
+use Rattle.ntboot_cli.specs.Built.{said_by, behind, not_built}
+use Rattle.ntboot_cli.specs.Sets.{usable_set, changes_sets, missing}
+
+-- a path of one name leads to the child
+pub one_name : (o : Option Tree) → option_and_then (find_key []) o ≡ o
+one_name None = refl
+one_name (Some t) = refl
+
+-- ---- the set of a number
+
+found : (o : Option Tree) → cond (is_some o) o None ≡ o
+found None = refl
+found (Some t) = refl
+
+pub usable_set-within : (t : Tree) (n : ℕ) → 1 ≤ n → n ≤ 999 → usable_set t n ≡ set_of t n
+usable_set-within t n low high = rw (le-leb 1 n low, le-leb n 999 high) (found (set_of t n))
+
+pub usable_set-below : (t : Tree) (n : ℕ) → n < 1 → usable_set t n ≡ None
+usable_set-below t n low = grind (arith, low)
+
+pub usable_set-above : (t : Tree) (n : ℕ) → 999 < n → usable_set t n ≡ None
+usable_set-above t n high = grind (arith, high)
+
+-- a number has a usable set exactly where it is usable
+right_of : (a b : Bool) → (a && b) ≡ true → b ≡ true
+right_of true b e = e
+right_of false b e = absurd (false≢true e)
+
+left_of : (a b : Bool) → (a && b) ≡ true → a ≡ true
+left_of true b e = refl
+left_of false b e = absurd (false≢true e)
+
+some_set : (b : Bool) (o : Option Tree) → (b ≡ true → is_some o ≡ true) → is_some (cond b o None) ≡ b
+some_set true o f = f refl
+some_set false o f = refl
+
+pub is_usable-set : (t : Tree) (n : ℕ) → is_some (usable_set t n) ≡ is_usable t n
+is_usable-set t n = some_set (is_usable t n) (set_of t n) (right_of (nat_le 1 n && nat_le n 999) (is_some (set_of t n)))
+
+-- ---- the usable numbers
+
+other : (p : ℕ → Bool) (n x : ℕ) (b : Bool) → (x == n) ≡ b → p n ≡ false → p x ≡ true → (x == n) ≡ false
+other p n x true is e px = absurd (true≢false (sym px ∙ ap p (eqb-true x n is) ∙ e))
+other p n x false is e px = is
+
+none_by : (p : ℕ → Bool) (n x : ℕ) (xs : List ℕ) (b : Bool) → p n ≡ false → p x ≡ b → list_any (λ k. k == n) (filter p xs) ≡ false → list_any (λ k. k == n) (cond b (x ∷ filter p xs) (filter p xs)) ≡ false
+none_by p n x xs true e px rest = rw (other p n x (x == n) refl e px) rest
+none_by p n x xs false e px rest = rest
+
+none_is : (p : ℕ → Bool) (n : ℕ) (xs : List ℕ) → p n ≡ false → list_any (λ k. k == n) (filter p xs) ≡ false
+none_is p n [] e = refl
+none_is p n (x ∷ xs) e = none_by p n x xs (p x) e refl (none_is p n xs e)
+
+or_true : (x y : Bool) → y ≡ true → (x || y) ≡ true
+or_true true y e = refl
+or_true false y e = e
+
+some_behind : (n a : ℕ) (xs : List ℕ) (b : Bool) → list_any (λ k. k == n) xs ≡ true → list_any (λ k. k == n) (cond b (a ∷ xs) xs) ≡ true
+some_behind n a xs true e = or_true (a == n) _ e
+some_behind n a xs false e = e
+
+above : (a n : ℕ) → (a == n) ≡ false → a ≤ n → a + 1 ≤ n
+above a n ne le = omega (arith, differ)
+  where
+    differ : a ≡ n → ⊥
+    differ same = true≢false (sym (eq-eqb a n same) ∙ ne)
+
+some_by : (p : ℕ → Bool) (n a : ℕ) (xs : List ℕ) (b : Bool) → (a == n) ≡ b → p n ≡ true → ((a == n) ≡ false → list_any (λ k. k == n) (filter p xs) ≡ true) → list_any (λ k. k == n) (cond (p a) (a ∷ filter p xs) (filter p xs)) ≡ true
+some_by p n a xs true is e rest = rw (ap p (eqb-true a n is) ∙ e, is) refl
+some_by p n a xs false is e rest = some_behind n a (filter p xs) (p a) (rest is)
+
+some_is : (p : ℕ → Bool) (n a len : ℕ) → p n ≡ true → a ≤ n → n < a + len → list_any (λ k. k == n) (filter p (range_with_len a len)) ≡ true
+some_is p n a zero e low high = absurd (omega arith)
+some_is p n a (suc len) e low high = some_by p n a (range_with_len (a + 1) len) (a == n) refl e (λ ne. some_is p n (a + 1) len e (above a n ne low) (omega arith))
+
+usable_by : (t : Tree) (n : ℕ) (b : Bool) → is_usable t n ≡ b → list_any (λ k. k == n) (filter (is_usable t) (range_with_len 1 999)) ≡ b
+usable_by t n true e =
+    let within : (nat_le 1 n && nat_le n 999) ≡ true = left_of (nat_le 1 n && nat_le n 999) (is_some (set_of t n)) e in
+    let low : 1 ≤ n = leb-true 1 n (left_of (nat_le 1 n) (nat_le n 999) within) in
+    let high : n ≤ 999 = leb-true n 999 (right_of (nat_le 1 n) (nat_le n 999) within) in
+    some_is (is_usable t) n 1 999 e low (omega (arith, high))
+usable_by t n false e = none_is (is_usable t) n (range_with_len 1 999) e
+
+pub has_usable : (t : Tree) (n : ℕ) → has_number (usable_numbers_of t) n ≡ is_usable t n
+unfolding usable_numbers_of
+has_usable t n = usable_by t n (is_usable t n) refl
+
+-- ---- the plan of a beginning
+
+-- the number names no set
+pub taken-none : (on_good : Bool) (m : RunState) → usable_set m.live (taken_number (select_numbers_of m.live) on_good) ≡ None → take_set on_good m ≡ end_with (missing on_good) false m
+taken-none on_good m e = by_good on_good (sym (is_usable-set m.live (taken_number (select_numbers_of m.live) on_good)) ∙ ap is_some e)
+  where
+    by_good : (g : Bool) → is_usable m.live (taken_number (select_numbers_of m.live) g) ≡ false → take_set g m ≡ end_with (missing g) false m
+    by_good true off = rw (has_usable m.live (select_numbers_of m.live).good, off) refl
+    by_good false off = rw (has_usable m.live (select_numbers_of m.live).default, off) refl
+
+-- a plan with steps is a change of the sets
+stepped_on : (on_good : Bool) (plan : SetPlan) (m : RunState) (r : Result Tree Refusal) → said_by (begin_changed plan.chosen on_good plan m r) ≡ not_built
+stepped_on on_good plan m (Ok tree) = refl
+stepped_on on_good plan m (Err refusal) = refl
+
+with_steps : (on_good : Bool) (plan : SetPlan) (m : RunState) (s : Step) (ss : List Step) → plan.steps ≡ s ∷ ss → said_by (begin_with on_good plan m) ≡ behind (SetLine plan.chosen on_good ∷ []) not_built
+with_steps on_good plan m s ss e =
+    let some : (length plan.steps == 0) ≡ false = ap (λ (x : List Step). length x == 0) e ∙ ne_eqb (suc (length ss)) 0 (λ z. omega (arith, z)) in
+    rw some (ap (behind (SetLine plan.chosen on_good ∷ [])) (stepped_on on_good plan m (stepped m.live plan.steps)))
+
+guarded : (on_good : Bool) (m : RunState) (old : SelectNumbers) (usable : List ℕ) (free : Option ℕ)
+    → said_by (begin_by on_good m (taken_number old on_good) (guarded_plan old usable on_good free)) ≡ behind (SetLine (taken_number old on_good) on_good ∷ []) not_built
+guarded on_good m old usable None = refl
+guarded on_good m old usable (Some free) = with_steps on_good _ m _ _ refl
+
+-- LastKnownGood names the taken set
+taken-good : (on_good : Bool) (m : RunState) → is_usable m.live (taken_number (select_numbers_of m.live) on_good) ≡ true → ((select_numbers_of m.live).good == taken_number (select_numbers_of m.live) on_good) ≡ true
+    → said_by (take_set on_good m) ≡ behind (SetLine (taken_number (select_numbers_of m.live) on_good) on_good ∷ []) not_built
+taken-good true m e same = (let old = select_numbers_of m.live in rw (has_usable m.live old.good, e, same) (guarded true m old (usable_numbers_of m.live) (free_number_of (usable_numbers_of m.live))))
+taken-good false m e same = (let old = select_numbers_of m.live in rw (has_usable m.live old.default, e, same) (guarded false m old (usable_numbers_of m.live) (free_number_of (usable_numbers_of m.live))))
+
+-- Current is another number than Default
+some_step : (xs : List Step) (y : Step) (ys : List Step) → (s : Step) × (ss : List Step) × (xs ++ y ∷ ys ≡ s ∷ ss)
+some_step [] y ys = (y, ys, refl)
+some_step (x ∷ xs) y ys = (x, xs ++ y ∷ ys, refl)
+
+taken-other : (m : RunState) → is_usable m.live (select_numbers_of m.live).default ≡ true → ((select_numbers_of m.live).good == (select_numbers_of m.live).default) ≡ false
+    → ((select_numbers_of m.live).current == (select_numbers_of m.live).default) ≡ false
+    → said_by (take_set false m) ≡ behind (SetLine (select_numbers_of m.live).default false ∷ []) not_built
+taken-other m e good current =
+    let old = select_numbers_of m.live in
+    let usable = usable_numbers_of m.live in
+    let plan : SetPlan = plan_with old.default usable old (begun old false) [] in
+    let steps : (s : Step) × (ss : List Step) × (plan.steps ≡ s ∷ ss) = rw current (some_step (deletions_of usable old (begun old false)) _ _) in
+    rw (has_usable m.live old.default, e, good) (with_steps false plan m steps.0 steps.1 steps.2)
+
+-- nothing changes
+nothing_retires : (b : ℕ → Bool) (xs : List ℕ) → filter (λ n. b n && not (b n)) xs ≡ []
+nothing_retires b [] = refl
+nothing_retires b (x ∷ xs) = by_case (b x) (nothing_retires b xs)
+  where
+    by_case : (c : Bool) → filter (λ n. b n && not (b n)) xs ≡ [] → cond (c && not c) (x ∷ filter (λ n. b n && not (b n)) xs) (filter (λ n. b n && not (b n)) xs) ≡ []
+    by_case true e = e
+    by_case false e = e
+
+eqb-same : (n : ℕ) → (n == n) ≡ true
+eqb-same n = eq-eqb n n refl
+
+no_writes : (old : SelectNumbers) → writes_of old old ≡ []
+no_writes old = rw (eqb-same old.current, eqb-same old.default, eqb-same old.failed, eqb-same old.good) refl
+
+no_steps : (n : ℕ) (usable : List ℕ) (old : SelectNumbers) → (plan_with n usable old old []).steps ≡ []
+no_steps n usable old = rw (nothing_retires (has_number (four_of old)) usable) (no_writes old)
+
+taken-same : (m : RunState) → is_usable m.live (select_numbers_of m.live).default ≡ true → ((select_numbers_of m.live).good == (select_numbers_of m.live).default) ≡ false
+    → ((select_numbers_of m.live).current == (select_numbers_of m.live).default) ≡ true
+    → said_by (take_set false m) ≡ behind (SetLine (select_numbers_of m.live).default false ∷ []) (said_by (begin_start (select_numbers_of m.live).default false (select_numbers_of m.live) m))
+taken-same m e good current =
+    let old = select_numbers_of m.live in
+    let usable = usable_numbers_of m.live in
+    let same : begun old false ≡ old = λ i. record { current = sym (eqb-true old.current old.default current) i; default = old.default; failed = old.failed; good = old.good } in
+    let none : length (plan_with old.default usable old old []).steps ≡ 0 = ap length (no_steps old.default usable old) in
+    let empty : (length (plan_with old.default usable old old []).steps == 0) ≡ true = ap (λ (n : ℕ). n == 0) none in
+    let P : SelectNumbers → Type 0 = λ new. said_by (begin_with false (plan_with old.default usable old new []) m) ≡ behind (SetLine old.default false ∷ []) (said_by (begin_start old.default false old m)) in
+    let begins : P (begun old false) = subst P (sym same) (rw empty refl) in
+    rw (has_usable m.live old.default, e, good) begins
+
+pub usable_by_set : (t u : Tree) (n : ℕ) → usable_set t n ≡ Some u → is_usable t n ≡ true
+usable_by_set t u n e = sym (is_usable-set t n) ∙ ap is_some e
+
+-- the set is there, and the beginning changes the sets
+pub taken-changes : (on_good : Bool) (m : RunState) (set : Tree) → usable_set m.live (taken_number (select_numbers_of m.live) on_good) ≡ Some set → changes_sets (select_numbers_of m.live) on_good ≡ true
+    → said_by (take_set on_good m) ≡ behind (SetLine (taken_number (select_numbers_of m.live) on_good) on_good ∷ []) not_built
+taken-changes true m set is e = taken-good true m (usable_by_set m.live set (select_numbers_of m.live).good is) (eqb-same (select_numbers_of m.live).good)
+taken-changes false m set is e = by_good ((select_numbers_of m.live).good == (select_numbers_of m.live).default) refl
+  where
+    old : SelectNumbers
+    old = select_numbers_of m.live
+
+    by_current : (b : Bool) → (old.current == old.default) ≡ b → (old.good == old.default) ≡ false → said_by (take_set false m) ≡ behind (SetLine old.default false ∷ []) not_built
+    by_current true current good = absurd (false≢true (sym (rw (current, good) refl) ∙ e))
+    by_current false current good = taken-other m (usable_by_set m.live set old.default is) good current
+
+    by_good : (b : Bool) → (old.good == old.default) ≡ b → said_by (take_set false m) ≡ behind (SetLine old.default false ∷ []) not_built
+    by_good true good = taken-good false m (usable_by_set m.live set old.default is) good
+    by_good false good = by_current (old.current == old.default) refl good
+
+-- the set is there, and the beginning changes nothing
+pub taken-keeps : (on_good : Bool) (m : RunState) (set : Tree) → usable_set m.live (taken_number (select_numbers_of m.live) on_good) ≡ Some set → changes_sets (select_numbers_of m.live) on_good ≡ false
+    → said_by (take_set on_good m) ≡ behind (SetLine (taken_number (select_numbers_of m.live) on_good) on_good ∷ []) (said_by (begin_start (taken_number (select_numbers_of m.live) on_good) false (select_numbers_of m.live) m))
+taken-keeps true m set is e = absurd (true≢false e)
+taken-keeps false m set is e = by_current (old.current == old.default) refl
+  where
+    old : SelectNumbers
+    old = select_numbers_of m.live
+
+    by_good : (b : Bool) → (old.good == old.default) ≡ b → (old.current == old.default) ≡ true → said_by (take_set false m) ≡ behind (SetLine old.default false ∷ []) (said_by (begin_start old.default false old m))
+    by_good true good current = absurd (true≢false (sym (rw (current, good) refl) ∙ e))
+    by_good false good current = taken-same m (usable_by_set m.live set old.default is) good current
+
+    by_current : (b : Bool) → (old.current == old.default) ≡ b → said_by (take_set false m) ≡ behind (SetLine old.default false ∷ []) (said_by (begin_start old.default false old m))
+    by_current true current = by_good (old.good == old.default) refl current
+    by_current false current = absurd (true≢false (sym (rw current refl) ∙ e))
+
+-- ---- a set by its name
+
+pub named_set : (t : Tree) (n a b d : ℕ) → 1 ≤ n → n ≤ 999 → a ≡ 48 + n / 100 % 10 → b ≡ 48 + n / 10 % 10 → d ≡ 48 + n / 1 % 10
+    → find (is_named (0x43 ∷ 0x6f ∷ 0x6e ∷ 0x74 ∷ 0x72 ∷ 0x6f ∷ 0x6c ∷ 0x53 ∷ 0x65 ∷ 0x74 ∷ a ∷ b ∷ d ∷ [])) (children t) ≡ usable_set t n
+named_set t n a b d low high hundreds tens ones =
+    let x : a ≡ 48 + n / 100 = omega (arith, hundreds, high) in
+    let z : d ≡ 48 + n % 10 = omega (arith, ones) in
+    rw (x, tens, z) (sym (usable_set-within t n low high ∙ one_name (find (is_named (set_name n)) (children t))))
+
+pub set_some : (t : Tree) (n : ℕ) → is_usable t n ≡ true → is_some (set_of t n) ≡ true
+set_some t n e = right_of (nat_le 1 n && nat_le n 999) (is_some (set_of t n)) e

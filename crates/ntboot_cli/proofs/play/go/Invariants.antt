@@ -1,9 +1,0 @@
-use Rattle.std.proofs.Common.{◌≡◌, true}
-use Rattle.nt_edge.specs.Host.{Grows}
-use Rattle.ntboot_cli.proofs.play.go.Given as goal
-
-abbrev pub invariant-loop : goal.invariant-loop
-invariant-loop g l = record {
-  files : g.H.Host.tells ≡ true → g.H.Host.files l.host ≡ g.H.Host.files l.fn.host;
-  counts : Grows (g.H.Host.reads l.fn.host) (g.H.Host.writes l.fn.host) (g.H.Host.reads l.host) (g.H.Host.writes l.host);
-}
