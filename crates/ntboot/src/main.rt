@@ -8,29 +8,41 @@ mod real_host;
 use ntboot_cli::{Status, ntboot};
 use real_host::RealHost;
 use std::env;
+use std::io::ErrorKind;
 use std::process::ExitCode;
 
+/// Why there are no words.
+enum NoWords {
+    /// A word is no UTF-8.
+    Unread,
+    Memory,
+}
+
 /// The words of the command line without the program's name.
-fn words(rt: &HostRuntime) -> Option<Vec<String>> {
+fn words(rt: &HostRuntime) -> Result<Vec<String>, NoWords> {
     let mut words = Vec::new(rt.alloc());
-    let Ok(mut args) = env::args(rt) else {
-        return None;
+    let mut args = match env::args(rt) {
+        Ok(args) => args,
+        Err(e) if e.kind() == ErrorKind::InvalidData => return Err(NoWords::Unread),
+        Err(_) => return Err(NoWords::Memory),
     };
     let _program = args.next();
     for word in args {
         if words.push(word).is_err() {
-            return None;
+            return Err(NoWords::Memory);
         }
     }
-    Some(words)
+    Ok(words)
 }
 
 fn main(rt: HostRuntime) -> ExitCode {
     let alloc = rt.alloc();
     let mut host = RealHost::new(&rt);
     let status = match words(&rt) {
-        Some(words) => ntboot(alloc, &words, &mut host),
-        None => Status::Memory,
+        Ok(words) => ntboot(alloc, &words, &mut host),
+        // They have no reading, as no words have none.
+        Err(NoWords::Unread) => ntboot(alloc, &[], &mut host),
+        Err(NoWords::Memory) => Status::Memory,
     };
     ExitCode::from(status.code())
 }
