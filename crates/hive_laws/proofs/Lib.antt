@@ -1,0 +1,11 @@
+pub mod Alike
+pub mod Found
+pub mod Driver
+pub mod Faults
+pub mod Deep
+pub mod Room
+pub mod CutLemmas
+pub mod Sized
+pub mod FirstFault
+pub mod FileSectors
+pub mod ReadBack

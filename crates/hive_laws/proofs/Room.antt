@@ -1,0 +1,211 @@
+-- The sizes of cells add up, and what an edit may need only grows by further steps.
+use Rattle.std.specs.Prelude.{nat_lt, if◌then◌else◌, replicate, flat_map, Contains, Result, Ok, Err}
+use Rattle.std.proofs.Common.{◌≡◌, ◌≤◌, ◌+◌, ◌*◌, ◌/◌, ◌%◌, ◌==◌, sum, ℕ, Bool, true, false, List, [], ◌∷◌, ◌++◌, length, refl, sym, ap, subst, ◌∙◌, append_assoc, arith}
+use Rattle.std.proofs.lemmas.Bool.{eqb-true, ne_eqb}
+use Rattle.std.proofs.lemmas.List.{append-nil}
+use Rattle.std.proofs.lemmas.List.Sums.{sum_by-append, sum_by-cons}
+use Rattle.std.proofs.lemmas.List.Folds.{sum_by-replicate}
+use Rattle.std.proofs.lemmas.List.Elements.{Contains-append_left}
+use Rattle.hive_model.specs.Tree.{Item, Head, Tree, Trees, key, none, more}
+use Rattle.hive_model.specs.Size.{cell, name_bytes, data_size, item_size, items_sum, items_size, class_size, security_size, node_size, head_size, part_count, list_size, count, size, size_of_all}
+use Rattle.hive_model.specs.Edit.{Step, Refusal, after_step, after_steps, then_edit}
+use Rattle.hive_model.specs.Bins.{Cells}
+use Rattle.hive_model.specs.Packed.{rounded}
+use Rattle.hive_model.specs.Footprint.{unless_refused, step_cells, footprint_of, some_cell, item_sizes, value_list_sizes, head_sizes, list_sizes, sizes, sizes_of_all, room_of, needed_sizes, strain_of, list_strain_of}
+
+-- ---- sums of sizes
+
+sum_append : (xs ys : List ℕ) → sum (xs ++ ys) ≡ sum xs + sum ys
+sum_append xs ys = sum_by-append (λ x. x) xs ys
+
+sum_cons : (x : ℕ) (xs : List ℕ) → sum (x ∷ xs) ≡ x + sum xs
+sum_cons x xs = sum_by-cons (λ x. x) x xs
+
+sum_one : (none_there : Bool) (n : ℕ) → sum (if none_there then [] else n ∷ []) ≡ (if none_there then 0 else n)
+sum_one true n = refl
+sum_one false n = omega (arith, sum_cons n [])
+
+some_sum : (n : ℕ) (none_there : Bool) → (n == 0) ≡ none_there → sum (if none_there then [] else n ∷ []) ≡ n
+some_sum n true e = sym (eqb-true n 0 e)
+some_sum n false e = sum_one false n
+
+some_cell_sum : (n : ℕ) → sum (some_cell n) ≡ n
+some_cell_sum n = some_sum n (n == 0) refl
+
+sum_lists : (empty one full : Bool) (few head rest whole k : ℕ)
+    → sum (if empty then [] else if one then few ∷ [] else head ∷ (replicate k whole ++ (if full then [] else rest ∷ [])))
+    ≡ (if empty then 0 else if one then few else head + k * whole + (if full then 0 else rest))
+sum_lists true one full few head rest whole k = refl
+sum_lists false true full few head rest whole k = sum_one false few
+sum_lists false false full few head rest whole k =
+    sum_cons head (replicate k whole ++ (if full then [] else rest ∷ []))
+    ∙ ap (λ n. head + n) (sum_append (replicate k whole) (if full then [] else rest ∷ []))
+    ∙ ap (λ n. head + (n + sum (if full then [] else rest ∷ []))) (sum_by-replicate (λ x. x) k whole)
+    ∙ ap (λ n. head + (k * whole + n)) (sum_one full rest)
+    ∙ (omega arith)
+
+pub lists_sum : (n : ℕ) → sum (list_sizes n) ≡ list_size n
+unfolding list_sizes
+lists_sum n =
+    sum_lists (n == 0) (nat_lt n 501) (n % 500 == 0) (cell (4 + 8 * n)) (cell (4 + 4 * part_count n)) (cell (4 + 8 * (n % 500))) (cell 4004) (n / 500)
+
+item_sum : (v : Item) → sum (item_sizes v) ≡ item_size v
+item_sum v =
+    sum_cons (cell (20 + name_bytes v.name)) (some_cell (data_size v.bytes))
+    ∙ ap (λ n. cell (20 + name_bytes v.name) + n) (some_cell_sum (data_size v.bytes))
+
+items_sums : (vs : List Item) → sum (flat_map item_sizes vs) ≡ items_sum vs
+items_sums [] = refl
+items_sums (v ∷ vs) =
+    sum_append (item_sizes v) (flat_map item_sizes vs)
+    ∙ ap (λ n. n + sum (flat_map item_sizes vs)) (item_sum v)
+    ∙ ap (λ n. item_size v + n) (items_sums vs)
+
+values_sum : (vs : List Item) → sum (value_list_sizes (length vs) ++ flat_map item_sizes vs) ≡ items_size vs
+values_sum [] = refl
+values_sum (v ∷ vs) =
+    sum_append (value_list_sizes (length (v ∷ vs))) (flat_map item_sizes (v ∷ vs))
+    ∙ ap (λ n. sum (value_list_sizes (length (v ∷ vs))) + n) (items_sums (v ∷ vs))
+    ∙ ap (λ b. sum (if b then [] else cell (4 * length (v ∷ vs)) ∷ []) + items_sum (v ∷ vs)) (ne_eqb (length (v ∷ vs)) 0 (λ e. omega arith))
+    ∙ ap (λ n. n + items_sum (v ∷ vs)) (sum_one false (cell (4 * length (v ∷ vs))))
+
+head_sum : (shared : List ℕ) (h : Head) → sum (head_sizes shared h) ≡ head_size shared h
+head_sum shared h =
+    let values = value_list_sizes (length h.values) ++ flat_map item_sizes h.values in
+    sum_cons (node_size h) (some_cell (class_size h.class) ++ (some_cell (security_size shared h.security) ++ values))
+    ∙ ap (λ n. node_size h + n) (sum_append (some_cell (class_size h.class)) (some_cell (security_size shared h.security) ++ values))
+    ∙ ap (λ n. node_size h + (sum (some_cell (class_size h.class)) + n)) (sum_append (some_cell (security_size shared h.security)) values)
+    ∙ ap (λ n. node_size h + (n + (sum (some_cell (security_size shared h.security)) + sum values))) (some_cell_sum (class_size h.class))
+    ∙ ap (λ n. node_size h + (class_size h.class + (n + sum values))) (some_cell_sum (security_size shared h.security))
+    ∙ ap (λ n. node_size h + (class_size h.class + (security_size shared h.security + n))) (values_sum h.values)
+    ∙ (omega arith)
+
+mutual
+  pub sizes_sum : (shared : List ℕ) (t : Tree) → sum (sizes shared t) ≡ size shared t
+  sizes_sum shared (key h ts) =
+      sum_append (head_sizes shared h) (list_sizes (count ts) ++ sizes_of_all h.security ts)
+      ∙ ap (λ n. sum (head_sizes shared h) + n) (sum_append (list_sizes (count ts)) (sizes_of_all h.security ts))
+      ∙ ap (λ n. n + (sum (list_sizes (count ts)) + sum (sizes_of_all h.security ts))) (head_sum shared h)
+      ∙ ap (λ n. head_size shared h + (n + sum (sizes_of_all h.security ts))) (lists_sum (count ts))
+      ∙ ap (λ n. head_size shared h + (list_size (count ts) + n)) (sizes_of_all_sum h.security ts)
+      ∙ (omega arith)
+
+  pub sizes_of_all_sum : (shared : List ℕ) (ts : Trees) → sum (sizes_of_all shared ts) ≡ size_of_all shared ts
+  sizes_of_all_sum shared none = refl
+  sizes_of_all_sum shared (more t ts) =
+      sum_append (sizes shared t) (sizes_of_all shared ts)
+      ∙ ap (λ n. n + sum (sizes_of_all shared ts)) (sizes_sum shared t)
+      ∙ ap (λ n. size shared t + n) (sizes_of_all_sum shared ts)
+
+-- ---- room
+
+rounded_up : (n : ℕ) → n ≤ rounded n
+rounded_up n = omega arith
+
+-- the room for cells is at least their sizes
+pub room_least : (ns : List ℕ) → sum ns ≤ room_of ns
+room_least [] = omega arith
+room_least (n ∷ ns) = omega (arith, sum_cons n ns, sum_by-cons (λ s. rounded (s + 32)) n ns, room_least ns, rounded_up (n + 32))
+
+pub list_strain_least : (bytes n : ℕ) → bytes + list_size n ≤ list_strain_of bytes n
+list_strain_least bytes n = omega (arith, lists_sum n, room_least (list_sizes n))
+
+-- ---- steps in order
+
+-- what holds after a refusal, and of each tree that a step may lead to, holds after a step
+after : {A : Type 0} (P : A → Type 0) (r : Result Tree Refusal) (x : A) (next : Tree → A) → P x → ((u : Tree) → P (next u)) → P (unless_refused x r next)
+after P (Ok u) x next stays goes = goes u
+after P (Err why) x next stays goes = stays
+
+-- the same of two things made of one step
+after_both : {A : Type 0} (P : A → A → Type 0) (r : Result Tree Refusal) (x y : A) (next onward : Tree → A) → P x y → ((u : Tree) → P (next u) (onward u))
+    → P (unless_refused x r next) (unless_refused y r onward)
+after_both P (Ok u) x y next onward stays goes = goes u
+after_both P (Err why) x y next onward stays goes = stays
+
+-- the same where the steps from there on lead to a tree
+after_all : {A : Type 0} (P : A → A → Type 0) (r : Result Tree Refusal) (steps : Tree → Result Tree Refusal) (u : Tree) (x y : A) (next onward : Tree → A)
+    → then_edit r steps ≡ Ok u → ((v : Tree) → steps v ≡ Ok u → P (next v) (onward v)) → P (unless_refused x r next) (unless_refused y r onward)
+after_all P (Ok v) steps u x y next onward e goes = goes v e
+after_all P (Err why) steps u x y next onward e goes = absurd cc
+
+-- the same where one of them is refused
+after_none : {A : Type 0} (r : Result Tree Refusal) (steps : Tree → Result Tree Refusal) (why : Refusal) (x : A) (next onward : Tree → A)
+    → then_edit r steps ≡ Err why → ((v : Tree) → steps v ≡ Err why → next v ≡ onward v) → unless_refused x r next ≡ unless_refused x r onward
+after_none (Ok v) steps why x next onward e goes = goes v e
+after_none (Err other) steps why x next onward e goes = refl
+
+ok_is : (t u : Tree) → after_steps t [] ≡ Ok u → t ≡ u
+ok_is t u e = cc
+
+-- ---- the strain
+
+pub strain_least : (bytes : ℕ) (t : Tree) (steps : List Step) → bytes ≤ strain_of bytes t steps
+strain_least bytes t [] = omega arith
+strain_least bytes t (step ∷ steps) =
+    after (λ n. bytes ≤ n) (after_step step t) bytes (λ u. strain_of (bytes + room_of (needed_sizes t step u)) u steps) (omega arith)
+    (λ u. omega (arith, strain_least (bytes + room_of (needed_sizes t step u)) u steps))
+
+pub strain_grows : (bytes : ℕ) (t : Tree) (steps further : List Step) → strain_of bytes t steps ≤ strain_of bytes t (steps ++ further)
+strain_grows bytes t [] further = strain_least bytes t further
+strain_grows bytes t (step ∷ steps) further =
+    after_both (λ m n. m ≤ n) (after_step step t) bytes bytes
+    (λ u. strain_of (bytes + room_of (needed_sizes t step u)) u steps) (λ u. strain_of (bytes + room_of (needed_sizes t step u)) u (steps ++ further))
+    (omega arith) (λ u. strain_grows (bytes + room_of (needed_sizes t step u)) u steps further)
+
+pub strain_goes_on : (bytes : ℕ) (t u : Tree) (steps further : List Step) → after_steps t steps ≡ Ok u
+    → strain_of bytes t (steps ++ further) ≡ strain_of (strain_of bytes t steps) u further
+strain_goes_on bytes t u [] further e = ap (λ v. strain_of bytes v further) (ok_is t u e)
+strain_goes_on bytes t u (step ∷ steps) further e =
+    after_all (λ m n. n ≡ strain_of m u further) (after_step step t) (λ v. after_steps v steps) u bytes bytes
+    (λ v. strain_of (bytes + room_of (needed_sizes t step v)) v steps) (λ v. strain_of (bytes + room_of (needed_sizes t step v)) v (steps ++ further))
+    e (λ v rest. strain_goes_on (bytes + room_of (needed_sizes t step v)) v u steps further rest)
+
+pub strain_ends : (bytes : ℕ) (t : Tree) (why : Refusal) (steps further : List Step) → after_steps t steps ≡ Err why
+    → strain_of bytes t (steps ++ further) ≡ strain_of bytes t steps
+strain_ends bytes t why [] further e = absurd cc
+strain_ends bytes t why (step ∷ steps) further e =
+    after_none (after_step step t) (λ v. after_steps v steps) why bytes
+    (λ v. strain_of (bytes + room_of (needed_sizes t step v)) v (steps ++ further)) (λ v. strain_of (bytes + room_of (needed_sizes t step v)) v steps)
+    e (λ v rest. strain_ends (bytes + room_of (needed_sizes t step v)) v why steps further rest)
+
+pub strain_stays : (bytes : ℕ) (t u : Tree) (why : Refusal) (steps further : List Step) (step : Step) → after_steps t steps ≡ Ok u → after_step step u ≡ Err why
+    → strain_of bytes t (steps ++ step ∷ further) ≡ strain_of bytes t steps
+strain_stays bytes t u why steps further step e refused =
+    let now : ℕ = strain_of bytes t steps in
+    strain_goes_on bytes t u steps (step ∷ further) e
+    ∙ ap (λ r. unless_refused now r (λ v. strain_of (now + room_of (needed_sizes u step v)) v further)) refused
+
+-- ---- the footprint
+
+pub footprint_goes_on : (cells : Cells) (root : ℕ) (t u : Tree) (steps further : List Step) → after_steps t steps ≡ Ok u
+    → footprint_of cells root t (steps ++ further) ≡ footprint_of cells root t steps ++ footprint_of cells root u further
+footprint_goes_on cells root t u [] further e = ap (λ v. footprint_of cells root v further) (ok_is t u e)
+footprint_goes_on cells root t u (step ∷ steps) further e =
+    let rest : List ℕ = footprint_of cells root u further in
+    ap (λ ns. step_cells cells root t step ++ ns)
+    (after_all (λ ms ns. ns ≡ ms ++ rest) (after_step step t) (λ v. after_steps v steps) u [] []
+    (λ v. footprint_of cells root v steps) (λ v. footprint_of cells root v (steps ++ further))
+    e (λ v so_far. footprint_goes_on cells root v u steps further so_far))
+    ∙ sym (append_assoc (step_cells cells root t step) (unless_refused [] (after_step step t) (λ v. footprint_of cells root v steps)) rest)
+
+pub footprint_ends : (cells : Cells) (root : ℕ) (t : Tree) (why : Refusal) (steps further : List Step) → after_steps t steps ≡ Err why
+    → footprint_of cells root t (steps ++ further) ≡ footprint_of cells root t steps
+footprint_ends cells root t why [] further e = absurd cc
+footprint_ends cells root t why (step ∷ steps) further e =
+    ap (λ ns. step_cells cells root t step ++ ns)
+    (after_none (after_step step t) (λ v. after_steps v steps) why []
+    (λ v. footprint_of cells root v (steps ++ further)) (λ v. footprint_of cells root v steps)
+    e (λ v rest. footprint_ends cells root v why steps further rest))
+
+-- more cells behind those of the steps
+more_behind : (cells : Cells) (root : ℕ) (t : Tree) (steps further : List Step) (r : Result Tree Refusal) → after_steps t steps ≡ r
+    → (rest : List ℕ) × (footprint_of cells root t (steps ++ further) ≡ footprint_of cells root t steps ++ rest)
+more_behind cells root t steps further (Ok u) e = (footprint_of cells root u further, footprint_goes_on cells root t u steps further e)
+more_behind cells root t steps further (Err why) e = ([], footprint_ends cells root t why steps further e ∙ sym (append-nil (footprint_of cells root t steps)))
+
+pub footprint_grows : (cells : Cells) (root : ℕ) (t : Tree) (steps further : List Step) (offset : ℕ) → Contains (footprint_of cells root t steps) offset
+    → Contains (footprint_of cells root t (steps ++ further)) offset
+footprint_grows cells root t steps further offset there =
+    let behind = more_behind cells root t steps further (after_steps t steps) refl in
+    subst (λ ns. Contains ns offset) (sym behind.1) (Contains-append_left (footprint_of cells root t steps) behind.0 offset there)

@@ -1,0 +1,7 @@
+use Rattle.std.proofs.Common.{refl}
+use Rattle.hive_model.specs.Edit.{edited}
+use Rattle.hive_laws.proofs.edits.a_child_is_added.Goals as goal
+
+pub returns : goal.returns
+unfolding edited
+returns c = refl

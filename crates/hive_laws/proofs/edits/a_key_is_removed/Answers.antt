@@ -1,0 +1,11 @@
+use Rattle.std.proofs.Common.{refl}
+use Rattle.hive_model.specs.Edit.{edited}
+use Rattle.hive_laws.proofs.edits.a_key_is_removed.Goals as goal
+
+pub returns-clause-child : goal.returns-clause-child
+unfolding edited
+returns-clause-child c = refl
+
+pub returns-clause-below : goal.returns-clause-below
+unfolding edited
+returns-clause-below c = refl

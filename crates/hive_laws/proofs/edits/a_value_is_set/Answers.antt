@@ -1,0 +1,11 @@
+use Rattle.std.proofs.Common.{refl}
+use Rattle.hive_model.specs.Edit.{edited}
+use Rattle.hive_laws.proofs.edits.a_value_is_set.Goals as goal
+
+pub returns-clause-there : goal.returns-clause-there
+unfolding edited
+returns-clause-there c = refl
+
+pub returns-clause-new : goal.returns-clause-new
+unfolding edited
+returns-clause-new c = refl

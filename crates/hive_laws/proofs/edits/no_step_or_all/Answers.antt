@@ -1,0 +1,11 @@
+use Rattle.std.proofs.Common.{refl}
+use Rattle.hive_model.specs.Edit.{edited}
+use Rattle.hive_laws.proofs.edits.no_step_or_all.Goals as goal
+
+pub returns-clause-in_order : goal.returns-clause-in_order
+unfolding edited
+returns-clause-in_order c = refl
+
+pub returns-clause-refused : goal.returns-clause-refused
+unfolding edited
+returns-clause-refused c = refl

@@ -1,0 +1,9 @@
+pub mod Samples
+pub mod OneDriver
+pub mod SmallCells
+pub mod Trees
+pub mod Looking
+pub mod Cuts
+pub mod Whole
+pub mod Opened
+pub mod Rings

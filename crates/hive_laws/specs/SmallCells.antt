@@ -1,0 +1,69 @@
+-- Cells of a few keys, for the walk and for the forms.
+use Rattle.std.specs.Prelude.{ℕ, ◌+◌, ◌%◌, ◌==◌, if◌then◌else◌, false, List, [], ◌∷◌, codes, replicate, Ok}
+use Rattle.hive_model.specs.Bins.{Bin, Cells}
+use Rattle.hive_model.specs.Forms.{KeyNode, key_node_text, KeyValue, SecurityCell, security_text, li_text, lf_text}
+use Rattle.hive_model.specs.Packed.{used_cell}
+use Rattle.hive_model.specs.Walk.{nowhere}
+
+-- a key node with these flags and this name, with so many children in the list at an offset, and nothing else
+abbrev pub plain_node : ℕ → List ℕ → ℕ → ℕ → KeyNode
+plain_node flags name child_count child_list = record {
+  flags = flags;
+  stamp = 0;
+  parent = nowhere;
+  child_count = child_count;
+  volatile_count = 0;
+  child_list = child_list;
+  volatile_list = nowhere;
+  value_count = 0;
+  value_list = nowhere;
+  security = nowhere;
+  class = nowhere;
+  greatest_child_name = 0;
+  greatest_child_class = 0;
+  greatest_value_name = 0;
+  greatest_value_size = 0;
+  class_length = 0;
+  name = name;
+}
+
+-- a value of type 4 that says this size, with a name of one byte a unit
+abbrev pub plain_value : ℕ → List ℕ → KeyValue
+plain_value size name = record { size = size; offset = 0; kind = 4; flags = 1; name = name }
+
+-- a descriptor that one key uses, alone in its ring
+abbrev pub plain_security : List ℕ → SecurityCell
+plain_security descriptor = record { forward = 32; backward = 32; uses = 1; descriptor = descriptor }
+
+-- One bin. At 32 a root `R` that says that it has so many children; at 120 its list, which names these two offsets; at 144
+-- a key `A`; at 232 a key of this name, of one unit; at 320 a free cell.
+unfoldable pub family : ℕ → ℕ → ℕ → List ℕ → List Bin
+family child_count first second name = record {
+  ignored = replicate 20 0;
+  cells =
+      used_cell (key_node_text (plain_node 32 (codes "R") child_count 120))
+      ∷ used_cell (lf_text (first ∷ second ∷ []) ((0 ∷ 0 ∷ 0 ∷ 0 ∷ []) ∷ (0 ∷ 0 ∷ 0 ∷ 0 ∷ []) ∷ []))
+      ∷ used_cell (key_node_text (plain_node 32 (codes "A") 0 nowhere))
+      ∷ used_cell (key_node_text (plain_node 32 name 0 nowhere))
+      ∷ record { used = false; payload = replicate 3772 0 }
+      ∷ [];
+} ∷ []
+
+-- One bin. At 32 a root `R` with a descriptor at this offset; at 120 its list; at 136 a child `A` with a descriptor, and a class
+-- of two bytes, at these offsets; at 224 a security cell; at 256 a cell of bytes; at 272 a free cell.
+unfoldable pub kin : ℕ → ℕ → ℕ → List Bin
+kin root_security security class = record {
+  ignored = replicate 20 0;
+  cells =
+      used_cell (key_node_text (record (plain_node 32 (codes "R") 1 120) { security = root_security }))
+      ∷ used_cell (li_text (136 ∷ []))
+      ∷ used_cell (key_node_text (record (plain_node 32 (codes "A") 0 nowhere) { security = security; class = class; class_length = 2 }))
+      ∷ used_cell (security_text (plain_security (1 ∷ 2 ∷ [])))
+      ∷ used_cell (0x41 ∷ 0 ∷ [])
+      ∷ record { used = false; payload = replicate 3820 0 }
+      ∷ [];
+} ∷ []
+
+-- cells without end: at each place of a step of 16 a key `K`, whose list stands 8 further and names the next place
+unfoldable pub endless : Cells
+endless at = Ok (if at % 16 == 0 then key_node_text (plain_node 32 (codes "K") 1 (at + 8)) else li_text ((at + 8) ∷ []))
