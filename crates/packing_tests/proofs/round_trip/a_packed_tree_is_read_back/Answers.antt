@@ -1,0 +1,23 @@
+use Rattle.hive_model.specs.Bins.{look_up}
+use Rattle.hive_model.specs.Packed.{packed, packed_bins}
+use Rattle.hive_cells.proofs.Again.{not_both}
+use Rattle.hive_read.proofs.One.{one_stands}
+use Rattle.hive_read.proofs.Wellformed.{well-formed-passes}
+use Rattle.hive_pack.proofs.Heap.{packed_is_bins}
+use Rattle.packing_tests.proofs.RoundTrip.{well_formed_packed}
+use Rattle.packing_tests.proofs.round_trip.a_packed_tree_is_read_back.Goals as goal
+
+pub returns-clause-bins : goal.returns-clause-bins
+returns-clause-bins c = λ t room. (packed_bins t, packed_is_bins t room)
+
+pub returns-clause-no_bad_bin : goal.returns-clause-no_bad_bin
+returns-clause-no_bad_bin c = λ t fault room fails. let is = packed_is_bins t room in not_both (packed t) (packed_bins t) fault is.0 is.1 fails
+
+pub returns-clause-no_fault : goal.returns-clause-no_fault
+returns-clause-no_fault c = λ t bins valid numbers room is. well-formed-passes (look_up bins) 32 t (well_formed_packed t bins valid numbers room is)
+
+pub returns-clause-stands : goal.returns-clause-stands
+returns-clause-stands c = λ t bins valid numbers room is. (well_formed_packed t bins valid numbers room is).stands
+
+pub returns-clause-no_other : goal.returns-clause-no_other
+returns-clause-no_other c = λ t u bins valid numbers room is stands. one_stands (look_up bins) 32 u t stands (well_formed_packed t bins valid numbers room is).stands

@@ -1,0 +1,193 @@
+//! What is packed is read back as the same tree, from one driver up to the limit.
+
+ghost use Rattle.std.specs.Prelude.{◌≡◌, ◌≤◌, length};
+
+use super::*;
+use hive_cells::read_cells;
+use hive_pack::pack;
+use hive_read::read_tree;
+use nt_bytes::{Bytes, Names, Row, narrow};
+use reg_tree::{EditStop, Key, Keys, Steps, TreeStep, Value, Values};
+use std::alloc::{AllocError, Global};
+use std::process::Abort;
+use std::test::Fail;
+
+/// The bins data of the tree's packed form, which are read back as the tree.
+fn there_and_back(rt: &impl Abort, alloc: Global, tree: &Key) -> Result<Bytes, Fail> {
+    assert!(rt; is_valid(tree));
+    assert!(rt; tree.bulk() <= 16_773_120);
+    let back = packed_and_read(alloc, tree)?;
+    assert!(rt; back.same(tree));
+    Ok(pack(alloc, tree)?)
+}
+
+/// The cells by hand: 264 bytes for each service with its values, 8,032 for the lists that name a thousand
+/// of them, 560 for the other keys, and the header of 32.
+#[test]
+fn a_thousand_services_are_read_back(rt: HostRuntime) -> Result<(), Fail> {
+    let tree = system_tree(rt.alloc(), 1_000)?;
+    assert_eq!(rt; tree.bulk(), 272_624);
+    let bins = there_and_back(&rt, rt.alloc(), &tree)?;
+    assert_eq!(rt; bins.len(), 274_432);
+    Ok(())
+}
+
+fn zeros(alloc: Global, count: usize) -> Result<Bytes, AllocError> {
+    let mut bytes = Bytes::new(alloc);
+    bytes.append_zeros(count)?;
+    Ok(bytes)
+}
+
+/// Fifteen values of the greatest length that an edit sets.
+fn fifteen_values(alloc: Global) -> Result<Values, AllocError> {
+    let mut values = Values::new(alloc);
+    for letter in b"ABCDEFGHIJKLMNO" {
+        values.push(Value {
+            name: narrow(alloc, &[*letter])?,
+            kind: 3,
+            bytes: zeros(alloc, 1_048_576)?,
+        })?;
+    }
+    Ok(values)
+}
+
+/// A root alone with these values.
+fn root_with(alloc: Global, values: Values) -> Result<Key, AllocError> {
+    Ok(Key {
+        name: narrow(alloc, b"R")?,
+        flags: 0x000c,
+        stamp: 0,
+        class: Bytes::new(alloc),
+        security: Bytes::new(alloc),
+        values,
+        children: Keys::new(alloc),
+    })
+}
+
+/// One more value of the root, with so many bytes: zeros, and 1 to 4 at the end.
+fn one_more(alloc: Global, count: usize) -> Result<Steps, AllocError>
+    requires { 4 ≤ count }
+{
+    let mut bytes = zeros(alloc, count - 4)?;
+    bytes.put_u32(0x0403_0201)?;
+    let mut steps = Row::new(alloc);
+    steps.push(TreeStep::SetValue {
+        path: Names::new(alloc),
+        name: narrow(alloc, b"P")?,
+        kind: 3,
+        bytes,
+    })?;
+    Ok(steps)
+}
+
+// The header of the bin at the limit.
+const FULL_HEADER: [u8; 12] = [
+    0x68, 0x62, 0x69, 0x6e, 0x00, 0x00, 0x00, 0x00, 0x00, 0xf0, 0xff, 0x00,
+];
+
+// The root's node at 32: 16 values, their list at 120, names of two bytes, at most 1,048,576 bytes of data.
+const FULL_NODE: [u8; 88] = [
+    0xa8, 0xff, 0xff, 0xff, 0x6e, 0x6b, 0x2c, 0x00, 0x00, 0x00, 0x00, 0x00, 0x00, 0x00, 0x00, 0x00,
+    0x00, 0x00, 0x00, 0x00, 0xff, 0xff, 0xff, 0xff, 0x00, 0x00, 0x00, 0x00, 0x00, 0x00, 0x00, 0x00,
+    0xff, 0xff, 0xff, 0xff, 0xff, 0xff, 0xff, 0xff, 0x10, 0x00, 0x00, 0x00, 0x78, 0x00, 0x00, 0x00,
+    0xff, 0xff, 0xff, 0xff, 0xff, 0xff, 0xff, 0xff, 0x00, 0x00, 0x00, 0x00, 0x00, 0x00, 0x00, 0x00,
+    0x02, 0x00, 0x00, 0x00, 0x00, 0x00, 0x10, 0x00, 0x00, 0x00, 0x00, 0x00, 0x01, 0x00, 0x00, 0x00,
+    0x52, 0x00, 0x00, 0x00, 0x00, 0x00, 0x00, 0x00,
+];
+
+// The last value's cell at 15,729,432: 1,043,652 bytes of data at 15,729,464, and how their cell of 1,043,656 begins.
+const LAST_VALUE: [u8; 36] = [
+    0xe0, 0xff, 0xff, 0xff, 0x76, 0x6b, 0x01, 0x00, 0xc4, 0xec, 0x0f, 0x00, 0x38, 0x03, 0xf0, 0x00,
+    0x03, 0x00, 0x00, 0x00, 0x01, 0x00, 0x00, 0x00, 0x50, 0x00, 0x00, 0x00, 0x00, 0x00, 0x00, 0x00,
+    0x38, 0x13, 0xf0, 0xff,
+];
+
+/// The bytes of the tree at the limit, from the sizes of its cells: 88 for the root, 72 for the list of 16 values, and for
+/// each 32 with 1,048,584 for its data. No free cell is behind the last data.
+fn full_bytes(rt: &impl Abort, bytes: &[u8])
+    requires { length bytes.now ≡ 16773120 }
+{
+    assert_eq!(rt; bytes[..12], FULL_HEADER[..]);
+    assert_eq!(rt; bytes[32..120], FULL_NODE[..]);
+    assert_eq!(rt;
+        bytes[120..132],
+        [
+            0xb8, 0xff, 0xff, 0xff, 0xc0, 0, 0, 0, 0xe8, 0x00, 0x10, 0x00
+        ][..]
+    );
+    assert_eq!(rt; bytes[184..192], [0x18, 0x03, 0xf0, 0x00, 0, 0, 0, 0][..]);
+    assert_eq!(rt; bytes[15_729_432..15_729_468], LAST_VALUE[..]);
+    assert_eq!(rt; bytes[16_773_112..], [0, 0, 0, 0, 1, 2, 3, 4][..]);
+}
+
+/// The greatest bulk is 16 MiB less a page, so a value more can have 1,043,652 bytes and none further.
+#[test]
+fn a_tree_grows_up_to_the_limit(rt: HostRuntime) -> Result<(), Fail> {
+    let mut tree = root_with(rt.alloc(), fifteen_values(rt.alloc())?)?;
+    assert_eq!(rt; tree.bulk(), 15_729_424);
+    let over = one_more(rt.alloc(), 1_043_653)?;
+    assert_eq!(rt; tree.apply(rt.alloc(), over), Err(EditStop::Full));
+    assert_eq!(rt; tree.bulk(), 15_729_424);
+    let up_to = one_more(rt.alloc(), 1_043_652)?;
+    assert_eq!(rt; tree.apply(rt.alloc(), up_to), Ok(()));
+    assert_eq!(rt; tree.bulk(), 16_773_120);
+    let bins = there_and_back(&rt, rt.alloc(), &tree)?;
+    assert_eq!(rt; bins.len(), 16_773_120);
+    full_bytes(&rt, bins.as_slice());
+    Ok(())
+}
+
+// The packed cells of a system with one driver, in hexadecimal, up to the free cell that fills the bin.
+const CELLS: &[u8] =
+    b"6862696e00000000001000000000000000000000000000000000000000000000a8ffffff6e6b2c00\
+000000000000000000000000ffffffff020000000000000078000000ffffffff00000000ffffffff\
+ffffffffffffffff1a0000000000000000000000000000000000000004000000524f4f5400000000\
+e8ffffff6c66020090000000436f6e741002000053656c65a0ffffff6e6b20000000000000000000\
+00000000200000000100000000000000f0000000ffffffff00000000ffffffffffffffffffffffff\
+10000000000000000000000000000000000000000d000000436f6e74726f6c536574303031000000\
+f0ffffff6c6601000001000053657276a8ffffff6e6b200000000000000000000000000090000000\
+010000000000000058010000ffffffff00000000ffffffffffffffffffffffff0800000000000000\
+000000000000000000000000080000005365727669636573f0ffffff6c660100680100004469736b\
+a8ffffff6e6b2000000000000000000000000000000100000000000000000000ffffffffffffffff\
+02000000c0010000ffffffffffffffff00000000000000000a000000040000000000000004000000\
+4469736b00000000f0ffffffd0010000f001000000000000e0ffffff766b05000400008000000000\
+04000000010000005374617274000000e0ffffff766b040004000080010000000400000001000000\
+5479706500000000a8ffffff6e6b2000000000000000000000000000200000000000000000000000\
+ffffffffffffffff0400000068020000ffffffffffffffff00000000000000001a00000004000000\
+000000000600000053656c6563740000e8ffffff80020000a0020000c0020000e002000000000000\
+e0ffffff766b07000400008001000000040000000100000043757272656e7400e0ffffff766b0700\
+0400008001000000040000000100000044656661756c7400e0ffffff766b06000400008000000000\
+04000000010000004661696c65640000d8ffffff766b0d0004000080000000000400000001000000\
+4c6173744b6e6f776e476f6f64000000f80c0000";
+
+fn digit(c: u8) -> u8 {
+    match c {
+        b'0'..=b'9' => c - b'0',
+        b'a'..=b'f' => c - b'a' + 10,
+        _ => 0,
+    }
+}
+
+fn one_driver(alloc: Global) -> Result<Bytes, AllocError> {
+    let mut bins = Bytes::new(alloc);
+    let mut rest = CELLS;
+    'pairs: while let [high, low, more @ ..] = rest {
+        bins.push(digit(*high) % 16 * 16 + digit(*low) % 16)?;
+        rest = more;
+    }
+    bins.append_zeros(3316)?;
+    Ok(bins)
+}
+
+/// A hive that is packed already is packed to the same bytes.
+#[test]
+fn a_packed_hive_stays_as_it_is(rt: HostRuntime) -> Result<(), Fail> {
+    let bins = one_driver(rt.alloc())?;
+    assert_eq!(rt; bins.len(), 4096);
+    let cells = read_cells(rt.alloc(), bins.copy(rt.alloc())?)?;
+    let tree = read_tree(rt.alloc(), &cells, 32)?;
+    assert_eq!(rt; tree.bulk(), 776);
+    let packed = there_and_back(&rt, rt.alloc(), &tree)?;
+    assert_eq!(rt; packed.as_slice(), bins.as_slice());
+    Ok(())
+}
