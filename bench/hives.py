@@ -85,3 +85,89 @@ def with_small_cells(size):
     root = cell(node(b"ROOT", 0, NONE, 0, NONE))
     count = (size - 32 - len(root)) // 8
     return hive(root + struct.pack("<i", -8).ljust(8, b"\0") * count)
+
+
+def dword(name, number):
+    return (name, 4, struct.pack("<I", number))
+
+
+def strings(name, items):
+    return (name, 7, b"".join(item.encode("utf-16-le") + b"\0\0" for item in items) + b"\0\0")
+
+
+def layout(key, at):
+    """The cells of a key `(name, values, children)` with all below it, from this offset on, and where they end."""
+    name, values, children = key
+    begin = at
+    at += len(cell(node(name, 0, 0, 0, 0)))
+    value_list = at if values else NONE
+    out = []
+    if values:
+        at += len(cell(bytes(4 * len(values))))
+        offsets = []
+        for value_name, kind, data in values:
+            offsets.append(at)
+            own = len(data) > 4
+            data_at = at + len(cell(bytes(20 + len(value_name))))
+            size = len(data) if own else 0x80000000 + len(data)
+            place = data_at if own else int.from_bytes(data.ljust(4, b"\0"), "little")
+            made = cell(b"vk" + struct.pack("<HIIIHH", len(value_name), size, place, kind, 1, 0) + value_name)
+            if own:
+                made += cell(data)
+            out.append(made)
+            at += len(made)
+        out.insert(0, cell(b"".join(struct.pack("<I", o) for o in offsets)))
+    child_list = at if children else NONE
+    parts = [children[i : i + 500] for i in range(0, len(children), 500)]
+    list_sizes = [len(cell(bytes(4 + 8 * len(part)))) for part in parts]
+    if len(parts) > 1:
+        upper = len(cell(bytes(4 + 4 * len(parts))))
+        places = [at + upper + sum(list_sizes[:i]) for i in range(len(parts))]
+        out.append(cell(b"ri" + struct.pack("<H", len(parts)) + b"".join(struct.pack("<I", p) for p in places)))
+        at += upper
+    at += sum(list_sizes)
+    made = []
+    entries = []
+    for child in children:
+        entries.append(struct.pack("<I", at) + child[0][:4].ljust(4, b"\0"))
+        cells, at = layout(child, at)
+        made.append(cells)
+    for i in range(len(parts)):
+        part = entries[500 * i : 500 * i + 500]
+        out.append(cell(b"lf" + struct.pack("<H", len(part)) + b"".join(part)))
+    first = cell(node(name, len(children), child_list, len(values), value_list))
+    cells = first + b"".join(out) + b"".join(made)
+    assert at == begin + len(cells)
+    return cells, at
+
+
+def system(services):
+    """A SYSTEM hive of one control set with these services, in ten groups with twenty tags each."""
+    groups = [f"G{i}" for i in range(10)]
+    tags = struct.pack("<I", 20) + b"".join(struct.pack("<I", 20 - i) for i in range(20))
+    control = (b"Control", [], [
+        (b"ServiceGroupOrder", [strings(b"List", groups)], []),
+        (b"GroupOrderList", [(g.encode(), 3, tags) for g in groups], []),
+    ])
+    select = (b"Select", [dword(b"Current", 1), dword(b"Default", 1), dword(b"Failed", 0), dword(b"LastKnownGood", 0)], [])
+    one = (b"ControlSet001", [], [control, (b"Services", [], services)])
+    return hive(layout((b"SYSTEM", [], [one, select]), 32)[0])
+
+
+def service(i, start, group, needs):
+    group_value = (b"Group", 1, f"G{group}\0".encode("utf-16-le"))
+    values = [dword(b"Type", 1), dword(b"Start", start), dword(b"ErrorControl", 1), group_value, dword(b"Tag", 1 + i % 20)]
+    if needs:
+        values.append(strings(b"DependOnService", needs))
+    return (b"S%06d" % i, values, [])
+
+
+def with_services(count):
+    """Services of three phases in ten groups, of which each needs the first one of the group before its own."""
+    block = count // 30
+    return system([service(i, i // block // 10, i // block % 10, [f"S{(i // block - 1) * block:06d}"] if i // block % 10 else []) for i in range(30 * block)])
+
+
+def with_chained_services(count):
+    """Boot drivers of one group and tag of which each needs the next one in the registry, so that the last is the first to be ready."""
+    return system([service(20 * i, 0, 0, [f"S{20 * (i + 1):06d}"] if i + 1 < count else []) for i in range(count)])

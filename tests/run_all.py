@@ -38,6 +38,12 @@ def failing_hosts(program):
     return [("a_read_fails", read.returncode, 6, read.stdout), ("nothing_can_be_said", write.returncode, 7, b"")]
 
 
+def odd_words(program):
+    """A word that is no UTF-8, which has no reading: its exit status, and what was said."""
+    odd = subprocess.run([program.encode(), b"run", b"--hive", b"\xff", b"--script", b"script"], capture_output=True, timeout=120)
+    return odd.returncode, odd.stdout
+
+
 def main(words):
     program = os.path.abspath(words[0] if words else PROGRAM)
     if not os.path.exists(program):
@@ -60,6 +66,12 @@ def main(words):
         else:
             failed += 1
             print(f"{name}: exit {status}, wanted {want_status}; said {said!r}")
+    status, said = odd_words(program)
+    if status == 1 and said == b"bad usage\n":
+        passed += 1
+    else:
+        failed += 1
+        print(f"a_word_that_is_no_utf8: exit {status}; said {said!r}")
     print(f"{passed} passed, {failed} failed")
     return 1 if failed or not passed else 0
 

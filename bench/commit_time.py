@@ -1,0 +1,59 @@
+#!/usr/bin/env python3
+"""Times a commit that changes one sector, on a disk in memory: bench/commit_time.py. Prints milliseconds and the writes that the disk
+saw, for hives of several sizes. No gate runs it."""
+import os
+import sys
+
+sys.path.insert(0, os.path.dirname(os.path.abspath(__file__)))
+import trial
+
+USES = ["nt_bytes", "hive_model", "nt_edge", "mem_edge", "hive_commit", "commit_tests"]
+
+PROGRAM = """#![tactic(auto)]
+
+ghost use Rattle.std.specs.Prelude.{◌≡◌, ◌≤◌, true, false, [], length};
+ghost use Rattle.hive_model.specs.Base.{is_bins_size};
+
+use anyhow::{Result, bail};
+use commit_tests::{Change, is_size, start};
+use hive_commit::{commit, recover};
+use mem_edge::MemDisk;
+use nt_edge::{Bench, DiskCall};
+use std::time::Instant;
+
+fn change<B: Bench>(rt: &HostRuntime, bench: &mut B, file: &[u8], new: &[u8]) -> Result<()>
+    requires off { (B.state bench.old).on ≡ false }
+    requires still { (B.state bench.old).flight ≡ [] }
+    requires few { length file.now ≤ 33554432 }
+    requires sized { is_bins_size (length new.now) ≡ true }
+{
+    let Ok(()) = start(bench, file) else {
+        bail!("the disk does not start");
+    };
+    let found = recover(rt.alloc(), bench)?;
+    let size = new.len();
+    let start = Instant::now(rt)?;
+    commit(bench, &found.base, found.bins.as_slice(), new, 32)?;
+    let took = start.elapsed(rt)?.as_millis();
+    println!(rt; "{size} bytes: committed in {took} ms")?;
+    Ok(())
+}
+
+fn main(rt: HostRuntime) -> Result<()> {
+    for pages in [256, 1_024, 2_048, 4_096] {
+        let whole = Change::new(rt.alloc(), pages, pages)?;
+        if whole.file.len() > 33_554_432 || !is_size(whole.new.len()) {
+            bail!("no hive");
+        }
+        let mut disk = MemDisk::new(rt.alloc());
+        change(&rt, &mut disk, whole.file.as_slice(), whole.new.as_slice())?;
+        let reads = disk.calls(DiskCall::Read);
+        let writes = disk.calls(DiskCall::Write);
+        let syncs = disk.calls(DiskCall::Sync);
+        println!(rt; "    the load took {reads} reads, the commit {writes} writes and {syncs} syncs")?;
+    }
+    Ok(())
+}
+"""
+
+sys.exit(trial.run("commit_time", USES, PROGRAM))
