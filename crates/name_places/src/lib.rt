@@ -1,0 +1,13 @@
+//! Where names stand in a list, found without a scan.
+//!
+//! `NamePlaces` keeps the names as they stand in the list, and beside them their places by the folded
+//! order of the names. A lookup halves those, so it takes the logarithm of the number of names and no memory.
+#![tactic(auto)]
+
+mod order;
+mod places;
+
+pub use places::NamePlaces;
+
+#[cfg(test)]
+mod tests;
