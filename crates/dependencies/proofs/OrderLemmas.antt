@@ -1,41 +1,19 @@
 -- Names in their folded order: what a search finds among them, and what one more does to them.
-use Rattle.std.proofs.Common.{◌≡◌, ℕ, zero, suc, ◌+◌, ◌-◌, ◌<◌, ◌≤◌, Bool, true, false, ◌||◌, ◌&&◌, nat_eq, List, [], ◌∷◌, ◌++◌, length, get_or, Result, Ok, Err, Option, Some, None, IfOk, IfErr, inl, inr, refl, sym, ap, ◌∙◌, arith}
-use lib.Pointwise.{pointwise}
+use Rattle.std.proofs.Common.{◌≡◌, ℕ, zero, suc, ◌+◌, ◌-◌, ◌<◌, ◌≤◌, Bool, true, false, ◌||◌, List, [], ◌∷◌, ◌++◌, length, get_or, Result, Ok, Err, Option, IfOk, IfErr, inl, inr, refl, sym, ap, ◌∙◌, arith}
 use Rattle.std.specs.List.{list_any, insert, HoldsAt}
-use Rattle.std.specs.List.Sorted.{IsSearchInRange, IsBinarySearchResult, IsNonDecreasingBy}
+use Rattle.std.specs.List.Sorted.{IsSearchInRange, IsBinarySearchResult}
 use Rattle.std.specs.Result.{is_ok}
 use Rattle.std.specs.Option.{option_map_or}
-use Rattle.std.specs.Ordering.{nat_cmp, ordering_index, ordering_reverse, is_eq, is_lt}
-use Rattle.std.specs.Cmp.Lexicographic.{slice_cmp, texts_ties, nat_list_cmp_total, nat_list_eq_equiv}
-use Rattle.std.specs.declared.cmp.Ordering.{Ordering}
-use Rattle.std.specs.declared.cmp.Ordering.TheVariants.{Less, Equal, Greater}
+use Rattle.std.specs.Ordering.{ordering_reverse, is_eq, is_lt}
+use Rattle.std.specs.Cmp.Lexicographic.{nat_list_cmp_total}
+use Rattle.std.specs.declared.cmp.Ordering.TheVariants.{Equal}
 use Rattle.std.proofs.lemmas.Bool.{cases_lt}
 use Rattle.std.proofs.lemmas.List.Sorted.{searchable_from_sorted, list_any-IsPermutation, IsPermutation-insert}
 use Rattle.std.proofs.lemmas.List.Edits.{length-insert, get_or-insert_below, get_or-insert_at, get_or-insert_above}
-use Rattle.nt_bytes.specs.Folding.{folded, folded_unit, folds_same, folded_order}
+use Rattle.name_places.proofs.FoldLemmas.{same_from_order, alike}
+use Rattle.nt_bytes.specs.Folding.{folded, folds_same, folded_order}
 use Rattle.start_model.specs.Ready.{Label, has_name, has_group}
 use Rattle.dependencies.specs.Index.{AreInOrder, IsGap, IsIndexed}
-
--- ---- names that fold to one
-
-folded_pointwise : (a b : List ℕ) → pointwise nat_eq (folded a) (folded b) ≡ folds_same a b
-folded_pointwise [] [] = refl
-folded_pointwise [] (y ∷ ys) = refl
-folded_pointwise (x ∷ xs) [] = refl
-folded_pointwise (x ∷ xs) (y ∷ ys) = ap (λ b. nat_eq (folded_unit x) (folded_unit y) && b) (folded_pointwise xs ys)
-
-reversed_eq : (r : Ordering) → is_eq (ordering_reverse r) ≡ is_eq r
-reversed_eq Less = refl
-reversed_eq Equal = refl
-reversed_eq Greater = refl
-
--- two names fold to one where neither stands before the other
-same_from_order : (q y : List ℕ) → folds_same q y ≡ is_eq (folded_order y q)
-same_from_order q y =
-    sym (folded_pointwise q y) ∙ texts_ties (folded q) (folded y) ∙ ap is_eq (nat_list_cmp_total.antisymm (folded q) (folded y)) ∙ reversed_eq (folded_order y q)
-
-alike : (q n : List ℕ) → folds_same q n ≡ true → (y : List ℕ) → folds_same q y ≡ folds_same n y
-alike q n h y = sym (folded_pointwise q y) ∙ nat_list_eq_equiv.congr (folded q) (folded n) (folded y) (folded_pointwise q n ∙ h) ∙ folded_pointwise n y
 
 -- ---- tests of a list
 

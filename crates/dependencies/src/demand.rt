@@ -1,10 +1,12 @@
 //! Which entries of Start 3 the automatic phase takes.
 
-ghost use Rattle.std.specs.Prelude.{◌≡◌, ℕ, ◌-◌, ◌^◌, ◌<◌, Bool, true, List, ◌&&◌, not, length, IfOk, OnOk};
-ghost use Rattle.start_model.specs.Demand.{Need, IsClosed, is_taken, automatic_of, pulled_of, pulls, starts_at, member};
-ghost use Rattle.dependencies.specs.Work.{IsLeast, IsWork, PullsIn, is_alone};
+ghost use Rattle.std.specs.Prelude.{◌≡◌, ℕ, ◌-◌, ◌^◌, ◌<◌, Bool, true, List, [], ◌∷◌, ◌&&◌, not, length, IfOk, OnOk};
+ghost use Rattle.start_model.specs.Demand.{Need, IsClosed, is_taken, automatic_of, pulled_of, starts_at, member};
+ghost use Rattle.dependencies.specs.Work.{IsLeast, IsWork, PullsIn, TakesNamed, TakesListed, names_of, given_at};
 
 use crate::need::{Need, Needs, Places};
+use name_places::NamePlaces;
+use nt_bytes::{Names, Units};
 use std::alloc::{AllocError, Global};
 
 /// The places of the entries of Start 2 and of those that they pull in, in rising order. The table has
@@ -80,14 +82,13 @@ fn is_pulled(needs: &[Need], taken: &[bool], place: usize) -> bool
     starts(needs, place, 3) && taken[place]
 }
 
-/// Whether the entry at `to` is not taken, and the one at `from` pulls it in.
-fn is_new(needs: &[Need], taken: &[bool], from: usize, to: usize) -> bool
-    requires from { from < length needs.now }
-    requires to { to < length needs.now }
+/// Whether the entry at a place is not taken and has Start 3.
+fn is_new(needs: &[Need], taken: &[bool], place: usize) -> bool
+    requires place { place < length needs.now }
     requires len { length taken.now ≡ length needs.now }
-    ensures { result ≡ (not (member taken.now to) && pulls needs.now from to) }
+    ensures { result ≡ (not (member taken.now place) && starts_at needs.now 3 place) }
 {
-    !taken[to] && pulls(needs, from, to)
+    !taken[place] && starts(needs, place, 3)
 }
 
 /// Whether the entry at a place has this Start value.
@@ -99,21 +100,11 @@ fn starts(needs: &[Need], place: usize, start: u32) -> bool
     need.start == start
 }
 
-/// Whether the entry at `from` pulls in the one at `to`.
-fn pulls(needs: &[Need], from: usize, to: usize) -> bool
-    requires from { from < length needs.now }
-    requires to { to < length needs.now }
-    ensures { result ≡ pulls needs.now from to }
-{
-    let named = &needs[to];
-    let naming = &needs[from];
-    named.start == 3 && naming.depends_on(named.name.as_slice())
-}
-
 /// For each place, whether it is in the least set.
 fn least_set(alloc: Global, needs: &[Need]) -> Result<Vec<bool>, AllocError>
     ensures { IfOk result (λ taken. IsLeast needs.now taken.items) }
 {
+    let index = index_of(alloc, needs)?;
     let mut taken = Vec::new(alloc);
     let mut work = Vec::new(alloc);
     for place in 0..needs.len() {
@@ -124,22 +115,74 @@ fn least_set(alloc: Global, needs: &[Need]) -> Result<Vec<bool>, AllocError>
         }
     }
     'work: while let Some(place) = work.pop() {
-        pull(needs, place, &mut taken, &mut work)?;
+        pull(needs, &index, place, &mut taken, &mut work)?;
     }
     Ok(taken)
 }
 
-/// Whether the entry at a place names no other.
-fn is_alone(needs: &[Need], place: usize) -> bool
+/// The names of the entries, each found with its places.
+fn index_of(alloc: Global, needs: &[Need]) -> Result<NamePlaces, AllocError>
+    ensures { IfOk result (λ index. index ≡ names_of needs.now) }
+{
+    let mut names = Names::new(alloc);
+    for need in needs {
+        names.push(need.name.copy(alloc)?)?;
+    }
+    NamePlaces::new(alloc, names)
+}
+
+/// The names that the entry at a place gives.
+fn names_given(needs: &[Need], place: usize) -> &[Units]
     requires { place < length needs.now }
-    ensures { result ≡ is_alone needs.now place }
+    ensures { result.now ≡ given_at needs.now place }
 {
     let need = &needs[place];
-    need.services.as_slice().is_empty()
+    need.services.as_slice()
 }
 
 /// Takes in what the entry at a place pulls in, and notes as work what was not there before.
 fn pull(
+    needs: &[Need],
+    index: &NamePlaces,
+    place: usize,
+    taken: &mut Vec<bool>,
+    work: &mut Vec<usize>,
+) -> Result<(), AllocError>
+    requires place { place < length needs.now }
+    requires index { index.now ≡ names_of needs.now }
+    requires work { IsWork needs.now taken.old.items work.old.items }
+    ensures work { OnOk result (IsWork needs.now taken.new.items work.new.items) }
+    ensures pulls { OnOk result (PullsIn needs.now place taken.old.items work.old.items taken.new.items work.new.items) }
+{
+    let names = names_given(needs, place);
+    for name in names {
+        take_named(needs, index, name.as_slice(), taken, work)?;
+    }
+    Ok(())
+}
+
+/// Takes in each entry of this name, where it has Start 3.
+fn take_named(
+    needs: &[Need],
+    index: &NamePlaces,
+    name: &[u16],
+    taken: &mut Vec<bool>,
+    work: &mut Vec<usize>,
+) -> Result<(), AllocError>
+    requires index { index.now ≡ names_of needs.now }
+    requires work { IsWork needs.now taken.old.items work.old.items }
+    ensures work { OnOk result (IsWork needs.now taken.new.items work.new.items) }
+    ensures takes { OnOk result (TakesNamed needs.now (name.now ∷ []) taken.old.items work.old.items taken.new.items work.new.items) }
+{
+    let places = index.places(name);
+    for place in places {
+        take_in(needs, *place, taken, work)?;
+    }
+    Ok(())
+}
+
+/// Takes in the entry at a place, where it has Start 3, and notes it as work if it was not there before.
+fn take_in(
     needs: &[Need],
     place: usize,
     taken: &mut Vec<bool>,
@@ -148,16 +191,11 @@ fn pull(
     requires place { place < length needs.now }
     requires work { IsWork needs.now taken.old.items work.old.items }
     ensures work { OnOk result (IsWork needs.now taken.new.items work.new.items) }
-    ensures pulls { OnOk result (PullsIn needs.now place taken.old.items work.old.items taken.new.items work.new.items) }
+    ensures takes { OnOk result (TakesListed needs.now (place ∷ []) taken.old.items work.old.items taken.new.items work.new.items) }
 {
-    if is_alone(needs, place) {
-        return Ok(());
-    }
-    for q in 0..needs.len() {
-        if is_new(needs, taken.as_slice(), place, q) {
-            taken[q] = true;
-            work.push(q)?;
-        }
+    if is_new(needs, taken.as_slice(), place) {
+        taken[place] = true;
+        work.push(place)?;
     }
     Ok(())
 }

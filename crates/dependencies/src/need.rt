@@ -1,10 +1,6 @@
 //! What an entry needs, and lists of such needs and of places in them.
 
-ghost use Rattle.std.specs.Prelude.{◌≡◌};
-ghost use Rattle.std.specs.List.{list_any};
-ghost use Rattle.nt_bytes.specs.Folding.{folds_same};
-
-use nt_bytes::{Names, Row, Units, same_folded};
+use nt_bytes::{Names, Row, Units};
 use std::marker::Model;
 
 /// An entry's name, Start value, own group, and the names and groups that it depends on.
@@ -23,18 +19,6 @@ impl Model for Need {
     ghost Value = { Needed };
 
     ghost view = { λ a. record { name = a.name; start = a.start; group = a.group; services = a.services; groups = a.groups } };
-}
-
-impl Need {
-    /// Whether DependOnService has this name.
-    pub fn depends_on(&self, name: &[u16]) -> bool
-        ensures { result ≡ list_any (folds_same name.now) self.now.services }
-    {
-        self.services
-            .as_slice()
-            .iter()
-            .any(|s| same_folded(name, s.as_slice()))
-    }
 }
 
 /// Needs, in the order of the registry or of a phase.

@@ -60,6 +60,24 @@ fn demand_start_goes_as_deep_as_names_lead(rt: HostRuntime) -> Result<(), Fail> 
     Ok(())
 }
 
+/// `S` and `T` name one entry, each in a case of its own. A second entry of that name is taken too.
+#[test]
+fn a_name_leads_to_its_entries_in_any_case(rt: HostRuntime) -> Result<(), Fail> {
+    let alloc = rt.alloc();
+    let mut table = Needs::new(alloc);
+    table.push(need(alloc, b"S", 2, b"disk", b"")?)?;
+    table.push(need(alloc, b"Disk", 3, b"", b"")?)?;
+    table.push(need(alloc, b"T", 2, b"DISK", b"")?)?;
+    table.push(need(alloc, b"Disk2", 3, b"", b"")?)?;
+    table.push(need(alloc, b"dISK", 3, b"", b"")?)?;
+    assert_eq!(rt; pulled(alloc, &table)?.as_slice(), [1u32, 4].as_slice());
+    assert_eq!(rt;
+        automatic(alloc, &table)?.as_slice(),
+        [0u32, 1, 2, 4].as_slice()
+    );
+    Ok(())
+}
+
 #[test]
 fn what_an_entry_needs_goes_first(rt: HostRuntime) -> Result<(), Fail> {
     let alloc = rt.alloc();

@@ -1,5 +1,5 @@
 use Rattle.std.proofs.Common.{◌≡◌}
-use Rattle.std.specs.Prelude.{filter, ◌&&◌}
+use Rattle.std.specs.Prelude.{filter}
 use Rattle.std.specs.List.{range_with_len}
 use Rattle.start_model.specs.Demand.{member}
 use Rattle.dependencies.proofs.demand.all_taken.Given as goal
