@@ -1,2 +1,4 @@
 pub mod Few
+pub mod FirstPlaces
 pub mod Names
+pub mod Values

@@ -1,15 +1,18 @@
 //! The groups of `ServiceGroupOrder`, each with its tags of `GroupOrderList`.
 
-ghost use Rattle.std.specs.Prelude.{◌≡◌, ◌+◌, ◌*◌, ◌^◌, ◌<◌, ◌≤◌, [], ◌∷◌, codes, map, length, IfOk};
+ghost use Rattle.std.specs.Prelude.{◌≡◌, ◌+◌, ◌*◌, ◌^◌, ◌<◌, ◌≤◌, [], ◌∷◌, codes, map, length, position, All, IfOk, IfSome};
 ghost use Rattle.std.specs.List.{range_with_len};
 ghost use Rattle.std.specs.Option.{option_copied};
 ghost use Rattle.hive_model.specs.Tree.{find_key};
 ghost use Rattle.hive_model.specs.Valid.{HoldsKeys};
-ghost use Rattle.nt_bytes.specs.Folding.{folded};
-ghost use Rattle.start_model.specs.Order.{first_names, listed_groups, number_in, order_of, orders_of, tag_bytes, tags_of};
+ghost use Rattle.nt_bytes.specs.Folding.{folded, folds_same};
+ghost use Rattle.start_model.specs.Order.{first_names, listed_groups, number_in, order_of, orders_of, tags_of};
 ghost use Rattle.group_order.specs.Few.{AreFew};
 
-use nt_bytes::{Names, Row, Units, fold, u32_at};
+use crate::lists::TagLists;
+use crate::tags::Tags;
+use name_places::NamePlaces;
+use nt_bytes::{Names, Units, fold, u32_at};
 use reg_tree::Key;
 use std::alloc::{AllocError, Global};
 use std::collections::HashSet;
@@ -28,12 +31,6 @@ const GROUP_ORDER_LIST: [u16; 14] = [
 
 const LIST: [u16; 4] = [0x4c, 0x69, 0x73, 0x74];
 
-/// The type of binary data.
-const BINARY: u32 = 3;
-
-/// Tags, the first one to be started first.
-pub type Tags = Row<u32>;
-
 /// A group and the order of its tags.
 #[derive(Drop)]
 pub struct GroupOrder {
@@ -49,14 +46,15 @@ impl Model for GroupOrder {
     ghost view = { λ a. record { name = a.name; tags = a.tags } };
 }
 
-/// The groups in their order.
+/// The groups in their order, each found by its name without a scan.
 #[derive(Drop)]
 pub struct Orders {
     items: Vec<GroupOrder>,
+    places: NamePlaces,
 }
 
 impl Model for Orders {
-    ghost use Rattle.std.specs.Prelude.{List};
+    ghost use Rattle.std.specs.Prelude.{◌≡◌, List, map};
     ghost use Rattle.start_model.specs.Order.{GroupOrder as Ordered};
     ghost use Rattle.group_order.specs.Few.{AreFew};
 
@@ -64,15 +62,24 @@ impl Model for Orders {
 
     ghost view = { λ a. a.items.items };
 
-    ghost invariant = { λ a. AreFew a.items.items };
+    ghost invariant = { λ a. AreFew a.items.items × (a.places ≡ map (λ o. o.name) a.items.items) };
 }
 
 impl Orders {
+    /// The groups with their tags. Places in them fit 32 bits.
     pub fn as_slice(&self) -> &[GroupOrder]
         ensures same { result.now ≡ self.now }
         ensures few { AreFew self.now }
     {
         self.items.as_slice()
+    }
+
+    /// The place of the group of this name. Takes no memory.
+    pub fn place_of(&self, name: &[u16]) -> Option<usize>
+        ensures place { result ≡ position (λ o. folds_same name.now o.name) self.now }
+        ensures within { IfSome result (λ at. at < length self.now) }
+    {
+        self.places.place_of(name)
     }
 }
 
@@ -84,7 +91,8 @@ pub fn read_orders(alloc: Global, set: &Key) -> Result<Orders, AllocError>
 {
     let listed = listed_groups(alloc, set)?;
     let groups = first_names(alloc, &listed)?;
-    orders_among(alloc, &groups, below_control(set, &GROUP_ORDER_LIST))
+    let lists = TagLists::new(alloc, below_control(set, &GROUP_ORDER_LIST))?;
+    orders_among(alloc, groups, &lists)
 }
 
 /// The key of this name below `Control`.
@@ -127,42 +135,39 @@ fn folded(alloc: Global, name: &[u16]) -> Result<Vec<u16>, AllocError>
 }
 
 /// The orders that these groups have in `GroupOrderList`.
-fn orders_among(alloc: Global, groups: &Names, lists: Option<&Key>) -> Result<Orders, AllocError>
-    requires few { length groups.now < 2 ^ 32 }
-    ensures { IfOk result (λ o. o ≡ map (order_of (option_copied lists.entry)) groups.now) }
+fn orders_among(alloc: Global, groups: Names, lists: &TagLists) -> Result<Orders, AllocError>
+    requires few { length groups < 2 ^ 32 }
+    ensures { IfOk result (λ o. o ≡ map (order_of lists.now) groups) }
 {
-    let mut items = Vec::new(alloc);
-    for name in groups.as_slice() {
-        items.push(read_order(alloc, name, lists)?)?;
-    }
-    Ok(Orders { items })
+    let items = each_order(alloc, groups.as_slice(), lists)?;
+    let places = NamePlaces::new(alloc, groups)?;
+    Ok(Orders { items, places })
 }
 
-fn read_order(alloc: Global, name: &Units, lists: Option<&Key>) -> Result<GroupOrder, AllocError>
-    ensures order { IfOk result (λ o. o ≡ order_of (option_copied lists.entry) name.now) }
+/// Each group with its tags.
+fn each_order(
+    alloc: Global,
+    groups: &[Units],
+    lists: &TagLists,
+) -> Result<Vec<GroupOrder>, AllocError>
+    ensures orders { IfOk result (λ v. v.items ≡ map (order_of lists.now) groups.now) }
+    ensures few { IfOk result (λ v. All (λ o. length o.tags < 2 ^ 32) v.items) }
+{
+    let mut items = Vec::new(alloc);
+    for name in groups {
+        items.push(read_order(alloc, name, lists)?)?;
+    }
+    Ok(items)
+}
+
+fn read_order(alloc: Global, name: &Units, lists: &TagLists) -> Result<GroupOrder, AllocError>
+    ensures order { IfOk result (λ o. o ≡ order_of lists.now name.now) }
     ensures few { IfOk result (λ o. length o.tags < 2 ^ 32) }
 {
     Ok(GroupOrder {
         name: Units::from_slice(alloc, name.as_slice())?,
-        tags: read_tags(alloc, tag_bytes(lists, name.as_slice()))?,
+        tags: read_tags(alloc, lists.bytes(name.as_slice()))?,
     })
-}
-
-/// The bytes of the binary value of this name.
-fn tag_bytes<'a>(lists: Option<&'a Key>, name: &[u16]) -> &'a [u8]
-    ensures { result.now ≡ tag_bytes (option_copied lists.entry) name.now }
-{
-    match lists {
-        None => &[],
-        Some(key) => match key.value(name) {
-            None => &[],
-            Some(value) => if value.kind == BINARY {
-                value.bytes.as_slice()
-            } else {
-                &[]
-            },
-        },
-    }
 }
 
 /// The tags that a value of `GroupOrderList` holds: a count and that many numbers, as far as they go.
@@ -171,22 +176,22 @@ fn read_tags(alloc: Global, bytes: &[u8]) -> Result<Tags, AllocError>
     ensures few { IfOk result (λ t. length t < 2 ^ 32) }
 {
     if bytes.len() < 4 {
-        return Ok(Tags::new(alloc));
+        return Tags::from_vec(alloc, Vec::new(alloc));
     }
     let held = (bytes.len() - 4) / 4;
     let count = u32_at(bytes, 0) as usize;
-    numbers(alloc, bytes, held.min(count))
+    Tags::from_vec(alloc, numbers(alloc, bytes, held.min(count))?)
 }
 
 /// This many numbers behind the count.
-fn numbers(alloc: Global, bytes: &[u8], count: usize) -> Result<Tags, AllocError>
+fn numbers(alloc: Global, bytes: &[u8], count: usize) -> Result<Vec<u32>, AllocError>
     requires within { 4 + 4 * count ≤ length bytes.now }
-    ensures tags { IfOk result (λ t. t ≡ map (λ k. number_in bytes.now (4 + 4 * k)) (range_with_len 0 count)) }
-    ensures len { IfOk result (λ t. length t ≡ count) }
+    ensures numbers { IfOk result (λ v. v.items ≡ map (λ k. number_in bytes.now (4 + 4 * k)) (range_with_len 0 count)) }
+    ensures len { IfOk result (λ v. length v.items ≡ count) }
 {
     let mut items = Vec::new(alloc);
     for k in 0..count {
         items.push(u32_at(bytes, 4 + 4 * k))?;
     }
-    Ok(Tags::from_vec(items))
+    Ok(items)
 }

@@ -1,13 +1,13 @@
 //! Where an entry stands by its group and its tag.
 
-ghost use Rattle.std.specs.Prelude.{◌≡◌, ◌≤◌, ◌<◌, ◌^◌, length, nat_eq, position, IfSome};
-ghost use Rattle.nt_bytes.specs.Folding.{folds_same};
+ghost use Rattle.std.specs.Prelude.{◌≡◌, ◌≤◌, ◌<◌, ◌^◌, length, nat_eq};
 ghost use Rattle.std.specs.Option.{option_copied, option_map_or};
 ghost use Rattle.start_model.specs.Order.{group_place, tag_place, tag_place_in, first_place};
 ghost use Rattle.group_order.specs.Few.{AreFew};
 
 use crate::order::{GroupOrder, Orders};
-use nt_bytes::{Units, same_folded};
+use crate::tags::Tags;
+use nt_bytes::Units;
 
 /// The place of the group, and the place of the tag where tags count.
 pub fn rank(
@@ -19,36 +19,28 @@ pub fn rank(
     ensures group { result.0 ≡ group_place orders.now (option_copied group.entry) }
     ensures tag { result.1 ≡ tag_place orders.now (option_copied group.entry) tag tags_count }
 {
-    let orders = orders.as_slice();
+    let groups = orders.as_slice();
     let place = place_of_group(orders, group);
     let in_group = if tags_count {
-        place_of_tag(orders, place, tag)
+        place_of_tag(groups, place, tag)
     } else {
         0
     };
     (place as u32, in_group as u32)
 }
 
-fn place_of_group(orders: &[GroupOrder], group: Option<&Units>) -> usize
+fn place_of_group(orders: &Orders, group: Option<&Units>) -> usize
     ensures place { result ≡ group_place orders.now (option_copied group.entry) }
     ensures within { result ≤ length orders.now }
 {
+    let groups = orders.as_slice().len();
     match group {
-        None => orders.len(),
-        Some(name) => match named(orders, name.as_slice()) {
-            None => orders.len(),
+        None => groups,
+        Some(name) => match orders.place_of(name.as_slice()) {
+            None => groups,
             Some(at) => at,
         },
     }
-}
-
-fn named(orders: &[GroupOrder], name: &[u16]) -> Option<usize>
-    ensures place { result ≡ position (λ o. folds_same name.now o.name) orders.now }
-    ensures within { IfSome result (λ at. at < length orders.now) }
-{
-    orders
-        .iter()
-        .position(|o| same_folded(name, o.name.as_slice()))
 }
 
 fn place_of_tag(orders: &[GroupOrder], place: usize, tag: Option<u32>) -> usize
@@ -58,28 +50,21 @@ fn place_of_tag(orders: &[GroupOrder], place: usize, tag: Option<u32>) -> usize
 {
     if place < orders.len() {
         let order = &orders[place];
-        place_among(order.tags.as_slice(), tag)
+        place_among(&order.tags, tag)
     } else {
         0
     }
 }
 
-fn place_among(tags: &[u32], tag: Option<u32>) -> usize
+fn place_among(tags: &Tags, tag: Option<u32>) -> usize
     ensures place { result ≡ option_map_or (λ t. first_place (λ x. nat_eq x t) tags.now) tag (length tags.now) }
     ensures within { result ≤ length tags.now }
 {
     match tag {
         None => tags.len(),
-        Some(t) => match tag_at(tags, t) {
+        Some(t) => match tags.place_of(t) {
             None => tags.len(),
             Some(at) => at,
         },
     }
-}
-
-fn tag_at(tags: &[u32], tag: u32) -> Option<usize>
-    ensures place { result ≡ position (λ x. nat_eq x tag) tags.now }
-    ensures within { IfSome result (λ at. at < length tags.now) }
-{
-    tags.iter().position(|x| *x == tag)
 }
