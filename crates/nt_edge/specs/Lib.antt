@@ -1,5 +1,6 @@
 pub mod Bench
 pub mod Book
+pub mod Calls
 pub mod Crash
 pub mod Disk
 pub mod Host

@@ -3,6 +3,7 @@
 ghost use Rattle.std.specs.Prelude.{◌≡◌, ◌≤◌, true, false, [], length, IfOk, IfErr, OnOk, OnErr};
 ghost use Rattle.hive_model.specs.Image.{Image, IsCrashImage, IsFileOf, ArmedCut, ArmedFault};
 ghost use Rattle.nt_edge.specs.Book.{file_of, call_of, keep_of};
+ghost use Rattle.nt_edge.specs.Calls.{MakesNone};
 ghost use Rattle.nt_edge.specs.Bench.{placed, woken, taken, turned_off, cut_off, armed, KeepsOrders};
 ghost use Rattle.nt_edge.specs.declared.disk.DiskStop.TheVariants.{Memory};
 
@@ -12,7 +13,8 @@ use nt_bytes::Bytes;
 /// A disk that tells its contents, with what happens to it from outside.
 ///
 /// Its calls refuse nothing but for want of memory, and are then without effect. It stops at most as
-/// often as it was ordered to, and one that got no order never stops.
+/// often as it was ordered to, and one that got no order never stops. None of its calls is a call of the
+/// disk.
 pub trait Bench: Disk {
     /// Gives a file these bytes, at most 33,554,432, cut into sectors, the last one filled with zeros.
     /// The disk is off and has nothing in flight.
@@ -23,6 +25,7 @@ pub trait Bench: Disk {
         ensures placed { OnOk result
             (Self.state self.new ≡ placed (file_of file) bytes.now (Self.state self.old)) }
         ensures before { OnErr result (Self.state self.new ≡ Self.state self.old) }
+        ensures quiet { MakesNone (Self.calls self.old) (Self.calls self.new) }
         ensures memory { IfErr result (λ stop. stop ≡ Memory) };
 
     /// Settles the disk, which is off, to what a loss of power may leave, and answers the file's sectors
@@ -34,6 +37,7 @@ pub trait Bench: Disk {
             × (Self.state self.new ≡ taken image (Self.state self.old))
             × IsFileOf image (file_of file) bytes) }
         ensures before { OnErr result (Self.state self.new ≡ Self.state self.old) }
+        ensures quiet { MakesNone (Self.calls self.old) (Self.calls self.new) }
         ensures memory { IfErr result (λ stop. stop ≡ Memory) };
 
     /// Turns the disk, which is off, on with what a loss of power may leave: one more wake.
@@ -43,16 +47,19 @@ pub trait Bench: Disk {
             × IsCrashImage (Self.state self.old).held (Self.state self.old).flight image
             × (Self.state self.new ≡ woken image (Self.state self.old))) }
         ensures before { OnErr result (Self.state self.new ≡ Self.state self.old) }
+        ensures quiet { MakesNone (Self.calls self.old) (Self.calls self.new) }
         ensures memory { IfErr result (λ stop. stop ≡ Memory) };
 
     /// Turns the disk off. On a disk that is off it does nothing.
     fn power_off(&mut self)
-        ensures { Self.state self.new ≡ turned_off (Self.state self.old) };
+        ensures off { Self.state self.new ≡ turned_off (Self.state self.old) }
+        ensures quiet { MakesNone (Self.calls self.old) (Self.calls self.new) };
 
     /// Cuts the power of the disk, which is on.
     fn cut(&mut self, keep: Keep)
         requires on { (Self.state self.old).on ≡ true }
-        ensures { Self.state self.new ≡ cut_off (Self.state self.old) };
+        ensures cut { Self.state self.new ≡ cut_off (Self.state self.old) }
+        ensures quiet { MakesNone (Self.calls self.old) (Self.calls self.new) };
 
     /// Orders a cut in the n-th call of this kind from now on, n from 1, in place of an earlier order for
     /// a cut.
@@ -61,6 +68,7 @@ pub trait Bench: Disk {
         ensures armed { OnOk result (Self.state self.new
             ≡ armed (ArmedCut (call_of call) n (keep_of keep)) (Self.state self.old)) }
         ensures before { OnErr result (Self.state self.new ≡ Self.state self.old) }
+        ensures quiet { MakesNone (Self.calls self.old) (Self.calls self.new) }
         ensures memory { IfErr result (λ stop. stop ≡ Memory) };
 
     /// Orders a fault in the n-th call of this kind from now on, n from 1, in place of an earlier order
@@ -70,6 +78,7 @@ pub trait Bench: Disk {
         ensures armed { OnOk result (Self.state self.new
             ≡ armed (ArmedFault (call_of call) n) (Self.state self.old)) }
         ensures before { OnErr result (Self.state self.new ≡ Self.state self.old) }
+        ensures quiet { MakesNone (Self.calls self.old) (Self.calls self.new) }
         ensures memory { IfErr result (λ stop. stop ≡ Memory) };
 
     /// Every bench tells its contents.

@@ -1,7 +1,8 @@
 //! A disk of sectors, as the code above sees it: what is on it, and what is still in flight.
 
-ghost use Rattle.std.specs.Prelude.{◌≡◌, ◌⊎◌, Bool, true, false, Some, None, ◌++◌, [], ◌∷◌, OnOk, OnErr, IsErrOf};
+ghost use Rattle.std.specs.Prelude.{◌≡◌, ◌⊎◌, Bool, true, false, List, Some, None, ◌++◌, [], ◌∷◌, OnOk, OnErr, IsErrOf};
 ghost use Rattle.hive_model.specs.Image.{Bytes, same_address};
+ghost use Rattle.nt_edge.specs.Calls.{Made, ReadAt, Wrote, Synced, Makes};
 ghost use Rattle.nt_edge.specs.Disk.{DiskState, now_of, CountsGrow, HasCause, IsOnUnlessLost, IsBounded};
 ghost use Rattle.nt_edge.specs.declared.disk.DiskStop.TheVariants.{Memory};
 ghost use Rattle.nt_edge.specs.declared.disk.Presence.TheVariants.{Whole, Absent};
@@ -102,9 +103,15 @@ pub trait Disk {
     /// What the disk is at a moment.
     ghost state: { Self → DiskState };
 
+    /// What the disk says of the calls that were made: lists, the first call first, among which is the true
+    /// one. A disk may keep its calls, count them or forget them; each call puts itself behind, whatever it
+    /// answers.
+    ghost calls: { Self → List Made → Type 0 };
+
     /// Reads a sector as it was last written. Changes nothing but the counts.
     fn read(&mut self, at: Address, into: &mut [u8; 512]) -> Result<Presence, DiskStop>
         requires on { (state self.old).on ≡ true }
+        ensures made { Makes (calls self.old) (calls self.new) (ReadAt at ∷ []) }
         ensures whole { tells ≡ true → result ≡ Ok Whole
             → now_of (state self.old) at ≡ Some (Bytes into.new) }
         ensures absent { tells ≡ true → result ≡ Ok Absent → now_of (state self.old) at ≡ None }
@@ -120,6 +127,7 @@ pub trait Disk {
     /// `Memory` not.
     fn write(&mut self, at: Address, bytes: &[u8; 512]) -> Result<(), DiskStop>
         requires on { (state self.old).on ≡ true }
+        ensures made { Makes (calls self.old) (calls self.new) (Wrote (at, bytes.now) ∷ []) }
         ensures written { tells ≡ true → OnOk result
             ((state self.new).flight ≡ (state self.old).flight ++ (at, bytes.now) ∷ []) }
         ensures perhaps { tells ≡ true → OnErr result
@@ -137,6 +145,7 @@ pub trait Disk {
     /// were.
     fn sync(&mut self) -> Result<(), DiskStop>
         requires on { (state self.old).on ≡ true }
+        ensures made { Makes (calls self.old) (calls self.new) (Synced ∷ []) }
         ensures held { tells ≡ true → OnOk result ((state self.new).held ≡ now_of (state self.old)) }
         ensures flight { tells ≡ true → OnOk result ((state self.new).flight ≡ []) }
         ensures held_before { tells ≡ true → OnErr result
