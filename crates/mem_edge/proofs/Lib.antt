@@ -1,4 +1,5 @@
 pub mod ArmLemmas
+pub mod CallLemmas
 pub mod CutLemmas
 pub mod FlightLemmas
 pub mod KeepLemmas

@@ -1,9 +1,10 @@
 //! The calls of a disk in memory.
 
-ghost use Rattle.std.specs.Prelude.{◌≡◌, true, false, Some, None, IfNone, IsSome, IsNone};
+ghost use Rattle.std.specs.Prelude.{◌≡◌, true, false, [], Some, None, IfNone, IsSome, IsNone};
 ghost use Rattle.nt_edge.specs.Host.{Rises};
 ghost use Rattle.nt_edge.specs.Disk.{CountsGrow, new_state, now_of, next};
 ghost use Rattle.nt_edge.specs.declared.disk.DiskStop.TheVariants.{PowerLost, Failed, Memory};
+ghost use Rattle.mem_edge.specs.Calls.{counts_calls, CountsOne};
 ghost use Rattle.mem_edge.specs.Orders.{IsDue};
 ghost use Rattle.mem_edge.specs.State.{state_of, calls_of};
 ghost use Rattle.mem_edge.specs.Views.{content_of};
@@ -21,6 +22,7 @@ impl MemDisk {
     pub fn new(alloc: Global) -> MemDisk
         ensures state { state_of result ≡ new_state }
         ensures calls { (call : DiskCall) → calls_of result call ≡ 0 }
+        ensures none_made { counts_calls result [] }
     {
         MemDisk {
             alloc,
@@ -62,6 +64,8 @@ impl MemDisk {
         ensures armed_cut { self.new.armed_cut ≡ self.old.armed_cut }
         ensures armed_fault { self.new.armed_fault ≡ self.old.armed_fault }
         ensures counted { calls_of self.new call ≡ next (calls_of self.old call) }
+        ensures others { (other : DiskCall) → (other ≡ call → ⊥)
+            → calls_of self.new other ≡ calls_of self.old other }
     {
         match call {
             DiskCall::Read => self.reads = self.reads.saturating_add(1),
@@ -72,6 +76,7 @@ impl MemDisk {
 
     /// Counts a call, and answers the stop that is due at it.
     fn stop(&mut self, call: DiskCall) -> Option<DiskStop>
+        ensures calls { CountsOne self.old self.new call }
         ensures held { (state_of self.new).held ≡ (state_of self.old).held }
         ensures flight { (state_of self.new).flight ≡ (state_of self.old).flight }
         ensures history { (state_of self.new).history ≡ (state_of self.old).history }
@@ -125,6 +130,8 @@ impl Disk for MemDisk {
     ghost tells = { true };
 
     ghost state = { state_of };
+
+    ghost calls = { counts_calls };
 
     fn read(&mut self, at: Address, into: &mut [u8; 512]) -> Result<Presence, DiskStop> {
         if let Some(stop) = self.stop(DiskCall::Read) {
