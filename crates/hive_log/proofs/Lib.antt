@@ -8,3 +8,6 @@ pub mod Text
 pub mod Appending
 pub mod SoFar
 pub mod Looked
+pub mod Asking
+pub mod AskedParts
+pub mod AskedWhole

@@ -1,3 +1,4 @@
+pub mod Asked
 pub mod FilesState
 pub mod Found
 pub mod Mixing

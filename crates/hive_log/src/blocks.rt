@@ -2,9 +2,11 @@
 
 ghost use Rattle.std.specs.Prelude.{◌≡◌, ◌<◌, ◌≤◌, ◌*◌, ◌==◌, ◌&&◌, true, [], length, drop, IfOk};
 ghost use Rattle.hive_model.specs.Base.{is_bins_size, base_of};
+ghost use Rattle.hive_model.specs.Image.{Primary, Log};
 ghost use Rattle.hive_model.specs.Recovery.{primary_in, log_in, bit, rank, as_log_base, base_in, logged_in, bitmap_in};
 ghost use Rattle.hive_model.specs.Recovery as book;
 ghost use Rattle.nt_edge.specs.Disk.{CountsGrow};
+ghost use Rattle.hive_log.specs.Asked.{asked_sector, asked_bitmap, AsksFirst};
 ghost use Rattle.hive_log.specs.Mixing.{front_in};
 ghost use Rattle.hive_log.specs.Stops.{Reads, HasLoadCause, IsOnAfterLoad};
 
@@ -20,6 +22,8 @@ pub(crate) fn read_primary_block<D: Disk>(disk: &mut D) -> Result<BaseBlock, Loa
     requires on { (D.state disk.old).on ≡ true }
     requires still { D.tells ≡ true → (D.state disk.old).flight ≡ [] }
     ensures block { D.tells ≡ true → Reads result (base_in (primary_in (D.state disk.old).held)) }
+    ensures asked { AsksFirst (D.calls disk.old) (D.calls disk.new) D.tells
+        (asked_sector (record { file = Primary; sector = 0 }) (base_in (primary_in (D.state disk.old).held))) result }
     ensures sized { IfOk result (λ b. is_bins_size b.size ≡ true) }
     ensures held { D.tells ≡ true → (D.state disk.new).held ≡ (D.state disk.old).held }
     ensures flight { D.tells ≡ true → (D.state disk.new).flight ≡ (D.state disk.old).flight }
@@ -47,6 +51,8 @@ pub(crate) fn read_log_block<D: Disk>(disk: &mut D) -> Result<BaseBlock, LoadSto
     requires on { (D.state disk.old).on ≡ true }
     requires still { D.tells ≡ true → (D.state disk.old).flight ≡ [] }
     ensures block { D.tells ≡ true → Reads result (logged_in (log_in (D.state disk.old).held)) }
+    ensures asked { AsksFirst (D.calls disk.old) (D.calls disk.new) D.tells
+        (asked_sector (record { file = Log; sector = 0 }) (logged_in (log_in (D.state disk.old).held))) result }
     ensures sized { IfOk result (λ b. is_bins_size b.size ≡ true) }
     ensures held { D.tells ≡ true → (D.state disk.new).held ≡ (D.state disk.old).held }
     ensures flight { D.tells ≡ true → (D.state disk.new).flight ≡ (D.state disk.old).flight }
@@ -86,6 +92,8 @@ fn read_bitmap_front<D: Disk>(alloc: Global, disk: &mut D) -> Result<Bytes, Load
     requires on { (D.state disk.old).on ≡ true }
     requires still { D.tells ≡ true → (D.state disk.old).flight ≡ [] }
     ensures front { D.tells ≡ true → Reads result (front_in (log_in (D.state disk.old).held)) }
+    ensures asked { AsksFirst (D.calls disk.old) (D.calls disk.new) D.tells
+        (asked_sector (record { file = Log; sector = 1 }) (front_in (log_in (D.state disk.old).held))) result }
     ensures long { IfOk result (λ b. length b ≡ 512) }
     ensures held { D.tells ≡ true → (D.state disk.new).held ≡ (D.state disk.old).held }
     ensures flight { D.tells ≡ true → (D.state disk.new).flight ≡ (D.state disk.old).flight }
@@ -122,6 +130,8 @@ pub(crate) fn read_bitmap<D: Disk>(
     requires still { D.tells ≡ true → (D.state disk.old).flight ≡ [] }
     requires few { size ≤ 16777216 }
     ensures text { D.tells ≡ true → Reads result (bitmap_in (log_in (D.state disk.old).held) size) }
+    ensures asked { AsksFirst (D.calls disk.old) (D.calls disk.new) D.tells
+        (asked_bitmap (D.state disk.old).held size) result }
     ensures long { IfOk result (λ b. length b ≡ 512 * book.bitmap_sectors size) }
     ensures held { D.tells ≡ true → (D.state disk.new).held ≡ (D.state disk.old).held }
     ensures flight { D.tells ≡ true → (D.state disk.new).flight ≡ (D.state disk.old).flight }

@@ -27,6 +27,9 @@ impl Disk for Files<'_> {
 
     ghost state = { files_state };
 
+    // the files forget their calls
+    ghost calls = { λ files made. Unit {0} };
+
     fn read(&mut self, at: Address, into: &mut [u8; 512]) -> Result<Presence, DiskStop> {
         let bytes = match at.file {
             HiveFile::Primary => self.primary,

@@ -6,6 +6,7 @@ ghost use Rattle.hive_model.specs.Base.{fault_at};
 ghost use Rattle.hive_model.specs.Recovery.{primary_in, log_in, sector, gathered, bins_short, bit, rank};
 ghost use Rattle.hive_model.specs.Recovery as book;
 ghost use Rattle.nt_edge.specs.Disk.{CountsGrow};
+ghost use Rattle.hive_log.specs.Asked.{one_by_one, run_at, unmarked_at, AsksFirst};
 ghost use Rattle.hive_log.specs.Mixing.{mixed};
 ghost use Rattle.hive_log.specs.Stops.{Reads, HasLoadCause, IsOnAfterLoad};
 ghost use Rattle.nt_bytes.specs.declared.fault.HiveKind.TheVariants.{LogShort};
@@ -49,6 +50,8 @@ pub(crate) fn read_log_run<D: Disk>(
     requires still { D.tells ≡ true → (D.state disk.old).flight ≡ [] }
     requires few { first + count < 100000 }
     ensures run { D.tells ≡ true → Reads result (gathered (λ k. log_in (D.state disk.old).held (first + k)) (λ k. book.log_short (first + k)) 0 count) }
+    ensures asked { AsksFirst (D.calls disk.old) (D.calls disk.new) D.tells
+        (one_by_one (D.state disk.old).held (run_at image.Log first count)) result }
     ensures long { IfOk result (λ b. length b ≡ 512 * count) }
     ensures sectors { D.tells ≡ true → IfOk result (λ b. (k : ℕ) → k < count → log_in (D.state disk.old).held (first + k) ≡ Some (image.Bytes (sector b k))) }
     ensures held { D.tells ≡ true → (D.state disk.new).held ≡ (D.state disk.old).held }
@@ -87,6 +90,8 @@ pub(crate) fn read_bins<D: Disk>(
     requires few { count ≤ 32768 }
     requires run_long { length run.now ≡ 512 * rank (bit bitmap.now) count }
     ensures bins { D.tells ≡ true → Reads result (gathered (mixed (primary_in (D.state disk.old).held) run.now (bit bitmap.now)) bins_short 0 count) }
+    ensures asked { AsksFirst (D.calls disk.old) (D.calls disk.new) D.tells
+        (one_by_one (D.state disk.old).held (unmarked_at (bit bitmap.now) count)) result }
     ensures long { IfOk result (λ b. length b ≡ 512 * count) }
     ensures sectors { D.tells ≡ true → IfOk result (λ b. (i : ℕ) → i < count → mixed (primary_in (D.state disk.old).held) run.now (bit bitmap.now) i ≡ Some (image.Bytes (sector b i))) }
     ensures held { D.tells ≡ true → (D.state disk.new).held ≡ (D.state disk.old).held }

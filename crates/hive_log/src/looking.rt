@@ -1,10 +1,12 @@
 //! What a disk is recovered as, by reading alone.
 
-ghost use Rattle.std.specs.Prelude.{◌≡◌, true, false, [], length, IfOk};
+ghost use Rattle.std.specs.Prelude.{◌≡◌, ◌/◌, true, false, [], length, IfOk};
 ghost use Rattle.hive_model.specs.Base.{is_bins_size};
+ghost use Rattle.hive_model.specs.Image.{Primary};
 ghost use Rattle.hive_model.specs.Recovery.{primary_in, log_in, base_in, and_then, logged_in, by_logged, closed_by, recovered_of};
 ghost use Rattle.hive_model.specs.Carries.{Carries, HasBase};
 ghost use Rattle.nt_edge.specs.Disk.{CountsGrow};
+ghost use Rattle.hive_log.specs.Asked.{run_at, one_by_one, asked_log, asked_of, MakesReads, IsAsked};
 ghost use Rattle.hive_log.specs.Found.{Found};
 ghost use Rattle.hive_log.specs.Shown.{read_of};
 ghost use Rattle.hive_log.specs.Stops.{Reads, ReadsAs, HasLoadCause, IsOnAfterLoad};
@@ -28,10 +30,13 @@ pub struct Reading {
     pub bitmap: Bytes,
 }
 
-/// Reads what the disk is recovered as. What it holds and its record stay.
+/// Reads what the disk is recovered as. What it holds and its record stay. No call is made
+/// but reads: of the sectors that recovery asks for, each once, in its order.
 pub fn read_recovered<D: Disk>(alloc: Global, disk: &mut D) -> Result<Reading, LoadStop>
     requires on { (D.state disk.old).on ≡ true }
     requires still { D.tells ≡ true → (D.state disk.old).flight ≡ [] }
+    ensures asked { MakesReads (D.calls disk.old) (D.calls disk.new)
+        (λ sectors. D.tells ≡ true → IsAsked (asked_of (D.state disk.old).held) result sectors) }
     ensures exact { D.tells ≡ true → ReadsAs read_of result (recovered_of (D.state disk.old).held) }
     ensures carries { D.tells ≡ true → IfOk result (λ r. r.recovered.dirty ≡ false → Carries (D.state disk.old).held r.recovered.base r.recovered.bins) }
     ensures found { D.tells ≡ true → IfOk result (λ r. r.recovered.dirty ≡ true → Found (D.state disk.old).held r.recovered.base r.bitmap r.recovered.bins) }
@@ -58,6 +63,9 @@ fn read_clean<D: Disk>(alloc: Global, disk: &mut D, base: BaseBlock) -> Result<R
     requires clean { base.first ≡ base.second }
     requires size { is_bins_size base.size ≡ true }
     ensures exact { D.tells ≡ true → ReadsAs read_of result (recovered_of (D.state disk.old).held) }
+    ensures asked { MakesReads (D.calls disk.old) (D.calls disk.new)
+        (λ sectors. D.tells ≡ true
+        → IsAsked (one_by_one (D.state disk.old).held (run_at Primary 8 (base.size / 512)) []) result sectors) }
     ensures clean { IfOk result (λ r. r.recovered.dirty ≡ false) }
     ensures carries { D.tells ≡ true → IfOk result (λ r. Carries (D.state disk.old).held r.recovered.base r.recovered.bins) }
     ensures sized { IfOk result (λ r. is_bins_size (length r.recovered.bins) ≡ true) }
@@ -85,6 +93,8 @@ fn read_dirty<D: Disk>(alloc: Global, disk: &mut D, opened: BaseBlock) -> Result
     requires block { D.tells ≡ true → HasBase (D.state disk.old).held opened }
     requires odd { opened.first ≡ opened.second → ⊥ }
     ensures exact { D.tells ≡ true → ReadsAs read_of result (recovered_of (D.state disk.old).held) }
+    ensures asked { MakesReads (D.calls disk.old) (D.calls disk.new)
+        (λ sectors. D.tells ≡ true → IsAsked (asked_log (D.state disk.old).held opened) result sectors) }
     ensures dirty { IfOk result (λ r. r.recovered.dirty ≡ true) }
     ensures found { D.tells ≡ true → IfOk result (λ r. Found (D.state disk.old).held r.recovered.base r.bitmap r.recovered.bins) }
     ensures sized { IfOk result (λ r. is_bins_size (length r.recovered.bins) ≡ true) }

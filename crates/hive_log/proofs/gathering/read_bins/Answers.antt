@@ -1,12 +1,14 @@
-use Rattle.std.proofs.Common.{◌≡◌, ◌+◌, ◌*◌, ◌++◌, ◌<◌, ◌≤◌, ℕ, Bool, true, false, cond, List, length, Some, None, Ok, Err, refl, sym, ◌∙◌, ap, subst, arith, rules, length-append}
-use Rattle.nt_edge.specs.declared.disk.Presence.TheVariants.{Whole, Absent}
-use Rattle.hive_model.specs.Image.{Content, Bytes}
+use Rattle.std.proofs.Common.{◌≡◌, ◌+◌, ◌++◌, ◌<◌, ℕ, Bool, true, false, cond, List, length, Some, None, Ok, Err, sym, ◌∙◌, ap, subst, arith, length-append}
+use Rattle.std.specs.Option.{is_some}
+use Rattle.std.proofs.lemmas.Result.{err_from_is_err_and}
+use Rattle.hive_model.specs.Image.{Address, Primary, Bytes}
+use Rattle.hive_log.specs.Asked.{one_by_one, unmarked_at, AsksFirst}
+use Rattle.hive_log.proofs.Asking.{AsksSoFar, asks_all, asks_held, asks_more, asks_stopped, asks_unheld, asks_absent, unmarked_rest, unmarked_split, marked_split, unmarked_more, marked_more}
 use Rattle.hive_model.specs.Recovery.{Sectors, primary_in, bins_short, gathered, bit, rank, sector}
 use Rattle.hive_log.specs.declared.stops.LoadStop.{LoadStop}
 use Rattle.hive_log.specs.Mixing.{mixed}
 use Rattle.hive_log.specs.Stops.{Reads}
 use Rattle.hive_log.proofs.Ranks.{rank_on, rank_off, rank_below}
-use Rattle.hive_log.proofs.Runs.{sector_long}
 use Rattle.hive_log.proofs.SoFar.{ReadSoFar, read_more, read_absent, read_held}
 use Rattle.hive_log.proofs.gathering.read_bins.Goals as goal
 
@@ -44,6 +46,7 @@ loop-i-preserved-then-has_bit g c =
           subst (λ (b : List ℕ). ReadSoFar at bins_short c.args.count b (c.loop-i.i + 1)) (sym appended)
           (read_more at bins_short c.args.count c.loop-i.bytes c.sector_of.result.now c.loop-i.i c.loop-i-test.true c.loop-i.invariant.long c.sector_of.ensures.long
           (mixed_on (primary_in h) run bits c.loop-i.i on ∙ ap (λ b. Some (Bytes b)) (sym taken)) (c.loop-i.invariant.read tells));
+      asked = subst (λ (l : List Address). AsksSoFar (g.D.Disk.calls c.args.disk.now) (g.D.Disk.calls c.loop-i.disk) g.D.Disk.tells h l) (marked_more bits c.loop-i.i on) c.loop-i.invariant.asked;
       history = c.loop-i.invariant.history;
       counts = c.loop-i.invariant.counts;
     }
@@ -79,6 +82,60 @@ loop-i-preserved g c =
           let whole : primary_in h (8 + c.loop-i.i) ≡ Some (Bytes c.read.new.into) = read_held s h _ (Some (Bytes c.read.new.into)) (c.loop-i.invariant.held tells) (c.loop-i.invariant.flight tells ∙ c.requires.still tells) (c.read.ensures.whole tells (c.in_ok-read.was ∙ ap (λ p. Ok p) c.in-Whole.is)) in
           subst (λ (b : List ℕ). ReadSoFar at bins_short c.args.count b (c.loop-i.i + 1)) (sym appended)
           (read_more at bins_short c.args.count c.loop-i.bytes c.read.new.into c.loop-i.i c.loop-i-test.true c.loop-i.invariant.long c.read.array_long (mixed_off (primary_in h) run bits c.loop-i.i off ∙ whole) (c.loop-i.invariant.read tells));
+      asked = subst (λ (l : List Address). AsksSoFar (g.D.Disk.calls c.args.disk.now) (g.D.Disk.calls c.read.new.self) g.D.Disk.tells h l) (unmarked_more bits c.loop-i.i off)
+          (asks_more c.loop-i.invariant.asked (record { file = Primary; sector = 8 + c.loop-i.i }) (g.D.Disk.calls c.read.new.self) c.read.ensures.made (λ tells.
+          let whole : primary_in h (8 + c.loop-i.i) ≡ Some (Bytes c.read.new.into) = read_held s h _ (Some (Bytes c.read.new.into)) (c.loop-i.invariant.held tells) (c.loop-i.invariant.flight tells ∙ c.requires.still tells) (c.read.ensures.whole tells (c.in_ok-read.was ∙ ap (λ p. Ok p) c.in-Whole.is)) in
+          ap is_some whole));
       history = c.read.ensures.history ∙ c.loop-i.invariant.history;
       counts = grind arith;
     }
+
+pub returns-in_err-append-clause-asked : goal.returns-in_err-append-clause-asked
+returns-in_err-append-clause-asked g c =
+    let bits = bit c.args.bitmap.now in
+    let i = c.loop-i.i in
+    let on : bits i ≡ true = sym c.has_bit.ensures ∙ c.if-has_bit.true in
+    let p = err_from_is_err_and c.from_residual.result c.from_residual.ensures.1 in
+    rw (p.1, p.2)
+    (asks_held {T = List ℕ} c.loop-i.invariant.asked (unmarked_at bits c.args.count) (unmarked_rest bits i c.args.count) (marked_split bits i c.args.count c.loop-i-test.true on))
+
+pub returns-in_err-read-clause-asked : goal.returns-in_err-read-clause-asked
+returns-in_err-read-clause-asked g c =
+    let bits = bit c.args.bitmap.now in
+    let i = c.loop-i.i in
+    let at : Address = record { file = Primary; sector = 8 + i } in
+    let off : bits i ≡ false = sym c.has_bit.ensures ∙ c.if-has_bit.false in
+    let p = err_from_is_err_and c.from_residual-in_err-read.result c.from_residual-in_err-read.ensures.1 in
+    rw (p.1, p.2)
+    (asks_stopped c.loop-i.invariant.asked at (g.D.Disk.calls c.read.new.self) c.read.ensures.made (unmarked_at bits c.args.count) (unmarked_rest bits i c.args.count)
+    (unmarked_split bits i c.args.count c.loop-i-test.true off) (List ℕ) c.in_err-read.field-0.0)
+
+pub returns-in_err-append-in-Whole-clause-asked : goal.returns-in_err-append-in-Whole-clause-asked
+returns-in_err-append-in-Whole-clause-asked g c =
+    let bits = bit c.args.bitmap.now in
+    let i = c.loop-i.i in
+    let at : Address = record { file = Primary; sector = 8 + i } in
+    let off : bits i ≡ false = sym c.has_bit.ensures ∙ c.if-has_bit.false in
+    let p = err_from_is_err_and c.from_residual-in_err-append-in-Whole.result c.from_residual-in_err-append-in-Whole.ensures.1 in
+    rw (p.1, p.2)
+    (asks_unheld c.loop-i.invariant.asked at (g.D.Disk.calls c.read.new.self) c.read.ensures.made (unmarked_at bits c.args.count) (unmarked_rest bits i c.args.count)
+    (unmarked_split bits i c.args.count c.loop-i-test.true off) (List ℕ))
+
+pub returns-in-Absent-clause-asked : goal.returns-in-Absent-clause-asked
+returns-in-Absent-clause-asked g c =
+    let h = (g.D.Disk.state c.args.disk.now).held in
+    let s = g.D.Disk.state c.loop-i.disk in
+    let bits = bit c.args.bitmap.now in
+    let i = c.loop-i.i in
+    let at : Address = record { file = Primary; sector = 8 + i } in
+    let off : bits i ≡ false = sym c.has_bit.ensures ∙ c.if-has_bit.false in
+    subst (λ (e : LoadStop). AsksFirst {T = List ℕ} (g.D.Disk.calls c.args.disk.now) (g.D.Disk.calls c.read.new.self) g.D.Disk.tells (one_by_one h (unmarked_at bits c.args.count)) (Err e)) (sym c.short_bins.ensures)
+    (asks_absent c.loop-i.invariant.asked at (g.D.Disk.calls c.read.new.self) c.read.ensures.made (unmarked_at bits c.args.count) (unmarked_rest bits i c.args.count)
+    (unmarked_split bits i c.args.count c.loop-i-test.true off) (List ℕ) (bins_short 0)
+    (λ tells. read_held s h _ None (c.loop-i.invariant.held tells) (c.loop-i.invariant.flight tells ∙ c.requires.still tells) (c.read.ensures.absent tells (c.in_ok-read.was ∙ ap (λ p. Ok p) c.in-Absent.is))))
+
+pub returns-clause-asked : goal.returns-clause-asked
+returns-clause-asked g c =
+    let all : c.loop-i.i ≡ c.args.count = omega arith in
+    subst (λ (n : ℕ). AsksFirst (g.D.Disk.calls c.args.disk.now) (g.D.Disk.calls c.loop-i.disk) g.D.Disk.tells (one_by_one (g.D.Disk.state c.args.disk.now).held (unmarked_at (bit c.args.bitmap.now) n)) (Ok c.loop-i.bytes)) all
+    (asks_all c.loop-i.invariant.asked c.loop-i.bytes)

@@ -1,7 +1,9 @@
-use Rattle.std.proofs.Common.{◌≡◌, ◌≤◌, ◌+◌, ◌*◌, length, true}
+use Rattle.std.proofs.Common.{◌≡◌, ◌≤◌, ◌*◌, length, true}
 use Rattle.hive_model.specs.Recovery.{primary_in, bins_short, bit, rank}
 use Rattle.nt_edge.specs.Disk.{CountsGrow}
+use Rattle.hive_log.specs.Asked.{unmarked_at}
 use Rattle.hive_log.specs.Mixing.{mixed}
+use Rattle.hive_log.proofs.Asking.{AsksSoFar}
 use Rattle.hive_log.proofs.SoFar.{ReadSoFar}
 use Rattle.hive_log.proofs.gathering.read_bins.Given as goal
 
@@ -14,6 +16,7 @@ invariant-loop-i g l = record {
   place : l.taken ≡ rank (bit l.bitmap) l.i;
   small : l.taken ≤ l.i;
   read : g.D.Disk.tells ≡ true → ReadSoFar (mixed (primary_in (g.D.Disk.state l.fn.disk).held) l.run (bit l.bitmap)) bins_short l.count l.bytes l.i;
+  asked : AsksSoFar (g.D.Disk.calls l.fn.disk) (g.D.Disk.calls l.disk) g.D.Disk.tells (g.D.Disk.state l.fn.disk).held (unmarked_at (bit l.bitmap) l.i);
   history : (g.D.Disk.state l.disk).history ≡ (g.D.Disk.state l.fn.disk).history;
   counts : CountsGrow (g.D.Disk.state l.fn.disk) (g.D.Disk.state l.disk);
 }

@@ -1,8 +1,13 @@
-use Rattle.std.proofs.Common.{◌≡◌, ◌*◌, ◌/◌, Result, Ok, Err, List, [], ℕ, refl, sym, ◌∙◌, ap, subst, arith}
+use Rattle.std.proofs.Common.{◌≡◌, ◌*◌, ◌/◌, Result, List, [], ℕ, sym, ◌∙◌, ap, arith}
 use Rattle.std.proofs.lemmas.Result.{err_from_is_err_and}
 use Rattle.nt_bytes.specs.declared.fault.HiveFault.{HiveFault}
 use Rattle.hive_model.specs.Base.{Base}
+use Rattle.hive_model.specs.Image.{Address, Primary}
 use Rattle.hive_model.specs.Recovery.{primary_in, bins_short, bit, gathered, recovered_of}
+use Rattle.hive_log.specs.declared.looking.Reading.{Reading}
+use Rattle.hive_log.specs.Asked.{one_by_one, run_at, unmarked_at}
+use Rattle.hive_log.proofs.AskedParts.{asks_in_whole, asks_no_more}
+use Rattle.hive_log.proofs.AskedWhole.{none_marked}
 use Rattle.hive_log.specs.Mixing.{mixed}
 use Rattle.hive_log.specs.Shown.{read_of}
 use Rattle.hive_log.proofs.Looked.{fault_as, no_run, clean_fault, clean_ok, clean_carries}
@@ -35,3 +40,22 @@ returns-clause-carries g c = λ tells.
     let count : c.base.inside.size / 512 ≡ c.args.base.size / 512 = ap (λ n. n / 512) e in
     clean_carries (g.D.Disk.state c.args.disk.now).held c.args.base (c.requires.block tells) c.requires.clean c.in_ok-bins.bins c.requires.size
     (c.in_ok-bins.ensures.long ∙ ap (λ n. 512 * n) count) (λ i small. c.in_ok-bins.ensures.sectors tells i (omega (arith, count)))
+
+pub returns-in_err-bins-clause-asked : goal.returns-in_err-bins-clause-asked
+returns-in_err-bins-clause-asked g c =
+    let h = (g.D.Disk.state c.args.disk.now).held in
+    let e : c.base.inside.size ≡ c.args.base.size = ap (λ (b : Base). b.size) c.base.view_is in
+    let whole = one_by_one h (run_at Primary 8 (c.args.base.size / 512)) [] in
+    let same : one_by_one h (unmarked_at (bit []) (c.base.inside.size / 512)) [] ≡ whole =
+    ap (λ (l : List Address). one_by_one h l []) (none_marked (c.base.inside.size / 512)) ∙ ap (λ n. one_by_one h (run_at Primary 8 (n / 512)) []) e in
+    let p = err_from_is_err_and c.from_residual.result c.from_residual.ensures.1 in
+    rw (p.1, p.2) (asks_no_more c.in_err-bins.ensures.asked Reading [] whole (λ tells. same))
+
+pub returns-clause-asked : goal.returns-clause-asked
+returns-clause-asked g c =
+    let h = (g.D.Disk.state c.args.disk.now).held in
+    let e : c.base.inside.size ≡ c.args.base.size = ap (λ (b : Base). b.size) c.base.view_is in
+    let whole = one_by_one h (run_at Primary 8 (c.args.base.size / 512)) [] in
+    let same : one_by_one h (unmarked_at (bit []) (c.base.inside.size / 512)) [] ≡ whole =
+    ap (λ (l : List Address). one_by_one h l []) (none_marked (c.base.inside.size / 512)) ∙ ap (λ n. one_by_one h (run_at Primary 8 (n / 512)) []) e in
+    asks_in_whole c.in_ok-bins.ensures.asked whole (λ tells. same)

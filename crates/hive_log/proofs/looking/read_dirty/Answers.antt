@@ -1,13 +1,17 @@
-use Rattle.std.proofs.Common.{◌≡◌, ◌+◌, ◌*◌, ◌/◌, ◌<◌, Result, Ok, Err, Some, List, [], ℕ, length, drop, refl, sym, ◌∙◌, ap, subst, arith, true, false}
+use Rattle.std.proofs.Common.{◌≡◌, ◌+◌, ◌*◌, ◌/◌, ◌<◌, Result, Ok, Some, List, [], ℕ, drop, sym, ◌∙◌, ap, subst, arith, true}
 use Rattle.std.proofs.lemmas.Result.{err_from_is_err_and}
 use Rattle.nt_bytes.specs.declared.fault.HiveFault.{HiveFault}
 use Rattle.hive_model.specs.Base.{Base}
 use Rattle.hive_model.specs.Image.{Image, Bytes}
-use Rattle.hive_model.specs.Recovery.{Recovered, Sectors, primary_in, log_in, sector, logged_in, bitmap_in, bins_short, log_short, bit, rank, first_dirty, closed_by, gathered, recovered_of}
+use Rattle.hive_model.specs.Recovery.{Sectors, primary_in, log_in, sector, logged_in, bitmap_in, bins_short, log_short, bit, rank, first_dirty, closed_by, gathered, recovered_of}
+use Rattle.hive_log.specs.declared.looking.Reading.{Reading}
+use Rattle.hive_log.specs.Asked.{one_by_one, unmarked_at, unless_fault, asked_bins, asked_behind_log, asked_log}
 use Rattle.hive_log.specs.Found.{Found}
 use Rattle.hive_log.specs.Mixing.{mixed}
 use Rattle.hive_log.specs.Shown.{read_of}
 use Rattle.hive_log.proofs.Appending.{sized}
+use Rattle.hive_log.proofs.AskedParts.{asks_behind, bitmap_asks, run_asks, bins_asks, asks_unkept, asks_in_whole, asks_no_more}
+use Rattle.hive_log.proofs.AskedWhole.{log_refused, numbers_asked, bits_asked, bins_asked}
 use Rattle.hive_log.proofs.Looked.{fault_as, no_log, other_numbers, no_text, no_marked, no_bins, dirty_ok, dirty_found}
 use Rattle.hive_log.proofs.looking.read_dirty.Goals as goal
 
@@ -192,3 +196,131 @@ returns-clause-found g c = λ tells.
 
 pub read_log_run-requires-clause-few : goal.read_log_run-requires-clause-few
 read_log_run-requires-clause-few g c = omega (arith, c.count_bits-marked.ensures.small, c.first_run_sector.ensures.small, (sized c.in_ok-logged.logged.size c.in_ok-logged.ensures.sized).high, ap (λ (b : Base). b.size) c.logged.view_is)
+
+pub returns-in_err-logged-clause-asked : goal.returns-in_err-logged-clause-asked
+returns-in_err-logged-clause-asked g c =
+    let h = (g.D.Disk.state c.args.disk.now).held in
+    let opened = c.args.opened in
+    let p = err_from_is_err_and c.from_residual.result c.from_residual.ensures.1 in
+    rw (p.1, p.2)
+    (asks_no_more c.in_err-logged.ensures.asked Reading (unless_fault (logged_in (log_in h)) (asked_behind_log h opened)) (asked_log h opened) (λ tells. log_refused h opened))
+
+pub returns-then-not-follows-clause-asked : goal.returns-then-not-follows-clause-asked
+returns-then-not-follows-clause-asked g c =
+    let h = (g.D.Disk.state c.args.disk.now).held in
+    let opened = c.args.opened in
+    let logged = c.in_ok-logged.logged in
+    asks_in_whole c.in_ok-logged.ensures.asked (asked_log h opened)
+    (λ tells. numbers_asked h opened logged (c.in_ok-logged.ensures.block tells) (sym c.follows.ensures ∙ c.if-not-follows.true))
+
+pub returns-in_err-text-clause-asked : goal.returns-in_err-text-clause-asked
+returns-in_err-text-clause-asked g c =
+    let h = (g.D.Disk.state c.args.disk.now).held in
+    let opened = c.args.opened in
+    let logged = c.in_ok-logged.logged in
+    let e : c.logged.inside.size ≡ logged.size = ap (λ (b : Base). b.size) c.logged.view_is in
+    let count : c.logged.inside.size / 512 ≡ logged.size / 512 = ap (λ n. n / 512) e in
+    let same = sym c.follows.ensures ∙ c.if-not-follows.false in
+    let h1 = (g.D.Disk.state c.read_log_block.new.disk).held in
+    let e1 : g.D.Disk.tells ≡ true → h1 ≡ h = λ tells. c.read_log_block.ensures.held tells in
+    let asks = asks_behind c.in_ok-logged.ensures.asked (bitmap_asks h1 h e1 c.logged.inside.size logged.size e c.in_err-text.ensures.asked) in
+    let p = err_from_is_err_and c.from_residual-in_err-text.result c.from_residual-in_err-text.ensures.1 in
+    rw (p.1, p.2)
+    (asks_no_more asks Reading (unless_fault (bitmap_in (log_in h) logged.size) (asked_bins h logged.size)) (asked_log h opened)
+    (λ tells. bits_asked h opened logged (c.in_ok-logged.ensures.block tells) same))
+
+pub returns-in_err-bitmap-clause-asked : goal.returns-in_err-bitmap-clause-asked
+returns-in_err-bitmap-clause-asked g c =
+    let h = (g.D.Disk.state c.args.disk.now).held in
+    let opened = c.args.opened in
+    let logged = c.in_ok-logged.logged in
+    let e : c.logged.inside.size ≡ logged.size = ap (λ (b : Base). b.size) c.logged.view_is in
+    let count : c.logged.inside.size / 512 ≡ logged.size / 512 = ap (λ n. n / 512) e in
+    let same = sym c.follows.ensures ∙ c.if-not-follows.false in
+    let h1 = (g.D.Disk.state c.read_log_block.new.disk).held in
+    let e1 : g.D.Disk.tells ≡ true → h1 ≡ h = λ tells. c.read_log_block.ensures.held tells in
+    let asks = asks_behind {result = Ok c.in_ok-text.text} c.in_ok-logged.ensures.asked (bitmap_asks h1 h e1 c.logged.inside.size logged.size e c.in_ok-text.ensures.asked) in
+    let p = err_from_is_err_and c.from_residual-in_err-bitmap.result c.from_residual-in_err-bitmap.ensures.1 in
+    rw (p.1, p.2)
+    (asks_no_more (asks_unkept asks (List ℕ)) Reading (unless_fault (bitmap_in (log_in h) logged.size) (asked_bins h logged.size)) (asked_log h opened)
+    (λ tells. bits_asked h opened logged (c.in_ok-logged.ensures.block tells) same))
+
+pub returns-in_err-run-clause-asked : goal.returns-in_err-run-clause-asked
+returns-in_err-run-clause-asked g c =
+    let h = (g.D.Disk.state c.args.disk.now).held in
+    let opened = c.args.opened in
+    let logged = c.in_ok-logged.logged in
+    let e : c.logged.inside.size ≡ logged.size = ap (λ (b : Base). b.size) c.logged.view_is in
+    let count : c.logged.inside.size / 512 ≡ logged.size / 512 = ap (λ n. n / 512) e in
+    let same = sym c.follows.ensures ∙ c.if-not-follows.false in
+    let h1 = (g.D.Disk.state c.read_log_block.new.disk).held in
+    let e1 : g.D.Disk.tells ≡ true → h1 ≡ h = λ tells. c.read_log_block.ensures.held tells in
+    let asks = asks_behind {result = Ok c.in_ok-text.text} c.in_ok-logged.ensures.asked (bitmap_asks h1 h e1 c.logged.inside.size logged.size e c.in_ok-text.ensures.asked) in
+    let text = c.in_ok-text.text in
+    let t : g.D.Disk.tells ≡ true → bitmap_in (log_in h) logged.size ≡ Ok text = λ tells. ap (bitmap_in (log_in h)) (sym e) ∙ ap (λ (i : Image). bitmap_in (log_in i) c.logged.inside.size) (sym (e1 tells)) ∙ c.in_ok-text.ensures.text tells in
+    let h2 = (g.D.Disk.state c.read_bitmap.new.disk).held in
+    let e2 : g.D.Disk.tells ≡ true → h2 ≡ h = λ tells. c.read_bitmap.ensures.held tells ∙ e1 tells in
+    let bits_are : c.in_ok-bitmap.bitmap ≡ drop 4 text = c.in_ok-bitmap.ensures ∙ ap (drop 4) c.as_slice.ensures in
+    let first = first_dirty logged.size in
+    let first_is : c.first_run_sector.result ≡ first = c.first_run_sector.ensures.value ∙ ap first_dirty e in
+    let marked = rank (bit (drop 4 text)) (logged.size / 512) in
+    let marked_is : c.count_bits-marked.result ≡ marked = c.count_bits-marked.ensures.count ∙ ap (λ (b : List ℕ). rank (bit b) (c.logged.inside.size / 512)) (c.as_slice-2.ensures ∙ bits_are) ∙ ap (rank (bit (drop 4 text))) count in
+    let asks_run = asks_behind asks (run_asks h2 h e2 c.first_run_sector.result first c.count_bits-marked.result marked first_is marked_is c.in_err-run.ensures.asked) in
+    let p = err_from_is_err_and c.from_residual-in_err-run.result c.from_residual-in_err-run.ensures.1 in
+    rw (p.1, p.2)
+    (asks_no_more asks_run Reading (one_by_one h (unmarked_at (bit (drop 4 text)) (logged.size / 512)) []) (asked_log h opened)
+    (λ tells. bins_asked h opened logged (c.in_ok-logged.ensures.block tells) same text (t tells)))
+
+pub returns-in_err-bins-clause-asked : goal.returns-in_err-bins-clause-asked
+returns-in_err-bins-clause-asked g c =
+    let h = (g.D.Disk.state c.args.disk.now).held in
+    let opened = c.args.opened in
+    let logged = c.in_ok-logged.logged in
+    let e : c.logged.inside.size ≡ logged.size = ap (λ (b : Base). b.size) c.logged.view_is in
+    let count : c.logged.inside.size / 512 ≡ logged.size / 512 = ap (λ n. n / 512) e in
+    let same = sym c.follows.ensures ∙ c.if-not-follows.false in
+    let h1 = (g.D.Disk.state c.read_log_block.new.disk).held in
+    let e1 : g.D.Disk.tells ≡ true → h1 ≡ h = λ tells. c.read_log_block.ensures.held tells in
+    let asks = asks_behind {result = Ok c.in_ok-text.text} c.in_ok-logged.ensures.asked (bitmap_asks h1 h e1 c.logged.inside.size logged.size e c.in_ok-text.ensures.asked) in
+    let text = c.in_ok-text.text in
+    let t : g.D.Disk.tells ≡ true → bitmap_in (log_in h) logged.size ≡ Ok text = λ tells. ap (bitmap_in (log_in h)) (sym e) ∙ ap (λ (i : Image). bitmap_in (log_in i) c.logged.inside.size) (sym (e1 tells)) ∙ c.in_ok-text.ensures.text tells in
+    let h2 = (g.D.Disk.state c.read_bitmap.new.disk).held in
+    let e2 : g.D.Disk.tells ≡ true → h2 ≡ h = λ tells. c.read_bitmap.ensures.held tells ∙ e1 tells in
+    let bits_are : c.in_ok-bitmap.bitmap ≡ drop 4 text = c.in_ok-bitmap.ensures ∙ ap (drop 4) c.as_slice.ensures in
+    let first = first_dirty logged.size in
+    let first_is : c.first_run_sector.result ≡ first = c.first_run_sector.ensures.value ∙ ap first_dirty e in
+    let marked = rank (bit (drop 4 text)) (logged.size / 512) in
+    let marked_is : c.count_bits-marked.result ≡ marked = c.count_bits-marked.ensures.count ∙ ap (λ (b : List ℕ). rank (bit b) (c.logged.inside.size / 512)) (c.as_slice-2.ensures ∙ bits_are) ∙ ap (rank (bit (drop 4 text))) count in
+    let asks_run = asks_behind {result = Ok c.in_ok-run.run'} asks (run_asks h2 h e2 c.first_run_sector.result first c.count_bits-marked.result marked first_is marked_is c.in_ok-run.ensures.asked) in
+    let h3 = (g.D.Disk.state c.read_log_run.new.disk).held in
+    let e3 : g.D.Disk.tells ≡ true → h3 ≡ h = λ tells. c.read_log_run.ensures.held tells ∙ e2 tells in
+    let asks_all = asks_behind asks_run (bins_asks h3 h e3 c.as_slice-3.result.now (drop 4 text) (c.logged.inside.size / 512) (logged.size / 512) (c.as_slice-3.ensures ∙ bits_are) count c.in_err-bins.ensures.asked) in
+    let p = err_from_is_err_and c.from_residual-in_err-bins.result c.from_residual-in_err-bins.ensures.1 in
+    rw (p.1, p.2)
+    (asks_no_more asks_all Reading [] (asked_log h opened) (λ tells. bins_asked h opened logged (c.in_ok-logged.ensures.block tells) same text (t tells)))
+
+pub returns-clause-asked : goal.returns-clause-asked
+returns-clause-asked g c =
+    let h = (g.D.Disk.state c.args.disk.now).held in
+    let opened = c.args.opened in
+    let logged = c.in_ok-logged.logged in
+    let e : c.logged.inside.size ≡ logged.size = ap (λ (b : Base). b.size) c.logged.view_is in
+    let count : c.logged.inside.size / 512 ≡ logged.size / 512 = ap (λ n. n / 512) e in
+    let same = sym c.follows.ensures ∙ c.if-not-follows.false in
+    let h1 = (g.D.Disk.state c.read_log_block.new.disk).held in
+    let e1 : g.D.Disk.tells ≡ true → h1 ≡ h = λ tells. c.read_log_block.ensures.held tells in
+    let asks = asks_behind {result = Ok c.in_ok-text.text} c.in_ok-logged.ensures.asked (bitmap_asks h1 h e1 c.logged.inside.size logged.size e c.in_ok-text.ensures.asked) in
+    let text = c.in_ok-text.text in
+    let t : g.D.Disk.tells ≡ true → bitmap_in (log_in h) logged.size ≡ Ok text = λ tells. ap (bitmap_in (log_in h)) (sym e) ∙ ap (λ (i : Image). bitmap_in (log_in i) c.logged.inside.size) (sym (e1 tells)) ∙ c.in_ok-text.ensures.text tells in
+    let h2 = (g.D.Disk.state c.read_bitmap.new.disk).held in
+    let e2 : g.D.Disk.tells ≡ true → h2 ≡ h = λ tells. c.read_bitmap.ensures.held tells ∙ e1 tells in
+    let bits_are : c.in_ok-bitmap.bitmap ≡ drop 4 text = c.in_ok-bitmap.ensures ∙ ap (drop 4) c.as_slice.ensures in
+    let first = first_dirty logged.size in
+    let first_is : c.first_run_sector.result ≡ first = c.first_run_sector.ensures.value ∙ ap first_dirty e in
+    let marked = rank (bit (drop 4 text)) (logged.size / 512) in
+    let marked_is : c.count_bits-marked.result ≡ marked = c.count_bits-marked.ensures.count ∙ ap (λ (b : List ℕ). rank (bit b) (c.logged.inside.size / 512)) (c.as_slice-2.ensures ∙ bits_are) ∙ ap (rank (bit (drop 4 text))) count in
+    let asks_run = asks_behind {result = Ok c.in_ok-run.run'} asks (run_asks h2 h e2 c.first_run_sector.result first c.count_bits-marked.result marked first_is marked_is c.in_ok-run.ensures.asked) in
+    let h3 = (g.D.Disk.state c.read_log_run.new.disk).held in
+    let e3 : g.D.Disk.tells ≡ true → h3 ≡ h = λ tells. c.read_log_run.ensures.held tells ∙ e2 tells in
+    let asks_all = asks_behind {result = Ok c.in_ok-bins.bins} asks_run (bins_asks h3 h e3 c.as_slice-3.result.now (drop 4 text) (c.logged.inside.size / 512) (logged.size / 512) (c.as_slice-3.ensures ∙ bits_are) count c.in_ok-bins.ensures.asked) in
+    asks_in_whole asks_all (asked_log h opened) (λ tells. bins_asked h opened logged (c.in_ok-logged.ensures.block tells) same text (t tells))
