@@ -4,3 +4,8 @@ pub mod Four
 pub mod Restored
 pub mod Kept
 pub mod Rest
+pub mod CallLemmas
+pub mod WriteCalls
+pub mod StageCalls
+pub mod RecoveryCalls
+pub mod LogSectors

@@ -1,4 +1,5 @@
 pub mod Alone
+pub mod Calls
 pub mod Fitting
 pub mod Growing
 pub mod Stages

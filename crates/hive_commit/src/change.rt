@@ -6,8 +6,10 @@ ghost use Rattle.hive_model.specs.Carries.{Carries, HasLog};
 ghost use Rattle.hive_model.specs.Log.{log_of, logged_bits};
 ghost use Rattle.nt_edge.specs.Host.{Rises};
 ghost use Rattle.nt_edge.specs.Disk.{CountsGrow, HasCause, IsOnUnlessLost};
+ghost use Rattle.nt_edge.specs.Calls.{MakesUntil};
 ghost use Rattle.nt_edge.specs.Crash.{EachCrash};
 ghost use Rattle.hive_commit.specs.Alone.{KeepsRest};
+ghost use Rattle.hive_commit.specs.Calls.{change_calls};
 ghost use Rattle.hive_commit.specs.Stages.{next_number, opened_of, closed_of, IsBeforeOrAfter};
 ghost use Rattle.hive_commit.specs.Stops.{HasCommitCause, IsOnAfterCommit};
 
@@ -32,6 +34,8 @@ pub fn commit<D: Disk>(
     requires still { D.tells ≡ true → (D.state disk.old).flight ≡ [] }
     requires carries { D.tells ≡ true → Carries (D.state disk.old).held base.now old.now }
     requires sized { is_bins_size (length new.now) ≡ true }
+    // It makes these calls and no other; after a refusal a front of them.
+    ensures made { MakesUntil (D.calls disk.old) (D.calls disk.new) (change_calls base.now old.now new.now root) result }
     // At Ok the answer is the base block from before with the next number twice, the new size and the new
     // root, and the disk carries it with the new bins data.
     ensures answered { IfOk result (λ b. b ≡ closed_of base.now new.now root) }
@@ -68,6 +72,7 @@ fn change<D: Disk>(
     requires still { D.tells ≡ true → (D.state disk.old).flight ≡ [] }
     requires carries { D.tells ≡ true → Carries (D.state disk.old).held base.now old.now }
     requires sized { is_bins_size (length new.now) ≡ true }
+    ensures made { MakesUntil (D.calls disk.old) (D.calls disk.new) (change_calls base.now old.now new.now root) result }
     ensures answered { IfOk result (λ b. b ≡ closed_of base.now new.now root) }
     ensures still { D.tells ≡ true → OnOk result ((D.state disk.new).flight ≡ []) }
     ensures carries { D.tells ≡ true → OnOk result (Carries (D.state disk.new).held (closed_of base.now new.now root) new.now) }

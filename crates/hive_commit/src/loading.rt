@@ -8,7 +8,9 @@ ghost use Rattle.hive_model.specs.Carries.{Carries, IsRecoveredAs};
 ghost use Rattle.nt_edge.specs.Host.{Rises};
 ghost use Rattle.nt_edge.specs.Disk.{CountsGrow};
 ghost use Rattle.nt_edge.specs.Crash.{EachCrash};
+ghost use Rattle.hive_log.specs.Asked.{asked_of, MakesReads, IsAsked};
 ghost use Rattle.hive_log.specs.Stops.{Reads, HasLoadCause, IsOnAfterLoad};
+ghost use Rattle.hive_commit.specs.Calls.{recovery_calls, MakesAll};
 ghost use Rattle.hive_commit.specs.Alone.{KeepsLog, KeepsRest, KeepsClean};
 ghost use Rattle.hive_commit.specs.Untouched.{IsUntouched, IsUnwritten};
 
@@ -22,6 +24,9 @@ use std::alloc::Global;
 pub fn look<D: Disk>(alloc: Global, disk: &mut D) -> Result<Recovered, LoadStop>
     requires on { (D.state disk.old).on ≡ true }
     requires still { D.tells ≡ true → (D.state disk.old).flight ≡ [] }
+    // No call is made but reads: of the sectors that recovery asks for, each once, in its order.
+    ensures asked { MakesReads (D.calls disk.old) (D.calls disk.new)
+        (λ sectors. D.tells ≡ true → IsAsked (asked_of (D.state disk.old).held) result sectors) }
     ensures exact { D.tells ≡ true → Reads result (recovered_of (D.state disk.old).held) }
     ensures held { D.tells ≡ true → (D.state disk.new).held ≡ (D.state disk.old).held }
     ensures flight { D.tells ≡ true → (D.state disk.new).flight ≡ (D.state disk.old).flight }
@@ -44,6 +49,8 @@ pub fn look<D: Disk>(alloc: Global, disk: &mut D) -> Result<Recovered, LoadStop>
 pub fn recover<D: Disk>(alloc: Global, disk: &mut D) -> Result<Recovered, LoadStop>
     requires on { (D.state disk.old).on ≡ true }
     requires still { D.tells ≡ true → (D.state disk.old).flight ≡ [] }
+    // It reads as a look does, and then writes each sector that the log gave, a sync, the base block, a sync.
+    ensures made { D.tells ≡ true → MakesAll (D.calls disk.old) (D.calls disk.new) (recovery_calls (D.state disk.old).held) result }
     ensures exact { D.tells ≡ true → Reads result (recovered_of (D.state disk.old).held) }
     ensures still { D.tells ≡ true → OnOk result ((D.state disk.new).flight ≡ []) }
     ensures carries { D.tells ≡ true → IfOk result (λ r. Carries (D.state disk.new).held r.base r.bins) }

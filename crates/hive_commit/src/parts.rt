@@ -1,6 +1,6 @@
 //! The steps of the stages: writes that stay in flight, and the sync that settles them.
 
-ghost use Rattle.std.specs.Prelude.{◌≡◌, ◌<◌, ◌≤◌, ◌+◌, ◌*◌, ◌/◌, true, Bool, ℕ, List, Some, [], length, OnOk};
+ghost use Rattle.std.specs.Prelude.{◌≡◌, ◌<◌, ◌≤◌, ◌+◌, ◌*◌, ◌/◌, true, Bool, ℕ, List, Some, [], ◌∷◌, length, OnOk};
 ghost use Rattle.hive_model.specs.Base.{base_text};
 ghost use Rattle.hive_model.specs.Image as book;
 ghost use Rattle.hive_model.specs.Image.{put};
@@ -8,9 +8,11 @@ ghost use Rattle.hive_model.specs.Recovery.{bit, sector, rank, first_dirty};
 ghost use Rattle.hive_model.specs.Recovery as recovery;
 ghost use Rattle.hive_model.specs.Log.{bitmap_text};
 ghost use Rattle.nt_edge.specs.Disk.{DiskState, CountsGrow, HasCause, IsOnUnlessLost, now_of};
+ghost use Rattle.nt_edge.specs.Calls.{Wrote, Synced, Makes, MakesUntil, writes_of};
 ghost use Rattle.nt_edge.specs.Crash.{EachCrash, AgreeOutside, Writing};
+ghost use Rattle.hive_commit.specs.Calls.{bins_writes};
 ghost use Rattle.hive_commit.specs.Stages.{in_log, is_marked};
-ghost use Rattle.hive_commit.specs.Growing.{HasFront, HasMarkedBelow};
+ghost use Rattle.hive_commit.specs.Growing.{HasFront, HasMarkedBelow, log_part};
 
 use hive_log::{bitmap_sector, bitmap_sectors, copy_sector, has_bit, logged_block};
 use nt_edge::{Address, Disk, DiskStop, HiveFile};
@@ -19,6 +21,7 @@ use regf_base::{BaseBlock, base_bytes};
 /// Writes a sector, and leaves it in flight.
 pub fn put_sector<D: Disk>(disk: &mut D, at: Address, bytes: &[u8; 512]) -> Result<(), DiskStop>
     requires on { (D.state disk.old).on ≡ true }
+    ensures made { Makes (D.calls disk.old) (D.calls disk.new) (Wrote (at, bytes.now) ∷ []) }
     ensures writing { D.tells ≡ true → (p : book.Address → Bool) (first : DiskState) → p at ≡ true
         → Writing p first (D.state disk.old) → Writing p first (D.state disk.new) }
     ensures put { D.tells ≡ true → OnOk result (now_of (D.state disk.new) ≡ put (now_of (D.state disk.old)) (at, bytes.now)) }
@@ -33,6 +36,7 @@ pub fn put_sector<D: Disk>(disk: &mut D, at: Address, bytes: &[u8; 512]) -> Resu
 /// Syncs. A cut then leaves what it may have left before, or all that was in flight.
 pub fn settle<D: Disk>(disk: &mut D) -> Result<(), DiskStop>
     requires on { (D.state disk.old).on ≡ true }
+    ensures made { Makes (D.calls disk.old) (D.calls disk.new) (Synced ∷ []) }
     ensures crash { D.tells ≡ true → (p : book.Address → Bool) (first : DiskState)
         → Writing p first (D.state disk.old) → EachCrash (D.state disk.new) (AgreeOutside p first.held) }
     ensures still { D.tells ≡ true → OnOk result ((D.state disk.new).flight ≡ []) }
@@ -48,6 +52,10 @@ pub fn settle<D: Disk>(disk: &mut D) -> Result<(), DiskStop>
 /// The log's base block.
 pub fn write_log_block<D: Disk>(disk: &mut D, base: &BaseBlock) -> Result<(), DiskStop>
     requires on { (D.state disk.old).on ≡ true }
+    // A base block takes one sector.
+    ensures long { length (base_text (record base.now { kind = 1 })) ≡ 512 }
+    ensures made { (log : List ℕ) → sector log 0 ≡ base_text (record base.now { kind = 1 })
+        → MakesUntil (D.calls disk.old) (D.calls disk.new) (writes_of (log_part log 0 1)) result }
     ensures writing { D.tells ≡ true → (first : DiskState) → Writing in_log first (D.state disk.old) → Writing in_log first (D.state disk.new) }
     ensures front { D.tells ≡ true → OnOk result ((log : List ℕ) → sector log 0 ≡ base_text (record base.now { kind = 1 })
         → HasFront (now_of (D.state disk.new)) log 1) }
@@ -70,6 +78,9 @@ pub fn write_log_bitmap<D: Disk>(disk: &mut D, bitmap: &[u8], size: usize) -> Re
     requires on { (D.state disk.old).on ≡ true }
     requires few { size ≤ 16777216 }
     requires bits { size / 4096 ≤ length bitmap.now }
+    ensures made { (log : List ℕ)
+        → ((k : ℕ) → k < recovery.bitmap_sectors size → sector log (1 + k) ≡ sector (bitmap_text (bit bitmap.now) size) k)
+        → MakesUntil (D.calls disk.old) (D.calls disk.new) (writes_of (log_part log 1 (recovery.bitmap_sectors size))) result }
     ensures writing { D.tells ≡ true → (first : DiskState) → Writing in_log first (D.state disk.old) → Writing in_log first (D.state disk.new) }
     ensures front { D.tells ≡ true → OnOk result ((log : List ℕ)
         → ((k : ℕ) → k < recovery.bitmap_sectors size → sector log (1 + k) ≡ sector (bitmap_text (bit bitmap.now) size) k)
@@ -96,6 +107,10 @@ pub fn write_log_run<D: Disk>(disk: &mut D, bitmap: &[u8], new: &[u8]) -> Result
     requires on { (D.state disk.old).on ≡ true }
     requires whole { 512 * (length new.now / 512) ≡ length new.now }
     requires few { length new.now ≤ 16777216 }
+    ensures made { (log : List ℕ)
+        → ((i : ℕ) → 512 * i < length new.now → bit bitmap.now i ≡ true → sector log (first_dirty (length new.now) + rank (bit bitmap.now) i) ≡ sector new.now i)
+        → MakesUntil (D.calls disk.old) (D.calls disk.new)
+        (writes_of (log_part log (first_dirty (length new.now)) (rank (bit bitmap.now) (length new.now / 512)))) result }
     ensures writing { D.tells ≡ true → (first : DiskState) → Writing in_log first (D.state disk.old) → Writing in_log first (D.state disk.new) }
     ensures front { D.tells ≡ true → OnOk result ((log : List ℕ)
         → ((i : ℕ) → 512 * i < length new.now → bit bitmap.now i ≡ true → sector log (first_dirty (length new.now) + rank (bit bitmap.now) i) ≡ sector new.now i)
@@ -128,6 +143,7 @@ pub fn write_marked<D: Disk>(disk: &mut D, bitmap: &[u8], new: &[u8]) -> Result<
     requires on { (D.state disk.old).on ≡ true }
     requires whole { 512 * (length new.now / 512) ≡ length new.now }
     requires few { length new.now ≤ 16777216 }
+    ensures made { MakesUntil (D.calls disk.old) (D.calls disk.new) (writes_of (bins_writes (bit bitmap.now) new.now)) result }
     ensures writing { D.tells ≡ true → (first : DiskState) → Writing (is_marked (length new.now) (bit bitmap.now)) first (D.state disk.old)
         → Writing (is_marked (length new.now) (bit bitmap.now)) first (D.state disk.new) }
     ensures written { D.tells ≡ true → OnOk result (HasMarkedBelow (now_of (D.state disk.new)) (bit bitmap.now) new.now (length new.now / 512)) }

@@ -2,11 +2,14 @@
 
 ghost use Rattle.std.specs.Prelude.{◌≡◌, ◌≤◌, ◌*◌, ◌/◌, [], true, length, OnOk};
 ghost use Rattle.hive_model.specs.Image.{Image};
+ghost use Rattle.hive_model.specs.Recovery.{bit};
 ghost use Rattle.hive_model.specs.Carries.{Carries, IsRecoveredAs};
 ghost use Rattle.nt_edge.specs.Disk.{CountsGrow, HasCause, IsOnUnlessLost};
+ghost use Rattle.nt_edge.specs.Calls.{MakesUntil};
 ghost use Rattle.nt_edge.specs.Crash.{EachCrash};
 ghost use Rattle.hive_log.specs.Found.{Found};
 ghost use Rattle.hive_commit.specs.Alone.{KeepsLog, KeepsRest};
+ghost use Rattle.hive_commit.specs.Calls.{closing_calls};
 
 use crate::fitting::{numbers_fit, texts_fit};
 use crate::stages::{write_bins, write_block};
@@ -26,6 +29,7 @@ pub(crate) fn restore<D: Disk>(
     requires found { D.tells ≡ true → Found (D.state disk.old).held closed.now bitmap.now bins.now }
     requires whole { 512 * (length bins.now / 512) ≡ length bins.now }
     requires few { length bins.now ≤ 16777216 }
+    ensures made { MakesUntil (D.calls disk.old) (D.calls disk.new) (closing_calls closed.now (bit bitmap.now) bins.now) result }
     ensures still { D.tells ≡ true → OnOk result ((D.state disk.new).flight ≡ []) }
     ensures carries { D.tells ≡ true → OnOk result (Carries (D.state disk.new).held closed.now bins.now) }
     ensures crash { D.tells ≡ true → EachCrash (D.state disk.new) (λ (c : Image). IsRecoveredAs c closed.now bins.now) }

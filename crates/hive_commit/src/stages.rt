@@ -1,13 +1,15 @@
 //! The stages of a commit. Each ends with a sync, and says what a cut at its end may leave.
 
-ghost use Rattle.std.specs.Prelude.{◌≡◌, ◌<◌, ◌≤◌, ◌+◌, ◌*◌, ◌/◌, true, ℕ, Some, [], length, OnOk};
+ghost use Rattle.std.specs.Prelude.{◌≡◌, ◌<◌, ◌≤◌, ◌+◌, ◌*◌, ◌/◌, true, ℕ, Some, [], ◌∷◌, ◌++◌, length, OnOk};
 ghost use Rattle.hive_model.specs.Base.{IsBase, base_text};
 ghost use Rattle.hive_model.specs.Image.{Bytes};
 ghost use Rattle.hive_model.specs.Recovery.{primary_in, bit};
 ghost use Rattle.hive_model.specs.Carries.{HasLog};
 ghost use Rattle.hive_model.specs.Log.{log_of};
 ghost use Rattle.nt_edge.specs.Disk.{CountsGrow, HasCause, IsOnUnlessLost};
+ghost use Rattle.nt_edge.specs.Calls.{Synced, MakesUntil, writes_of};
 ghost use Rattle.nt_edge.specs.Crash.{EachCrash, AgreeOutside};
+ghost use Rattle.hive_commit.specs.Calls.{log_writes, bins_writes, block_calls};
 ghost use Rattle.hive_commit.specs.Stages.{in_log, is_base, is_marked, BlockIsBeforeOr, HasMarked};
 
 use crate::parts::{settle, write_log_bitmap, write_log_block, write_log_run, write_marked};
@@ -27,6 +29,8 @@ pub(crate) fn write_log<D: Disk>(
     requires few { length new.now ≤ 16777216 }
     requires bits { length new.now / 4096 ≤ length bitmap.now }
     requires fits { D.tells ≡ true → IsBase (record base.now { kind = 1 }) }
+    ensures made { MakesUntil (D.calls disk.old) (D.calls disk.new)
+        (writes_of (log_writes (log_of (bit bitmap.now) new.now base.now)) ++ Synced ∷ []) result }
     // Whatever a cut leaves has the primary as it was.
     ensures crash { D.tells ≡ true → EachCrash (D.state disk.new) (AgreeOutside in_log (D.state disk.old).held) }
     ensures still { D.tells ≡ true → OnOk result ((D.state disk.new).flight ≡ []) }
@@ -46,6 +50,7 @@ pub(crate) fn write_log<D: Disk>(
 pub(crate) fn write_block<D: Disk>(disk: &mut D, base: &BaseBlock) -> Result<(), DiskStop>
     requires on { (D.state disk.old).on ≡ true }
     requires still { D.tells ≡ true → (D.state disk.old).flight ≡ [] }
+    ensures made { MakesUntil (D.calls disk.old) (D.calls disk.new) (block_calls base.now) result }
     // Whatever a cut leaves has the old base block or this one, and all else as it was.
     ensures crash { D.tells ≡ true → EachCrash (D.state disk.new) (AgreeOutside is_base (D.state disk.old).held) }
     ensures block { D.tells ≡ true → EachCrash (D.state disk.new) (BlockIsBeforeOr (D.state disk.old).held base.now) }
@@ -72,6 +77,8 @@ pub(crate) fn write_bins<D: Disk>(disk: &mut D, bitmap: &[u8], new: &[u8]) -> Re
     requires still { D.tells ≡ true → (D.state disk.old).flight ≡ [] }
     requires whole { 512 * (length new.now / 512) ≡ length new.now }
     requires few { length new.now ≤ 16777216 }
+    ensures made { MakesUntil (D.calls disk.old) (D.calls disk.new)
+        (writes_of (bins_writes (bit bitmap.now) new.now) ++ Synced ∷ []) result }
     // Whatever a cut leaves has all else as it was.
     ensures crash { D.tells ≡ true → EachCrash (D.state disk.new) (AgreeOutside (is_marked (length new.now) (bit bitmap.now)) (D.state disk.old).held) }
     ensures still { D.tells ≡ true → OnOk result ((D.state disk.new).flight ≡ []) }

@@ -1,14 +1,103 @@
-use Rattle.std.proofs.Common.{length, sym, ◌∙◌, ap, subst, arith, rules, inl, inr, Some}
+use Rattle.std.proofs.Common.{length, refl, sym, ◌∙◌, ap, subst, arith, rules, inl, inr, Some}
 use Rattle.hive_model.specs.Base.{Base, IsBase, base_text}
 use Rattle.hive_model.specs.Image.{Bytes}
 use Rattle.hive_model.specs.Recovery.{bit}
 use Rattle.hive_model.specs.Carries.{HasLog}
 use Rattle.hive_model.specs.Log.{logged_bits}
 use Rattle.hive_log.proofs.Appending.{sized, all_on, logged_on, log_same}
+use Rattle.hive_commit.specs.Calls.{change_calls}
 use Rattle.hive_commit.specs.Stages.{closed_of, opened_of}
 use Rattle.hive_commit.proofs.Four.{asked, held_left, along_log, along_block, logged_fits, in_log_stage, opened_stage, bins_stage, closed_stage, closed_carries, closed_logged}
+use Rattle.hive_commit.proofs.CallLemmas.{stopped}
+use Rattle.hive_commit.proofs.StageCalls as calls
 use Rattle.hive_commit.proofs.Rest.{rest_log, rest_base, rest_marked, rest_then}
 use Rattle.hive_commit.proofs.change.change.Goals as goal
+
+pub returns-in_err-write_log-clause-made : goal.returns-in_err-write_log-clause-made
+returns-in_err-write_log-clause-made g c =
+    let base = c.args.base.now in
+    let old = c.args.old.now in
+    let new = c.args.new.now in
+    let root = c.args.root in
+    let bitmap = c.mark_all.new.into in
+    let closed = c.closed_block-closed.result in
+    let closed_is = c.closed_block-closed.ensures in
+    let start = g.D.Disk.calls c.args.disk.now in
+    let one = g.D.Disk.calls c.write_log.new.disk in
+    stopped start one c.from_residual.result (change_calls base old new root) c.from_residual.ensures.0
+    (calls.in_log_stage base old new root bitmap (opened_of base) closed refl closed_is c.requires.sized c.mark_all.ensures start one c.in_err-write_log.ensures.made)
+
+pub returns-in_err-write_block-clause-made : goal.returns-in_err-write_block-clause-made
+returns-in_err-write_block-clause-made g c =
+    let base = c.args.base.now in
+    let old = c.args.old.now in
+    let new = c.args.new.now in
+    let root = c.args.root in
+    let bitmap = c.mark_all.new.into in
+    let closed = c.closed_block-closed.result in
+    let closed_is = c.closed_block-closed.ensures in
+    let opened = c.opened_block.result in
+    let opened_is = c.opened_block.ensures in
+    let start = g.D.Disk.calls c.args.disk.now in
+    let one = g.D.Disk.calls c.write_log.new.disk in
+    let two = g.D.Disk.calls c.write_block.new.disk in
+    stopped start two c.from_residual-in_err-write_block.result (change_calls base old new root) c.from_residual-in_err-write_block.ensures.0
+    (calls.in_opened_stage base old new root bitmap opened closed opened_is closed_is c.requires.sized c.mark_all.ensures start one two c.in_ok-write_log.ensures.made c.in_err-write_block.ensures.made)
+
+pub returns-in_err-write_bins-clause-made : goal.returns-in_err-write_bins-clause-made
+returns-in_err-write_bins-clause-made g c =
+    let base = c.args.base.now in
+    let old = c.args.old.now in
+    let new = c.args.new.now in
+    let root = c.args.root in
+    let bitmap = c.mark_all.new.into in
+    let closed = c.closed_block-closed.result in
+    let closed_is = c.closed_block-closed.ensures in
+    let opened = c.opened_block.result in
+    let opened_is = c.opened_block.ensures in
+    let start = g.D.Disk.calls c.args.disk.now in
+    let one = g.D.Disk.calls c.write_log.new.disk in
+    let two = g.D.Disk.calls c.write_block.new.disk in
+    let three = g.D.Disk.calls c.write_bins.new.disk in
+    stopped start three c.from_residual-in_err-write_bins.result (change_calls base old new root) c.from_residual-in_err-write_bins.ensures.0
+    (calls.in_bins_stage base old new root bitmap opened closed opened_is closed_is c.requires.sized c.mark_all.ensures start one two c.in_ok-write_log.ensures.made three c.in_ok-write_block.ensures.made c.in_err-write_bins.ensures.made)
+
+pub returns-in_err-write_block-2-clause-made : goal.returns-in_err-write_block-2-clause-made
+returns-in_err-write_block-2-clause-made g c =
+    let base = c.args.base.now in
+    let old = c.args.old.now in
+    let new = c.args.new.now in
+    let root = c.args.root in
+    let bitmap = c.mark_all.new.into in
+    let closed = c.closed_block-closed.result in
+    let closed_is = c.closed_block-closed.ensures in
+    let opened = c.opened_block.result in
+    let opened_is = c.opened_block.ensures in
+    let start = g.D.Disk.calls c.args.disk.now in
+    let one = g.D.Disk.calls c.write_log.new.disk in
+    let two = g.D.Disk.calls c.write_block.new.disk in
+    let three = g.D.Disk.calls c.write_bins.new.disk in
+    let last = g.D.Disk.calls c.write_block-2.new.disk in
+    stopped start last c.from_residual-in_err-write_block-2.result (change_calls base old new root) c.from_residual-in_err-write_block-2.ensures.0
+    (calls.in_closed_stage base old new root bitmap opened closed opened_is closed_is c.requires.sized c.mark_all.ensures start one two c.in_ok-write_log.ensures.made three c.in_ok-write_block.ensures.made last c.in_ok-write_bins.ensures.made c.in_err-write_block-2.ensures.made)
+
+pub returns-clause-made : goal.returns-clause-made
+returns-clause-made g c =
+    let base = c.args.base.now in
+    let old = c.args.old.now in
+    let new = c.args.new.now in
+    let root = c.args.root in
+    let bitmap = c.mark_all.new.into in
+    let closed = c.closed_block-closed.result in
+    let closed_is = c.closed_block-closed.ensures in
+    let opened = c.opened_block.result in
+    let opened_is = c.opened_block.ensures in
+    let start = g.D.Disk.calls c.args.disk.now in
+    let one = g.D.Disk.calls c.write_log.new.disk in
+    let two = g.D.Disk.calls c.write_block.new.disk in
+    let three = g.D.Disk.calls c.write_bins.new.disk in
+    let last = g.D.Disk.calls c.write_block-2.new.disk in
+    calls.change_made base old new root bitmap opened closed opened_is closed_is c.requires.sized c.mark_all.ensures start one two c.in_ok-write_log.ensures.made three c.in_ok-write_block.ensures.made last c.in_ok-write_bins.ensures.made c.in_ok-write_block-2.ensures.made
 
 pub write_log-requires-clause-fits : goal.write_log-requires-clause-fits
 write_log-requires-clause-fits g c = λ tells.

@@ -1,9 +1,34 @@
-use Rattle.std.proofs.Common.{◌∙◌, arith, rules, length}
+use Rattle.std.proofs.Common.{◌≡◌, ◌+◌, ◌/◌, false, ◌∙◌, arith, rules, length}
 use Rattle.hive_model.specs.Recovery.{bit}
 use Rattle.nt_edge.specs.Disk.{now_of}
 use Rattle.hive_commit.specs.Stages.{is_marked}
-use Rattle.hive_commit.proofs.Growth.{marked_more, marked_at}
+use Rattle.hive_commit.proofs.Growth.{marked_more, marked_skip, marked_at}
+use Rattle.hive_commit.proofs.WriteCalls.{marked_stopped}
+use Rattle.hive_commit.proofs.WriteCalls as calls
 use Rattle.hive_commit.proofs.parts.write_marked.Goals as goal
+
+pub returns-in_err-put_sector-clause-made : goal.returns-in_err-put_sector-clause-made
+returns-in_err-put_sector-clause-made g c =
+    let bits = bit c.args.bitmap.now in
+    let new = c.args.new.now in
+    let i = c.loop-i.i in
+    let first = g.D.Disk.calls c.args.disk.now in
+    let after = g.D.Disk.calls c.put_sector.new.disk in
+    let more = calls.marked_more bits new first (g.D.Disk.calls c.loop-i.disk) i c.loop-i.invariant.made after c.copy_sector.new.into (search rules) c.copy_sector.ensures c.put_sector.ensures.made in
+    marked_stopped bits new first after (i + 1) more c.from_residual.result (length new / 512) c.from_residual.ensures.0 (omega arith)
+
+pub loop-i-preserved-then-not-has_bit : goal.loop-i-preserved-then-not-has_bit
+loop-i-preserved-then-not-has_bit g c =
+    let bits = bit c.args.bitmap.now in
+    let off : bits c.loop-i.i ≡ false = search rules in
+    record {
+      on = c.loop-i.invariant.on;
+      writing = c.loop-i.invariant.writing;
+      made = calls.marked_skip bits c.args.new.now (g.D.Disk.calls c.args.disk.now) (g.D.Disk.calls c.loop-i.disk) c.loop-i.i c.loop-i.invariant.made off;
+      written = λ tells. marked_skip (now_of (g.D.Disk.state c.loop-i.disk)) bits c.args.new.now c.loop-i.i (c.loop-i.invariant.written tells) off;
+      history = c.loop-i.invariant.history;
+      counts = c.loop-i.invariant.counts;
+    }
 
 pub returns-in_err-put_sector-clause-writing : goal.returns-in_err-put_sector-clause-writing
 returns-in_err-put_sector-clause-writing g c = λ tells first so_far.
@@ -18,6 +43,7 @@ loop-i-preserved g c =
     record {
       on = grind arith;
       writing = λ tells first so_far. c.put_sector.ensures.writing tells (is_marked (length c.args.new.now) bits) first (marked_at (length c.args.new.now) bits c.loop-i.i (omega arith) (search rules)) (c.loop-i.invariant.writing tells first so_far);
+      made = calls.marked_more bits c.args.new.now (g.D.Disk.calls c.args.disk.now) (g.D.Disk.calls c.loop-i.disk) c.loop-i.i c.loop-i.invariant.made (g.D.Disk.calls c.put_sector.new.disk) c.copy_sector.new.into (search rules) c.copy_sector.ensures c.put_sector.ensures.made;
       written = λ tells. marked_more (now_of s) (now_of t) bits c.args.new.now c.copy_sector.new.into c.loop-i.i (c.loop-i.invariant.written tells) c.copy_sector.ensures (c.in_ok-put_sector.ensures.put tells);
       history = c.put_sector.ensures.history ∙ c.loop-i.invariant.history;
       counts = grind arith;

@@ -1,10 +1,41 @@
-use Rattle.std.proofs.Common.{refl, ◌∙◌, length}
+use Rattle.std.proofs.Common.{◌++◌, ◌∷◌, refl, ◌∙◌, length}
 use Rattle.hive_model.specs.Recovery.{bit}
+use Rattle.nt_edge.specs.Calls.{Synced, writes_of}
+use Rattle.hive_commit.specs.Calls.{bins_writes, block_calls}
 use Rattle.hive_commit.specs.Growing.{log_at}
+use Rattle.hive_commit.proofs.CallLemmas.{stopped}
+use Rattle.hive_commit.proofs.StageCalls.{in_closing_bins, in_closing_block, closing_made}
 use Rattle.hive_commit.proofs.Four.{held_left}
 use Rattle.hive_commit.proofs.Restored.{kept_in_bins, kept_in_block, closed_again}
 use Rattle.hive_commit.proofs.Rest.{rest_base, rest_marked, rest_then}
 use Rattle.hive_commit.proofs.restoring.restore.Goals as goal
+
+pub returns-in_err-write_bins-clause-made : goal.returns-in_err-write_bins-clause-made
+returns-in_err-write_bins-clause-made g c =
+    let bins = writes_of (bins_writes (bit c.args.bitmap.now) c.args.bins.now) in
+    let block = block_calls c.args.closed.now in
+    let start = g.D.Disk.calls c.args.disk.now in
+    let one = g.D.Disk.calls c.write_bins.new.disk in
+    stopped start one c.from_residual.result (bins ++ Synced ∷ block) c.from_residual.ensures.0 (in_closing_bins bins block start one c.in_err-write_bins.ensures.made)
+
+pub returns-in_err-write_block-clause-made : goal.returns-in_err-write_block-clause-made
+returns-in_err-write_block-clause-made g c =
+    let bins = writes_of (bins_writes (bit c.args.bitmap.now) c.args.bins.now) in
+    let block = block_calls c.args.closed.now in
+    let start = g.D.Disk.calls c.args.disk.now in
+    let one = g.D.Disk.calls c.write_bins.new.disk in
+    let two = g.D.Disk.calls c.write_block.new.disk in
+    stopped start two c.from_residual-in_err-write_block.result (bins ++ Synced ∷ block) c.from_residual-in_err-write_block.ensures.0
+    (in_closing_block bins block start one two c.in_ok-write_bins.ensures.made c.in_err-write_block.ensures.made)
+
+pub returns-clause-made : goal.returns-clause-made
+returns-clause-made g c =
+    let bins = writes_of (bins_writes (bit c.args.bitmap.now) c.args.bins.now) in
+    let block = block_calls c.args.closed.now in
+    let start = g.D.Disk.calls c.args.disk.now in
+    let one = g.D.Disk.calls c.write_bins.new.disk in
+    let two = g.D.Disk.calls c.write_block.new.disk in
+    closing_made bins block start one two c.in_ok-write_bins.ensures.made c.in_ok-write_block.ensures.made
 
 pub returns-in_err-write_bins-clause-crash : goal.returns-in_err-write_bins-clause-crash
 returns-in_err-write_bins-clause-crash g c = λ tells left crash.

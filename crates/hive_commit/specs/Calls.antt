@@ -1,0 +1,59 @@
+-- Which calls of the disk does a change make, and a recovery, and in which order? (This project's own.)
+use Rattle.std.specs.Prelude.{◌/◌, Bool, ℕ, List, [], ◌∷◌, ◌++◌, length, drop, map, filter, if◌then◌else◌, Result, Ok, Err}
+use Rattle.std.specs.List.{range_with_len}
+use Rattle.nt_bytes.specs.declared.fault.HiveFault.{HiveFault}
+use Rattle.hive_model.specs.Base.{Base, base_text}
+use Rattle.hive_model.specs.Image.{Image, Write}
+use Rattle.hive_model.specs.Recovery.{Recovered, log_in, sector, bit, bitmap_in, recovered_of}
+use Rattle.hive_model.specs.Log.{log_of, logged_bits}
+use Rattle.nt_edge.specs.Calls.{Made, Wrote, Synced, Makes, MakesFront, reads_of, writes_of}
+use Rattle.hive_log.specs.Asked.{asked_of}
+use Rattle.hive_log.specs.declared.stops.LoadStop.{LoadStop}
+use Rattle.hive_log.specs.declared.stops.LoadStop.TheVariants as load
+use Rattle.hive_commit.specs.Growing.{log_at, primary_at, bin_at}
+use Rattle.hive_commit.specs.Stages.{opened_of, closed_of}
+
+-- a log of so many sectors, from the first one on
+abbrev pub log_writes : List ℕ → List Write
+log_writes log = map (λ n. (log_at n, sector log n)) (range_with_len 0 (length log / 512))
+
+-- the bins sectors whose bit is on, in rising order
+abbrev pub bins_writes : (ℕ → Bool) → List ℕ → List Write
+bins_writes bits bins = map (λ i. (bin_at i, sector bins i)) (filter bits (range_with_len 0 (length bins / 512)))
+
+-- the primary's base block, and a sync
+abbrev pub block_calls : Base → List Made
+block_calls base = Wrote (primary_at 0, base_text base) ∷ Synced ∷ []
+
+-- what closes a change and a recovery: the bins sectors, a sync, the base block, a sync
+abbrev pub closing_calls : Base → (ℕ → Bool) → List ℕ → List Made
+closing_calls closed bits bins = writes_of (bins_writes bits bins) ++ Synced ∷ block_calls closed
+
+-- a change: the log, a sync, the base block opened, a sync, and what closes it
+abbrev pub change_calls : Base → List ℕ → List ℕ → ℕ → List Made
+change_calls base old new root =
+    let closed = closed_of base new root in
+    let bits = logged_bits old new in
+    writes_of (log_writes (log_of bits new closed)) ++ Synced ∷ block_calls (opened_of base) ++ closing_calls closed bits new
+
+-- with the bits that the log has behind their signature
+abbrev pub restoring_by : Recovered → Result (List ℕ) HiveFault → List Made
+restoring_by found (Ok text) = closing_calls found.base (bit (drop 4 text)) found.bins
+restoring_by found (Err fault) = []
+
+-- what a recovery writes: nothing where the primary is clean or there is a fault
+abbrev pub restoring_as : Image → Result Recovered HiveFault → List Made
+restoring_as image (Ok found) = if found.dirty then restoring_by found (bitmap_in (log_in image) found.base.size) else []
+restoring_as image (Err fault) = []
+
+-- a recovery of an image: it reads what it asks for, and then writes what was found
+abbrev pub recovery_calls : Image → List Made
+recovery_calls image = reads_of (asked_of image) ++ restoring_as image (recovered_of image)
+
+-- these calls were made; where the disk or the memory stopped them, a front
+abbrev pub MakesAll : {T : Type 0} → (List Made → Type 0) → (List Made → Type 0) → List Made → Result T LoadStop → Type 0
+MakesAll before after calls (Ok x) = Makes before after calls
+MakesAll before after calls (Err (load.Fault f)) = Makes before after calls
+MakesAll before after calls (Err load.PowerLost) = MakesFront before after calls
+MakesAll before after calls (Err load.Device) = MakesFront before after calls
+MakesAll before after calls (Err load.Memory) = MakesFront before after calls
