@@ -71,7 +71,7 @@ below_or_here : (j i : ℕ) → j < suc i → (j < i) ⊎ (j ≡ i)
 below_or_here j i below = grind arith
 
 -- a bit that is on below i counts there
-rank_below : (bits : ℕ → Bool) (i j : ℕ) → j < i → bits j ≡ true → rank bits j < rank bits i
+pub rank_below : (bits : ℕ → Bool) (i j : ℕ) → j < i → bits j ≡ true → rank bits j < rank bits i
 rank_below bits zero j below on = absurd (omega arith)
 rank_below bits (suc i) j below on = ⊎_elim
     (λ less. omega (arith, rank_below bits i j less on))

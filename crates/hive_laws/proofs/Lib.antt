@@ -1,5 +1,8 @@
 pub mod Alike
 pub mod Found
+pub mod OneByOne
+pub mod Asked
+pub mod AskedOnce
 pub mod Driver
 pub mod Faults
 pub mod Deep

@@ -49,7 +49,8 @@ pub use loads::{
 };
 pub use logs::{a_commit_logs_every_sector, a_log_of_longer_data, a_log_of_one_sector};
 pub use looking::{
-    a_clean_hive_needs_no_log, recovery_looks_nowhere_else, seven_sectors_are_left_alone,
+    a_clean_hive_needs_no_log, recovery_asks_for_each_sector_once, recovery_asks_where_it_looks,
+    recovery_looks_nowhere_else, sectors_that_recovery_asks_for, seven_sectors_are_left_alone,
     what_recovery_looks_at_is_there,
 };
 pub use names::{names_are_stored, names_fold, strings_are_read};

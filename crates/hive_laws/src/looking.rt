@@ -1,11 +1,15 @@
-//! Where recovery looks, and that nothing else counts.
+//! Where recovery looks, that nothing else counts, and which sectors it asks for.
 
-ghost use Rattle.std.specs.Prelude.{◌≡◌, ◌<◌, ℕ, List, IsSome, Ok};
+ghost use Rattle.std.specs.Prelude.{◌≡◌, ◌<◌, ℕ, List, [], ◌∷◌, false, IsSome, Ok, AllPairs, Contains};
 ghost use Rattle.hive_model.specs.Base.{Base};
-ghost use Rattle.hive_model.specs.Image.{Image, Address, Log, with_file};
+ghost use Rattle.hive_model.specs.Image.{Image, Address, Log, image_of, same_address, with_file};
 ghost use Rattle.hive_model.specs.Carries.{HasBase};
+ghost use Rattle.hive_model.specs.Log.{dirty, log_of};
 ghost use Rattle.hive_model.specs.Recovery.{Recovered, recovered_of};
+ghost use Rattle.hive_log.specs.Asked.{asked_of};
 ghost use Rattle.hive_laws.specs.Looking.{LooksAt, in_primary, in_log};
+ghost use Rattle.hive_laws.specs.OneDriver.{driver_with};
+ghost use Rattle.hive_laws.specs.Samples.{block, before, after, file_of};
 
 /// Images that agree at each sector at which recovery of the first looks recover alike: as the same base
 /// block and bins data, or with the same fault.
@@ -28,4 +32,27 @@ pub fn a_clean_hive_needs_no_log()
     ensures unread { (image : Image) (base : Base) (n : ℕ) → HasBase image base → base.first ≡ base.second → LooksAt image (in_log n) → ⊥ }
     ensures any { (image : Image) (base : Base) (log : List ℕ) → HasBase image base → base.first ≡ base.second
         → recovered_of (with_file Log log image) ≡ recovered_of image }
+{}
+
+/// Recovery asks for just the sectors that it looks at,
+pub fn recovery_asks_where_it_looks()
+    ensures only { (image : Image) (at : Address) → Contains (asked_of image) at → LooksAt image at }
+    ensures each { (image : Image) (at : Address) → LooksAt image at → Contains (asked_of image) at }
+{}
+
+/// and for each of them once.
+pub fn recovery_asks_for_each_sector_once()
+    ensures { (image : Image) → AllPairs (λ a b. same_address a b ≡ false) (asked_of image) }
+{}
+
+/// What recovery asks for, in its order: of the clean hive of one driver, of no files, and of a hive with the
+/// numbers 6 and 5 without a log, and with one that has its sector 1.
+pub fn sectors_that_recovery_asks_for()
+    ensures clean { asked_of (driver_with []) ≡ in_primary 0 ∷ in_primary 8 ∷ in_primary 9 ∷ in_primary 10 ∷ in_primary 11
+        ∷ in_primary 12 ∷ in_primary 13 ∷ in_primary 14 ∷ in_primary 15 ∷ [] }
+    ensures no_primary { asked_of (image_of [] []) ≡ in_primary 0 ∷ [] }
+    ensures no_log { asked_of (image_of (file_of 6 5 before) []) ≡ in_primary 0 ∷ in_log 0 ∷ [] }
+    ensures logged { asked_of (image_of (file_of 6 5 before) (log_of (dirty before after) after (block 6 6 0)))
+        ≡ in_primary 0 ∷ in_log 0 ∷ in_log 1 ∷ in_log 2 ∷ in_primary 8 ∷ in_primary 10 ∷ in_primary 11
+        ∷ in_primary 12 ∷ in_primary 13 ∷ in_primary 14 ∷ in_primary 15 ∷ [] }
 {}
