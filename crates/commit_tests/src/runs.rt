@@ -26,6 +26,7 @@ pub fn start<B: Bench>(bench: &mut B, file: &[u8]) -> Result<(), DiskStop>
     requires few { length file.now ≤ 33554432 }
     ensures on { OnOk result ((B.state bench.new).on ≡ true) }
     ensures still { OnOk result ((B.state bench.new).flight ≡ []) }
+    ensures uncut { (B.state bench.new).history.cut_calls ≡ (B.state bench.old).history.cut_calls }
 {
     bench.place(HiveFile::Primary, file)?;
     bench.power_on()
@@ -37,6 +38,7 @@ pub fn give<B: Bench>(bench: &mut B, order: Order) -> Result<(), DiskStop>
     ensures held { (B.state bench.new).held ≡ (B.state bench.old).held }
     ensures flight { (B.state bench.new).flight ≡ (B.state bench.old).flight }
     ensures on { (B.state bench.new).on ≡ (B.state bench.old).on }
+    ensures uncut { (B.state bench.new).history.cut_calls ≡ (B.state bench.old).history.cut_calls }
 {
     match order.keep {
         Some(keep) => bench.arm_cut(order.call, order.n, keep),
@@ -45,7 +47,9 @@ pub fn give<B: Bench>(bench: &mut B, order: Order) -> Result<(), DiskStop>
 }
 
 /// Turns the disk off, if it is on, and on again, and looks at what it then stands for.
-pub fn restart<B: Bench>(alloc: Global, bench: &mut B) -> Result<Recovered, LoadStop> {
+pub fn restart<B: Bench>(alloc: Global, bench: &mut B) -> Result<Recovered, LoadStop>
+    ensures uncut { (B.state bench.new).history.cut_calls ≡ (B.state bench.old).history.cut_calls }
+{
     bench.power_off();
     bench.power_on()?;
     look(alloc, bench)
@@ -59,6 +63,7 @@ pub fn recover_with<B: Bench>(
     order: Order,
 ) -> Result<(Option<LoadStop>, Recovered), LoadStop>
     requires { 1 ≤ order.n }
+    ensures uncut { (B.state bench.new).history.cut_calls ≡ (B.state bench.old).history.cut_calls }
 {
     bench.power_off();
     bench.power_on()?;
@@ -68,7 +73,8 @@ pub fn recover_with<B: Bench>(
     Ok((stop, after))
 }
 
-/// Commits the new bins data over those that the disk stands for, with a stop ordered.
+/// Commits the new bins data over those that the disk stands for, with a stop ordered. No cut is made: one
+/// comes by the order alone.
 fn change<B: Bench>(
     alloc: Global,
     bench: &mut B,
@@ -79,6 +85,7 @@ fn change<B: Bench>(
     requires still { (B.state bench.old).flight ≡ [] }
     requires sized { is_bins_size (length new.now) ≡ true }
     requires from_one { 1 ≤ order.n }
+    ensures uncut { (B.state bench.new).history.cut_calls ≡ (B.state bench.old).history.cut_calls }
 {
     let found = recover(alloc, bench)?;
     give(bench, order)?;
@@ -100,6 +107,7 @@ pub fn play<B: Bench>(
     requires few { length whole.now.file ≤ 33554432 }
     requires sized { is_bins_size (length whole.now.new) ≡ true }
     requires from_one { 1 ≤ order.n }
+    ensures uncut { (B.state bench.new).history.cut_calls ≡ (B.state bench.old).history.cut_calls }
 {
     start(bench, whole.file.as_slice())?;
     let answer = change(alloc, bench, whole.new.as_slice(), order)?;

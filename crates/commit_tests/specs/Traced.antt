@@ -1,0 +1,36 @@
+-- What does a disk that keeps its calls say of them? They are those that it kept, in order.
+-- (This project's own.)
+use Rattle.std.specs.Prelude.{◌≡◌, ◌++◌, true, List, map}
+use Rattle.nt_edge.specs.Calls.{Made, ReadAt, Wrote, Synced}
+use Rattle.nt_edge.specs.Disk.{DiskState, IsBounded}
+use Rattle.mem_edge.specs.State.{state_of}
+use Rattle.mem_edge.specs.Laws as memory
+use Rattle.commit_tests.specs.declared.traced.Call.{Call}
+use Rattle.commit_tests.specs.declared.traced.Call.TheVariants.{Read, Write, Sync}
+use Rattle.commit_tests.specs.declared.traced.Traced.{Traced}
+
+-- a call that was kept
+abbrev pub made_of : Call → Made
+made_of (Read at) = ReadAt at
+made_of (Write at bytes) = Wrote (at, bytes)
+made_of Sync = Synced
+
+-- the calls that were kept, the first one first
+abbrev pub calls_of : Traced → List Made
+calls_of traced = map made_of traced.calls.items
+
+-- its state is that of the disk behind it
+abbrev pub traced_state : Traced → DiskState
+traced_state traced = state_of traced.disk
+
+-- the calls are those that it kept, if memory sufficed for all of them
+abbrev pub kept_calls : Traced → List Made → Type 0
+kept_calls traced made = traced.whole ≡ true → made ≡ calls_of traced
+
+-- these calls were kept behind those from before, if memory sufficed for all of them
+abbrev pub KeepsMore : Traced → Traced → List Made → Type 0
+KeepsMore old new calls = new.whole ≡ true → calls_of new ≡ calls_of old ++ calls
+
+-- no count is past its end
+pub bounded_law : (traced : Traced) → IsBounded (traced_state traced)
+bounded_law traced = memory.bounded_law traced.disk
