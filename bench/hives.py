@@ -141,22 +141,23 @@ def layout(key, at):
     return cells, at
 
 
-def system(services):
-    """A SYSTEM hive of one control set with these services, in ten groups with twenty tags each."""
-    groups = [f"G{i}" for i in range(10)]
-    tags = struct.pack("<I", 20) + b"".join(struct.pack("<I", 20 - i) for i in range(20))
+def system(services, groups=10, tags=20):
+    """A SYSTEM hive of one control set with these services, in so many groups with so many tags each, the greatest tag first."""
+    names = [f"G{i}" for i in range(groups)]
+    listed = struct.pack("<I", tags) + b"".join(struct.pack("<I", tags - i) for i in range(tags))
     control = (b"Control", [], [
-        (b"ServiceGroupOrder", [strings(b"List", groups)], []),
-        (b"GroupOrderList", [(g.encode(), 3, tags) for g in groups], []),
+        (b"ServiceGroupOrder", [strings(b"List", names)], []),
+        (b"GroupOrderList", [(name.encode(), 3, listed) for name in names], []),
     ])
     select = (b"Select", [dword(b"Current", 1), dword(b"Default", 1), dword(b"Failed", 0), dword(b"LastKnownGood", 0)], [])
     one = (b"ControlSet001", [], [control, (b"Services", [], services)])
     return hive(layout((b"SYSTEM", [], [one, select]), 32)[0])
 
 
-def service(i, start, group, needs):
+def service(i, start, group, needs, tag=None):
     group_value = (b"Group", 1, f"G{group}\0".encode("utf-16-le"))
-    values = [dword(b"Type", 1), dword(b"Start", start), dword(b"ErrorControl", 1), group_value, dword(b"Tag", 1 + i % 20)]
+    tag_value = dword(b"Tag", 1 + i % 20 if tag is None else tag)
+    values = [dword(b"Type", 1), dword(b"Start", start), dword(b"ErrorControl", 1), group_value, tag_value]
     if needs:
         values.append(strings(b"DependOnService", needs))
     return (b"S%06d" % i, values, [])
@@ -171,3 +172,19 @@ def with_services(count):
 def with_chained_services(count):
     """Boot drivers of one group and tag of which each needs the next one in the registry, so that the last is the first to be ready."""
     return system([service(20 * i, 0, 0, [f"S{20 * (i + 1):06d}"] if i + 1 < count else []) for i in range(count)])
+
+
+def with_pulled_services(count):
+    """Services of which one half pulls in the other: each of Start 2 names one of Start 3, which goes before it."""
+    half = count // 2
+    return system([service(i, 3, 0, []) for i in range(half)] + [service(half + i, 2, 0, [f"S{i:06d}"]) for i in range(half)])
+
+
+def with_grouped_services(count):
+    """Boot drivers each in a group of its own, the groups in the order of the registry turned round."""
+    return system([service(i, 0, count - 1 - i, []) for i in range(count)], groups=count)
+
+
+def with_tagged_services(count):
+    """Boot drivers of one group, each with a tag of its own."""
+    return system([service(i, 0, 0, [], 1 + i) for i in range(count)], groups=1, tags=count)
