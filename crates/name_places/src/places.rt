@@ -5,7 +5,7 @@ ghost use Rattle.nt_bytes.specs.Folding.{folds_same};
 ghost use Rattle.name_places.specs.Places.{places_named};
 
 use crate::order::{in_order, named_part};
-use nt_bytes::Names;
+use nt_bytes::{Names, Units};
 use std::alloc::{AllocError, Global};
 use std::marker::Model;
 
@@ -34,6 +34,13 @@ impl NamePlaces {
     {
         let order = in_order(alloc, names.as_slice())?;
         Ok(NamePlaces { names, order })
+    }
+
+    /// The names, as they stand in the list.
+    pub fn as_slice(&self) -> &[Units]
+        ensures { result.now ≡ self.now }
+    {
+        self.names.as_slice()
     }
 
     /// The places of the names that fold as this one does, rising. Takes no memory.
