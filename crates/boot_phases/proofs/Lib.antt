@@ -1,6 +1,6 @@
 pub mod ListLemmas
-pub mod NameLemmas
 pub mod PlaceLemmas
 pub mod PlanLemmas
 pub mod RankLemmas
 pub mod RisingLemmas
+pub mod TriedLemmas

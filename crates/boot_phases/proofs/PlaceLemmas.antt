@@ -2,12 +2,10 @@
 use Rattle.std.proofs.Common.{◌≡◌, ℕ, zero, suc, ◌+◌, ◌<◌, ◌≤◌, Bool, true, false, cond, List, [], ◌∷◌, length, get_or, refl, sym, ap, ◌∙◌, subst, arith}
 use Rattle.std.specs.Prelude.{count_by, sum_by, AllPairs}
 use Rattle.std.specs.List.{AllByRecursion}
-use Rattle.std.specs.Ordering.{is_eq, is_lt}
-use Rattle.std.proofs.lemmas.Bool.{false≢true}
+use Rattle.std.specs.Ordering.{is_eq}
 use Rattle.std.proofs.lemmas.List.Elements.{All-from_recursion}
 use Rattle.std.proofs.lemmas.List.Sums.{sum_by-cons}
-use Rattle.start_model.specs.Order.{Rank}
-use Rattle.start_model.specs.Order.{rank_order, is_before, placed, ordered_of}
+use Rattle.start_model.specs.Order.{Rank, rank_order, is_before, placed, ordered_of}
 use Rattle.boot_phases.proofs.RankLemmas.{rank_weak, InOrder, in_order_ordered, one, count, count_ordered, one_self, tie, same_rank, Equal-from_is_eq}
 
 -- each sum over a list is that over the ordered list

@@ -11,8 +11,7 @@ use Rattle.std.proofs.lemmas.Bool.{false≢true}
 use Rattle.std.proofs.lemmas.Cmp.{nat_cmp_total, on_total, then_total, tied_itself, ranked}
 use Rattle.std.proofs.lemmas.List.Sorted.{ranks_by, sorted_far, sum_by-IsPermutation}
 use Rattle.std.proofs.lemmas.List.Sums.{sum_by-cons}
-use Rattle.start_model.specs.Order.{Rank}
-use Rattle.start_model.specs.Order.{rank_order, is_before, placed, ordered_of}
+use Rattle.start_model.specs.Order.{Rank, rank_order, is_before, placed, ordered_of}
 
 rank_total : IsTotalOrder rank_order
 rank_total = then_total (on_total (λ (r : Rank). r.group) nat_cmp_total) (then_total (on_total (λ (r : Rank). r.tag) nat_cmp_total) (on_total (λ (r : Rank). r.place) nat_cmp_total))

@@ -1,6 +1,6 @@
 //! The entries of a phase, each before the next.
 
-ghost use Rattle.std.specs.Prelude.{◌≡◌, slice_get, map, List, IfOk};
+ghost use Rattle.std.specs.Prelude.{◌≡◌, slice_get, IfOk};
 ghost use Rattle.std.specs.List.{filter_map};
 ghost use Rattle.hive_model.specs.Valid.{HoldsKeys};
 ghost use Rattle.start_model.specs.Order.{plan_of};

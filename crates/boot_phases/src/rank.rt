@@ -1,15 +1,13 @@
 //! Where an entry stands in its phase.
 
-ghost use Rattle.std.specs.Prelude.{◌≡◌, ℕ, ◌<◌, List, length, slice_index_or, count_by, AllPairs, IfOk, OnOk};
+ghost use Rattle.std.specs.Prelude.{◌≡◌, ℕ, ◌<◌, true, List, length, slice_get, slice_index_or, count_by, AllPairs, IfOk};
 ghost use Rattle.std.specs.List.{filter_map};
 ghost use Rattle.std.specs.Option.{option_map};
-ghost use Rattle.std.specs.Prelude.{slice_get, true};
 ghost use Rattle.std.specs.Ordering.{is_eq};
 ghost use Rattle.hive_model.specs.Tree.{Tree};
 ghost use Rattle.start_model.specs.Entries.{Phase as InBook};
 ghost use Rattle.start_model.specs.Order.{Rank, is_before, ordered_of, rank_of, rank_order, ranks_of};
 
-use dependencies::Places;
 use group_order::{Orders, rank};
 use service_entries::ServiceTable;
 use std::alloc::{AllocError, Global};

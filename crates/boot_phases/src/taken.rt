@@ -42,36 +42,25 @@ fn drivers(
 {
     let mut places = Places::new(alloc);
     for place in 0..table.len() {
-        let takes = is_driver_at(alloc, table, place as u32, start, tried)?;
-        if takes {
+        if is_driver_at(table, place as u32, start, tried) {
             places.push(place as u32)?;
         }
     }
     Ok(places)
 }
 
-fn is_driver_at(
-    alloc: Global,
-    table: &ServiceTable,
-    place: u32,
-    start: u32,
-    tried: &Tried,
-) -> Result<bool, AllocError>
-    ensures { IfOk result (λ b. b ≡ option_map_or (is_driver_of start tried.now) (slice_get table.now place) false) }
+fn is_driver_at(table: &ServiceTable, place: u32, start: u32, tried: &Tried) -> bool
+    ensures { result ≡ option_map_or (is_driver_of start tried.now) (slice_get table.now place) false }
 {
-    match table.get(place) {
-        Some(entry) => is_driver_of(alloc, entry, start, tried),
-        None => Ok(false),
-    }
+    table
+        .get(place)
+        .is_some_and(|entry| is_driver_of(entry, start, tried))
 }
 
-fn is_driver_of(alloc: Global, entry: &Entry, start: u32, tried: &Tried) -> Result<bool, AllocError>
-    ensures { IfOk result (λ b. b ≡ is_driver_of start tried.now entry.now) }
+fn is_driver_of(entry: &Entry, start: u32, tried: &Tried) -> bool
+    ensures { result ≡ is_driver_of start tried.now entry.now }
 {
-    if !is_driver(entry.kind) || entry.start != start {
-        return Ok(false);
-    }
-    Ok(!tried.has(alloc, entry)?)
+    is_driver(entry.kind) && entry.start == start && !tried.has(entry)
 }
 
 /// Whether this Type is that of a driver.
@@ -111,35 +100,23 @@ fn open_places(alloc: Global, table: &ServiceTable, tried: &Tried) -> Result<Pla
 {
     let mut places = Places::new(alloc);
     for place in 0..table.len() {
-        let open = is_open_at(alloc, table, place as u32, tried)?;
-        if open {
+        if is_open_at(table, place as u32, tried) {
             places.push(place as u32)?;
         }
     }
     Ok(places)
 }
 
-fn is_open_at(
-    alloc: Global,
-    table: &ServiceTable,
-    place: u32,
-    tried: &Tried,
-) -> Result<bool, AllocError>
-    ensures { IfOk result (λ b. b ≡ option_map_or (is_open tried.now) (slice_get table.now place) false) }
+fn is_open_at(table: &ServiceTable, place: u32, tried: &Tried) -> bool
+    ensures { result ≡ option_map_or (is_open tried.now) (slice_get table.now place) false }
 {
-    match table.get(place) {
-        Some(entry) => is_open(alloc, entry, tried),
-        None => Ok(false),
-    }
+    table.get(place).is_some_and(|entry| is_open(entry, tried))
 }
 
-fn is_open(alloc: Global, entry: &Entry, tried: &Tried) -> Result<bool, AllocError>
-    ensures { IfOk result (λ b. b ≡ is_open tried.now entry.now) }
+fn is_open(entry: &Entry, tried: &Tried) -> bool
+    ensures { result ≡ is_open tried.now entry.now }
 {
-    if !is_driver(entry.kind) && !is_service(entry.kind) {
-        return Ok(false);
-    }
-    Ok(!tried.has(alloc, entry)?)
+    (is_driver(entry.kind) || is_service(entry.kind)) && !tried.has(entry)
 }
 
 /// What the entries at these places need.

@@ -1,15 +1,17 @@
 -- Where what passes a test stands first: in a list that grows, in a mapped list, and in a map from tags to places.
-use Rattle.std.proofs.Common.{◌≡◌, ℕ, ◌+◌, ◌<◌, ◌≤◌, Bool, true, false, cond, not, eqb, ltb, nat_eq, List, [], ◌∷◌, ◌++◌, length, map, Option, Some, None, ◌⊎◌, inl, inr, ⊎_elim, refl, sym, ap, ◌∙◌, arith, length-take, length-append}
-use Rattle.std.specs.Prelude.{find, option_and_then, position, slice_get}
-use Rattle.std.specs.List.{position_or_len}
+use Rattle.std.proofs.Common.{◌≡◌, ℕ, ◌+◌, ◌<◌, ◌≤◌, Bool, true, false, cond, not, eqb, ltb, nat_eq, List, [], ◌∷◌, ◌++◌, length, map, take, get_or, Option, Some, None, ◌⊎◌, inl, inr, ⊎_elim, refl, sym, ap, ◌∙◌, arith, length-take, length-append}
+use Rattle.std.specs.Prelude.{◌↔◌, IsTrue, find, option_and_then, position, slice_get}
+use Rattle.std.specs.List.{list_any, position_or_len}
 use Rattle.std.specs.Option.{is_some, option_or}
 use Rattle.std.specs.Ordering.{nat_cmp}
 use Rattle.std.specs.BTreeMap.{BTreeMap, get, is_at}
-use Rattle.std.proofs.lemmas.Bool.{cases_lt, cases_eq, eq-eqb, ne_eqb, le-ltb, lt-ltb}
+use Rattle.std.proofs.lemmas.Bool.{both_ways, cases_Bool, cases_lt, cases_eq, eq-eqb, ne_eqb, le-ltb, lt-ltb}
 use Rattle.std.proofs.lemmas.Bool.Decides.{nat_tests}
-use Rattle.std.proofs.lemmas.List.{length-map}
+use Rattle.std.proofs.lemmas.List.{get_or-take, get_or_default, length-map}
 use Rattle.std.proofs.lemmas.Option.{slice_get_past}
-use Rattle.std.proofs.lemmas.List.Folds.{find_at, length-prefix_len, position_or_len_push}
+use Rattle.std.proofs.lemmas.List.Folds.{Any-from_list_any, find_at, list_any_at, length-prefix_len, position_or_len_push}
+use Rattle.std.proofs.lemmas.List.Quantifiers.{position-Some}
+use Rattle.std.proofs.lemmas.List.Sums.{position_or_len_is}
 use Rattle.group_order.specs.FirstPlaces.{HasFirstPlaces}
 
 -- a place, where it lies in a list of this length
@@ -33,6 +35,27 @@ position_push p xs y =
 first-map : {X Y : Type 0} (p : Y → Bool) (f : X → Y) (xs : List X) → position_or_len p (map f xs) ≡ position_or_len (λ x. p (f x)) xs
 first-map p f [] = refl
 first-map p f (x ∷ xs) = ap (λ n. cond (not (p (f x))) (1 + n) 0) (first-map p f xs)
+
+-- an element that passes is the first one where none before it does
+pub first_at : {X : Type 0} (p : X → Bool) (xs : List X) (i : ℕ) (d : X) (first : Bool) → i < length xs → p (get_or xs i d) ≡ true → (IsTrue first ↔ position p xs ≡ Some i) → first ≡ not (list_any p (take i xs))
+first_at {X} p xs i d first lt passes is = by_case (cases_Bool (list_any p (take i xs))) (cases_Bool first)
+  where
+    absent : list_any p (take i xs) ≡ false → (k : ℕ) → k < i → p (get_or xs k d) ≡ false
+    absent none k below = ⊎_elim
+        (λ h. absurd (both_ways _ none (list_any_at p (take i xs) k d (omega (arith, below, lt, length-take i xs)) (ap p (get_or-take i xs k d below) ∙ h))))
+        (λ h. h)
+        (cases_Bool (p (get_or xs k d)))
+
+    by_case : (list_any p (take i xs) ≡ true) ⊎ (list_any p (take i xs) ≡ false) → (first ≡ true) ⊎ (first ≡ false) → first ≡ not (list_any p (take i xs))
+    by_case (inl some) (inl foremost) =
+        let any = Any-from_list_any p (take i xs) some in
+        let below : any.0 < i = omega (arith, any.2, length-take i xs) in
+        let at : get_or xs any.0 d ≡ any.1 = sym (get_or-take i xs any.0 d below) ∙ get_or_default (take i xs) any.0 d any.1 any.2 ∙ any.3 in
+        absurd (both_ways (p (get_or xs any.0 d)) ((position-Some p xs i d (is.0 foremost)).2 any.0 below) (ap p at ∙ any.4))
+    by_case (inl some) (inr later) = later ∙ ap not (sym some)
+    by_case (inr none) one =
+        let place : position_or_len p xs ≡ i = position_or_len_is p xs i d (omega arith) (absent none) (λ _. passes) in
+        is.1 (ap (λ n. within n (length xs)) place ∙ ap (λ b. cond b (Some i) None) (lt-ltb i (length xs) lt)) ∙ ap not (sym none)
 
 -- a place in a mapped list is that in the list
 pub position-map : {X Y : Type 0} (p : Y → Bool) (f : X → Y) (xs : List X) → position p (map f xs) ≡ position (λ x. p (f x)) xs

@@ -1,4 +1,3 @@
 pub mod Few
 pub mod FirstPlaces
-pub mod Names
 pub mod Values

@@ -1,21 +1,20 @@
 //! The groups of `ServiceGroupOrder`, each with its tags of `GroupOrderList`.
 
-ghost use Rattle.std.specs.Prelude.{◌≡◌, ◌+◌, ◌*◌, ◌^◌, ◌<◌, ◌≤◌, [], ◌∷◌, codes, map, length, position, All, IfOk, IfSome};
+ghost use Rattle.std.specs.Prelude.{◌≡◌, ◌↔◌, ◌+◌, ◌*◌, ◌^◌, ◌<◌, ◌≤◌, [], ◌∷◌, codes, map, length, position, All, IfOk, IfSome, IsTrue, Some};
 ghost use Rattle.std.specs.List.{range_with_len};
 ghost use Rattle.std.specs.Option.{option_copied};
 ghost use Rattle.hive_model.specs.Tree.{find_key};
 ghost use Rattle.hive_model.specs.Valid.{HoldsKeys};
-ghost use Rattle.nt_bytes.specs.Folding.{folded, folds_same};
+ghost use Rattle.nt_bytes.specs.Folding.{folds_same};
 ghost use Rattle.start_model.specs.Order.{first_names, listed_groups, number_in, order_of, orders_of, tags_of};
 ghost use Rattle.group_order.specs.Few.{AreFew};
 
 use crate::lists::TagLists;
 use crate::tags::Tags;
 use name_places::NamePlaces;
-use nt_bytes::{Names, Units, fold, u32_at};
+use nt_bytes::{Names, Units, u32_at};
 use reg_tree::Key;
 use std::alloc::{AllocError, Global};
-use std::collections::HashSet;
 use std::marker::Model;
 
 const CONTROL: [u16; 7] = [0x43, 0x6f, 0x6e, 0x74, 0x72, 0x6f, 0x6c];
@@ -90,7 +89,7 @@ pub fn read_orders(alloc: Global, set: &Key) -> Result<Orders, AllocError>
     ensures { IfOk result (λ o. o ≡ orders_of set.now) }
 {
     let listed = listed_groups(alloc, set)?;
-    let groups = first_names(alloc, &listed)?;
+    let groups = first_names(alloc, listed)?;
     let lists = TagLists::new(alloc, below_control(set, &GROUP_ORDER_LIST))?;
     orders_among(alloc, groups, &lists)
 }
@@ -112,26 +111,25 @@ fn listed_groups(alloc: Global, set: &Key) -> Result<Names, AllocError>
     }
 }
 
-/// The names without those that fold as one before them.
-fn first_names(alloc: Global, names: &Names) -> Result<Names, AllocError>
-    ensures { IfOk result (λ n. n ≡ first_names names.now) }
+/// The names without those that fold as one before them. Takes n log n time.
+fn first_names(alloc: Global, names: Names) -> Result<Names, AllocError>
+    ensures { IfOk result (λ n. n ≡ first_names names) }
 {
-    let mut seen = HashSet::new(alloc);
+    let places = NamePlaces::new(alloc, names)?;
     let mut first = Names::new(alloc);
-    for name in names.as_slice() {
-        let is_new = seen.insert(folded(alloc, name.as_slice())?)?;
-        if is_new {
-            first.push(Units::from_slice(alloc, name.as_slice())?)?;
+    for (place, name) in places.as_slice().iter().enumerate() {
+        if is_first(&places, name.as_slice(), place) {
+            first.push(name.copy(alloc)?)?;
         }
     }
     Ok(first)
 }
 
-/// A name with each unit folded.
-fn folded(alloc: Global, name: &[u16]) -> Result<Vec<u16>, AllocError>
-    ensures { IfOk result (λ v. v.items ≡ folded name.now) }
+/// Whether this is the first place of a name that folds as this one does.
+fn is_first(places: &NamePlaces, name: &[u16], place: usize) -> bool
+    ensures { IsTrue result ↔ position (folds_same name.now) places.now ≡ Some place }
 {
-    name.iter().map(|u| fold(*u)).collect(alloc)
+    places.place_of(name) == Some(place)
 }
 
 /// The orders that these groups have in `GroupOrderList`.

@@ -33,14 +33,8 @@ fn place_of_group(orders: &Orders, group: Option<&Units>) -> usize
     ensures place { result ≡ group_place orders.now (option_copied group.entry) }
     ensures within { result ≤ length orders.now }
 {
-    let groups = orders.as_slice().len();
-    match group {
-        None => groups,
-        Some(name) => match orders.place_of(name.as_slice()) {
-            None => groups,
-            Some(at) => at,
-        },
-    }
+    let listed = group.and_then(|name| orders.place_of(name.as_slice()));
+    listed.unwrap_or(orders.as_slice().len())
 }
 
 fn place_of_tag(orders: &[GroupOrder], place: usize, tag: Option<u32>) -> usize
@@ -60,11 +54,5 @@ fn place_among(tags: &Tags, tag: Option<u32>) -> usize
     ensures place { result ≡ option_map_or (λ t. first_place (λ x. nat_eq x t) tags.now) tag (length tags.now) }
     ensures within { result ≤ length tags.now }
 {
-    match tag {
-        None => tags.len(),
-        Some(t) => match tags.place_of(t) {
-            None => tags.len(),
-            Some(at) => at,
-        },
-    }
+    tag.and_then(|t| tags.place_of(t)).unwrap_or(tags.len())
 }

@@ -13,6 +13,7 @@ use std::marker::Model;
 /// What the key of a service says.
 #[derive(Drop)]
 pub struct Entry {
+    /// The name of the key.
     pub name: Units,
     /// `Start`: 0 boot, 1 system, 2 automatic, 3 on demand, 4 disabled.
     pub start: u32,
@@ -20,7 +21,9 @@ pub struct Entry {
     pub kind: u32,
     /// `ErrorControl`: 0 ignore, 1 normal, 2 severe, 3 critical.
     pub control: u32,
+    /// `Group`: none where it is missing or empty.
     pub group: Option<Units>,
+    /// `Tag`, by which an order of tags names the entry within its group.
     pub tag: Option<u32>,
     /// `DependOnService`.
     pub services: Names,
@@ -60,7 +63,7 @@ const DEPEND_ON_GROUP: [u16; 13] = [
 ];
 
 /// The entry that a child of `Services` is, or none where `Start` or `Type` is no DWORD.
-pub fn read_entry(alloc: Global, key: &Key) -> Result<Option<Entry>, AllocError>
+pub(crate) fn read_entry(alloc: Global, key: &Key) -> Result<Option<Entry>, AllocError>
     ensures { IfOk result (λ e. e ≡ entry_of key.now) }
 {
     let Some(start) = key.dword(&START) else {
@@ -85,41 +88,33 @@ pub fn read_entry(alloc: Global, key: &Key) -> Result<Option<Entry>, AllocError>
 fn control(key: &Key) -> u32
     ensures { result ≡ control_in key.now }
 {
-    match key.dword(&ERROR_CONTROL) {
-        Some(control) => { if control <= 3 { control } else { 1 } }
-        None => 1,
-    }
+    key.dword(&ERROR_CONTROL)
+        .filter(|control| *control <= 3)
+        .unwrap_or(1)
 }
 
 /// The value of `Group`: none where it is missing or empty.
 fn group(alloc: Global, key: &Key) -> Result<Option<Units>, AllocError>
     ensures { IfOk result (λ g. g ≡ named_group (find_text (codes "Group") key.now)) }
 {
-    match key.text(alloc, &GROUP)? {
-        Some(name) => {
-            if name.len() == 0 {
-                Ok(None)
-            } else {
-                Ok(Some(name))
-            }
-        }
-        None => Ok(None),
-    }
+    let name = key.text(alloc, &GROUP)?;
+    Ok(name.filter(|name| !name.is_empty()))
 }
 
 impl Entry {
+    /// The same entry in memory of its own.
     pub fn copy(&self, alloc: Global) -> Result<Entry, AllocError>
         ensures { IfOk result (λ e. e ≡ self.now) }
     {
         Ok(Entry {
-            name: Units::from_slice(alloc, self.name.as_slice())?,
+            name: self.name.copy(alloc)?,
             start: self.start,
             kind: self.kind,
             control: self.control,
             group: copy_group(alloc, self.group.as_ref())?,
             tag: self.tag,
-            services: Names::from_slice(alloc, self.services.as_slice())?,
-            groups: Names::from_slice(alloc, self.groups.as_slice())?,
+            services: self.services.copy(alloc)?,
+            groups: self.groups.copy(alloc)?,
         })
     }
 }
@@ -128,7 +123,7 @@ fn copy_group(alloc: Global, group: Option<&Units>) -> Result<Option<Units>, All
     ensures { IfOk result (λ g. g ≡ option_copied group.entry) }
 {
     match group {
-        Some(name) => Ok(Some(Units::from_slice(alloc, name.as_slice())?)),
+        Some(name) => Ok(Some(name.copy(alloc)?)),
         None => Ok(None),
     }
 }

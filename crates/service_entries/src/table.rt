@@ -66,10 +66,7 @@ impl ServiceTable {
     pub fn place_of(&self, folded: &[u16]) -> Option<u32>
         ensures { result ≡ place_named folded.now self.now }
     {
-        match self.by_name.get_index_of(folded) {
-            Some(at) => Some(at as u32),
-            None => None,
-        }
+        self.by_name.get_index_of(folded).map(|at| at as u32)
     }
 
     /// How many entries there are.
@@ -102,10 +99,8 @@ pub fn entries(alloc: Global, set: &Key) -> Result<ServiceTable, AllocError>
 fn services(set: &Key) -> &[Key]
     ensures { result.now ≡ services_of set.now }
 {
-    match set.child(&SERVICES) {
-        Some(services) => services.subkeys(),
-        None => &[],
-    }
+    set.child(&SERVICES)
+        .map_or(&[], |services| services.subkeys())
 }
 
 fn entries_among(alloc: Global, keys: &[Key]) -> Result<ServiceTable, AllocError>

@@ -1,4 +1,4 @@
-use Rattle.std.proofs.Common.{ℕ, Option, sym, ap, ◌∙◌}
+use Rattle.std.proofs.Common.{Option, ap, ◌∙◌}
 use Rattle.std.specs.Prelude.{slice_get}
 use Rattle.start_model.specs.Entries.{Entry}
 use Rattle.start_model.specs.Order.{Rank}

@@ -1,4 +1,4 @@
-use Rattle.std.proofs.Common.{ℕ, Option, sym, ◌∙◌}
+use Rattle.std.proofs.Common.{ℕ, Option, ◌∙◌}
 use Rattle.std.specs.Prelude.{slice_get}
 use Rattle.std.specs.Option.{option_map}
 use Rattle.start_model.specs.Demand.{Need}

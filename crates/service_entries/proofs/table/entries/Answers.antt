@@ -1,4 +1,4 @@
-use Rattle.std.proofs.Common.{List, sym, subst, arith}
+use Rattle.std.proofs.Common.{List, sym, subst}
 use Rattle.hive_model.specs.Tree.{Tree}
 use Rattle.hive_model.specs.Valid.{KeysDiffer}
 use Rattle.start_model.proofs.HeldLemmas.{services_differ, services_few}

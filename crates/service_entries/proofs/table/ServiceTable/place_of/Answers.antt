@@ -1,14 +1,10 @@
-use Rattle.std.proofs.Common.{sym, ap, ◌∙◌}
+use Rattle.std.proofs.Common.{◌≡◌, ap, ◌∙◌, arith}
+use Rattle.std.proofs.lemmas.Grind.{common_steps}
 use Rattle.service_entries.specs.Named.{place_named}
 use Rattle.service_entries.proofs.TableLemmas.{place_of_key}
 use Rattle.service_entries.proofs.table.ServiceTable.place_of.Goals as goal
 
-pub returns-in-Some : goal.returns-in-Some
-returns-in-Some c =
-    sym c.in-Some.is ∙ c.get_index_of.ensures.index ∙ place_of_key c.self.inside.by_name.entries c.args.folded.now c.self.invariant
-    ∙ ap (place_named c.args.folded.now) c.self.view_is
-
-pub returns-in-None : goal.returns-in-None
-returns-in-None c =
-    sym c.in-None.is ∙ c.get_index_of.ensures.index ∙ place_of_key c.self.inside.by_name.entries c.args.folded.now c.self.invariant
-    ∙ ap (place_named c.args.folded.now) c.self.view_is
+pub returns : goal.returns
+returns c =
+    let same : c.map.result ≡ c.get_index_of.result = grind (arith, common_steps, c.map.ensures.cases, c.map.ensures.variant) in
+    same ∙ c.get_index_of.ensures.index ∙ place_of_key c.self.inside.by_name.entries c.args.folded.now c.self.invariant ∙ ap (place_named c.args.folded.now) c.self.view_is

@@ -1,4 +1,4 @@
-use Rattle.std.proofs.Common.{◌∙◌, ◌+◌, ◌<◌, ◌^◌, ap}
+use Rattle.std.proofs.Common.{◌∙◌, ap}
 use Rattle.nt_bytes.specs.Folding.{folded}
 use Rattle.start_model.specs.Entries.{Entry}
 use Rattle.service_entries.proofs.TableLemmas.{pushed, keyed_push, values_push, key_is, new_there}
