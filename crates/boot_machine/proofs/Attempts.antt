@@ -1,11 +1,11 @@
 -- An attempt of the first ready entry, in its parts.
-use Rattle.std.proofs.Common.{◌≡◌, ℕ, ◌==◌, Bool, true, false, not, List, Option, Some, Result, Ok, Err, subst, refl, ap, ◌∙◌}
+use Rattle.std.proofs.Common.{◌≡◌, ℕ, ◌==◌, Bool, List, Option, Some, Result, Ok, Err, subst, refl, ◌∙◌}
 use Rattle.std.specs.Prelude.{if◌then◌else◌, IfOk}
 use Rattle.start_model.specs.Entries.{Entry}
 use Rattle.start_model.specs.Judge.{Judgement, Ignore, judgement_of}
 use Rattle.start_model.specs.Machine.{MachineState, Start, failures_of, one_failure_less, attempt_in, attempt_of}
 use Rattle.boot_machine.specs.declared.tried.Tried as code
-use Rattle.boot_machine.specs.Steps.{AttemptsNext, noted}
+use Rattle.boot_machine.specs.Steps.{AttemptsNext}
 use Rattle.boot_machine.specs.Views.{tried_in}
 
 pub attempted : (m : MachineState) (s s2 : Start) (old fs : List (List ℕ × ℕ)) (usable : Bool) (e : Entry) (ok : Bool) (word : Judgement)

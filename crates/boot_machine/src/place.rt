@@ -4,7 +4,7 @@ ghost use Rattle.std.specs.Prelude.{◌≡◌, ◌<◌, map, length, position, I
 ghost use Rattle.start_model.specs.Ready.{is_ready, next_of};
 ghost use Rattle.start_model.specs.Entries.{need_of};
 
-use dependencies::{Started, groups_met, services_met};
+use dependencies::{Started, all_met};
 use service_entries::Entry;
 
 /// The place of the first waiting entry that is ready.
@@ -26,5 +26,5 @@ fn first_ready(waiting: &[Entry], started: &Started) -> Option<usize>
 fn is_ready(entry: &Entry, started: &Started) -> bool
     ensures { result ≡ is_ready started.now (need_of entry.now) }
 {
-    services_met(entry.services.as_slice(), started) && groups_met(entry.groups.as_slice(), started)
+    all_met(entry.services.as_slice(), entry.groups.as_slice(), started)
 }

@@ -11,7 +11,7 @@ use Rattle.std.proofs.lemmas.List.Elements.{filter_agree, filter-append}
 use Rattle.nt_bytes.specs.Folding.{folds_same}
 use Rattle.start_model.specs.Demand.{Need}
 use Rattle.start_model.specs.Demand.{starts_at, pulls, IsClosed, is_due, is_closed, member, all_sets, is_taken, pulled_of, automatic_of}
-use Rattle.dependencies.specs.Work.{IsLeast}
+use Rattle.dependencies.specs.Work.{IsLeast, is_asked}
 
 and_left : (a b : Bool) → (a && b) ≡ true → a ≡ true
 and_left true b h = refl
@@ -24,6 +24,16 @@ and_right false b h = absurd (false≢true h)
 and_both : (a b : Bool) → a ≡ true → b ≡ true → (a && b) ≡ true
 and_both true b g h = h
 and_both false b g h = absurd (false≢true g)
+
+and_flip : (a b : Bool) → (a && b) ≡ (b && a)
+and_flip true true = refl
+and_flip true false = refl
+and_flip false true = refl
+and_flip false false = refl
+
+and_true : (a : Bool) → (a && true) ≡ a
+and_true true = refl
+and_true false = refl
 
 or_split : (a b : Bool) → (a || b) ≡ true → (a ≡ true) ⊎ (b ≡ true)
 or_split true b h = inl refl
@@ -136,14 +146,13 @@ is_taken-least table taken is q =
     (λ m. all_true _ (all_sets (length table)) (λ s. then_true (is_closed table (member s)) (member s q)
     (λ c. is.least (member s) (passes_closed table (member s) c) q m)))
 
-pub pulled_of-least : (table : List Need) (taken : List Bool) → IsLeast table taken
-    → pulled_of table ≡ filter (λ q. starts_at table 3 q && member taken q) (range_with_len 0 (length table))
-pulled_of-least table taken is =
-    filter_agree _ _ (λ q. ap (λ b. starts_at table 3 q && b) (is_taken-least table taken is q)) (range_with_len 0 (length table))
-
-pub automatic_of-least : (table : List Need) (taken : List Bool) → IsLeast table taken
-    → automatic_of table ≡ filter (member taken) (range_with_len 0 (length table))
-automatic_of-least table taken is = filter_agree _ _ (is_taken-least table taken is) (range_with_len 0 (length table))
+-- the places that are asked for are those that demand start takes, or all
+pub asked_of-least : (table : List Need) (taken : List Bool) (on_demand : Bool) → IsLeast table taken
+    → cond on_demand (pulled_of table) (automatic_of table) ≡ filter (is_asked table taken on_demand) (range_with_len 0 (length table))
+asked_of-least table taken true is =
+    filter_agree _ _ (λ q. ap (λ b. starts_at table 3 q && b) (is_taken-least table taken is q) ∙ and_flip (starts_at table 3 q) (member taken q)) (range_with_len 0 (length table))
+asked_of-least table taken false is =
+    filter_agree _ _ (λ q. is_taken-least table taken is q ∙ sym (and_true (member taken q))) (range_with_len 0 (length table))
 
 range_suc : (a n : ℕ) → range_with_len a (suc n) ≡ range_with_len a n ++ (a + n) ∷ []
 range_suc a zero = ap (λ k. k ∷ []) (sym (add-zero a))

@@ -52,3 +52,7 @@ TakesNamed table names = TakesIn table (is_named table names)
 -- the entries at these places that have Start 3 are taken too
 abbrev pub TakesListed : List Need → List ℕ → List Bool → List ℕ → List Bool → List ℕ → Type 0
 TakesListed table places = TakesIn table (is_listed table places)
+
+-- the place is taken, and its entry has Start 3 where only what demand start takes is asked for
+abbrev pub is_asked : List Need → List Bool → Bool → ℕ → Bool
+is_asked table taken on_demand q = member taken q && (not on_demand || starts_at table 3 q)

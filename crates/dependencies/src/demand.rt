@@ -1,8 +1,8 @@
 //! Which entries of Start 3 the automatic phase takes.
 
-ghost use Rattle.std.specs.Prelude.{◌≡◌, ℕ, ◌-◌, ◌^◌, ◌<◌, Bool, true, List, [], ◌∷◌, ◌&&◌, not, length, IfOk, OnOk};
+ghost use Rattle.std.specs.Prelude.{◌≡◌, ℕ, ◌-◌, ◌^◌, ◌<◌, Bool, true, List, [], ◌∷◌, ◌&&◌, not, length, IfOk, OnOk, if◌then◌else◌};
 ghost use Rattle.start_model.specs.Demand.{Need, IsClosed, is_taken, automatic_of, pulled_of, starts_at, member};
-ghost use Rattle.dependencies.specs.Work.{IsLeast, IsWork, PullsIn, TakesNamed, TakesListed, names_of, given_at};
+ghost use Rattle.dependencies.specs.Work.{IsLeast, is_asked, IsWork, PullsIn, TakesNamed, TakesListed, names_of, given_at};
 
 use crate::need::{Need, Needs, Places};
 use name_places::NamePlaces;
@@ -17,7 +17,7 @@ pub fn automatic(alloc: Global, table: &Needs) -> Result<Places, AllocError>
 {
     let needs = table.as_slice();
     let taken = least_set(alloc, needs)?;
-    all_taken(alloc, needs, taken.as_slice())
+    places_of(alloc, needs, taken.as_slice(), false)
 }
 
 /// The places of the entries of Start 3 that the entries of Start 2 pull in, in rising order.
@@ -27,7 +27,7 @@ pub fn pulled(alloc: Global, table: &Needs) -> Result<Places, AllocError>
 {
     let needs = table.as_slice();
     let taken = least_set(alloc, needs)?;
-    all_pulled(alloc, needs, taken.as_slice())
+    places_of(alloc, needs, taken.as_slice(), true)
 }
 
 /// What is taken is the least of the closed sets of places.
@@ -36,50 +36,33 @@ pub fn taken_is_the_least_closed_set()
     ensures least { (table : List Need) (set : ℕ → Bool) → IsClosed table set → (q : ℕ) → q < length table → is_taken table q ≡ true → set q ≡ true }
 {}
 
-/// The places that are taken.
-fn all_taken(alloc: Global, needs: &[Need], taken: &[bool]) -> Result<Places, AllocError>
+/// The places that are taken, in rising order; of them only those of Start 3 where `on_demand`.
+fn places_of(
+    alloc: Global,
+    needs: &[Need],
+    taken: &[bool],
+    on_demand: bool,
+) -> Result<Places, AllocError>
     requires few { length needs.now < 2 ^ 32 }
     requires least { IsLeast needs.now taken.now }
-    ensures { IfOk result (λ places. places ≡ automatic_of needs.now) }
+    ensures { IfOk result (λ places. places ≡ (if on_demand then pulled_of needs.now else automatic_of needs.now)) }
 {
     let mut places = Places::new(alloc);
     for place in 0..needs.len() {
-        if is_in(taken, place) {
+        if is_asked(needs, taken, on_demand, place) {
             places.push(place as u32)?;
         }
     }
     Ok(places)
 }
 
-/// The places of the entries of Start 3 that are taken.
-fn all_pulled(alloc: Global, needs: &[Need], taken: &[bool]) -> Result<Places, AllocError>
-    requires few { length needs.now < 2 ^ 32 }
-    requires least { IsLeast needs.now taken.now }
-    ensures { IfOk result (λ places. places ≡ pulled_of needs.now) }
-{
-    let mut places = Places::new(alloc);
-    for place in 0..needs.len() {
-        if is_pulled(needs, taken, place) {
-            places.push(place as u32)?;
-        }
-    }
-    Ok(places)
-}
-
-fn is_in(taken: &[bool], place: usize) -> bool
-    requires { place < length taken.now }
-    ensures { result ≡ member taken.now place }
-{
-    taken[place]
-}
-
-/// Whether the entry at a place is taken and has Start 3.
-fn is_pulled(needs: &[Need], taken: &[bool], place: usize) -> bool
+/// Whether the entry at a place is taken, and has Start 3 where `on_demand`.
+fn is_asked(needs: &[Need], taken: &[bool], on_demand: bool, place: usize) -> bool
     requires place { place < length needs.now }
     requires len { length taken.now ≡ length needs.now }
-    ensures { result ≡ (starts_at needs.now 3 place && member taken.now place) }
+    ensures { result ≡ is_asked needs.now taken.now on_demand place }
 {
-    starts(needs, place, 3) && taken[place]
+    taken[place] && (!on_demand || starts(needs, place, 3))
 }
 
 /// Whether the entry at a place is not taken and has Start 3.

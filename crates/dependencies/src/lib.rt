@@ -9,7 +9,7 @@ mod started;
 
 pub use demand::{automatic, pulled, taken_is_the_least_closed_set};
 pub use need::{Need, Needs, Places};
-pub use next::{groups_met, next_ready, ready, services_met};
+pub use next::{all_met, groups_met, next_ready, ready, services_met};
 pub use started::Started;
 
 #[cfg(test)]

@@ -1,6 +1,6 @@
 //! Which entry may be attempted next.
 
-ghost use Rattle.std.specs.Prelude.{◌≡◌, ◌^◌, ◌<◌, length, position, IfSome};
+ghost use Rattle.std.specs.Prelude.{◌≡◌, ◌^◌, ◌<◌, ◌&&◌, length, position, IfSome};
 ghost use Rattle.std.specs.List.{list_all};
 ghost use Rattle.start_model.specs.Ready.{is_ready, next_of, has_name, has_group};
 
@@ -12,7 +12,14 @@ use nt_bytes::Units;
 pub fn ready(needs: &Need, started: &Started) -> bool
     ensures { result ≡ is_ready started.now needs.now }
 {
-    services_met(needs.services.as_slice(), started) && groups_met(needs.groups.as_slice(), started)
+    all_met(needs.services.as_slice(), needs.groups.as_slice(), started)
+}
+
+/// Whether each of these names was started, and each of these groups has a started member.
+pub fn all_met(services: &[Units], groups: &[Units], started: &Started) -> bool
+    ensures { result ≡ (list_all (has_name started.now) services.now && list_all (has_group started.now) groups.now) }
+{
+    services_met(services, started) && groups_met(groups, started)
 }
 
 /// Whether each of these names was started.

@@ -8,10 +8,11 @@ use nt_bytes::Units;
 use std::alloc::{AllocError, Global};
 use std::marker::Model;
 
-/// Who was started, the first one first: the folded name, and the folded group where there is one.
+/// Who was started, the first one first: the name, and the group where there is one.
 /// Beside them stand the names and the groups in their order, in which one is found without a scan.
 #[derive(Drop)]
 pub struct Started {
+    // For contracts alone: a ghost field holds no data, and the lists below lose the order and the pairs.
     entries: Vec<(Units, Option<Units>)>,
     names: Vec<Units>,
     groups: Vec<Units>,
