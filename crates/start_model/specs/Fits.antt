@@ -8,7 +8,7 @@ use Rattle.hive_model.specs.Edit.{renamed}
 use Rattle.hive_model.specs.State.{HiveState}
 use Rattle.hive_model.specs.Load.{Loads, LoadFault}
 use Rattle.start_model.specs.Lines as lines
-use Rattle.start_model.specs.Lines.{Line, StartLine, EntryLine, LoadLine, SetLine, CommitLine, SelectLine, PhaseLine, TryLine, UnmetLine, LogonLine, SaveRefusedLine, EditOkLine, FlushNothingLine, RefusedLine, VerdictLine, EndLine}
+use Rattle.start_model.specs.Lines.{Line, LoadLine, CommitLine, VerdictLine}
 use Rattle.start_model.specs.Sets.{set_of, select_numbers_of}
 use Rattle.start_model.specs.Run.{Possible, Woken, Outcome, Finished, PowerCut, DeviceFault, good_is_usable}
 

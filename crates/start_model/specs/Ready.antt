@@ -1,15 +1,15 @@
 -- Which entry is attempted next, and which are never attempted?
 --
 -- One whose services and groups were started before (Microsoft's documentation of service entries,
--- DependOnService and DependOnGroup). That a group without members is never met, and that the first
--- ready entry goes next, is this project's own.
+-- DependOnService and DependOnGroup). That a group is met from its first started member on, and without
+-- members never, and that the first ready entry goes next, is this project's own.
 use Rattle.std.specs.Prelude.{ℕ, Bool, false, ◌&&◌, List, map, Option, position}
 use Rattle.std.specs.Option.{option_map_or}
 use Rattle.std.specs.List.{list_any, list_all}
 use Rattle.nt_bytes.specs.Folding.{folds_same}
 use Rattle.start_model.specs.Demand.{Need}
 
--- an entry that was started: its folded name, and its folded group where it has one
+-- an entry that was started: its name, and its group where it has one; both are compared folded
 abbrev pub Label : Type 0
 Label = List ℕ × Option (List ℕ)
 

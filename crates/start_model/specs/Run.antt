@@ -9,7 +9,7 @@ use Rattle.hive_model.specs.Tree.{Tree, Trees, Item, Head, key, none, more, chil
 use Rattle.hive_model.specs.Edit.{Refusal, no_key, no_value, bad_name, exists, name_too_long, too_deep, data_too_long, full, edited}
 use Rattle.hive_model.specs.State.{HiveState}
 use Rattle.start_model.specs.Lines as lines
-use Rattle.start_model.specs.Lines.{Line, Verdict, RefusedWord, EventWord, CommitWord, PhaseWord, TryWord, StartLine, EntryLine, LoadLine, SetLine, CommitLine, SelectLine, PhaseLine, TryLine, UnmetLine, LogonLine, SaveRefusedLine, EditOkLine, FlushNothingLine, RefusedLine, VerdictLine, EndLine}
+use Rattle.start_model.specs.Lines.{Line, Verdict, RefusedWord, EventWord, CommitWord, TryWord, StartLine, EntryLine, LoadLine, SetLine, CommitLine, SelectLine, PhaseLine, TryLine, UnmetLine, LogonLine, SaveRefusedLine, EditOkLine, FlushNothingLine, RefusedLine, VerdictLine, EndLine}
 use Rattle.start_model.specs.Judge.{Judgement, Ignore, Log, FallBack, Stop}
 use Rattle.start_model.specs.Sets.{SelectNumbers, SetPlan, SetStop, NoControlSet, NoLastKnownGood, NoFreeNumber, select_numbers_of, usable_numbers_of, is_usable, set_of, begin_plan_of, save_plan_of, stepped}
 use Rattle.start_model.specs.Entries.{Phase, Boot, System, Automatic, Done}
