@@ -1,10 +1,10 @@
 -- A log as it grows, and logs of bits that agree.
-use Rattle.std.proofs.Common.{◌≡◌, ◌<◌, ◌≤◌, ◌+◌, ◌-◌, ◌*◌, ◌/◌, ◌%◌, ◌^◌, ◌==◌, ◌&&◌, ◌++◌, ◌∷◌, ℕ, zero, suc, Bool, true, false, cond, List, [], length, take, drop, get_or, replicate, refl, sym, ◌∙◌, ap, arith, add-one, append_assoc}
+use Rattle.std.proofs.Common.{◌≡◌, ◌<◌, ◌≤◌, ◌+◌, ◌-◌, ◌*◌, ◌/◌, ◌%◌, ◌^◌, ◌==◌, ◌&&◌, ◌++◌, ◌∷◌, ℕ, zero, suc, Bool, true, false, cond, List, [], length, take, get_or, replicate, refl, sym, ◌∙◌, ap, arith, add-one, append_assoc}
 use Rattle.std.specs.Prelude.{codes, nat_le}
 use Rattle.std.proofs.Math.Seq.{take-add}
 use Rattle.std.proofs.lemmas.Bool.{eqb-true, leb-true}
 use Rattle.hive_model.specs.Base.{Base, base_text, is_bins_size}
-use Rattle.hive_model.specs.Recovery.{sector, bit, one_if, bitmap_sectors}
+use Rattle.hive_model.specs.Recovery.{sector, bit, bitmap_sectors}
 use Rattle.hive_model.specs.Log.{byte_of, bytes_of_bits, bitmap_text, marked_sectors, log_of, logged_bits}
 
 pub take_sector : (text : List ℕ) (k : ℕ) → take (512 * (k + 1)) text ≡ take (512 * k) text ++ sector text k

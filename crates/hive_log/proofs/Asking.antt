@@ -9,10 +9,11 @@ use Rattle.nt_bytes.specs.declared.fault.HiveFault.{HiveFault}
 use Rattle.nt_edge.specs.Calls.{Made, ReadAt, reads_of, Makes}
 use Rattle.nt_edge.specs.declared.disk.DiskStop.{DiskStop}
 use Rattle.nt_edge.specs.declared.disk.DiskStop.TheVariants as disk
-use Rattle.hive_model.specs.Image.{Address, Image, File, Primary}
+use Rattle.hive_model.specs.Image.{Address, Image, File}
 use Rattle.hive_log.specs.declared.stops.LoadStop.TheVariants as load
 use Rattle.hive_log.specs.Stops.{load_stop_of}
 use Rattle.hive_log.specs.Asked.{run_at, unmarked_at, one_by_one, IsFront, IsAskedFirst, AsksFirst}
+use Rattle.hive_log.specs.Places.{bin_at}
 
 -- reads in turn
 pub reads_in_turn : (before between after : List Made → Type 0) (first second : List Address) → Makes before between (reads_of first) → Makes between after (reads_of second) → Makes before after (reads_of (first ++ second))
@@ -143,20 +144,17 @@ module _ (file : File) (first : ℕ) where
 
 -- the sectors whose bit is off
 module _ (bits : ℕ → Bool) where
-  abbrev of_bins : ℕ → Address
-  of_bins i = record { file = Primary; sector = 8 + i }
-
   abbrev unmarked_in : List ℕ → List Address
-  unmarked_in numbers = map of_bins (filter (λ i. not (bits i)) numbers)
+  unmarked_in numbers = map bin_at (filter (λ i. not (bits i)) numbers)
 
   -- number i in front of others, by its bit
   abbrev with_bit : Bool → ℕ → List ℕ → List Address
-  with_bit b i numbers = map of_bins (cond (not b) (i ∷ filter (λ i. not (bits i)) numbers) (filter (λ i. not (bits i)) numbers))
+  with_bit b i numbers = map bin_at (cond (not b) (i ∷ filter (λ i. not (bits i)) numbers) (filter (λ i. not (bits i)) numbers))
 
   unmarked-append : (xs ys : List ℕ) → unmarked_in (xs ++ ys) ≡ unmarked_in xs ++ unmarked_in ys
   unmarked-append xs ys =
-      ap (map of_bins) (filter-append (λ i. not (bits i)) xs ys)
-      ∙ map-append of_bins (filter (λ i. not (bits i)) xs) (filter (λ i. not (bits i)) ys)
+      ap (map bin_at) (filter-append (λ i. not (bits i)) xs ys)
+      ∙ map-append bin_at (filter (λ i. not (bits i)) xs) (filter (λ i. not (bits i)) ys)
 
   pub unmarked_rest : ℕ → ℕ → List Address
   unmarked_rest i count = unmarked_in (range_with_len (i + 1) (count - (i + 1)))
@@ -168,7 +166,7 @@ module _ (bits : ℕ → Bool) where
     split : unmarked_at bits count ≡ unmarked_at bits i ++ with_bit (bits i) i behind
     split = ap unmarked_in (range_at i count small) ∙ unmarked-append (range_with_len 0 i) (i ∷ behind)
 
-    pub unmarked_split : bits i ≡ false → unmarked_at bits count ≡ unmarked_at bits i ++ of_bins i ∷ unmarked_rest i count
+    pub unmarked_split : bits i ≡ false → unmarked_at bits count ≡ unmarked_at bits i ++ bin_at i ∷ unmarked_rest i count
     unfolding unmarked_rest
     unmarked_split off = split ∙ ap (λ b. unmarked_at bits i ++ with_bit b i behind) off
 
@@ -180,7 +178,7 @@ module _ (bits : ℕ → Bool) where
     next : unmarked_at bits (i + 1) ≡ unmarked_at bits i ++ with_bit (bits i) i []
     next = ap unmarked_in (range_more i) ∙ unmarked-append (range_with_len 0 i) (i ∷ [])
 
-    pub unmarked_more : bits i ≡ false → unmarked_at bits i ++ of_bins i ∷ [] ≡ unmarked_at bits (i + 1)
+    pub unmarked_more : bits i ≡ false → unmarked_at bits i ++ bin_at i ∷ [] ≡ unmarked_at bits (i + 1)
     unmarked_more off = sym (next ∙ ap (λ b. unmarked_at bits i ++ with_bit b i []) off)
 
     pub marked_more : bits i ≡ true → unmarked_at bits i ≡ unmarked_at bits (i + 1)

@@ -1,6 +1,5 @@
 -- Bits that are packed eight to a byte are read back.
-use Rattle.std.proofs.Common.{◌≡◌, ◌<◌, ◌≤◌, ◌+◌, ◌-◌, ◌*◌, ◌/◌, ◌%◌, ◌^◌, ◌==◌, ◌++◌, ◌∷◌, ℕ, zero, suc, Bool, true, false, List, [], length, get_or, take, drop, drop-cons, refl, sym, ◌∙◌, ap, arith, add-one, append_assoc}
-use Rattle.std.specs.Prelude.{slice_index}
+use Rattle.std.proofs.Common.{◌≡◌, ◌<◌, ◌≤◌, ◌+◌, ◌*◌, ◌/◌, ◌%◌, ◌^◌, ◌==◌, ◌++◌, ◌∷◌, ℕ, zero, suc, Bool, true, false, List, length, get_or, take, drop, drop-cons, refl, sym, ◌∙◌, ap, arith}
 use Rattle.std.proofs.lemmas.List.{get_or_append_left}
 use Rattle.hive_model.specs.Recovery.{one_if, bit}
 use Rattle.hive_model.specs.Log.{byte_of, bytes_of_bits}

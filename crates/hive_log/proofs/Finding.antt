@@ -1,19 +1,14 @@
 -- What an image is recovered as, by what its sectors are.
-use Rattle.std.proofs.Common.{◌≡◌, ◌<◌, ◌≤◌, ◌+◌, ◌-◌, ◌*◌, ◌/◌, ◌%◌, ◌==◌, ◌&&◌, ◌++◌, ◌∷◌, ℕ, zero, suc, Bool, true, false, cond, List, [], length, take, drop, replicate, Option, Some, None, Result, Ok, Err, refl, sym, ◌∙◌, ap, subst, arith, add-one, append_assoc, length-append}
-use Rattle.std.specs.Prelude.{codes, nat_eq}
-use Rattle.std.specs.List.{starts_with}
+use Rattle.std.proofs.Common.{◌≡◌, ◌+◌, ◌*◌, ◌/◌, ◌==◌, ◌&&◌, ℕ, Bool, true, false, cond, List, length, drop, Ok, Err, refl, sym, ◌∙◌, ap, arith}
 use Rattle.std.proofs.lemmas.Bool.{eq-eqb, ne_eqb}
-use Rattle.std.proofs.lemmas.List.{take-append-drop, drop-append-le}
 use Rattle.nt_bytes.specs.declared.fault.HiveFault.{HiveFault}
-use Rattle.nt_bytes.specs.declared.fault.HiveKind.TheVariants.{NotRegf, Size, LogAbsent, LogBase, LogSequence, LogDirt, LogShort}
-use Rattle.hive_model.specs.Base.{Base, IsBase, base_of, base_text, fault_at}
-use Rattle.hive_model.specs.Image.{Image, Content, Bytes}
-use Rattle.hive_model.specs.Recovery.{Recovered, Sectors, primary_in, log_in, sector, and_then, bytes_or, joined, gathered, bins_short, log_short, recovered_with, by_primary, bit, rank, bitmap_sectors, first_dirty, picked, by_bits, closed_by, by_logged, as_log_base, bitmap_in, logged_in, base_in, by_base, recovered_of}
-use Rattle.hive_model.specs.Carries.{HasBase, HasBins, HasLog, Carries, IsRecoveredAs}
-use Rattle.hive_model.specs.Log.{bytes_of_bits, bitmap_text, marked_sectors, log_of}
-use Rattle.hive_model.proofs.BaseLemmas.{base_back}
+use Rattle.nt_bytes.specs.declared.fault.HiveKind.TheVariants.{NotRegf, LogSequence}
+use Rattle.hive_model.specs.Base.{Base, base_of, fault_at}
+use Rattle.hive_model.specs.Image.{Image}
+use Rattle.hive_model.specs.Recovery.{Sectors, primary_in, log_in, and_then, bytes_or, gathered, bins_short, log_short, recovered_with, by_primary, bit, rank, first_dirty, picked, by_bits, closed_by, by_logged, bitmap_in, logged_in, base_in, by_base, recovered_of}
+use Rattle.hive_model.specs.Carries.{HasBase, Carries}
 use Rattle.hive_log.specs.Found.{Found}
-use Rattle.hive_log.proofs.Runs.{gathered_is, gathered_whole, gathered_same}
+use Rattle.hive_log.proofs.Runs.{gathered_whole, gathered_same}
 
 -- a primary whose base block is this
 pub by_block : (image : Image) (base : Base) → HasBase image base → recovered_of image ≡ by_base (primary_in image) (log_in image) base

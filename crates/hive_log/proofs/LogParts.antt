@@ -1,5 +1,5 @@
 -- The sectors of the log that a commit writes.
-use Rattle.std.proofs.Common.{◌≡◌, ◌<◌, ◌≤◌, ◌+◌, ◌-◌, ◌*◌, ◌/◌, ◌%◌, ◌++◌, ◌∷◌, ◌⊎◌, ℕ, zero, suc, Bool, true, false, cond, List, [], length, replicate, refl, sym, ◌∙◌, ap, subst, arith, ⊎_elim, add-one, length-append}
+use Rattle.std.proofs.Common.{◌≡◌, ◌<◌, ◌≤◌, ◌+◌, ◌-◌, ◌*◌, ◌/◌, ◌++◌, ◌⊎◌, ℕ, zero, suc, Bool, true, false, cond, List, [], length, replicate, refl, sym, ◌∙◌, ap, arith, ⊎_elim, add-one, length-append}
 use Rattle.std.proofs.lemmas.List.{length-replicate}
 use Rattle.std.specs.Prelude.{codes}
 use Rattle.hive_model.specs.Base.{Base, IsBase, base_text}
@@ -7,7 +7,7 @@ use Rattle.hive_model.specs.Recovery.{sector, one_if, rank, bitmap_sectors, firs
 use Rattle.hive_model.specs.Log.{bytes_of_bits, bitmap_text, marked_sectors, log_of}
 use Rattle.hive_model.proofs.BaseLemmas.{text_long}
 use Rattle.hive_log.proofs.Bits.{bits_long}
-use Rattle.hive_log.proofs.Ranks.{rank_on, rank_off, rank_below, split}
+use Rattle.hive_log.proofs.Ranks.{rank_on, rank_off, rank_below}
 use Rattle.hive_log.proofs.Runs.{sector_front, sector_back, sector_long, sector_whole}
 
 pub bitmap_long : (bits : ℕ → Bool) (size : ℕ) → length (bitmap_text bits size) ≡ 512 * bitmap_sectors size

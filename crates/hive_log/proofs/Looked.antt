@@ -1,21 +1,21 @@
 -- What an image is recovered as, step by step as it is read.
-use Rattle.std.proofs.Common.{◌≡◌, ◌<◌, ◌≤◌, ◌+◌, ◌*◌, ◌/◌, ◌%◌, ◌^◌, ◌==◌, ◌&&◌, ℕ, zero, suc, Bool, true, false, cond, List, [], length, drop, Some, Result, Ok, Err, refl, sym, ◌∙◌, ap, arith}
+use Rattle.std.proofs.Common.{◌≡◌, ◌<◌, ◌+◌, ◌*◌, ◌/◌, ◌%◌, ◌^◌, ◌==◌, ◌&&◌, ℕ, zero, suc, Bool, true, false, cond, List, [], length, drop, Some, Result, Ok, Err, refl, sym, ◌∙◌, ap, arith}
 use Rattle.std.proofs.lemmas.Bool.{eqb-true}
 use Rattle.nt_bytes.specs.declared.fault.HiveFault.{HiveFault}
 use Rattle.nt_bytes.specs.declared.fault.HiveKind.TheVariants.{LogSequence}
 use Rattle.hive_model.specs.Base.{Base, fault_at, is_bins_size}
 use Rattle.hive_model.specs.Image.{Image, Bytes}
-use Rattle.hive_model.specs.Recovery.{Recovered, Sectors, primary_in, log_in, sector, and_then, gathered, bins_short, log_short, recovered_with, by_primary, bit, rank, first_dirty, picked, by_bits, closed_by, by_logged, bitmap_in, logged_in, recovered_of}
+use Rattle.hive_model.specs.Recovery.{Recovered, Sectors, primary_in, log_in, sector, and_then, gathered, bins_short, recovered_with, bit, rank, first_dirty, picked, by_bits, closed_by, by_logged, bitmap_in, logged_in, recovered_of}
 use Rattle.hive_model.specs.Carries.{HasBase, Carries}
 use Rattle.hive_log.specs.declared.stops.LoadStop.{LoadStop}
 use Rattle.hive_log.specs.declared.stops.LoadStop.TheVariants as load
 use Rattle.hive_log.specs.Found.{Found}
-use Rattle.hive_log.specs.Mixing.{mixed}
+use Rattle.hive_log.specs.Mixing.{mixed, run_in, mixed_bins}
 use Rattle.hive_log.specs.Stops.{Reads, ReadsAs}
 use Rattle.hive_log.proofs.Appending.{both, sized}
-use Rattle.hive_log.proofs.Ranks.{rank_off, rank_below}
+use Rattle.hive_log.proofs.Ranks.{rank_below}
 use Rattle.hive_log.proofs.Runs.{gathered_same}
-use Rattle.hive_log.proofs.Finding.{by_block, by_clean, by_dirty, found_recovered}
+use Rattle.hive_log.proofs.Finding.{by_clean, by_dirty}
 
 -- a fault of a part is the fault of the whole
 pub fault_as : {T U V : Type 0} (view : V → U) (e : LoadStop) (part : Result T HiveFault) (whole : Result U HiveFault) → ((f : HiveFault) → part ≡ Err f → whole ≡ Err f) → Reads {T = T} (Err e) part → ReadsAs {T = V} view (Err e) whole
@@ -119,10 +119,10 @@ module _ (image : Image) (opened : Base) (has : HasBase image opened) (odd : ope
         by_runs : recovered_of image ≡ by_bits primary log (closed_by opened logged) bits
         by_runs = by_numbers ∙ ap by_text t
 
-        pub no_marked : (f : HiveFault) → gathered (λ k. log (first + k)) (λ k. log_short (first + k)) 0 (rank bits count) ≡ Err f → recovered_of image ≡ Err f
+        pub no_marked : (f : HiveFault) → run_in log first (rank bits count) ≡ Err f → recovered_of image ≡ Err f
         no_marked f is = by_runs ∙ ap (λ r. and_then r (λ dirty. recovered_with true (closed_by opened logged) (gathered (picked primary log first bits) bins_short 0 count))) is
 
-        module _ (run : List ℕ) (r : gathered (λ k. log (first + k)) (λ k. log_short (first + k)) 0 (rank bits count) ≡ Ok run) (pieces : (k : ℕ) → k < rank bits count → log (first + k) ≡ Some (Bytes (sector run k))) where
+        module _ (run : List ℕ) (r : run_in log first (rank bits count) ≡ Ok run) (pieces : (k : ℕ) → k < rank bits count → log (first + k) ≡ Some (Bytes (sector run k))) where
           by_bins : recovered_of image ≡ recovered_with true (closed_by opened logged) (gathered (picked primary log first bits) bins_short 0 count)
           by_bins = by_runs ∙ ap (λ r. and_then r (λ dirty. recovered_with true (closed_by opened logged) (gathered (picked primary log first bits) bins_short 0 count))) r
 
@@ -132,13 +132,13 @@ module _ (image : Image) (opened : Base) (has : HasBase image opened) (odd : ope
               elim [ true ↦ λ on. pieces (rank bits i) (rank_below bits count i small on) | false ↦ λ off. refl ] in
               here (bits i) refl
 
-          same_bins : gathered (picked primary log first bits) bins_short 0 count ≡ gathered (mixed primary run bits) bins_short 0 count
+          same_bins : gathered (picked primary log first bits) bins_short 0 count ≡ mixed_bins primary run bits count
           same_bins = gathered_same (picked primary log first bits) (mixed primary run bits) bins_short 0 count (λ i low high. picked_is i (omega arith))
 
-          pub no_bins : (f : HiveFault) → gathered (mixed primary run bits) bins_short 0 count ≡ Err f → recovered_of image ≡ Err f
+          pub no_bins : (f : HiveFault) → mixed_bins primary run bits count ≡ Err f → recovered_of image ≡ Err f
           no_bins f is = by_bins ∙ ap (recovered_with true (closed_by opened logged)) (same_bins ∙ is)
 
-          module _ (bins : List ℕ) (b : gathered (mixed primary run bits) bins_short 0 count ≡ Ok bins) where
+          module _ (bins : List ℕ) (b : mixed_bins primary run bits count ≡ Ok bins) where
             pub dirty_ok : recovered_of image ≡ Ok (record { base = closed_by opened logged; bins = bins; dirty = true })
             dirty_ok = by_bins ∙ ap (recovered_with true (closed_by opened logged)) (same_bins ∙ b)
 

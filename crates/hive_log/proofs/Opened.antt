@@ -1,19 +1,20 @@
 -- An image in the middle of a commit, with its whole log, is recovered as what the commit leads to.
-use Rattle.std.proofs.Common.{◌≡◌, ◌<◌, ◌≤◌, ◌+◌, ◌-◌, ◌*◌, ◌/◌, ◌%◌, ◌==◌, ◌&&◌, ◌++◌, ◌∷◌, ℕ, zero, suc, Bool, true, false, cond, List, [], length, take, drop, replicate, Option, Some, None, Result, Ok, Err, refl, sym, ◌∙◌, ap, subst, arith, add-one, append_assoc, length-append, length-drop}
+use Rattle.std.proofs.Common.{◌≡◌, ◌<◌, ◌≤◌, ◌+◌, ◌-◌, ◌*◌, ◌/◌, ◌++◌, ℕ, Bool, true, false, cond, List, length, take, drop, replicate, Some, Ok, Err, refl, sym, ◌∙◌, ap, arith, length-drop}
 use Rattle.std.specs.Prelude.{codes, nat_eq}
 use Rattle.std.specs.List.{starts_with}
 use Rattle.std.proofs.lemmas.List.{take-append-drop, drop-drop}
 use Rattle.nt_bytes.specs.declared.fault.HiveKind.TheVariants.{LogAbsent, LogDirt}
-use Rattle.hive_model.specs.Base.{Base, IsBase, base_of, base_text, fault_at}
-use Rattle.hive_model.specs.Image.{Image, Content, Bytes}
-use Rattle.hive_model.specs.Recovery.{Recovered, Sectors, primary_in, log_in, sector, gathered, bins_short, log_short, bit, rank, bitmap_sectors, first_dirty, picked, closed_by, and_then, bytes_or, joined, as_log_base, bitmap_behind, bitmap_in, logged_in, recovered_of}
-use Rattle.hive_model.specs.Carries.{HasBase, HasBins, HasLog, Carries, IsRecoveredAs}
-use Rattle.hive_model.specs.Log.{bytes_of_bits, bitmap_text, marked_sectors, log_of}
+use Rattle.hive_model.specs.Base.{Base, IsBase, base_of, fault_at}
+use Rattle.hive_model.specs.Image.{Image, Bytes}
+use Rattle.hive_model.specs.Recovery.{primary_in, log_in, sector, gathered, bins_short, log_short, bit, rank, bitmap_sectors, first_dirty, picked, closed_by, and_then, bytes_or, joined, as_log_base, bitmap_behind, bitmap_in, logged_in, recovered_of}
+use Rattle.hive_model.specs.Carries.{HasBase, HasLog}
+use Rattle.hive_model.specs.Log.{bitmap_text, marked_sectors, log_of}
 use Rattle.hive_model.proofs.BaseLemmas.{base_back}
+use Rattle.hive_log.specs.Mixing.{run_in}
 use Rattle.hive_log.specs.Found.{Found}
 use Rattle.hive_log.proofs.Bits.{bit_back}
 use Rattle.hive_log.proofs.Ranks.{rank_same, rank_below}
-use Rattle.hive_log.proofs.Runs.{gathered_is, gathered_whole, gathered_same}
+use Rattle.hive_log.proofs.Runs.{gathered_whole}
 use Rattle.hive_log.proofs.LogParts.{bitmap_long, run_long, log_long, log_block, log_bitmap, log_run, log_marked}
 use Rattle.hive_log.proofs.Finding.{found_recovered}
 
@@ -81,7 +82,7 @@ module _ (image : Image) (opened closed : Base) (bits : ℕ → Bool) (bins : Li
   front_there : log_in image 1 ≡ Some (Bytes (sector text 0))
   front_there = log_is 1 (omega arith) ∙ ap (λ b. Some (Bytes b)) (log_bitmap bits bins closed of.fits whole 0 (omega arith))
 
-  more_there : gathered (λ k. log_in image (2 + k)) (λ k. log_short (2 + k)) 0 (bitmap_sectors size - 1) ≡ Ok (drop 512 text)
+  more_there : run_in (log_in image) 2 (bitmap_sectors size - 1) ≡ Ok (drop 512 text)
   more_there = gathered_whole (λ k. log_in image (2 + k)) (λ k. log_short (2 + k)) (drop 512 text) (bitmap_sectors size - 1)
       (omega (arith, length-drop 512 text, bitmap_long bits size))
       (λ i small.
@@ -92,7 +93,7 @@ module _ (image : Image) (opened closed : Base) (bits : ℕ → Bool) (bins : Li
   same_rank : (i : ℕ) → i ≤ count → rank (bit read) i ≡ rank bits i
   same_rank i small = rank_same (bit read) bits i (λ j below. read_bit j (omega arith))
 
-  marked_there : gathered (λ k. log_in image (first_dirty size + k)) (λ k. log_short (first_dirty size + k)) 0 (rank (bit read) count) ≡ Ok (marked_sectors bits bins 0 count)
+  marked_there : run_in (log_in image) (first_dirty size) (rank (bit read) count) ≡ Ok (marked_sectors bits bins 0 count)
   marked_there =
       let ranks = same_rank count (omega arith) in
       gathered_whole (λ k. log_in image (first_dirty size + k)) (λ k. log_short (first_dirty size + k)) (marked_sectors bits bins 0 count) (rank (bit read) count)
@@ -122,7 +123,7 @@ module _ (image : Image) (opened closed : Base) (bits : ℕ → Bool) (bins : Li
   text_there : bitmap_in (log_in image) size ≡ Ok (sector text 0 ++ drop 512 text)
   text_there =
       ap (λ c. and_then (bytes_or (log_short 1) c) (bitmap_behind (log_in image) size)) front_there
-      ∙ ap (λ t. cond t (joined (Ok (sector text 0)) (gathered (λ k. log_in image (2 + k)) (λ k. log_short (2 + k)) 0 (bitmap_sectors size - 1))) (Err (fault_at LogDirt 512))) (bitmap_signed bits size)
+      ∙ ap (λ t. cond t (joined (Ok (sector text 0)) (run_in (log_in image) 2 (bitmap_sectors size - 1))) (Err (fault_at LogDirt 512))) (bitmap_signed bits size)
       ∙ ap (joined (Ok (sector text 0))) more_there
 
   log_there : logged_in (log_in image) ≡ Ok logged
@@ -144,7 +145,7 @@ module _ (image : Image) (opened closed : Base) (bits : ℕ → Bool) (bins : Li
     closed_is = closed_is;
     text_there = ap (λ s. bitmap_in (log_in image) s) of.size ∙ text_there;
     bitmap_is = ap (drop 4) (sym (front_again text));
-    marked_there = ap (λ s. gathered (λ k. log_in image (first_dirty s + k)) (λ k. log_short (first_dirty s + k)) 0 (rank (bit read) (s / 512))) of.size ∙ marked_there;
+    marked_there = ap (λ s. run_in (log_in image) (first_dirty s) (rank (bit read) (s / 512))) of.size ∙ marked_there;
     bins_gathered = ap (λ s. gathered (picked (primary_in image) (log_in image) (first_dirty s) (bit read)) bins_short 0 (s / 512)) of.size ∙ bins_gathered;
     size = of.size;
     unmarked = λ i small off. is.unmarked i small (sym (bitmap_bit bits size i (omega (arith, of.pages))) ∙ off);

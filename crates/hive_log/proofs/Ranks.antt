@@ -1,5 +1,5 @@
 -- How many bits are on below a place.
-use Rattle.std.proofs.Common.{◌≡◌, ◌⊎◌, ◌<◌, ◌≤◌, ◌+◌, ℕ, zero, suc, Bool, true, false, refl, sym, ◌∙◌, ap, subst, inl, inr, ⊎_elim, arith, add-one}
+use Rattle.std.proofs.Common.{◌≡◌, ◌⊎◌, ◌<◌, ◌≤◌, ◌+◌, ℕ, zero, suc, Bool, true, false, refl, sym, ◌∙◌, ap, ⊎_elim, arith, add-one}
 use Rattle.hive_model.specs.Recovery.{one_if, rank}
 
 pub rank_on : (bits : ℕ → Bool) (i : ℕ) → bits i ≡ true → rank bits (i + 1) ≡ rank bits i + 1

@@ -1,9 +1,9 @@
 -- Runs of sectors: what is gathered of them, by what each of them is.
-use Rattle.std.proofs.Common.{◌≡◌, ◌<◌, ◌≤◌, ◌+◌, ◌-◌, ◌*◌, ◌++◌, ℕ, zero, suc, List, [], length, take, drop, Option, Some, None, Result, Ok, Err, refl, sym, ◌∙◌, ap, arith, add-one, append_assoc, length-append, length-take, length-drop}
+use Rattle.std.proofs.Common.{◌≡◌, ◌<◌, ◌≤◌, ◌+◌, ◌*◌, ◌++◌, ℕ, zero, suc, List, length, take, drop, Some, Ok, refl, sym, ◌∙◌, ap, arith, length-take, length-drop}
 use Rattle.std.proofs.Math.Seq.{take-add, take-length, drop-append-add}
 use Rattle.std.proofs.lemmas.List.{drop-drop, take-append-le, drop-append-le}
 use Rattle.nt_bytes.specs.declared.fault.HiveFault.{HiveFault}
-use Rattle.hive_model.specs.Image.{Content, Bytes}
+use Rattle.hive_model.specs.Image.{Bytes}
 use Rattle.hive_model.specs.Recovery.{Sectors, sector, bytes_or, joined, gathered}
 
 -- the sector, and those behind it

@@ -1,5 +1,5 @@
 -- A run of sectors as it is read.
-use Rattle.std.proofs.Common.{◌≡◌, ◌⊎◌, ◌<◌, ◌≤◌, ◌+◌, ◌-◌, ◌*◌, ◌++◌, ℕ, zero, suc, Bool, true, false, cond, List, [], length, Option, Some, None, Result, Ok, Err, refl, sym, ◌∙◌, ap, arith, add-one, append_assoc, append-nil, ⊎_elim}
+use Rattle.std.proofs.Common.{◌≡◌, ◌<◌, ◌≤◌, ◌+◌, ◌-◌, ◌*◌, ◌++◌, ℕ, suc, true, false, cond, List, [], length, Option, Some, None, Result, Ok, Err, refl, sym, ◌∙◌, ap, arith, add-one, append_assoc, append-nil, ⊎_elim}
 use Rattle.std.specs.Prelude.{nat_eq, codes}
 use Rattle.std.specs.List.{starts_with}
 use Rattle.nt_bytes.specs.declared.fault.HiveFault.{HiveFault}
@@ -10,7 +10,7 @@ use Rattle.hive_model.specs.Recovery.{Sectors, sector, and_then, bytes_or, joine
 use Rattle.nt_edge.specs.Disk.{DiskState, now_of}
 use Rattle.hive_log.specs.declared.stops.LoadStop.{LoadStop}
 use Rattle.hive_log.specs.declared.stops.LoadStop.TheVariants as load
-use Rattle.hive_log.specs.Mixing.{front_in}
+use Rattle.hive_log.specs.Mixing.{front_in, run_in}
 use Rattle.hive_log.specs.Stops.{Reads}
 use Rattle.hive_log.proofs.Ranks.{split}
 use Rattle.hive_log.proofs.Runs.{sector_front, sector_back, sector_whole}
@@ -67,9 +67,9 @@ read_held s h a x held none is =
     ap (λ (image : Image). image a) (sym held) ∙ ap (λ (ws : List Write). overlaid s.held ws a) (sym none) ∙ is
 
 -- the bitmap is its first sector with those behind it
-pub bitmap_by_front : (log : Sectors) (size : ℕ) → bitmap_in log size ≡ and_then (front_in log) (λ front. joined (Ok front) (gathered (λ k. log (2 + k)) (λ k. log_short (2 + k)) 0 (bitmap_sectors size - 1)))
+pub bitmap_by_front : (log : Sectors) (size : ℕ) → bitmap_in log size ≡ and_then (front_in log) (λ front. joined (Ok front) (run_in log 2 (bitmap_sectors size - 1)))
 bitmap_by_front log size =
-    let rest : List ℕ → Result (List ℕ) HiveFault = λ front. joined (Ok front) (gathered (λ k. log (2 + k)) (λ k. log_short (2 + k)) 0 (bitmap_sectors size - 1)) in
+    let rest : List ℕ → Result (List ℕ) HiveFault = λ front. joined (Ok front) (run_in log 2 (bitmap_sectors size - 1)) in
     let here : (r : Result (List ℕ) HiveFault) → and_then r (bitmap_behind log size) ≡ and_then (and_then r (λ front. cond (starts_with nat_eq front (codes "DIRT")) (Ok front) (Err (fault_at LogDirt 512)))) rest =
     elim [
       | Ok front ↦ elim (starts_with nat_eq front (codes "DIRT")) as (λ t. cond t (rest front) (Err (fault_at LogDirt 512)) ≡ and_then (cond t (Ok front) (Err (fault_at LogDirt 512))) rest) [ true ↦ refl | false ↦ refl ]
@@ -78,8 +78,8 @@ bitmap_by_front log size =
     here (bytes_or (log_short 1) (log 1))
 
 module _ (log : Sectors) (size : ℕ) (front : List ℕ) (is : front_in log ≡ Ok front) where
-  pub bitmap_is : bitmap_in log size ≡ joined (Ok front) (gathered (λ k. log (2 + k)) (λ k. log_short (2 + k)) 0 (bitmap_sectors size - 1))
-  bitmap_is = bitmap_by_front log size ∙ ap (λ r. and_then r (λ front. joined (Ok front) (gathered (λ k. log (2 + k)) (λ k. log_short (2 + k)) 0 (bitmap_sectors size - 1)))) is
+  pub bitmap_is : bitmap_in log size ≡ joined (Ok front) (run_in log 2 (bitmap_sectors size - 1))
+  bitmap_is = bitmap_by_front log size ∙ ap (λ r. and_then r (λ front. joined (Ok front) (run_in log 2 (bitmap_sectors size - 1)))) is
 
 -- a fault of a part is the fault of the whole
 pub fault_on : {T U : Type 0} (e : LoadStop) (part : Result T HiveFault) (whole : Result U HiveFault) → ((f : HiveFault) → part ≡ Err f → whole ≡ Err f) → Reads {T = T} (Err e) part → Reads {T = U} (Err e) whole

@@ -15,6 +15,7 @@ use Rattle.nt_edge.specs.Calls.{Made, reads_of, Makes}
 use Rattle.hive_log.specs.Mixing.{front_in}
 use Rattle.hive_log.specs.declared.stops.LoadStop.{LoadStop}
 use Rattle.hive_log.specs.declared.stops.LoadStop.TheVariants as load
+use Rattle.hive_log.specs.Places.{log_at, primary_at, bin_at}
 
 -- n sectors of a file, from this one on
 abbrev pub run_at : File → ℕ → ℕ → List Address
@@ -22,7 +23,7 @@ run_at file first n = map (λ k. record { file = file; sector = first + k }) (ra
 
 -- the primary's sectors of the bins data whose bit is off
 abbrev pub unmarked_at : (ℕ → Bool) → ℕ → List Address
-unmarked_at bits count = map (λ i. record { file = Primary; sector = 8 + i }) (filter (λ i. not (bits i)) (range_with_len 0 count))
+unmarked_at bits count = map bin_at (filter (λ i. not (bits i)) (range_with_len 0 count))
 
 -- these sectors one after the other, and then more; but nothing behind the first that is absent
 abbrev pub one_by_one : Image → List Address → List Address → List Address
@@ -48,7 +49,7 @@ asked_behind_sign image size =
 
 -- the bits, and what they tell of
 abbrev pub asked_bits : Image → ℕ → List Address
-asked_bits image size = record { file = Log; sector = 1 } ∷ unless_fault (front_in (log_in image)) (λ front. asked_behind_sign image size)
+asked_bits image size = log_at 1 ∷ unless_fault (front_in (log_in image)) (λ front. asked_behind_sign image size)
 
 -- behind the log's base block, whose two numbers have to be the primary's first one
 abbrev pub asked_behind_log : Image → Base → Base → List Address
@@ -57,7 +58,7 @@ asked_behind_log image opened logged =
 
 -- the log of a primary that is not clean
 abbrev pub asked_log : Image → Base → List Address
-asked_log image opened = record { file = Log; sector = 0 } ∷ unless_fault (logged_in (log_in image)) (asked_behind_log image opened)
+asked_log image opened = log_at 0 ∷ unless_fault (logged_in (log_in image)) (asked_behind_log image opened)
 
 -- behind the primary's base block
 abbrev pub asked_behind_base : Image → Base → List Address
@@ -66,7 +67,7 @@ asked_behind_base image base =
 
 -- all sectors that recovery of the image asks for
 unfoldable pub asked_of : Image → List Address
-asked_of image = record { file = Primary; sector = 0 } ∷ unless_fault (base_in (primary_in image)) (asked_behind_base image)
+asked_of image = primary_at 0 ∷ unless_fault (base_in (primary_in image)) (asked_behind_base image)
 
 -- sectors were read, one after the other, and no other call was made; which ones, the test says
 pub record MakesReads (before after : List Made → Type 0) (which : List Address → Type 0) : Type 0 where
@@ -75,8 +76,8 @@ pub record MakesReads (before after : List Made → Type 0) (which : List Addres
   pub are : which sectors
 
 -- the first list begins with the second
-pub record IsFront (whole front : List Address) : Type 0 where
-  pub rest : List Address
+pub record IsFront {A : Type 0} (whole front : List A) : Type 0 where
+  pub rest : List A
   pub cut : whole ≡ front ++ rest
 
 -- what was asked for is all of this; where the disk or the memory stopped it, a front
@@ -110,4 +111,4 @@ asked_sector at read more = at ∷ unless_fault read (λ x. more)
 -- the sectors of the bits, and more
 abbrev pub asked_bitmap : Image → ℕ → List Address → List Address
 asked_bitmap image size more =
-    asked_sector (record { file = Log; sector = 1 }) (front_in (log_in image)) (one_by_one image (run_at Log 2 (bitmap_sectors size - 1)) more)
+    asked_sector (log_at 1) (front_in (log_in image)) (one_by_one image (run_at Log 2 (bitmap_sectors size - 1)) more)

@@ -1,6 +1,6 @@
 -- Two files as a disk: it is on, holds their first 65,536 sectors, and every write to it wants for memory.
 -- (This project's own.)
-use Rattle.std.specs.Prelude.{true, [], ◌≤◌}
+use Rattle.std.specs.Prelude.{true, []}
 use Rattle.std.proofs.Common.{lit≤}
 use Rattle.hive_model.specs.Image.{image_of}
 use Rattle.nt_edge.specs.Disk.{DiskState, IsBounded}

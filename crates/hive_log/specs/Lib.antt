@@ -2,5 +2,6 @@ pub mod Asked
 pub mod FilesState
 pub mod Found
 pub mod Mixing
+pub mod Places
 pub mod Shown
 pub mod Stops

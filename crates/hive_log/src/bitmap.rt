@@ -1,6 +1,6 @@
 //! The bitmap of a log: a bit for each sector of the new bins data.
 
-ghost use Rattle.std.specs.Prelude.{◌≡◌, ◌<◌, ◌≤◌, ◌+◌, ◌*◌, ◌/◌, ℕ, true, ◌++◌, length, take, codes, slice_index};
+ghost use Rattle.std.specs.Prelude.{◌≡◌, ◌<◌, ◌≤◌, ◌+◌, ◌*◌, ◌/◌, ℕ, ◌++◌, length, take, codes, slice_index};
 ghost use Rattle.hive_model.specs.Recovery as book;
 ghost use Rattle.hive_model.specs.Recovery.{bit, sector};
 ghost use Rattle.hive_model.specs.Log.{bitmap_text};
@@ -32,6 +32,15 @@ pub fn bitmap_sectors(size: usize) -> usize
     ensures { result ≡ book.bitmap_sectors size }
 {
     (size / 4096 + 515) / 512
+}
+
+/// The number in the log of the first sector whose bit is on, for bins data of this size in bytes.
+pub fn first_dirty(size: usize) -> u32
+    requires { size ≤ 16777216 }
+    ensures value { result ≡ book.first_dirty size }
+    ensures small { result ≤ 100 }
+{
+    1 + bitmap_sectors(size) as u32
 }
 
 /// Sector k of `DIRT` and the bits, for bins data of this size in bytes.

@@ -9,6 +9,7 @@ ghost use Rattle.nt_edge.specs.Disk.{CountsGrow};
 ghost use Rattle.hive_log.specs.Asked.{asked_sector, asked_bitmap, AsksFirst};
 ghost use Rattle.hive_log.specs.Mixing.{front_in};
 ghost use Rattle.hive_log.specs.Stops.{Reads, HasLoadCause, IsOnAfterLoad};
+ghost use Rattle.hive_log.specs.Places.{log_at, primary_at};
 
 use crate::gathering::{read_log_run, short_log};
 use crate::{LoadStop, bitmap_sectors, has_bit};
@@ -23,7 +24,7 @@ pub(crate) fn read_primary_block<D: Disk>(disk: &mut D) -> Result<BaseBlock, Loa
     requires still { D.tells ≡ true → (D.state disk.old).flight ≡ [] }
     ensures block { D.tells ≡ true → Reads result (base_in (primary_in (D.state disk.old).held)) }
     ensures asked { AsksFirst (D.calls disk.old) (D.calls disk.new) D.tells
-        (asked_sector (record { file = Primary; sector = 0 }) (base_in (primary_in (D.state disk.old).held))) result }
+        (asked_sector (primary_at 0) (base_in (primary_in (D.state disk.old).held))) result }
     ensures sized { IfOk result (λ b. is_bins_size b.size ≡ true) }
     ensures held { D.tells ≡ true → (D.state disk.new).held ≡ (D.state disk.old).held }
     ensures flight { D.tells ≡ true → (D.state disk.new).flight ≡ (D.state disk.old).flight }
@@ -52,7 +53,7 @@ pub(crate) fn read_log_block<D: Disk>(disk: &mut D) -> Result<BaseBlock, LoadSto
     requires still { D.tells ≡ true → (D.state disk.old).flight ≡ [] }
     ensures block { D.tells ≡ true → Reads result (logged_in (log_in (D.state disk.old).held)) }
     ensures asked { AsksFirst (D.calls disk.old) (D.calls disk.new) D.tells
-        (asked_sector (record { file = Log; sector = 0 }) (logged_in (log_in (D.state disk.old).held))) result }
+        (asked_sector (log_at 0) (logged_in (log_in (D.state disk.old).held))) result }
     ensures sized { IfOk result (λ b. is_bins_size b.size ≡ true) }
     ensures held { D.tells ≡ true → (D.state disk.new).held ≡ (D.state disk.old).held }
     ensures flight { D.tells ≡ true → (D.state disk.new).flight ≡ (D.state disk.old).flight }
@@ -93,7 +94,7 @@ fn read_bitmap_front<D: Disk>(alloc: Global, disk: &mut D) -> Result<Bytes, Load
     requires still { D.tells ≡ true → (D.state disk.old).flight ≡ [] }
     ensures front { D.tells ≡ true → Reads result (front_in (log_in (D.state disk.old).held)) }
     ensures asked { AsksFirst (D.calls disk.old) (D.calls disk.new) D.tells
-        (asked_sector (record { file = Log; sector = 1 }) (front_in (log_in (D.state disk.old).held))) result }
+        (asked_sector (log_at 1) (front_in (log_in (D.state disk.old).held))) result }
     ensures long { IfOk result (λ b. length b ≡ 512) }
     ensures held { D.tells ≡ true → (D.state disk.new).held ≡ (D.state disk.old).held }
     ensures flight { D.tells ≡ true → (D.state disk.new).flight ≡ (D.state disk.old).flight }
@@ -153,21 +154,11 @@ pub(crate) fn count_bits(bitmap: &[u8], count: u32) -> u32
 {
     let mut on = 0;
     for i in 0..count {
-        if !has_bit(bitmap, i as usize) {
-            continue;
+        if has_bit(bitmap, i as usize) {
+            on += 1;
         }
-        on += 1;
     }
     on
-}
-
-/// The number in the log of the first sector whose bit is on, for bins data of this size in bytes.
-pub(crate) fn first_run_sector(size: u32) -> u32
-    requires { is_bins_size size ≡ true }
-    ensures value { result ≡ book.first_dirty size }
-    ensures small { result ≤ 100 }
-{
-    1 + (size / 4096 + 515) / 512
 }
 
 /// The bits of a bitmap, behind its signature.

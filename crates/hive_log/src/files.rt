@@ -1,6 +1,6 @@
 //! Two files as a disk that can only be read.
 
-ghost use Rattle.std.specs.Prelude.{◌≡◌, ◌*◌, ◌+◌, ◌≤◌, ◌<◌, true, Some, None, IfOk, length};
+ghost use Rattle.std.specs.Prelude.{◌≡◌, ◌*◌, ◌<◌, true, Some, None, IfOk, length};
 ghost use Rattle.hive_model.specs.Base.{is_bins_size};
 ghost use Rattle.hive_model.specs.Image as image;
 ghost use Rattle.hive_model.specs.Recovery.{recovered_of};

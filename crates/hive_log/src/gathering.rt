@@ -3,11 +3,10 @@
 ghost use Rattle.std.specs.Prelude.{◌≡◌, ◌<◌, ◌≤◌, ◌+◌, ◌*◌, ℕ, true, Some, [], length, IfOk};
 ghost use Rattle.hive_model.specs.Image as image;
 ghost use Rattle.hive_model.specs.Base.{fault_at};
-ghost use Rattle.hive_model.specs.Recovery.{primary_in, log_in, sector, gathered, bins_short, bit, rank};
-ghost use Rattle.hive_model.specs.Recovery as book;
+ghost use Rattle.hive_model.specs.Recovery.{primary_in, log_in, sector, bins_short, bit, rank};
 ghost use Rattle.nt_edge.specs.Disk.{CountsGrow};
 ghost use Rattle.hive_log.specs.Asked.{one_by_one, run_at, unmarked_at, AsksFirst};
-ghost use Rattle.hive_log.specs.Mixing.{mixed};
+ghost use Rattle.hive_log.specs.Mixing.{mixed, run_in, mixed_bins};
 ghost use Rattle.hive_log.specs.Stops.{Reads, HasLoadCause, IsOnAfterLoad};
 ghost use Rattle.nt_bytes.specs.declared.fault.HiveKind.TheVariants.{LogShort};
 ghost use Rattle.hive_log.specs.declared.stops.LoadStop.TheVariants.{Fault};
@@ -49,7 +48,7 @@ pub(crate) fn read_log_run<D: Disk>(
     requires on { (D.state disk.old).on ≡ true }
     requires still { D.tells ≡ true → (D.state disk.old).flight ≡ [] }
     requires few { first + count < 100000 }
-    ensures run { D.tells ≡ true → Reads result (gathered (λ k. log_in (D.state disk.old).held (first + k)) (λ k. book.log_short (first + k)) 0 count) }
+    ensures run { D.tells ≡ true → Reads result (run_in (log_in (D.state disk.old).held) first count) }
     ensures asked { AsksFirst (D.calls disk.old) (D.calls disk.new) D.tells
         (one_by_one (D.state disk.old).held (run_at image.Log first count)) result }
     ensures long { IfOk result (λ b. length b ≡ 512 * count) }
@@ -89,7 +88,7 @@ pub(crate) fn read_bins<D: Disk>(
     requires still { D.tells ≡ true → (D.state disk.old).flight ≡ [] }
     requires few { count ≤ 32768 }
     requires run_long { length run.now ≡ 512 * rank (bit bitmap.now) count }
-    ensures bins { D.tells ≡ true → Reads result (gathered (mixed (primary_in (D.state disk.old).held) run.now (bit bitmap.now)) bins_short 0 count) }
+    ensures bins { D.tells ≡ true → Reads result (mixed_bins (primary_in (D.state disk.old).held) run.now (bit bitmap.now) count) }
     ensures asked { AsksFirst (D.calls disk.old) (D.calls disk.new) D.tells
         (one_by_one (D.state disk.old).held (unmarked_at (bit bitmap.now) count)) result }
     ensures long { IfOk result (λ b. length b ≡ 512 * count) }

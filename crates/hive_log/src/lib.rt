@@ -14,7 +14,7 @@ mod sectors;
 mod spelling;
 mod stops;
 
-pub use bitmap::{bitmap_sector, bitmap_sectors, has_bit, mark_all};
+pub use bitmap::{bitmap_sector, bitmap_sectors, first_dirty, has_bit, mark_all};
 pub use files::recovered;
 pub use looking::{Reading, read_recovered};
 pub use outcome::Recovered;

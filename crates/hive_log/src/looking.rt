@@ -3,7 +3,7 @@
 ghost use Rattle.std.specs.Prelude.{◌≡◌, ◌/◌, true, false, [], length, IfOk};
 ghost use Rattle.hive_model.specs.Base.{is_bins_size};
 ghost use Rattle.hive_model.specs.Image.{Primary};
-ghost use Rattle.hive_model.specs.Recovery.{primary_in, log_in, base_in, and_then, logged_in, by_logged, closed_by, recovered_of};
+ghost use Rattle.hive_model.specs.Recovery.{closed_by, recovered_of};
 ghost use Rattle.hive_model.specs.Carries.{Carries, HasBase};
 ghost use Rattle.nt_edge.specs.Disk.{CountsGrow};
 ghost use Rattle.hive_log.specs.Asked.{run_at, one_by_one, asked_log, asked_of, MakesReads, IsAsked};
@@ -12,11 +12,10 @@ ghost use Rattle.hive_log.specs.Shown.{read_of};
 ghost use Rattle.hive_log.specs.Stops.{Reads, ReadsAs, HasLoadCause, IsOnAfterLoad};
 
 use crate::blocks::{
-    bits_behind, count_bits, first_run_sector, follows, read_bitmap, read_log_block,
-    read_primary_block,
+    bits_behind, count_bits, follows, read_bitmap, read_log_block, read_primary_block,
 };
 use crate::gathering::{read_bins, read_log_run};
-use crate::{LoadStop, Recovered};
+use crate::{LoadStop, Recovered, first_dirty};
 use nt_bytes::{Bytes, HiveFault, HiveKind};
 use nt_edge::Disk;
 use regf_base::BaseBlock;
@@ -116,7 +115,7 @@ fn read_dirty<D: Disk>(alloc: Global, disk: &mut D, opened: BaseBlock) -> Result
     let bitmap = bits_behind(alloc, text.as_slice())?;
     let count = logged.size / 512;
     let marked = count_bits(bitmap.as_slice(), count);
-    let run = read_log_run(alloc, disk, first_run_sector(logged.size), marked)?;
+    let run = read_log_run(alloc, disk, first_dirty(logged.size as usize), marked)?;
     let bins = read_bins(alloc, disk, bitmap.as_slice(), run.as_slice(), count)?;
     Ok(Reading {
         recovered: Recovered {

@@ -51,10 +51,9 @@ fn append_marked(log: &mut Bytes, bitmap: &[u8], new: &[u8]) -> Result<(), Alloc
     ensures { OnOk result (log.new ≡ log.old ++ marked_sectors (bit bitmap.now) new.now 0 (length new.now / 512)) }
 {
     for i in 0..new.len() / 512 {
-        if !has_bit(bitmap, i) {
-            continue;
+        if has_bit(bitmap, i) {
+            log.append(sector_of(new, i))?;
         }
-        log.append(sector_of(new, i))?;
     }
     Ok(())
 }

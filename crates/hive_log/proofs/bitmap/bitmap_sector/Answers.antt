@@ -1,4 +1,4 @@
-use Rattle.std.proofs.Common.{◌≡◌, ◌<◌, ◌+◌, ◌*◌, ◌/◌, length, arith, rules}
+use Rattle.std.proofs.Common.{arith, rules}
 use Rattle.hive_log.proofs.Text.{text_sector}
 use Rattle.hive_log.proofs.bitmap.bitmap_sector.Goals as goal
 

@@ -1,8 +1,9 @@
-use Rattle.std.proofs.Common.{◌≡◌, ◌+◌, ◌-◌, ◌++◌, Result, Ok, List, ℕ, refl, sym, ◌∙◌, ap}
+use Rattle.std.proofs.Common.{◌≡◌, ◌-◌, ◌++◌, Result, Ok, List, ℕ, refl, sym, ◌∙◌, ap}
 use Rattle.std.proofs.lemmas.Result.{err_from_is_err_and}
 use Rattle.nt_bytes.specs.declared.fault.HiveFault.{HiveFault}
 use Rattle.hive_model.specs.Image.{Image, Log}
-use Rattle.hive_model.specs.Recovery.{log_in, log_short, gathered, joined, bitmap_in, bitmap_sectors}
+use Rattle.hive_model.specs.Recovery.{log_in, joined, bitmap_in, bitmap_sectors}
+use Rattle.hive_log.specs.Mixing.{run_in}
 use Rattle.hive_log.specs.Asked.{one_by_one, run_at}
 use Rattle.hive_log.proofs.AskedParts.{asks_behind, run_asks, asks_kept, asks_unkept, asks_cut}
 use Rattle.hive_log.proofs.SoFar.{bitmap_is, fault_on}
@@ -12,7 +13,7 @@ pub returns-in_err-more-clause-text : goal.returns-in_err-more-clause-text
 returns-in_err-more-clause-text g c = λ tells.
     let h = (g.D.Disk.state c.args.disk.now).held in
     let h1 = (g.D.Disk.state c.read_bitmap_front.new.disk).held in
-    let behind : Image → ℕ → Result (List ℕ) HiveFault = λ h n. gathered (λ k. log_in h (2 + k)) (λ k. log_short (2 + k)) 0 (n - 1) in
+    let behind : Image → ℕ → Result (List ℕ) HiveFault = λ h n. run_in (log_in h) 2 (n - 1) in
     let same : behind h1 c.bitmap_sectors.result ≡ behind h (bitmap_sectors c.args.size) = ap (λ (i : Image). behind i c.bitmap_sectors.result) (c.read_bitmap_front.ensures.held tells) ∙ ap (behind h) c.bitmap_sectors.ensures in
     let p = err_from_is_err_and c.from_residual-in_err-more.result c.from_residual-in_err-more.ensures.1 in
     rw (p.1, p.2)
@@ -24,7 +25,7 @@ pub returns-clause-text : goal.returns-clause-text
 returns-clause-text g c = λ tells.
     let h = (g.D.Disk.state c.args.disk.now).held in
     let h1 = (g.D.Disk.state c.read_bitmap_front.new.disk).held in
-    let behind : Image → ℕ → Result (List ℕ) HiveFault = λ h n. gathered (λ k. log_in h (2 + k)) (λ k. log_short (2 + k)) 0 (n - 1) in
+    let behind : Image → ℕ → Result (List ℕ) HiveFault = λ h n. run_in (log_in h) 2 (n - 1) in
     let same : behind h1 c.bitmap_sectors.result ≡ behind h (bitmap_sectors c.args.size) = ap (λ (i : Image). behind i c.bitmap_sectors.result) (c.read_bitmap_front.ensures.held tells) ∙ ap (behind h) c.bitmap_sectors.ensures in
     bitmap_is (log_in h) c.args.size c.in_ok-text.text (c.in_ok-text.ensures.front tells)
     ∙ ap (joined (Ok c.in_ok-text.text)) (sym same ∙ c.in_ok-more.ensures.run tells)

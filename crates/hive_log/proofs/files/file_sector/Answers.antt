@@ -1,5 +1,4 @@
-use Rattle.std.proofs.Common.{◌≡◌, ◌<◌, ◌≤◌, ◌+◌, ◌-◌, ◌*◌, ◌++◌, ℕ, zero, suc, Bool, true, cond, List, [], ◌∷◌, length, take, drop, replicate, Some, None, refl, sym, ◌∙◌, ap, arith, rules, length-drop}
-use Rattle.std.specs.Prelude.{nat_lt}
+use Rattle.std.proofs.Common.{◌≡◌, ◌<◌, ◌≤◌, ◌-◌, ◌*◌, ◌++◌, ℕ, zero, suc, cond, List, [], ◌∷◌, length, take, drop, replicate, Some, None, refl, sym, ◌∙◌, ap, arith, rules}
 use Rattle.std.proofs.lemmas.Bool.{lt-ltb}
 use Rattle.std.proofs.lemmas.List.{drop-replicate, take_rest}
 use Rattle.hive_model.specs.Image.{Bytes, padded, sector_of}

@@ -1,13 +1,14 @@
 use Rattle.std.proofs.Common.{◌≡◌, ◌+◌, ◌++◌, ◌<◌, ℕ, Bool, true, false, cond, List, length, Some, None, Ok, Err, sym, ◌∙◌, ap, subst, arith, length-append}
 use Rattle.std.specs.Option.{is_some}
 use Rattle.std.proofs.lemmas.Result.{err_from_is_err_and}
-use Rattle.hive_model.specs.Image.{Address, Primary, Bytes}
+use Rattle.hive_model.specs.Image.{Address, Bytes}
 use Rattle.hive_log.specs.Asked.{one_by_one, unmarked_at, AsksFirst}
 use Rattle.hive_log.proofs.Asking.{AsksSoFar, asks_all, asks_held, asks_more, asks_stopped, asks_unheld, asks_absent, unmarked_rest, unmarked_split, marked_split, unmarked_more, marked_more}
 use Rattle.hive_model.specs.Recovery.{Sectors, primary_in, bins_short, gathered, bit, rank, sector}
 use Rattle.hive_log.specs.declared.stops.LoadStop.{LoadStop}
 use Rattle.hive_log.specs.Mixing.{mixed}
 use Rattle.hive_log.specs.Stops.{Reads}
+use Rattle.hive_log.specs.Places.{bin_at}
 use Rattle.hive_log.proofs.Ranks.{rank_on, rank_off, rank_below}
 use Rattle.hive_log.proofs.SoFar.{ReadSoFar, read_more, read_absent, read_held}
 use Rattle.hive_log.proofs.gathering.read_bins.Goals as goal
@@ -83,7 +84,7 @@ loop-i-preserved g c =
           subst (λ (b : List ℕ). ReadSoFar at bins_short c.args.count b (c.loop-i.i + 1)) (sym appended)
           (read_more at bins_short c.args.count c.loop-i.bytes c.read.new.into c.loop-i.i c.loop-i-test.true c.loop-i.invariant.long c.read.array_long (mixed_off (primary_in h) run bits c.loop-i.i off ∙ whole) (c.loop-i.invariant.read tells));
       asked = subst (λ (l : List Address). AsksSoFar (g.D.Disk.calls c.args.disk.now) (g.D.Disk.calls c.read.new.self) g.D.Disk.tells h l) (unmarked_more bits c.loop-i.i off)
-          (asks_more c.loop-i.invariant.asked (record { file = Primary; sector = 8 + c.loop-i.i }) (g.D.Disk.calls c.read.new.self) c.read.ensures.made (λ tells.
+          (asks_more c.loop-i.invariant.asked (bin_at c.loop-i.i) (g.D.Disk.calls c.read.new.self) c.read.ensures.made (λ tells.
           let whole : primary_in h (8 + c.loop-i.i) ≡ Some (Bytes c.read.new.into) = read_held s h _ (Some (Bytes c.read.new.into)) (c.loop-i.invariant.held tells) (c.loop-i.invariant.flight tells ∙ c.requires.still tells) (c.read.ensures.whole tells (c.in_ok-read.was ∙ ap (λ p. Ok p) c.in-Whole.is)) in
           ap is_some whole));
       history = c.read.ensures.history ∙ c.loop-i.invariant.history;
@@ -103,7 +104,7 @@ pub returns-in_err-read-clause-asked : goal.returns-in_err-read-clause-asked
 returns-in_err-read-clause-asked g c =
     let bits = bit c.args.bitmap.now in
     let i = c.loop-i.i in
-    let at : Address = record { file = Primary; sector = 8 + i } in
+    let at : Address = bin_at i in
     let off : bits i ≡ false = sym c.has_bit.ensures ∙ c.if-has_bit.false in
     let p = err_from_is_err_and c.from_residual-in_err-read.result c.from_residual-in_err-read.ensures.1 in
     rw (p.1, p.2)
@@ -114,7 +115,7 @@ pub returns-in_err-append-in-Whole-clause-asked : goal.returns-in_err-append-in-
 returns-in_err-append-in-Whole-clause-asked g c =
     let bits = bit c.args.bitmap.now in
     let i = c.loop-i.i in
-    let at : Address = record { file = Primary; sector = 8 + i } in
+    let at : Address = bin_at i in
     let off : bits i ≡ false = sym c.has_bit.ensures ∙ c.if-has_bit.false in
     let p = err_from_is_err_and c.from_residual-in_err-append-in-Whole.result c.from_residual-in_err-append-in-Whole.ensures.1 in
     rw (p.1, p.2)
@@ -127,7 +128,7 @@ returns-in-Absent-clause-asked g c =
     let s = g.D.Disk.state c.loop-i.disk in
     let bits = bit c.args.bitmap.now in
     let i = c.loop-i.i in
-    let at : Address = record { file = Primary; sector = 8 + i } in
+    let at : Address = bin_at i in
     let off : bits i ≡ false = sym c.has_bit.ensures ∙ c.if-has_bit.false in
     subst (λ (e : LoadStop). AsksFirst {T = List ℕ} (g.D.Disk.calls c.args.disk.now) (g.D.Disk.calls c.read.new.self) g.D.Disk.tells (one_by_one h (unmarked_at bits c.args.count)) (Err e)) (sym c.short_bins.ensures)
     (asks_absent c.loop-i.invariant.asked at (g.D.Disk.calls c.read.new.self) c.read.ensures.made (unmarked_at bits c.args.count) (unmarked_rest bits i c.args.count)

@@ -1,13 +1,12 @@
-use Rattle.std.proofs.Common.{◌≡◌, ◌+◌, ◌*◌, ◌/◌, ◌<◌, Result, Ok, Some, List, [], ℕ, drop, sym, ◌∙◌, ap, subst, arith, true}
+use Rattle.std.proofs.Common.{◌≡◌, ◌+◌, ◌*◌, ◌/◌, ◌<◌, Ok, Some, List, [], ℕ, drop, sym, ◌∙◌, ap, subst, arith, true}
 use Rattle.std.proofs.lemmas.Result.{err_from_is_err_and}
-use Rattle.nt_bytes.specs.declared.fault.HiveFault.{HiveFault}
 use Rattle.hive_model.specs.Base.{Base}
 use Rattle.hive_model.specs.Image.{Image, Bytes}
-use Rattle.hive_model.specs.Recovery.{Sectors, primary_in, log_in, sector, logged_in, bitmap_in, bins_short, log_short, bit, rank, first_dirty, closed_by, gathered, recovered_of}
+use Rattle.hive_model.specs.Recovery.{Sectors, primary_in, log_in, sector, logged_in, bitmap_in, bins_short, bit, rank, first_dirty, closed_by, gathered, recovered_of}
 use Rattle.hive_log.specs.declared.looking.Reading.{Reading}
 use Rattle.hive_log.specs.Asked.{one_by_one, unmarked_at, unless_fault, asked_bins, asked_behind_log, asked_log}
 use Rattle.hive_log.specs.Found.{Found}
-use Rattle.hive_log.specs.Mixing.{mixed}
+use Rattle.hive_log.specs.Mixing.{mixed, run_in}
 use Rattle.hive_log.specs.Shown.{read_of}
 use Rattle.hive_log.proofs.Appending.{sized}
 use Rattle.hive_log.proofs.AskedParts.{asks_behind, bitmap_asks, run_asks, bins_asks, asks_unkept, asks_in_whole, asks_no_more}
@@ -71,14 +70,13 @@ returns-in_err-run-clause-exact g c = λ tells.
     let e2 : h2 ≡ h = c.read_bitmap.ensures.held tells ∙ e1 in
     let bitmap = c.in_ok-bitmap.bitmap in
     let bits_are : bitmap ≡ drop 4 text = c.in_ok-bitmap.ensures ∙ ap (drop 4) c.as_slice.ensures in
-    let first_is : c.first_run_sector.result ≡ first_dirty logged.size = c.first_run_sector.ensures.value ∙ ap first_dirty e in
+    let first_is : c.first_dirty.result ≡ first_dirty logged.size = c.first_dirty.ensures.value ∙ ap first_dirty e in
     let marked_is : c.count_bits-marked.result ≡ rank (bit (drop 4 text)) (logged.size / 512) = c.count_bits-marked.ensures.count ∙ ap (λ (b : List ℕ). rank (bit b) (c.logged.inside.size / 512)) (c.as_slice-2.ensures ∙ bits_are) ∙ ap (rank (bit (drop 4 text))) count in
-    let log_run : Image → ℕ → ℕ → Result (List ℕ) HiveFault = λ i first n. gathered (λ k. log_in i (first + k)) (λ k. log_short (first + k)) 0 n in
-    let run_same : log_run h2 c.first_run_sector.result c.count_bits-marked.result ≡ log_run h (first_dirty logged.size) (rank (bit (drop 4 text)) (logged.size / 512)) =
-    ap (λ (i : Image). log_run i c.first_run_sector.result c.count_bits-marked.result) e2 ∙ ap (λ n. log_run h n c.count_bits-marked.result) first_is ∙ ap (log_run h (first_dirty logged.size)) marked_is in
+    let run_same : run_in (log_in h2) c.first_dirty.result c.count_bits-marked.result ≡ run_in (log_in h) (first_dirty logged.size) (rank (bit (drop 4 text)) (logged.size / 512)) =
+    ap (λ (i : Image). run_in (log_in i) c.first_dirty.result c.count_bits-marked.result) e2 ∙ ap (λ n. run_in (log_in h) n c.count_bits-marked.result) first_is ∙ ap (run_in (log_in h) (first_dirty logged.size)) marked_is in
     let p = err_from_is_err_and c.from_residual-in_err-run.result c.from_residual-in_err-run.ensures.1 in
     rw (p.1, p.2)
-    (fault_as read_of c.in_err-run.field-0.0 (log_run h2 c.first_run_sector.result c.count_bits-marked.result) (recovered_of h)
+    (fault_as read_of c.in_err-run.field-0.0 (run_in (log_in h2) c.first_dirty.result c.count_bits-marked.result) (recovered_of h)
     (λ f is. no_marked h opened has odd logged l same text t f (sym run_same ∙ is)) (c.in_err-run.ensures.run tells))
 
 pub returns-in_err-bins-clause-exact : goal.returns-in_err-bins-clause-exact
@@ -100,11 +98,10 @@ returns-in_err-bins-clause-exact g c = λ tells.
     let e2 : h2 ≡ h = c.read_bitmap.ensures.held tells ∙ e1 in
     let bitmap = c.in_ok-bitmap.bitmap in
     let bits_are : bitmap ≡ drop 4 text = c.in_ok-bitmap.ensures ∙ ap (drop 4) c.as_slice.ensures in
-    let first_is : c.first_run_sector.result ≡ first_dirty logged.size = c.first_run_sector.ensures.value ∙ ap first_dirty e in
+    let first_is : c.first_dirty.result ≡ first_dirty logged.size = c.first_dirty.ensures.value ∙ ap first_dirty e in
     let marked_is : c.count_bits-marked.result ≡ rank (bit (drop 4 text)) (logged.size / 512) = c.count_bits-marked.ensures.count ∙ ap (λ (b : List ℕ). rank (bit b) (c.logged.inside.size / 512)) (c.as_slice-2.ensures ∙ bits_are) ∙ ap (rank (bit (drop 4 text))) count in
-    let log_run : Image → ℕ → ℕ → Result (List ℕ) HiveFault = λ i first n. gathered (λ k. log_in i (first + k)) (λ k. log_short (first + k)) 0 n in
-    let run_same : log_run h2 c.first_run_sector.result c.count_bits-marked.result ≡ log_run h (first_dirty logged.size) (rank (bit (drop 4 text)) (logged.size / 512)) =
-    ap (λ (i : Image). log_run i c.first_run_sector.result c.count_bits-marked.result) e2 ∙ ap (λ n. log_run h n c.count_bits-marked.result) first_is ∙ ap (log_run h (first_dirty logged.size)) marked_is in
+    let run_same : run_in (log_in h2) c.first_dirty.result c.count_bits-marked.result ≡ run_in (log_in h) (first_dirty logged.size) (rank (bit (drop 4 text)) (logged.size / 512)) =
+    ap (λ (i : Image). run_in (log_in i) c.first_dirty.result c.count_bits-marked.result) e2 ∙ ap (λ n. run_in (log_in h) n c.count_bits-marked.result) first_is ∙ ap (run_in (log_in h) (first_dirty logged.size)) marked_is in
     let run = c.in_ok-run.run' in
     let r = sym run_same ∙ c.in_ok-run.ensures.run tells in
     let pieces : (k : ℕ) → k < rank (bit (drop 4 text)) (logged.size / 512) → log_in h (first_dirty logged.size + k) ≡ Some (Bytes (sector run k)) = λ k small.
@@ -138,11 +135,10 @@ returns-clause-exact g c = λ tells.
     let e2 : h2 ≡ h = c.read_bitmap.ensures.held tells ∙ e1 in
     let bitmap = c.in_ok-bitmap.bitmap in
     let bits_are : bitmap ≡ drop 4 text = c.in_ok-bitmap.ensures ∙ ap (drop 4) c.as_slice.ensures in
-    let first_is : c.first_run_sector.result ≡ first_dirty logged.size = c.first_run_sector.ensures.value ∙ ap first_dirty e in
+    let first_is : c.first_dirty.result ≡ first_dirty logged.size = c.first_dirty.ensures.value ∙ ap first_dirty e in
     let marked_is : c.count_bits-marked.result ≡ rank (bit (drop 4 text)) (logged.size / 512) = c.count_bits-marked.ensures.count ∙ ap (λ (b : List ℕ). rank (bit b) (c.logged.inside.size / 512)) (c.as_slice-2.ensures ∙ bits_are) ∙ ap (rank (bit (drop 4 text))) count in
-    let log_run : Image → ℕ → ℕ → Result (List ℕ) HiveFault = λ i first n. gathered (λ k. log_in i (first + k)) (λ k. log_short (first + k)) 0 n in
-    let run_same : log_run h2 c.first_run_sector.result c.count_bits-marked.result ≡ log_run h (first_dirty logged.size) (rank (bit (drop 4 text)) (logged.size / 512)) =
-    ap (λ (i : Image). log_run i c.first_run_sector.result c.count_bits-marked.result) e2 ∙ ap (λ n. log_run h n c.count_bits-marked.result) first_is ∙ ap (log_run h (first_dirty logged.size)) marked_is in
+    let run_same : run_in (log_in h2) c.first_dirty.result c.count_bits-marked.result ≡ run_in (log_in h) (first_dirty logged.size) (rank (bit (drop 4 text)) (logged.size / 512)) =
+    ap (λ (i : Image). run_in (log_in i) c.first_dirty.result c.count_bits-marked.result) e2 ∙ ap (λ n. run_in (log_in h) n c.count_bits-marked.result) first_is ∙ ap (run_in (log_in h) (first_dirty logged.size)) marked_is in
     let run = c.in_ok-run.run' in
     let r = sym run_same ∙ c.in_ok-run.ensures.run tells in
     let pieces : (k : ℕ) → k < rank (bit (drop 4 text)) (logged.size / 512) → log_in h (first_dirty logged.size + k) ≡ Some (Bytes (sector run k)) = λ k small.
@@ -175,11 +171,10 @@ returns-clause-found g c = λ tells.
     let e2 : h2 ≡ h = c.read_bitmap.ensures.held tells ∙ e1 in
     let bitmap = c.in_ok-bitmap.bitmap in
     let bits_are : bitmap ≡ drop 4 text = c.in_ok-bitmap.ensures ∙ ap (drop 4) c.as_slice.ensures in
-    let first_is : c.first_run_sector.result ≡ first_dirty logged.size = c.first_run_sector.ensures.value ∙ ap first_dirty e in
+    let first_is : c.first_dirty.result ≡ first_dirty logged.size = c.first_dirty.ensures.value ∙ ap first_dirty e in
     let marked_is : c.count_bits-marked.result ≡ rank (bit (drop 4 text)) (logged.size / 512) = c.count_bits-marked.ensures.count ∙ ap (λ (b : List ℕ). rank (bit b) (c.logged.inside.size / 512)) (c.as_slice-2.ensures ∙ bits_are) ∙ ap (rank (bit (drop 4 text))) count in
-    let log_run : Image → ℕ → ℕ → Result (List ℕ) HiveFault = λ i first n. gathered (λ k. log_in i (first + k)) (λ k. log_short (first + k)) 0 n in
-    let run_same : log_run h2 c.first_run_sector.result c.count_bits-marked.result ≡ log_run h (first_dirty logged.size) (rank (bit (drop 4 text)) (logged.size / 512)) =
-    ap (λ (i : Image). log_run i c.first_run_sector.result c.count_bits-marked.result) e2 ∙ ap (λ n. log_run h n c.count_bits-marked.result) first_is ∙ ap (log_run h (first_dirty logged.size)) marked_is in
+    let run_same : run_in (log_in h2) c.first_dirty.result c.count_bits-marked.result ≡ run_in (log_in h) (first_dirty logged.size) (rank (bit (drop 4 text)) (logged.size / 512)) =
+    ap (λ (i : Image). run_in (log_in i) c.first_dirty.result c.count_bits-marked.result) e2 ∙ ap (λ n. run_in (log_in h) n c.count_bits-marked.result) first_is ∙ ap (run_in (log_in h) (first_dirty logged.size)) marked_is in
     let run = c.in_ok-run.run' in
     let r = sym run_same ∙ c.in_ok-run.ensures.run tells in
     let pieces : (k : ℕ) → k < rank (bit (drop 4 text)) (logged.size / 512) → log_in h (first_dirty logged.size + k) ≡ Some (Bytes (sector run k)) = λ k small.
@@ -195,7 +190,7 @@ returns-clause-found g c = λ tells.
     subst (λ (b : Base). Found h b bitmap bins) (sym c.closed_block.ensures) (subst (λ (l : List ℕ). Found h (closed_by opened logged) l bins) (sym bits_are) found)
 
 pub read_log_run-requires-clause-few : goal.read_log_run-requires-clause-few
-read_log_run-requires-clause-few g c = omega (arith, c.count_bits-marked.ensures.small, c.first_run_sector.ensures.small, (sized c.in_ok-logged.logged.size c.in_ok-logged.ensures.sized).high, ap (λ (b : Base). b.size) c.logged.view_is)
+read_log_run-requires-clause-few g c = omega (arith, c.count_bits-marked.ensures.small, c.first_dirty.ensures.small, (sized c.in_ok-logged.logged.size c.in_ok-logged.ensures.sized).high, ap (λ (b : Base). b.size) c.logged.view_is)
 
 pub returns-in_err-logged-clause-asked : goal.returns-in_err-logged-clause-asked
 returns-in_err-logged-clause-asked g c =
@@ -262,10 +257,10 @@ returns-in_err-run-clause-asked g c =
     let e2 : g.D.Disk.tells ≡ true → h2 ≡ h = λ tells. c.read_bitmap.ensures.held tells ∙ e1 tells in
     let bits_are : c.in_ok-bitmap.bitmap ≡ drop 4 text = c.in_ok-bitmap.ensures ∙ ap (drop 4) c.as_slice.ensures in
     let first = first_dirty logged.size in
-    let first_is : c.first_run_sector.result ≡ first = c.first_run_sector.ensures.value ∙ ap first_dirty e in
+    let first_is : c.first_dirty.result ≡ first = c.first_dirty.ensures.value ∙ ap first_dirty e in
     let marked = rank (bit (drop 4 text)) (logged.size / 512) in
     let marked_is : c.count_bits-marked.result ≡ marked = c.count_bits-marked.ensures.count ∙ ap (λ (b : List ℕ). rank (bit b) (c.logged.inside.size / 512)) (c.as_slice-2.ensures ∙ bits_are) ∙ ap (rank (bit (drop 4 text))) count in
-    let asks_run = asks_behind asks (run_asks h2 h e2 c.first_run_sector.result first c.count_bits-marked.result marked first_is marked_is c.in_err-run.ensures.asked) in
+    let asks_run = asks_behind asks (run_asks h2 h e2 c.first_dirty.result first c.count_bits-marked.result marked first_is marked_is c.in_err-run.ensures.asked) in
     let p = err_from_is_err_and c.from_residual-in_err-run.result c.from_residual-in_err-run.ensures.1 in
     rw (p.1, p.2)
     (asks_no_more asks_run Reading (one_by_one h (unmarked_at (bit (drop 4 text)) (logged.size / 512)) []) (asked_log h opened)
@@ -288,10 +283,10 @@ returns-in_err-bins-clause-asked g c =
     let e2 : g.D.Disk.tells ≡ true → h2 ≡ h = λ tells. c.read_bitmap.ensures.held tells ∙ e1 tells in
     let bits_are : c.in_ok-bitmap.bitmap ≡ drop 4 text = c.in_ok-bitmap.ensures ∙ ap (drop 4) c.as_slice.ensures in
     let first = first_dirty logged.size in
-    let first_is : c.first_run_sector.result ≡ first = c.first_run_sector.ensures.value ∙ ap first_dirty e in
+    let first_is : c.first_dirty.result ≡ first = c.first_dirty.ensures.value ∙ ap first_dirty e in
     let marked = rank (bit (drop 4 text)) (logged.size / 512) in
     let marked_is : c.count_bits-marked.result ≡ marked = c.count_bits-marked.ensures.count ∙ ap (λ (b : List ℕ). rank (bit b) (c.logged.inside.size / 512)) (c.as_slice-2.ensures ∙ bits_are) ∙ ap (rank (bit (drop 4 text))) count in
-    let asks_run = asks_behind {result = Ok c.in_ok-run.run'} asks (run_asks h2 h e2 c.first_run_sector.result first c.count_bits-marked.result marked first_is marked_is c.in_ok-run.ensures.asked) in
+    let asks_run = asks_behind {result = Ok c.in_ok-run.run'} asks (run_asks h2 h e2 c.first_dirty.result first c.count_bits-marked.result marked first_is marked_is c.in_ok-run.ensures.asked) in
     let h3 = (g.D.Disk.state c.read_log_run.new.disk).held in
     let e3 : g.D.Disk.tells ≡ true → h3 ≡ h = λ tells. c.read_log_run.ensures.held tells ∙ e2 tells in
     let asks_all = asks_behind asks_run (bins_asks h3 h e3 c.as_slice-3.result.now (drop 4 text) (c.logged.inside.size / 512) (logged.size / 512) (c.as_slice-3.ensures ∙ bits_are) count c.in_err-bins.ensures.asked) in
@@ -316,10 +311,10 @@ returns-clause-asked g c =
     let e2 : g.D.Disk.tells ≡ true → h2 ≡ h = λ tells. c.read_bitmap.ensures.held tells ∙ e1 tells in
     let bits_are : c.in_ok-bitmap.bitmap ≡ drop 4 text = c.in_ok-bitmap.ensures ∙ ap (drop 4) c.as_slice.ensures in
     let first = first_dirty logged.size in
-    let first_is : c.first_run_sector.result ≡ first = c.first_run_sector.ensures.value ∙ ap first_dirty e in
+    let first_is : c.first_dirty.result ≡ first = c.first_dirty.ensures.value ∙ ap first_dirty e in
     let marked = rank (bit (drop 4 text)) (logged.size / 512) in
     let marked_is : c.count_bits-marked.result ≡ marked = c.count_bits-marked.ensures.count ∙ ap (λ (b : List ℕ). rank (bit b) (c.logged.inside.size / 512)) (c.as_slice-2.ensures ∙ bits_are) ∙ ap (rank (bit (drop 4 text))) count in
-    let asks_run = asks_behind {result = Ok c.in_ok-run.run'} asks (run_asks h2 h e2 c.first_run_sector.result first c.count_bits-marked.result marked first_is marked_is c.in_ok-run.ensures.asked) in
+    let asks_run = asks_behind {result = Ok c.in_ok-run.run'} asks (run_asks h2 h e2 c.first_dirty.result first c.count_bits-marked.result marked first_is marked_is c.in_ok-run.ensures.asked) in
     let h3 = (g.D.Disk.state c.read_log_run.new.disk).held in
     let e3 : g.D.Disk.tells ≡ true → h3 ≡ h = λ tells. c.read_log_run.ensures.held tells ∙ e2 tells in
     let asks_all = asks_behind {result = Ok c.in_ok-bins.bins} asks_run (bins_asks h3 h e3 c.as_slice-3.result.now (drop 4 text) (c.logged.inside.size / 512) (logged.size / 512) (c.as_slice-3.ensures ∙ bits_are) count c.in_ok-bins.ensures.asked) in

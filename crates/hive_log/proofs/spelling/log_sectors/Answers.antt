@@ -1,6 +1,6 @@
-use Rattle.std.proofs.Common.{◌≡◌, ◌+◌, ◌*◌, ◌/◌, ◌++◌, length, take, refl, ap, sym, ◌∙◌, arith, rules}
+use Rattle.std.proofs.Common.{◌/◌, ◌++◌, length, ap, sym, ◌∙◌, arith}
 use Rattle.hive_model.specs.Base.{base_text}
-use Rattle.hive_model.specs.Recovery.{bit, sector}
+use Rattle.hive_model.specs.Recovery.{bit}
 use Rattle.hive_model.specs.Log.{bitmap_text, marked_sectors, log_of, logged_bits}
 use Rattle.hive_log.proofs.Appending.{all_on, logged_on, log_same, sized}
 use Rattle.hive_log.proofs.spelling.log_sectors.Goals as goal
