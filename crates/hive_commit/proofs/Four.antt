@@ -3,7 +3,7 @@ use Rattle.std.proofs.Common.{◌≡◌, ◌⊎◌, ◌<◌, ◌+◌, ◌*◌, �
 use Rattle.std.proofs.lemmas.Bool.{ne_eqb}
 use Rattle.nt_bytes.specs.declared.fault.HiveKind.TheVariants.{NotRegf}
 use Rattle.hive_model.specs.Base.{Base, IsBase, base_of, base_text, is_bins_size, fault_at}
-use Rattle.hive_model.specs.Image.{Primary, Address, Image, Bytes, IsCrashImage}
+use Rattle.hive_model.specs.Image.{Address, Image, Bytes, IsCrashImage}
 use Rattle.hive_model.specs.Recovery.{primary_in, sector, bit, and_then, bytes_or}
 use Rattle.hive_model.specs.Carries.{HasBase, HasBins, HasLog, Carries, IsRecoveredAs}
 use Rattle.hive_model.specs.Log.{log_of}
@@ -13,9 +13,10 @@ use Rattle.nt_edge.specs.Crash.{AgreeOutside}
 use Rattle.hive_log.proofs.Appending.{sized, all_on}
 use Rattle.hive_log.proofs.Finding.{carries_recovered}
 use Rattle.hive_log.proofs.Opened.{IsOpened, IsCommitOf, opened_recovered}
+use Rattle.hive_commit.specs.Cuts.{IsChange}
 use Rattle.hive_commit.specs.Stages.{in_log, is_base, is_marked, BlockIsBeforeOr, HasMarked, opened_of, closed_of, IsBeforeOrAfter}
 use Rattle.hive_commit.specs.Fitting.{NumbersFit, TextsFit}
-use Rattle.hive_commit.specs.Growing.{bin_at, log_at}
+use Rattle.hive_log.specs.Places.{bin_at, log_at, primary_at}
 use Rattle.hive_commit.proofs.Growth.{unmarked_at}
 
 -- what is held may be left
@@ -35,7 +36,7 @@ same_block before after base same has = ap (λ c. and_then (bytes_or (fault_at N
 
 -- facts on an image that hold of one that agrees with it
 module _ (p : Address → Bool) (before after : Image) (agree : AgreeOutside p before after) where
-  pub base_along : (base : Base) → p (record { file = Primary; sector = 0 }) ≡ false → HasBase before base → HasBase after base
+  pub base_along : (base : Base) → p (primary_at 0) ≡ false → HasBase before base → HasBase after base
   base_along base out has = same_block before after base (agree _ out) has
 
   pub log_along : (log : List ℕ) → ((n : ℕ) → p (log_at n) ≡ false) → HasLog before log → HasLog after log
@@ -44,12 +45,22 @@ module _ (p : Address → Bool) (before after : Image) (agree : AgreeOutside p b
   pub bins_along : (bins : List ℕ) → ((i : ℕ) → p (bin_at i) ≡ false) → HasBins before bins → HasBins after bins
   bins_along bins out has = λ i small. agree (bin_at i) (out i) ∙ has i small
 
-  pub carries_along : (base : Base) (bins : List ℕ) → p (record { file = Primary; sector = 0 }) ≡ false → ((i : ℕ) → p (bin_at i) ≡ false) → Carries before base bins → Carries after base bins
+  pub carries_along : (base : Base) (bins : List ℕ) → p (primary_at 0) ≡ false → ((i : ℕ) → p (bin_at i) ≡ false) → Carries before base bins → Carries after base bins
   carries_along base bins out_base out is = record { block = base_along base out_base is.block; clean = is.clean; size = is.size; bins_there = bins_along bins out is.bins_there }
 
 -- a base block that was written
 pub written_base : (image : Image) (base : Base) → IsBase base → base.kind ≡ 0 → primary_in image 0 ≡ Some (Bytes (base_text base)) → HasBase image base
 written_base image base fits kind there = ap (λ c. and_then (bytes_or (fault_at NotRegf 0) c) (λ block. base_of block 0)) there ∙ ap (base_of (base_text base)) (sym kind) ∙ base_back base fits
+
+-- whole sectors
+whole_data : (image : Image) (base : Base) (bins : List ℕ) → Carries image base bins → 512 * (length bins / 512) ≡ length bins
+whole_data image base bins is = omega (arith, (sized base.size (base_in_checked (primary_in image) base is.block).size_is).pages, is.size)
+
+-- stage 1
+pub in_log_stage : (before cut : Image) (base : Base) (old : List ℕ) → Carries before base old → AgreeOutside in_log before cut → IsRecoveredAs cut base old
+in_log_stage before cut base old is agree =
+    let after = carries_along in_log before cut agree base old refl (λ i. refl) is in
+    record { dirty = false; recovered = carries_recovered cut base old after (whole_data before base old is) }
 
 -- what is asked of a commit, as the stages want it
 pub record IsAsked (base : Base) (old new : List ℕ) (root : ℕ) (bits : ℕ → Bool) : Type 0 where
@@ -127,10 +138,6 @@ module _ (base : Base) (old new : List ℕ) (root : ℕ) (bits : ℕ → Bool) (
   closed_after image is = record { dirty = false; recovered = carries_recovered image closed new is (omega (arith, (sized (length new) a.sized_new).pages)) }
 
   module _ (h0 : Image) (is0 : Carries h0 base old) where
-    -- stage 1
-    pub in_log_stage : (c : Image) → AgreeOutside in_log h0 c → IsRecoveredAs c base old
-    in_log_stage c agree = before c (carries_along in_log h0 c agree base old refl (λ i. refl) is0)
-
     module _ (h1 : Image) (agree1 : AgreeOutside in_log h0 h1) (logged : HasLog h1 (log_of bits new closed)) where
       is1 : Carries h1 base old
       is1 = carries_along in_log h0 h1 agree1 base old refl (λ i. refl) is0
@@ -216,19 +223,32 @@ is_base_of base numbers texts checked = record {
   rest_bytes = texts.rest_bytes;
 }
 
+pub change_asked : (image : Image) (base : Base) (old new : List ℕ) (root : ℕ) (bits : ℕ → Bool) → IsChange image base old new root bits → IsAsked base old new root bits
+change_asked image base old new root bits is =
+    let checked = base_in_checked (primary_in image) base is.carries.block in
+    record {
+      fits = is_base_of base is.numbers is.texts checked;
+      kind = checked.kind_is;
+      clean = is.carries.clean;
+      whole_old = whole_data image base old is.carries;
+      sized_new = is.sized;
+      root_fits = is.root_fits;
+      same = is.stays;
+    }
+
+-- with each bit on
 pub asked : (image : Image) (base : Base) (old new : List ℕ) (root : ℕ) (bitmap : List ℕ) → Carries image base old → NumbersFit base → TextsFit base → is_bins_size (length new) ≡ true → root < 2 ^ 32
     → ((k : ℕ) → k < 4096 → get_or bitmap k 0 ≡ 255) → IsAsked base old new root (bit bitmap)
 asked image base old new root bitmap is numbers texts size root_fits ones =
-    let checked = base_in_checked (primary_in image) base is.block in
-    record {
-      fits = is_base_of base numbers texts checked;
-      kind = checked.kind_is;
-      clean = is.clean;
-      whole_old = omega (arith, (sized base.size checked.size_is).pages, is.size);
-      sized_new = size;
+    change_asked image base old new root (bit bitmap)
+    (record {
+      carries = is;
+      numbers = numbers;
+      texts = texts;
+      sized = size;
       root_fits = root_fits;
-      same = λ i small off. let on : bit bitmap i ≡ true = all_on bitmap ones i (omega (arith, (sized (length new) size).high)) in absurd (cc);
-    }
+      stays = λ i small off. let on : bit bitmap i ≡ true = all_on bitmap ones i (omega (arith, (sized (length new) size).high)) in absurd (cc);
+    })
 
 -- what a stage said of a base block that is this one
 pub along_log : (image : Image) (bits : ℕ → Bool) (new : List ℕ) (made base : Base) → made ≡ base → HasLog image (log_of bits new made) → HasLog image (log_of bits new base)

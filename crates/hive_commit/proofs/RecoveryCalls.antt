@@ -1,5 +1,5 @@
 -- The calls of a recovery: all that it asks for is read, and then what was found is written.
-use Rattle.std.proofs.Common.{◌≡◌, ◌++◌, ℕ, Bool, true, false, cond, List, [], Result, Ok, Err, sym, ◌∙◌, ap, subst}
+use Rattle.std.proofs.Common.{◌≡◌, ◌++◌, ℕ, Bool, true, false, cond, List, [], Result, Ok, Err, refl, sym, ◌∙◌, ap, subst, append_assoc}
 use Rattle.std.specs.Result.{IsErrAnd}
 use Rattle.std.proofs.lemmas.List.{append-nil, map-append}
 use Rattle.hive_model.specs.Base.{Base}
@@ -15,8 +15,8 @@ use Rattle.hive_log.specs.Stops.{ReadsAs, load_stop_of}
 use Rattle.hive_log.specs.declared.looking.Reading.{Reading}
 use Rattle.hive_log.specs.declared.stops.LoadStop.{LoadStop}
 use Rattle.hive_log.specs.declared.stops.LoadStop.TheVariants as load
-use Rattle.hive_commit.specs.Calls.{closing_calls, restoring_by, restoring_as, recovery_calls, MakesAll}
-use Rattle.hive_commit.proofs.CallLemmas.{front_longer, front_as, front_then, made_as, made_then}
+use Rattle.hive_commit.specs.Calls.{closing_calls, restoring_by, restoring_as, recovery_calls, AreAll, MakesRecovery}
+use Rattle.hive_commit.proofs.CallLemmas.{made_as, made_then}
 
 -- what is written where the log was needed
 module _ (image : Image) (view : Recovered) (exact : recovered_of image ≡ Ok view) where
@@ -33,56 +33,82 @@ module _ (image : Image) (view : Recovered) (exact : recovered_of image ≡ Ok v
       ∙ ap (λ b. closing_calls b (bit bitmap) view.bins) (sym closed_is)
       ∙ ap (λ l. closing_calls closed (bit bitmap) l) (sym bins_is))
 
-module _ (a b : List Made → Type 0) where
-  -- the disk refused a write or a sync
-  pub stopped_by : {T : Type 0} (r : Result T LoadStop) (stop : DiskStop) (calls : List Made) → IsErrAnd r (λ made. made ≡ load_stop_of stop) → MakesFront a b calls → MakesAll a b calls r
-  stopped_by (Ok x) stop calls err front = absurd err
-  stopped_by {T} (Err e) stop calls err front =
-      let by_disk : (s : DiskStop) → MakesAll {T = T} a b calls (Err (load_stop_of s)) = elim [ disk.PowerLost ↦ front | disk.Failed ↦ front | disk.Memory ↦ front ] in
-      subst (λ (s : LoadStop). MakesAll {T = T} a b calls (Err s)) (sym err) (by_disk stop)
+-- a base block, whatever it is
+any_base : Base
+any_base = record { first = 0; second = 0; stamp = 0; minor = 0; kind = 0; root = 0; size = 0; cluster = 0; name = []; rest = [] }
 
-  module _ (image : Image) where
-    front_read : (sectors : List Address) → Makes a b (reads_of sectors) → IsFront (asked_of image) sectors → MakesFront a b (recovery_calls image)
-    front_read sectors made is =
-        front_longer a b (reads_of (asked_of image)) (restoring_as image (recovered_of image)) (record {
-          front = reads_of sectors;
-          rest = reads_of is.rest;
-          cut = ap reads_of is.cut ∙ map-append ReadAt sectors is.rest;
-          made = made;
-        })
+module _ (a b : List Made → Type 0) (which : List Made → Type 0) (sectors : List Address) (read : Makes a b (reads_of sectors)) where
+  -- sectors were read, and nothing was written
+  pub only_read : which (reads_of sectors) → MakesRecovery a b which
+  only_read is =
+      let same : reads_of sectors ≡ reads_of sectors ++ [] = sym (append-nil (reads_of sectors)) in
+      record {
+        sectors = sectors;
+        closed = any_base;
+        bits = λ i. false;
+        bins = [];
+        writes = [];
+        front = record { rest = closing_calls any_base (λ i. false) []; cut = refl };
+        made = made_as a b (reads_of sectors) (reads_of sectors ++ []) same read;
+        are = subst which same is;
+      }
 
-    refusal : (T : Type 0) (e : LoadStop) (sectors : List Address) → Makes a b (reads_of sectors) → IsAsked {T = Reading} (asked_of image) (Err e) sectors → ReadsAs read_of (Err e) (recovered_of image) → MakesAll {T = T} a b (recovery_calls image) (Err e)
-    refusal T (load.Fault f) sectors made is exact =
-        made_as a b (reads_of sectors) (recovery_calls image) (ap reads_of is ∙ sym (append-nil (reads_of (asked_of image))) ∙ ap (λ r. reads_of (asked_of image) ++ restoring_as image r) (sym exact)) made
-    refusal T load.PowerLost sectors made is exact = front_read sectors made is
-    refusal T load.Device sectors made is exact = front_read sectors made is
-    refusal T load.Memory sectors made is exact = front_read sectors made is
+  -- and then a front of what closes a recovery was written
+  pub read_then : (c : List Made → Type 0) (closed : Base) (bits : ℕ → Bool) (bins : List ℕ) (f : MakesFront b c (closing_calls closed bits bins)) → which (reads_of sectors ++ f.front) → MakesRecovery a c which
+  read_then c closed bits bins f is = record {
+    sectors = sectors;
+    closed = closed;
+    bits = bits;
+    bins = bins;
+    writes = f.front;
+    front = record { rest = f.rest; cut = f.cut };
+    made = made_then a b c (reads_of sectors) f.front read f.made;
+    are = is;
+  }
 
-    -- a refusal while it read, or a fault
-    pub refused : {T : Type 0} (r : Result T LoadStop) (e : LoadStop) (sectors : List Address) → IsErrAnd r (λ made. made ≡ e) → Makes a b (reads_of sectors) → IsAsked {T = Reading} (asked_of image) (Err e) sectors → ReadsAs read_of (Err e) (recovered_of image) → MakesAll a b (recovery_calls image) r
-    refused (Ok x) e sectors err made is exact = absurd err
-    refused {T} (Err y) e sectors err made is exact = subst (λ (s : LoadStop). MakesAll {T = T} a b (recovery_calls image) (Err s)) (sym err) (refusal T e sectors made is exact)
+-- the disk refused a write or a sync
+pub stopped_by : {T : Type 0} (r : Result T LoadStop) (stop : DiskStop) (whole calls : List Made) → IsErrAnd r (λ made. made ≡ load_stop_of stop) → IsFront whole calls → AreAll whole r calls
+stopped_by (Ok x) stop whole calls err front = absurd err
+stopped_by {T} (Err e) stop whole calls err front =
+    let by_disk : (s : DiskStop) → AreAll {T = T} whole (Err (load_stop_of s)) calls = elim [ disk.PowerLost ↦ front | disk.Failed ↦ front | disk.Memory ↦ front ] in
+    subst (λ (s : LoadStop). AreAll {T = T} whole (Err s) calls) (sym err) (by_disk stop)
 
-    module _ (sectors : List Address) (made : Makes a b (reads_of sectors)) (is : sectors ≡ asked_of image) (view : Recovered) (exact : recovered_of image ≡ Ok view) where
-      all_read : Makes a b (reads_of (asked_of image))
-      all_read = made_as a b (reads_of sectors) (reads_of (asked_of image)) (ap reads_of is) made
+module _ (image : Image) where
+  front_read : (sectors : List Address) → IsFront (asked_of image) sectors → IsFront (recovery_calls image) (reads_of sectors)
+  front_read sectors is = record {
+    rest = reads_of is.rest ++ restoring_as image (recovered_of image);
+    cut =
+        ap (λ (l : List Made). l ++ restoring_as image (recovered_of image)) (ap reads_of is.cut ∙ map-append ReadAt sectors is.rest)
+        ∙ append_assoc (reads_of sectors) (reads_of is.rest) (restoring_as image (recovered_of image));
+  }
 
-      -- the primary was clean
-      pub clean_made : view.dirty ≡ false → Makes a b (recovery_calls image)
-      clean_made clean =
-          made_as a b (reads_of (asked_of image)) (recovery_calls image) (sym (append-nil (reads_of (asked_of image))) ∙ ap (λ (l : List Made). reads_of (asked_of image) ++ l) (sym (restoring_is image view exact false clean))) all_read
+  refusal : (T : Type 0) (e : LoadStop) (sectors : List Address) → IsAsked {T = Reading} (asked_of image) (Err e) sectors → ReadsAs read_of (Err e) (recovered_of image) → AreAll {T = T} (recovery_calls image) (Err e) (reads_of sectors)
+  refusal T (load.Fault f) sectors is exact = ap reads_of is ∙ sym (append-nil (reads_of (asked_of image))) ∙ ap (λ r. reads_of (asked_of image) ++ restoring_as image r) (sym exact)
+  refusal T load.PowerLost sectors is exact = front_read sectors is
+  refusal T load.Device sectors is exact = front_read sectors is
+  refusal T load.Memory sectors is exact = front_read sectors is
 
-      -- the log was needed
-      module _ (c : List Made → Type 0) (closed : Base) (bitmap bins found : List ℕ) (dirty : view.dirty ≡ true) (f : Found image view.base found view.bins) (closed_is : closed ≡ view.base) (bitmap_is : bitmap ≡ found) (bins_is : bins ≡ view.bins) where
-        written : closing_calls closed (bit bitmap) bins ≡ restoring_as image (recovered_of image)
-        written = restoring_found image view exact closed bitmap bins found dirty f closed_is bitmap_is bins_is
+  -- a refusal while it read, or a fault
+  pub refused : {T : Type 0} (r : Result T LoadStop) (e : LoadStop) (sectors : List Address) → IsErrAnd r (λ made. made ≡ e) → IsAsked {T = Reading} (asked_of image) (Err e) sectors → ReadsAs read_of (Err e) (recovered_of image) → AreAll (recovery_calls image) r (reads_of sectors)
+  refused (Ok x) e sectors err is exact = absurd err
+  refused {T} (Err y) e sectors err is exact = subst (λ (s : LoadStop). AreAll {T = T} (recovery_calls image) (Err s) (reads_of sectors)) (sym err) (refusal T e sectors is exact)
 
-        pub in_restoring : MakesFront b c (closing_calls closed (bit bitmap) bins) → MakesFront a c (recovery_calls image)
-        in_restoring front =
-            front_then a b c (reads_of (asked_of image)) (restoring_as image (recovered_of image)) all_read
-            (front_as b c (closing_calls closed (bit bitmap) bins) (restoring_as image (recovered_of image)) written front)
+  module _ (sectors : List Address) (is : sectors ≡ asked_of image) (view : Recovered) (exact : recovered_of image ≡ Ok view) where
+    -- the primary was clean
+    pub clean_all : view.dirty ≡ false → reads_of sectors ≡ recovery_calls image
+    clean_all clean =
+        ap reads_of is ∙ sym (append-nil (reads_of (asked_of image)))
+        ∙ ap (λ (l : List Made). reads_of (asked_of image) ++ l) (sym (restoring_is image view exact false clean))
 
-        pub restored_made : Makes b c (closing_calls closed (bit bitmap) bins) → Makes a c (recovery_calls image)
-        restored_made all =
-            made_then a b c (reads_of (asked_of image)) (restoring_as image (recovered_of image)) all_read
-            (made_as b c (closing_calls closed (bit bitmap) bins) (restoring_as image (recovered_of image)) written all)
+    -- the log was needed
+    module _ (closed : Base) (bitmap bins found : List ℕ) (dirty : view.dirty ≡ true) (f : Found image view.base found view.bins) (closed_is : closed ≡ view.base) (bitmap_is : bitmap ≡ found) (bins_is : bins ≡ view.bins) where
+      pub restored_all : reads_of sectors ++ closing_calls closed (bit bitmap) bins ≡ recovery_calls image
+      restored_all =
+          ap (λ l. reads_of l ++ closing_calls closed (bit bitmap) bins) is
+          ∙ ap (λ (l : List Made). reads_of (asked_of image) ++ l) (restoring_found image view exact closed bitmap bins found dirty f closed_is bitmap_is bins_is)
+
+      pub restored_front : (front : List Made) → IsFront (closing_calls closed (bit bitmap) bins) front → IsFront (recovery_calls image) (reads_of sectors ++ front)
+      restored_front front cut = record {
+        rest = cut.rest;
+        cut = sym restored_all ∙ ap (λ (l : List Made). reads_of sectors ++ l) cut.cut ∙ sym (append_assoc (reads_of sectors) front cut.rest);
+      }

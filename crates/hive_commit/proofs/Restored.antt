@@ -1,7 +1,7 @@
 -- What a cut in a recovery leaves.
 use Rattle.std.proofs.Common.{◌≡◌, ◌*◌, ◌/◌, ℕ, true, false, List, length, Some, refl, sym, ◌∙◌, ap, ⊎_elim}
 use Rattle.hive_model.specs.Base.{Base, IsBase, base_text, is_bins_size}
-use Rattle.hive_model.specs.Image.{Primary, Image, Bytes}
+use Rattle.hive_model.specs.Image.{Image, Bytes}
 use Rattle.hive_model.specs.Recovery.{primary_in, log_in, bit}
 use Rattle.hive_model.specs.Carries.{HasBins, Carries, IsRecoveredAs}
 use Rattle.hive_model.proofs.BaseLemmas.{logged_in_checked}
@@ -9,7 +9,7 @@ use Rattle.nt_edge.specs.Crash.{AgreeOutside}
 use Rattle.hive_log.specs.Found.{Found}
 use Rattle.hive_log.proofs.Finding.{carries_recovered, found_recovered, found_along}
 use Rattle.hive_commit.specs.Fitting.{NumbersFit, TextsFit}
-use Rattle.hive_commit.specs.Growing.{bin_at, log_at}
+use Rattle.hive_log.specs.Places.{bin_at, log_at, primary_at}
 use Rattle.hive_commit.specs.Stages.{is_base, is_marked, BlockIsBeforeOr, HasMarked}
 use Rattle.hive_commit.proofs.Growth.{unmarked_at}
 use Rattle.hive_commit.proofs.Four.{either, no_base, bins_along, written_base, is_base_of}
@@ -37,7 +37,7 @@ module _ (image : Image) (closed : Base) (bitmap bins : List ℕ) (f : Found ima
   recovered c found = record { dirty = true; recovered = found_recovered c closed bitmap bins found }
 
   found_in_bins : (c : Image) → AgreeOutside (is_marked (length bins) (bit bitmap)) image c → Found c closed bitmap bins
-  found_in_bins c agree = found_along image c closed bitmap bins f (λ n. agree (log_at n) refl) (agree (record { file = Primary; sector = 0 }) refl) (λ i off. agree (bin_at i) (unmarked_at (length bins) (bit bitmap) i off))
+  found_in_bins c agree = found_along image c closed bitmap bins f (λ n. agree (log_at n) refl) (agree (primary_at 0) refl) (λ i off. agree (bin_at i) (unmarked_at (length bins) (bit bitmap) i off))
 
   -- the sectors are being written
   pub kept_in_bins : (c : Image) → AgreeOutside (is_marked (length bins) (bit bitmap)) image c → IsRecoveredAs c closed bins

@@ -8,7 +8,8 @@ use Rattle.hive_model.specs.Image.{Write}
 use Rattle.hive_model.specs.Recovery.{sector}
 use Rattle.nt_edge.specs.Calls.{Made, Wrote, Makes, MakesUntil, writes_of}
 use Rattle.hive_commit.specs.Calls.{log_writes}
-use Rattle.hive_commit.specs.Growing.{log_at, bin_at, log_part, marked_below}
+use Rattle.hive_log.specs.Places.{log_at, bin_at}
+use Rattle.hive_commit.specs.Growing.{log_part, marked_below}
 use Rattle.hive_commit.proofs.CallLemmas.{stopped, front_made, front_as, made_then}
 
 writes_append : (first second : List Write) → writes_of first ++ writes_of second ≡ writes_of (first ++ second)

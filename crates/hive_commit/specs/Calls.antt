@@ -1,25 +1,25 @@
 -- Which calls of the disk does a change make, and a recovery, and in which order? (This project's own.)
-use Rattle.std.specs.Prelude.{◌/◌, Bool, ℕ, List, [], ◌∷◌, ◌++◌, length, drop, map, filter, if◌then◌else◌, Result, Ok, Err}
-use Rattle.std.specs.List.{range_with_len}
+use Rattle.std.specs.Prelude.{◌≡◌, ◌/◌, Bool, ℕ, List, [], ◌∷◌, ◌++◌, length, drop, if◌then◌else◌, Result, Ok, Err}
 use Rattle.nt_bytes.specs.declared.fault.HiveFault.{HiveFault}
 use Rattle.hive_model.specs.Base.{Base, base_text}
-use Rattle.hive_model.specs.Image.{Image, Write}
-use Rattle.hive_model.specs.Recovery.{Recovered, log_in, sector, bit, bitmap_in, recovered_of}
+use Rattle.hive_model.specs.Image.{Address, Image, Write}
+use Rattle.hive_model.specs.Recovery.{Recovered, log_in, bit, bitmap_in, recovered_of}
 use Rattle.hive_model.specs.Log.{log_of, logged_bits}
-use Rattle.nt_edge.specs.Calls.{Made, Wrote, Synced, Makes, MakesFront, reads_of, writes_of}
-use Rattle.hive_log.specs.Asked.{asked_of}
+use Rattle.nt_edge.specs.Calls.{Made, Synced, Wrote, Makes, reads_of, writes_of}
+use Rattle.hive_log.specs.Asked.{asked_of, IsFront}
 use Rattle.hive_log.specs.declared.stops.LoadStop.{LoadStop}
 use Rattle.hive_log.specs.declared.stops.LoadStop.TheVariants as load
-use Rattle.hive_commit.specs.Growing.{log_at, primary_at, bin_at}
+use Rattle.hive_log.specs.Places.{primary_at}
+use Rattle.hive_commit.specs.Growing.{log_part, marked_below}
 use Rattle.hive_commit.specs.Stages.{opened_of, closed_of}
 
 -- a log of so many sectors, from the first one on
 abbrev pub log_writes : List ℕ → List Write
-log_writes log = map (λ n. (log_at n, sector log n)) (range_with_len 0 (length log / 512))
+log_writes log = log_part log 0 (length log / 512)
 
 -- the bins sectors whose bit is on, in rising order
 abbrev pub bins_writes : (ℕ → Bool) → List ℕ → List Write
-bins_writes bits bins = map (λ i. (bin_at i, sector bins i)) (filter bits (range_with_len 0 (length bins / 512)))
+bins_writes bits bins = marked_below bits bins (length bins / 512)
 
 -- the primary's base block, and a sync
 abbrev pub block_calls : Base → List Made
@@ -50,10 +50,22 @@ restoring_as image (Err fault) = []
 abbrev pub recovery_calls : Image → List Made
 recovery_calls image = reads_of (asked_of image) ++ restoring_as image (recovered_of image)
 
--- these calls were made; where the disk or the memory stopped them, a front
-abbrev pub MakesAll : {T : Type 0} → (List Made → Type 0) → (List Made → Type 0) → List Made → Result T LoadStop → Type 0
-MakesAll before after calls (Ok x) = Makes before after calls
-MakesAll before after calls (Err (load.Fault f)) = Makes before after calls
-MakesAll before after calls (Err load.PowerLost) = MakesFront before after calls
-MakesAll before after calls (Err load.Device) = MakesFront before after calls
-MakesAll before after calls (Err load.Memory) = MakesFront before after calls
+-- the calls are all of these; where the disk or the memory stopped them, a front
+abbrev pub AreAll : {T : Type 0} → List Made → Result T LoadStop → List Made → Type 0
+AreAll whole (Ok x) calls = calls ≡ whole
+AreAll whole (Err (load.Fault f)) calls = calls ≡ whole
+AreAll whole (Err load.PowerLost) calls = IsFront whole calls
+AreAll whole (Err load.Device) calls = IsFront whole calls
+AreAll whole (Err load.Memory) calls = IsFront whole calls
+
+-- Sectors were read, then a front of what closes a recovery was written, and no other call was made; which
+-- calls, the test says.
+pub record MakesRecovery (before after : List Made → Type 0) (which : List Made → Type 0) : Type 0 where
+  pub sectors : List Address
+  pub closed : Base
+  pub bits : ℕ → Bool
+  pub bins : List ℕ
+  pub writes : List Made
+  pub front : IsFront (closing_calls closed bits bins) writes
+  pub made : Makes before after (reads_of sectors ++ writes)
+  pub are : which (reads_of sectors ++ writes)

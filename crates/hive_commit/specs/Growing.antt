@@ -1,20 +1,19 @@
 -- A log and bins data as they are written, sector by sector. (This project's own.)
-use Rattle.std.specs.Prelude.{◌≡◌, ◌<◌, ◌+◌, Bool, true, ℕ, List, map, filter, Some}
+use Rattle.std.specs.Prelude.{◌≡◌, ◌<◌, ◌+◌, ◌*◌, Bool, true, ℕ, List, length, map, filter, Some}
 use Rattle.std.specs.List.{range_with_len}
-use Rattle.hive_model.specs.Image.{Primary, Log, Address, Image, Write, Bytes}
-use Rattle.hive_model.specs.Recovery.{primary_in, log_in, sector}
+use Rattle.hive_model.specs.Image.{Image, Write, Bytes}
+use Rattle.hive_model.specs.Recovery.{primary_in, log_in, sector, rank, bitmap_sectors, first_dirty}
+use Rattle.hive_model.specs.Log.{bitmap_text}
+use Rattle.hive_log.specs.Places.{log_at, bin_at}
 
--- sector n of the log
-abbrev pub log_at : ℕ → Address
-log_at n = record { file = Log; sector = n }
+-- behind its base block the log has these bits, for bins data of this size
+abbrev pub HasBitmap : List ℕ → (ℕ → Bool) → ℕ → Type 0
+HasBitmap log bits size = (k : ℕ) → k < bitmap_sectors size → sector log (1 + k) ≡ sector (bitmap_text bits size) k
 
--- sector n of the primary
-abbrev pub primary_at : ℕ → Address
-primary_at n = record { file = Primary; sector = n }
-
--- sector i of the bins data in the primary
-abbrev pub bin_at : ℕ → Address
-bin_at i = record { file = Primary; sector = 8 + i }
+-- behind its bits the log has those of the bins sectors whose bit is on, in rising order
+abbrev pub HasRun : List ℕ → (ℕ → Bool) → List ℕ → Type 0
+HasRun log bits bins =
+    (i : ℕ) → 512 * i < length bins → bits i ≡ true → sector log (first_dirty (length bins) + rank bits i) ≡ sector bins i
 
 -- the first n sectors of the log
 pub record HasFront (image : Image) (log : List ℕ) (n : ℕ) : Type 0 where

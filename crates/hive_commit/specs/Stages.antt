@@ -4,6 +4,7 @@ use Rattle.hive_model.specs.Base.{Base, base_text}
 use Rattle.hive_model.specs.Image.{Primary, Log, Address, Image, Bytes, same_file, same_address}
 use Rattle.hive_model.specs.Recovery.{primary_in, sector}
 use Rattle.hive_model.specs.Carries.{IsRecoveredAs}
+use Rattle.hive_log.specs.Places.{primary_at}
 
 -- an address in the log
 abbrev pub in_log : Address → Bool
@@ -11,7 +12,7 @@ in_log a = same_file a.file Log
 
 -- the address of the primary's base block
 abbrev pub is_base : Address → Bool
-is_base a = same_address a (record { file = Primary; sector = 0 })
+is_base a = same_address a (primary_at 0)
 
 -- the address of a bins sector of the primary, of bins data of this size, whose bit is on
 abbrev pub is_marked : ℕ → (ℕ → Bool) → Address → Bool

@@ -5,6 +5,8 @@ ghost use Rattle.hive_commit.specs.Fitting.{NumbersFit, TextsFit};
 
 use regf_base::BaseBlock;
 
+// A proof knows the range of a number, and the length of an array, from a read of it alone: so each is read.
+
 /// The numbers of a base block fit their places.
 pub(crate) fn numbers_fit(base: &BaseBlock)
     ensures { NumbersFit base.now }

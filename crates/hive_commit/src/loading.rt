@@ -1,16 +1,16 @@
 //! What a disk stands for, and a recovery that leaves it clean.
 
-ghost use Rattle.std.specs.Prelude.{◌≡◌, true, [], length, List, ℕ, IfOk, OnOk};
+ghost use Rattle.std.specs.Prelude.{◌≡◌, true, [], length, List, ℕ, Err, IfOk, OnOk};
+ghost use Rattle.nt_bytes.specs.declared.fault.HiveFault.{HiveFault};
 ghost use Rattle.hive_model.specs.Base.{Base, is_bins_size};
 ghost use Rattle.hive_model.specs.Image.{Image};
 ghost use Rattle.hive_model.specs.Recovery.{recovered_of};
 ghost use Rattle.hive_model.specs.Carries.{Carries, IsRecoveredAs};
-ghost use Rattle.nt_edge.specs.Host.{Rises};
 ghost use Rattle.nt_edge.specs.Disk.{CountsGrow};
 ghost use Rattle.nt_edge.specs.Crash.{EachCrash};
 ghost use Rattle.hive_log.specs.Asked.{asked_of, MakesReads, IsAsked};
 ghost use Rattle.hive_log.specs.Stops.{Reads, HasLoadCause, IsOnAfterLoad};
-ghost use Rattle.hive_commit.specs.Calls.{recovery_calls, MakesAll};
+ghost use Rattle.hive_commit.specs.Calls.{recovery_calls, AreAll, MakesRecovery};
 ghost use Rattle.hive_commit.specs.Alone.{KeepsLog, KeepsRest, KeepsClean};
 ghost use Rattle.hive_commit.specs.Untouched.{IsUntouched, IsUnwritten};
 
@@ -49,8 +49,10 @@ pub fn look<D: Disk>(alloc: Global, disk: &mut D) -> Result<Recovered, LoadStop>
 pub fn recover<D: Disk>(alloc: Global, disk: &mut D) -> Result<Recovered, LoadStop>
     requires on { (D.state disk.old).on ≡ true }
     requires still { D.tells ≡ true → (D.state disk.old).flight ≡ [] }
-    // It reads as a look does, and then writes each sector that the log gave, a sync, the base block, a sync.
-    ensures made { D.tells ≡ true → MakesAll (D.calls disk.old) (D.calls disk.new) (recovery_calls (D.state disk.old).held) result }
+    // It reads as a look does, and then writes each sector that the log gave, a sync, the base block, a sync;
+    // which sectors, is said of a disk that tells what it holds.
+    ensures made { MakesRecovery (D.calls disk.old) (D.calls disk.new)
+        (λ calls. D.tells ≡ true → AreAll (recovery_calls (D.state disk.old).held) result calls) }
     ensures exact { D.tells ≡ true → Reads result (recovered_of (D.state disk.old).held) }
     ensures still { D.tells ≡ true → OnOk result ((D.state disk.new).flight ≡ []) }
     ensures carries { D.tells ≡ true → IfOk result (λ r. Carries (D.state disk.new).held r.base r.bins) }
@@ -65,6 +67,9 @@ pub fn recover<D: Disk>(alloc: Global, disk: &mut D) -> Result<Recovered, LoadSt
         → EachCrash (D.state disk.new) (KeepsRest (length bins) (D.state disk.old).held) }
     // Where the primary was clean, all is as it was, whatever the answer.
     ensures clean { D.tells ≡ true → KeepsClean (D.state disk.old) (D.state disk.new) }
+    // And so it is where the hive has a fault.
+    ensures faulty { D.tells ≡ true → (fault : HiveFault) → recovered_of (D.state disk.old).held ≡ Err fault
+        → IsUntouched (D.state disk.old) (D.state disk.new) }
     ensures unwritten { D.tells ≡ true → IsUnwritten (D.state disk.old) (D.state disk.new) result }
     ensures history { (D.state disk.new).history ≡ (D.state disk.old).history }
     ensures counts { CountsGrow (D.state disk.old) (D.state disk.new) }

@@ -1,20 +1,19 @@
 //! The steps of the stages: writes that stay in flight, and the sync that settles them.
 
-ghost use Rattle.std.specs.Prelude.{◌≡◌, ◌<◌, ◌≤◌, ◌+◌, ◌*◌, ◌/◌, true, Bool, ℕ, List, Some, [], ◌∷◌, length, OnOk};
+ghost use Rattle.std.specs.Prelude.{◌≡◌, ◌<◌, ◌≤◌, ◌+◌, ◌*◌, ◌/◌, true, Bool, ℕ, List, [], ◌∷◌, length, OnOk};
 ghost use Rattle.hive_model.specs.Base.{base_text};
 ghost use Rattle.hive_model.specs.Image as book;
 ghost use Rattle.hive_model.specs.Image.{put};
-ghost use Rattle.hive_model.specs.Recovery.{bit, sector, rank, first_dirty};
+ghost use Rattle.hive_model.specs.Recovery.{bit, sector, rank};
 ghost use Rattle.hive_model.specs.Recovery as recovery;
-ghost use Rattle.hive_model.specs.Log.{bitmap_text};
 ghost use Rattle.nt_edge.specs.Disk.{DiskState, CountsGrow, HasCause, IsOnUnlessLost, now_of};
 ghost use Rattle.nt_edge.specs.Calls.{Wrote, Synced, Makes, MakesUntil, writes_of};
 ghost use Rattle.nt_edge.specs.Crash.{EachCrash, AgreeOutside, Writing};
 ghost use Rattle.hive_commit.specs.Calls.{bins_writes};
 ghost use Rattle.hive_commit.specs.Stages.{in_log, is_marked};
-ghost use Rattle.hive_commit.specs.Growing.{HasFront, HasMarkedBelow, log_part};
+ghost use Rattle.hive_commit.specs.Growing.{HasBitmap, HasRun, HasFront, HasMarkedBelow, log_part};
 
-use hive_log::{bitmap_sector, bitmap_sectors, copy_sector, has_bit, logged_block};
+use hive_log::{bitmap_sector, bitmap_sectors, copy_sector, first_dirty, has_bit, logged_block};
 use nt_edge::{Address, Disk, DiskStop, HiveFile};
 use regf_base::{BaseBlock, base_bytes};
 
@@ -79,12 +78,12 @@ pub fn write_log_bitmap<D: Disk>(disk: &mut D, bitmap: &[u8], size: usize) -> Re
     requires few { size ≤ 16777216 }
     requires bits { size / 4096 ≤ length bitmap.now }
     ensures made { (log : List ℕ)
-        → ((k : ℕ) → k < recovery.bitmap_sectors size → sector log (1 + k) ≡ sector (bitmap_text (bit bitmap.now) size) k)
+        → HasBitmap log (bit bitmap.now) size
         → MakesUntil (D.calls disk.old) (D.calls disk.new) (writes_of (log_part log 1 (recovery.bitmap_sectors size))) result }
     ensures writing { D.tells ≡ true → (first : DiskState) → Writing in_log first (D.state disk.old) → Writing in_log first (D.state disk.new) }
     ensures front { D.tells ≡ true → OnOk result ((log : List ℕ)
-        → ((k : ℕ) → k < recovery.bitmap_sectors size → sector log (1 + k) ≡ sector (bitmap_text (bit bitmap.now) size) k)
-        → HasFront (now_of (D.state disk.old)) log 1 → HasFront (now_of (D.state disk.new)) log (first_dirty size)) }
+        → HasBitmap log (bit bitmap.now) size
+        → HasFront (now_of (D.state disk.old)) log 1 → HasFront (now_of (D.state disk.new)) log (recovery.first_dirty size)) }
     ensures history { (D.state disk.new).history ≡ (D.state disk.old).history }
     ensures counts { CountsGrow (D.state disk.old) (D.state disk.new) }
     ensures cause { HasCause (D.state disk.old) (D.state disk.new) result }
@@ -108,21 +107,21 @@ pub fn write_log_run<D: Disk>(disk: &mut D, bitmap: &[u8], new: &[u8]) -> Result
     requires whole { 512 * (length new.now / 512) ≡ length new.now }
     requires few { length new.now ≤ 16777216 }
     ensures made { (log : List ℕ)
-        → ((i : ℕ) → 512 * i < length new.now → bit bitmap.now i ≡ true → sector log (first_dirty (length new.now) + rank (bit bitmap.now) i) ≡ sector new.now i)
+        → HasRun log (bit bitmap.now) new.now
         → MakesUntil (D.calls disk.old) (D.calls disk.new)
-        (writes_of (log_part log (first_dirty (length new.now)) (rank (bit bitmap.now) (length new.now / 512)))) result }
+        (writes_of (log_part log (recovery.first_dirty (length new.now)) (rank (bit bitmap.now) (length new.now / 512)))) result }
     ensures writing { D.tells ≡ true → (first : DiskState) → Writing in_log first (D.state disk.old) → Writing in_log first (D.state disk.new) }
     ensures front { D.tells ≡ true → OnOk result ((log : List ℕ)
-        → ((i : ℕ) → 512 * i < length new.now → bit bitmap.now i ≡ true → sector log (first_dirty (length new.now) + rank (bit bitmap.now) i) ≡ sector new.now i)
-        → HasFront (now_of (D.state disk.old)) log (first_dirty (length new.now))
-        → HasFront (now_of (D.state disk.new)) log (first_dirty (length new.now) + rank (bit bitmap.now) (length new.now / 512))) }
+        → HasRun log (bit bitmap.now) new.now
+        → HasFront (now_of (D.state disk.old)) log (recovery.first_dirty (length new.now))
+        → HasFront (now_of (D.state disk.new)) log (recovery.first_dirty (length new.now) + rank (bit bitmap.now) (length new.now / 512))) }
     ensures history { (D.state disk.new).history ≡ (D.state disk.old).history }
     ensures counts { CountsGrow (D.state disk.old) (D.state disk.new) }
     ensures cause { HasCause (D.state disk.old) (D.state disk.new) result }
     ensures power { IsOnUnlessLost (D.state disk.new) result }
 {
     let mut sector = [0; 512];
-    let mut number = 1 + bitmap_sectors(new.len()) as u32;
+    let mut number = first_dirty(new.len());
     for i in 0..new.len() / 512 {
         if !has_bit(bitmap, i) {
             continue;

@@ -16,9 +16,11 @@ use crate::stages::{write_bins, write_block};
 use nt_edge::{Disk, DiskStop};
 use regf_base::BaseBlock;
 
-/// Writes what was found into the primary: the log's sectors, and then the base block. Whatever a cut
-/// leaves is recovered as the same. The log is not written.
-pub(crate) fn restore<D: Disk>(
+/// Writes what a reading found into a dirty primary: the sectors that the log gave, and then the base block.
+/// Whatever a cut leaves is recovered as the same. The log is not written. The disk is on and has nothing in
+/// flight; the base block, the bits and the bins data are those that `hive_log::read_recovered` gave of this
+/// disk, with `dirty`. So a caller that has read recovers without reading again.
+pub fn restore<D: Disk>(
     disk: &mut D,
     closed: &BaseBlock,
     bitmap: &[u8],

@@ -1,6 +1,6 @@
 //! The stages of a commit. Each ends with a sync, and says what a cut at its end may leave.
 
-ghost use Rattle.std.specs.Prelude.{◌≡◌, ◌<◌, ◌≤◌, ◌+◌, ◌*◌, ◌/◌, true, ℕ, Some, [], ◌∷◌, ◌++◌, length, OnOk};
+ghost use Rattle.std.specs.Prelude.{◌≡◌, ◌<◌, ◌≤◌, ◌+◌, ◌*◌, ◌/◌, true, Some, [], ◌∷◌, ◌++◌, length, OnOk};
 ghost use Rattle.hive_model.specs.Base.{IsBase, base_text};
 ghost use Rattle.hive_model.specs.Image.{Bytes};
 ghost use Rattle.hive_model.specs.Recovery.{primary_in, bit};

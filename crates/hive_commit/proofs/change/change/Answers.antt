@@ -113,15 +113,7 @@ write_log-requires-clause-fits g c = λ tells.
 
 pub returns-in_err-write_log-clause-crash : goal.returns-in_err-write_log-clause-crash
 returns-in_err-write_log-clause-crash g c = λ tells image left.
-    let is = asked (g.D.Disk.state c.args.disk.now).held c.args.base.now c.args.old.now c.args.new.now c.args.root c.mark_all.new.into (c.requires.carries tells) c.numbers_fit.ensures c.texts_fit.ensures c.requires.sized (search rules) c.mark_all.ensures in
-    let base = c.args.base.now in
-    let old = c.args.old.now in
-    let new = c.args.new.now in
-    let root = c.args.root in
-    let bits = bit c.mark_all.new.into in
-    let closed = closed_of base new root in
-    let s0 = g.D.Disk.state c.args.disk.now in
-    inl (in_log_stage base old new root bits is s0.held (c.requires.carries tells) image (c.write_log.ensures.crash tells image left))
+    inl (in_log_stage (g.D.Disk.state c.args.disk.now).held image c.args.base.now c.args.old.now (c.requires.carries tells) (c.write_log.ensures.crash tells image left))
 
 pub returns-in_err-write_block-clause-crash : goal.returns-in_err-write_block-clause-crash
 returns-in_err-write_block-clause-crash g c = λ tells image left.

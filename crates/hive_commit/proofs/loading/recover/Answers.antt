@@ -1,34 +1,39 @@
-use Rattle.std.proofs.Common.{◌≡◌, true, sym, ◌∙◌, ap, length}
-use Rattle.hive_model.specs.Recovery.{Recovered}
-use Rattle.hive_commit.specs.Calls.{recovery_calls}
-use Rattle.hive_commit.proofs.RecoveryCalls.{refused, stopped_by, in_restoring, restored_made, clean_made}
+use Rattle.std.proofs.Common.{◌≡◌, ◌++◌, true, [], sym, ◌∙◌, ap, length}
+use Rattle.std.proofs.lemmas.List.{append-nil}
+use Rattle.hive_model.specs.Recovery.{Recovered, bit}
+use Rattle.nt_edge.specs.Calls.{reads_of}
+use Rattle.hive_commit.specs.Calls.{closing_calls, recovery_calls}
+use Rattle.hive_commit.proofs.RecoveryCalls.{only_read, read_then, refused, stopped_by, restored_front, restored_all, clean_all}
 use Rattle.hive_commit.proofs.Kept.{kept, kept_log, log_behind, crash_restored}
 use Rattle.hive_commit.proofs.Rest.{rest_kept, rest_restored}
 use Rattle.hive_commit.proofs.loading.recover.Goals as goal
 use Rattle.hive_commit.proofs.loading.recover.Goals.{then-recovered+in_ok-restore, else-recovered}
 
 pub returns-in_err-recovered-clause-made : goal.returns-in_err-recovered-clause-made
-returns-in_err-recovered-clause-made g c = λ tells.
+returns-in_err-recovered-clause-made g c =
     let asked = c.in_err-recovered.ensures.asked in
-    refused (g.D.Disk.calls c.args.disk.now) (g.D.Disk.calls c.read_recovered.new.disk) (g.D.Disk.state c.args.disk.now).held c.from_residual.result c.in_err-recovered.field-0.0 asked.sectors c.from_residual.ensures.1
-    asked.made (asked.are tells) (c.in_err-recovered.ensures.exact tells)
+    only_read (g.D.Disk.calls c.args.disk.now) (g.D.Disk.calls c.read_recovered.new.disk) _ asked.sectors asked.made
+    (λ tells. refused (g.D.Disk.state c.args.disk.now).held c.from_residual.result c.in_err-recovered.field-0.0 asked.sectors c.from_residual.ensures.1 (asked.are tells) (c.in_err-recovered.ensures.exact tells))
 
 pub returns-in_err-restore-clause-made : goal.returns-in_err-restore-clause-made
-returns-in_err-restore-clause-made g c = λ tells.
-    let start = g.D.Disk.calls c.args.disk.now in
-    let one = g.D.Disk.calls c.read_recovered.new.disk in
-    let two = g.D.Disk.calls c.restore.new.disk in
+returns-in_err-restore-clause-made g c =
     let image = (g.D.Disk.state c.args.disk.now).held in
     let view = c.in_ok-recovered.field-0.recovered in
     let asked = c.in_ok-recovered.ensures.asked in
     let dirty : view.dirty ≡ true = sym (ap (λ (r : Recovered). r.dirty) c.recovered.view_is) ∙ c.if-recovered.true in
-    stopped_by start two c.from_residual-in_err-restore.result c.in_err-restore.field-0.0 (recovery_calls image) c.from_residual-in_err-restore.ensures.1
-    (in_restoring start one image asked.sectors asked.made (asked.are tells) view (c.in_ok-recovered.ensures.exact tells)
-    two c.recovered.inside.base c.as_slice.result.now c.as_slice-then-recovered.result.now c.in_ok-recovered.field-0.bitmap dirty (c.in_ok-recovered.ensures.found tells dirty)
-    (ap (λ (r : Recovered). r.base) c.recovered.view_is) c.as_slice.ensures (c.as_slice-then-recovered.ensures ∙ ap (λ (r : Recovered). r.bins) c.recovered.view_is) c.in_err-restore.ensures.made)
+    let closed = c.recovered.inside.base in
+    let bitmap = c.as_slice.result.now in
+    let bins = c.as_slice-then-recovered.result.now in
+    let made = c.in_err-restore.ensures.made in
+    read_then (g.D.Disk.calls c.args.disk.now) (g.D.Disk.calls c.read_recovered.new.disk) _ asked.sectors asked.made (g.D.Disk.calls c.restore.new.disk) closed (bit bitmap) bins made
+    (λ tells. stopped_by c.from_residual-in_err-restore.result c.in_err-restore.field-0.0 (recovery_calls image) (reads_of asked.sectors ++ made.front) c.from_residual-in_err-restore.ensures.1
+    (restored_front image asked.sectors (asked.are tells) view (c.in_ok-recovered.ensures.exact tells)
+    closed bitmap bins c.in_ok-recovered.field-0.bitmap dirty (c.in_ok-recovered.ensures.found tells dirty)
+    (ap (λ (r : Recovered). r.base) c.recovered.view_is) c.as_slice.ensures (c.as_slice-then-recovered.ensures ∙ ap (λ (r : Recovered). r.bins) c.recovered.view_is)
+    made.front (record { rest = made.rest; cut = made.cut })))
 
 pub returns-clause-made : goal.returns-clause-made
-returns-clause-made g c = λ tells.
+returns-clause-made g c =
     let start = g.D.Disk.calls c.args.disk.now in
     let one = g.D.Disk.calls c.read_recovered.new.disk in
     let image = (g.D.Disk.state c.args.disk.now).held in
@@ -38,11 +43,19 @@ returns-clause-made g c = λ tells.
     elim c.if-recovered.branch [
       | then-recovered+in_ok-restore w ↦
           let dirty : view.dirty ≡ true = shown ∙ w.if-recovered.true in
+          let closed = c.recovered.inside.base in
+          let bitmap = w.as_slice.result.now in
+          let bins = w.as_slice-then-recovered.result.now in
+          let calls = closing_calls closed (bit bitmap) bins in
           rw w.disk-is
-          (restored_made start one image asked.sectors asked.made (asked.are tells) view (c.in_ok-recovered.ensures.exact tells)
-          (g.D.Disk.calls w.restore.new.disk) c.recovered.inside.base w.as_slice.result.now w.as_slice-then-recovered.result.now c.in_ok-recovered.field-0.bitmap dirty (c.in_ok-recovered.ensures.found tells dirty)
-          (ap (λ (r : Recovered). r.base) c.recovered.view_is) w.as_slice.ensures (w.as_slice-then-recovered.ensures ∙ ap (λ (r : Recovered). r.bins) c.recovered.view_is) w.in_ok-restore.ensures.made)
-      | else-recovered w ↦ rw w.disk-is (clean_made start one image asked.sectors asked.made (asked.are tells) view (c.in_ok-recovered.ensures.exact tells) (shown ∙ w.if-recovered.false))
+          (read_then start one _ asked.sectors asked.made (g.D.Disk.calls w.restore.new.disk) closed (bit bitmap) bins
+          (record { front = calls; rest = []; cut = sym (append-nil calls); made = w.in_ok-restore.ensures.made })
+          (λ tells. restored_all image asked.sectors (asked.are tells) view (c.in_ok-recovered.ensures.exact tells)
+          closed bitmap bins c.in_ok-recovered.field-0.bitmap dirty (c.in_ok-recovered.ensures.found tells dirty)
+          (ap (λ (r : Recovered). r.base) c.recovered.view_is) w.as_slice.ensures (w.as_slice-then-recovered.ensures ∙ ap (λ (r : Recovered). r.bins) c.recovered.view_is)))
+      | else-recovered w ↦ rw w.disk-is
+          (only_read start one _ asked.sectors asked.made
+          (λ tells. clean_all image asked.sectors (asked.are tells) view (c.in_ok-recovered.ensures.exact tells) (shown ∙ w.if-recovered.false)))
     ]
 
 pub returns-in_err-restore-clause-crash : goal.returns-in_err-restore-clause-crash

@@ -1,20 +1,19 @@
-use Rattle.std.proofs.Common.{◌≡◌, ◌<◌, ◌+◌, true, ℕ, List}
-use Rattle.hive_model.specs.Recovery.{sector, bit, bitmap_sectors}
-use Rattle.hive_model.specs.Log.{bitmap_text}
+use Rattle.std.proofs.Common.{◌≡◌, ◌+◌, true, ℕ, List}
+use Rattle.hive_model.specs.Recovery.{bit}
 use Rattle.nt_edge.specs.Disk.{DiskState, CountsGrow, now_of}
 use Rattle.nt_edge.specs.Calls.{Makes, writes_of}
 use Rattle.nt_edge.specs.Crash.{Writing}
 use Rattle.hive_commit.specs.Stages.{in_log}
-use Rattle.hive_commit.specs.Growing.{HasFront, log_part}
+use Rattle.hive_commit.specs.Growing.{HasBitmap, HasFront, log_part}
 use Rattle.hive_commit.proofs.parts.write_log_bitmap.Given as goal
 
 abbrev pub invariant-loop-k : goal.invariant-loop-k
 invariant-loop-k g l = record {
   on : (g.D.Disk.state l.disk).on ≡ true;
   writing : g.D.Disk.tells ≡ true → (first : DiskState) → Writing in_log first (g.D.Disk.state l.fn.disk) → Writing in_log first (g.D.Disk.state l.disk);
-  made : (log : List ℕ) → ((k : ℕ) → k < bitmap_sectors l.size → sector log (1 + k) ≡ sector (bitmap_text (bit l.bitmap) l.size) k)
+  made : (log : List ℕ) → HasBitmap log (bit l.bitmap) l.size
       → Makes (g.D.Disk.calls l.fn.disk) (g.D.Disk.calls l.disk) (writes_of (log_part log 1 l.k));
-  front : g.D.Disk.tells ≡ true → (log : List ℕ) → ((k : ℕ) → k < bitmap_sectors l.size → sector log (1 + k) ≡ sector (bitmap_text (bit l.bitmap) l.size) k)
+  front : g.D.Disk.tells ≡ true → (log : List ℕ) → HasBitmap log (bit l.bitmap) l.size
       → HasFront (now_of (g.D.Disk.state l.fn.disk)) log 1 → HasFront (now_of (g.D.Disk.state l.disk)) log (1 + l.k);
   history : (g.D.Disk.state l.disk).history ≡ (g.D.Disk.state l.fn.disk).history;
   counts : CountsGrow (g.D.Disk.state l.fn.disk) (g.D.Disk.state l.disk);

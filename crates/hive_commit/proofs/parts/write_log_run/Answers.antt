@@ -5,7 +5,8 @@ use Rattle.nt_edge.specs.Disk.{now_of}
 use Rattle.nt_edge.specs.Calls.{Wrote, Makes, writes_of}
 use Rattle.hive_log.proofs.Ranks.{rank_on, rank_below}
 use Rattle.hive_commit.specs.Stages.{in_log}
-use Rattle.hive_commit.specs.Growing.{log_at, log_part}
+use Rattle.hive_log.specs.Places.{log_at}
+use Rattle.hive_commit.specs.Growing.{log_part}
 use Rattle.hive_commit.proofs.Growth.{front_more, front_along}
 use Rattle.hive_commit.proofs.WriteCalls.{log_more, log_stopped}
 use Rattle.hive_commit.proofs.parts.write_log_run.Goals as goal

@@ -1,10 +1,10 @@
-use Rattle.std.proofs.Common.{◌≡◌, ◌<◌, ◌≤◌, ◌+◌, ◌*◌, true, ℕ, List, length}
-use Rattle.hive_model.specs.Recovery.{sector, bit, rank, first_dirty}
+use Rattle.std.proofs.Common.{◌≡◌, ◌≤◌, ◌+◌, true, ℕ, List, length}
+use Rattle.hive_model.specs.Recovery.{bit, rank, first_dirty}
 use Rattle.nt_edge.specs.Disk.{DiskState, CountsGrow, now_of}
 use Rattle.nt_edge.specs.Calls.{Makes, writes_of}
 use Rattle.nt_edge.specs.Crash.{Writing}
 use Rattle.hive_commit.specs.Stages.{in_log}
-use Rattle.hive_commit.specs.Growing.{HasFront, log_part}
+use Rattle.hive_commit.specs.Growing.{HasRun, HasFront, log_part}
 use Rattle.hive_commit.proofs.parts.write_log_run.Given as goal
 
 abbrev pub invariant-loop-i : goal.invariant-loop-i
@@ -14,10 +14,10 @@ invariant-loop-i g l = record {
   small : l.number ≤ 100 + l.i;
   writing : g.D.Disk.tells ≡ true → (first : DiskState) → Writing in_log first (g.D.Disk.state l.fn.disk) → Writing in_log first (g.D.Disk.state l.disk);
   made : (log : List ℕ)
-      → ((i : ℕ) → 512 * i < length l.new → bit l.bitmap i ≡ true → sector log (first_dirty (length l.new) + rank (bit l.bitmap) i) ≡ sector l.new i)
+      → HasRun log (bit l.bitmap) l.new
       → Makes (g.D.Disk.calls l.fn.disk) (g.D.Disk.calls l.disk) (writes_of (log_part log (first_dirty (length l.new)) (rank (bit l.bitmap) l.i)));
   front : g.D.Disk.tells ≡ true → (log : List ℕ)
-      → ((i : ℕ) → 512 * i < length l.new → bit l.bitmap i ≡ true → sector log (first_dirty (length l.new) + rank (bit l.bitmap) i) ≡ sector l.new i)
+      → HasRun log (bit l.bitmap) l.new
       → HasFront (now_of (g.D.Disk.state l.fn.disk)) log (first_dirty (length l.new))
       → HasFront (now_of (g.D.Disk.state l.disk)) log (first_dirty (length l.new) + rank (bit l.bitmap) l.i);
   history : (g.D.Disk.state l.disk).history ≡ (g.D.Disk.state l.fn.disk).history;
