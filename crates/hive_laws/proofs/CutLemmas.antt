@@ -1,5 +1,5 @@
--- What an image loads as that is recovered as one of two.
-use Rattle.std.proofs.Common.{◌≡◌, ◌⊎◌, inl, inr, ℕ, Bool, List, refl}
+-- What an image loads as, and reads as, that is recovered as one of two.
+use Rattle.std.proofs.Common.{inl, inr, ℕ, List, Option, refl}
 use Rattle.hive_model.specs.Base.{Base}
 use Rattle.hive_model.specs.Carries.{IsRecoveredAs}
 use Rattle.hive_model.specs.Image.{Image}
@@ -7,7 +7,8 @@ use Rattle.hive_model.specs.Load.{Loads}
 use Rattle.hive_model.specs.State.{HiveState}
 use Rattle.hive_cells.proofs.Again.{one_list}
 use Rattle.hive_read.proofs.Loading.{one-load}
-use Rattle.hive_laws.specs.Cuts.{HoldsIn}
+use Rattle.hive_commit.specs.Stages.{IsBeforeOrAfter}
+use Rattle.hive_laws.specs.Cuts.{HoldsIn, LoadsAsEither, LoadsAsNoThird, ReadsAsEither}
 
 loads_as : (image : Image) (base : Base) (bins : List ℕ) (state : HiveState) → HoldsIn base bins state → (is : IsRecoveredAs image base bins) → Loads image state is.dirty
 loads_as image base bins state holds is =
@@ -18,9 +19,21 @@ loads_as image base bins state holds is =
       holds = record { bins = holds.bins; cells = holds.cells; tree = holds.tree; sequence = holds.sequence };
     }
 
-pub no_third : (image : Image) (before after : Base) (old new : List ℕ) (first then found : HiveState) (dirty : Bool) → HoldsIn before old first → HoldsIn after new then
-    → IsRecoveredAs image before old ⊎ IsRecoveredAs image after new → Loads image found dirty → (found ≡ first) ⊎ (found ≡ then)
-no_third image before after old new first then found dirty holds_first holds_then (inl is) loads =
-    inl (one-load one_list image found first dirty is.dirty loads (loads_as image before old first holds_first is)).0
-no_third image before after old new first then found dirty holds_first holds_then (inr is) loads =
-    inr (one-load one_list image found then dirty is.dirty loads (loads_as image after new then holds_then is)).0
+pub reads_as_either : (reading : Base → List ℕ → Option HiveState) (base closed : Base) (old new : List ℕ) (image : Image)
+    → IsBeforeOrAfter base old closed new image → ReadsAsEither reading base old closed new image
+reads_as_either reading base closed old new image (inl is) =
+    (record { base = base; bins = old; dirty = is.dirty }, is.recovered, inl refl)
+reads_as_either reading base closed old new image (inr is) =
+    (record { base = closed; bins = new; dirty = is.dirty }, is.recovered, inr refl)
+
+module _ (base closed : Base) (old new : List ℕ) (before after : HiveState)
+    (held : HoldsIn base old before) (holds : HoldsIn closed new after) where
+  pub loads_as_either : (image : Image) → IsBeforeOrAfter base old closed new image → LoadsAsEither before after image
+  loads_as_either image (inl is) = (is.dirty, inl (loads_as image base old before held is))
+  loads_as_either image (inr is) = (is.dirty, inr (loads_as image closed new after holds is))
+
+  pub loads_as_no_third : (image : Image) → IsBeforeOrAfter base old closed new image → LoadsAsNoThird before after image
+  loads_as_no_third image (inl is) found dirty loads =
+      inl (one-load one_list image found before dirty is.dirty loads (loads_as image base old before held is)).0
+  loads_as_no_third image (inr is) found dirty loads =
+      inr (one-load one_list image found after dirty is.dirty loads (loads_as image closed new after holds is)).0

@@ -3,6 +3,7 @@ pub mod Found
 pub mod OneByOne
 pub mod Asked
 pub mod AskedOnce
+pub mod AskedInOrder
 pub mod Driver
 pub mod Faults
 pub mod Deep

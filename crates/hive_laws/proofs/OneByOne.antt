@@ -138,7 +138,7 @@ module _ (image : Image) (at : ℕ → Address) (test : ℕ → Bool) where
 
 -- ---- the same of a run of sectors
 
-every_number : (from n : ℕ) → filter (λ k. true) (range_with_len from n) ≡ range_with_len from n
+pub every_number : (from n : ℕ) → filter (λ k. true) (range_with_len from n) ≡ range_with_len from n
 every_number from zero = refl
 every_number from (suc n) = ap (λ ks. from ∷ ks) (every_number (from + 1) n)
 

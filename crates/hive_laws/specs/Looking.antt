@@ -1,7 +1,7 @@
 -- The sectors at which recovery of an image looks: those that one of its steps asks for, where no step before found a fault.
 -- (The steps are those of the book's `Recovery`, in its order; this project's own.)
-use Rattle.std.specs.Prelude.{◌≡◌, ◌<◌, ◌+◌, ◌-◌, ◌/◌, ℕ, Bool, true, false, List, drop, nat_eq, codes, IsSome, Some, Ok}
-use Rattle.std.specs.List.{starts_with}
+use Rattle.std.specs.Prelude.{◌≡◌, ◌<◌, ◌≤◌, ◌+◌, ◌-◌, ◌/◌, ℕ, Bool, true, false, List, ◌∷◌, ◌++◌, drop, map, nat_eq, codes, IsSome, Some, Ok, All, AllPairs}
+use Rattle.std.specs.List.{starts_with, range_with_len}
 use Rattle.hive_model.specs.Base.{Base}
 use Rattle.hive_model.specs.Image.{Image, Address, Primary, Log, Bytes}
 use Rattle.hive_model.specs.Carries.{HasBase}
@@ -75,3 +75,12 @@ pub data LooksAt (image : Image) : Address → Type 0 where
   at_another_one : (opened logged : Base) (text : List ℕ) (i : ℕ) → HasBits image opened logged text
       → AreThere (marked_in image logged) (marks logged text) → i < bins_sectors logged → bits_of text i ≡ false
       → AreThere (bins_by image logged text) i → LooksAt image (in_primary (8 + i))
+
+-- The sectors are in recovery's order: the primary's sector 0, then so many of the log from 0 on with none left
+-- out, and then some of the primary behind sector 7, by rising number.
+pub record IsInOrder (sectors : List Address) : Type 0 where
+  pub logged : ℕ
+  pub others : List ℕ
+  pub are : sectors ≡ in_primary 0 ∷ map in_log (range_with_len 0 logged) ++ map in_primary others
+  pub behind : All (λ n. 8 ≤ n) others
+  pub rising : AllPairs (λ m n. m < n) others

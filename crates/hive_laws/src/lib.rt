@@ -1,7 +1,10 @@
-//! Laws and worked examples of the book of hives, apart from any code.
+//! Laws and worked examples of the book of hives: of definitions alone, whatever code there is. A few of them stand
+//! above the book: the sectors that recovery asks for (`asked_of` of `hive_log`), and what a cut within a commit leaves
+//! (of `hive_commit` and `nt_edge`).
 //!
-//! Each example is a definition of the book at one input, with the value that it computes to. The values are those of the
-//! format's tables, worked out by hand, or of files that other programs wrote.
+//! Each example is a definition at one input, with the value that it computes to: one of the book, of `nt_bytes` for
+//! names and strings, or `asked_of`. The values are those of the format's tables, worked out by hand, or of files that
+//! other programs wrote.
 #![tactic(auto)]
 
 mod base;
@@ -49,9 +52,9 @@ pub use loads::{
 };
 pub use logs::{a_commit_logs_every_sector, a_log_of_longer_data, a_log_of_one_sector};
 pub use looking::{
-    a_clean_hive_needs_no_log, recovery_asks_for_each_sector_once, recovery_asks_where_it_looks,
-    recovery_looks_nowhere_else, sectors_that_recovery_asks_for, seven_sectors_are_left_alone,
-    what_recovery_looks_at_is_there,
+    a_clean_hive_needs_no_log, recovery_asks_for_each_sector_once, recovery_asks_in_order,
+    recovery_asks_where_it_looks, recovery_looks_nowhere_else, sectors_that_recovery_asks_for,
+    seven_sectors_are_left_alone, what_recovery_looks_at_is_there,
 };
 pub use names::{names_are_stored, names_fold, strings_are_read};
 pub use packing::{

@@ -7,7 +7,7 @@ ghost use Rattle.hive_model.specs.Carries.{HasBase};
 ghost use Rattle.hive_model.specs.Log.{dirty, log_of};
 ghost use Rattle.hive_model.specs.Recovery.{Recovered, recovered_of};
 ghost use Rattle.hive_log.specs.Asked.{asked_of};
-ghost use Rattle.hive_laws.specs.Looking.{LooksAt, in_primary, in_log};
+ghost use Rattle.hive_laws.specs.Looking.{LooksAt, IsInOrder, in_primary, in_log};
 ghost use Rattle.hive_laws.specs.OneDriver.{driver_with};
 ghost use Rattle.hive_laws.specs.Samples.{block, before, after, file_of};
 
@@ -34,15 +34,21 @@ pub fn a_clean_hive_needs_no_log()
         → recovered_of (with_file Log log image) ≡ recovered_of image }
 {}
 
-/// Recovery asks for just the sectors that it looks at,
+/// What recovery asks for is `asked_of`, of `hive_log`: just the sectors that it looks at,
 pub fn recovery_asks_where_it_looks()
     ensures only { (image : Image) (at : Address) → Contains (asked_of image) at → LooksAt image at }
     ensures each { (image : Image) (at : Address) → LooksAt image at → Contains (asked_of image) at }
 {}
 
-/// and for each of them once.
+/// each of them once,
 pub fn recovery_asks_for_each_sector_once()
     ensures { (image : Image) → AllPairs (λ a b. same_address a b ≡ false) (asked_of image) }
+{}
+
+/// and in this order: the primary's sector 0, the log's from 0 on with none left out, and some of the primary's
+/// behind sector 7 by rising number.
+pub fn recovery_asks_in_order()
+    ensures { (image : Image) → IsInOrder (asked_of image) }
 {}
 
 /// What recovery asks for, in its order: of the clean hive of one driver, of no files, and of a hive with the
