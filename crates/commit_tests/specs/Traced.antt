@@ -1,6 +1,6 @@
--- What does a disk that keeps its calls say of them? They are those that it kept, in order.
+-- What does a disk that keeps its calls say of them? They are those that it kept, in order, or more than those.
 -- (This project's own.)
-use Rattle.std.specs.Prelude.{◌≡◌, ◌++◌, true, List, map}
+use Rattle.std.specs.Prelude.{◌≡◌, ◌<◌, ◌++◌, true, false, List, length, map}
 use Rattle.nt_edge.specs.Calls.{Made, ReadAt, Wrote, Synced}
 use Rattle.nt_edge.specs.Disk.{DiskState, IsBounded}
 use Rattle.mem_edge.specs.State.{state_of}
@@ -23,13 +23,17 @@ calls_of traced = map made_of traced.calls.items
 abbrev pub traced_state : Traced → DiskState
 traced_state traced = state_of traced.disk
 
--- the calls are those that it kept, if memory sufficed for all of them
-abbrev pub kept_calls : Traced → List Made → Type 0
-kept_calls traced made = traced.whole ≡ true → made ≡ calls_of traced
+-- These are its calls: those that it kept, if it says that it is whole, and else more than those.
+pub record HasKept (traced : Traced) (made : List Made) : Type 0 where
+  pub all : traced.whole ≡ true → made ≡ calls_of traced
+  pub fewer : traced.whole ≡ false → length (calls_of traced) < length made
 
--- these calls were kept behind those from before, if memory sufficed for all of them
-abbrev pub KeepsMore : Traced → Traced → List Made → Type 0
-KeepsMore old new calls = new.whole ≡ true → calls_of new ≡ calls_of old ++ calls
+-- These calls were made. It is whole behind them where it was whole before and has kept each of them, behind those
+-- from before. Where it was whole and is not, it has kept fewer.
+pub record KeepsMore (old new : Traced) (calls : List Made) : Type 0 where
+  pub before : new.whole ≡ true → old.whole ≡ true
+  pub all : new.whole ≡ true → calls_of new ≡ calls_of old ++ calls
+  pub fewer : old.whole ≡ true → new.whole ≡ false → length (calls_of new) < length (calls_of old ++ calls)
 
 -- no count is past its end
 pub bounded_law : (traced : Traced) → IsBounded (traced_state traced)

@@ -3,9 +3,9 @@
 ghost use Rattle.std.specs.Prelude.{◌≡◌};
 ghost use Rattle.hive_model.specs.Base.{is_bins_size};
 
+use crate::files::{block, marked, primary};
 use hive_log::Recovered;
 use nt_bytes::Bytes;
-use regf_base::{BaseBlock, base_bytes};
 use std::alloc::{AllocError, Global};
 
 /// A primary file with sequence number 5, its bins data, and those that a commit puts in their place.
@@ -39,47 +39,16 @@ pub fn is_size(size: usize) -> bool
     size % 4096 == 0 && 4096 <= size && size <= 16_777_216
 }
 
-/// So many pages of bins data. Each sector has a mark of its own, which is in no other sector.
-fn pages(alloc: Global, count: u32) -> Result<Bytes, AllocError> {
-    let mut bins = Bytes::new(alloc);
-    for sector in 0..count.saturating_mul(8) {
-        bins.put_u32(sector)?;
-        bins.append_zeros(508)?;
-    }
-    Ok(bins)
-}
-
-/// A primary file that is clean.
-fn primary(alloc: Global, bins: &[u8]) -> Result<Bytes, AllocError> {
-    let base = BaseBlock {
-        first: 5,
-        second: 5,
-        stamp: 0,
-        minor: 3,
-        kind: 0,
-        root: 32,
-        size: u32::try_from(bins.len()).unwrap_or(0),
-        cluster: 1,
-        name: [0; 64],
-        rest: [0; 396],
-    };
-    let mut sector = [0; 512];
-    base_bytes(&base, &mut sector);
-    let mut file = Bytes::from_slice(alloc, &sector)?;
-    file.append_zeros(3584)?;
-    file.append(bins)?;
-    Ok(file)
-}
-
 impl Change {
     /// A change from so many pages to so many, with one byte of the second sector turned.
     pub fn new(alloc: Global, from: u32, to: u32) -> Result<Change, AllocError> {
-        let old = pages(alloc, from)?;
-        let mut new = pages(alloc, to)?;
+        let base = block(5, 5, 0, from.saturating_mul(4096));
+        let file = primary(alloc, &base, from.saturating_mul(8))?;
+        let old = marked(alloc, 1, from.saturating_mul(8))?;
+        let mut new = marked(alloc, 1, to.saturating_mul(8))?;
         if new.len() > 600 {
             new.overwrite(600, &[0xff]);
         }
-        let file = primary(alloc, old.as_slice())?;
         Ok(Change { file, old, new })
     }
 

@@ -1,10 +1,10 @@
-//! The calls of a look, of a recovery and of a commit, in order, for a hive of one bin.
+//! The calls of a look, of a recovery and of a commit, in order, for a hive of one bin or two.
 
 ghost use Rattle.std.specs.Prelude.{◌≡◌, ◌≤◌, true, [], length, IfOk};
 ghost use Rattle.commit_tests.specs.Traced.{traced_state};
 
 use super::*;
-use crate::files::{block, file, log, primary};
+use crate::files::{LOGGED, block, file, log, marked, primary};
 use hive_commit::{CommitStop, LoadStop, recover};
 use mem_edge::MemDisk;
 use nt_bytes::Bytes;
@@ -65,57 +65,98 @@ fn traced(alloc: Global, primary: &[u8], log: &[u8]) -> Result<Traced, DiskStop>
     Ok(Traced::new(alloc, disk))
 }
 
-/// Looks at a disk with these files and recovers another one with them, which reads as the look does. Answers
-/// the reads, the calls behind them, and what was written.
+/// What a look and a recovery found and did.
+#[derive(Drop)]
+struct Seen {
+    /// Whether the log was needed, and the bins data, in which both agree.
+    found: Result<(bool, Vec<u8>), LoadStop>,
+    /// The reads, which are the same in both.
+    reads: String,
+    /// The calls of the recovery behind them.
+    behind: String,
+    /// What those wrote.
+    written: Bytes,
+}
+
+/// Looks at a disk with these files, and recovers another one with them.
 fn looked_and_recovered(
     rt: &impl Abort,
     alloc: Global,
     primary: &[u8],
     log: &[u8],
-) -> Result<(String, String, Bytes), LoadStop> {
+) -> Result<Seen, LoadStop> {
     assert!(rt; primary.len() <= 33_554_432 && log.len() <= 33_554_432);
     let mut first = traced(alloc, primary, log)?;
     let mut second = traced(alloc, primary, log)?;
-    let seen = look_kept(alloc, &mut first).map(|found| found.dirty);
-    let recovered = recover_kept(alloc, &mut second).map(|found| found.dirty);
-    assert_eq!(rt; seen, recovered);
+    let found = look_kept(alloc, &mut first).map(|found| (found.dirty, found.bins.into_vec()));
+    let again = recover_kept(alloc, &mut second).map(|found| (found.dirty, found.bins.into_vec()));
+    assert_eq!(rt; found, again);
     assert!(rt; first.whole && second.whole);
     assert!(rt; first.calls.len() <= second.calls.len());
     let (reads, behind) = second.calls.split_at(first.calls.len());
     assert_eq!(rt; reads, first.calls.as_slice());
-    Ok((
-        words(alloc, reads)?,
-        words(alloc, behind)?,
-        written(alloc, behind)?,
-    ))
+    Ok(Seen {
+        found,
+        reads: words(alloc, reads)?,
+        behind: words(alloc, behind)?,
+        written: written(alloc, behind)?,
+    })
+}
+
+/// Sectors with these marks.
+fn with_marks(alloc: Global, marks: &[u32]) -> Result<Bytes, AllocError> {
+    let mut bytes = Bytes::new(alloc);
+    for mark in marks {
+        let sector = marked(alloc, *mark, 1)?;
+        bytes.append(sector.as_slice())?;
+    }
+    Ok(bytes)
 }
 
 /// What a recovery writes: so many sectors of the log, and the base block closed.
-fn restored(alloc: Global, run: usize) -> Result<Bytes, AllocError> {
-    let mut bytes = Bytes::new(alloc);
-    for _ in 0..run {
-        bytes.append(&[7; 512])?;
-    }
-    let closed = file(alloc, &block(6, 6, 0, 4096))?;
+fn restored(alloc: Global, run: u32, size: u32) -> Result<Bytes, AllocError> {
+    let mut bytes = marked(alloc, LOGGED, run)?;
+    let closed = file(alloc, &block(6, 6, 0, size))?;
     bytes.append(closed.as_slice())?;
     Ok(bytes)
 }
 
+/// A hive whose log is whole: the second number of its primary, the front of the log's bits and how many
+/// sectors it has behind them; the marks of the bins data that are found; the reads, and the calls behind.
+type Row = (
+    u32,
+    &'static [u8],
+    u32,
+    &'static [u32],
+    &'static str,
+    &'static str,
+);
+
 /// A sector whose bit is on is the log's, and a recovery writes it. A clean primary is not written.
 #[test]
 fn a_hive_is_read_and_recovered_in_order(rt: HostRuntime) -> Result<(), Fail> {
-    let rows: [(u32, &[u8], usize, &str, &str); 5] = [
+    let rows: [Row; 7] = [
         (
             6,
             b"DIRT\xff",
             8,
+            &[1, 2, 3, 4, 5, 6, 7, 8],
             "rP0 rP8 rP9 rP10 rP11 rP12 rP13 rP14 rP15",
+            "",
+        ),
+        (
+            6,
+            b"DIRT\xff\xff",
+            16,
+            &[1, 2, 3, 4, 5, 6, 7, 8, 9, 10, 11, 12, 13, 14, 15, 16],
+            "rP0 rP8 rP9 rP10 rP11 rP12 rP13 rP14 rP15 rP16 rP17 rP18 rP19 rP20 rP21 rP22 rP23",
             "",
         ),
         (
             5,
             b"DIRT\x00",
             0,
+            &[1, 2, 3, 4, 5, 6, 7, 8],
             "rP0 rL0 rL1 rP8 rP9 rP10 rP11 rP12 rP13 rP14 rP15",
             "s wP0 s",
         ),
@@ -123,6 +164,7 @@ fn a_hive_is_read_and_recovered_in_order(rt: HostRuntime) -> Result<(), Fail> {
             5,
             b"DIRT\x02",
             1,
+            &[1, 100, 3, 4, 5, 6, 7, 8],
             "rP0 rL0 rL1 rL2 rP8 rP10 rP11 rP12 rP13 rP14 rP15",
             "wP9 s wP0 s",
         ),
@@ -130,6 +172,7 @@ fn a_hive_is_read_and_recovered_in_order(rt: HostRuntime) -> Result<(), Fail> {
             5,
             b"DIRT\x91",
             3,
+            &[100, 2, 3, 4, 101, 6, 7, 102],
             "rP0 rL0 rL1 rL2 rL3 rL4 rP9 rP10 rP11 rP13 rP14",
             "wP8 wP12 wP15 s wP0 s",
         ),
@@ -137,24 +180,37 @@ fn a_hive_is_read_and_recovered_in_order(rt: HostRuntime) -> Result<(), Fail> {
             5,
             b"DIRT\xff",
             8,
+            &[100, 101, 102, 103, 104, 105, 106, 107],
             "rP0 rL0 rL1 rL2 rL3 rL4 rL5 rL6 rL7 rL8 rL9",
             "wP8 wP9 wP10 wP11 wP12 wP13 wP14 wP15 s wP0 s",
         ),
+        (
+            5,
+            b"DIRT\x07\x81",
+            5,
+            &[
+                100, 101, 102, 4, 5, 6, 7, 8, 103, 10, 11, 12, 13, 14, 15, 104,
+            ],
+            "rP0 rL0 rL1 rL2 rL3 rL4 rL5 rL6 rP11 rP12 rP13 rP14 rP15 rP17 rP18 rP19 rP20 rP21 rP22",
+            "wP8 wP9 wP10 wP16 wP23 s wP0 s",
+        ),
     ];
-    for (second, front, run, reads, writes) in rows {
-        let primary = primary(rt.alloc(), &block(6, second, 0, 4096), 8)?;
-        let log = log(rt.alloc(), &block(6, 6, 1, 4096), front, run)?;
-        let (read, behind, bytes) = looked_and_recovered(
-            &rt,
-            rt.alloc(),
-            primary.as_slice(),
-            log.as_slice(),
-        )?;
-        assert_eq!(rt; read.as_str(), reads, "{second} {run}");
-        assert_eq!(rt; behind.as_str(), writes, "{second} {run}");
+    for (second, front, run, marks, reads, behind) in rows {
+        let bins = with_marks(rt.alloc(), marks)?;
+        let size = u32::try_from(bins.len()).unwrap_or(0);
+        let primary = primary(rt.alloc(), &block(6, second, 0, size), size / 512)?;
+        let log = log(rt.alloc(), &block(6, 6, 1, size), front, run)?;
+        let seen = looked_and_recovered(&rt, rt.alloc(), primary.as_slice(), log.as_slice())?;
+        assert_eq!(rt;
+            seen.found,
+            Ok((second == 5, bins.into_vec())),
+            "{second} {run}"
+        );
+        assert_eq!(rt; seen.reads.as_str(), reads, "{second} {run}");
+        assert_eq!(rt; seen.behind.as_str(), behind, "{second} {run}");
         if second == 5 {
-            let expected = restored(rt.alloc(), run)?;
-            assert_eq!(rt; bytes.as_slice(), expected.as_slice(), "{run}");
+            let expected = restored(rt.alloc(), run, size)?;
+            assert_eq!(rt; seen.written.as_slice(), expected.as_slice(), "{run}");
         }
     }
     Ok(())
@@ -164,7 +220,7 @@ fn a_hive_is_read_and_recovered_in_order(rt: HostRuntime) -> Result<(), Fail> {
 /// written.
 #[test]
 fn nothing_is_read_behind_a_fault(rt: HostRuntime) -> Result<(), Fail> {
-    let rows: [(u32, usize, u32, &[u8], usize, &str); 7] = [
+    let rows: [(u32, u32, u32, &[u8], u32, &str); 7] = [
         (6, 3, 6, b"DIRT\xff", 8, "rP0 rP8 rP9 rP10 rP11"),
         (5, 8, 7, b"DIRT\xff", 8, "rP0 rL0"),
         (5, 8, 6, b"", 0, "rP0 rL0 rL1"),
@@ -176,14 +232,10 @@ fn nothing_is_read_behind_a_fault(rt: HostRuntime) -> Result<(), Fail> {
     for (second, sectors, number, front, run, reads) in rows {
         let primary = primary(rt.alloc(), &block(6, second, 0, 4096), sectors)?;
         let log = log(rt.alloc(), &block(number, number, 1, 4096), front, run)?;
-        let (read, behind, _) = looked_and_recovered(
-            &rt,
-            rt.alloc(),
-            primary.as_slice(),
-            log.as_slice(),
-        )?;
-        assert_eq!(rt; read.as_str(), reads, "{sectors} {number} {run}");
-        assert_eq!(rt; behind.as_str(), "", "{sectors} {number} {run}");
+        let seen = looked_and_recovered(&rt, rt.alloc(), primary.as_slice(), log.as_slice())?;
+        assert!(rt; seen.found.is_err(), "{sectors} {number} {run}");
+        assert_eq!(rt; seen.reads.as_str(), reads, "{sectors} {number} {run}");
+        assert_eq!(rt; seen.behind.as_str(), "", "{sectors} {number} {run}");
     }
     Ok(())
 }

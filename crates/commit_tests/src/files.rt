@@ -1,4 +1,5 @@
-//! Files of a hive, made field by field.
+//! Files of a hive, made field by field. Each sector of the bins data, and each that a log has behind its
+//! bits, has a mark of its own, so that one is seen where another should be.
 
 use nt_bytes::Bytes;
 use regf_base::{BaseBlock, base_bytes};
@@ -27,25 +28,38 @@ pub fn file(alloc: Global, base: &BaseBlock) -> Result<Bytes, AllocError> {
     Bytes::from_slice(alloc, &sector)
 }
 
-/// A primary of so many bins sectors of zeros, whatever its base block says.
-pub fn primary(alloc: Global, base: &BaseBlock, sectors: usize) -> Result<Bytes, AllocError> {
-    let mut bytes = file(alloc, base)?;
-    bytes.append_zeros(3584)?;
-    for _ in 0..sectors {
-        bytes.append(&[0; 512])?;
+/// So many sectors with marks that count up from this one.
+pub fn marked(alloc: Global, first: u32, sectors: u32) -> Result<Bytes, AllocError> {
+    let mut bytes = Bytes::new(alloc);
+    for n in 0..sectors {
+        bytes.put_u32(first.saturating_add(n))?;
+        bytes.append_zeros(508)?;
     }
     Ok(bytes)
 }
 
-/// A log with this front of its bitmap, if any, and so many sectors behind it.
-pub fn log(alloc: Global, base: &BaseBlock, front: &[u8], run: usize) -> Result<Bytes, AllocError> {
+/// A primary of so many bins sectors, marked from 1 on, whatever its base block says.
+pub fn primary(alloc: Global, base: &BaseBlock, sectors: u32) -> Result<Bytes, AllocError> {
+    let bins = marked(alloc, 1, sectors)?;
+    let mut bytes = file(alloc, base)?;
+    bytes.append_zeros(3584)?;
+    bytes.append(bins.as_slice())?;
+    Ok(bytes)
+}
+
+/// The mark of the first sector that a log has behind its bits.
+#[cfg(test)]
+pub const LOGGED: u32 = 100;
+
+/// A log with this front of its bits, if any, and so many sectors behind them, marked from `LOGGED` on.
+#[cfg(test)]
+pub fn log(alloc: Global, base: &BaseBlock, front: &[u8], run: u32) -> Result<Bytes, AllocError> {
     let mut bytes = file(alloc, base)?;
     if !front.is_empty() {
         bytes.append(front)?;
         bytes.append_zeros(512usize.saturating_sub(front.len()))?;
     }
-    for _ in 0..run {
-        bytes.append(&[7; 512])?;
-    }
+    let sectors = marked(alloc, LOGGED, run)?;
+    bytes.append(sectors.as_slice())?;
     Ok(bytes)
 }

@@ -11,7 +11,6 @@ mod calls;
 mod cuts;
 #[cfg(test)]
 mod faults;
-#[cfg(test)]
 mod files;
 mod kept;
 #[cfg(test)]

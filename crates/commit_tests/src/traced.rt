@@ -1,8 +1,8 @@
 //! A disk that keeps its calls, in order.
 
-ghost use Rattle.std.specs.Prelude.{◌≡◌, true, [], ◌∷◌, ◌++◌};
+ghost use Rattle.std.specs.Prelude.{◌≡◌, ◌⊎◌, ◌↔◌, true, [], ◌∷◌, ◌++◌};
 ghost use Rattle.mem_edge.specs.State.{state_of};
-ghost use Rattle.commit_tests.specs.Traced.{traced_state, kept_calls, bounded_law};
+ghost use Rattle.commit_tests.specs.Traced.{traced_state, calls_of, HasKept, bounded_law};
 
 use mem_edge::MemDisk;
 use nt_edge::{Address, Disk, DiskStop, Presence};
@@ -26,10 +26,11 @@ pub struct Traced {
 }
 
 impl Traced {
-    /// No call was made yet. Takes no memory.
+    /// No call was made yet, and it is whole. Takes no memory.
     pub fn new(alloc: Global, disk: MemDisk) -> Traced
         ensures state { traced_state result ≡ state_of disk }
-        ensures none_made { kept_calls result [] }
+        ensures none_made { calls_of result ≡ [] }
+        ensures whole { result.whole ≡ true }
     {
         Traced {
             disk,
@@ -38,11 +39,13 @@ impl Traced {
         }
     }
 
-    /// One more call.
+    /// One more call, if memory suffices.
     fn keep(&mut self, call: Call)
         ensures disk { self.new.disk ≡ self.old.disk }
-        ensures kept { self.new.whole ≡ true
-            → (self.old.whole ≡ true) × (self.new.calls.items ≡ self.old.calls.items ++ call ∷ []) }
+        ensures calls { (self.new.calls.items ≡ self.old.calls.items)
+            ⊎ (self.new.calls.items ≡ self.old.calls.items ++ call ∷ []) }
+        ensures whole { self.new.whole ≡ true
+            ↔ (self.old.whole ≡ true) × (self.new.calls.items ≡ self.old.calls.items ++ call ∷ []) }
     {
         if self.calls.push(call).is_err() {
             self.whole = false;
@@ -55,7 +58,7 @@ impl Disk for Traced {
 
     ghost state = { traced_state };
 
-    ghost calls = { kept_calls };
+    ghost calls = { HasKept };
 
     fn read(&mut self, at: Address, into: &mut [u8; 512]) -> Result<Presence, DiskStop> {
         self.keep(Call::Read(at));
