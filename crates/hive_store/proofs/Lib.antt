@@ -1,0 +1,5 @@
+pub mod Holding
+pub mod LoadingLemmas
+pub mod EditingLemmas
+pub mod CommittingLemmas
+pub mod LoadingCalls

@@ -1,0 +1,12 @@
+use Rattle.std.proofs.Common.{◌∙◌, ap}
+use Rattle.hive_model.specs.Base.{Base}
+use Rattle.hive_model.specs.Image.{image_of}
+use Rattle.hive_model.specs.Recovery.{Recovered}
+use Rattle.hive_store.proofs.Holding.{found_loads}
+use Rattle.hive_store.proofs.checking.check_images.Goals as goal
+
+pub returns-clause-exact : goal.returns-clause-exact
+returns-clause-exact c =
+    let number = ap (λ (b : Base). b.first) c.base.view_is ∙ ap (λ (r : Recovered). r.base.first) c.found.view_is in
+    rw number
+    (found_loads (image_of c.args.primary.now c.args.log.now) c.in_ok-found.found c.in_ok-tree.tree c.in_ok-found.ensures.exact c.in_ok-tree.ensures.exact)

@@ -1,0 +1,106 @@
+use Rattle.std.proofs.Common.{◌++◌, ◌∙◌, [], refl, sym, ap}
+use Rattle.std.proofs.lemmas.List.{append-nil}
+use Rattle.hive_model.specs.Recovery.{Recovered, bit}
+use Rattle.hive_commit.specs.Calls.{closing_calls}
+use Rattle.hive_commit.proofs.RecoveryCalls.{only_read, read_then, restored_front, restored_all, clean_all}
+use Rattle.nt_edge.specs.Calls.{reads_of}
+use Rattle.hive_store.specs.Session.{Session}
+use Rattle.hive_store.specs.Loading.{loaded_state}
+use Rattle.hive_store.proofs.LoadingLemmas.{loads_or_fails, kept_loads, restored_loads, found_again}
+use Rattle.hive_store.proofs.LoadingCalls.{stopped_look, stopped_restore}
+use Rattle.hive_store.proofs.hive.Hive.load.Goals as goal
+use Rattle.hive_store.proofs.hive.Hive.load.Goals.{then-dirty+in_ok-restore, else-dirty}
+
+pub returns-in_err-hive-clause-made : goal.returns-in_err-hive-clause-made
+returns-in_err-hive-clause-made g c =
+    let asked = c.in_err-hive.ensures.asked in
+    only_read (g.D.Disk.calls c.args.disk.now) (g.D.Disk.calls c.look.new.disk) _ asked.sectors asked.made
+    (λ tells. stopped_look (g.D.Disk.state c.args.disk.now).held c.from_residual.result c.in_err-hive.field-0.0 asked.sectors c.from_residual.ensures.1 (asked.are tells))
+
+pub returns-in_err-restore-clause-made : goal.returns-in_err-restore-clause-made
+returns-in_err-restore-clause-made g c =
+    let image = (g.D.Disk.state c.args.disk.now).held in
+    let looked = c.in_ok-hive.field-0 in
+    let view : Recovered = record { base = looked.hive.base; bins = looked.hive.bins; dirty = looked.dirty } in
+    let asked = c.in_ok-hive.ensures.asked in
+    let closed = c.hive.inside.base in
+    let bitmap = c.as_slice.result.now in
+    let bins = c.as_slice-then-dirty.result.now in
+    let made = c.in_err-restore.ensures.made in
+    read_then (g.D.Disk.calls c.args.disk.now) (g.D.Disk.calls c.look.new.disk) _ asked.sectors asked.made (g.D.Disk.calls c.restore.new.disk) closed (bit bitmap) bins made
+    (λ tells. stopped_restore image c.from_residual-in_err-restore.result c.in_err-restore.field-0.0 (reads_of asked.sectors ++ made.front) c.from_residual-in_err-restore.ensures.1
+    (restored_front image asked.sectors (asked.are tells) view (c.in_ok-hive.ensures.recovered tells)
+    closed bitmap bins looked.bitmap c.if-dirty.true (c.in_ok-hive.ensures.found tells c.if-dirty.true)
+    (ap (λ (s : Session). s.base) c.hive.view_is) c.as_slice.ensures (c.as_slice-then-dirty.ensures ∙ ap (λ (s : Session). s.bins) c.hive.view_is)
+    made.front (record { rest = made.rest; cut = made.cut }))
+    (λ fault. loads_or_fails image (loaded_state looked.hive) looked.dirty fault (c.in_ok-hive.ensures.exact tells)))
+
+pub returns-clause-made : goal.returns-clause-made
+returns-clause-made g c =
+    let start = g.D.Disk.calls c.args.disk.now in
+    let one = g.D.Disk.calls c.look.new.disk in
+    let image = (g.D.Disk.state c.args.disk.now).held in
+    let looked = c.in_ok-hive.field-0 in
+    let view : Recovered = record { base = looked.hive.base; bins = looked.hive.bins; dirty = looked.dirty } in
+    let asked = c.in_ok-hive.ensures.asked in
+    elim c.if-dirty.branch [
+      | then-dirty+in_ok-restore w ↦
+          let closed = c.hive.inside.base in
+          let bitmap = w.as_slice.result.now in
+          let bins = w.as_slice-then-dirty.result.now in
+          let calls = closing_calls closed (bit bitmap) bins in
+          rw w.disk-is
+          (read_then start one _ asked.sectors asked.made (g.D.Disk.calls w.restore.new.disk) closed (bit bitmap) bins
+          (record { front = calls; rest = []; cut = sym (append-nil calls); made = w.in_ok-restore.ensures.made })
+          (λ tells. restored_all image asked.sectors (asked.are tells) view (c.in_ok-hive.ensures.recovered tells)
+          closed bitmap bins looked.bitmap w.if-dirty.true (c.in_ok-hive.ensures.found tells w.if-dirty.true)
+          (ap (λ (s : Session). s.base) c.hive.view_is) w.as_slice.ensures (w.as_slice-then-dirty.ensures ∙ ap (λ (s : Session). s.bins) c.hive.view_is)))
+      | else-dirty w ↦ rw w.disk-is
+          (only_read start one _ asked.sectors asked.made
+          (λ tells. clean_all image asked.sectors (asked.are tells) view (c.in_ok-hive.ensures.recovered tells) w.if-dirty.false))
+    ]
+
+pub returns-in_err-hive-clause-crash : goal.returns-in_err-hive-clause-crash
+returns-in_err-hive-clause-crash g c = λ tells.
+    kept_loads (g.D.Disk.state c.args.disk.now) (g.D.Disk.state c.look.new.disk) (c.look.ensures.held tells) (c.look.ensures.flight tells ∙ c.requires.still tells)
+
+pub returns-in_err-restore-clause-crash : goal.returns-in_err-restore-clause-crash
+returns-in_err-restore-clause-crash g c = λ tells.
+    let looked = c.in_ok-hive.field-0 in
+    restored_loads (g.D.Disk.state c.args.disk.now).held (record { base = looked.hive.base; bins = looked.hive.bins; dirty = looked.dirty }) (c.in_ok-hive.ensures.recovered tells)
+    c.hive.inside.base c.as_slice-then-dirty.result.now (ap (λ (s : Session). s.base) c.hive.view_is) (c.as_slice-then-dirty.ensures ∙ ap (λ (s : Session). s.bins) c.hive.view_is)
+    (g.D.Disk.state c.restore.new.disk) (c.restore.ensures.crash tells)
+
+pub returns-clause-crash : goal.returns-clause-crash
+returns-clause-crash g c = λ tells.
+    let s0 = g.D.Disk.state c.args.disk.now in
+    let looked = c.in_ok-hive.field-0 in
+    elim c.if-dirty.branch [
+      | then-dirty+in_ok-restore w ↦ rw w.disk-is
+          (restored_loads s0.held (record { base = looked.hive.base; bins = looked.hive.bins; dirty = looked.dirty }) (c.in_ok-hive.ensures.recovered tells)
+          c.hive.inside.base w.as_slice-then-dirty.result.now (ap (λ (s : Session). s.base) c.hive.view_is) (w.as_slice-then-dirty.ensures ∙ ap (λ (s : Session). s.bins) c.hive.view_is)
+          (g.D.Disk.state w.restore.new.disk) (w.restore.ensures.crash tells))
+      | else-dirty w ↦ rw w.disk-is (kept_loads s0 (g.D.Disk.state c.look.new.disk) (c.look.ensures.held tells) (c.look.ensures.flight tells ∙ c.requires.still tells))
+    ]
+
+pub returns-clause-loads : goal.returns-clause-loads
+returns-clause-loads g c = λ tells.
+    let s0 = g.D.Disk.state c.args.disk.now in
+    let looked = c.in_ok-hive.field-0 in
+    let found = found_again s0.held (loaded_state looked.hive) looked.dirty (record { base = looked.hive.base; bins = looked.hive.bins; dirty = looked.dirty })
+    (c.in_ok-hive.ensures.exact tells) (c.in_ok-hive.ensures.recovered tells) c.in_ok-hive.ensures.sized in
+    elim c.if-dirty.branch [
+      | then-dirty+in_ok-restore w ↦ rw w.disk-is
+          (found c.hive.inside.base w.as_slice-then-dirty.result.now (ap (λ (s : Session). s.base) c.hive.view_is) (w.as_slice-then-dirty.ensures ∙ ap (λ (s : Session). s.bins) c.hive.view_is)
+          (g.D.Disk.state w.restore.new.disk).held (w.in_ok-restore.ensures.carries tells))
+      | else-dirty w ↦ rw (w.disk-is, c.look.ensures.held tells)
+          (found looked.hive.base looked.hive.bins refl refl s0.held (c.in_ok-hive.ensures.carries tells w.if-dirty.false))
+    ]
+
+pub returns-in_err-restore-clause-faulty : goal.returns-in_err-restore-clause-faulty
+returns-in_err-restore-clause-faulty g c = λ tells fault fails.
+    absurd (loads_or_fails (g.D.Disk.state c.args.disk.now).held (loaded_state c.in_ok-hive.field-0.hive) c.in_ok-hive.field-0.dirty fault (c.in_ok-hive.ensures.exact tells) fails)
+
+pub returns-clause-faulty : goal.returns-clause-faulty
+returns-clause-faulty g c = λ tells fault fails.
+    absurd (loads_or_fails (g.D.Disk.state c.args.disk.now).held (loaded_state c.in_ok-hive.field-0.hive) c.in_ok-hive.field-0.dirty fault (c.in_ok-hive.ensures.exact tells) fails)

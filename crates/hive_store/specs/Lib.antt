@@ -1,0 +1,4 @@
+pub mod Checks
+pub mod Session
+pub mod Loading
+pub mod Commits

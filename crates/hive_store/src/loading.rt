@@ -1,0 +1,124 @@
+//! A session loaded from a disk.
+
+ghost use Rattle.std.specs.Prelude.{◌≡◌, Bool, true, false, [], length, IfOk, OnOk, Ok, MatchResult};
+ghost use Rattle.hive_model.specs.Base.{is_bins_size};
+ghost use Rattle.nt_bytes.specs.declared.fault.HiveFault.{HiveFault as HiveFaultModel};
+ghost use Rattle.hive_model.specs.Image.{Image};
+ghost use Rattle.hive_model.specs.Recovery.{recovered_of};
+ghost use Rattle.hive_model.specs.Carries.{Carries};
+ghost use Rattle.hive_model.specs.State.{HiveState};
+ghost use Rattle.hive_model.specs.Load.{Loads, LoadFault};
+ghost use Rattle.nt_edge.specs.Disk.{CountsGrow};
+ghost use Rattle.nt_edge.specs.Crash.{EachCrash};
+ghost use Rattle.hive_log.specs.Asked.{asked_of, MakesReads, IsAsked};
+ghost use Rattle.hive_log.specs.Found.{Found};
+ghost use Rattle.hive_log.specs.Stops.{HasLoadCause, IsOnAfterLoad};
+ghost use Rattle.hive_commit.specs.Alone.{KeepsClean};
+ghost use Rattle.hive_commit.specs.Calls.{MakesRecovery};
+ghost use Rattle.hive_commit.specs.Untouched.{IsUntouched, IsUnwritten};
+ghost use Rattle.hive_store.specs.Checks.{LoadsAs};
+ghost use Rattle.hive_store.specs.Loading.{loaded_state, LoadsFrom, StopsFrom, AreOfLoad};
+
+use crate::Hive;
+use crate::checking::tree_in;
+use hive_commit::restore;
+use hive_log::{LoadStop, Reading, read_recovered};
+use nt_bytes::{Bytes, ReadStop};
+use nt_edge::Disk;
+use std::alloc::Global;
+
+/// What was read: the session, whether the primary is dirty, and the bits of the log that it was read with
+/// (none where the primary is clean).
+#[derive(Drop)]
+struct Looked {
+    hive: Hive,
+    dirty: bool,
+    bitmap: Bytes,
+}
+
+/// Reads the session, and checks the whole hive. Nothing is written.
+fn look<D: Disk>(alloc: Global, disk: &mut D) -> Result<Looked, LoadStop>
+    requires on { (D.state disk.old).on ≡ true }
+    requires still { D.tells ≡ true → (D.state disk.old).flight ≡ [] }
+    ensures asked { MakesReads (D.calls disk.old) (D.calls disk.new)
+        (λ sectors. D.tells ≡ true → IsAsked (asked_of (D.state disk.old).held) result sectors) }
+    ensures exact { D.tells ≡ true → MatchResult result
+        (λ x. Loads (D.state disk.old).held (loaded_state x.hive) x.dirty) (StopsFrom (D.state disk.old).held) }
+    ensures recovered { D.tells ≡ true → IfOk result (λ x. recovered_of (D.state disk.old).held
+        ≡ Ok (record { base = x.hive.base; bins = x.hive.bins; dirty = x.dirty })) }
+    ensures carries { D.tells ≡ true → IfOk result (λ x. x.dirty ≡ false
+        → Carries (D.state disk.old).held x.hive.base x.hive.bins) }
+    ensures found { D.tells ≡ true → IfOk result (λ x. x.dirty ≡ true
+        → Found (D.state disk.old).held x.hive.base x.bitmap x.hive.bins) }
+    ensures sized { IfOk result (λ x. is_bins_size (length x.hive.bins) ≡ true) }
+    ensures unchanged { IfOk result (λ x. x.hive.changed ≡ false) }
+    ensures held { D.tells ≡ true → (D.state disk.new).held ≡ (D.state disk.old).held }
+    ensures flight { D.tells ≡ true → (D.state disk.new).flight ≡ (D.state disk.old).flight }
+    ensures history { (D.state disk.new).history ≡ (D.state disk.old).history }
+    ensures counts { CountsGrow (D.state disk.old) (D.state disk.new) }
+    ensures cause { HasLoadCause (D.state disk.old) (D.state disk.new) result }
+    ensures power { IsOnAfterLoad (D.state disk.new) result }
+{
+    let Reading { recovered, bitmap } = read_recovered(alloc, disk)?;
+    let (base, dirty) = (recovered.base, recovered.dirty);
+    let bins = recovered.bins.copy(alloc)?;
+    match tree_in(alloc, recovered) {
+        Ok(tree) => Ok(Looked {
+            hive: Hive {
+                base,
+                bins,
+                tree,
+                next: None,
+            },
+            dirty,
+            bitmap,
+        }),
+        Err(ReadStop::Fault(fault)) => Err(LoadStop::Fault(fault)),
+        Err(ReadStop::Memory) => Err(LoadStop::Memory),
+    }
+}
+
+impl Hive {
+    /// The session, and whether the primary was dirty. The disk is on and has nothing in flight. The whole
+    /// hive is checked before a dirty primary is recovered, so a `Fault` has written nothing. Want of memory
+    /// alone is free.
+    pub fn load<D: Disk>(alloc: Global, disk: &mut D) -> Result<(Hive, bool), LoadStop>
+        requires on { (D.state disk.old).on ≡ true }
+        requires still { D.tells ≡ true → (D.state disk.old).flight ≡ [] }
+        // It makes the calls of one recovery and no other: the reads, and then the writes of a dirty hive; of a
+        // hive with a fault the reads alone. Which sectors, is said of a disk that tells what it holds.
+        ensures made { MakesRecovery (D.calls disk.old) (D.calls disk.new)
+            (λ calls. D.tells ≡ true → AreOfLoad (D.state disk.old).held result calls) }
+        // At Ok the tree and the number are what the disk loads as, and so is whether it was dirty; a fault is its first.
+        ensures exact { D.tells ≡ true → LoadsFrom (D.state disk.old).held result }
+        ensures unchanged { IfOk result (λ x. x.0.changed ≡ false) }
+        // Then the disk is clean, and carries the session's base block and bins data.
+        ensures still { D.tells ≡ true → OnOk result ((D.state disk.new).flight ≡ []) }
+        ensures carries { D.tells ≡ true → IfOk result (λ x. Carries (D.state disk.new).held x.0.base x.0.bins) }
+        ensures loads { D.tells ≡ true → IfOk result (λ x. Loads (D.state disk.new).held (loaded_state x.0) false) }
+        // At every exit a cut leaves what loads as the disk did at entry.
+        ensures crash { D.tells ≡ true → (s : HiveState) (dirty : Bool)
+            → Loads (D.state disk.old).held s dirty
+            → EachCrash (D.state disk.new) (λ (c : Image). LoadsAs c s) }
+        // Where the primary was clean, all is as it was, whatever the answer.
+        ensures clean { D.tells ≡ true → KeepsClean (D.state disk.old) (D.state disk.new) }
+        // A hive with a fault is not written, whatever the answer.
+        ensures faulty { D.tells ≡ true → (fault : HiveFaultModel) → LoadFault (D.state disk.old).held fault
+            → IsUntouched (D.state disk.old) (D.state disk.new) }
+        ensures unwritten { D.tells ≡ true → IsUnwritten (D.state disk.old) (D.state disk.new) result }
+        ensures history { (D.state disk.new).history ≡ (D.state disk.old).history }
+        ensures counts { CountsGrow (D.state disk.old) (D.state disk.new) }
+        ensures cause { HasLoadCause (D.state disk.old) (D.state disk.new) result }
+        ensures power { IsOnAfterLoad (D.state disk.new) result }
+    {
+        let Looked {
+            hive,
+            dirty,
+            bitmap,
+        } = look(alloc, disk)?;
+        if dirty {
+            restore(disk, &hive.base, bitmap.as_slice(), hive.bins.as_slice())?;
+        }
+        Ok((hive, dirty))
+    }
+}
