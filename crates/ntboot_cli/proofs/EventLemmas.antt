@@ -22,7 +22,7 @@ use Rattle.boot_script.specs.declared.stop.ScriptStop.{ScriptStop}
 use Rattle.std.specs.Str.Lines.{lines}
 use Rattle.boot_script.specs.Script.{starts, line_event, at_line, put_before, after_line, events_from, script_of, GivesScript}
 use Rattle.reg_tree.proofs.Outcomes.{uncons}
-use Rattle.ntboot_cli.specs.declared.play.Progress.TheVariants.{Goes, NotBuilt}
+use Rattle.ntboot_cli.specs.declared.session.Progress.TheVariants.{Goes, NotBuilt}
 use Rattle.ntboot_cli.specs.Built.{Said, said_by, not_built, is_built, said_from, closed, report_of}
 use Rattle.ntboot_cli.specs.Says.{Says, SaysAll, RunsQuietly, state_at, starts_in}
 use Rattle.ntboot_cli.proofs.SayLemmas.{then, then_front, nothing}

@@ -7,10 +7,10 @@ use Rattle.hive_model.specs.State.{HiveState}
 use Rattle.start_model.specs.Events.{Event}
 use Rattle.start_model.specs.Lines.{Line, text_of}
 use Rattle.start_model.specs.Run as run
-use Rattle.start_model.specs.Run.{RunState, Act, Choice, Finished, Quiet, quiet_play, quiet_from, quiet_run_of, closing_lines, event_step_of, first_state}
+use Rattle.start_model.specs.Run.{RunState, Act, Choice, Finished, quiet_play, quiet_from, quiet_run_of, closing_lines, event_step_of, first_state}
 use Rattle.ntboot_cli.specs.declared.status.Status.{Status}
 use Rattle.ntboot_cli.specs.declared.status.Status.TheVariants as statuses
-use Rattle.ntboot_cli.specs.declared.play.Progress.TheVariants.{Goes, NotBuilt}
+use Rattle.ntboot_cli.specs.declared.session.Progress.TheVariants.{Goes, NotBuilt}
 use Rattle.ntboot_cli.specs.Answer.{Answer, Answers, IsStop, IsPlayed, played_to}
 use Rattle.ntboot_cli.specs.Built.{Said, said_by, behind, choose_said, is_unbuilt, is_commit, then_said, said_from, report_of}
 use Rattle.ntboot_cli.specs.Says.{SaysAll}

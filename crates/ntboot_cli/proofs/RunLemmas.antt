@@ -10,7 +10,7 @@ use Rattle.start_model.specs.Events.{Event}
 use Rattle.start_model.specs.Entries.{Phase, Boot, System, Automatic, Done}
 use Rattle.start_model.specs.Machine.{Start, MachineState, Tried, next_in, attempt_at, attempt_in, attempt_of, after_phase, unmet_in, is_done, is_good, save_due, ending_with, ending_of, with_start, refusal_of}
 use Rattle.start_model.specs.Run as run
-use Rattle.start_model.specs.Run.{RunState, Act, say, say_all, Choice, Finished, Quiet, quiet_play, quiet_from, quiet_run_of, closing_lines, end_with, start_over, with_machine, good_is_usable, live_set, phase_line, phase_step, judged, starter_step, stepping, go_steps, try_line, save_where_due, event_step_of, act_unless, accepted_act, event_word_of, off_act}
+use Rattle.start_model.specs.Run.{RunState, Act, say, say_all, Choice, closing_lines, end_with, start_over, with_machine, good_is_usable, live_set, phase_line, judged, starter_step, stepping, go_steps, try_line, save_where_due, event_step_of, act_unless, accepted_act, event_word_of, off_act}
 use Rattle.boot_machine.specs.Steps.{is_there, is_at_end, falls_back}
 use Rattle.ntboot_cli.specs.Built.{Said, said_by, behind, not_built, choose_said, is_change_refused, then_said, said_from, closed}
 use Rattle.ntboot_cli.specs.Says.{Says, is_under_way, state_at}

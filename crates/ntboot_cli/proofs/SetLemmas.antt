@@ -1,14 +1,15 @@
 -- Which set a number names, and what the beginning of a start on it changes.
-use Rattle.std.proofs.Common.{◌≡◌, ℕ, zero, suc, ◌+◌, ◌<◌, ◌≤◌, Bool, true, false, ◌&&◌, ◌||◌, not, cond, List, [], ◌∷◌, ◌++◌, length, Option, Some, None, Result, Ok, Err, refl, sym, ap, subst, ◌∙◌, arith}
+use Rattle.std.proofs.Common.{◌≡◌, ℕ, suc, ◌+◌, ◌<◌, ◌≤◌, Bool, true, false, ◌&&◌, not, cond, List, [], ◌∷◌, ◌++◌, length, Option, Some, None, Result, Ok, Err, refl, sym, ap, subst, ◌∙◌, arith}
 use Rattle.std.specs.Prelude.{◌/◌, ◌%◌, find, filter, nat_le, ◌==◌, option_and_then}
 use Rattle.std.specs.Option.{is_some}
-use Rattle.std.specs.List.{list_any, range_with_len}
 use Rattle.std.proofs.lemmas.Bool.{false≢true, true≢false, eqb-true, eq-eqb, ne_eqb, le-leb, leb-true}
 use Rattle.hive_model.specs.Tree.{Tree, find_key, children, is_named}
 use Rattle.hive_model.specs.Edit.{Step, Refusal}
 use Rattle.start_model.specs.Lines.{SetLine}
 use Rattle.start_model.specs.Sets.{SelectNumbers, SetPlan, select_numbers_of, set_of, set_name, is_usable, usable_numbers_of, has_number, free_number_of, taken_number, begun, plan_with, guarded_plan, deletions_of, four_of, writes_of, stepped}
 use Rattle.start_model.specs.Run.{RunState, end_with, begin_start, begin_changed, begin_with, begin_by, take_set}
+use Rattle.select_keys.specs.Numbers.{numbers_where}
+use Rattle.select_keys.proofs.NumberLemmas.{has-numbers_where, has_none-outside, usable_numbers_of-where}
 use Rattle.ntboot_cli.specs.Built.{said_by, behind, not_built}
 use Rattle.ntboot_cli.specs.Sets.{usable_set, changes_sets, missing}
 
@@ -50,51 +51,14 @@ is_usable-set t n = some_set (is_usable t n) (set_of t n) (right_of (nat_le 1 n 
 
 -- ---- the usable numbers
 
-other : (p : ℕ → Bool) (n x : ℕ) (b : Bool) → (x == n) ≡ b → p n ≡ false → p x ≡ true → (x == n) ≡ false
-other p n x true is e px = absurd (true≢false (sym px ∙ ap p (eqb-true x n is) ∙ e))
-other p n x false is e px = is
-
-none_by : (p : ℕ → Bool) (n x : ℕ) (xs : List ℕ) (b : Bool) → p n ≡ false → p x ≡ b → list_any (λ k. k == n) (filter p xs) ≡ false → list_any (λ k. k == n) (cond b (x ∷ filter p xs) (filter p xs)) ≡ false
-none_by p n x xs true e px rest = rw (other p n x (x == n) refl e px) rest
-none_by p n x xs false e px rest = rest
-
-none_is : (p : ℕ → Bool) (n : ℕ) (xs : List ℕ) → p n ≡ false → list_any (λ k. k == n) (filter p xs) ≡ false
-none_is p n [] e = refl
-none_is p n (x ∷ xs) e = none_by p n x xs (p x) e refl (none_is p n xs e)
-
-or_true : (x y : Bool) → y ≡ true → (x || y) ≡ true
-or_true true y e = refl
-or_true false y e = e
-
-some_behind : (n a : ℕ) (xs : List ℕ) (b : Bool) → list_any (λ k. k == n) xs ≡ true → list_any (λ k. k == n) (cond b (a ∷ xs) xs) ≡ true
-some_behind n a xs true e = or_true (a == n) _ e
-some_behind n a xs false e = e
-
-above : (a n : ℕ) → (a == n) ≡ false → a ≤ n → a + 1 ≤ n
-above a n ne le = omega (arith, differ)
-  where
-    differ : a ≡ n → ⊥
-    differ same = true≢false (sym (eq-eqb a n same) ∙ ne)
-
-some_by : (p : ℕ → Bool) (n a : ℕ) (xs : List ℕ) (b : Bool) → (a == n) ≡ b → p n ≡ true → ((a == n) ≡ false → list_any (λ k. k == n) (filter p xs) ≡ true) → list_any (λ k. k == n) (cond (p a) (a ∷ filter p xs) (filter p xs)) ≡ true
-some_by p n a xs true is e rest = rw (ap p (eqb-true a n is) ∙ e, is) refl
-some_by p n a xs false is e rest = some_behind n a (filter p xs) (p a) (rest is)
-
-some_is : (p : ℕ → Bool) (n a len : ℕ) → p n ≡ true → a ≤ n → n < a + len → list_any (λ k. k == n) (filter p (range_with_len a len)) ≡ true
-some_is p n a zero e low high = absurd (omega arith)
-some_is p n a (suc len) e low high = some_by p n a (range_with_len (a + 1) len) (a == n) refl e (λ ne. some_is p n (a + 1) len e (above a n ne low) (omega arith))
-
-usable_by : (t : Tree) (n : ℕ) (b : Bool) → is_usable t n ≡ b → list_any (λ k. k == n) (filter (is_usable t) (range_with_len 1 999)) ≡ b
-usable_by t n true e =
-    let within : (nat_le 1 n && nat_le n 999) ≡ true = left_of (nat_le 1 n && nat_le n 999) (is_some (set_of t n)) e in
-    let low : 1 ≤ n = leb-true 1 n (left_of (nat_le 1 n) (nat_le n 999) within) in
-    let high : n ≤ 999 = leb-true n 999 (right_of (nat_le 1 n) (nat_le n 999) within) in
-    some_is (is_usable t) n 1 999 e low (omega (arith, high))
-usable_by t n false e = none_is (is_usable t) n (range_with_len 1 999) e
+usable_where : (t : Tree) (n : ℕ) (b : Bool) → (nat_le 1 n && nat_le n 999) ≡ b → has_number (numbers_where (is_usable t)) n ≡ is_usable t n
+usable_where t n true e = has-numbers_where (is_usable t) n (leb-true 1 n (left_of (nat_le 1 n) (nat_le n 999) e)) (leb-true n 999 (right_of (nat_le 1 n) (nat_le n 999) e))
+usable_where t n false e =
+    let outside : 1 ≤ n → n ≤ 999 → ⊥ = λ low high. (let within : (nat_le 1 n && nat_le n 999) ≡ true = rw (le-leb 1 n low, le-leb n 999 high) refl in true≢false (sym within ∙ e)) in
+    has_none-outside (is_usable t) n outside ∙ sym (ap (λ (b : Bool). b && is_some (set_of t n)) e)
 
 pub has_usable : (t : Tree) (n : ℕ) → has_number (usable_numbers_of t) n ≡ is_usable t n
-unfolding usable_numbers_of
-has_usable t n = usable_by t n (is_usable t n) refl
+has_usable t n = rw (usable_numbers_of-where t) (usable_where t n (nat_le 1 n && nat_le n 999) refl)
 
 -- ---- the plan of a beginning
 

@@ -1,8 +1,8 @@
 -- What the program answers on given words and files. This project's own.
 --
--- The first obstacle decides, in this order: the words; the script, absent or without a reading, or with an event that is
--- not built yet; boot.ini, absent, too long or with too many entries; the hive, absent or with a fault. Without an obstacle
--- the report is said.
+-- The first obstacle decides, in this order: the words; the system's path, without a reading; the script, absent or without
+-- a reading, or with an event that is not built yet; boot.ini, absent, too long or with too many entries; the hive, absent or
+-- with a fault. Without an obstacle the report is said.
 use Rattle.std.specs.Prelude.{◌≡◌, ◌⊎◌, ◌++◌, ℕ, false, nat_lt, MatchBool, List, [], length, map, Option, Some, None, Result, Ok, Err, codes}
 use Rattle.std.specs.List.{list_all}
 use Rattle.std.specs.Fmt.{decimal}
@@ -164,8 +164,3 @@ abbrev pub AnswersRead : Arc → Asked → Files → Result (List Event) ScriptS
 AnswersRead system asked files (Ok events) status old new = AnswersEvents system asked files (Ok events) status old new
 AnswersRead system asked files (Err (stops.Fault fault)) status old new = Answers (script_fault fault) status old new
 AnswersRead system asked files (Err stops.Memory) status old new = (status ≡ Memory) × (new ≡ old)
-
--- a status by which a run was given up, with its cause
-pub record StopsBy (writes writes_after : ℕ) (status : Status) : Type 0 where
-  pub given_up : (status ≡ WriteFault) ⊎ (status ≡ Memory)
-  pub write_fault : status ≡ WriteFault → Rises writes writes_after

@@ -9,3 +9,4 @@ pub mod Says
 pub mod Answer
 pub mod Loading
 pub mod Exits
+pub mod Keeps

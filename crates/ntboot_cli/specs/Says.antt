@@ -10,9 +10,9 @@ use Rattle.start_model.specs.Run.{Woken, RunState, done, settled_at}
 use Rattle.boot_script.specs.declared.event.Event.{Event}
 use Rattle.boot_script.specs.Script.{starts}
 use Rattle.boot_machine.specs.Views.{event_in}
-use Rattle.ntboot_cli.specs.declared.play.Session.{Session}
-use Rattle.ntboot_cli.specs.declared.play.Progress.{Progress}
-use Rattle.ntboot_cli.specs.declared.play.Progress.TheVariants.{Goes, NotBuilt}
+use Rattle.ntboot_cli.specs.declared.session.Session.{Session}
+use Rattle.ntboot_cli.specs.declared.session.Progress.{Progress}
+use Rattle.ntboot_cli.specs.declared.session.Progress.TheVariants.{Goes, NotBuilt}
 use Rattle.ntboot_cli.specs.Built.{Said, said_by, behind, not_built, is_built}
 
 -- a part begins with lines whose text was said, and this rest is left of it

@@ -3,13 +3,16 @@
 //! `ntboot` reads the words, then the files that they name, and says the report or the refusal's one line.
 #![tactic(auto)]
 
+mod booting;
 mod kinds;
 mod laws;
 mod load;
-mod play;
 mod report_words;
 mod saying;
+mod script;
+mod session;
 mod sets;
+mod starter;
 mod status;
 mod top;
 mod words;

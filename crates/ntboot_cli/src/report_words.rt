@@ -9,11 +9,11 @@ ghost use Rattle.start_model.specs.Lines.{PhaseLine, TryLine};
 ghost use Rattle.ntboot_cli.specs.Ends.{EndsAs};
 ghost use Rattle.ntboot_cli.specs.Sets.{missing};
 
-use crate::sets::SelectNumbers;
 use boot_machine::{Phase, Refusal, Tried};
 use boot_report::{EventWord, Line, PhaseWord, RefusedWord, TryWord, Verdict};
 use boot_script::Event;
 use error_control::Judgement;
+use select_keys::SelectNumbers;
 
 /// The first word of the event's line.
 pub(crate) fn event_word(event: &Event) -> EventWord

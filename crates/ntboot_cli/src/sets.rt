@@ -3,73 +3,21 @@
 ghost use Rattle.std.specs.Prelude.{◌≡◌, ◌+◌, ◌/◌, ◌%◌, ◌≤◌, IfSome};
 ghost use Rattle.std.specs.Option.{option_copied};
 ghost use Rattle.hive_model.specs.Valid.{HoldsKeys};
-ghost use Rattle.start_model.specs.Sets.{select_number, select_numbers_of, taken_number};
+ghost use Rattle.start_model.specs.Sets.{select_numbers_of, taken_number};
 ghost use Rattle.start_model.specs.Run.{good_is_usable};
 ghost use Rattle.ntboot_cli.specs.Sets.{usable_set, changes_sets};
 
 use reg_tree::Key;
-use std::marker::Model;
-
-/// The four numbers of `Select`, each 0 where it is absent or no DWORD.
-#[derive(Clone, Copy)]
-pub(crate) struct SelectNumbers {
-    pub current: u32,
-    pub default: u32,
-    pub failed: u32,
-    pub good: u32,
-}
-
-impl Model for SelectNumbers {
-    ghost use Rattle.start_model.specs.Sets.{SelectNumbers as Numbers};
-
-    ghost Value = { Numbers };
-
-    ghost view = { λ a. record { current = a.current; default = a.default; failed = a.failed; good = a.good } };
-
-    ghost inverse = { λ n. record { current = n.current; default = n.default; failed = n.failed; good = n.good } };
-}
+use select_keys::{SelectNumbers, read_select, sets_in};
 
 /// `Select`.
 const SELECT: [u16; 6] = [0x53, 0x65, 0x6c, 0x65, 0x63, 0x74];
-
-/// `Current`.
-const CURRENT: [u16; 7] = [0x43, 0x75, 0x72, 0x72, 0x65, 0x6e, 0x74];
-
-/// `Default`.
-const DEFAULT: [u16; 7] = [0x44, 0x65, 0x66, 0x61, 0x75, 0x6c, 0x74];
-
-/// `Failed`.
-const FAILED: [u16; 6] = [0x46, 0x61, 0x69, 0x6c, 0x65, 0x64];
-
-/// `LastKnownGood`.
-const GOOD: [u16; 13] = [
-    0x4c, 0x61, 0x73, 0x74, 0x4b, 0x6e, 0x6f, 0x77, 0x6e, 0x47, 0x6f, 0x6f, 0x64,
-];
-
-/// A number of the key, 0 where it is absent or no DWORD.
-fn number_in(name: &[u16], select: Option<&Key>) -> u32
-    ensures { result ≡ select_number name.now (option_copied select.entry) }
-{
-    match select {
-        None => 0,
-        Some(key) => match key.dword(name) {
-            Some(number) => number,
-            None => 0,
-        },
-    }
-}
 
 /// The numbers of the tree's `Select`.
 pub(crate) fn select_numbers(tree: &Key) -> SelectNumbers
     ensures { result ≡ select_numbers_of tree.now }
 {
-    let select = tree.child(&SELECT);
-    SelectNumbers {
-        current: number_in(&CURRENT, select),
-        default: number_in(&DEFAULT, select),
-        failed: number_in(&FAILED, select),
-        good: number_in(&GOOD, select),
-    }
+    read_select(tree.child(&SELECT))
 }
 
 /// The digit of a number at this power of ten.
@@ -129,11 +77,10 @@ pub(crate) fn changes_sets(numbers: SelectNumbers, on_good: bool) -> bool
 
 /// Whether LastKnownGood names a set of the tree.
 pub(crate) fn good_is_usable(tree: &Key) -> bool
-    requires { HoldsKeys tree.now }
     ensures { result ≡ good_is_usable tree.now }
 {
     let number = good_number(tree);
-    set_of(tree, number).is_some()
+    sets_in(tree).has(number)
 }
 
 /// LastKnownGood of the tree's `Select`.

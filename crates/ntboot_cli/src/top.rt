@@ -1,6 +1,6 @@
 //! The top call: one obstacle after the other, and then the run.
 
-ghost use Rattle.std.specs.Prelude.{◌≡◌, ◌≤◌, ◌⊎◌, true, length, map, Some, None, string_bytes, IsOk, IfOk};
+ghost use Rattle.std.specs.Prelude.{◌≡◌, ◌≤◌, ◌⊎◌, true, map, Some, string_bytes, IfOk};
 ghost use Rattle.std.specs.List.{list_all};
 ghost use Rattle.boot_machine.specs.Views.{event_in};
 ghost use Rattle.ntboot_cli.specs.Answer.{HasCause, AnswersHive, AnswersHiveFile, AnswersIni, AnswersIniName, AnswersRead, AnswersScript, AnswersSystem, AnswersAll, IsBadUsage};
@@ -13,8 +13,9 @@ ghost use Rattle.ntboot_cli.specs.declared.status.Status.TheVariants as statuses
 ghost use Rattle.arc_path.specs.Reading.{arc_of};
 
 use crate::load::load;
-use crate::play::{Inputs, play};
 use crate::saying::{fetch, refuse, say_hive_fault, say_script_fault};
+use crate::script::play;
+use crate::session::Inputs;
 use crate::status::Status;
 use crate::words::{Asked, read_words};
 use arc_path::{Arc, ArcStop, read_arc};

@@ -1,6 +1,6 @@
 //! The words of the command line.
 
-ghost use Rattle.std.specs.Prelude.{◌≡◌, List, ℕ, Option, option_map, map, string_bytes};
+ghost use Rattle.std.specs.Prelude.{◌≡◌, option_map, map, string_bytes};
 ghost use Rattle.ntboot_cli.specs.Words.{once, words_of, asked_by, with_option, with_options, nothing_given};
 ghost use Rattle.ntboot_cli.specs.Views.{given_seen, asked_seen};
 
