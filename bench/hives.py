@@ -188,3 +188,13 @@ def with_grouped_services(count):
 def with_tagged_services(count):
     """Boot drivers of one group, each with a tag of its own."""
     return system([service(i, 0, 0, [], 1 + i) for i in range(count)], groups=1, tags=count)
+
+
+def with_deep_services(count):
+    """Services of which the last one alone has Start 2; each names the one before it, which goes before it."""
+    return system([service(i, 2 if i + 1 == count else 3, 0, [f"S{i - 1:06d}"] if i else []) for i in range(count)])
+
+
+def with_many_names(count):
+    """Services of Start 2 of which each names the ten before it."""
+    return system([service(i, 2, 0, [f"S{k:06d}" for k in range(max(0, i - 10), i)]) for i in range(count)])
