@@ -1,6 +1,6 @@
 -- What a commit of a session leaves, whatever the bins data are in which its tree stands.
 use Rattle.std.proofs.Common.{◌≡◌, inl, inr, ⊎_elim, ℕ, Bool, true, false, List, length, Result, Ok, Err, refl, sym, ap, subst}
-use Rattle.std.specs.Prelude.{IsErrOf}
+use Rattle.std.specs.Prelude.{IsErrOf, IfOk}
 use Rattle.hive_model.specs.Base.{Base, is_bins_size}
 use Rattle.hive_model.specs.Image.{Image}
 use Rattle.hive_model.specs.Carries.{Carries, IsRecoveredAs}
@@ -61,21 +61,25 @@ module _ (view self : Session) (same : view ≡ self) (new : List ℕ) (root : �
 -- the calls are those of a change to bins data with the session's tree
 module _ (view self : Session) (same : view ≡ self) (new : List ℕ) (root : ℕ) (has : HasTree new root view.tree) (a b : List Made → Type 0)
     (old : List ℕ) (old_is : old ≡ view.bins) where
-  made_by : (r : Result (Session × ℕ) CommitStop) → MakesUntil a b (change_calls view.base old new root) r → CommitsBy a b self r
-  made_by r made =
+  made_by : (r : Result (Session × ℕ) CommitStop) → MakesUntil a b (change_calls view.base old new root) r
+      → IfOk r (λ x. x.0.base ≡ closed_of view.base new root) → IfOk r (λ x. x.0.bins ≡ new) → CommitsBy a b self r
+  made_by r made closed bins_are =
       let by : CommitsBy a b view r = record {
         new = new;
         root = root;
         has = has;
         made = subst (λ (bins : List ℕ). MakesUntil a b (change_calls view.base bins new root) r) old_is made;
+        closed = closed;
+        bins_are = bins_are;
       } in
       subst (λ (s : Session). CommitsBy a b s r) same by
 
-  pub commit_made : (x : Session × ℕ) → Makes a b (change_calls view.base old new root) → CommitsBy a b self (Ok x)
-  commit_made x made = made_by (Ok x) made
+  pub commit_made : (x : Session × ℕ) → Makes a b (change_calls view.base old new root) → x.0.base ≡ closed_of view.base new root → x.0.bins ≡ new
+      → CommitsBy a b self (Ok x)
+  commit_made x made closed bins_are = made_by (Ok x) made closed bins_are
 
   pub commit_stopped : (stop : CommitStop) → MakesFront a b (change_calls view.base old new root) → CommitsBy a b self (Err stop)
-  commit_stopped stop front = made_by (Err stop) front
+  commit_stopped stop front = made_by (Err stop) front tt tt
 
 same_stop : (T U : Type 0) (stop other : CommitStop) → IsErrOf {T = U} (Err stop) other → IsErrOf {T = T} (Err stop) other
 same_stop T U stop other e = let same : stop ≡ other = cc in ap Err same

@@ -39,7 +39,8 @@ impl Hive {
         requires on { (D.state disk.old).on ≡ true }
         requires still { D.tells ≡ true → (D.state disk.old).flight ≡ [] }
         requires carries { D.tells ≡ true → Carries (D.state disk.old).held self.base self.bins }
-        // It makes the calls of one change and no other; after a refusal a front of them.
+        // It makes the calls of one change and no other, after a refusal a front of them; the answered session has
+        // the bins data that were written, and the base block that closed the change.
         ensures made { CommitsBy (D.calls disk.old) (D.calls disk.new) self result }
         // At Ok the number is one more modulo 2^32, and nothing is changed any more.
         ensures answered { IfOk result (λ x. IsCommitted self x.0 x.1) }

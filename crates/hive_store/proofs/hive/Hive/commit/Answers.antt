@@ -1,3 +1,4 @@
+use Rattle.std.proofs.Common.{◌∙◌, sym}
 use Rattle.std.proofs.lemmas.Result.{err_from_is_err_and}
 use Rattle.hive_store.proofs.CommittingLemmas.{stood, moved_tree, commit_loads, commit_crash, commit_made, commit_stopped, power_again}
 use Rattle.hive_store.proofs.hive.Hive.commit.Goals as goal
@@ -47,4 +48,4 @@ returns-clause-made g c =
     let i = c.self.inside in
     let has = moved_tree _ _ _ _ i.tree c.next_data-root.ensures.data c.next_data-root.ensures.root c.self.invariant.ready in
     commit_made _ _ c.self.view_is _ _ has (g.D.Disk.calls c.args.disk.now) (g.D.Disk.calls c.commit.new.disk) c.as_slice.result.now c.as_slice.ensures
-    _ c.in_ok-closed.ensures.made
+    _ c.in_ok-closed.ensures.made c.in_ok-closed.ensures.answered (c.unwrap_or.ensures ∙ sym c.next_data-root.ensures.data)
