@@ -12,7 +12,7 @@ pub enum HiveKind {
     NotRegf,
     /// The base block's checksum is not that of its words.
     Checksum,
-    /// The format's major or minor version is not 1.3.
+    /// The format's major version is not 1, or its minor version neither 3 nor 5.
     Version,
     /// The file type or format is not the wanted one.
     FileType,
@@ -60,6 +60,10 @@ pub enum HiveKind {
     LogDirt,
     /// A sector of the log's bitmap, or a dirty sector, is absent.
     LogShort,
+    /// A sector of the primary that is wanted cannot be read.
+    Unreadable,
+    /// A sector of the log that is wanted cannot be read.
+    LogUnreadable,
 }
 
 /// The first check that fails, and where: a byte of the file or an offset in the bins data.

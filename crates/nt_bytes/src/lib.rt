@@ -1,5 +1,5 @@
 //! Lists of bytes, of UTF-16 units and of names; folding; little-endian fields; strings in values;
-//! lines and words of texts; the kinds of fault.
+//! lines and words of texts; the kinds of fault; the versions of the format.
 #![tactic(auto)]
 
 mod fault;
@@ -8,6 +8,7 @@ mod folding;
 mod lists;
 mod strings;
 mod text;
+mod version;
 
 pub use fault::{HiveFault, HiveKind, ReadStop};
 pub use fields::{put_u16, put_u32, put_u64, u16_at, u32_at, u64_at};
@@ -15,6 +16,7 @@ pub use folding::{compare_folded, fold, same_folded};
 pub use lists::{Bytes, Names, Row, Units};
 pub use strings::{multi_sz, narrow, sz, wide};
 pub use text::{are_digits, first_line, hex_digit, is_named, trim, value_of};
+pub use version::HiveVersion;
 
 #[cfg(test)]
 mod tests;
