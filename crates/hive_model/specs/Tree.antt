@@ -1,5 +1,5 @@
 -- Registry trees: keys with their values and children, and what is found in them by name.
-use Rattle.std.specs.Prelude.{◌≡◌, ℕ, ◌+◌, ◌≤◌, Bool, ◌&&◌, ◌||◌, ◌==◌, if◌then◌else◌, List, [], ◌∷◌, length, refl, find, Option, Some, None, option_and_then}
+use Rattle.std.specs.Prelude.{◌≡◌, ℕ, ◌+◌, ◌≤◌, Bool, true, false, ◌&&◌, ◌||◌, ◌==◌, if◌then◌else◌, List, [], ◌∷◌, length, refl, find, bytes_eq, Option, Some, None, option_and_then}
 use Rattle.std.specs.Int.{w32, from_le_bytes}
 use Rattle.std.proofs.Common.{ap, arith}
 use Rattle.std.specs.Coded.{Coded, code_by, coded×, coded_ℕ, coded_list}
@@ -100,6 +100,32 @@ find_strings name t = option_map_or strings_in (find_item name t) []
 -- the data under this name in the topmost key; there are none without such a value (this project's own)
 abbrev pub find_data : List ℕ → Tree → List ℕ
 find_data name t = option_map_or (λ (v : Item). v.bytes) (find_item name t) []
+
+-- ---- tests whether two are one (this project's own)
+
+-- two lists of values are one
+abbrev pub same_items : List Item → List Item → Bool
+same_items [] [] = true
+same_items [] (y ∷ ys) = false
+same_items (x ∷ xs) [] = false
+same_items (x ∷ xs) (y ∷ ys) = bytes_eq x.name y.name && (x.kind == y.kind) && bytes_eq x.bytes y.bytes && same_items xs ys
+
+-- two keys are one but for their children
+abbrev pub same_head : Head → Head → Bool
+same_head a b =
+    bytes_eq a.name b.name && (a.flags == b.flags) && (a.stamp == b.stamp) && bytes_eq a.class b.class && bytes_eq a.security b.security && same_items a.values b.values
+
+-- two trees are one
+abbrev mutual
+  pub same_tree : Tree → Tree → Bool
+  same_tree (key h ts) (key i us) = same_head h i && same_trees ts us
+
+  -- two lists of children are one
+  pub same_trees : Trees → Trees → Bool
+  same_trees none none = true
+  same_trees none (more u us) = false
+  same_trees (more t ts) none = false
+  same_trees (more t ts) (more u us) = same_tree t u && same_trees ts us
 
 -- how many keys a tree has (this project's own)
 abbrev mutual
