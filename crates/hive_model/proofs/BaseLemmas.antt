@@ -9,9 +9,9 @@ use Rattle.std.proofs.lemmas.List.{take-append-le, drop-append-le}
 use Rattle.std.proofs.Math.Seq.{drop-append_seam, take-append_seam}
 use Rattle.std.proofs.Math.Nat.{mod-lt}
 use Rattle.nt_bytes.specs.declared.fault.HiveFault.{HiveFault}
-use Rattle.nt_bytes.specs.declared.fault.HiveKind.TheVariants.{NotRegf, LogAbsent}
-use Rattle.hive_model.specs.Image.{Content, Bytes}
-use Rattle.hive_model.specs.Recovery.{Sectors, and_then, bytes_or, as_log_base, base_in, logged_in}
+use Rattle.nt_bytes.specs.declared.fault.HiveKind.TheVariants.{LogAbsent, LogUnreadable}
+use Rattle.hive_model.specs.Image.{Image, Content, Bytes, Unreadable}
+use Rattle.hive_model.specs.Recovery.{log_in, primary_in, and_then, bytes_or, as_log_base, base_at, base_in, logged_in}
 use Rattle.hive_model.specs.Base.{Base, IsBase, fault_at, word_at, long_at, mixed_words, moved_off, checksum_of, is_bins_size, base_checks, first_failing, fields_of, unless_fault, base_of, head_text, summed_text, base_text}
 
 -- each is a byte
@@ -237,19 +237,28 @@ base_checked sector kind b reads =
       size_is = ap (λ (x : Base). is_bins_size x.size) (sym fields) ∙ holds.1.1.1.1.1.1.0;
     }
 
--- the same of a base block that is found in the primary or the log of an image
-pub base_in_checked : (primary : Sectors) (b : Base) → base_in primary ≡ Ok b → IsChecked 0 b
-base_in_checked primary b reads =
-    let here : (c : Option Content) → and_then (bytes_or (fault_at NotRegf 0) c) (λ block. base_of block 0) ≡ Ok b → IsChecked 0 b =
-    elim [ None ↦ λ e. absurd (cc) | Some content ↦ elim content as (λ c. and_then (bytes_or (fault_at NotRegf 0) (Some c)) (λ block. base_of block 0) ≡ Ok b → IsChecked 0 b) [ Bytes block ↦ λ e. base_checked block 0 b e ] ] in
-    here (primary 0) reads
+base_back_at : (r : Result Base HiveFault) (b : Base) → and_then r (λ base. Ok (Some base)) ≡ Ok (Some b) → r ≡ Ok b
+base_back_at (Ok x) b is = cc
+base_back_at (Err f) b is = absurd (cc)
+
+checked_at : (c : Option Content) (b : Base) → base_at c ≡ Ok (Some b) → IsChecked 0 b
+checked_at None b is = absurd (cc)
+checked_at (Some Unreadable) b is = absurd (cc)
+checked_at (Some (Bytes block)) b is = base_checked block 0 b (base_back_at (base_of block 0) b is)
+
+-- the same of a base block that the primary of an image has
+pub base_in_checked : (image : Image) (b : Base) → base_in image ≡ Ok (Some b) → IsChecked 0 b
+base_in_checked image b reads = checked_at (primary_in image 0) b reads
 
 pub log_base_back : (r : Result Base HiveFault) (b : Base) → as_log_base r ≡ Ok b → r ≡ Ok b
 log_base_back (Ok x) b is = is
 log_base_back (Err f) b is = absurd (cc)
 
-pub logged_in_checked : (log : Sectors) (b : Base) → logged_in log ≡ Ok b → IsChecked 1 b
-logged_in_checked log b reads =
-    let here : (c : Option Content) → and_then (bytes_or (fault_at LogAbsent 0) c) (λ block. as_log_base (base_of block 1)) ≡ Ok b → IsChecked 1 b =
-    elim [ None ↦ λ e. absurd (cc) | Some content ↦ elim content as (λ c. and_then (bytes_or (fault_at LogAbsent 0) (Some c)) (λ block. as_log_base (base_of block 1)) ≡ Ok b → IsChecked 1 b) [ Bytes block ↦ λ e. base_checked block 1 b (log_base_back (base_of block 1) b e) ] ] in
-    here (log 0) reads
+log_block_back : (r : Result (List ℕ) HiveFault) (b : Base) → and_then r (λ block. as_log_base (base_of block 1)) ≡ Ok b → IsChecked 1 b
+log_block_back (Ok block) b is = base_checked block 1 b (log_base_back (base_of block 1) b is)
+log_block_back (Err f) b is = absurd (cc)
+
+-- and of one that its log has
+pub logged_in_checked : (image : Image) (b : Base) → logged_in image ≡ Ok b → IsChecked 1 b
+logged_in_checked image b reads =
+    log_block_back (bytes_or (fault_at LogAbsent 0) (fault_at LogUnreadable 0) (log_in image 0)) b reads

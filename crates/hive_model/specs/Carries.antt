@@ -4,15 +4,15 @@ use Rattle.hive_model.specs.Base.{Base}
 use Rattle.hive_model.specs.Image.{Image, Bytes}
 use Rattle.hive_model.specs.Recovery.{primary_in, log_in, sector, base_in, recovered_of}
 
--- the primary's base block is this
+-- the primary's sector 0 can be read, and has this base block
 abbrev pub HasBase : Image → Base → Type 0
-HasBase image base = base_in (primary_in image) ≡ Ok base
+HasBase image base = base_in image ≡ Ok (Some base)
 
--- the bins sectors of the primary are these data
+-- the bins sectors of the primary can be read, and are these data
 abbrev pub HasBins : Image → List ℕ → Type 0
 HasBins image bins = (i : ℕ) → 512 * i < length bins → primary_in image (8 + i) ≡ Some (Bytes (sector bins i))
 
--- the log begins with these bytes, which are whole sectors
+-- the log begins with these bytes, which are whole sectors that can be read
 abbrev pub HasLog : Image → List ℕ → Type 0
 HasLog image log = (n : ℕ) → 512 * n < length log → log_in image n ≡ Some (Bytes (sector log n))
 

@@ -12,10 +12,11 @@ pub record Address : Type 0 where
   pub file : File
   pub sector : ℕ
 
--- what a sector has: its bytes, of which a disk's sector has 512. That is not asked here, since a read and a write of a disk
--- are of 512 bytes
+-- what a sector has: its bytes, of which a disk's sector has 512 (that is not asked here, since a read and a write of a disk
+-- are of 512 bytes); or none that can be read, which a loss of power may leave where a write was in flight
 pub data Content : Type 0 where
   Bytes : List ℕ → Content
+  Unreadable : Content
 
 -- the content of each sector that is there. A function, since proofs on crashes go address by address;
 -- that only so many sectors are there is said where it matters, in `IsFileOf`.
@@ -46,13 +47,17 @@ abbrev pub overlaid : Image → List Write → Image
 overlaid image [] = image
 overlaid image (w ∷ ws) = overlaid (put image w) ws
 
--- some write in flight to the address has this content
+-- what a write to a sector may leave there at a loss of power: its bytes, or none that can be read
+abbrev pub IsLeftBy : Write → Option Content → Type 0
+IsLeftBy w content = (content ≡ Some (Bytes w.1)) ⊎ (content ≡ Some Unreadable)
+
+-- some write in flight to the address may leave this content
 abbrev pub IsInFlight : List Write → Address → Option Content → Type 0
 IsInFlight [] a content = ⊥
-IsInFlight (w ∷ ws) a content = ((same_address w.0 a ≡ true) × (content ≡ Some (Bytes w.1))) ⊎ IsInFlight ws a content
+IsInFlight (w ∷ ws) a content = ((same_address w.0 a ≡ true) × IsLeftBy w content) ⊎ IsInFlight ws a content
 
 -- what a loss of power may leave: at each address what is held there, perhaps nothing, or the content
--- of any write in flight to it, each address by itself
+-- of any write in flight to it, or, where there is such a write, none that can be read; each address by itself
 abbrev pub IsCrashImage : Image → List Write → Image → Type 0
 IsCrashImage held flight image = (a : Address) → (image a ≡ held a) ⊎ IsInFlight flight a (image a)
 
@@ -78,17 +83,19 @@ of_file primary log Log = log
 abbrev pub image_of : List ℕ → List ℕ → Image
 image_of primary log = λ a. if nat_lt a.sector 65536 then sector_of (of_file primary log a.file) a.sector else None
 
--- the bytes of a content, zeros where there is none
+-- the bytes of a content, zeros where there is none or it can't be read
 abbrev pub bytes_of : Option Content → List ℕ
 bytes_of None = replicate 512 0
+bytes_of (Some Unreadable) = replicate 512 0
 bytes_of (Some (Bytes bytes)) = bytes
 
--- the bytes of a file's sector, zeros where it is not there
+-- the bytes of a file's sector, zeros where it is not there or can't be read
 abbrev pub sector_in : Image → File → ℕ → List ℕ
 sector_in image file n = bytes_of (image (record { file = file; sector = n }))
 
--- the bytes are a file of the image: its sectors from 0 up to the last one that is there, and zeros for
--- one in between that is not. No sector is there from `count` on, and the last one before it is.
+-- The bytes are a file of the image: its sectors from 0 up to the last one that is there, and zeros for one
+-- in between that is not. No sector is there from `count` on, and the last one before it is. A sector that
+-- can't be read is there all the same, and has zeros: where it is the last one, the file ends behind it.
 pub record IsFileOf (image : Image) (file : File) (bytes : List ℕ) : Type 0 where
   pub count : ℕ
   pub long : length bytes ≡ 512 * count
@@ -102,11 +109,13 @@ pub data Call : Type 0 where
   Writes : Call
   Syncs : Call
 
--- which writes in flight a cut keeps: none, all, or the first, third, fifth and so on
+-- what a cut leaves of the writes in flight: none, all, or the first, third, fifth and so on; or none, and each
+-- sector that a write was in flight to can't be read
 pub data Keep : Type 0 where
   Nothing : Keep
   Everything : Keep
   OddOnes : Keep
+  Torn : Keep
 
 -- an order for a stop at the n-th call of a kind from then on
 pub data Arming : Type 0 where

@@ -9,6 +9,7 @@ pub mod Footprint
 pub mod Image
 pub mod Base
 pub mod Recovery
+pub mod Asked
 pub mod Carries
 pub mod Log
 pub mod Valid

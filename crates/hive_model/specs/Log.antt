@@ -1,11 +1,15 @@
 -- The log that a commit writes before it touches the primary. (Its layout is this project's own, after the
 -- regf format; `Recovery` reads it.)
-use Rattle.std.specs.Prelude.{◌+◌, ◌-◌, ◌*◌, ◌/◌, ◌&&◌, Bool, true, not, nat_le, bytes_eq, if◌then◌else◌, ℕ, zero, suc, List, [], ◌∷◌, ◌++◌, length, codes, replicate}
+--
+-- From old to new bins data it is `log_of (dirty old new) new base` with the base block that the commit
+-- closes with: its bits and its sectors are those of the new data that differ from the old or lie past
+-- their end.
+use Rattle.std.specs.Prelude.{◌+◌, ◌-◌, ◌*◌, ◌/◌, ◌&&◌, Bool, not, nat_le, bytes_eq, if◌then◌else◌, ℕ, zero, suc, List, [], ◌∷◌, ◌++◌, length, codes, replicate}
 use Rattle.hive_model.specs.Base.{Base, base_text}
 use Rattle.hive_model.specs.Recovery.{sector, one_if, bitmap_sectors}
 
--- sector i of the new data, which has one of this number, is not that of the old: all 512 bytes have to be there in the old
--- data and equal
+-- sector i of the new data, which have one of this number, is not that of the old: it is, where all its 512 bytes are there
+-- in the old data and equal
 abbrev pub dirty : List ℕ → List ℕ → ℕ → Bool
 dirty old new i = not (nat_le (512 * i + 512) (length old) && bytes_eq (sector old i) (sector new i))
 
@@ -30,11 +34,8 @@ abbrev pub marked_sectors : (ℕ → Bool) → List ℕ → ℕ → ℕ → List
 marked_sectors bits bytes i zero = []
 marked_sectors bits bytes i (suc n) = (if bits i then sector bytes i else []) ++ marked_sectors bits bytes (suc i) n
 
--- the log with these bits for going over to new bins data with this base block
+-- the log with these bits, for going over to new bins data with this base block: the base block, the bitmap, and the sectors
+-- whose bit is on
 unfoldable pub log_of : (ℕ → Bool) → List ℕ → Base → List ℕ
 log_of bits new base =
     (base_text (record base { kind = 1 }) ++ bitmap_text bits (length new)) ++ marked_sectors bits new 0 (length new / 512)
-
--- the bits of the log that a commit writes from old to new bins data: each sector
-unfoldable pub logged_bits : List ℕ → List ℕ → ℕ → Bool
-logged_bits old new i = true
