@@ -78,7 +78,7 @@ pub same_images : (f g : Image) → ((a : Address) → f a ≡ g a) → f ≡ g
 same_images f g h = λ i a. h a i
 
 put_crash : (held : Image) (w : Write) (ws : List Write) (a : Address) (x : Option Content) (b : Bool) → same_address w.0 a ≡ b → x ≡ cond b (Some (Bytes w.1)) (held a) → (x ≡ held a) ⊎ IsInFlight (w ∷ ws) a x
-put_crash held w ws a x true test is = inr (inl (test, is))
+put_crash held w ws a x true test is = inr (inl (test, inl is))
 put_crash held w ws a x false test is = inl is
 
 -- what a read gives is held there, or in flight to there

@@ -7,7 +7,7 @@ use Rattle.nt_edge.specs.declared.disk.HiveFile.TheVariants.{Primary as PrimaryF
 use Rattle.nt_edge.specs.declared.disk.DiskCall.{DiskCall}
 use Rattle.nt_edge.specs.declared.disk.DiskCall.TheVariants.{Read, Write, Sync}
 use Rattle.nt_edge.specs.declared.disk.Keep.{Keep}
-use Rattle.nt_edge.specs.declared.disk.Keep.TheVariants.{Nothing, Everything, OddOnes}
+use Rattle.nt_edge.specs.declared.disk.Keep.TheVariants.{Nothing, Everything, OddOnes, Torn}
 
 -- the book's file
 abbrev pub file_of : HiveFile → File
@@ -30,8 +30,9 @@ call_of Read = Reads
 call_of Write = Writes
 call_of Sync = Syncs
 
--- the book's way to keep writes
+-- the book's way of leaving the writes in flight
 abbrev pub keep_of : Keep → book.Keep
 keep_of Nothing = book.Nothing
 keep_of Everything = book.Everything
 keep_of OddOnes = book.OddOnes
+keep_of Torn = book.Torn

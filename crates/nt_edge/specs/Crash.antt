@@ -16,7 +16,8 @@ AgreeOutside p before after = (a : Address) → p a ≡ false → after a ≡ be
 abbrev pub EachCrash : DiskState → (Image → Type 0) → Type 0
 EachCrash s P = (c : Image) → IsCrashImage s.held s.flight c → P c
 
--- from the first state on, all that was done is writes to addresses of this kind, and all are in flight
+-- what is held is what the first state holds, and each write in flight goes to an address of this kind. (So it is while all
+-- that is done to the contents, from the first state on, is such writes.)
 pub record Writing (p : Address → Bool) (first s : DiskState) : Type 0 where
   pub held : s.held ≡ first.held
   pub only : EachWrite p s.flight

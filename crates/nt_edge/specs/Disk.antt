@@ -56,6 +56,9 @@ pub record IsBounded (s : DiskState) : Type 0 where
   pub cuts : s.cuts ≤ 18446744073709551615
   pub faults : s.faults ≤ 18446744073709551615
   pub lacks : s.lacks ≤ 18446744073709551615
+  pub cut_calls : s.history.cut_calls ≤ 18446744073709551615
+  pub placings : s.history.placings ≤ 18446744073709551615
+  pub takings : s.history.takings ≤ 18446744073709551615
 
 -- no count falls, and each stays within its end
 pub record CountsGrow (old new : DiskState) : Type 0 where
@@ -66,11 +69,15 @@ pub record CountsGrow (old new : DiskState) : Type 0 where
   pub faults_end : new.faults ≤ 18446744073709551615
   pub lacks_end : new.lacks ≤ 18446744073709551615
 
--- each refusal has its cause: a count that rose in this call
+-- Each refusal has its cause, a count that rose in this call, and no count rises without one: `cuts` only at a loss of power,
+-- `lacks` only where memory was lacking, and `faults` at a failure, or at a loss of power, since a fault may be due at the same call.
 pub record HasCause {T : Type 0} (old new : DiskState) (result : Result T DiskStop) : Type 0 where
   pub power : IsErrOf result PowerLost → Rises old.cuts new.cuts
   pub failed : IsErrOf result Failed → Rises old.faults new.faults
   pub memory : IsErrOf result Memory → Rises old.lacks new.lacks
+  pub no_cut : (IsErrOf result PowerLost → ⊥) → new.cuts ≡ old.cuts
+  pub no_fault : (IsErrOf result PowerLost → ⊥) → (IsErrOf result Failed → ⊥) → new.faults ≡ old.faults
+  pub no_lack : (IsErrOf result Memory → ⊥) → new.lacks ≡ old.lacks
 
 -- the disk is off after a loss of power, and on after every other answer
 pub record IsOnUnlessLost {T : Type 0} (new : DiskState) (result : Result T DiskStop) : Type 0 where

@@ -29,7 +29,7 @@ pub trait Bench: Disk {
         ensures memory { IfErr result (λ stop. stop ≡ Memory) };
 
     /// Settles the disk, which is off, to what a loss of power may leave, and answers the file's sectors
-    /// from 0 to the last one that is there, an absent one in between as zeros.
+    /// from 0 to the last one that is there, as zeros an absent one in between and one that can't be read.
     fn take(&mut self, file: HiveFile) -> Result<Bytes, DiskStop>
         requires off { (Self.state self.old).on ≡ false }
         ensures taken { IfOk result (λ bytes. (image : Image)

@@ -1,11 +1,10 @@
 //! A disk of sectors, as the code above sees it: what is on it, and what is still in flight.
 
 ghost use Rattle.std.specs.Prelude.{◌≡◌, ◌⊎◌, Bool, true, false, List, Some, None, ◌++◌, [], ◌∷◌, OnOk, OnErr, IsErrOf};
-ghost use Rattle.hive_model.specs.Image.{Bytes, same_address};
+ghost use Rattle.hive_model.specs.Image.{Bytes, Unreadable, same_address};
 ghost use Rattle.nt_edge.specs.Calls.{Made, ReadAt, Wrote, Synced, Makes};
 ghost use Rattle.nt_edge.specs.Disk.{DiskState, now_of, CountsGrow, HasCause, IsOnUnlessLost, IsBounded};
 ghost use Rattle.nt_edge.specs.declared.disk.DiskStop.TheVariants.{Memory};
-ghost use Rattle.nt_edge.specs.declared.disk.Presence.TheVariants.{Whole, Absent};
 
 use std::marker::Model;
 
@@ -60,6 +59,9 @@ pub enum Presence {
     Whole,
     /// There is no such sector. What was to be read into has any bytes.
     Absent,
+    /// The sector is there and can't be read, since the power was lost while a write to it was in
+    /// flight. What was to be read into has any bytes.
+    Unreadable,
 }
 
 /// Why a disk refused a call.
@@ -81,20 +83,24 @@ pub enum DiskCall {
     Sync,
 }
 
-/// Which of the writes in flight a cut keeps.
+/// What a cut leaves of the writes in flight.
 #[derive(Clone, Copy, Debug, PartialEq, Eq)]
 pub enum Keep {
     Nothing,
     Everything,
     /// The first, the third, the fifth and so on.
     OddOnes,
+    /// None, and each sector that a write was in flight to can't be read.
+    Torn,
 }
 
 /// A disk of sectors. A write is in flight until a sync that succeeds, and a loss of power leaves of
-/// the writes in flight what it pleases, each sector by itself.
+/// the writes in flight what it pleases, each sector by itself: what it was, what was written to it, or
+/// none that can be read.
 ///
 /// Its counts of cuts, of faults and of refusals for want of memory never fall; they end at
-/// 18,446,744,073,709,551,615 and stay there. Each call wants the disk on.
+/// 18,446,744,073,709,551,615 and stay there. Each refusal raises the count of its cause, and no other
+/// answer does. Each call wants the disk on.
 pub trait Disk {
     /// Whether the disk tells its contents: what it holds, the writes in flight and its wakes. No
     /// call changes that. What is said of power and counts is said of every disk.
@@ -112,9 +118,11 @@ pub trait Disk {
     fn read(&mut self, at: Address, into: &mut [u8; 512]) -> Result<Presence, DiskStop>
         requires on { (state self.old).on ≡ true }
         ensures made { Makes (calls self.old) (calls self.new) (ReadAt at ∷ []) }
-        ensures whole { tells ≡ true → result ≡ Ok Whole
+        ensures whole { tells ≡ true → result ≡ Ok Presence.Whole
             → now_of (state self.old) at ≡ Some (Bytes into.new) }
-        ensures absent { tells ≡ true → result ≡ Ok Absent → now_of (state self.old) at ≡ None }
+        ensures absent { tells ≡ true → result ≡ Ok Presence.Absent → now_of (state self.old) at ≡ None }
+        ensures unreadable { tells ≡ true → result ≡ Ok Presence.Unreadable
+            → now_of (state self.old) at ≡ Some Unreadable }
         ensures held { tells ≡ true → (state self.new).held ≡ (state self.old).held }
         ensures flight { tells ≡ true → (state self.new).flight ≡ (state self.old).flight }
         ensures history { (state self.new).history ≡ (state self.old).history }
@@ -159,4 +167,7 @@ pub trait Disk {
 
     /// No count is ever past its end.
     ghost bounded: { (disk : Self) → IsBounded (state disk) };
+
+    /// Of the calls that were made it says some list.
+    ghost some: { (disk : Self) → (made : List Made) × calls disk made };
 }

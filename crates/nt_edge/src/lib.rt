@@ -1,8 +1,9 @@
 //! The traits of the outside: a disk of sectors that may lose power or fail at any call, a test bench
 //! round it, and a host of files to which a report is said.
 //!
-//! A disk or host tells its contents or it doesn't; its counts are known for every one, and each refusal
-//! comes with a count that rose in that call (a host's want of memory alone is free).
+//! A disk or host tells its contents or it doesn't; its counts are known for every one. Each refusal of a
+//! disk's `read`, `write` and `sync` comes with a count that rose in that call, and so does each `Read` and
+//! `Write` of a host. Want of memory is free where a bench or a host refuses for it.
 #![tactic(auto)]
 
 mod bench;
