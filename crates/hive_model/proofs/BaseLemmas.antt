@@ -9,10 +9,11 @@ use Rattle.std.proofs.lemmas.List.{take-append-le, drop-append-le}
 use Rattle.std.proofs.Math.Seq.{drop-append_seam, take-append_seam}
 use Rattle.std.proofs.Math.Nat.{mod-lt}
 use Rattle.nt_bytes.specs.declared.fault.HiveFault.{HiveFault}
+use Rattle.nt_bytes.specs.Fields.{u32_in, u64_in}
 use Rattle.nt_bytes.specs.declared.fault.HiveKind.TheVariants.{LogAbsent, LogUnreadable}
 use Rattle.hive_model.specs.Image.{Image, Content, Bytes, Unreadable}
 use Rattle.hive_model.specs.Recovery.{log_in, primary_in, and_then, bytes_or, as_log_base, base_at, base_in, logged_in}
-use Rattle.hive_model.specs.Base.{Base, IsBase, fault_at, word_at, long_at, mixed_words, moved_off, checksum_of, is_bins_size, base_checks, first_failing, fields_of, unless_fault, base_of, head_text, summed_text, base_text}
+use Rattle.hive_model.specs.Base.{Base, IsBase, fault_at, mixed_words, moved_off, checksum_of, is_bins_size, is_minor, base_checks, first_failing, fields_of, unless_fault, base_of, head_text, summed_text, base_text}
 
 -- each is a byte
 pub record AreBytes (bytes : List ℕ) : Type 0 where
@@ -35,7 +36,7 @@ bytes_low i (suc k) n =
     record { each = elim [ zero ↦ byte_small i n | suc j ↦ rest.each j ] }
 
 -- a word of a front is that of the whole
-word_front : (xs ys : List ℕ) (at : ℕ) → at + 4 ≤ length xs → word_at (xs ++ ys) at ≡ word_at xs at
+word_front : (xs ys : List ℕ) (at : ℕ) → at + 4 ≤ length xs → u32_in (xs ++ ys) at ≡ u32_in xs at
 word_front xs ys at long =
     ap (λ l. from_le_bytes w32 (take (at + 4 - at) l)) (drop-append-le at xs ys (omega arith))
     ∙ ap (from_le_bytes w32) (take-append-le (at + 4 - at) (drop at xs) ys (omega (arith, length-drop at xs)))
@@ -44,7 +45,7 @@ pub mixed_front : (n : ℕ) (xs ys : List ℕ) → 4 * n ≤ length xs → mixed
 unfolding mixed_words
 mixed_front zero xs ys long = refl
 mixed_front (suc n) xs ys long =
-    ap (λ m. bit_xor m (word_at (xs ++ ys) (4 * n))) (mixed_front n xs ys (omega arith))
+    ap (λ m. bit_xor m (u32_in (xs ++ ys) (4 * n))) (mixed_front n xs ys (omega arith))
     ∙ ap (bit_xor (mixed_words n xs)) (word_front xs ys (4 * n) (omega arith))
 
 word_small : (bytes : List ℕ) → AreBytes bytes → from_le_bytes w32 bytes < 2 ^ 32
@@ -69,6 +70,9 @@ mixed_small (suc n) xs is = xor_lt 32 _ _ (mixed_small n xs is) (word_small _ (t
 
 moved_small : (m : ℕ) → m < 2 ^ 32 → moved_off m < 2 ^ 32
 moved_small m small = grind arith
+
+minor_small : (m : ℕ) → is_minor m ≡ true → m < 2 ^ 32
+minor_small m is = grind arith
 
 signature_bytes : AreBytes (codes "regf")
 signature_bytes = record { each = elim [ zero ↦ omega arith | suc k ↦ elim k as (λ k. slice_index (codes "regf") (suc k) < 256) [ zero ↦ omega arith | suc k ↦ elim k as (λ k. slice_index (codes "regf") (suc (suc k)) < 256) [ zero ↦ omega arith | suc k ↦ elim k as (λ k. slice_index (codes "regf") (suc (suc (suc k))) < 256) [ zero ↦ omega arith | suc k ↦ omega arith ] ] ] ] }
@@ -126,34 +130,34 @@ module _ (b : Base) (is : IsBase b) where
   unfolding base_text
   sum_is = ap moved_off (mixed_front 127 (summed_text b) _ (omega (arith, summed_long)))
 
-  stored_is : word_at (base_text b) 508 ≡ checksum_of (summed_text b)
+  stored_is : u32_in (base_text b) 508 ≡ checksum_of (summed_text b)
   unfolding base_text
   stored_is =
       ap (λ n. from_le_bytes w32 (take 4 (drop n (base_text b)))) (sym summed_long)
       ∙ ap (λ l. from_le_bytes w32 (take 4 l)) (drop-append_seam (summed_text b) _)
       ∙ from_le_bytes-to_le_bytes_4 _ sum_fits
 
-  first_is : word_at (base_text b) 4 ≡ b.first
+  first_is : u32_in (base_text b) 4 ≡ b.first
   unfolding base_text summed_text head_text
   first_is = from_le_bytes-to_le_bytes_4 b.first is.first_fits
 
-  second_is : word_at (base_text b) 8 ≡ b.second
+  second_is : u32_in (base_text b) 8 ≡ b.second
   unfolding base_text summed_text head_text
   second_is = from_le_bytes-to_le_bytes_4 b.second is.second_fits
 
-  stamp_is : long_at (base_text b) 12 ≡ b.stamp
+  stamp_is : u64_in (base_text b) 12 ≡ b.stamp
   unfolding base_text summed_text head_text
   stamp_is = from_le_bytes-to_le_bytes_8 b.stamp is.stamp_fits
 
-  minor_back : word_at (base_text b) 24 ≡ b.minor
+  minor_back : u32_in (base_text b) 24 ≡ b.minor
   unfolding base_text summed_text head_text
-  minor_back = from_le_bytes-to_le_bytes_4 b.minor (omega (arith, is.minor_is))
+  minor_back = from_le_bytes-to_le_bytes_4 b.minor (minor_small b.minor is.minor_is)
 
-  kind_back : word_at (base_text b) 28 ≡ b.kind
+  kind_back : u32_in (base_text b) 28 ≡ b.kind
   unfolding base_text summed_text head_text
   kind_back = from_le_bytes-to_le_bytes_4 b.kind is.kind_fits
 
-  root_back : word_at (base_text b) 36 ≡ b.root
+  root_back : u32_in (base_text b) 36 ≡ b.root
   unfolding base_text summed_text head_text
   root_back = from_le_bytes-to_le_bytes_4 b.root is.root_fits
 
@@ -163,11 +167,11 @@ module _ (b : Base) (is : IsBase b) where
       let bounds = both (nat_le 4096 b.size) _ parts.1 in
       let small : b.size ≤ 16777216 = leb-true _ _ bounds.1 in omega arith
 
-  size_back : word_at (base_text b) 40 ≡ b.size
+  size_back : u32_in (base_text b) 40 ≡ b.size
   unfolding base_text summed_text head_text
   size_back = from_le_bytes-to_le_bytes_4 b.size size_fits
 
-  cluster_back : word_at (base_text b) 44 ≡ b.cluster
+  cluster_back : u32_in (base_text b) 44 ≡ b.cluster
   unfolding base_text summed_text head_text
   cluster_back = from_le_bytes-to_le_bytes_4 b.cluster is.cluster_fits
 
@@ -175,11 +179,11 @@ module _ (b : Base) (is : IsBase b) where
   unfolding base_text summed_text head_text
   signed = refl
 
-  major_is : word_at (base_text b) 20 ≡ 1
+  major_is : u32_in (base_text b) 20 ≡ 1
   unfolding base_text summed_text head_text
   major_is = refl
 
-  format_is : word_at (base_text b) 32 ≡ 1
+  format_is : u32_in (base_text b) 32 ≡ 1
   unfolding base_text summed_text head_text
   format_is = refl
 
@@ -202,7 +206,7 @@ module _ (b : Base) (is : IsBase b) where
 
   no_fault : first_failing (base_checks (base_text b) b.kind) ≡ None
   no_fault = none_fails (base_checks (base_text b) b.kind)
-      (signed, (eq-eqb _ _ (stored_is ∙ sym sum_is), (eq-eqb _ _ major_is, (eq-eqb _ _ (minor_back ∙ is.minor_is), (eq-eqb _ _ kind_back, (eq-eqb _ _ format_is, (ap is_bins_size size_back ∙ is.size_is, tt)))))))
+      (signed, (eq-eqb _ _ (stored_is ∙ sym sum_is), (eq-eqb _ _ major_is, (ap is_minor minor_back ∙ is.minor_is, (eq-eqb _ _ kind_back, (eq-eqb _ _ format_is, (ap is_bins_size size_back ∙ is.size_is, tt)))))))
 
   pub base_back : base_of (base_text b) b.kind ≡ Ok b
   unfolding base_of
@@ -221,7 +225,7 @@ read_parts (Some fault) base b is = absurd (cc)
 
 -- what is known of a base block that was read from a file of this kind
 pub record IsChecked (kind : ℕ) (base : Base) : Type 0 where
-  pub minor_is : base.minor ≡ 3
+  pub minor_is : is_minor base.minor ≡ true
   pub kind_is : base.kind ≡ kind
   pub size_is : is_bins_size base.size ≡ true
 
@@ -232,7 +236,7 @@ base_checked sector kind b reads =
     let holds = none_holds (base_checks sector kind) parts.0 in
     let fields : fields_of sector ≡ b = parts.1 in
     record {
-      minor_is = sym (ap (λ (x : Base). x.minor) fields) ∙ eqb-true _ _ holds.1.1.1.0;
+      minor_is = sym (ap (λ (x : Base). is_minor x.minor) fields) ∙ holds.1.1.1.0;
       kind_is = sym (ap (λ (x : Base). x.kind) fields) ∙ eqb-true _ _ holds.1.1.1.1.0;
       size_is = ap (λ (x : Base). is_bins_size x.size) (sym fields) ∙ holds.1.1.1.1.1.1.0;
     }

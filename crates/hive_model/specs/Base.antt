@@ -1,4 +1,4 @@
--- The base block: sector 0 of a hive file and of its log (regf format 1.3, "Base block").
+-- The base block: sector 0 of a hive file and of its log (regf format 1.3 and 1.5, "Base block").
 --
 --     at  size  field
 --      0     4  the signature `regf`
@@ -6,7 +6,7 @@
 --      8     4  secondary sequence number, equal to it once all is written
 --     12     8  last-written stamp
 --     20     4  major version, 1
---     24     4  minor version, 3
+--     24     4  minor version, 3 or 5
 --     28     4  file type: 0 primary, 1 log
 --     32     4  file format, 1
 --     36     4  offset of the root cell
@@ -15,9 +15,12 @@
 --     48    64  file name
 --    112   396  all else, kept as it is
 --    508     4  checksum of the 127 words before it
-use Rattle.std.specs.Prelude.{◌≡◌, ◌<◌, ◌+◌, ◌*◌, ◌^◌, ◌%◌, ◌==◌, ◌&&◌, Bool, true, nat_eq, nat_le, if◌then◌else◌, ℕ, zero, suc, List, [], ◌∷◌, ◌++◌, length, slice_index, slice_range, bit_xor, codes, Option, Some, None, Result, Ok, Err}
+use Rattle.std.specs.Prelude.{◌≡◌, ◌<◌, ◌*◌, ◌^◌, ◌%◌, ◌==◌, ◌&&◌, ◌||◌, Bool, true, nat_eq, nat_le, if◌then◌else◌, ℕ, zero, suc, List, [], ◌∷◌, ◌++◌, length, slice_index, slice_range, bit_xor, codes, Option, Some, None, Result, Ok, Err}
 use Rattle.std.specs.List.{starts_with}
-use Rattle.std.specs.Int.{w32, w64, from_le_bytes, to_le_bytes}
+use Rattle.std.specs.Int.{w32, w64, to_le_bytes}
+use Rattle.nt_bytes.specs.Fields.{u32_in, u64_in}
+use Rattle.nt_bytes.specs.declared.version.HiveVersion.{HiveVersion}
+use Rattle.nt_bytes.specs.declared.version.HiveVersion.TheVariants.{V3, V5}
 use Rattle.nt_bytes.specs.declared.fault.HiveFault.{HiveFault}
 use Rattle.nt_bytes.specs.declared.fault.HiveKind.{HiveKind}
 use Rattle.nt_bytes.specs.declared.fault.HiveKind.TheVariants.{NotRegf, Checksum, Version, FileType, Size}
@@ -35,18 +38,10 @@ pub record Base : Type 0 where
   pub name : List ℕ
   pub rest : List ℕ
 
--- the u32 at a byte
-abbrev pub word_at : List ℕ → ℕ → ℕ
-word_at bytes at = from_le_bytes w32 (slice_range bytes at (at + 4))
-
--- the u64 at a byte
-abbrev pub long_at : List ℕ → ℕ → ℕ
-long_at bytes at = from_le_bytes w64 (slice_range bytes at (at + 8))
-
 -- the first n words, each bit on where it is on in an odd number of them
 unfoldable pub mixed_words : ℕ → List ℕ → ℕ
 mixed_words zero sector = 0
-mixed_words (suc n) sector = bit_xor (mixed_words n sector) (word_at sector (4 * n))
+mixed_words (suc n) sector = bit_xor (mixed_words n sector) (u32_in sector (4 * n))
 
 -- 0 and the greatest word are each moved off by one
 abbrev pub moved_off : ℕ → ℕ
@@ -60,6 +55,14 @@ checksum_of sector = moved_off (mixed_words 127 sector)
 abbrev pub is_bins_size : ℕ → Bool
 is_bins_size size = (size % 4096 == 0) && (nat_le 4096 size && nat_le size 16777216)
 
+-- the minor versions that are read and written
+abbrev pub is_minor : ℕ → Bool
+is_minor minor = (minor == 3) || (minor == 5)
+
+-- the version of the format that a minor version is
+abbrev pub version_of : ℕ → HiveVersion
+version_of minor = if minor == 5 then V5 else V3
+
 -- a fault of this kind at this byte
 abbrev pub fault_at : HiveKind → ℕ → HiveFault
 fault_at kind at = record { kind = kind; at = at }
@@ -68,12 +71,12 @@ fault_at kind at = record { kind = kind; at = at }
 abbrev pub base_checks : List ℕ → ℕ → List (Bool × HiveFault)
 base_checks sector kind =
     (starts_with nat_eq sector (codes "regf"), fault_at NotRegf 0)
-    ∷ (word_at sector 508 == checksum_of sector, fault_at Checksum 508)
-    ∷ (word_at sector 20 == 1, fault_at Version 20)
-    ∷ (word_at sector 24 == 3, fault_at Version 24)
-    ∷ (word_at sector 28 == kind, fault_at FileType 28)
-    ∷ (word_at sector 32 == 1, fault_at FileType 32)
-    ∷ (is_bins_size (word_at sector 40), fault_at Size 40)
+    ∷ (u32_in sector 508 == checksum_of sector, fault_at Checksum 508)
+    ∷ (u32_in sector 20 == 1, fault_at Version 20)
+    ∷ (is_minor (u32_in sector 24), fault_at Version 24)
+    ∷ (u32_in sector 28 == kind, fault_at FileType 28)
+    ∷ (u32_in sector 32 == 1, fault_at FileType 32)
+    ∷ (is_bins_size (u32_in sector 40), fault_at Size 40)
     ∷ []
 
 -- the fault of the first check that fails
@@ -84,14 +87,14 @@ first_failing (check ∷ checks) = if check.0 then first_failing checks else Som
 -- the fields at their places
 unfoldable pub fields_of : List ℕ → Base
 fields_of sector = record {
-  first = word_at sector 4;
-  second = word_at sector 8;
-  stamp = long_at sector 12;
-  minor = word_at sector 24;
-  kind = word_at sector 28;
-  root = word_at sector 36;
-  size = word_at sector 40;
-  cluster = word_at sector 44;
+  first = u32_in sector 4;
+  second = u32_in sector 8;
+  stamp = u64_in sector 12;
+  minor = u32_in sector 24;
+  kind = u32_in sector 28;
+  root = u32_in sector 36;
+  size = u32_in sector 40;
+  cluster = u32_in sector 44;
   name = slice_range sector 48 112;
   rest = slice_range sector 112 508;
 }
@@ -125,7 +128,7 @@ pub record IsBase (base : Base) : Type 0 where
   pub first_fits : base.first < 2 ^ 32
   pub second_fits : base.second < 2 ^ 32
   pub stamp_fits : base.stamp < 2 ^ 64
-  pub minor_is : base.minor ≡ 3
+  pub minor_is : is_minor base.minor ≡ true
   pub kind_fits : base.kind < 2 ^ 32
   pub root_fits : base.root < 2 ^ 32
   pub size_is : is_bins_size base.size ≡ true

@@ -5,6 +5,7 @@ use Rattle.std.specs.List.{AllByRecursion, flat_map}
 use Rattle.std.specs.Int.{w32, to_le_bytes}
 use Rattle.std.specs.Coded.{Coded, code_by, coded×, coded_ℕ, coded_bool, coded_list}
 use Rattle.nt_bytes.specs.Fields.{u32_in}
+use Rattle.nt_bytes.specs.declared.version.HiveVersion.{HiveVersion}
 use Rattle.nt_bytes.specs.declared.fault.HiveKind.{HiveKind}
 use Rattle.nt_bytes.specs.declared.fault.HiveKind.TheVariants.{BinSign, BinOffset, BinSize, CellSize, CellPastBin, OutOfRange, FreeCell}
 use Rattle.nt_bytes.specs.declared.fault.HiveFault.{HiveFault}
@@ -174,13 +175,18 @@ abbrev pub payload_of : Option Cell → Result (List ℕ) HiveKind
 payload_of None = Err OutOfRange
 payload_of (Some c) = if c.used then Ok c.payload else Err FreeCell
 
--- the payload at an offset, or why there is none
-abbrev pub Cells : Type 0
-Cells = ℕ → Result (List ℕ) HiveKind
+-- cells that a tree of this version may stand in: at an offset a payload, or why there is none
+pub record Cells : Type 0 where
+  pub version : HiveVersion
+  pub payload : ℕ → Result (List ℕ) HiveKind
 
--- the allocated cells of these bins
-abbrev pub look_up : List Bin → Cells
-look_up bins at = payload_of (cell_at bins at)
+-- the payload of the allocated cell of these bins at an offset, or why there is none
+abbrev pub payload_at : List Bin → ℕ → Result (List ℕ) HiveKind
+payload_at bins at = payload_of (cell_at bins at)
+
+-- the allocated cells of these bins, as those of a hive of this version
+abbrev pub look_up : HiveVersion → List Bin → Cells
+look_up version bins = record { version = version; payload = payload_at bins }
 
 -- a check's kind of fault, at this place
 abbrev pub placed : {A : Type 0} → ℕ → Result A HiveKind → Result A HiveFault

@@ -5,6 +5,7 @@ use Rattle.std.specs.List.{list_any}
 use Rattle.std.specs.Option.{is_some, is_none, option_map_or}
 use Rattle.std.specs.Ordering.{is_gt}
 use Rattle.nt_bytes.specs.Folding.{folded_order}
+use Rattle.nt_bytes.specs.declared.version.HiveVersion.{HiveVersion}
 use Rattle.hive_model.specs.Tree.{Item, Tree, key, none, trees, listed, head, children, is_named, is_item, find_key, find_item}
 use Rattle.hive_model.specs.Valid.{is_backslash, levels}
 use Rattle.hive_model.specs.Size.{bulk_of}
@@ -187,10 +188,11 @@ abbrev pub after_steps : Tree → List Step → Result Tree Refusal
 after_steps t [] = Ok t
 after_steps t (step ∷ steps) = then_edit (after_step step t) (λ u. after_steps u steps)
 
--- the greatest bulk of an edited tree: its bins data then have at most 16,777,216 bytes
+-- the greatest bulk of an edited tree, 4096 bytes below the greatest size of bins data; so its packed form has at most
+-- 16,773,120 bytes
 abbrev pub most_bulk : ℕ
 most_bulk = 16773120
 
--- the tree after all steps, or why not: the first refusal, or that the result is too large
-unfoldable pub edited : Tree → List Step → Result Tree Refusal
-edited t steps = then_edit (after_steps t steps) (λ u. if nat_lt most_bulk (bulk_of u) then Err full else Ok u)
+-- the tree of a hive of this version after all steps, or why not: the first refusal, or that the result is too large
+unfoldable pub edited : HiveVersion → Tree → List Step → Result Tree Refusal
+edited version t steps = then_edit (after_steps t steps) (λ u. if nat_lt most_bulk (bulk_of version u) then Err full else Ok u)

@@ -1,17 +1,18 @@
 -- Which cells may an edit in place change, and how long may the bins data become by it? (this project's own; the sizes of
--- cells: regf format 1.3)
+-- cells: regf format 1.3 and 1.5)
 --
 -- A path is looked up in the cells from before the edit: a node stays where it is, so the key of a later step is an old
 -- node at the same path, or new. Whether a step adds a key, and which cells it needs, is judged by the trees before and
 -- after it.
-use Rattle.std.specs.Prelude.{ℕ, ◌+◌, ◌-◌, ◌*◌, ◌/◌, ◌%◌, ◌==◌, nat_lt, Bool, false, if◌then◌else◌, List, [], ◌∷◌, ◌++◌, length, take, find, flat_map, sum_by, Contains, Option, Some, option_and_then, Result, Ok, Err}
+use Rattle.std.specs.Prelude.{ℕ, ◌+◌, ◌-◌, ◌*◌, ◌/◌, ◌%◌, ◌==◌, nat_lt, Bool, false, if◌then◌else◌, List, [], ◌∷◌, ◌++◌, length, take, find, map, flat_map, sum_by, Contains, Option, Some, option_and_then, Result, Ok, Err}
 use Rattle.std.specs.List.{list_any}
 use Rattle.std.specs.Option.{option_map_or}
 use lib.ListN.{replicate}
 use Rattle.nt_bytes.specs.Folding.{folds_same}
+use Rattle.nt_bytes.specs.declared.version.HiveVersion.{HiveVersion}
 use Rattle.nt_bytes.specs.declared.fault.HiveKind.{HiveKind}
 use Rattle.hive_model.specs.Tree.{Item, Head, Tree, Trees, key, none, more, head, children, is_named, find_key, find_item}
-use Rattle.hive_model.specs.Size.{cell, name_bytes, data_size, class_size, security_size, node_size, part_count, count}
+use Rattle.hive_model.specs.Size.{cell, name_bytes, data_sizes, class_size, security_size, node_size, part_count, count}
 use Rattle.hive_model.specs.Edit.{Step, set_value, delete_value, make_key, delete_key, copy_child, add_child, Refusal, has_child, after_step}
 use Rattle.hive_model.specs.Forms.{KeyNode, key_node_at, key_value_at, offsets_in}
 use Rattle.hive_model.specs.Bins.{Cells}
@@ -82,7 +83,7 @@ of_key cells root path listing = option_map_or listing (key_place cells path roo
 unfoldable pub list_cells_at : Cells → ℕ → List ℕ
 list_cells_at cells at = of_node cells at (λ node. if node.child_count == 0 then [] else used_in (entries_checks cells node.child_list))
 
--- the cell of the value of this name among those at these offsets, and the cell of its data
+-- the cell of the value of this name among those at these offsets, and the cells of its data
 unfoldable pub named_value_cells : Cells → List ℕ → List ℕ → List ℕ
 named_value_cells cells name offsets = option_map_or (λ at. used_in (value_checks cells [] at)) (find (is_value_named cells name) offsets) []
 
@@ -120,7 +121,7 @@ named_nodes cells root step =
 abbrev pub adding_cells : Cells → ℕ → List ℕ
 adding_cells cells at = list_cells_at cells at ++ security_cell_at cells at
 
--- The other cells of a step: of a value that is set or deleted the value list, its cell and that of its data; of a key that
+-- The other cells of a step: of a value that is set or deleted the value list, its cell and those of its data; of a key that
 -- is added, copied or deleted the lists of its parent; for an added key the security cell that its parent uses, for a copied
 -- one those that it and the keys below it use; of a deleted key all cells, its own and below it. A key that is made where
 -- one of its name is changes nothing.
@@ -152,21 +153,21 @@ IsInFootprint cells root t steps offset = Contains (footprint_of cells root t st
 abbrev pub some_cell : ℕ → List ℕ
 some_cell size = if size == 0 then [] else size ∷ []
 
--- the sizes of a value's cell, and of one for its data of over four bytes
-abbrev pub item_sizes : Item → List ℕ
-item_sizes v = cell (20 + name_bytes v.name) ∷ some_cell (data_size v.bytes)
+-- the sizes of a value's cell, and of those of its data
+abbrev pub item_sizes : HiveVersion → Item → List ℕ
+item_sizes version v = cell (20 + name_bytes v.name) ∷ map cell (data_sizes version (length v.bytes))
 
 -- the size of the value list of so many values; none for no values
 abbrev pub value_list_sizes : ℕ → List ℕ
 value_list_sizes n = if n == 0 then [] else cell (4 * n) ∷ []
 
 -- the sizes of the cells of a key but those of its lists and children, under a key with this descriptor
-abbrev pub head_sizes : List ℕ → Head → List ℕ
-head_sizes shared h =
+abbrev pub head_sizes : HiveVersion → List ℕ → Head → List ℕ
+head_sizes version shared h =
     node_size h
     ∷ (some_cell (class_size h.class)
     ++ (some_cell (security_size shared h.security)
-    ++ (value_list_sizes (length h.values) ++ flat_map item_sizes h.values)))
+    ++ (value_list_sizes (length h.values) ++ flat_map (item_sizes version) h.values)))
 
 -- the sizes of the lists of n children: one of at most 500, or a list of such lists, each but the last full
 unfoldable pub list_sizes : ℕ → List ℕ
@@ -177,13 +178,13 @@ list_sizes n =
 
 -- the sizes of all cells of a key and below it, under a key with this descriptor
 abbrev mutual
-  pub sizes : List ℕ → Tree → List ℕ
-  sizes shared (key h ts) = head_sizes shared h ++ (list_sizes (count ts) ++ sizes_of_all h.security ts)
+  pub sizes : HiveVersion → List ℕ → Tree → List ℕ
+  sizes version shared (key h ts) = head_sizes version shared h ++ (list_sizes (count ts) ++ sizes_of_all version h.security ts)
 
   -- the sizes of all cells of keys one behind another and below them, under a key with this descriptor
-  pub sizes_of_all : List ℕ → Trees → List ℕ
-  sizes_of_all shared none = []
-  sizes_of_all shared (more t ts) = sizes shared t ++ sizes_of_all shared ts
+  pub sizes_of_all : HiveVersion → List ℕ → Trees → List ℕ
+  sizes_of_all version shared none = []
+  sizes_of_all version shared (more t ts) = sizes version shared t ++ sizes_of_all version shared ts
 
 -- ---- the room that an edit may need
 
@@ -191,40 +192,44 @@ abbrev mutual
 abbrev pub room_of : List ℕ → ℕ
 room_of cells = sum_by (λ size. rounded (size + 32)) cells
 
--- the sizes of the value list of the key at a path, and of the cells of its value of this name
-abbrev pub value_sizes_in : List (List ℕ) → List ℕ → Tree → List ℕ
-value_sizes_in path name t =
-    option_map_or (λ k. value_list_sizes (length (head k).values) ++ option_map_or item_sizes (find_item name k) []) (find_key path t) []
+-- the size of the value list of the key at a path
+abbrev pub value_list_sizes_in : List (List ℕ) → Tree → List ℕ
+value_list_sizes_in path t = option_map_or (λ k. value_list_sizes (length (head k).values)) (find_key path t) []
+
+-- the sizes of the cells of the value of this name of the key at a path
+abbrev pub named_value_sizes_in : HiveVersion → List (List ℕ) → List ℕ → Tree → List ℕ
+named_value_sizes_in version path name t =
+    option_map_or (λ k. option_map_or (item_sizes version) (find_item name k) []) (find_key path t) []
 
 -- the sizes of the lists of the key at a path
 abbrev pub list_sizes_in : List (List ℕ) → Tree → List ℕ
 list_sizes_in path t = option_map_or (λ k. list_sizes (length (children k))) (find_key path t) []
 
 -- the sizes of all cells of the child of this name and below it, where the parent is at a path
-abbrev pub key_sizes_in : List (List ℕ) → List ℕ → Tree → List ℕ
-key_sizes_in parent name t =
-    option_map_or (λ k. option_map_or (sizes (head k).security) (find (is_named name) (children k)) []) (find_key parent t) []
+abbrev pub key_sizes_in : HiveVersion → List (List ℕ) → List ℕ → Tree → List ℕ
+key_sizes_in version parent name t =
+    option_map_or (λ k. option_map_or (sizes version (head k).security) (find (is_named name) (children k)) []) (find_key parent t) []
 
 -- the sizes where the key at a path got a child of this name: of the lists of the key, and of all cells of the child and below it
-abbrev pub added_sizes_in : List (List ℕ) → List ℕ → Tree → List ℕ
-added_sizes_in parent name t = list_sizes_in parent t ++ key_sizes_in parent name t
+abbrev pub added_sizes_in : HiveVersion → List (List ℕ) → List ℕ → Tree → List ℕ
+added_sizes_in version parent name t = list_sizes_in parent t ++ key_sizes_in version parent name t
 
--- the sizes of the packed cells that a step may need, by the tree before it and the tree after it; a key that is made where
--- one of its name is needs none
-abbrev pub needed_sizes : Tree → Step → Tree → List ℕ
-needed_sizes old (set_value path name kind bytes) new = value_sizes_in path name new
-needed_sizes old (delete_value path name) new = value_sizes_in path name new
-needed_sizes old (make_key parent name) new = if has_key parent name old then [] else added_sizes_in parent name new
-needed_sizes old (delete_key path) new = list_sizes_in (parent_of path) new
-needed_sizes old (copy_child from to) new = added_sizes_in [] to new
-needed_sizes old (add_child name k) new = added_sizes_in [] name new
+-- the sizes of the packed cells that a step may need, by the tree before it and the tree after it; a value that is deleted
+-- needs the value list alone, and a key that is made where one of its name is needs none
+abbrev pub needed_sizes : HiveVersion → Tree → Step → Tree → List ℕ
+needed_sizes version old (set_value path name kind bytes) new = value_list_sizes_in path new ++ named_value_sizes_in version path name new
+needed_sizes version old (delete_value path name) new = value_list_sizes_in path new
+needed_sizes version old (make_key parent name) new = if has_key parent name old then [] else added_sizes_in version parent name new
+needed_sizes version old (delete_key path) new = list_sizes_in (parent_of path) new
+needed_sizes version old (copy_child from to) new = added_sizes_in version [] to new
+needed_sizes version old (add_child name k) new = added_sizes_in version [] name new
 
 -- how long so many bytes of bins data may become by steps in order, the first on this tree: longer by the room for each cell
 -- of each step; a refused step ends it
-abbrev pub strain_of : ℕ → Tree → List Step → ℕ
-strain_of bytes t [] = bytes
-strain_of bytes t (step ∷ steps) =
-    unless_refused bytes (after_step step t) (λ u. strain_of (bytes + room_of (needed_sizes t step u)) u steps)
+abbrev pub strain_of : HiveVersion → ℕ → Tree → List Step → ℕ
+strain_of version bytes t [] = bytes
+strain_of version bytes t (step ∷ steps) =
+    unless_refused bytes (after_step step t) (λ u. strain_of version (bytes + room_of (needed_sizes version t step u)) u steps)
 
 -- how long so many bytes of bins data may become by writing the lists of so many children: longer by the room for each list
 abbrev pub list_strain_of : ℕ → ℕ → ℕ

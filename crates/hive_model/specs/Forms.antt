@@ -1,11 +1,12 @@
 -- The forms of cells: what each payload says, the first check of it that fails, and how each is spelled
--- (regf format 1.3, key node, key value, key security, subkey lists, value list). All numbers are little-endian;
+-- (regf format 1.3 and 1.5, key node, key value, big data, key security, subkey lists, value list). All numbers are little-endian;
 -- an offset counts from the start of the bins data, and 0xFFFFFFFF is none. The order of the checks and the limits
 -- on names are this project's own.
 use Rattle.std.specs.Prelude.{◌≡◌, ◌<◌, ◌≤◌, ℕ, zero, suc, ◌+◌, ◌-◌, ◌*◌, ◌/◌, ◌%◌, ◌^◌, ◌==◌, nat_lt, nat_le, Bool, false, not, ◌&&◌, ◌||◌, if◌then◌else◌, List, [], ◌∷◌, ◌++◌, length, take, drop, Option, Some, None, Result, Ok, Err, slice_index, slice_range}
 use Rattle.std.specs.List.{list_any, AllByRecursion}
 use Rattle.std.specs.Int.{w16, w32, w64, to_le_bytes}
 use Rattle.nt_bytes.specs.Fields.{u16_in, u32_in, u64_in}
+use Rattle.nt_bytes.specs.Folding.{folded_unit}
 use Rattle.nt_bytes.specs.Text.{wide_of}
 use Rattle.nt_bytes.specs.declared.fault.HiveKind.{HiveKind}
 use Rattle.nt_bytes.specs.declared.fault.HiveKind.TheVariants.{FormShort, FormSign, FormLength, FormName}
@@ -249,6 +250,40 @@ data_inside v =
 unfoldable pub bytes_in : ℕ → List ℕ → Result (List ℕ) HiveKind
 bytes_in n p = if nat_lt (length p) n then Err FormShort else Ok (take n p)
 
+-- ---- big data
+--
+--     at  size  field
+--      0     2  the signature `db`
+--      2     2  number of segments
+--      4     4  offset of the list of the segments' offsets
+
+-- the fields of a cell of big data
+pub record BigData : Type 0 where
+  pub segments : ℕ
+  pub list : ℕ
+
+-- the fields of a payload
+abbrev pub big_data_in : List ℕ → BigData
+big_data_in p = record { segments = u16_in p 2; list = u32_in p 4 }
+
+-- the cell of big data that a payload holds, or the first check that fails
+unfoldable pub big_data_at : List ℕ → Result BigData HiveKind
+big_data_at p =
+    if nat_lt (length p) 2 then Err FormShort
+    else if u16_in p 0 == 0x6264 then (
+    if nat_lt (length p) 8 then Err FormShort
+    else Ok (big_data_in p)
+    ) else Err FormSign
+
+-- its spelling
+unfoldable pub big_data_text : BigData → List ℕ
+big_data_text big = 0x64 ∷ 0x62 ∷ (to_le_bytes w16 big.segments ++ to_le_bytes w32 big.list)
+
+-- a cell of big data whose numbers fit their fields
+pub record IsBigData (big : BigData) : Type 0 where
+  pub segments : big.segments < 2 ^ 16
+  pub list : big.list < 2 ^ 32
+
 -- ---- key security
 --
 --     at  size  field
@@ -294,18 +329,19 @@ pub record IsSecurityCell (s : SecurityCell) : Type 0 where
 -- ---- subkey lists
 --
 --     at  size  field
---      0     2  the signature `li`, `lf` or `ri`
+--      0     2  the signature `li`, `lf`, `lh` or `ri`
 --      2     2  count
 --      4        li: offsets of key nodes; lf: eight bytes each, the offset and four bytes of the name;
---               ri: offsets of li or lf cells
+--               lh: eight bytes each, the offset and the hash of the name; ri: offsets of li, lf or lh cells
 
--- which of the three lists a cell holds
+-- which of the four lists a cell holds; each is read in both versions
 pub data ListKind : Type 0 where
   Li : ListKind
   Lf : ListKind
+  Lh : ListKind
   Ri : ListKind
 
--- a list of subkeys without the bytes of names
+-- a list of subkeys without the bytes or hashes of names
 pub record SubkeyList : Type 0 where
   pub kind : ListKind
   pub offsets : List ℕ
@@ -328,6 +364,7 @@ list_at p =
     if nat_lt (length p) 2 then Err FormShort
     else if u16_in p 0 == 0x696c then list_of Li 4 p
     else if u16_in p 0 == 0x666c then list_of Lf 8 p
+    else if u16_in p 0 == 0x686c then list_of Lh 8 p
     else if u16_in p 0 == 0x6972 then list_of Ri 4 p
     else Err FormSign
 
@@ -336,7 +373,7 @@ abbrev pub offsets_text : List ℕ → List ℕ
 offsets_text [] = []
 offsets_text (o ∷ os) = to_le_bytes w32 o ++ offsets_text os
 
--- offsets, each with its hint behind it: the entries of `lf`
+-- offsets, each with its hint behind it: the entries of `lf` and `lh`
 abbrev pub entries_text : List ℕ → List (List ℕ) → List ℕ
 entries_text [] hints = []
 entries_text (o ∷ os) [] = []
@@ -358,6 +395,10 @@ li_text offsets = 0x6c ∷ 0x69 ∷ (to_le_bytes w16 (length offsets) ++ offsets
 unfoldable pub lf_text : List ℕ → List (List ℕ) → List ℕ
 lf_text offsets hints = 0x6c ∷ 0x66 ∷ (to_le_bytes w16 (length offsets) ++ entries_text offsets hints)
 
+-- a list of key nodes with the hashes of their names as hints
+unfoldable pub lh_text : List ℕ → List (List ℕ) → List ℕ
+lh_text offsets hints = 0x6c ∷ 0x68 ∷ (to_le_bytes w16 (length offsets) ++ entries_text offsets hints)
+
 -- a list of lists
 unfoldable pub ri_text : List ℕ → List ℕ
 ri_text lists = 0x72 ∷ 0x69 ∷ (to_le_bytes w16 (length lists) ++ offsets_text lists)
@@ -365,6 +406,15 @@ ri_text lists = 0x72 ∷ 0x69 ∷ (to_le_bytes w16 (length lists) ++ offsets_tex
 -- the four bytes that an entry of `lf` has for a name: its first four, zeros behind a short name; zeros for a wide name
 abbrev pub hint_of : Bool → List ℕ → List ℕ
 hint_of narrow name = if narrow then take 4 (name ++ 0 ∷ 0 ∷ 0 ∷ 0 ∷ []) else 0 ∷ 0 ∷ 0 ∷ 0 ∷ []
+
+-- the hash of units behind others of this hash
+abbrev pub hash_from : ℕ → List ℕ → ℕ
+hash_from h [] = h
+hash_from h (u ∷ us) = hash_from ((37 * h + folded_unit u) % 4294967296) us
+
+-- the hash that an entry of `lh` has for a name (that only a to z fold is this project's own)
+abbrev pub hash_of : List ℕ → ℕ
+hash_of name = hash_from 0 name
 
 -- ---- value list: offsets in a row
 

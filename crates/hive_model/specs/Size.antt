@@ -1,8 +1,10 @@
--- How many bytes the cells of a tree take where each key stands in cells of its own (regf format; which cells share
--- and how long the lists are is this project's own).
-use Rattle.std.specs.Prelude.{ℕ, ◌+◌, ◌*◌, ◌/◌, ◌%◌, min, Bool, false, not, ◌==◌, nat_eq, nat_lt, if◌then◌else◌, List, [], ◌∷◌, length}
+-- How many bytes the cells of a tree take in a version where each key stands in cells of its own (regf format 1.3 and 1.5;
+-- which cells share and how long the lists are is this project's own).
+use Rattle.std.specs.Prelude.{ℕ, zero, suc, ◌+◌, ◌-◌, ◌*◌, ◌/◌, ◌%◌, min, Bool, false, not, ◌==◌, nat_eq, nat_lt, if◌then◌else◌, List, [], ◌∷◌, length}
 use Rattle.std.specs.List.{list_all}
 use lib.Pointwise.{pointwise}
+use Rattle.nt_bytes.specs.declared.version.HiveVersion.{HiveVersion}
+use Rattle.nt_bytes.specs.declared.version.HiveVersion.TheVariants.{V3, V5}
 use Rattle.hive_model.specs.Tree.{Item, Head, Tree, Trees, key, none, more, listed}
 
 -- a cell's size: the payload behind four bytes for the size, up to a multiple of eight (regf format, Hive bin cell)
@@ -17,23 +19,63 @@ is_narrow name = list_all (λ u. nat_lt u 256) name
 abbrev pub name_bytes : List ℕ → ℕ
 name_bytes name = if is_narrow name then length name else 2 * length name
 
--- the cell of a value's data, which up to four bytes stand in the value itself (regf format, Key value)
-abbrev pub data_size : List ℕ → ℕ
-data_size bytes = if nat_lt 4 (length bytes) then cell (length bytes) else 0
+-- the cells with payloads of these lengths together
+abbrev pub cells_sum : List ℕ → ℕ
+cells_sum [] = 0
+cells_sum (n ∷ ns) = cell n + cells_sum ns
+
+-- ---- a value's data
+
+-- how many bytes a full segment of big data holds (regf format 1.5, Big data)
+abbrev pub segment_bytes : ℕ
+segment_bytes = 16344
+
+-- in version 1.5 data of more bytes than a segment holds are big (regf format 1.5, Big data)
+abbrev pub is_big : HiveVersion → ℕ → Bool
+is_big V3 n = false
+is_big V5 n = nat_lt segment_bytes n
+
+-- how many segments n bytes fill: n divided by 16,344 and rounded up
+abbrev pub segment_count : ℕ → ℕ
+segment_count n = (n + 16343) / segment_bytes
+
+-- how many of the n bytes that are left a segment holds
+abbrev pub segment_part : ℕ → ℕ
+segment_part n = min segment_bytes n
+
+-- how many bytes each of so many segments holds: each but the last is full
+abbrev pub segment_sizes : ℕ → ℕ → List ℕ
+segment_sizes zero n = []
+segment_sizes (suc k) n = segment_part n ∷ segment_sizes k (n - segment_bytes)
+
+-- The lengths of the payloads that n bytes of data are written in, in order. Up to four bytes stand in the value itself. Big
+-- data have a cell `db`, the list of their segments, and the segments; other data have one cell (regf format 1.3 and 1.5,
+-- Key value and Big data).
+abbrev pub data_sizes : HiveVersion → ℕ → List ℕ
+data_sizes version n =
+    if is_big version n then 8 ∷ 4 * segment_count n ∷ segment_sizes (segment_count n) n
+    else if nat_lt 4 n then n ∷ []
+    else []
+
+-- the cells of a value's data
+abbrev pub data_size : HiveVersion → List ℕ → ℕ
+data_size version bytes = cells_sum (data_sizes version (length bytes))
+
+-- ---- the cells of a key
 
 -- the cells of a value (regf format, Key value)
-abbrev pub item_size : Item → ℕ
-item_size v = cell (20 + name_bytes v.name) + data_size v.bytes
+abbrev pub item_size : HiveVersion → Item → ℕ
+item_size version v = cell (20 + name_bytes v.name) + data_size version v.bytes
 
 -- the cells of values one behind another
-abbrev pub items_sum : List Item → ℕ
-items_sum [] = 0
-items_sum (v ∷ vs) = item_size v + items_sum vs
+abbrev pub items_sum : HiveVersion → List Item → ℕ
+items_sum version [] = 0
+items_sum version (v ∷ vs) = item_size version v + items_sum version vs
 
 -- the value list and the cells of its values (regf format, Value list)
-abbrev pub items_size : List Item → ℕ
-items_size [] = 0
-items_size (v ∷ vs) = cell (4 * length (v ∷ vs)) + items_sum (v ∷ vs)
+abbrev pub items_size : HiveVersion → List Item → ℕ
+items_size version [] = 0
+items_size version (v ∷ vs) = cell (4 * length (v ∷ vs)) + items_sum version (v ∷ vs)
 
 -- the cell of a class (regf format, Key node)
 abbrev pub class_size : List ℕ → ℕ
@@ -54,8 +96,8 @@ abbrev pub node_size : Head → ℕ
 node_size h = cell (76 + name_bytes h.name)
 
 -- the cells of a key but those of its lists and children, under a key with this descriptor
-abbrev pub head_size : List ℕ → Head → ℕ
-head_size shared h = node_size h + class_size h.class + security_size shared h.security + items_size h.values
+abbrev pub head_size : HiveVersion → List ℕ → Head → ℕ
+head_size version shared h = node_size h + class_size h.class + security_size shared h.security + items_size version h.values
 
 -- how many lists of at most 500 entries n children fill (this project's own)
 abbrev pub part_count : ℕ → ℕ
@@ -75,18 +117,18 @@ count ts = length (listed ts)
 
 -- the cells of a key and of all below it, under a key with this descriptor; of the root, [] stands above
 abbrev mutual
-  pub size : List ℕ → Tree → ℕ
-  size shared (key h ts) = head_size shared h + list_size (count ts) + size_of_all h.security ts
+  pub size : HiveVersion → List ℕ → Tree → ℕ
+  size version shared (key h ts) = head_size version shared h + list_size (count ts) + size_of_all version h.security ts
 
   -- the cells of keys one behind another and of all below them, under a key with this descriptor
-  pub size_of_all : List ℕ → Trees → ℕ
-  size_of_all shared none = 0
-  size_of_all shared (more t ts) = size shared t + size_of_all shared ts
+  pub size_of_all : HiveVersion → List ℕ → Trees → ℕ
+  size_of_all version shared none = 0
+  size_of_all version shared (more t ts) = size version shared t + size_of_all version shared ts
 
 -- a sum as 64 bits hold it: past the greatest number it is that one
 abbrev pub capped : ℕ → ℕ
 capped n = min n 18446744073709551615
 
 -- the bulk of a tree: the bin's header of 32 bytes and all cells (this project's own)
-abbrev pub bulk_of : Tree → ℕ
-bulk_of t = capped (32 + size [] t)
+abbrev pub bulk_of : HiveVersion → Tree → ℕ
+bulk_of version t = capped (32 + size version [] t)

@@ -1,11 +1,12 @@
--- Which tree stands in cells (regf format 1.3, key node and what it names).
-use Rattle.std.specs.Prelude.{◌≡◌, ◌≤◌, ◌<◌, ℕ, ◌-◌, ◌==◌, if◌then◌else◌, MatchBool, List, [], ◌∷◌, length, Option, Some, None, Result, Ok, Err}
+-- Which tree stands in cells (regf format 1.3 and 1.5, key node and what it names).
+use Rattle.std.specs.Prelude.{◌≡◌, ◌≤◌, ◌<◌, ℕ, ◌-◌, ◌==◌, if◌then◌else◌, MatchBool, List, [], ◌∷◌, ◌++◌, length, Option, Some, None, Result, Ok}
 use Rattle.std.specs.List.{All}
 use Rattle.nt_bytes.specs.declared.fault.HiveKind.{HiveKind}
 use Rattle.hive_model.specs.Forms.{◌>>=◌, KeyNode, key_node_at, is_narrow_key, KeyValue, key_value_at, data_inside, bytes_in, security_at, offsets_in}
 use Rattle.hive_model.specs.Tree.{Tree, Trees, key, none, more, listed, Head, head, Item}
+use Rattle.hive_model.specs.Size.{segment_bytes, is_big, segment_part}
 use Rattle.hive_model.specs.Bins.{Cells}
-use Rattle.hive_model.specs.Walk.{reading, nowhere, entries_at, all_checks, AreUsedOnce}
+use Rattle.hive_model.specs.Walk.{reading, nowhere, big_data_of, entries_at, all_checks, AreUsedOnce}
 use Rattle.hive_model.specs.Valid.{KeysDiffer, ItemsDiffer, levels}
 
 -- ---- what a key node and a value say of themselves
@@ -22,14 +23,29 @@ class_of cells node = if node.class_length == 0 then Ok [] else reading (bytes_i
 unfoldable pub security_of : Cells → KeyNode → Result (List ℕ) HiveKind
 security_of cells node = if node.security == nowhere then Ok [] else reading security_at cells node.security >>= λ s. Ok s.descriptor
 
--- data that the value holds, or else those of a cell
+-- data that the value holds, or else those of cells
 abbrev pub data_or : Option (List ℕ) → Result (List ℕ) HiveKind → Result (List ℕ) HiveKind
 data_or (Some bytes) other = Ok bytes
 data_or None other = other
 
+-- the n bytes that the segments at these offsets hold, joined in order
+abbrev pub joined_segments : Cells → ℕ → List ℕ → Result (List ℕ) HiveKind
+joined_segments cells n [] = Ok []
+joined_segments cells n (at ∷ rest) =
+    reading (bytes_in (segment_part n)) cells at >>= λ bytes. joined_segments cells (n - segment_bytes) rest >>= λ others.
+    Ok (bytes ++ others)
+
+-- big data of n bytes, whose cell `db` is at an offset
+unfoldable pub big_bytes_at : Cells → ℕ → ℕ → Result (List ℕ) HiveKind
+big_bytes_at cells n at =
+    reading (big_data_of n) cells at >>= λ big. reading (offsets_in big.segments) cells big.list >>= joined_segments cells n
+
 -- a value's data
 unfoldable pub data_of : Cells → KeyValue → Result (List ℕ) HiveKind
-data_of cells value = data_or (data_inside value) (reading (bytes_in value.size) cells value.offset)
+data_of cells value =
+    data_or (data_inside value)
+    (if is_big cells.version value.size then big_bytes_at cells value.size value.offset
+    else reading (bytes_in value.size) cells value.offset)
 
 -- the value that stands at an offset
 unfoldable pub item_at : Cells → ℕ → Result Item HiveKind

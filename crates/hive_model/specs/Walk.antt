@@ -1,29 +1,31 @@
 -- The walk over a tree's cells: all that is judged of them, in the order in which it is judged, and the first check that fails
--- (forms: regf format 1.3, key node and what it names; the order and the kinds of fault: this project's own).
+-- (forms: regf format 1.3 and 1.5, key node and what it names; the order and the kinds of fault: this project's own).
 --
 -- At a key, in order:
 --     its level: over 512 levels it is too deep, before its cell is looked at
 --     its node, and that no earlier sibling has its name
 --     its class, where the length is not 0
 --     its security, where there is one; such a cell may serve several keys
---     its value list, where the count is not 0, then for each value its cell, its name among the key's values, and its data
+--     its value list, where the count is not 0, then for each value its cell, its name among the key's values, and its data:
+--     one cell, or for big data their cell `db`, the list of their segments, and each segment in order
 --     its subkey list, where the count is not 0: a list of lists comes before its lists
 --     that the lists have as many entries as the node says
 --     each child in order, with all below it
-use Rattle.std.specs.Prelude.{◌≡◌, ℕ, zero, suc, Bool, true, false, ◌&&◌, not, ◌==◌, is_some, if◌then◌else◌, List, [], ◌∷◌, ◌++◌, length, Option, Some, None, Result, Ok, Err}
+use Rattle.std.specs.Prelude.{◌≡◌, ℕ, zero, suc, ◌-◌, Bool, true, false, ◌&&◌, not, ◌==◌, is_some, if◌then◌else◌, List, [], ◌∷◌, ◌++◌, length, Option, Some, None, Result, Ok, Err}
 use Rattle.std.specs.List.{list_any}
 use Rattle.nt_bytes.specs.Folding.{folds_same}
 use Rattle.nt_bytes.specs.declared.fault.HiveKind.{HiveKind}
-use Rattle.nt_bytes.specs.declared.fault.HiveKind.TheVariants.{Shared, FormName, FormKind, DoubleName, Count, TooDeep}
+use Rattle.nt_bytes.specs.declared.fault.HiveKind.TheVariants.{Shared, FormLength, FormName, FormKind, DoubleName, Count, TooDeep}
 use Rattle.nt_bytes.specs.declared.fault.HiveFault.{HiveFault}
-use Rattle.hive_model.specs.Forms.{◌>>=◌, KeyNode, key_node_at, KeyValue, key_value_at, data_inside, bytes_in, security_at, ListKind, Li, Lf, Ri, SubkeyList, list_at, offsets_in}
+use Rattle.hive_model.specs.Forms.{◌>>=◌, KeyNode, key_node_at, KeyValue, key_value_at, data_inside, bytes_in, BigData, big_data_at, security_at, ListKind, Li, Lf, Lh, Ri, SubkeyList, list_at, offsets_in}
+use Rattle.hive_model.specs.Size.{segment_bytes, is_big, segment_count, segment_part}
 use Rattle.hive_model.specs.Bins.{Cells, or_else}
 
 -- ---- cells, and what stands in them
 
 -- the form that stands in the cell at an offset, or why none does
 abbrev pub reading : {F : Type 0} → (List ℕ → Result F HiveKind) → Cells → ℕ → Result F HiveKind
-reading form cells at = cells at >>= form
+reading form cells at = cells.payload at >>= form
 
 -- an offset that names nothing (regf format 1.3)
 abbrev pub nowhere : ℕ
@@ -33,10 +35,15 @@ nowhere = 4294967295
 unfoldable pub node_at : Bool → List ℕ → Result KeyNode HiveKind
 node_at root p = key_node_at p >>= λ node. if (length node.name == 0) && not root then Err FormName else Ok node
 
+-- a cell of big data for n bytes: it has as many segments as these fill
+unfoldable pub big_data_of : ℕ → List ℕ → Result BigData HiveKind
+big_data_of n p = big_data_at p >>= λ big. if big.segments == segment_count n then Ok big else Err FormLength
+
 -- it lists lists
 abbrev pub is_list_of_lists : ListKind → Bool
 is_list_of_lists Li = false
 is_list_of_lists Lf = false
+is_list_of_lists Lh = false
 is_list_of_lists Ri = true
 
 -- the entries of a list that is no list of lists
@@ -98,9 +105,25 @@ class_checks cells node = if node.class_length == 0 then [] else use_as false (b
 unfoldable pub security_checks : Cells → KeyNode → List Check
 security_checks cells node = if node.security == nowhere then [] else use_as true security_at cells node.security
 
--- a value's data, where they have a cell
+-- the segments at these offsets, in which n bytes are left
+abbrev pub segments_checks : Cells → ℕ → List ℕ → List Check
+segments_checks cells n [] = []
+segments_checks cells n (at ∷ more) = use_as false (bytes_in (segment_part n)) cells at ++ segments_checks cells (n - segment_bytes) more
+
+-- big data of n bytes, whose cell `db` is at an offset
+unfoldable pub big_checks : Cells → ℕ → ℕ → List Check
+big_checks cells n at =
+    use_as false (big_data_of n) cells at
+    ++ below_of (reading (big_data_of n) cells at) (λ big.
+    use_as false (offsets_in big.segments) cells big.list
+    ++ below_of (reading (offsets_in big.segments) cells big.list) (segments_checks cells n))
+
+-- a value's data, where they have cells
 unfoldable pub data_checks : Cells → KeyValue → List Check
-data_checks cells value = if is_some (data_inside value) then [] else use_as false (bytes_in value.size) cells value.offset
+data_checks cells value =
+    if is_some (data_inside value) then []
+    else if is_big cells.version value.size then big_checks cells value.size value.offset
+    else use_as false (bytes_in value.size) cells value.offset
 
 -- a value, behind those of these names
 unfoldable pub value_checks : Cells → List (List ℕ) → ℕ → List Check
@@ -178,7 +201,7 @@ at_place at (Some kind) = Some (record { kind = kind; at = at })
 abbrev pub fault_of : Cells → List Check → Check → Option HiveFault
 fault_of cells before (tests at kind) = at_place at kind
 fault_of cells before (uses at security) =
-    or_else (at_place at (found (cells at))) (at_place at (failing (list_any (clash at security) before) Shared))
+    or_else (at_place at (found (cells.payload at))) (at_place at (failing (list_any (clash at security) before) Shared))
 
 -- the first fault among checks, behind these
 abbrev pub first_among : Cells → List Check → List Check → Option HiveFault
