@@ -1,5 +1,8 @@
--- What a host is: its files, and what was said to it. (This project's own.)
-use Rattle.std.specs.Prelude.{◌≡◌, ◌⊎◌, ◌<◌, ◌≤◌, ◌++◌, ℕ, List, Option, Some, if◌then◌else◌, bytes_eq}
+-- What a host is at a moment: its files, and what was said to it; and what its calls leave. (This project's own.)
+use Rattle.std.specs.Prelude.{◌≡◌, ◌⊎◌, ◌<◌, ◌≤◌, ◌++◌, ℕ, Bool, true, List, Option, Some, if◌then◌else◌}
+use Rattle.std.specs.Prelude.{bytes_eq, Result, Ok, Err}
+use Rattle.nt_edge.specs.declared.host.HostStop.{HostStop}
+use Rattle.nt_edge.specs.declared.host.HostStop.TheVariants.{Read, Write, Memory}
 
 -- a count rose in a call: it is greater, or it stands at its end
 abbrev pub Rises : ℕ → ℕ → Type 0
@@ -8,6 +11,17 @@ Rises before after = (before < after) ⊎ (after ≡ 18446744073709551615)
 -- a host's files: the bytes under each name that is there
 abbrev pub Files : Type 0
 Files = List ℕ → Option (List ℕ)
+
+-- A host at a moment: whether it tells its files and what was said to it; whether it refuses no call from now on
+-- but for want of memory; the files; what was said so far; how many faults there were in reading, and in writing
+-- a file or saying something.
+pub record HostState : Type 0 where
+  pub tells : Bool
+  pub quiet : Bool
+  pub files : Files
+  pub said : List ℕ
+  pub reads : ℕ
+  pub writes : ℕ
 
 -- the file of that name has these bytes, and every other is as it was
 abbrev pub Puts : Files → Files → List ℕ → List ℕ → Type 0
@@ -24,14 +38,48 @@ pub record SaysFront (old new text : List ℕ) : Type 0 where
   pub cut : text ≡ front ++ rest
   pub said : new ≡ old ++ front
 
+-- whether the host tells stays, and one that is quiet stays quiet
+pub record KeepsHost (old new : HostState) : Type 0 where
+  pub tells : new.tells ≡ old.tells
+  pub quiet : old.quiet ≡ true → new.quiet ≡ true
+
+-- where the host tells, its files are as they were
+abbrev pub KeepsFiles : HostState → HostState → Type 0
+KeepsFiles old new = old.tells ≡ true → new.files ≡ old.files
+
+-- where the host tells, nothing was said
+abbrev pub IsUnsaid : HostState → HostState → Type 0
+IsUnsaid old new = old.tells ≡ true → new.said ≡ old.said
+
+-- neither count of faults changed
+pub record KeepsCounts (old new : HostState) : Type 0 where
+  pub reads : new.reads ≡ old.reads
+  pub writes : new.writes ≡ old.writes
+
+-- a fault in reading was counted, and no other; a quiet host has none
+pub record CountsRead (old new : HostState) : Type 0 where
+  pub reads : Rises old.reads new.reads
+  pub writes : new.writes ≡ old.writes
+  pub loud : old.quiet ≡ true → ⊥
+
+-- a fault in writing or saying was counted, and no other; a quiet host has none
+pub record CountsWrite (old new : HostState) : Type 0 where
+  pub reads : new.reads ≡ old.reads
+  pub writes : Rises old.writes new.writes
+  pub loud : old.quiet ≡ true → ⊥
+
+-- what a stop did to the counts of faults
+abbrev pub Counts : HostState → HostState → HostStop → Type 0
+Counts old new Read = CountsRead old new
+Counts old new Write = CountsWrite old new
+Counts old new Memory = KeepsCounts old new
+
+-- a count rose where the answer is its own fault, and stayed with every other answer
+abbrev pub CountsFault : {A : Type 0} → Result A HostStop → HostState → HostState → Type 0
+CountsFault (Ok answer) old new = KeepsCounts old new
+CountsFault (Err stop) old new = Counts old new stop
+
 -- neither count of faults is past its end
 pub record IsWithinEnds (reads writes : ℕ) : Type 0 where
   pub reads_end : reads ≤ 18446744073709551615
   pub writes_end : writes ≤ 18446744073709551615
-
--- neither count of faults falls, and each stays within its end
-pub record Grows (reads writes reads_after writes_after : ℕ) : Type 0 where
-  pub reads_grow : reads ≤ reads_after
-  pub writes_grow : writes ≤ writes_after
-  pub reads_end : reads_after ≤ 18446744073709551615
-  pub writes_end : writes_after ≤ 18446744073709551615

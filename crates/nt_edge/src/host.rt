@@ -1,7 +1,7 @@
 //! A host of files, to which a report is said.
 
-ghost use Rattle.std.specs.Prelude.{◌≡◌, ◌++◌, Bool, true, ℕ, List, IfOk, OnOk, OnErr, IsErrOf};
-ghost use Rattle.nt_edge.specs.Host.{Files, Rises, Puts, KeepsOthers, SaysFront, Grows, IsWithinEnds};
+ghost use Rattle.std.specs.Prelude.{◌≡◌, ◌++◌, true, IfOk, OnOk, OnErr, IsErrOf};
+ghost use Rattle.nt_edge.specs.Host.{HostState, Puts, KeepsOthers, KeepsHost, KeepsFiles, IsUnsaid, SaysFront, CountsFault, IsWithinEnds};
 ghost use Rattle.nt_edge.specs.declared.host.HostStop.TheVariants.{Read, Write};
 
 use nt_bytes::Bytes;
@@ -17,54 +17,44 @@ pub enum HostStop {
     Memory,
 }
 
-/// Files by name, and a place where bytes are said. The counts of faults never fall; they end at
-/// 18,446,744,073,709,551,615 and stay there.
+/// Files by name, and a place where bytes are said. A count of faults rises with its own fault and stays with every
+/// other answer; it ends at 18,446,744,073,709,551,615 and stays there.
 pub trait Host {
-    /// Whether the host tells its files and what was said to it. No call changes that.
-    ghost tells: { Bool };
-
-    /// The bytes of each file that is there, by its name.
-    ghost files: { Self → Files };
-
-    /// The bytes that were said so far.
-    ghost said: { Self → List ℕ };
-
-    /// How many read faults there were.
-    ghost reads: { Self → ℕ };
-
-    /// How many write faults there were.
-    ghost writes: { Self → ℕ };
+    /// What the host is at a moment. No call changes whether it tells its files and what was said to it, and one
+    /// that is quiet stays quiet.
+    ghost state: { Self → HostState };
 
     /// The bytes of the file, or none exactly where there is no such file.
     fn get(&mut self, name: &str) -> Result<Option<Bytes>, HostStop>
-        ensures found { tells ≡ true → IfOk result (λ found. found ≡ files self.old name.now) }
-        ensures files { tells ≡ true → files self.new ≡ files self.old }
-        ensures said { tells ≡ true → said self.new ≡ said self.old }
-        ensures counts { Grows (reads self.old) (writes self.old) (reads self.new) (writes self.new) }
-        ensures cause { IsErrOf result Read → Rises (reads self.old) (reads self.new) }
+        ensures found { (state self.old).tells ≡ true → IfOk result (λ found. found ≡ (state self.old).files name.now) }
+        ensures keeps { KeepsHost (state self.old) (state self.new) }
+        ensures files { KeepsFiles (state self.old) (state self.new) }
+        ensures unsaid { IsUnsaid (state self.old) (state self.new) }
+        ensures counts { CountsFault result (state self.old) (state self.new) }
         ensures never_write { IsErrOf result Write → ⊥ };
 
     /// Gives the file these bytes. A refusal says nothing of this one file and leaves the others.
     fn put(&mut self, name: &str, bytes: &[u8]) -> Result<(), HostStop>
-        ensures put { tells ≡ true → OnOk result
-            (Puts (files self.old) (files self.new) name.now bytes.now) }
-        ensures others { tells ≡ true → OnErr result
-            (KeepsOthers (files self.old) (files self.new) name.now) }
-        ensures said { tells ≡ true → said self.new ≡ said self.old }
-        ensures counts { Grows (reads self.old) (writes self.old) (reads self.new) (writes self.new) }
-        ensures cause { IsErrOf result Write → Rises (writes self.old) (writes self.new) }
+        ensures keeps { KeepsHost (state self.old) (state self.new) }
+        ensures put { (state self.old).tells ≡ true → OnOk result
+            (Puts (state self.old).files (state self.new).files name.now bytes.now) }
+        ensures others { (state self.old).tells ≡ true → OnErr result
+            (KeepsOthers (state self.old).files (state self.new).files name.now) }
+        ensures unsaid { IsUnsaid (state self.old) (state self.new) }
+        ensures counts { CountsFault result (state self.old) (state self.new) }
         ensures never_read { IsErrOf result Read → ⊥ };
 
     /// Appends the bytes to what was said. After a refusal a front of them was said.
     fn say(&mut self, bytes: &[u8]) -> Result<(), HostStop>
-        ensures said { tells ≡ true → OnOk result (said self.new ≡ said self.old ++ bytes.now) }
-        ensures front { tells ≡ true → OnErr result
-            (SaysFront (said self.old) (said self.new) bytes.now) }
-        ensures files { tells ≡ true → files self.new ≡ files self.old }
-        ensures counts { Grows (reads self.old) (writes self.old) (reads self.new) (writes self.new) }
-        ensures cause { IsErrOf result Write → Rises (writes self.old) (writes self.new) }
+        ensures said { (state self.old).tells ≡ true → OnOk result
+            ((state self.new).said ≡ (state self.old).said ++ bytes.now) }
+        ensures front { (state self.old).tells ≡ true → OnErr result
+            (SaysFront (state self.old).said (state self.new).said bytes.now) }
+        ensures keeps { KeepsHost (state self.old) (state self.new) }
+        ensures files { KeepsFiles (state self.old) (state self.new) }
+        ensures counts { CountsFault result (state self.old) (state self.new) }
         ensures never_read { IsErrOf result Read → ⊥ };
 
     /// Neither count is ever past its end.
-    ghost bounded: { (host : Self) → IsWithinEnds (reads host) (writes host) };
+    ghost bounded: { (host : Self) → IsWithinEnds (state host).reads (state host).writes };
 }
