@@ -34,6 +34,8 @@ impl MemHost {
         ensures said { result.said.items ≡ [] }
         ensures reads { result.reads ≡ 0 }
         ensures writes { result.writes ≡ 0 }
+        ensures no_read { result.fail_read ≡ 0 }
+        ensures no_write { result.fail_write ≡ 0 }
     {
         MemHost {
             alloc,
@@ -53,6 +55,8 @@ impl MemHost {
         ensures said { self.new.said ≡ self.old.said }
         ensures reads { self.new.reads ≡ self.old.reads }
         ensures writes { self.new.writes ≡ self.old.writes }
+        ensures fail_read { self.new.fail_read ≡ self.old.fail_read }
+        ensures fail_write { self.new.fail_write ≡ self.old.fail_write }
     {
         let name = String::from_str(self.alloc, name)?;
         let bytes = Vec::from_slice(self.alloc, bytes)?;
@@ -118,20 +122,22 @@ fn is_due(left: &mut u64) -> bool
 }
 
 impl Host for MemHost {
-    ghost use Rattle.std.specs.Prelude.{true};
-    ghost use Rattle.mem_edge.specs.Hosts.{files_of, bounded_law};
+    ghost use Rattle.std.specs.Prelude.{◌≡◌, ◌++◌, true, IfOk, OnOk, OnErr, IsErrOf};
+    ghost use Rattle.nt_edge.specs.Host.{Puts, KeepsOthers, KeepsHost, KeepsFiles, IsUnsaid, SaysFront, CountsFault};
+    ghost use Rattle.nt_edge.specs.declared.host.HostStop.TheVariants.{Read, Write};
+    ghost use Rattle.mem_edge.specs.Hosts.{host_of, FailsRead, FailsWrite, bounded_law};
 
-    ghost tells = { true };
+    ghost state = { host_of };
 
-    ghost files = { files_of };
-
-    ghost said = { λ h. h.said.items };
-
-    ghost reads = { λ h. h.reads };
-
-    ghost writes = { λ h. h.writes };
-
-    fn get(&mut self, name: &str) -> Result<Option<Bytes>, HostStop> {
+    fn get(&mut self, name: &str) -> Result<Option<Bytes>, HostStop>
+        ensures found { (host_of self.old).tells ≡ true → IfOk result (λ found. found ≡ (host_of self.old).files name.now) }
+        ensures keeps { KeepsHost (host_of self.old) (host_of self.new) }
+        ensures files { KeepsFiles (host_of self.old) (host_of self.new) }
+        ensures unsaid { IsUnsaid (host_of self.old) (host_of self.new) }
+        ensures counts { CountsFault result (host_of self.old) (host_of self.new) }
+        ensures never_write { IsErrOf result Write → ⊥ }
+        ensures fails { FailsRead result self.old self.new }
+    {
         if is_due(&mut self.fail_read) {
             self.reads = self.reads.saturating_add(1);
             return Err(HostStop::Read);
@@ -145,7 +151,17 @@ impl Host for MemHost {
         }
     }
 
-    fn put(&mut self, name: &str, bytes: &[u8]) -> Result<(), HostStop> {
+    fn put(&mut self, name: &str, bytes: &[u8]) -> Result<(), HostStop>
+        ensures keeps { KeepsHost (host_of self.old) (host_of self.new) }
+        ensures put { (host_of self.old).tells ≡ true → OnOk result
+            (Puts (host_of self.old).files (host_of self.new).files name.now bytes.now) }
+        ensures others { (host_of self.old).tells ≡ true → OnErr result
+            (KeepsOthers (host_of self.old).files (host_of self.new).files name.now) }
+        ensures unsaid { IsUnsaid (host_of self.old) (host_of self.new) }
+        ensures counts { CountsFault result (host_of self.old) (host_of self.new) }
+        ensures never_read { IsErrOf result Read → ⊥ }
+        ensures fails { FailsWrite result self.old self.new }
+    {
         if is_due(&mut self.fail_write) {
             self.writes = self.writes.saturating_add(1);
             return Err(HostStop::Write);
@@ -156,7 +172,17 @@ impl Host for MemHost {
         }
     }
 
-    fn say(&mut self, bytes: &[u8]) -> Result<(), HostStop> {
+    fn say(&mut self, bytes: &[u8]) -> Result<(), HostStop>
+        ensures said { (host_of self.old).tells ≡ true → OnOk result
+            ((host_of self.new).said ≡ (host_of self.old).said ++ bytes.now) }
+        ensures front { (host_of self.old).tells ≡ true → OnErr result
+            (SaysFront (host_of self.old).said (host_of self.new).said bytes.now) }
+        ensures keeps { KeepsHost (host_of self.old) (host_of self.new) }
+        ensures files { KeepsFiles (host_of self.old) (host_of self.new) }
+        ensures counts { CountsFault result (host_of self.old) (host_of self.new) }
+        ensures never_read { IsErrOf result Read → ⊥ }
+        ensures fails { FailsWrite result self.old self.new }
+    {
         if is_due(&mut self.fail_write) {
             self.writes = self.writes.saturating_add(1);
             return Err(HostStop::Write);

@@ -2,7 +2,7 @@
 
 ghost use Rattle.std.specs.Prelude.{◌≡◌, ℕ, List, [], None, true, option_map, OnOk, OnErr};
 ghost use Rattle.nt_edge.specs.Host.{Puts};
-ghost use Rattle.mem_edge.specs.Hosts.{quiet_files_of, quiet_law};
+ghost use Rattle.mem_edge.specs.Hosts.{quiet_files_of, quiet_host_of, quiet_law};
 
 use nt_bytes::Bytes;
 use nt_edge::{Host, HostStop};
@@ -61,15 +61,7 @@ impl QuietHost {
 }
 
 impl Host for QuietHost {
-    ghost tells = { true };
-
-    ghost files = { quiet_files_of };
-
-    ghost said = { λ h. h.said.items };
-
-    ghost reads = { λ h. 0 };
-
-    ghost writes = { λ h. 0 };
+    ghost state = { quiet_host_of };
 
     fn get(&mut self, name: &str) -> Result<Option<Bytes>, HostStop> {
         match self.files.get(name) {
