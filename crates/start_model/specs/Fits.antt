@@ -1,16 +1,14 @@
 -- How is a run read off a report, and what holds of the trees in it? (this project's own)
-use Rattle.std.specs.Prelude.{◌≡◌, ◌⊎◌, ◌-◌, ℕ, Bool, ◌==◌, if◌then◌else◌, List, [], ◌∷◌, length, take, filter_map, Option, None, Some, bytes_eq, codes}
-use Rattle.std.specs.List.{All, Contains, slice_split}
-use Rattle.nt_bytes.specs.declared.fault.HiveFault.{HiveFault}
+use Rattle.std.specs.Prelude.{◌≡◌, ◌⊎◌, ◌-◌, ℕ, Bool, true, ◌==◌, if◌then◌else◌, List, [], ◌∷◌, ◌++◌, length, take, filter_map, Option, None, Some, IfSome, bytes_eq, codes}
+use Rattle.std.specs.List.{Contains, list_any, slice_split}
 use Rattle.hive_model.specs.Image.{Image}
 use Rattle.hive_model.specs.Tree.{Tree}
 use Rattle.hive_model.specs.Edit.{renamed}
-use Rattle.hive_model.specs.State.{HiveState}
-use Rattle.hive_model.specs.Load.{Loads, LoadFault}
+use Rattle.hive_model.specs.Load.{Loads}
 use Rattle.start_model.specs.Lines as lines
 use Rattle.start_model.specs.Lines.{Line, LoadLine, CommitLine, VerdictLine}
 use Rattle.start_model.specs.Sets.{set_of, select_numbers_of}
-use Rattle.start_model.specs.Run.{Possible, Woken, Outcome, Finished, PowerCut, DeviceFault, good_is_usable}
+use Rattle.start_model.specs.Run.{Possible, Woken, Outcome, Finished, PowerCut, DeviceFault, Note, Woke, Held, Saved, good_is_usable}
 
 -- ---- the outcomes that a report tells
 
@@ -51,24 +49,40 @@ outcomes_of text = filter_map outcome_of (whole_lines text)
 
 -- ---- what the disk woke up with
 
--- What the images of the wakes load as, in order. One with a fault has no load, and neither has any behind it: the run
--- then ends as if no further wake were there.
-abbrev pub AreWoken : List Image → List Woken → Type 0
-AreWoken [] [] = Unit {0}
-AreWoken [] (w ∷ wakes) = ⊥
-AreWoken (i ∷ images) [] = (fault : HiveFault) × LoadFault i fault
-AreWoken (i ∷ images) (w ∷ wakes) = Loads i w.state w.dirty × AreWoken images wakes
+-- what the disk loads as is the settled state or the other one of an open change, and the log was taken for it or not as
+-- is certain
+pub record IsPossible (p : Possible) (w : Woken) : Type 0 where
+  pub state : (w.state ≡ p.settled) ⊎ (p.other ≡ Some w.state)
+  pub dirty : IfSome p.dirty (λ d. w.dirty ≡ d)
 
--- the state is the settled one, or the other one of an open change
-abbrev pub IsPossible : Possible → HiveState → Type 0
-IsPossible p state = (state ≡ p.settled) ⊎ (p.other ≡ Some state)
+-- the image loads as the disk may load
+pub record MayLoad (p : Possible) (image : Image) : Type 0 where
+  pub woken : Woken
+  pub loads : Loads image woken.state woken.dirty
+  pub possible : IsPossible p woken
 
--- each wake is what the disk could load as then, and there are no more of the one than of the other
-abbrev pub Fits : List Woken → List Possible → Type 0
-Fits [] [] = Unit {0}
-Fits [] (p ∷ expects) = ⊥
-Fits (w ∷ wakes) [] = ⊥
-Fits (w ∷ wakes) (p ∷ expects) = IsPossible p w.state × Fits wakes expects
+-- what the disk could load as at each wake, by the notes of a run
+abbrev pub woke_in : List Note → List Possible
+woke_in [] = []
+woke_in (Woke p ∷ ns) = p ∷ woke_in ns
+woke_in (note ∷ ns) = woke_in ns
+
+-- each wake is one that was possible then, and there are no more of the one than of the other
+abbrev pub ArePossible : List Woken → List Possible → Type 0
+ArePossible [] [] = Unit {0}
+ArePossible [] (p ∷ ps) = ⊥
+ArePossible (w ∷ wakes) [] = ⊥
+ArePossible (w ∷ wakes) (p ∷ ps) = IsPossible p w × ArePossible wakes ps
+
+-- The image of each wake loads as told, and that was possible then; there are as many of each. No image may have a
+-- fault.
+abbrev pub Fits : List Image → List Woken → List Possible → Type 0
+Fits [] [] [] = Unit {0}
+Fits [] [] (p ∷ ps) = ⊥
+Fits [] (w ∷ wakes) ps = ⊥
+Fits (i ∷ images) [] ps = ⊥
+Fits (i ∷ images) (w ∷ wakes) [] = ⊥
+Fits (i ∷ images) (w ∷ wakes) (p ∷ ps) = Loads i w.state w.dirty × IsPossible p w × Fits images wakes ps
 
 -- ---- LastKnownGood
 
@@ -80,10 +94,17 @@ SameSet a b = renamed [] a ≡ renamed [] b
 abbrev pub good_set_of : Tree → Option Tree
 good_set_of t = if good_is_usable t then set_of t (select_numbers_of t).good else None
 
--- the trees from the first on in which LastKnownGood names a set
-abbrev pub from_first_good : List Tree → List Tree
-from_first_good [] = []
-from_first_good (t ∷ ts) = if good_is_usable t then t ∷ ts else from_first_good ts
+-- the trees that were held, by the notes of a run: those that were loaded or committed
+abbrev pub held_in : List Note → List Tree
+held_in [] = []
+held_in (Held t ∷ ns) = t ∷ held_in ns
+held_in (note ∷ ns) = held_in ns
+
+-- the clones that were saved
+abbrev pub saved_in : List Note → List Tree
+saved_in [] = []
+saved_in (Saved clone ∷ ns) = clone ∷ saved_in ns
+saved_in (note ∷ ns) = saved_in ns
 
 -- the set that LastKnownGood names in the first of the trees, where it names one there
 abbrev pub first_good_in : List Tree → List Tree
@@ -102,6 +123,14 @@ IsGoodSet trees clones set = (good : Tree) × ((Contains (first_good_in trees) g
 abbrev pub NamesGood : List Tree → List Tree → Tree → Type 0
 NamesGood trees clones t = (set : Tree) × ((good_set_of t ≡ Some set) × IsGoodSet trees clones set)
 
--- from the first tree on in which LastKnownGood names a set, it names a good one in each
-abbrev pub KeepsGood : List Tree → List Tree → Type 0
-KeepsGood trees clones = All (NamesGood trees clones) (from_first_good trees)
+-- Behind what was noted so far, LastKnownGood names a good set in this tree: the first one or one that was saved before;
+-- unless it names none here and named none in any tree before.
+abbrev pub IsGoodBehind : List Note → Tree → Type 0
+IsGoodBehind before t = list_any good_is_usable (held_in before ++ t ∷ []) ≡ true → NamesGood (held_in before ++ t ∷ []) (saved_in before) t
+
+-- in each tree that is held, and in each that the disk may load as at the end, LastKnownGood names a set that was good
+-- before
+pub record KeepsGood (notes : List Note) (disk : Possible) : Type 0 where
+  pub held : (before after : List Note) (t : Tree) → notes ≡ before ++ Held t ∷ after → IsGoodBehind before t
+  pub settled : IsGoodBehind notes disk.settled.tree
+  pub other : IfSome disk.other (λ state. IsGoodBehind notes state.tree)

@@ -10,3 +10,6 @@ pub mod Machine
 pub mod Run
 pub mod Fits
 pub mod Orders
+pub mod Causes
+pub mod Summary
+pub mod Report

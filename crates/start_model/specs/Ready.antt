@@ -3,7 +3,7 @@
 -- One whose services and groups were started before (Microsoft's documentation of service entries,
 -- DependOnService and DependOnGroup). That a group is met from its first started member on, and without
 -- members never, and that the first ready entry goes next, is this project's own.
-use Rattle.std.specs.Prelude.{ℕ, Bool, false, ◌&&◌, List, map, Option, position}
+use Rattle.std.specs.Prelude.{ℕ, Bool, false, ◌&&◌, List, Option, position}
 use Rattle.std.specs.Option.{option_map_or}
 use Rattle.std.specs.List.{list_any, list_all}
 use Rattle.nt_bytes.specs.Folding.{folds_same}
@@ -28,7 +28,3 @@ is_ready started need = list_all (has_name started) need.services && list_all (h
 -- the place of the next entry: the waiting ones stand in the order of the phase, and the first that is ready is next
 abbrev pub next_of : List Label → List Need → Option ℕ
 next_of started waiting = position (is_ready started) waiting
-
--- where no entry is next, those that wait are unmet, in their order
-abbrev pub unmet_of : List Need → List (List ℕ)
-unmet_of waiting = map (λ n. n.name) waiting

@@ -2,39 +2,51 @@
 --
 -- An event is what it says, asks for and wakes; a run is the events in order. The order of a start is that of Windows
 -- Internals, 4th edition, startup; the script, the report and the stops are this project's own.
-use Rattle.std.specs.Prelude.{ℕ, zero, suc, ◌+◌, ◌%◌, Bool, true, false, ◌&&◌, ◌||◌, not, ◌==◌, if◌then◌else◌, List, [], ◌∷◌, ◌++◌, map, length, Option, None, Some, Result, Ok, Err, bytes_eq, codes}
+use Rattle.std.specs.Prelude.{ℕ, zero, suc, ◌+◌, ◌%◌, Bool, true, false, ◌||◌, not, if◌then◌else◌, List, [], ◌∷◌, ◌++◌, map, length, Option, None, Some, Result, Ok, Err, codes}
 use Rattle.std.specs.Option.{unwrap_or, option_map_or}
-use Rattle.hive_model.specs.Image.{ArmedCut, ArmedFault}
-use Rattle.hive_model.specs.Tree.{Tree, Trees, Item, Head, key, none, more, children, find_key}
+use Rattle.nt_bytes.specs.declared.version.HiveVersion.{HiveVersion}
+use Rattle.hive_model.specs.Image.{Arming, ArmedCut, ArmedFault}
+use Rattle.hive_model.specs.Tree.{Tree, key, none, children, find_key, same_tree}
 use Rattle.hive_model.specs.Edit.{Refusal, no_key, no_value, bad_name, exists, name_too_long, too_deep, data_too_long, full, edited}
 use Rattle.hive_model.specs.State.{HiveState}
 use Rattle.start_model.specs.Lines as lines
 use Rattle.start_model.specs.Lines.{Line, Verdict, RefusedWord, EventWord, CommitWord, TryWord, StartLine, EntryLine, LoadLine, SetLine, CommitLine, SelectLine, PhaseLine, TryLine, UnmetLine, LogonLine, SaveRefusedLine, EditOkLine, FlushNothingLine, RefusedLine, VerdictLine, EndLine}
 use Rattle.start_model.specs.Judge.{Judgement, Ignore, Log, FallBack, Stop}
-use Rattle.start_model.specs.Sets.{SelectNumbers, SetPlan, SetStop, NoControlSet, NoLastKnownGood, NoFreeNumber, select_numbers_of, usable_numbers_of, is_usable, set_of, begin_plan_of, save_plan_of, stepped}
+use Rattle.start_model.specs.Sets as sets
+use Rattle.start_model.specs.Sets.{SelectNumbers, NoControlSet, NoLastKnownGood, NoFreeNumber, SetChange, ChangeStop, NoPlan, select_numbers_of, taken_number, is_usable, set_of, begin_of, save_of}
 use Rattle.start_model.specs.Entries.{Phase, Boot, System, Automatic, Done}
 use Rattle.start_model.specs.Events.{Set, Delete, Make, Remove, Event, BootNow, Go, Fail, Edits, Flush, Logon, Off, CutNow, Arm, step_of}
 use Rattle.start_model.specs.Machine.{Start, MachineState, Tried, off_machine, failing, attempt_of, unmet_in, after_phase, begun_with, is_done, save_due, ending_of, ended, with_start, refusal_of}
 
 -- ---- what the disk may hold, and what it wakes up with
 
--- the state that the disk loads as: the settled one, or perhaps another where a change was stopped in its course
+-- The state that the disk loads as: the settled one, or perhaps another where a change was stopped in its course. And
+-- whether the log has to be taken for it, where that is certain.
 pub record Possible : Type 0 where
   pub settled : HiveState
   pub other : Option HiveState
-
--- the disk loads as this state and no other
-abbrev pub settled_at : HiveState → Possible
-settled_at state = record { settled = state; other = None }
-
--- the disk loads as the state before a change, which is the settled one, or as the one after it
-abbrev pub open_between : HiveState → HiveState → Possible
-open_between before after = record { settled = before; other = Some after }
+  pub dirty : Option Bool
 
 -- what the disk loads as when it wakes, and whether the log had to be taken for it
 pub record Woken : Type 0 where
   pub state : HiveState
   pub dirty : Bool
+
+-- a load or a commit is done: the disk loads as this state and no other, without its log
+abbrev pub settled_at : HiveState → Possible
+settled_at state = record { settled = state; other = None; dirty = Some false }
+
+-- a commit is under way: the disk loads as the state before it, which is the settled one, or as the one after it
+abbrev pub open_between : HiveState → HiveState → Possible
+open_between before after = record { settled = before; other = Some after; dirty = None }
+
+-- the disk was not written to: it loads as it did
+abbrev pub loads_as : Woken → Possible
+loads_as w = record { settled = w.state; other = None; dirty = Some w.dirty }
+
+-- a load is under way: the disk loads as it did, perhaps without its log now
+abbrev pub woken_at : Woken → Possible
+woken_at w = record { settled = w.state; other = None; dirty = None }
 
 -- how a disk operation ends: it is done, the power is cut, or a call of the disk fails
 pub data Outcome : Type 0 where
@@ -52,26 +64,40 @@ pub data Choice : Type 0 where
 
 -- ---- a run in its course
 
--- the machine, the live tree with the edits of the running start, its sequence number and whether it was changed,
--- what the disk may load as, and how many starts there were
+-- the machine; the live tree with the edits of the running start, the sequence number and the version of its hive, and
+-- whether it was changed; what the disk may load as; and how many starts there were
 pub record RunState : Type 0 where
   pub machine : MachineState
   pub live : Tree
   pub sequence : ℕ
+  pub version : HiveVersion
   pub changed : Bool
   pub disk : Possible
   pub starts : ℕ
 
+-- What happens beside the lines. Of a run the notes are its chronicle, in order.
+pub data Note : Type 0 where
+  -- the disk woke up, when it could load as told
+  Woke : Possible → Note
+  -- the disk holds a tree: it loads as that, or a commit of it is done
+  Held : Tree → Note
+  -- the clone of a good start was put into the tree that is committed next
+  Saved : Tree → Note
+  -- a stop of the disk was ordered
+  Ordered : Arming → Note
+  -- the power is cut by the script
+  Cuts : Note
+  -- a disk operation ended
+  Ended : Outcome → Note
+
 -- What an event does: it says lines; a disk operation ends, and until then the disk may load as told; the disk wakes up
--- with what it may load as; it holds a tree, which it loads or which was committed; a clone goes into a tree that is
--- about to be committed.
+-- with what it may load as; something else is noted.
 pub data Act : Type 0 where
   done : RunState → Act
   say : Line → Act → Act
   ask : Possible → (Outcome → Act) → Act
   wake : Possible → (Woken → Act) → Act
-  holds : Tree → Act → Act
-  saves : Tree → Act → Act
+  mark : Note → Act → Act
 
 -- these lines in order, and then what follows
 abbrev pub say_all : List Line → Act → Act
@@ -80,7 +106,7 @@ say_all (l ∷ ls) act = say l (say_all ls act)
 
 -- the state that a commit of the live tree leads to
 abbrev pub next_state : RunState → Tree → HiveState
-next_state m tree = record { tree = tree; sequence = (m.sequence + 1) % 4294967296 }
+next_state m tree = record { tree = tree; sequence = (m.sequence + 1) % 4294967296; version = m.version }
 
 -- with the machine changed
 abbrev pub with_machine : MachineState → RunState → RunState
@@ -94,20 +120,21 @@ start_over falls_back m = record m { machine = ended falls_back m.machine; chang
 abbrev pub end_with : Verdict → Bool → RunState → Act
 end_with verdict falls_back m = say (VerdictLine verdict) (done (start_over falls_back m))
 
--- a stop ends the start, and the disk may load as told
-abbrev pub stop_with : Verdict → Possible → RunState → Act
-stop_with verdict disk m = end_with verdict false (record m { disk = disk })
-
 -- ---- a commit
 
--- the tree is committed, the line says so, and the run goes on
+-- the commit of a tree is done
+abbrev pub committed_state : RunState → Tree → RunState
+committed_state m tree = record m { live = tree; sequence = (next_state m tree).sequence; changed = false; disk = settled_at (next_state m tree) }
+
+-- the commit of a tree was stopped: the disk may load as before it or as after it
+abbrev pub opened_state : RunState → Tree → RunState
+opened_state m tree = record m { disk = open_between m.disk.settled (next_state m tree) }
+
+-- the tree is committed, the line says so, and the run goes on; or the commit was stopped, and the start ends
 abbrev pub committed : CommitWord → Tree → RunState → (RunState → Act) → Outcome → Act
-committed what tree m next Finished =
-    let state : HiveState = next_state m tree in
-    say (CommitLine what state.sequence)
-    (holds tree (next (record m { live = tree; sequence = state.sequence; changed = false; disk = settled_at state })))
-committed what tree m next PowerCut = stop_with lines.Cut (open_between m.disk.settled (next_state m tree)) m
-committed what tree m next DeviceFault = stop_with lines.Device (open_between m.disk.settled (next_state m tree)) m
+committed what tree m next Finished = say (CommitLine what (next_state m tree).sequence) (mark (Held tree) (next (committed_state m tree)))
+committed what tree m next PowerCut = end_with lines.Cut false (opened_state m tree)
+committed what tree m next DeviceFault = end_with lines.Device false (opened_state m tree)
 
 -- a commit of the tree: its outcome decides how it goes on, and until then the disk may load as before or as after
 abbrev pub commit : CommitWord → Tree → RunState → (RunState → Act) → Act
@@ -127,22 +154,19 @@ noted_saved ok s m = with_machine (with_start (record s { saved = Some ok; clone
 abbrev pub save_refused : Bool → Start → RunState → (RunState → Act) → Act
 save_refused too_full s m next = say (SaveRefusedLine too_full) (next (noted_saved false s m))
 
--- the save's steps led to a tree with the clone in it, which is committed, and the numbers are said; or the save is
--- refused as full
-abbrev pub saved_as : Start → Tree → SelectNumbers → RunState → (RunState → Act) → Result Tree Refusal → Act
-saved_as s clone numbers m next (Ok tree) =
-    saves clone (commit lines.SaveCommit tree m (λ after. say (select_line numbers) (next (noted_saved true s after))))
-saved_as s clone numbers m next (Err refusal) = save_refused true s m next
-
--- the save by its plan; without one it is refused for want of a free number
-abbrev pub saved_by : Start → Tree → RunState → (RunState → Act) → Result SetPlan SetStop → Act
-saved_by s clone m next (Ok plan) = saved_as s clone plan.numbers m next (stepped m.live plan.steps)
-saved_by s clone m next (Err stop) = save_refused false s m next
+-- the tree with the clone in it is committed, and the numbers are said; or the save is refused, as full or for want of a
+-- free number
+abbrev pub saved_by : Start → Tree → RunState → (RunState → Act) → Result SetChange ChangeStop → Act
+saved_by s clone m next (Ok change) =
+    mark (Saved clone)
+    (commit lines.SaveCommit change.tree m (λ after. say (select_line change.numbers) (next (noted_saved true s after))))
+saved_by s clone m next (Err (NoPlan stop)) = save_refused false s m next
+saved_by s clone m next (Err sets.Full) = save_refused true s m next
 
 -- the clone, never the live set, is added under a free number; the live tree with all edits is committed with it
 abbrev pub save : Start → Option Tree → RunState → (RunState → Act) → Act
 save s None m next = next m
-save s (Some clone) m next = saved_by s clone m next (save_plan_of (select_numbers_of m.live) (usable_numbers_of m.live) clone)
+save s (Some clone) m next = saved_by s clone m next (save_of m.version m.live clone)
 
 -- where the start became good just now, it is saved
 abbrev pub save_where_due : Option Start → RunState → (RunState → Act) → Act
@@ -224,49 +248,54 @@ go_act None m = go_steps (enough_steps m.machine.start m) m
 
 -- ---- the boot event
 
+-- the start runs, in its boot phase
+abbrev pub begun_state : ℕ → Bool → RunState → RunState
+begun_state number on_good m = with_machine (with_start (begun_with (live_set m number) number on_good) m.machine) m
+
 -- the start begins: its first line is that of the boot phase
 abbrev pub begin_start : ℕ → Bool → SelectNumbers → RunState → Act
-begin_start number on_good numbers m =
-    say (select_line numbers) (say (PhaseLine lines.BootPhase)
-    (done (with_machine (with_start (begun_with (live_set m number) number on_good) m.machine) m)))
+begin_start number on_good numbers m = say (select_line numbers) (say (PhaseLine lines.BootPhase) (done (begun_state number on_good m)))
 
--- the steps led to a tree, which is committed before the start begins; or the start ends as full
-abbrev pub begin_changed : ℕ → Bool → SetPlan → RunState → Result Tree Refusal → Act
-begin_changed number on_good plan m (Ok tree) =
-    commit lines.BeginCommit tree m (begin_start number on_good plan.numbers)
-begin_changed number on_good plan m (Err refusal) = end_with lines.Full false m
+-- where something changed, the tree is committed before the start begins
+abbrev pub begin_with : Bool → SetChange → RunState → Act
+begin_with on_good change m =
+    if change.has_steps then commit lines.BeginCommit change.tree m (begin_start change.chosen on_good change.numbers)
+    else begin_start change.chosen on_good change.numbers m
 
--- the begin by its plan: the `set` line, a commit where the plan has steps, and the start
-abbrev pub begin_with : Bool → SetPlan → RunState → Act
-begin_with on_good plan m =
-    say (SetLine plan.chosen on_good)
-    (if length plan.steps == 0 then begin_start plan.chosen on_good plan.numbers m
-    else begin_changed plan.chosen on_good plan m (stepped m.live plan.steps))
+-- the `set` line of the number that is taken
+abbrev pub set_line : Bool → RunState → Line
+set_line on_good m = SetLine (taken_number (select_numbers_of m.live) on_good) on_good
 
--- the begin by its plan, or the verdict where there is none; for want of a free number that stands behind the `set`
--- line
-abbrev pub begin_by : Bool → RunState → ℕ → Result SetPlan SetStop → Act
-begin_by on_good m taken (Ok plan) = begin_with on_good plan m
-begin_by on_good m taken (Err NoControlSet) = end_with lines.NoControlSet false m
-begin_by on_good m taken (Err NoLastKnownGood) = end_with lines.NoLastKnownGood false m
-begin_by on_good m taken (Err NoFreeNumber) = say (SetLine taken on_good) (end_with lines.NoNumber false m)
+-- the `set` line and the beginning; or the verdict where there is none, behind that line where the number names a set
+abbrev pub begin_by : Bool → RunState → Result SetChange ChangeStop → Act
+begin_by on_good m (Ok change) = say (set_line on_good m) (begin_with on_good change m)
+begin_by on_good m (Err (NoPlan NoControlSet)) = end_with lines.NoControlSet false m
+begin_by on_good m (Err (NoPlan NoLastKnownGood)) = end_with lines.NoLastKnownGood false m
+begin_by on_good m (Err (NoPlan NoFreeNumber)) = say (set_line on_good m) (end_with lines.NoNumber false m)
+begin_by on_good m (Err sets.Full) = say (set_line on_good m) (end_with lines.Full false m)
 
 -- LastKnownGood or Default is taken, guard and retirement are done, and the start begins
 abbrev pub take_set : Bool → RunState → Act
-take_set on_good m =
-    let numbers : SelectNumbers = select_numbers_of m.live in
-    begin_by on_good m (if on_good then numbers.good else numbers.default) (begin_plan_of numbers (usable_numbers_of m.live) on_good)
+take_set on_good m = begin_by on_good m (begin_of m.version m.live on_good)
+
+-- the load is done: the live tree and its numbers are those that the disk loads as
+abbrev pub loaded_state : RunState → Woken → RunState
+loaded_state m w =
+    record m { live = w.state.tree; sequence = w.state.sequence; version = w.state.version; changed = false; disk = settled_at w.state }
+
+-- the load was begun, and perhaps stopped
+abbrev pub woken_state : RunState → Woken → RunState
+woken_state m w = record m { disk = woken_at w }
 
 -- the hive was loaded, its line is said and a set is taken; or the load was stopped, and the start ends
 abbrev pub loaded : Bool → RunState → Woken → Outcome → Act
-loaded on_good m w Finished =
-    say (LoadLine w.state.sequence w.dirty) (take_set on_good (record m { live = w.state.tree; sequence = w.state.sequence; changed = false }))
-loaded on_good m w PowerCut = end_with lines.Cut false m
-loaded on_good m w DeviceFault = end_with lines.Device false m
+loaded on_good m w Finished = say (LoadLine w.state.sequence w.dirty) (take_set on_good (loaded_state m w))
+loaded on_good m w PowerCut = end_with lines.Cut false (woken_state m w)
+loaded on_good m w DeviceFault = end_with lines.Device false (woken_state m w)
 
 -- the disk is turned on, and what it loads as is settled
 abbrev pub woken : Bool → RunState → Woken → Act
-woken on_good m w = holds w.state.tree (ask (settled_at w.state) (loaded on_good (record m { disk = settled_at w.state }) w))
+woken on_good m w = mark (Held w.state.tree) (ask (woken_at w) (loaded on_good m w))
 
 -- the entry is said and the disk turned on; or the start ends before that
 abbrev pub chosen : Bool → RunState → Choice → Act
@@ -275,37 +304,16 @@ chosen on_good m NoEntry = end_with lines.NoEntry false m
 chosen on_good m (OtherLoader number path) = say (EntryLine number path) (end_with lines.OtherLoader false m)
 chosen on_good m (NoSystem number path) = say (EntryLine number path) (end_with lines.NoSystem false m)
 
+-- one more start was asked for, and a fallback that was due is taken
+abbrev pub accepted_state : RunState → RunState
+accepted_state m = record m { starts = m.starts + 1; machine = record m.machine { fallback_due = false } }
+
 -- a fallback that is due is taken and cleared by each accepted boot
 abbrev pub boot_act : (Option ℕ → Choice) → Option ℕ → Bool → RunState → Act
 boot_act choice entry last_known_good m =
-    let on_good : Bool = m.machine.fallback_due || last_known_good in
-    let begun : RunState = record m { starts = m.starts + 1; machine = record m.machine { fallback_due = false } } in
-    say (StartLine (m.starts + 1)) (chosen on_good begun (choice entry))
+    say (StartLine (m.starts + 1)) (chosen (m.machine.fallback_due || last_known_good) (accepted_state m) (choice entry))
 
 -- ---- the other events
-
--- two lists of values are one
-abbrev pub same_items : List Item → List Item → Bool
-same_items [] [] = true
-same_items [] (y ∷ ys) = false
-same_items (x ∷ xs) [] = false
-same_items (x ∷ xs) (y ∷ ys) = bytes_eq x.name y.name && (x.kind == y.kind) && bytes_eq x.bytes y.bytes && same_items xs ys
-
--- two keys are one but for their children
-abbrev pub same_head : Head → Head → Bool
-same_head a b =
-    bytes_eq a.name b.name && (a.flags == b.flags) && (a.stamp == b.stamp) && bytes_eq a.class b.class && bytes_eq a.security b.security && same_items a.values b.values
-
--- two trees are one
-abbrev mutual
-  pub same_tree : Tree → Tree → Bool
-  same_tree (key h ts) (key i us) = same_head h i && same_trees ts us
-
-  pub same_trees : Trees → Trees → Bool
-  same_trees none none = true
-  same_trees none (more u us) = false
-  same_trees (more t ts) none = false
-  same_trees (more t ts) (more u us) = same_tree t u && same_trees ts us
 
 -- the first word of an event's line; of an ordered stop it is that of its kind
 abbrev pub event_word_of : Event → EventWord
@@ -357,19 +365,23 @@ logon_act s m =
 
 -- the power is cut: one outcome is taken, whatever it is called, and the state stays the settled one
 abbrev pub cut_act : RunState → Act
-cut_act m = ask m.disk (λ outcome. end_with lines.Cut false m)
+cut_act m = mark Cuts (ask m.disk (λ outcome. end_with lines.Cut false m))
+
+-- a stop of the disk is ordered, and nothing is said
+abbrev pub arm_act : Arming → RunState → Act
+arm_act arming m = mark (Ordered arming) (done m)
 
 -- an event that was not refused, while a start runs
 abbrev pub running_act : Start → Event → RunState → Act
 running_act s (BootNow entry good) m = done m
 running_act s (Go steps) m = go_act steps m
 running_act s (Fail name count) m = done (with_machine (failing name count m.machine) m)
-running_act s (Edits edit) m = edit_done (Edits edit) m (edited m.live (step_of s.number edit ∷ []))
+running_act s (Edits edit) m = edit_done (Edits edit) m (edited m.version m.live (step_of s.number edit ∷ []))
 running_act s Flush m = flush_act m
 running_act s Logon m = logon_act s m
 running_act s Off m = off_act s m
 running_act s (CutNow keep) m = cut_act m
-running_act s (Arm arming) m = done m
+running_act s (Arm arming) m = arm_act arming m
 
 -- an event that was not refused, while no start runs
 abbrev pub idle_act : (Option ℕ → Choice) → Event → RunState → Act
@@ -381,7 +393,7 @@ idle_act choice Flush m = done m
 idle_act choice Logon m = done m
 idle_act choice Off m = done m
 idle_act choice (CutNow keep) m = done m
-idle_act choice (Arm arming) m = done m
+idle_act choice (Arm arming) m = arm_act arming m
 
 -- an event that was not refused, with a start that runs or none
 abbrev pub accepted_act : (Option ℕ → Choice) → Option Start → Event → RunState → Act
@@ -399,99 +411,102 @@ event_step_of choice e m = act_unless choice e m (refusal_of m.machine e)
 
 -- ---- the run
 
--- What came of a run, or of its first events: the lines; what the disk could load as at each wake; each tree that was
--- loaded or committed; the clones that were saved; what the disk may load as in the end; and how it goes on, unless wakes
--- or outcomes ran out.
+-- What came of a run, or of its first events: the lines; what happened beside them; what the disk may load as in the
+-- end; and how it goes on, unless wakes or outcomes ran out.
 pub record RunResult : Type 0 where
   pub lines : List Line
-  pub expects : List Possible
-  pub trees : List Tree
-  pub clones : List Tree
+  pub notes : List Note
   pub disk : Possible
   pub rest : Option (RunState × List Woken × List Outcome)
 
 -- the result of a run that needs a wake or an outcome and has none, with what the disk may load as then
 abbrev pub ran_out : Possible → RunResult
-ran_out disk = record { lines = []; expects = []; trees = []; clones = []; disk = disk; rest = None }
+ran_out disk = record { lines = []; notes = []; disk = disk; rest = None }
 
 -- the result of a run that came to this state, with the wakes and outcomes that are left
 abbrev pub reached : RunState → List Woken → List Outcome → RunResult
-reached m wakes outcomes = record { lines = []; expects = []; trees = []; clones = []; disk = m.disk; rest = Some (m, wakes, outcomes) }
+reached m wakes outcomes = record { lines = []; notes = []; disk = m.disk; rest = Some (m, wakes, outcomes) }
+
+-- these lines and notes, and then the result
+abbrev pub behind : List Line → List Note → RunResult → RunResult
+behind lines notes r = record r { lines = lines ++ r.lines; notes = notes ++ r.notes }
 
 -- an event over what the disk woke up with and how its operations ended
 abbrev pub play : Act → List Woken → List Outcome → RunResult
 play (done m) wakes outcomes = reached m wakes outcomes
-play (say l act) wakes outcomes = let r : RunResult = play act wakes outcomes in record r { lines = l ∷ r.lines }
+play (say l act) wakes outcomes = behind (l ∷ []) [] (play act wakes outcomes)
 play (ask disk next) wakes [] = ran_out disk
-play (ask disk next) wakes (o ∷ outcomes) = play (next o) wakes outcomes
+play (ask disk next) wakes (o ∷ outcomes) = behind [] (Ended o ∷ []) (play (next o) wakes outcomes)
 play (wake disk next) [] outcomes = ran_out disk
-play (wake disk next) (w ∷ wakes) outcomes = let r : RunResult = play (next w) wakes outcomes in record r { expects = disk ∷ r.expects }
-play (holds tree act) wakes outcomes = let r : RunResult = play act wakes outcomes in record r { trees = tree ∷ r.trees }
-play (saves clone act) wakes outcomes = let r : RunResult = play act wakes outcomes in record r { clones = clone ∷ r.clones }
-
--- one result behind another
-abbrev pub behind : RunResult → RunResult → RunResult
-behind first second = record {
-  lines = first.lines ++ second.lines;
-  expects = first.expects ++ second.expects;
-  trees = first.trees ++ second.trees;
-  clones = first.clones ++ second.clones;
-  disk = second.disk;
-  rest = second.rest;
-}
+play (wake disk next) (w ∷ wakes) outcomes = behind [] (Woke disk ∷ []) (play (next w) wakes outcomes)
+play (mark note act) wakes outcomes = behind [] (note ∷ []) (play act wakes outcomes)
 
 -- the first result, and behind it what follows from its state; the first alone where it ran out
 abbrev pub then_run : (RunState → List Woken → List Outcome → RunResult) → RunResult → Option (RunState × List Woken × List Outcome) → RunResult
 then_run go first None = first
-then_run go first (Some (m, wakes, outcomes)) = behind first (go m wakes outcomes)
+then_run go first (Some (m, wakes, outcomes)) = behind first.lines first.notes (go m wakes outcomes)
 
--- the end of the script commits nothing, and gives a start that still runs its verdict
-abbrev pub closing_lines : Option Start → List Line
-closing_lines None = EndLine ∷ []
-closing_lines (Some s) = VerdictLine (ending_of s) ∷ EndLine ∷ []
+-- a start that still runs at the end of the script gets its verdict
+abbrev pub verdict_first : Option Start → Act → Act
+verdict_first None act = act
+verdict_first (Some s) act = say (VerdictLine (ending_of s)) act
 
--- the end of the script: its closing lines, in this state
-abbrev pub closed : RunState → List Woken → List Outcome → RunResult
-closed m wakes outcomes = record (reached m wakes outcomes) { lines = closing_lines m.machine.start }
+-- the end of the script commits nothing
+abbrev pub closing_act : RunState → Act
+closing_act m = verdict_first m.machine.start (say EndLine (done m))
 
 -- the rest of a script, from a state on
 abbrev pub run_from : (Option ℕ → Choice) → List Event → RunState → List Woken → List Outcome → RunResult
-run_from choice [] m wakes outcomes = closed m wakes outcomes
+run_from choice [] m wakes outcomes = play (closing_act m) wakes outcomes
 run_from choice (e ∷ es) m wakes outcomes =
     let first : RunResult = play (event_step_of choice e m) wakes outcomes in then_run (run_from choice es) first first.rest
 
 -- before the first event: nothing runs, and the disk loads as the placed images do
-abbrev pub first_state : HiveState → RunState
-first_state placed = record { machine = off_machine; live = placed.tree; sequence = placed.sequence; changed = false; disk = settled_at placed; starts = 0 }
+abbrev pub first_state : Woken → RunState
+first_state placed = record {
+  machine = off_machine;
+  live = placed.state.tree;
+  sequence = placed.state.sequence;
+  version = placed.state.version;
+  changed = false;
+  disk = loads_as placed;
+  starts = 0;
+}
 
--- what comes of a script, by the choice among the entries, the placed state, what the wakes load as and how the disk
--- operations end
-unfoldable pub run_of : (Option ℕ → Choice) → List Event → HiveState → List Woken → List Outcome → RunResult
+-- what comes of a script, by the choice among the entries, what the placed images load as, what the wakes load as and
+-- how the disk operations end
+unfoldable pub run_of : (Option ℕ → Choice) → List Event → Woken → List Woken → List Outcome → RunResult
 run_of choice script placed wakes outcomes = run_from choice script (first_state placed) wakes outcomes
 
 -- ---- the quiet run: each wake is the settled state, and each operation is done
 
--- what was said so far, the state, and whether the next wake finds the log in use
+-- the lines, and the state that it came to
 pub record Quiet : Type 0 where
   pub lines : List Line
   pub state : RunState
-  pub dirty : Bool
+
+-- the lines, and then what follows
+abbrev pub quiet_behind : List Line → Quiet → Quiet
+quiet_behind lines q = record q { lines = lines ++ q.lines }
+
+-- the disk wakes up as the settled state, with the log in use where that is certain
+abbrev pub quiet_wake : Possible → Woken
+quiet_wake disk = record { state = disk.settled; dirty = unwrap_or disk.dirty false }
 
 -- an event where each wake is the settled state and each operation is done
-abbrev pub quiet_play : Act → Bool → Quiet
-quiet_play (done m) dirty = record { lines = []; state = m; dirty = dirty }
-quiet_play (say l act) dirty = let q : Quiet = quiet_play act dirty in record q { lines = l ∷ q.lines }
-quiet_play (ask disk next) dirty = quiet_play (next Finished) dirty
-quiet_play (wake disk next) dirty = quiet_play (next (record { state = disk.settled; dirty = dirty })) false
-quiet_play (holds tree act) dirty = quiet_play act dirty
-quiet_play (saves clone act) dirty = quiet_play act dirty
+abbrev pub quiet_play : Act → Quiet
+quiet_play (done m) = record { lines = []; state = m }
+quiet_play (say l act) = quiet_behind (l ∷ []) (quiet_play act)
+quiet_play (ask disk next) = quiet_play (next Finished)
+quiet_play (wake disk next) = quiet_play (next (quiet_wake disk))
+quiet_play (mark note act) = quiet_play act
 
--- the lines of the rest of a script, played so from a state on
-abbrev pub quiet_from : (Option ℕ → Choice) → List Event → RunState → Bool → List Line
-quiet_from choice [] m dirty = closing_lines m.machine.start
-quiet_from choice (e ∷ es) m dirty =
-    let first : Quiet = quiet_play (event_step_of choice e m) dirty in first.lines ++ quiet_from choice es first.state first.dirty
+-- the rest of a script, played so from a state on
+abbrev pub quiet_from : (Option ℕ → Choice) → List Event → RunState → Quiet
+quiet_from choice [] m = quiet_play (closing_act m)
+quiet_from choice (e ∷ es) m =
+    let first : Quiet = quiet_play (event_step_of choice e m) in quiet_behind first.lines (quiet_from choice es first.state)
 
--- the lines of a script on a disk without cuts and faults
-unfoldable pub quiet_run_of : (Option ℕ → Choice) → List Event → HiveState → Bool → List Line
-quiet_run_of choice script placed dirty = quiet_from choice script (first_state placed) dirty
+-- a script on a disk without cuts and faults
+unfoldable pub quiet_run_of : (Option ℕ → Choice) → List Event → Woken → Quiet
+quiet_run_of choice script placed = quiet_from choice script (first_state placed)

@@ -3,10 +3,11 @@
 -- The key `Select` and its four values, LastKnownGood and Failed: Windows Internals, 4th edition, startup. This
 -- project's own: that a set is kept for LastKnownGood alone (the guard), that a set which no number names is deleted
 -- (it retires), and that numbers go from 1 to 999.
-use Rattle.std.specs.Prelude.{ℕ, ◌+◌, ◌/◌, ◌%◌, Bool, not, ◌&&◌, ◌==◌, nat_le, codes, List, [], ◌∷◌, ◌++◌, map, filter, find, Option, Some, None, option_and_then, unwrap_or, Result, Ok, Err, if◌then◌else◌}
+use Rattle.std.specs.Prelude.{ℕ, ◌+◌, ◌/◌, ◌%◌, Bool, not, ◌&&◌, ◌==◌, nat_le, codes, List, [], ◌∷◌, ◌++◌, map, filter, find, length, Option, Some, None, option_and_then, unwrap_or, Result, Ok, Err, if◌then◌else◌}
 use Rattle.std.specs.Option.{is_some}
 use Rattle.std.specs.List.{list_any, range_with_len}
 use Rattle.std.specs.Int.{w32, to_le_bytes}
+use Rattle.nt_bytes.specs.declared.version.HiveVersion.{HiveVersion}
 use Rattle.hive_model.specs.Tree.{Tree, find_key, find_dword}
 use Rattle.hive_model.specs.Edit.{Step, set_value, delete_key, copy_child, add_child, Refusal, edited}
 
@@ -158,24 +159,32 @@ pub data ChangeStop : Type 0 where
   Full : ChangeStop
 
 -- the tree after steps; without steps it is as it was, however large
-abbrev pub stepped : Tree → List Step → Result Tree Refusal
-stepped t [] = Ok t
-stepped t (s ∷ ss) = edited t (s ∷ ss)
+abbrev pub stepped : HiveVersion → Tree → List Step → Result Tree Refusal
+stepped version t [] = Ok t
+stepped version t (s ∷ ss) = edited version t (s ∷ ss)
 
--- a number with the tree that steps led to; any refusal of the steps is called full
-abbrev pub changed_by : ℕ → Result Tree Refusal → Result (ℕ × Tree) ChangeStop
-changed_by chosen (Ok t) = Ok (chosen, t)
-changed_by chosen (Err e) = Err Full
+-- what a beginning or a save makes of a tree: the number of the set, the numbers of `Select` then, whether there was
+-- something to change, and the tree
+pub record SetChange : Type 0 where
+  pub chosen : ℕ
+  pub numbers : SelectNumbers
+  pub has_steps : Bool
+  pub tree : Tree
+
+-- what a plan makes of a tree, by what its steps led to; any refusal of the steps is called full
+abbrev pub changed_by : SetPlan → Result Tree Refusal → Result SetChange ChangeStop
+changed_by plan (Ok t) = Ok (record { chosen = plan.chosen; numbers = plan.numbers; has_steps = not (length plan.steps == 0); tree = t })
+changed_by plan (Err e) = Err Full
 
 -- what a plan makes of the tree, or why nothing is changed
-abbrev pub planned : Tree → Result SetPlan SetStop → Result (ℕ × Tree) ChangeStop
-planned t (Ok plan) = changed_by plan.chosen (stepped t plan.steps)
-planned t (Err e) = Err (NoPlan e)
+abbrev pub planned : HiveVersion → Tree → Result SetPlan SetStop → Result SetChange ChangeStop
+planned version t (Ok plan) = changed_by plan (stepped version t plan.steps)
+planned version t (Err e) = Err (NoPlan e)
 
--- the number that a start takes, and the tree as it begins
-abbrev pub begin_of : Tree → Bool → Result (ℕ × Tree) ChangeStop
-begin_of t last_known_good = planned t (begin_plan_of (select_numbers_of t) (usable_numbers_of t) last_known_good)
+-- the set that a start takes, and the tree as it begins, in a hive of this version
+abbrev pub begin_of : HiveVersion → Tree → Bool → Result SetChange ChangeStop
+begin_of version t last_known_good = planned version t (begin_plan_of (select_numbers_of t) (usable_numbers_of t) last_known_good)
 
--- the number under which the clone is saved, and the tree with it
-abbrev pub save_of : Tree → Tree → Result (ℕ × Tree) ChangeStop
-save_of t clone = planned t (save_plan_of (select_numbers_of t) (usable_numbers_of t) clone)
+-- the number under which the clone is saved, and the tree with it, in a hive of this version
+abbrev pub save_of : HiveVersion → Tree → Tree → Result SetChange ChangeStop
+save_of version t clone = planned version t (save_plan_of (select_numbers_of t) (usable_numbers_of t) clone)
