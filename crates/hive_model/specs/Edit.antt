@@ -7,7 +7,7 @@ use Rattle.std.specs.Ordering.{is_gt}
 use Rattle.nt_bytes.specs.Folding.{folded_order}
 use Rattle.nt_bytes.specs.declared.version.HiveVersion.{HiveVersion}
 use Rattle.hive_model.specs.Tree.{Item, Tree, key, none, trees, listed, head, children, is_named, is_item, find_key, find_item}
-use Rattle.hive_model.specs.Valid.{is_backslash, levels}
+use Rattle.hive_model.specs.Valid.{longest_key_name, longest_value_name, deepest_level, is_backslash, levels}
 use Rattle.hive_model.specs.Size.{bulk_of}
 
 -- one edit: of a value of the key at a path, of a key at a path, or of a child of the root
@@ -72,7 +72,7 @@ with_item name kind bytes items =
 abbrev pub value_set : List (List ℕ) → List ℕ → ℕ → List ℕ → Tree → Result Tree Refusal
 value_set path name kind bytes t = unless
     ((is_none (find_key path t), no_key)
-    ∷ (nat_lt 16383 (length name), name_too_long)
+    ∷ (nat_lt longest_value_name (length name), name_too_long)
     ∷ (nat_lt 1048576 (length bytes), data_too_long)
     ∷ [])
     (at_key path (of_items (with_item name kind bytes)) t)
@@ -108,7 +108,7 @@ is_bad_name name = (length name == 0) || list_any is_backslash name
 abbrev pub name_tests : List ℕ → List (Bool × Refusal)
 name_tests name =
     (is_bad_name name, bad_name)
-    ∷ (nat_lt 255 (length name), name_too_long)
+    ∷ (nat_lt longest_key_name (length name), name_too_long)
     ∷ []
 
 -- a new key has its parent's stamp and descriptor, and nothing else
@@ -124,7 +124,7 @@ abbrev pub key_made : List (List ℕ) → List ℕ → Tree → Result Tree Refu
 key_made parent name t = unless
     ((is_none (find_key parent t), no_key)
     ∷ name_tests name
-    ++ (nat_lt 512 (length parent + 2), too_deep)
+    ++ (nat_lt deepest_level (length parent + 2), too_deep)
     ∷ [])
     (at_key parent (with_key name) t)
 
@@ -163,7 +163,7 @@ abbrev pub child_added : List ℕ → Tree → Tree → Result Tree Refusal
 child_added name k t = unless
     (name_tests name
     ++ (has_child name t, exists)
-    ∷ (nat_lt 512 (levels k + 1), too_deep)
+    ∷ (nat_lt deepest_level (levels k + 1), too_deep)
     ∷ [])
     (with_child name k t)
 

@@ -12,6 +12,7 @@ use Rattle.nt_bytes.specs.Folding.{folds_same}
 use Rattle.nt_bytes.specs.declared.version.HiveVersion.{HiveVersion}
 use Rattle.nt_bytes.specs.declared.fault.HiveKind.{HiveKind}
 use Rattle.hive_model.specs.Tree.{Item, Head, Tree, Trees, key, none, more, head, children, is_named, find_key, find_item}
+use Rattle.hive_model.specs.Valid.{deepest_level}
 use Rattle.hive_model.specs.Size.{cell, name_bytes, data_sizes, class_size, security_size, node_size, part_count, count}
 use Rattle.hive_model.specs.Edit.{Step, set_value, delete_value, make_key, delete_key, copy_child, add_child, Refusal, has_child, after_step}
 use Rattle.hive_model.specs.Forms.{KeyNode, key_node_at, key_value_at, offsets_in}
@@ -99,7 +100,7 @@ security_cell_at cells at = of_node cells at (λ node. used_in (security_checks 
 
 -- what the walk checks of the key at a path and of all below it
 unfoldable pub checks_below : Cells → ℕ → List (List ℕ) → List Check
-checks_below cells root path = option_map_or (key_checks (512 - length path) cells false []) (key_place cells path root) []
+checks_below cells root path = option_map_or (key_checks (deepest_level - length path) cells false []) (key_place cells path root) []
 
 -- ---- the footprint
 

@@ -12,6 +12,7 @@ use Rattle.nt_bytes.specs.declared.fault.HiveKind.{HiveKind}
 use Rattle.nt_bytes.specs.declared.fault.HiveKind.TheVariants.{FormShort, FormSign, FormLength, FormName}
 use Rattle.nt_bytes.specs.declared.fault.ReadStop.{ReadStop}
 use Rattle.nt_bytes.specs.declared.fault.ReadStop.TheVariants as stops
+use Rattle.hive_model.specs.Valid.{longest_key_name, longest_value_name, is_backslash}
 
 -- ---- what a reader answers
 
@@ -48,11 +49,11 @@ has_half_unit narrow bytes = not narrow && (length bytes % 2 == 1)
 
 -- a key's name is over 255 units or has a backslash
 abbrev pub is_bad_key_name : List ℕ → Bool
-is_bad_key_name name = nat_lt 255 (length name) || list_any (λ u. u == 0x5c) name
+is_bad_key_name name = nat_lt longest_key_name (length name) || list_any is_backslash name
 
 -- a value's name is over 16,383 units
 abbrev pub is_bad_value_name : List ℕ → Bool
-is_bad_value_name name = nat_lt 16383 (length name)
+is_bad_value_name name = nat_lt longest_value_name (length name)
 
 -- the name of a key, empty or not, or its fault
 unfoldable pub key_name_at : Bool → List ℕ → Result (List ℕ) HiveKind
@@ -173,8 +174,8 @@ pub record IsKeyNode (n : KeyNode) : Type 0 where
   pub greatest_value_name : n.greatest_value_name < 2 ^ 32
   pub greatest_value_size : n.greatest_value_size < 2 ^ 32
   pub class_length : n.class_length < 2 ^ 16
-  pub name : length n.name ≤ 255
-  pub no_backslash : list_any (λ u. u == 0x5c) n.name ≡ false
+  pub name : length n.name ≤ longest_key_name
+  pub no_backslash : list_any is_backslash n.name ≡ false
   pub units : UnitsFit (is_narrow_key n.flags) n.name
 
 -- ---- key value
@@ -236,7 +237,7 @@ pub record IsKeyValue (v : KeyValue) : Type 0 where
   pub offset : v.offset < 2 ^ 32
   pub kind : v.kind < 2 ^ 32
   pub flags : v.flags < 2 ^ 16
-  pub name : length v.name ≤ 16383
+  pub name : length v.name ≤ longest_value_name
   pub units : UnitsFit (is_narrow_value v.flags) v.name
 
 -- the data where the value holds them itself (in place, or none at all); none where a cell of their own holds them

@@ -6,6 +6,7 @@ pub mod Stands
 pub mod Packed
 pub mod Edit
 pub mod Footprint
+pub mod InPlace
 pub mod Image
 pub mod Base
 pub mod Recovery

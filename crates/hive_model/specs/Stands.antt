@@ -7,7 +7,7 @@ use Rattle.hive_model.specs.Tree.{Tree, Trees, key, none, more, listed, Head, he
 use Rattle.hive_model.specs.Size.{segment_bytes, is_big, segment_part}
 use Rattle.hive_model.specs.Bins.{Cells}
 use Rattle.hive_model.specs.Walk.{reading, nowhere, big_data_of, entries_at, all_checks, AreUsedOnce}
-use Rattle.hive_model.specs.Valid.{KeysDiffer, ItemsDiffer, levels}
+use Rattle.hive_model.specs.Valid.{deepest_level, KeysDiffer, ItemsDiffer, levels}
 
 -- ---- what a key node and a value say of themselves
 
@@ -111,6 +111,6 @@ abbrev mutual
 -- The cells are well-formed at the root, and this tree stands there.
 pub record IsWellFormed (cells : Cells) (root : ℕ) (t : Tree) : Type 0 where
   pub stands : Stands cells root t
-  pub levels : levels t ≤ 512
+  pub levels : levels t ≤ deepest_level
   pub names : HasApartNames t
   pub once : AreUsedOnce [] (all_checks cells root)

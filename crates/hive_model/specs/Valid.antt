@@ -4,9 +4,25 @@ use Rattle.std.specs.List.{All, AllPairs, list_any}
 use Rattle.nt_bytes.specs.Folding.{folds_same}
 use Rattle.hive_model.specs.Tree.{Item, Head, Tree, Trees, key, none, more, head, listed}
 
+-- how many units a key's name may have (Windows Internals 4th edition, the registry)
+abbrev pub longest_key_name : ℕ
+longest_key_name = 255
+
+-- how many units a value's name may have (Windows Internals 4th edition, the registry)
+abbrev pub longest_value_name : ℕ
+longest_value_name = 16383
+
+-- how many levels a tree may have, the root's being the first (Windows Internals 4th edition, the registry)
+abbrev pub deepest_level : ℕ
+deepest_level = 512
+
+-- a backslash, which parts the names of a path
+abbrev pub is_backslash : ℕ → Bool
+is_backslash unit = unit == 0x5C
+
 -- a value that a cell can hold (regf format, Key value: a name length of two bytes for wide names, a data size of 31 bits)
 pub record IsItem (v : Item) : Type 0 where
-  pub name : length v.name ≤ 16383
+  pub name : length v.name ≤ longest_value_name
   pub bytes : length v.bytes < 2 ^ 31
 
 -- no two keys have names that fold to one (Windows Internals 4th edition, the registry)
@@ -17,14 +33,10 @@ KeysDiffer keys = AllPairs (λ a b. folds_same (head b).name (head a).name ≡ f
 abbrev pub ItemsDiffer : List Item → Type 0
 ItemsDiffer items = AllPairs (λ (a : Item) (b : Item). folds_same b.name a.name ≡ false) items
 
--- a backslash, which parts the names of a path
-abbrev pub is_backslash : ℕ → Bool
-is_backslash unit = unit == 0x5C
-
 -- a key with these children that its cell can hold (regf format, Key node; the longest name is that of the registry).
 -- The flag 0x0020 says how the cell spells the name, and is no flag of the key.
 pub record IsKey (h : Head) (keys : List Tree) : Type 0 where
-  pub name : length h.name ≤ 255
+  pub name : length h.name ≤ longest_key_name
   pub no_backslash : list_any is_backslash h.name ≡ false
   pub flags : h.flags / 32 % 2 ≡ 0
   pub class : length h.class < 2 ^ 16
@@ -56,7 +68,8 @@ abbrev mutual
   most_levels none = 0
   most_levels (more t ts) = max (levels t) (most_levels ts)
 
--- a tree that a hive can hold (regf format; at most 512 levels is the registry's)
+-- A tree that a hive can hold (regf format). That units, flags, stamps, types and bytes fit their fields is not asked: the types
+-- of a program's keys and values say it.
 pub record IsValid (t : Tree) : Type 0 where
   pub keys : HoldsKeys t
-  pub levels : levels t ≤ 512
+  pub levels : levels t ≤ deepest_level

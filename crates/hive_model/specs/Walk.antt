@@ -18,6 +18,7 @@ use Rattle.nt_bytes.specs.declared.fault.HiveKind.{HiveKind}
 use Rattle.nt_bytes.specs.declared.fault.HiveKind.TheVariants.{Shared, FormLength, FormName, FormKind, DoubleName, Count, TooDeep}
 use Rattle.nt_bytes.specs.declared.fault.HiveFault.{HiveFault}
 use Rattle.hive_model.specs.Forms.{◌>>=◌, KeyNode, key_node_at, KeyValue, key_value_at, data_inside, bytes_in, BigData, big_data_at, security_at, ListKind, Li, Lf, Lh, Ri, SubkeyList, list_at, offsets_in}
+use Rattle.hive_model.specs.Valid.{deepest_level}
 use Rattle.hive_model.specs.Size.{segment_bytes, is_big, segment_count, segment_part}
 use Rattle.hive_model.specs.Bins.{Cells, or_else}
 
@@ -183,7 +184,7 @@ key_checks (suc left) cells root names at =
 
 -- all checks of the tree at a root
 unfoldable pub all_checks : Cells → ℕ → List Check
-all_checks cells root = key_checks 512 cells true [] root
+all_checks cells root = key_checks deepest_level cells true [] root
 
 -- ---- which fails first
 
