@@ -1,11 +1,69 @@
--- The one text of each ARC path (its form is this project's own).
-use Rattle.std.specs.Prelude.{◌≡◌, ℕ, ◌<◌, ◌^◌, ◌/◌, ◌%◌, false, List, [], ◌∷◌, ◌++◌, length, codes}
-use Rattle.std.specs.List.{prefix_len}
+-- Which texts mean an ARC path, and which of them is written? (Microsoft's documentation of boot.ini; the limits on digits
+-- and the form that is written are this project's own)
+--
+-- Said of the whole text, from its parts and without reading it: `Reading.antt` says how a text is read, and the law
+-- `a_path_reads_as_what_it_spells` that both say the same.
+use Rattle.std.specs.Prelude.{◌≡◌, ◌≢◌, ◌⊎◌, ℕ, ◌<◌, ◌≤◌, ◌^◌, ◌/◌, ◌%◌, true, false, List, [], ◌∷◌, ◌++◌, length, codes}
+use Rattle.std.specs.List.{list_all, prefix_len}
+use Rattle.std.specs.Str.{str_eq_ignore_ascii_case}
+use Rattle.std.specs.Str.Parse.{AllDigits, digits_value}
 use Rattle.std.specs.Fmt.{decimal, digit_glyph}
 use Rattle.arc_path.specs.declared.arc.Arc.{Arc}
 use Rattle.arc_path.specs.declared.arc.ArcKind.{ArcKind}
 use Rattle.arc_path.specs.declared.arc.ArcKind.TheVariants.{Multi, Scsi, Signature}
-use Rattle.arc_path.specs.Reading.{is_printable, without_last_backslashes, radix_of, most_of}
+use Rattle.arc_path.specs.Reading.{is_printable, is_backslash, without_last_backslashes, radix_of, most_of}
+
+-- ---- every text of a path
+
+-- digits that write the value: one or more, at most so many, leading zeros among them
+pub record IsNumeral (radix most value : ℕ) (shown : List ℕ) : Type 0 where
+  pub digits : AllDigits radix shown
+  pub some : 0 < length shown
+  pub few : length shown ≤ most
+  pub writes : digits_value radix shown ≡ value
+
+-- the word in either case, the number, and `)`
+pub record IsItem (word : List ℕ) (radix most value : ℕ) (shown : List ℕ) : Type 0 where
+  pub name : List ℕ
+  pub number : List ℕ
+  pub spelled : shown ≡ name ++ (number ++ codes ")")
+  pub named : str_eq_ignore_ascii_case name word ≡ true
+  pub numeral : IsNumeral radix most value number
+
+-- the first word of each kind
+abbrev pub word_of : ArcKind → List ℕ
+word_of Multi = codes "multi("
+word_of Scsi = codes "scsi("
+word_of Signature = codes "signature("
+
+-- `\`, the directory, and perhaps more of them, which do not belong to it
+pub record IsBehindBackslash (dir shown : List ℕ) : Type 0 where
+  pub more : List ℕ
+  pub spelled : shown ≡ codes "\\" ++ (dir ++ more)
+  pub dropped : list_all is_backslash more ≡ true
+  pub printable : list_all is_printable dir ≡ true
+  pub ends : (front : List ℕ) → dir ≢ front ++ codes "\\"
+
+-- a directory's text; where there is none, perhaps nothing
+abbrev pub IsDirectory : List ℕ → List ℕ → Type 0
+IsDirectory dir shown = ((dir ≡ []) × (shown ≡ [])) ⊎ IsBehindBackslash dir shown
+
+-- the text means the path
+pub record IsSpelled (text : List ℕ) (arc : Arc) : Type 0 where
+  pub controller : List ℕ
+  pub disk : List ℕ
+  pub rdisk : List ℕ
+  pub partition : List ℕ
+  pub directory : List ℕ
+  pub spelled : text ≡ controller ++ (disk ++ (rdisk ++ (partition ++ directory)))
+  pub is_controller : IsItem (word_of arc.kind) (radix_of arc.kind) (most_of arc.kind) arc.controller controller
+  pub is_disk : IsItem (codes "disk(") 10 9 arc.disk disk
+  pub is_rdisk : IsItem (codes "rdisk(") 10 9 arc.rdisk rdisk
+  pub is_partition : IsItem (codes "partition(") 10 9 arc.partition partition
+  pub some_partition : 0 < arc.partition
+  pub is_directory : IsDirectory arc.dir directory
+
+-- ---- the one text that is written
 
 -- eight lower-case hexadecimal digits
 unfoldable pub eight_digits : ℕ → List ℕ

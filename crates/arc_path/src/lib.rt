@@ -5,12 +5,14 @@
 #![tactic(auto)]
 
 mod arc;
+mod laws;
 mod reading;
 mod writing;
 
 pub use arc::{Arc, ArcFault, ArcFaultKind, ArcKind, ArcStop};
+pub use laws::{a_path_is_read_again, a_path_reads_as_what_it_spells};
 pub use reading::read_arc;
-pub use writing::{a_path_is_read_again, arc_text, same_arc};
+pub use writing::{arc_text, same_arc};
 
 #[cfg(test)]
 mod tests;

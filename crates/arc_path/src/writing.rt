@@ -1,9 +1,7 @@
 //! The one text of a path, and whether two paths are the same.
 
-ghost use Rattle.std.specs.Prelude.{◌≡◌, ◌++◌, IfOk, OnOk, Ok, List, ℕ};
-ghost use Rattle.arc_path.specs.Reading.{arc_of};
+ghost use Rattle.std.specs.Prelude.{◌≡◌, ◌++◌, IfOk, OnOk};
 ghost use Rattle.arc_path.specs.Same.{same_kinds, same_paths};
-ghost use Rattle.arc_path.specs.declared.arc.Arc.{Arc};
 ghost use Rattle.arc_path.specs.Spelling.{eight_digits, first_text, numbers_text, directory_text, text_of};
 
 use crate::arc::{Arc, ArcKind};
@@ -67,11 +65,6 @@ pub fn arc_text(alloc: Global, arc: &Arc) -> Result<Bytes, AllocError>
     push_directory(&mut out, arc.dir.as_slice())?;
     Bytes::from_slice(alloc, &out)
 }
-
-/// What was read, written and read again is the same path.
-pub fn a_path_is_read_again()
-    ensures { (a : Arc) (text : List ℕ) → arc_of text ≡ Ok a → arc_of (text_of a) ≡ Ok a }
-{}
 
 fn is_same_kind(a: ArcKind, b: ArcKind) -> bool
     ensures { result ≡ same_kinds a b }

@@ -1,0 +1,19 @@
+//! What holds of reading and writing a path.
+
+ghost use Rattle.std.specs.Prelude.{◌≡◌, Ok, List, ℕ};
+ghost use Rattle.arc_path.specs.Reading.{arc_of};
+ghost use Rattle.arc_path.specs.declared.arc.Arc.{Arc};
+ghost use Rattle.arc_path.specs.Spelling.{IsPath, IsSpelled, text_of};
+
+/// A text is read as a path exactly where it spells it: words in either case, leading zeros and any
+/// number of `\` at the end included. The text that `arc_text` writes is one of those that spell it.
+pub fn a_path_reads_as_what_it_spells()
+    ensures reads { (text : List ℕ) (arc : Arc) → IsSpelled text arc → arc_of text ≡ Ok arc }
+    ensures spelled { (text : List ℕ) (arc : Arc) → arc_of text ≡ Ok arc → IsSpelled text arc }
+    ensures written { (arc : Arc) → IsPath arc → IsSpelled (text_of arc) arc }
+{}
+
+/// What was read, written and read again is the same path.
+pub fn a_path_is_read_again()
+    ensures { (a : Arc) (text : List ℕ) → arc_of text ≡ Ok a → arc_of (text_of a) ≡ Ok a }
+{}
