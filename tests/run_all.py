@@ -1,47 +1,124 @@
 #!/usr/bin/env python3
-"""Runs the built program over tests/runs: in each folder `words` (one a line) and the input files, and what must be said
-(`stdout`) with which exit status (`status`). Prints each run that differs, then 'N passed, N failed'."""
+"""Runs the built program: over each folder of tests/runs, which has `words` (one a line), the input files, what must be said (`stdout`) and
+the exit status (`status`); over each example; and over files and an output that no folder can hold. Prints each run that differs, then
+'N passed, N failed'. tests/run_all.py [PROGRAM]"""
 import os
+import resource
 import shutil
+import signal
 import subprocess
 import sys
 import tempfile
+import threading
 
-HERE = os.path.dirname(os.path.abspath(__file__))
-PROGRAM = os.path.join(HERE, "..", "crates", "ntboot", "out", "ntboot")
+TOP = os.path.join(os.path.dirname(os.path.abspath(__file__)), "..")
+PROGRAM = os.path.join(TOP, "crates", "ntboot", "out", "ntboot")
+RUNS = os.path.join(TOP, "tests", "runs")
+EXAMPLES = os.path.join(TOP, "examples")
+ONE_DRIVER = os.path.join(RUNS, "starts_one_boot_driver")
+WORDS = ["run", "--hive", "hive", "--script", "script"]
 
 
-def read(path):
-    with open(path, "rb") as f:
+def read(*path):
+    with open(os.path.join(*path), "rb") as f:
         return f.read()
 
 
-def run(program, folder):
-    """What the program says in a fresh folder with the inputs, and its exit status."""
+def said(program, words, room, **more):
+    """What the program says in a folder, and its exit status."""
+    done = subprocess.run([program, *words], cwd=room, stdout=subprocess.PIPE, stderr=subprocess.STDOUT, timeout=120, **more)
+    return done.stdout, done.returncode
+
+
+def of_folder(program, folder):
+    """A run of tests/runs in a fresh folder with its inputs."""
     with tempfile.TemporaryDirectory() as room:
         for part in os.listdir(folder):
             if part not in ("words", "stdout", "status"):
                 shutil.copy(os.path.join(folder, part), room)
-        words = read(os.path.join(folder, "words")).decode().split("\n")[:-1]
-        done = subprocess.run([program, *words], cwd=room, capture_output=True, timeout=120)
-        return done.stdout, done.returncode
+        return said(program, read(folder, "words").decode().split("\n")[:-1], room)
 
 
-def failing_hosts(program):
-    """A host whose first read fails, and one to which nothing can be said: each with its exit status, and what was said."""
+def of_example(program, folder):
+    """An example by the command that its folder has, whose first word is the program."""
     with tempfile.TemporaryDirectory() as room:
-        os.mkdir(os.path.join(room, "script"))
-        words = [program, "run", "--hive", "hive", "--script", "script"]
-        read = subprocess.run(words, cwd=room, capture_output=True, timeout=120)
-        with open("/dev/full", "wb") as full:
-            write = subprocess.run(words[:1], cwd=room, stdout=full, timeout=120)
-    return [("a_read_fails", read.returncode, 6, read.stdout), ("nothing_can_be_said", write.returncode, 7, b"")]
+        shutil.copytree(folder, room, dirs_exist_ok=True)
+        return said(program, read(folder, "command").decode().split()[1:], room)
 
 
-def odd_words(program):
-    """A word that is no UTF-8, which has no reading: its exit status, and what was said."""
-    odd = subprocess.run([program.encode(), b"run", b"--hive", b"\xff", b"--script", b"script"], capture_output=True, timeout=120)
-    return odd.returncode, odd.stdout
+def in_room(program, change, words=WORDS, **more):
+    """A run over the hive and script of one driver, behind a change of their folder."""
+    with tempfile.TemporaryDirectory() as room:
+        for part in ("hive", "script"):
+            shutil.copy(os.path.join(ONE_DRIVER, part), room)
+        change(room)
+        return said(program, words, room, **more)
+
+
+def becomes_a_folder(room):
+    os.remove(os.path.join(room, "script"))
+    os.mkdir(os.path.join(room, "script"))
+
+
+def becomes_too_long(room):
+    """A hive of one byte more than 256 MiB, of which no part is taken for the whole."""
+    os.truncate(os.path.join(room, "hive"), 256 * 1024 * 1024 + 1)
+
+
+def comes_in_pieces(room):
+    """The hive comes through a pipe with a name, a little at a time."""
+    path = os.path.join(room, "hive")
+    data = read(path)
+    os.remove(path)
+    os.mkfifo(path)
+
+    def write():
+        with open(path, "wb", buffering=0) as f:
+            for at in range(0, len(data), 1000):
+                f.write(data[at:at + 1000])
+
+    threading.Thread(target=write, daemon=True).start()
+
+
+def to_a_full_device(program):
+    """Nothing can be said: what was said, and the exit status."""
+    with open("/dev/full", "wb") as full:
+        return b"", subprocess.run([program], stdout=full, timeout=120).returncode
+
+
+def to_a_short_file(program):
+    """The file that the report goes to ends two bytes before the report does: what it has in the end, and the exit status."""
+    whole = read(ONE_DRIVER, "stdout")
+
+    def limit():
+        signal.signal(signal.SIGXFSZ, signal.SIG_IGN)
+        resource.setrlimit(resource.RLIMIT_FSIZE, (len(whole) - 2, len(whole) - 2))
+
+    with tempfile.TemporaryDirectory() as room:
+        path = os.path.join(room, "report")
+        with open(path, "wb") as report:
+            done = subprocess.run([program, *WORDS], cwd=ONE_DRIVER, stdout=report, preexec_fn=limit, timeout=120)
+        return read(path), done.returncode
+
+
+def cases(program):
+    """Each run: its name, what was said with the exit status, and what both must be."""
+    for name in sorted(os.listdir(RUNS)):
+        folder = os.path.join(RUNS, name)
+        yield name, of_folder(program, folder), (read(folder, "stdout"), int(read(folder, "status")))
+    for name in sorted(os.listdir(EXAMPLES)):
+        folder = os.path.join(EXAMPLES, name)
+        yield f"example {name}", of_example(program, folder), (read(folder, "report.txt"), 0)
+    whole = (read(ONE_DRIVER, "stdout"), 0)
+    below = ["run", "--hive", "hive", "--script", "script/below"]
+    odd = [b"run", b"--hive", b"\xff", b"--script", b"script"]
+    yield "a file that is a folder", in_room(program, becomes_a_folder), (b"", 6)
+    yield "a path below a plain file", in_room(program, lambda room: None, below), (b"", 6)
+    yield "a hive of more than 256 MiB", in_room(program, becomes_too_long), (b"", 6)
+    yield "a hive that comes in pieces", in_room(program, comes_in_pieces), whole
+    yield "a word that is no UTF-8", in_room(program, lambda room: None, odd), (b"bad usage\n", 1)
+    yield "an output that takes nothing", to_a_full_device(program), (b"", 7)
+    yield "an output that ends early", to_a_short_file(program), (whole[0][:-2], 7)
 
 
 def main(words):
@@ -49,29 +126,13 @@ def main(words):
     if not os.path.exists(program):
         print("no built program: run `rt ci` at the top first")
         return 1
-    runs = os.path.join(HERE, "runs")
     passed = failed = 0
-    for name in sorted(os.listdir(runs)):
-        folder = os.path.join(runs, name)
-        said, status = run(program, folder)
-        want, want_status = read(os.path.join(folder, "stdout")), int(read(os.path.join(folder, "status")))
-        if said == want and status == want_status:
+    for name, found, want in cases(program):
+        if found == want:
             passed += 1
             continue
         failed += 1
-        print(f"{name}: exit {status}, wanted {want_status}; said {said[:400]!r}, wanted {want[:400]!r}")
-    for name, status, want_status, said in failing_hosts(program):
-        if status == want_status and said == b"":
-            passed += 1
-        else:
-            failed += 1
-            print(f"{name}: exit {status}, wanted {want_status}; said {said!r}")
-    status, said = odd_words(program)
-    if status == 1 and said == b"bad usage\n":
-        passed += 1
-    else:
-        failed += 1
-        print(f"a_word_that_is_no_utf8: exit {status}; said {said!r}")
+        print(f"{name}: exit {found[1]}, wanted {want[1]}; said {found[0][:400]!r}, wanted {want[0][:400]!r}")
     print(f"{passed} passed, {failed} failed")
     return 1 if failed or not passed else 0
 
