@@ -20,7 +20,7 @@ is_no_lf c = not (c == 10)
 abbrev pub has_no_lf : List ℕ → Bool
 has_no_lf text = list_all is_no_lf text
 
-both : (a b : Bool) → (a && b) ≡ true → (a ≡ true) × (b ≡ true)
+pub both : (a b : Bool) → (a && b) ≡ true → (a ≡ true) × (b ≡ true)
 both true b e = (refl, e)
 both false b e = absurd (false≢true e)
 
@@ -79,7 +79,7 @@ no_lf-path (c ∷ path) = joined _ _ (no_lf-shown c) (no_lf-path path)
 
 -- ---- lines without their LF
 
-abbrev body : Line → List ℕ
+abbrev pub body : Line → List ℕ
 body (StartLine number) = codes "start " ++ decimal number
 body (EntryLine number path) = codes "entry " ++ decimal number ++ codes " " ++ path_text path
 body (LoadLine sequence recovered) = codes "load " ++ decimal sequence ++ codes " " ++ load_word recovered
@@ -98,7 +98,7 @@ body (RefusedLine event why) = codes "refused " ++ event_word event ++ codes " "
 body (VerdictLine word) = codes "verdict " ++ verdict_word word
 body EndLine = codes "end"
 
-text-body : (l : Line) → line_text l ≡ body l ++ 10 ∷ []
+pub text-body : (l : Line) → line_text l ≡ body l ++ 10 ∷ []
 unfolding line_text
 text-body (StartLine number) = refl
 text-body (EntryLine number path) = refl
@@ -185,7 +185,7 @@ no_lf-verdict book.NoLastKnownGood = refl
 with_blank : (a b : List ℕ) → has_no_lf a ≡ true → has_no_lf b ≡ true → has_no_lf (a ++ codes " " ++ b) ≡ true
 with_blank a b e f = no_lf-append (a ++ codes " ") b (no_lf-append a (codes " ") e refl) f
 
-no_lf-body : (l : Line) → has_no_lf (body l) ≡ true
+pub no_lf-body : (l : Line) → has_no_lf (body l) ≡ true
 no_lf-body (StartLine number) = no_lf-append (codes "start ") (decimal number) refl (no_lf-decimal number)
 no_lf-body (EntryLine number path) = with_blank (codes "entry " ++ decimal number) (path_text path) (no_lf-append (codes "entry ") (decimal number) refl (no_lf-decimal number)) (no_lf-path path)
 no_lf-body (LoadLine sequence recovered) =
