@@ -1,9 +1,10 @@
 -- The forms of the code as those of the book.
-use Rattle.hive_model.specs.Forms.{KeyNode, KeyValue, SecurityCell, SubkeyList, Li, Lf, Ri}
+use Rattle.hive_model.specs.Forms.{KeyNode, KeyValue, SecurityCell, BigData, SubkeyList, Li, Lf, Lh, Ri}
 use Rattle.hive_model.specs.Forms.{ListKind as BookKind}
 use Rattle.cell_forms.specs.declared.key_node.NkForm.{NkForm}
 use Rattle.cell_forms.specs.declared.key_value.VkForm.{VkForm}
 use Rattle.cell_forms.specs.declared.security.SkForm.{SkForm}
+use Rattle.cell_forms.specs.declared.big_data.DbForm.{DbForm}
 use Rattle.cell_forms.specs.declared.lists.ListForm.{ListForm}
 use Rattle.cell_forms.specs.declared.lists.ListKind.{ListKind}
 use Rattle.cell_forms.specs.declared.lists.ListKind.TheVariants as kinds
@@ -32,12 +33,16 @@ key_node_of f = record {
 abbrev pub key_value_of : VkForm → KeyValue
 key_value_of f = record { size = f.size; offset = f.offset; kind = f.kind; flags = f.flags; name = f.name }
 
+abbrev pub big_data_of : DbForm → BigData
+big_data_of f = record { segments = f.segments; list = f.list }
+
 abbrev pub security_of : SkForm → SecurityCell
 security_of f = record { forward = f.forward; backward = f.backward; uses = f.uses; descriptor = f.descriptor }
 
 abbrev pub kind_of : ListKind → BookKind
 kind_of kinds.Li = Li
 kind_of kinds.Lf = Lf
+kind_of kinds.Lh = Lh
 kind_of kinds.Ri = Ri
 
 abbrev pub subkey_list_of : ListForm → SubkeyList

@@ -4,7 +4,8 @@ ghost use Rattle.std.specs.Prelude.{◌≡◌, ◌<◌, ◌^◌, ◌++◌, ℕ, 
 ghost use Rattle.hive_model.specs.Forms.{KeyNode, IsKeyNode, key_node_at, key_node_text};
 ghost use Rattle.hive_model.specs.Forms.{KeyValue, IsKeyValue, key_value_at, key_value_text};
 ghost use Rattle.hive_model.specs.Forms.{SecurityCell, IsSecurityCell, security_at, security_text};
-ghost use Rattle.hive_model.specs.Forms.{AreOffsets, AreHints, Li, Lf, Ri, list_at, li_text, lf_text, ri_text, offsets_in, offsets_text, bytes_in};
+ghost use Rattle.hive_model.specs.Forms.{BigData, IsBigData, big_data_at, big_data_text};
+ghost use Rattle.hive_model.specs.Forms.{AreOffsets, AreHints, Li, Lf, Lh, Ri, list_at, li_text, lf_text, lh_text, ri_text, offsets_in, offsets_text, bytes_in};
 
 /// A key node.
 pub fn key_node_is_read_back()
@@ -16,6 +17,11 @@ pub fn key_value_is_read_back()
     ensures { (v : KeyValue) (slack : List ℕ) → IsKeyValue v → key_value_at (key_value_text v ++ slack) ≡ Ok v }
 {}
 
+/// A cell of big data.
+pub fn big_data_is_read_back()
+    ensures { (big : BigData) (slack : List ℕ) → IsBigData big → big_data_at (big_data_text big ++ slack) ≡ Ok big }
+{}
+
 /// A security cell.
 pub fn security_is_read_back()
     ensures { (s : SecurityCell) (slack : List ℕ) → IsSecurityCell s → security_at (security_text s ++ slack) ≡ Ok s }
@@ -25,6 +31,7 @@ pub fn security_is_read_back()
 pub fn list_is_read_back()
     ensures li { (offsets slack : List ℕ) → length offsets < 2 ^ 16 → AreOffsets offsets → list_at (li_text offsets ++ slack) ≡ Ok (record { kind = Li; offsets = offsets }) }
     ensures lf { (offsets : List ℕ) (hints : List (List ℕ)) (slack : List ℕ) → length offsets ≡ length hints → length offsets < 2 ^ 16 → AreOffsets offsets → AreHints hints → list_at (lf_text offsets hints ++ slack) ≡ Ok (record { kind = Lf; offsets = offsets }) }
+    ensures lh { (offsets : List ℕ) (hints : List (List ℕ)) (slack : List ℕ) → length offsets ≡ length hints → length offsets < 2 ^ 16 → AreOffsets offsets → AreHints hints → list_at (lh_text offsets hints ++ slack) ≡ Ok (record { kind = Lh; offsets = offsets }) }
     ensures ri { (offsets slack : List ℕ) → length offsets < 2 ^ 16 → AreOffsets offsets → list_at (ri_text offsets ++ slack) ≡ Ok (record { kind = Ri; offsets = offsets }) }
 {}
 

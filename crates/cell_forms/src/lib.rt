@@ -3,9 +3,10 @@
 //! Each reader takes the payload of a cell and answers its form, or the first check of it that
 //! fails at the cell's offset. It asks nothing of the bytes. Each writer answers the payload that
 //! a form is spelled as, and what is spelled is read back, whatever fills the cell behind it.
-//! Rules: regf format 1.3, key node, key value, key security, subkey lists.
+//! Rules: regf format 1.3 and 1.5, key node, key value, big data, key security, subkey lists.
 #![tactic(auto)]
 
+mod big_data;
 mod bytes;
 mod key_node;
 mod key_value;
@@ -17,13 +18,14 @@ mod security;
 #[cfg(test)]
 mod tests;
 
+pub use big_data::{DbForm, db_bytes, read_db};
 pub use bytes::read_bytes;
 pub use key_node::{NkForm, nk_bytes, read_nk};
 pub use key_value::{VkForm, data_inside, read_vk, vk_bytes};
 pub use laws::{
-    bytes_are_read_back, key_node_is_read_back, key_value_is_read_back, list_is_read_back,
-    offsets_are_read_back, security_is_read_back,
+    big_data_is_read_back, bytes_are_read_back, key_node_is_read_back, key_value_is_read_back,
+    list_is_read_back, offsets_are_read_back, security_is_read_back,
 };
-pub use list_texts::{lf_bytes, offsets_bytes, ri_bytes};
+pub use list_texts::{lf_bytes, lh_bytes, name_hash, offsets_bytes, ri_bytes};
 pub use lists::{ListForm, ListKind, Offsets, read_list, read_offsets};
 pub use security::{SkForm, read_sk, sk_bytes};

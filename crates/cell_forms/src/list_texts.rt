@@ -1,9 +1,11 @@
 //! Lists of offsets as they are spelled.
 
-ghost use Rattle.std.specs.Prelude.{◌≡◌, ◌<◌, ◌^◌, ◌++◌, length, IfOk, OnOk};
-ghost use Rattle.hive_model.specs.Forms.{offsets_text, entries_text, lf_text, ri_text};
+ghost use Rattle.std.specs.Prelude.{◌≡◌, ◌<◌, ◌+◌, ◌*◌, ◌%◌, ◌^◌, ◌++◌, length, map, IfOk, OnOk};
+ghost use Rattle.std.specs.Int.{w32, to_le_bytes};
+ghost use Rattle.nt_bytes.specs.Folding.{folded_unit};
+ghost use Rattle.hive_model.specs.Forms.{offsets_text, entries_text, lf_text, lh_text, ri_text, hash_of};
 
-use nt_bytes::Bytes;
+use nt_bytes::{Bytes, fold};
 use std::alloc::{AllocError, Global};
 
 fn append_offsets(out: &mut Bytes, offsets: &[u32]) -> Result<(), AllocError>
@@ -51,6 +53,64 @@ pub fn lf_bytes(alloc: Global, offsets: &[u32], hints: &[[u8; 4]]) -> Result<Byt
     bytes.push(0x66)?;
     bytes.put_u16(offsets.len() as u16)?;
     append_entries(&mut bytes, offsets, hints)?;
+    Ok(bytes)
+}
+
+/// The hash of a unit behind others of this hash.
+fn hash_behind(hash: u32, unit: u16) -> u32
+    ensures { result ≡ (37 * hash + folded_unit unit) % 4294967296 }
+{
+    ((37 * u64::from(hash) + u64::from(fold(unit))) % 0x1_0000_0000) as u32
+}
+
+/// The hash that a list of key nodes has for a name: 37 times the hash of the units before, and the
+/// folded unit, modulo 2^32.
+pub fn name_hash(units: &[u16]) -> u32
+    ensures { result ≡ hash_of units.now }
+{
+    let mut hash = 0;
+    let mut rest = units;
+    'units: loop {
+        let [unit, more @ ..] = rest else {
+            return hash;
+        };
+        hash = hash_behind(hash, *unit);
+        rest = more;
+    }
+}
+
+fn append_hashed(out: &mut Bytes, offsets: &[u32], hashes: &[u32]) -> Result<(), AllocError>
+    requires { length offsets.now ≡ length hashes.now }
+    ensures { OnOk result (out.new ≡ out.old ++ entries_text offsets.now (map (to_le_bytes w32) hashes.now)) }
+{
+    let mut rest = offsets;
+    let mut rest_hashes = hashes;
+    'entries: loop {
+        let [offset, more @ ..] = rest else {
+            return Ok(());
+        };
+        let [hash, more_hashes @ ..] = rest_hashes else {
+            return Ok(());
+        };
+        out.put_u32(*offset)?;
+        out.put_u32(*hash)?;
+        rest = more;
+        rest_hashes = more_hashes;
+    }
+}
+
+/// The payload of a list of key nodes with the hash of each name.
+#[tactic(auto, unfolding(hive_model::specs::Forms::lh_text))]
+pub fn lh_bytes(alloc: Global, offsets: &[u32], hashes: &[u32]) -> Result<Bytes, AllocError>
+    requires same { length offsets.now ≡ length hashes.now }
+    requires few { length offsets.now < 2 ^ 16 }
+    ensures { IfOk result (λ b. b ≡ lh_text offsets.now (map (to_le_bytes w32) hashes.now)) }
+{
+    let mut bytes = Bytes::new(alloc);
+    bytes.push(0x6c)?;
+    bytes.push(0x68)?;
+    bytes.put_u16(offsets.len() as u16)?;
+    append_hashed(&mut bytes, offsets, hashes)?;
     Ok(bytes)
 }
 

@@ -18,7 +18,9 @@ pub enum ListKind {
     Li,
     /// Offsets of key nodes, each with four bytes of the name.
     Lf,
-    /// Offsets of `li` and `lf` cells.
+    /// Offsets of key nodes, each with the hash of the name.
+    Lh,
+    /// Offsets of `li`, `lf` and `lh` cells.
     Ri,
 }
 
@@ -71,7 +73,7 @@ fn read_entries(
 }
 
 /// Reads a list of subkeys. `FormShort` where the payload is shorter than its entries, `FormSign`
-/// where it begins with none of `li`, `lf` and `ri`; each at `at`.
+/// where it begins with none of `li`, `lf`, `lh` and `ri`; each at `at`.
 #[tactic(auto, unfolding(hive_model::specs::Forms::list_at))]
 pub fn read_list(alloc: Global, payload: &[u8], at: u32) -> Result<ListForm, ReadStop>
     ensures { Gives subkey_list_of at result (list_at payload.now) }
@@ -85,6 +87,9 @@ pub fn read_list(alloc: Global, payload: &[u8], at: u32) -> Result<ListForm, Rea
     }
     if sign == 0x666c {
         return read_entries(alloc, ListKind::Lf, 8, payload, at);
+    }
+    if sign == 0x686c {
+        return read_entries(alloc, ListKind::Lh, 8, payload, at);
     }
     if sign == 0x6972 {
         return read_entries(alloc, ListKind::Ri, 4, payload, at);

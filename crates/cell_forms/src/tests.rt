@@ -161,6 +161,53 @@ fn lists_are_read_and_written(rt: HostRuntime) -> Result<(), Fail> {
 }
 
 #[test]
+fn lists_with_hashes_are_read_and_written(rt: HostRuntime) -> Result<(), Fail> {
+    let hash = name_hash(&[0x44, 0x69, 0x73, 0x6b]);
+    assert_eq!(rt; hash, 0x0036_215f);
+    assert_eq!(rt; name_hash(&[0x64, 0x49, 0x53, 0x4b]), hash);
+    assert_eq!(rt; name_hash(&[]), 0);
+    let bytes = lh_bytes(rt.alloc(), &[0x90], &[hash])?;
+    let expected = [0x6c, 0x68, 1, 0, 0x90, 0, 0, 0, 0x5f, 0x21, 0x36, 0];
+    assert_eq!(rt; bytes.as_slice(), &expected[..]);
+    let list = read_list(rt.alloc(), bytes.as_slice(), 120)?;
+    assert_eq!(rt; list.kind, ListKind::Lh);
+    assert_eq!(rt; list.offsets.as_slice(), &[0x90][..]);
+    Ok(())
+}
+
+#[test]
+fn a_hash_keeps_its_low_bits(rt: HostRuntime) -> Result<(), Fail> {
+    // the hash of seven units of 0xFFFF, the sum of 65,535 times the powers of 37, modulo 2^32
+    assert_eq!(rt; name_hash(&[0xffff; 7]), 0xc2bd_a015);
+    Ok(())
+}
+
+#[test]
+fn big_data_are_read_and_written(rt: HostRuntime) -> Result<(), Fail> {
+    let form = DbForm {
+        segments: 2,
+        list: 0x1f0,
+    };
+    let bytes = db_bytes(rt.alloc(), &form)?;
+    assert_eq!(rt; bytes.as_slice(), &[0x64, 0x62, 2, 0, 0xf0, 1, 0, 0][..]);
+    assert_eq!(rt; read_db(bytes.as_slice(), 0)?, form);
+    let cases = [
+        (1, 0x64, HiveKind::FormShort),
+        (2, 0x65, HiveKind::FormSign),
+        (7, 0x64, HiveKind::FormShort),
+    ];
+    for (length, first, kind) in cases {
+        let payload = [first, 0x62, 2, 0, 0xf0, 1, 0, 0];
+        let refused = match read_db(&payload[..length], 7) {
+            Ok(_) => false,
+            Err(stop) => stop == ReadStop::Fault(HiveFault { kind, at: 7 }),
+        };
+        assert!(rt; refused, "{length} bytes");
+    }
+    Ok(())
+}
+
+#[test]
 fn a_security_cell_is_read_and_written(rt: HostRuntime) -> Result<(), Fail> {
     let security = read_sk(rt.alloc(), &SECURITY, 120)?;
     assert_eq!(rt; security.uses, 3);

@@ -1,7 +1,7 @@
 //! The heap of cells.
 
 ghost use Rattle.std.specs.Prelude.{◌≡◌};
-ghost use Rattle.hive_model.specs.Bins.{cell_at, look_up, payload_of, placed, spelled, Sees};
+ghost use Rattle.hive_model.specs.Bins.{cell_at, payload_at, payload_of, placed, spelled, Sees};
 
 use crate::lookup::head;
 use nt_bytes::{HiveFault, HiveKind};
@@ -34,7 +34,7 @@ impl CellHeap {
     /// The payload of the allocated cell that begins at this offset. `OutOfRange` where no cell
     /// begins there, `FreeCell` where that cell is free, both at the offset.
     pub fn payload(&self, at: u32) -> Result<&[u8], HiveFault>
-        ensures { Sees (λ p. p.now) result (placed at (look_up self.now at)) }
+        ensures { Sees (λ p. p.now) result (placed at (payload_at self.now at)) }
     {
         let bytes = self.bytes.as_slice();
         let place = at as usize;

@@ -2,7 +2,7 @@
 //!
 //! `read_cells` checks bytes as bins and cells and answers the heap, or the first check that fails
 //! with the byte at which it stands. `CellHeap` is seen as its list of bins; `payload` looks up the
-//! allocated cell that begins at an offset. Rules: regf format 1.3, hive bins and cells.
+//! allocated cell that begins at an offset. Rules: regf format 1.3 and 1.5, hive bins and cells.
 #![tactic(auto)]
 
 mod heap;

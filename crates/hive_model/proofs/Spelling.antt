@@ -8,7 +8,7 @@ use Rattle.std.proofs.lemmas.Nat.{from_le_bytes-to_le_bytes_2, from_le_bytes-to_
 use Rattle.std.specs.Int.{w16, to_le_bytes}
 use Rattle.nt_bytes.specs.Fields.{u16_in, u32_in}
 use Rattle.nt_bytes.specs.Text.{wide_of}
-use Rattle.hive_model.specs.Forms.{wide_text, stored_name, name_text, has_half_unit, UnitsFit, key_name_at, value_name_at, KeyNode, is_narrow_key, key_node_in, key_node_at, key_node_text, IsKeyNode, KeyValue, is_narrow_value, is_overfull, key_value_in, key_value_at, key_value_text, IsKeyValue, bytes_in, SecurityCell, security_at, security_text, IsSecurityCell, Li, Lf, Ri, ListKind, numbers_in, list_of, list_at, offsets_text, entries_text, AreOffsets, AreHints, li_text, lf_text, ri_text, offsets_in}
+use Rattle.hive_model.specs.Forms.{wide_text, stored_name, name_text, has_half_unit, UnitsFit, key_name_at, value_name_at, KeyNode, is_narrow_key, key_node_in, key_node_at, key_node_text, IsKeyNode, KeyValue, is_narrow_value, is_overfull, key_value_in, key_value_at, key_value_text, IsKeyValue, bytes_in, SecurityCell, security_at, security_text, IsSecurityCell, BigData, big_data_in, big_data_at, big_data_text, IsBigData, Li, Lf, Lh, Ri, ListKind, numbers_in, list_of, list_at, offsets_text, entries_text, AreOffsets, AreHints, li_text, lf_text, lh_text, ri_text, offsets_in}
 
 -- a range of what a payload begins with
 pub in_range : (p a slack : List ℕ) (n : ℕ) → drop n p ≡ a ++ slack → slice_range p n (n + length a) ≡ a
@@ -215,6 +215,12 @@ list_is_lf p long sign =
     let a : ltb (length p) 2 ≡ false = le-ltb _ _ (omega arith) in
     rw (a, sign) refl
 
+list_is_lh : (p : List ℕ) → 2 ≤ length p → u16_in p 0 ≡ 0x686c → list_at p ≡ list_of Lh 8 p
+unfolding list_at
+list_is_lh p long sign =
+    let a : ltb (length p) 2 ≡ false = le-ltb _ _ (omega arith) in
+    rw (a, sign) refl
+
 list_is_ri : (p : List ℕ) → 2 ≤ length p → u16_in p 0 ≡ 0x6972 → list_at p ≡ list_of Ri 4 p
 unfolding list_at
 list_is_ri p long sign =
@@ -242,7 +248,33 @@ lf_again os hs slack e lt f g =
     list_is_lf (lf_text os hs ++ slack) (omega arith) refl
     ∙ list_of_is Lf 8 (lf_text os hs ++ slack) os (omega (arith, l, length_entries os hs e g)) (from_le_bytes-to_le_bytes_2 (length os) lt) (entries_again os hs slack e f g)
 
+pub lh_again : (os : List ℕ) (hs : List (List ℕ)) (slack : List ℕ) → length os ≡ length hs → length os < 2 ^ 16 → AreOffsets os → AreHints hs → list_at (lh_text os hs ++ slack) ≡ Ok (record { kind = Lh; offsets = os })
+unfolding lh_text
+lh_again os hs slack e lt f g =
+    let l = length-append (entries_text os hs) slack in
+    list_is_lh (lh_text os hs ++ slack) (omega arith) refl
+    ∙ list_of_is Lh 8 (lh_text os hs ++ slack) os (omega (arith, l, length_entries os hs e g)) (from_le_bytes-to_le_bytes_2 (length os) lt) (entries_again os hs slack e f g)
+
+-- ---- big data
+
+big_data_is : (p : List ℕ) → 8 ≤ length p → u16_in p 0 ≡ 0x6264 → big_data_at p ≡ Ok (big_data_in p)
+unfolding big_data_at
+big_data_is p long sign =
+    let a : ltb (length p) 2 ≡ false = le-ltb _ _ (omega arith) in
+    let b : ltb (length p) 8 ≡ false = le-ltb _ _ (omega arith) in
+    rw (a, sign, b) refl
+
+pub big_data_again : (big : BigData) (slack : List ℕ) → IsBigData big → big_data_at (big_data_text big ++ slack) ≡ Ok big
+unfolding big_data_text
+big_data_again big slack f =
+    big_data_is (big_data_text big ++ slack) (omega arith) refl
+    ∙ λ j. Ok (record { segments = from_le_bytes-to_le_bytes_2 big.segments f.segments j; list = from_le_bytes-to_le_bytes_4 big.list f.list j })
+
 -- ---- lengths
+
+pub length_big_data : (big : BigData) → length (big_data_text big) ≡ 8
+unfolding big_data_text
+length_big_data big = refl
 
 pub length_key_node : (n : KeyNode) → length (key_node_text n) ≡ 76 + length (name_text (is_narrow_key n.flags) n.name)
 unfolding key_node_text
@@ -267,3 +299,7 @@ length_ri os = omega (arith, length_offsets os)
 pub length_lf : (os : List ℕ) (hs : List (List ℕ)) → length os ≡ length hs → AreHints hs → length (lf_text os hs) ≡ 4 + 8 * length os
 unfolding lf_text
 length_lf os hs e f = omega (arith, length_entries os hs e f)
+
+pub length_lh : (os : List ℕ) (hs : List (List ℕ)) → length os ≡ length hs → AreHints hs → length (lh_text os hs) ≡ 4 + 8 * length os
+unfolding lh_text
+length_lh os hs e f = omega (arith, length_entries os hs e f)
