@@ -1,0 +1,156 @@
+-- Parts of a run that were given up.
+use Rattle.std.proofs.Common.{◌≡◌, ◌⊎◌, ◌==◌, inl, inr, ⊎_elim, not, ℕ, true, List, [], ◌∷◌, ◌++◌, refl, sym, ap, ◌∙◌, append-nil, append_assoc}
+use Rattle.std.specs.List.{list_all}
+use Rattle.std.specs.Prelude.{Result, Ok, Err}
+use Rattle.std.specs.Result.{is_err}
+use Rattle.std.proofs.lemmas.Bool.{false≢true}
+use Rattle.std.proofs.lemmas.List.Folds.{list_all-append}
+use Rattle.nt_bytes.specs.Front.{IsFront}
+use Rattle.nt_edge.specs.Disk.{DiskState}
+use Rattle.nt_edge.specs.Crash.{EachCrash}
+use Rattle.nt_edge.specs.Host.{SaysFront}
+use Rattle.boot_report.proofs.TextLemmas.{body, text-body, no_lf-body, both}
+use Rattle.start_model.specs.Lines.{Line, line_text, text_of}
+use Rattle.start_model.specs.Fits.{outcomes_in, MayLoad}
+use Rattle.start_model.specs.Causes.{HasCause}
+use Rattle.start_model.specs.Run.{Act, say, ask, Possible, Outcome, Finished, play}
+use Rattle.run_parts.specs.Parts.{HasNoLineFeed, since_wake, tally_now, Goes, Breaks, PlaysOr}
+use Rattle.run_parts.proofs.CountLemmas.{Still, still}
+use Rattle.run_parts.proofs.GoesLemmas.{goes-nothing, goes-then, goes-line, goes-told}
+
+-- ---- a front of a line
+
+empty_end : (f r : List ℕ) → [] ≡ f ++ r → r ≡ []
+empty_end [] r e = sym e
+empty_end (x ∷ f) r e = absurd (cc)
+
+-- a front of a text with one more item is all of it, or a front of the text
+front_or_all : (b f r : List ℕ) (x : ℕ) → b ++ x ∷ [] ≡ f ++ r → (r ≡ []) ⊎ ((g : List ℕ) × (b ≡ f ++ g))
+front_or_all b [] r x e = inr (b, refl)
+front_or_all [] (y ∷ f) r x e = let t : [] ≡ f ++ r = cc in inl (empty_end f r t)
+front_or_all (c ∷ b) (y ∷ f) r x e =
+    let t : b ++ x ∷ [] ≡ f ++ r = cc in
+    let h : c ≡ y = cc in
+    let Q : Type 0 = (r ≡ []) ⊎ ((g : List ℕ) × (c ∷ b ≡ (y ∷ f) ++ g)) in
+    let Left : r ≡ [] → Q = λ q. inl q in
+    let Right : ((g : List ℕ) × (b ≡ f ++ g)) → Q = λ q. inr (q.0, ap (λ (z : ℕ). z ∷ b) h ∙ ap (λ (t : List ℕ). y ∷ t) q.1) in
+    ⊎_elim Left Right (front_or_all b f r x t)
+
+-- a front of a line that was cut off before its LF
+pub record IsCutOff (text x y : List ℕ) : Type 0 where
+  pub part : List ℕ
+  pub said_is : y ≡ x ++ part
+  pub cut_off : HasNoLineFeed part
+  pub front : IsFront text part
+
+no_lf-front : (a b t : List ℕ) → t ≡ a ++ b → HasNoLineFeed t → HasNoLineFeed a
+no_lf-front a b t e h =
+    let all : list_all (λ c. not (c == 10)) (a ++ b) ≡ true = sym (ap (list_all (λ c. not (c == 10))) e) ∙ h in
+    (both (list_all (λ c. not (c == 10)) a) (list_all (λ c. not (c == 10)) b) (sym (list_all-append (λ c. not (c == 10)) a b) ∙ all)).0
+
+-- of a line a front was said: all of it, or a part without its LF
+pub whole_or_cut_off : (l : Line) (x y : List ℕ) → SaysFront x y (line_text l) → (y ≡ x ++ line_text l) ⊎ IsCutOff (line_text l) x y
+whole_or_cut_off l x y f =
+    let e : body l ++ 10 ∷ [] ≡ f.front ++ f.rest = sym (text-body l) ∙ f.cut in
+    let Q : Type 0 = (y ≡ x ++ line_text l) ⊎ IsCutOff (line_text l) x y in
+    let All : f.rest ≡ [] → Q = λ q.
+    inl (f.said ∙ ap (λ (t : List ℕ). x ++ t) (sym (f.cut ∙ ap (λ (t : List ℕ). f.front ++ t) q ∙ append-nil f.front))) in
+    let Some : ((g : List ℕ) × (body l ≡ f.front ++ g)) → Q = λ q.
+    inr (record {
+      part = f.front;
+      said_is = f.said;
+      cut_off = no_lf-front f.front q.0 (body l) q.1 (no_lf-body l);
+      front = record { rest = f.rest; cut = f.cut };
+    }) in
+    ⊎_elim All Some (front_or_all (body l) f.front f.rest 10 e)
+
+-- ---- parts that were given up
+
+-- nothing of it was said
+pub breaks-silent : (a : Act) (x : List ℕ) (d e : DiskState) → Still d e → EachCrash e (MayLoad (play a [] []).disk) → Breaks a x x d e
+breaks-silent a x d e s left =
+    record {
+      rest = a;
+      mid = x;
+      plays = goes-nothing (play a) x d e s;
+      outcome = Finished;
+      part = [];
+      said_is = sym (append-nil x);
+      cut_off = refl;
+      front = record { rest = text_of (play a [] (Finished ∷ [])).lines; cut = refl };
+      left = left;
+    }
+
+-- behind a part that was played
+pub breaks-then : (a b : Act) (x y z : List ℕ) (d e f : DiskState) → Goes (play a) (play b) x y d e → Breaks b y z e f → Breaks a x z d f
+breaks-then a b x y z d e f p q =
+    record {
+      rest = q.rest;
+      mid = q.mid;
+      plays = goes-then (play a) (play b) (play q.rest) x y q.mid d e f p q.plays;
+      outcome = q.outcome;
+      part = q.part;
+      said_is = q.said_is;
+      cut_off = q.cut_off;
+      front = q.front;
+      left = q.left;
+    }
+
+-- a line that tells no outcome
+pub breaks-line : (l : Line) (r : Act) (x y : List ℕ) (d e : DiskState) → Still d e → outcomes_in (l ∷ []) ≡ [] → SaysFront x y (line_text l)
+    → EachCrash e (MayLoad (play r [] []).disk) → Breaks (say l r) x y d e
+breaks-line l r x y d e s none f left =
+    let Whole : y ≡ x ++ line_text l → Breaks (say l r) x y d e = λ q.
+    breaks-then (say l r) r x y y d e e (goes-line l r x y d e s none q) (breaks-silent r y e e (still e) left) in
+    let Part : IsCutOff (line_text l) x y → Breaks (say l r) x y d e = λ q.
+    record {
+      rest = say l r;
+      mid = x;
+      plays = goes-nothing (play (say l r)) x d e s;
+      outcome = Finished;
+      part = q.part;
+      said_is = q.said_is;
+      cut_off = q.cut_off;
+      front = record {
+        rest = q.front.rest ++ text_of (play r [] (Finished ∷ [])).lines;
+        cut = ap (λ (t : List ℕ). t ++ text_of (play r [] (Finished ∷ [])).lines) q.front.cut
+            ∙ append_assoc q.part q.front.rest (text_of (play r [] (Finished ∷ [])).lines);
+      };
+      left = left;
+    }
+    in
+    ⊎_elim Whole Part (whole_or_cut_off l x y f)
+
+-- an operation of the disk, and the line that tells its outcome
+pub breaks-told : (disk : Possible) (next : Outcome → Act) (l : Line) (u : Outcome) (r : Act) (x y : List ℕ) (d e : DiskState)
+    → Still d e → HasCause u (since_wake d) (tally_now e) → outcomes_in (l ∷ []) ≡ u ∷ [] → next u ≡ say l r → SaysFront x y (line_text l)
+    → EachCrash e (MayLoad disk) → EachCrash e (MayLoad (play r [] []).disk) → Breaks (ask disk next) x y d e
+breaks-told disk next l u r x y d e s cause told is f opened left =
+    let Whole : y ≡ x ++ line_text l → Breaks (ask disk next) x y d e = λ q.
+    breaks-then (ask disk next) r x y y d e e (goes-told disk next l u r x y d e s cause told is q) (breaks-silent r y e e (still e) left) in
+    let Part : IsCutOff (line_text l) x y → Breaks (ask disk next) x y d e = λ q.
+    record {
+      rest = ask disk next;
+      mid = x;
+      plays = goes-nothing (play (ask disk next)) x d e s;
+      outcome = u;
+      part = q.part;
+      said_is = q.said_is;
+      cut_off = q.cut_off;
+      front = record {
+        rest = q.front.rest ++ text_of (play r [] []).lines;
+        cut = ap (λ (a : Act). text_of (play a [] []).lines) is ∙ ap (λ (t : List ℕ). t ++ text_of (play r [] []).lines) q.front.cut
+            ∙ append_assoc q.part q.front.rest (text_of (play r [] []).lines);
+      };
+      left = opened;
+    }
+    in
+    ⊎_elim Whole Part (whole_or_cut_off l x y f)
+
+-- ---- answers
+
+-- a call that was refused gave its act up
+pub or-breaks : {T E : Type 0} → (Left : T → Act → Type 0) (r : Result T E) → is_err r ≡ true → (whole : Act) (x y : List ℕ) (d e : DiskState)
+    → Breaks whole x y d e → PlaysOr whole x y d e r Left
+or-breaks Left (Ok v) h whole x y d e b = absurd (false≢true h)
+or-breaks Left (Err v) h whole x y d e b = b

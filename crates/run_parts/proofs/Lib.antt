@@ -1,0 +1,4 @@
+pub mod CountLemmas
+pub mod GoesLemmas
+pub mod BreakLemmas
+pub mod ReportLemmas

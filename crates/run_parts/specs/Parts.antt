@@ -1,0 +1,135 @@
+-- What did a part of a run come to: one that was played, and one that was given up? (this project's own)
+--
+-- What happened beside the lines are the notes of the book. They tell what was done to the disk from outside: its wakes, the
+-- stops that were ordered and the cuts of the script; and each stop that the part tells of has its cause, a count of the disk
+-- that rose since the start's own wake.
+use Rattle.std.specs.Prelude.{◌≡◌, ◌≤◌, ◌==◌, not, true, ℕ, List, [], ◌∷◌, ◌++◌, map, Result, Ok, Err}
+use Rattle.std.specs.List.{list_all}
+use Rattle.nt_bytes.specs.Front.{IsFront}
+use Rattle.hive_model.specs.Image.{Image}
+use Rattle.nt_edge.specs.Disk.{DiskState, Wake, next}
+use Rattle.nt_edge.specs.Crash.{EachCrash}
+use Rattle.nt_edge.specs.Host.{SaysFront}
+use Rattle.start_model.specs.Lines.{Line, text_of}
+use Rattle.start_model.specs.Fits.{outcomes_in, woke_in, Fits, MayLoad}
+use Rattle.start_model.specs.Orders.{ordered_in}
+use Rattle.start_model.specs.Causes.{Tally, next_tally, Caused}
+use Rattle.start_model.specs.Run.{Act, Note, Cuts, Woken, Outcome, RunState, play, behind}
+use Rattle.start_model.specs.Report.{Going}
+
+-- ---- the disk's counts
+
+-- the counts at a wake
+abbrev pub tally_at : Wake → Tally
+tally_at w = record { cuts = w.cuts; faults = w.faults }
+
+-- the counts at each of the wakes
+abbrev pub tallies : List Wake → List Tally
+tallies wakes = map tally_at wakes
+
+-- the counts as they stand
+abbrev pub tally_now : DiskState → Tally
+tally_now s = record { cuts = s.cuts; faults = s.faults }
+
+-- the counts at the last of the wakes, or else these
+abbrev pub last_tally : List Tally → Tally → Tally
+last_tally [] since = since
+last_tally (w ∷ ws) since = last_tally ws w
+
+-- the counts at the disk's last wake, none before the first
+abbrev pub since_wake : DiskState → Tally
+since_wake s = last_tally (tallies s.history.wakes) (record { cuts = 0; faults = 0 })
+
+-- a later count is no smaller, and one that stands at its end stays there
+pub record NoLess (before after : ℕ) : Type 0 where
+  pub grown : before ≤ after
+  pub ended : before ≡ 18446744073709551615 → after ≡ 18446744073709551615
+
+-- the counts at the next of these wakes, or now, are no smaller
+pub record Later (since : Tally) (wakes : List Tally) (now : Tally) : Type 0 where
+  pub cuts : NoLess since.cuts (next_tally wakes now).cuts
+  pub faults : NoLess since.faults (next_tally wakes now).faults
+
+-- the counts are no smaller than at the disk's last wake
+abbrev pub IsMarked : DiskState → Type 0
+IsMarked s = Later (since_wake s) [] (tally_now s)
+
+-- ---- what was done to the disk
+
+-- the count of cuts that were called for, behind those of the notes
+abbrev pub cuts_behind : List Note → ℕ → ℕ
+cuts_behind [] n = n
+cuts_behind (Cuts ∷ notes) n = cuts_behind notes (next n)
+cuts_behind (note ∷ notes) n = cuts_behind notes n
+
+-- The disk's history grew by these wakes, and by the orders and cuts that the notes have; no file was placed or taken; and each
+-- stop that the notes have has its cause.
+pub record Grew (notes : List Note) (added : List Wake) (old new : DiskState) : Type 0 where
+  pub wakes : new.history.wakes ≡ old.history.wakes ++ added
+  pub armings : new.history.armings ≡ old.history.armings ++ ordered_in notes
+  pub cut_calls : new.history.cut_calls ≡ cuts_behind notes old.history.cut_calls
+  pub placings : new.history.placings ≡ old.history.placings
+  pub takings : new.history.takings ≡ old.history.takings
+  pub later : Later (tally_now old) (tallies added) (tally_now new)
+  pub caused : Caused notes (tallies added) (since_wake old) (tally_now new)
+
+-- ---- a part that was played
+
+-- Of the whole this rest is left: what was said grew by the text of lines, the disk's history by notes, each wake could be, and
+-- whatever wakes and outcomes follow, the whole goes on as the rest does.
+pub record Goes (whole rest : Going) (said said' : List ℕ) (old new : DiskState) : Type 0 where
+  pub lines : List Line
+  pub notes : List Note
+  pub added : List Wake
+  pub woken : List Woken
+  pub said_is : said' ≡ said ++ text_of lines
+  pub grew : Grew notes added old new
+  pub fits : Fits (map (λ w. w.image) added) woken (woke_in notes)
+  pub goes : (w : List Woken) (o : List Outcome) → whole (woken ++ w) (outcomes_in lines ++ o) ≡ behind lines notes (rest w o)
+
+-- ---- a part that was given up
+
+-- no line ends in the text
+abbrev pub HasNoLineFeed : List ℕ → Type 0
+HasNoLineFeed text = list_all (λ c. not (c == 10)) text ≡ true
+
+-- A part was played up to a rest, which was then given up: of what the rest says with one more outcome a front was said, with
+-- no whole line; and whatever the disk is left as, it loads as the rest says where nothing more happens.
+pub record RunBreaks (whole : Going) (said said' : List ℕ) (old new : DiskState) : Type 0 where
+  pub rest : Going
+  pub mid : List ℕ
+  pub goes : Goes whole rest said mid old new
+  pub outcome : Outcome
+  pub part : List ℕ
+  pub said_is : said' ≡ mid ++ part
+  pub cut_off : HasNoLineFeed part
+  pub front : IsFront (text_of (rest [] (outcome ∷ [])).lines) part
+  pub left : EachCrash new (MayLoad (rest [] []).disk)
+
+-- the same of an act, whose rest is one too
+pub record Breaks (whole : Act) (said said' : List ℕ) (old new : DiskState) : Type 0 where
+  pub rest : Act
+  pub mid : List ℕ
+  pub plays : Goes (play whole) (play rest) said mid old new
+  pub outcome : Outcome
+  pub part : List ℕ
+  pub said_is : said' ≡ mid ++ part
+  pub cut_off : HasNoLineFeed part
+  pub front : IsFront (text_of (play rest [] (outcome ∷ [])).lines) part
+  pub left : EachCrash new (MayLoad (play rest [] []).disk)
+
+-- ---- what a call answers
+
+-- the act was played up to a rest, of which more is known; or it was given up
+abbrev pub PlaysOr : {T E : Type 0} → Act → List ℕ → List ℕ → DiskState → DiskState → Result T E → (T → Act → Type 0) → Type 0
+PlaysOr whole said said' old new (Ok x) Left = (rest : Act) × (Goes (play whole) (play rest) said said' old new × Left x rest)
+PlaysOr whole said said' old new (Err e) Left = Breaks whole said said' old new
+
+-- the text was said, or a front of it
+abbrev pub Says : {T E : Type 0} → List ℕ → List ℕ → List ℕ → Result T E → Type 0
+Says text old new (Ok x) = new ≡ old ++ text
+Says text old new (Err e) = SaysFront old new text
+
+-- whatever the disk may load as in a state, it may behind the first words of what follows too
+abbrev pub Stays : (RunState → Act) → Type 0
+Stays next = (m : RunState) (c : Image) → MayLoad m.disk c → MayLoad (play (next m) [] []).disk c

@@ -1,0 +1,32 @@
+-- When is what was said the report of a run, or a front of it, and what was done to the disk? (this project's own)
+use Rattle.std.specs.Prelude.{◌≡◌, ℕ, List, ◌++◌, map, Result, Ok, Err}
+use Rattle.hive_model.specs.Image.{Image, IsCrashImage}
+use Rattle.nt_edge.specs.Disk.{DiskState, Wake}
+use Rattle.start_model.specs.Fits.{outcomes_of}
+use Rattle.start_model.specs.Report.{Going, Report, ReportFront}
+use Rattle.run_parts.specs.Parts.{Grew}
+
+-- whatever a loss of power leaves of the disk
+abbrev pub LeftOf : DiskState → Image → Type 0
+LeftOf s image = IsCrashImage s.held s.flight image
+
+-- What was said since is the whole report of the run on the wakes that were added, and what was done to the disk are its notes.
+pub record Reports (run : Going) (said said' : List ℕ) (old new : DiskState) : Type 0 where
+  pub text : List ℕ
+  pub said_is : said' ≡ said ++ text
+  pub added : List Wake
+  pub report : Report run (map (λ w. w.image) added) (LeftOf new) text
+  pub grew : Grew (run report.woken (outcomes_of text)).notes added old new
+
+-- What was said since is a front of the report, and what was done to the disk a front of its notes.
+pub record ReportsFront (run : Going) (said said' : List ℕ) (old new : DiskState) : Type 0 where
+  pub text : List ℕ
+  pub said_is : said' ≡ said ++ text
+  pub added : List Wake
+  pub report : ReportFront run (map (λ w. w.image) added) (LeftOf new) text
+  pub grew : Grew report.notes added old new
+
+-- the report was said whole; or up to a refusal a front of it
+abbrev pub ReportsOr : {T E : Type 0} → Going → List ℕ → List ℕ → DiskState → DiskState → Result T E → Type 0
+ReportsOr run said said' old new (Ok x) = Reports run said said' old new
+ReportsOr run said said' old new (Err e) = ReportsFront run said said' old new
