@@ -1,5 +1,5 @@
 -- Parts of a run that were given up.
-use Rattle.std.proofs.Common.{◌≡◌, ◌⊎◌, ◌==◌, inl, inr, ⊎_elim, not, ℕ, true, List, [], ◌∷◌, ◌++◌, refl, sym, ap, ◌∙◌, append-nil, append_assoc}
+use Rattle.std.proofs.Common.{◌≡◌, ◌⊎◌, ◌==◌, inl, inr, ⊎_elim, not, ℕ, true, List, [], ◌∷◌, ◌++◌, refl, sym, ap, subst, ◌∙◌, append-nil, append_assoc}
 use Rattle.std.specs.List.{list_all}
 use Rattle.std.specs.Prelude.{Result, Ok, Err}
 use Rattle.std.specs.Result.{is_err}
@@ -14,7 +14,8 @@ use Rattle.start_model.specs.Lines.{Line, line_text, text_of}
 use Rattle.start_model.specs.Fits.{outcomes_in, MayLoad}
 use Rattle.start_model.specs.Causes.{HasCause}
 use Rattle.start_model.specs.Run.{Act, say, ask, Possible, Outcome, Finished, play}
-use Rattle.run_parts.specs.Parts.{HasNoLineFeed, since_wake, tally_now, Goes, Breaks, PlaysOr}
+use Rattle.start_model.specs.Summary.{with_line}
+use Rattle.run_parts.specs.Parts.{Told, Tells, HasNoLineFeed, since_wake, tally_now, Goes, Breaks, PlaysOr}
 use Rattle.run_parts.proofs.CountLemmas.{Still, still}
 use Rattle.run_parts.proofs.GoesLemmas.{goes-nothing, goes-then, goes-line, goes-told}
 
@@ -66,8 +67,15 @@ whole_or_cut_off l x y f =
 
 -- ---- parts that were given up
 
+-- with one more line
+abbrev told_with : Line → Told → Told
+told_with l x = record { said = x.said ++ line_text l; summary = with_line x.summary l }
+
+tells-line : (l : Line) (x : Told) → Tells x (told_with l x) (l ∷ [])
+tells-line l x = record { said = ap (λ (t : List ℕ). x.said ++ t) (sym (append-nil (line_text l))); summary = refl }
+
 -- nothing of it was said
-pub breaks-silent : (a : Act) (x : List ℕ) (d e : DiskState) → Still d e → EachCrash e (MayLoad (play a [] []).disk) → Breaks a x x d e
+pub breaks-silent : (a : Act) (x : Told) (d e : DiskState) → Still d e → EachCrash e (MayLoad (play a [] []).disk) → Breaks a x x.said d e
 breaks-silent a x d e s left =
     record {
       rest = a;
@@ -75,14 +83,14 @@ breaks-silent a x d e s left =
       plays = goes-nothing (play a) x d e s;
       outcome = Finished;
       part = [];
-      said_is = sym (append-nil x);
+      said_is = sym (append-nil x.said);
       cut_off = refl;
       front = record { rest = text_of (play a [] (Finished ∷ [])).lines; cut = refl };
       left = left;
     }
 
 -- behind a part that was played
-pub breaks-then : (a b : Act) (x y z : List ℕ) (d e f : DiskState) → Goes (play a) (play b) x y d e → Breaks b y z e f → Breaks a x z d f
+pub breaks-then : (a b : Act) (x y : Told) (z : List ℕ) (d e f : DiskState) → Goes (play a) (play b) x y d e → Breaks b y z e f → Breaks a x z d f
 breaks-then a b x y z d e f p q =
     record {
       rest = q.rest;
@@ -97,12 +105,15 @@ breaks-then a b x y z d e f p q =
     }
 
 -- a line that tells no outcome
-pub breaks-line : (l : Line) (r : Act) (x y : List ℕ) (d e : DiskState) → Still d e → outcomes_in (l ∷ []) ≡ [] → SaysFront x y (line_text l)
+pub breaks-line : (l : Line) (r : Act) (x : Told) (y : List ℕ) (d e : DiskState) → Still d e → outcomes_in (l ∷ []) ≡ [] → SaysFront x.said y (line_text l)
     → EachCrash e (MayLoad (play r [] []).disk) → Breaks (say l r) x y d e
 breaks-line l r x y d e s none f left =
-    let Whole : y ≡ x ++ line_text l → Breaks (say l r) x y d e = λ q.
-    breaks-then (say l r) r x y y d e e (goes-line l r x y d e s none q) (breaks-silent r y e e (still e) left) in
-    let Part : IsCutOff (line_text l) x y → Breaks (say l r) x y d e = λ q.
+    let m : Told = told_with l x in
+    let P : List ℕ → Type 0 = λ t. Breaks (say l r) x t d e in
+    let whole : Breaks (say l r) x m.said d e =
+    breaks-then (say l r) r x m m.said d e e (goes-line l r x m d e s none (tells-line l x)) (breaks-silent r m e e (still e) left) in
+    let Whole : y ≡ x.said ++ line_text l → Breaks (say l r) x y d e = λ q. subst P (sym q) whole in
+    let Part : IsCutOff (line_text l) x.said y → Breaks (say l r) x y d e = λ q.
     record {
       rest = say l r;
       mid = x;
@@ -119,16 +130,19 @@ breaks-line l r x y d e s none f left =
       left = left;
     }
     in
-    ⊎_elim Whole Part (whole_or_cut_off l x y f)
+    ⊎_elim Whole Part (whole_or_cut_off l x.said y f)
 
 -- an operation of the disk, and the line that tells its outcome
-pub breaks-told : (disk : Possible) (next : Outcome → Act) (l : Line) (u : Outcome) (r : Act) (x y : List ℕ) (d e : DiskState)
-    → Still d e → HasCause u (since_wake d) (tally_now e) → outcomes_in (l ∷ []) ≡ u ∷ [] → next u ≡ say l r → SaysFront x y (line_text l)
+pub breaks-told : (disk : Possible) (next : Outcome → Act) (l : Line) (u : Outcome) (r : Act) (x : Told) (y : List ℕ) (d e : DiskState)
+    → Still d e → HasCause u (since_wake d) (tally_now e) → outcomes_in (l ∷ []) ≡ u ∷ [] → next u ≡ say l r → SaysFront x.said y (line_text l)
     → EachCrash e (MayLoad disk) → EachCrash e (MayLoad (play r [] []).disk) → Breaks (ask disk next) x y d e
 breaks-told disk next l u r x y d e s cause told is f opened left =
-    let Whole : y ≡ x ++ line_text l → Breaks (ask disk next) x y d e = λ q.
-    breaks-then (ask disk next) r x y y d e e (goes-told disk next l u r x y d e s cause told is q) (breaks-silent r y e e (still e) left) in
-    let Part : IsCutOff (line_text l) x y → Breaks (ask disk next) x y d e = λ q.
+    let m : Told = told_with l x in
+    let P : List ℕ → Type 0 = λ t. Breaks (ask disk next) x t d e in
+    let whole : Breaks (ask disk next) x m.said d e =
+    breaks-then (ask disk next) r x m m.said d e e (goes-told disk next l u r x m d e s cause told is (tells-line l x)) (breaks-silent r m e e (still e) left) in
+    let Whole : y ≡ x.said ++ line_text l → Breaks (ask disk next) x y d e = λ q. subst P (sym q) whole in
+    let Part : IsCutOff (line_text l) x.said y → Breaks (ask disk next) x y d e = λ q.
     record {
       rest = ask disk next;
       mid = x;
@@ -145,12 +159,12 @@ breaks-told disk next l u r x y d e s cause told is f opened left =
       left = opened;
     }
     in
-    ⊎_elim Whole Part (whole_or_cut_off l x y f)
+    ⊎_elim Whole Part (whole_or_cut_off l x.said y f)
 
 -- ---- answers
 
 -- a call that was refused gave its act up
-pub or-breaks : {T E : Type 0} → (Left : T → Act → Type 0) (r : Result T E) → is_err r ≡ true → (whole : Act) (x y : List ℕ) (d e : DiskState)
-    → Breaks whole x y d e → PlaysOr whole x y d e r Left
+pub or-breaks : {T E : Type 0} → (Left : T → Act → Type 0) (r : Result T E) → is_err r ≡ true → (whole : Act) (x y : Told) (d e : DiskState)
+    → Breaks whole x y.said d e → PlaysOr whole x y d e r Left
 or-breaks Left (Ok v) h whole x y d e b = absurd (false≢true h)
 or-breaks Left (Err v) h whole x y d e b = b

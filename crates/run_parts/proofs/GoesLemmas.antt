@@ -10,7 +10,8 @@ use Rattle.start_model.specs.Fits.{outcomes_in, verdict_outcome, woke_in, Fits}
 use Rattle.start_model.specs.Causes.{HasCause}
 use Rattle.start_model.specs.Run.{Act, say, ask, mark, Note, Woke, Held, Saved, Ordered, Cuts, Ended, Possible, Woken, Outcome, Finished, RunResult, play, behind}
 use Rattle.start_model.specs.Report.{Going}
-use Rattle.run_parts.specs.Parts.{tally_now, since_wake, Grew, Goes}
+use Rattle.start_model.specs.Summary.{Summary, with_line, with_lines}
+use Rattle.run_parts.specs.Parts.{Told, Tells, tally_now, since_wake, Grew, Goes}
 use Rattle.run_parts.proofs.CountLemmas.{Still, still, grew-then}
 
 -- ---- lists
@@ -81,13 +82,28 @@ image_at w = w.image
 pub behind-append : (a b : List Line) (j k : List Note) (r : RunResult) → behind (a ++ b) (j ++ k) r ≡ behind a j (behind b k r)
 behind-append a b j k r = λ i. record { lines = append_assoc a b r.lines i; notes = append_assoc j k r.notes i; disk = r.disk; rest = r.rest }
 
--- nothing was said
-pub goes-nothing : (a : Going) (x : List ℕ) (d e : DiskState) → Still d e → Goes a a x x d e
+-- nothing was told
+pub tells-nothing : (x : Told) → Tells x x []
+tells-nothing x = record { said = sym (append-nil x.said); summary = refl }
+
+with_lines-append : (s : Summary) (a b : List Line) → with_lines s (a ++ b) ≡ with_lines (with_lines s a) b
+with_lines-append s [] b = refl
+with_lines-append s (l ∷ a) b = with_lines-append (with_line s l) a b
+
+-- lines were told, and then others
+pub tells-then : (x y z : Told) (a b : List Line) → Tells x y a → Tells y z b → Tells x z (a ++ b)
+tells-then x y z a b p q = record {
+  said = q.said ∙ ap (λ (t : List ℕ). t ++ text_of b) p.said ∙ append_assoc x.said (text_of a) (text_of b) ∙ ap (λ (t : List ℕ). x.said ++ t) (sym (text_of-append a b));
+  summary = q.summary ∙ ap (λ (s : Summary). with_lines s b) p.summary ∙ sym (with_lines-append x.summary a b);
+}
+
+-- nothing happened
+pub goes-nothing : (a : Going) (x : Told) (d e : DiskState) → Still d e → Goes a a x x d e
 goes-nothing a x d e s =
-    record { lines = []; notes = []; added = []; woken = []; said_is = sym (append-nil x); grew = s; fits = tt; goes = λ w o. refl }
+    record { lines = []; notes = []; added = []; woken = []; tells = tells-nothing x; grew = s; fits = tt; goes = λ w o. refl }
 
 -- one part behind another
-pub goes-then : (a b c : Going) (x y z : List ℕ) (d e f : DiskState) → Goes a b x y d e → Goes b c y z e f → Goes a c x z d f
+pub goes-then : (a b c : Going) (x y z : Told) (d e f : DiskState) → Goes a b x y d e → Goes b c y z e f → Goes a c x z d f
 goes-then a b c x y z d e f p q =
     let P : List Possible → Type 0 = λ ps. Fits (map image_at (p.added ++ q.added)) (p.woken ++ q.woken) ps in
     let Q : List Image → Type 0 = λ is. Fits is (p.woken ++ q.woken) (woke_in p.notes ++ woke_in q.notes) in
@@ -98,9 +114,7 @@ goes-then a b c x y z d e f p q =
       notes = p.notes ++ q.notes;
       added = p.added ++ q.added;
       woken = p.woken ++ q.woken;
-      said_is =
-          q.said_is ∙ ap (λ (t : List ℕ). t ++ text_of q.lines) p.said_is ∙ append_assoc x (text_of p.lines) (text_of q.lines)
-          ∙ ap (λ (t : List ℕ). x ++ t) (sym (text_of-append p.lines q.lines));
+      tells = tells-then x y z p.lines q.lines p.tells q.tells;
       grew = grew-then p.notes q.notes p.added q.added d e f p.grew q.grew;
       fits = subst P (sym (woke_in-append p.notes q.notes)) (subst Q (sym (map-append image_at p.added q.added)) fits);
       goes = λ w o.
@@ -113,7 +127,7 @@ goes-then a b c x y z d e f p q =
     }
 
 -- a line that tells no outcome
-pub goes-line : (l : Line) (r : Act) (x y : List ℕ) (d e : DiskState) → Still d e → outcomes_in (l ∷ []) ≡ [] → y ≡ x ++ line_text l
+pub goes-line : (l : Line) (r : Act) (x y : Told) (d e : DiskState) → Still d e → outcomes_in (l ∷ []) ≡ [] → Tells x y (l ∷ [])
     → Goes (play (say l r)) (play r) x y d e
 goes-line l r x y d e s none said =
     record {
@@ -121,7 +135,7 @@ goes-line l r x y d e s none said =
       notes = [];
       added = [];
       woken = [];
-      said_is = said ∙ ap (λ (t : List ℕ). x ++ t) (sym (append-nil (line_text l)));
+      tells = said;
       grew = s;
       fits = tt;
       goes = λ w o. ap (λ (os : List Outcome). play (say l r) w (os ++ o)) none;
@@ -133,8 +147,8 @@ grew-ended u d e s cause =
     record { wakes = s.wakes; armings = s.armings; cut_calls = s.cut_calls; placings = s.placings; takings = s.takings; later = s.later; caused = (cause, tt) }
 
 -- an operation of the disk, and the line that tells its outcome
-pub goes-told : (disk : Possible) (next : Outcome → Act) (l : Line) (u : Outcome) (r : Act) (x y : List ℕ) (d e : DiskState)
-    → Still d e → HasCause u (since_wake d) (tally_now e) → outcomes_in (l ∷ []) ≡ u ∷ [] → next u ≡ say l r → y ≡ x ++ line_text l
+pub goes-told : (disk : Possible) (next : Outcome → Act) (l : Line) (u : Outcome) (r : Act) (x y : Told) (d e : DiskState)
+    → Still d e → HasCause u (since_wake d) (tally_now e) → outcomes_in (l ∷ []) ≡ u ∷ [] → next u ≡ say l r → Tells x y (l ∷ [])
     → Goes (play (ask disk next)) (play r) x y d e
 goes-told disk next l u r x y d e s cause told is said =
     record {
@@ -142,7 +156,7 @@ goes-told disk next l u r x y d e s cause told is said =
       notes = Ended u ∷ [];
       added = [];
       woken = [];
-      said_is = said ∙ ap (λ (t : List ℕ). x ++ t) (sym (append-nil (line_text l)));
+      tells = said;
       grew = grew-ended u d e s cause;
       fits = tt;
       goes = λ w o.
@@ -151,14 +165,14 @@ goes-told disk next l u r x y d e s cause told is said =
     }
 
 -- a tree that the disk holds, or a clone that was saved: the disk has no part in the note
-pub goes-held : (t : Tree) (r : Act) (x : List ℕ) (d : DiskState) → Goes (play (mark (Held t) r)) (play r) x x d d
+pub goes-held : (t : Tree) (r : Act) (x : Told) (d : DiskState) → Goes (play (mark (Held t) r)) (play r) x x d d
 goes-held t r x d =
     let s : Still d d = still d in
     let g : Grew (Held t ∷ []) [] d d = record { wakes = s.wakes; armings = s.armings; cut_calls = refl; placings = refl; takings = refl; later = s.later; caused = tt } in
-    record { lines = []; notes = Held t ∷ []; added = []; woken = []; said_is = sym (append-nil x); grew = g; fits = tt; goes = λ w o. refl }
+    record { lines = []; notes = Held t ∷ []; added = []; woken = []; tells = tells-nothing x; grew = g; fits = tt; goes = λ w o. refl }
 
-pub goes-saved : (t : Tree) (r : Act) (x : List ℕ) (d : DiskState) → Goes (play (mark (Saved t) r)) (play r) x x d d
+pub goes-saved : (t : Tree) (r : Act) (x : Told) (d : DiskState) → Goes (play (mark (Saved t) r)) (play r) x x d d
 goes-saved t r x d =
     let s : Still d d = still d in
     let g : Grew (Saved t ∷ []) [] d d = record { wakes = s.wakes; armings = s.armings; cut_calls = refl; placings = refl; takings = refl; later = s.later; caused = tt } in
-    record { lines = []; notes = Saved t ∷ []; added = []; woken = []; said_is = sym (append-nil x); grew = g; fits = tt; goes = λ w o. refl }
+    record { lines = []; notes = Saved t ∷ []; added = []; woken = []; tells = tells-nothing x; grew = g; fits = tt; goes = λ w o. refl }

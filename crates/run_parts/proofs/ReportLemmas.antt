@@ -7,7 +7,8 @@ use Rattle.start_model.specs.Lines.{Line, text_of}
 use Rattle.start_model.specs.Fits.{outcomes_in, outcomes_of, woke_in, Fits, MayLoad}
 use Rattle.start_model.specs.Run.{Note, Possible, Woken, Outcome, RunState, RunResult, reached, behind}
 use Rattle.start_model.specs.Report.{Going}
-use Rattle.run_parts.specs.Parts.{Goes, RunBreaks, Grew}
+use Rattle.start_model.specs.Summary.{with_lines}
+use Rattle.run_parts.specs.Parts.{Told, Goes, RunBreaks, Grew}
 use Rattle.run_parts.specs.Reports.{Reports, ReportsFront}
 use Rattle.run_parts.proofs.GoesLemmas.{image_at, text_of-append}
 
@@ -15,7 +16,7 @@ outcomes-whole : (ls : List Line) → outcomes_of (text_of ls) ≡ outcomes_in l
 outcomes-whole ls = ap outcomes_of (sym (append-nil (text_of ls))) ∙ outcomes_of-text ls [] refl
 
 -- a run that was played to its end is the report that its text tells
-pub reports_of : (run : Going) (last : RunState) (x y : List ℕ) (d e : DiskState) → Goes run (reached last) x y d e → EachCrash e (MayLoad last.disk) → Reports run x y d e
+pub reports_of : (run : Going) (last : RunState) (x y : Told) (d e : DiskState) → Goes run (reached last) x y d e → EachCrash e (MayLoad last.disk) → Reports run x y d e
 reports_of run last x y d e g left =
     let t : List ℕ = text_of g.lines in
     let is : run g.woken (outcomes_of t) ≡ behind g.lines g.notes (reached last [] []) =
@@ -27,7 +28,7 @@ reports_of run last x y d e g left =
     let Q : List Note → Type 0 = λ ns. Fits (map image_at g.added) g.woken (woke_in ns) in
     record {
       text = t;
-      said_is = g.said_is;
+      said_is = g.tells.said;
       added = g.added;
       report = record {
         woken = g.woken;
@@ -38,10 +39,11 @@ reports_of run last x y d e g left =
         loads = left;
       };
       grew = subst P notes g.grew;
+      summary = g.tells.summary ∙ ap (with_lines x.summary) (sym (append-nil g.lines) ∙ sym (ap (λ (q : RunResult). q.lines) is));
     }
 
 -- a run that was given up left a front of the report
-pub reports_front_of : (run : Going) (x y : List ℕ) (d e : DiskState) → RunBreaks run x y d e → ReportsFront run x y d e
+pub reports_front_of : (run : Going) (x : Told) (y : List ℕ) (d e : DiskState) → RunBreaks run x y d e → ReportsFront run x.said y d e
 reports_front_of run x y d e b =
     let g = b.goes in
     let t : List ℕ = text_of g.lines ++ b.part in
@@ -58,7 +60,7 @@ reports_front_of run x y d e b =
     let P : Possible → Type 0 = λ p. EachCrash e (MayLoad p) in
     record {
       text = t;
-      said_is = b.said_is ∙ ap (λ (z : List ℕ). z ++ b.part) g.said_is ∙ append_assoc x (text_of g.lines) b.part;
+      said_is = b.said_is ∙ ap (λ (z : List ℕ). z ++ b.part) g.tells.said ∙ append_assoc x.said (text_of g.lines) b.part;
       added = g.added;
       report = record {
         woken = g.woken;

@@ -10,7 +10,8 @@ use Rattle.hive_model.specs.Image.{Image}
 use Rattle.nt_edge.specs.Disk.{DiskState, Wake, next}
 use Rattle.nt_edge.specs.Crash.{EachCrash}
 use Rattle.nt_edge.specs.Host.{SaysFront}
-use Rattle.start_model.specs.Lines.{Line, text_of}
+use Rattle.start_model.specs.Lines.{Line, line_text, text_of}
+use Rattle.start_model.specs.Summary.{Summary, with_lines}
 use Rattle.start_model.specs.Fits.{outcomes_in, woke_in, Fits, MayLoad}
 use Rattle.start_model.specs.Orders.{ordered_in}
 use Rattle.start_model.specs.Causes.{Tally, next_tally, Caused}
@@ -73,16 +74,28 @@ pub record Grew (notes : List Note) (added : List Wake) (old new : DiskState) : 
   pub later : Later (tally_now old) (tallies added) (tally_now new)
   pub caused : Caused notes (tallies added) (since_wake old) (tally_now new)
 
+-- ---- what was told
+
+-- what was said so far, and what its lines came to
+pub record Told : Type 0 where
+  pub said : List ℕ
+  pub summary : Summary
+
+-- these lines were told behind it
+pub record Tells (old new : Told) (lines : List Line) : Type 0 where
+  pub said : new.said ≡ old.said ++ text_of lines
+  pub summary : new.summary ≡ with_lines old.summary lines
+
 -- ---- a part that was played
 
--- Of the whole this rest is left: what was said grew by the text of lines, the disk's history by notes, each wake could be, and
--- whatever wakes and outcomes follow, the whole goes on as the rest does.
-pub record Goes (whole rest : Going) (said said' : List ℕ) (old new : DiskState) : Type 0 where
+-- Of the whole this rest is left: lines were told, the disk's history grew by notes, each wake could be, and whatever wakes and
+-- outcomes follow, the whole goes on as the rest does.
+pub record Goes (whole rest : Going) (told told' : Told) (old new : DiskState) : Type 0 where
   pub lines : List Line
   pub notes : List Note
   pub added : List Wake
   pub woken : List Woken
-  pub said_is : said' ≡ said ++ text_of lines
+  pub tells : Tells told told' lines
   pub grew : Grew notes added old new
   pub fits : Fits (map (λ w. w.image) added) woken (woke_in notes)
   pub goes : (w : List Woken) (o : List Outcome) → whole (woken ++ w) (outcomes_in lines ++ o) ≡ behind lines notes (rest w o)
@@ -95,25 +108,25 @@ HasNoLineFeed text = list_all (λ c. not (c == 10)) text ≡ true
 
 -- A part was played up to a rest, which was then given up: of what the rest says with one more outcome a front was said, with
 -- no whole line; and whatever the disk is left as, it loads as the rest says where nothing more happens.
-pub record RunBreaks (whole : Going) (said said' : List ℕ) (old new : DiskState) : Type 0 where
+pub record RunBreaks (whole : Going) (told : Told) (said' : List ℕ) (old new : DiskState) : Type 0 where
   pub rest : Going
-  pub mid : List ℕ
-  pub goes : Goes whole rest said mid old new
+  pub mid : Told
+  pub goes : Goes whole rest told mid old new
   pub outcome : Outcome
   pub part : List ℕ
-  pub said_is : said' ≡ mid ++ part
+  pub said_is : said' ≡ mid.said ++ part
   pub cut_off : HasNoLineFeed part
   pub front : IsFront (text_of (rest [] (outcome ∷ [])).lines) part
   pub left : EachCrash new (MayLoad (rest [] []).disk)
 
 -- the same of an act, whose rest is one too
-pub record Breaks (whole : Act) (said said' : List ℕ) (old new : DiskState) : Type 0 where
+pub record Breaks (whole : Act) (told : Told) (said' : List ℕ) (old new : DiskState) : Type 0 where
   pub rest : Act
-  pub mid : List ℕ
-  pub plays : Goes (play whole) (play rest) said mid old new
+  pub mid : Told
+  pub plays : Goes (play whole) (play rest) told mid old new
   pub outcome : Outcome
   pub part : List ℕ
-  pub said_is : said' ≡ mid ++ part
+  pub said_is : said' ≡ mid.said ++ part
   pub cut_off : HasNoLineFeed part
   pub front : IsFront (text_of (play rest [] (outcome ∷ [])).lines) part
   pub left : EachCrash new (MayLoad (play rest [] []).disk)
@@ -121,14 +134,14 @@ pub record Breaks (whole : Act) (said said' : List ℕ) (old new : DiskState) : 
 -- ---- what a call answers
 
 -- the act was played up to a rest, of which more is known; or it was given up
-abbrev pub PlaysOr : {T E : Type 0} → Act → List ℕ → List ℕ → DiskState → DiskState → Result T E → (T → Act → Type 0) → Type 0
-PlaysOr whole said said' old new (Ok x) Left = (rest : Act) × (Goes (play whole) (play rest) said said' old new × Left x rest)
-PlaysOr whole said said' old new (Err e) Left = Breaks whole said said' old new
+abbrev pub PlaysOr : {T E : Type 0} → Act → Told → Told → DiskState → DiskState → Result T E → (T → Act → Type 0) → Type 0
+PlaysOr whole told told' old new (Ok x) Left = (rest : Act) × (Goes (play whole) (play rest) told told' old new × Left x rest)
+PlaysOr whole told told' old new (Err e) Left = Breaks whole told told'.said old new
 
--- the text was said, or a front of it
-abbrev pub Says : {T E : Type 0} → List ℕ → List ℕ → List ℕ → Result T E → Type 0
-Says text old new (Ok x) = new ≡ old ++ text
-Says text old new (Err e) = SaysFront old new text
+-- the line was told, or a front of it was said
+abbrev pub TellsOr : {T E : Type 0} → Line → Told → Told → Result T E → Type 0
+TellsOr line old new (Ok x) = Tells old new (line ∷ [])
+TellsOr line old new (Err e) = SaysFront old.said new.said (line_text line)
 
 -- whatever the disk may load as in a state, it may behind the first words of what follows too
 abbrev pub Stays : (RunState → Act) → Type 0

@@ -4,19 +4,21 @@ use Rattle.hive_model.specs.Image.{Image, IsCrashImage}
 use Rattle.nt_edge.specs.Disk.{DiskState, Wake}
 use Rattle.start_model.specs.Fits.{outcomes_of}
 use Rattle.start_model.specs.Report.{Going, Report, ReportFront}
-use Rattle.run_parts.specs.Parts.{Grew}
+use Rattle.start_model.specs.Summary.{with_lines}
+use Rattle.run_parts.specs.Parts.{Told, Grew}
 
 -- whatever a loss of power leaves of the disk
 abbrev pub LeftOf : DiskState → Image → Type 0
 LeftOf s image = IsCrashImage s.held s.flight image
 
 -- What was said since is the whole report of the run on the wakes that were added, and what was done to the disk are its notes.
-pub record Reports (run : Going) (said said' : List ℕ) (old new : DiskState) : Type 0 where
+pub record Reports (run : Going) (told told' : Told) (old new : DiskState) : Type 0 where
   pub text : List ℕ
-  pub said_is : said' ≡ said ++ text
+  pub said_is : told'.said ≡ told.said ++ text
   pub added : List Wake
   pub report : Report run (map (λ w. w.image) added) (LeftOf new) text
   pub grew : Grew (run report.woken (outcomes_of text)).notes added old new
+  pub summary : told'.summary ≡ with_lines told.summary (run report.woken (outcomes_of text)).lines
 
 -- What was said since is a front of the report, and what was done to the disk a front of its notes.
 pub record ReportsFront (run : Going) (said said' : List ℕ) (old new : DiskState) : Type 0 where
@@ -27,6 +29,6 @@ pub record ReportsFront (run : Going) (said said' : List ℕ) (old new : DiskSta
   pub grew : Grew report.notes added old new
 
 -- the report was said whole; or up to a refusal a front of it
-abbrev pub ReportsOr : {T E : Type 0} → Going → List ℕ → List ℕ → DiskState → DiskState → Result T E → Type 0
-ReportsOr run said said' old new (Ok x) = Reports run said said' old new
-ReportsOr run said said' old new (Err e) = ReportsFront run said said' old new
+abbrev pub ReportsOr : {T E : Type 0} → Going → Told → Told → DiskState → DiskState → Result T E → Type 0
+ReportsOr run told told' old new (Ok x) = Reports run told told' old new
+ReportsOr run told told' old new (Err e) = ReportsFront run told.said told'.said old new
