@@ -1,10 +1,10 @@
 //! The heap of cells.
 
-ghost use Rattle.std.specs.Prelude.{◌≡◌};
+ghost use Rattle.std.specs.Prelude.{◌≡◌, ◌%◌, IfOk};
 ghost use Rattle.hive_model.specs.Bins.{cell_at, payload_at, payload_of, placed, spelled, Sees};
 
 use crate::lookup::head;
-use nt_bytes::{HiveFault, HiveKind};
+use nt_bytes::{Bytes, HiveFault, HiveKind};
 use std::marker::Model;
 
 /// Cells, in the bytes of their bins: at most 16,777,216 bytes. One flag for eight bytes says
@@ -32,9 +32,11 @@ impl Model for CellHeap {
 
 impl CellHeap {
     /// The payload of the allocated cell that begins at this offset. `OutOfRange` where no cell
-    /// begins there, `FreeCell` where that cell is free, both at the offset.
+    /// begins there, `FreeCell` where that cell is free, both at the offset. A cell begins at whole
+    /// eight bytes.
     pub fn payload(&self, at: u32) -> Result<&[u8], HiveFault>
-        ensures { Sees (λ p. p.now) result (placed at (payload_at self.now at)) }
+        ensures exact { Sees (λ p. p.now) result (placed at (payload_at self.now at)) }
+        ensures whole { IfOk result (λ p. at % 8 ≡ 0) }
     {
         let bytes = self.bytes.as_slice();
         let place = at as usize;
@@ -56,5 +58,12 @@ impl CellHeap {
         ensures { result.now ≡ spelled 0 self.now }
     {
         self.bytes.as_slice()
+    }
+
+    /// The bins data, without a copy.
+    pub fn into_bytes(self) -> Bytes
+        ensures { result ≡ spelled 0 self }
+    {
+        Bytes::from_vec(self.bytes)
     }
 }

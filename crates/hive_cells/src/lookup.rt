@@ -1,6 +1,6 @@
 //! Where cells begin, and what stands there.
 
-ghost use Rattle.std.specs.Prelude.{◌≡◌, ◌+◌, ◌≤◌, false, length, slice_index_or};
+ghost use Rattle.std.specs.Prelude.{◌≡◌, ◌+◌, ◌%◌, ◌≤◌, false, length, slice_index_or};
 ghost use Rattle.std.specs.Option.{IfSome, option_map};
 ghost use Rattle.hive_model.specs.Bins.{cell_at};
 ghost use Rattle.hive_cells.specs.Reading.{bins_of, head_of, IsKept};
@@ -23,6 +23,7 @@ pub(crate) fn head(bytes: &[u8], starts: &[bool], at: usize) -> Option<(bool, us
     requires { IsKept bytes.now starts.now }
     ensures exact { result ≡ option_map head_of (cell_at (bins_of bytes.now) at) }
     ensures within { IfSome result (λ h. (8 ≤ h.1) × (at + h.1 ≤ length bytes.now)) }
+    ensures whole { IfSome result (λ h. at % 8 ≡ 0) }
 {
     if at % 8 != 0 {
         return None;

@@ -1,8 +1,8 @@
 use Rattle.hive_cells.proofs.Spots.{payload_placed}
 use Rattle.hive_cells.proofs.heap.CellHeap.payload.Goals as goal
 
-pub returns-in-Some-true-default : goal.returns-in-Some-true-default
-returns-in-Some-true-default c =
+pub returns-in-Some-true-default-clause-exact : goal.returns-in-Some-true-default-clause-exact
+returns-in-Some-true-default-clause-exact c =
     let h = c.in-Some-true-default in
     let text = c.self.inside.bytes.items in
     let e = c.as_slice-bytes.ensures.value in
