@@ -4,14 +4,14 @@ use Rattle.std.specs.Prelude.{slice_get, option_map, option_and_then}
 use Rattle.std.proofs.lemmas.List.Edits.{length-remove}
 use Rattle.std.proofs.lemmas.Bool.{false≢true}
 use Rattle.hive_model.specs.Tree.{Tree}
-use Rattle.hive_model.specs.Edit.{Refusal}
 use Rattle.start_model.specs.Lines as lines
 use Rattle.start_model.specs.Lines.{Line, UnmetLine, CommitWord}
 use Rattle.start_model.specs.Judge.{Judgement, Ignore, Log, FallBack, Stop}
-use Rattle.start_model.specs.Sets.{SelectNumbers, SetPlan, SetStop, select_numbers_of, usable_numbers_of, save_plan_of, stepped}
+use Rattle.start_model.specs.Sets as sets
+use Rattle.start_model.specs.Sets.{SetChange, ChangeStop, NoPlan, save_of}
 use Rattle.start_model.specs.Entries.{Entry, Phase, Boot, System, Automatic, Done, services_of}
 use Rattle.start_model.specs.Machine.{Start, MachineState, Tried, next_in, attempt_at, attempt_in, attempt_of, after_phase, unmet_in, is_done, save_due, with_start}
-use Rattle.start_model.specs.Run.{RunState, Act, say, ask, holds, saves, say_all, Outcome, Finished, PowerCut, DeviceFault, next_state, committed, commit, open_between, settled_at, with_machine, noted_saved, save_refused, saved_as, saved_by, save, save_where_due, select_line, live_set, good_is_usable, phase_line, judged, phase_step, starter_step, stepping, go_steps, enough_steps, go_act, try_line}
+use Rattle.start_model.specs.Run.{RunState, Act, say, ask, mark, Held, Saved, say_all, Outcome, Finished, PowerCut, DeviceFault, next_state, committed_state, committed, commit, open_between, with_machine, noted_saved, save_refused, saved_by, save, save_where_due, select_line, live_set, good_is_usable, phase_line, judged, phase_step, starter_step, stepping, go_steps, enough_steps, go_act, try_line}
 use Rattle.start_model.specs.Run as run
 use Rattle.run_laws.proofs.CountLemmas.{system_count, late_count, system_plan, automatic_plan, all_counts}
 
@@ -96,26 +96,22 @@ commit-same : (what : CommitWord) (tree : Tree) (m : RunState) (next other : Run
 commit-same what tree m next other f = λ i. ask (open_between m.disk.settled (next_state m tree)) (λ o. at_end o i)
   where
     at_end : (o : Outcome) → committed what tree m next o ≡ committed what tree m other o
-    at_end Finished = ap (λ (act : Act). say (lines.CommitLine what (next_state m tree).sequence) (holds tree act)) (f (record m { live = tree; sequence = (next_state m tree).sequence; changed = false; disk = settled_at (next_state m tree) }) refl)
+    at_end Finished = ap (λ (act : Act). say (lines.CommitLine what (next_state m tree).sequence) (mark (Held tree) act)) (f (committed_state m tree) refl)
     at_end PowerCut = refl
     at_end DeviceFault = refl
 
-saved_as-same : (s : Start) (clone : Tree) (numbers : SelectNumbers) (m : RunState) (next other : RunState → Act) (r : Result Tree Refusal)
-    → ((ok : Bool) (x : RunState) → next (noted_saved ok s x) ≡ other (noted_saved ok s x)) → saved_as s clone numbers m next r ≡ saved_as s clone numbers m other r
-saved_as-same s clone numbers m next other (Ok tree) f =
-    ap (saves clone) (commit-same lines.SaveCommit tree m (λ after. say (select_line numbers) (next (noted_saved true s after))) (λ after. say (select_line numbers) (other (noted_saved true s after)))
-    (λ x is. ap (say (select_line numbers)) (f true x)))
-saved_as-same s clone numbers m next other (Err refusal) f = ap (say (lines.SaveRefusedLine true)) (f false m)
-
-saved_by-same : (s : Start) (clone : Tree) (m : RunState) (next other : RunState → Act) (r : Result SetPlan SetStop)
+saved_by-same : (s : Start) (clone : Tree) (m : RunState) (next other : RunState → Act) (r : Result SetChange ChangeStop)
     → ((ok : Bool) (x : RunState) → next (noted_saved ok s x) ≡ other (noted_saved ok s x)) → saved_by s clone m next r ≡ saved_by s clone m other r
-saved_by-same s clone m next other (Ok plan) f = saved_as-same s clone plan.numbers m next other (stepped m.live plan.steps) f
-saved_by-same s clone m next other (Err stop) f = ap (say (lines.SaveRefusedLine false)) (f false m)
+saved_by-same s clone m next other (Ok change) f =
+    ap (mark (Saved clone)) (commit-same lines.SaveCommit change.tree m (λ after. say (select_line change.numbers) (next (noted_saved true s after))) (λ after. say (select_line change.numbers) (other (noted_saved true s after)))
+    (λ x is. ap (say (select_line change.numbers)) (f true x)))
+saved_by-same s clone m next other (Err (NoPlan stop)) f = ap (say (lines.SaveRefusedLine false)) (f false m)
+saved_by-same s clone m next other (Err sets.Full) f = ap (say (lines.SaveRefusedLine true)) (f false m)
 
 save-same : (s : Start) (clone : Option Tree) (m : RunState) (next other : RunState → Act)
     → ((ok : Bool) (x : RunState) → next (noted_saved ok s x) ≡ other (noted_saved ok s x)) → next m ≡ other m → save s clone m next ≡ save s clone m other
 save-same s None m next other f here = here
-save-same s (Some clone) m next other f here = saved_by-same s clone m next other (save_plan_of (select_numbers_of m.live) (usable_numbers_of m.live) clone) f
+save-same s (Some clone) m next other f here = saved_by-same s clone m next other (save_of m.version m.live clone) f
 
 -- a start that is saved is done
 due_is_done : (s : Start) → save_due s ≡ true → is_done s.phase ≡ true

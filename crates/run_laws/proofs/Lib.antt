@@ -1,5 +1,5 @@
 pub mod CountLemmas
 pub mod GoLemmas
-pub mod ClosedLemmas
 pub mod QuietLemmas
 pub mod PartLemmas
+pub mod KeptLemmas

@@ -1,12 +1,11 @@
 -- A run in two parts: its first events, and those behind them with what is left of wakes and outcomes.
 use Rattle.std.proofs.Common.{◌≡◌, ℕ, List, [], ◌∷◌, ◌++◌, Option, Some, None, refl, sym, ap, subst, ◌∙◌, append_assoc}
 use Rattle.std.proofs.lemmas.List.{append-nil}
-use Rattle.hive_model.specs.Tree.{Tree}
 use Rattle.start_model.specs.Lines.{Line}
 use Rattle.start_model.specs.Events.{Event}
 use Rattle.start_model.specs.Run as run
-use Rattle.start_model.specs.Run.{RunState, Possible, Act, Woken, Outcome, Choice, RunResult, play, then_run, behind, reached, closed, run_from, event_step_of}
-use Rattle.run_laws.specs.Parts.{run_until, part_of}
+use Rattle.start_model.specs.Run.{RunState, Act, Note, Ended, Woke, Woken, Outcome, Choice, RunResult, play, then_run, behind, reached, run_from, event_step_of}
+use Rattle.run_laws.specs.Parts.{run_until, part_of, ended}
 
 abbrev Left : Type 0
 Left = RunState × List Woken × List Outcome
@@ -18,20 +17,12 @@ Going = RunState → List Woken → List Outcome → RunResult
 abbrev pub with_rest : RunResult → Option (RunState × List Woken × List Outcome) → RunResult
 with_rest r rest = record r { rest = rest }
 
-behind-assoc : (a b c : RunResult) → behind (behind a b) c ≡ behind a (behind b c)
-behind-assoc a b c =
-    λ i. record {
-      lines = append_assoc a.lines b.lines c.lines i;
-      expects = append_assoc a.expects b.expects c.expects i;
-      trees = append_assoc a.trees b.trees c.trees i;
-      clones = append_assoc a.clones b.clones c.clones i;
-      disk = c.disk;
-      rest = c.rest;
-    }
+pub behind-append : (a b : List Line) (j k : List Note) (r : RunResult) → behind (a ++ b) (j ++ k) r ≡ behind a j (behind b k r)
+behind-append a b j k r = λ i. record { lines = append_assoc a b r.lines i; notes = append_assoc j k r.notes i; disk = r.disk; rest = r.rest }
 
-then-behind : (go : Going) (first second : RunResult) (rest : Option Left) → then_run go (behind first second) rest ≡ behind first (then_run go second rest)
-then-behind go first second None = refl
-then-behind go first second (Some (m, wakes, outcomes)) = behind-assoc first second (go m wakes outcomes)
+pub then-behind : (go : Going) (a : List Line) (j : List Note) (r : RunResult) (rest : Option Left) → then_run go (behind a j r) rest ≡ behind a j (then_run go r rest)
+then-behind go a j r None = refl
+then-behind go a j r (Some (m, wakes, outcomes)) = behind-append a r.lines j r.notes (go m wakes outcomes)
 
 then-rest : (go : Going) (first : RunResult) (rest : Option Left) → first.rest ≡ rest → then_run go first first.rest ≡ then_run go first rest
 then-rest go first rest e = ap (then_run go first) e
@@ -44,7 +35,7 @@ split_at : (last : Going) (choice : Option ℕ → Choice) (es back : List Event
 split_at last choice es back first None e more = sym (then-rest (run_until last choice back) first None e)
 split_at last choice es back first (Some (m, wakes, outcomes)) e more =
     let part : RunResult = part_of choice es m wakes outcomes in
-    ap (behind first) (more m wakes outcomes) ∙ sym (then-behind (run_until last choice back) first part part.rest)
+    ap (behind first.lines first.notes) (more m wakes outcomes) ∙ sym (then-behind (run_until last choice back) first.lines first.notes part part.rest)
 
 pub run_until-append : (last : RunState → List Woken → List Outcome → RunResult) (choice : Option ℕ → Choice) (es back : List Event) (m : RunState) (wakes : List Woken) (outcomes : List Outcome)
     → run_until last choice (es ++ back) m wakes outcomes ≡ then_run (run_until last choice back) (part_of choice es m wakes outcomes) (part_of choice es m wakes outcomes).rest
@@ -56,14 +47,14 @@ run_until-append last choice (e ∷ es) back m wakes outcomes =
 then-same : (go other : Going) (first : RunResult) (rest : Option Left) → ((m : RunState) (wakes : List Woken) (outcomes : List Outcome) → go m wakes outcomes ≡ other m wakes outcomes)
     → then_run go first rest ≡ then_run other first rest
 then-same go other first None f = refl
-then-same go other first (Some (m, wakes, outcomes)) f = ap (behind first) (f m wakes outcomes)
+then-same go other first (Some (m, wakes, outcomes)) f = ap (behind first.lines first.notes) (f m wakes outcomes)
 
 -- a run is its events, and the closing lines behind them
-pub run_from-until : (choice : Option ℕ → Choice) (es : List Event) (m : RunState) (wakes : List Woken) (outcomes : List Outcome) → run_from choice es m wakes outcomes ≡ run_until closed choice es m wakes outcomes
+pub run_from-until : (choice : Option ℕ → Choice) (es : List Event) (m : RunState) (wakes : List Woken) (outcomes : List Outcome) → run_from choice es m wakes outcomes ≡ run_until ended choice es m wakes outcomes
 run_from-until choice [] m wakes outcomes = refl
 run_from-until choice (e ∷ es) m wakes outcomes =
     let first : RunResult = play (event_step_of choice e m) wakes outcomes in
-    then-same (run_from choice es) (run_until closed choice es) first first.rest (run_from-until choice es)
+    then-same (run_from choice es) (run_until ended choice es) first first.rest (run_from-until choice es)
 
 -- ---- more wakes and outcomes than an event takes are left over
 
@@ -75,13 +66,12 @@ play-more (run.done n) wakes outcomes m ws os w o e =
     let q : here ≡ there = cc in
     let P : RunState × List Woken × List Outcome → Type 0 = λ t. reached t.0 (t.1 ++ w) (t.2 ++ o) ≡ with_rest (reached t.0 t.1 t.2) (Some (m, ws ++ w, os ++ o)) in
     subst P (sym q) refl
-play-more (run.say l act) wakes outcomes m ws os w o e = ap (λ (r : RunResult). record r { lines = l ∷ r.lines }) (play-more act wakes outcomes m ws os w o e)
+play-more (run.say l act) wakes outcomes m ws os w o e = ap (behind (l ∷ []) []) (play-more act wakes outcomes m ws os w o e)
 play-more (run.ask disk next) wakes [] m ws os w o e = absurd cc
-play-more (run.ask disk next) wakes (x ∷ outcomes) m ws os w o e = play-more (next x) wakes outcomes m ws os w o e
+play-more (run.ask disk next) wakes (x ∷ outcomes) m ws os w o e = ap (behind [] (Ended x ∷ [])) (play-more (next x) wakes outcomes m ws os w o e)
 play-more (run.wake disk next) [] outcomes m ws os w o e = absurd cc
-play-more (run.wake disk next) (x ∷ wakes) outcomes m ws os w o e = ap (λ (r : RunResult). record r { expects = disk ∷ r.expects }) (play-more (next x) wakes outcomes m ws os w o e)
-play-more (run.holds tree act) wakes outcomes m ws os w o e = ap (λ (r : RunResult). record r { trees = tree ∷ r.trees }) (play-more act wakes outcomes m ws os w o e)
-play-more (run.saves clone act) wakes outcomes m ws os w o e = ap (λ (r : RunResult). record r { clones = clone ∷ r.clones }) (play-more act wakes outcomes m ws os w o e)
+play-more (run.wake disk next) (x ∷ wakes) outcomes m ws os w o e = ap (behind [] (Woke disk ∷ [])) (play-more (next x) wakes outcomes m ws os w o e)
+play-more (run.mark note act) wakes outcomes m ws os w o e = ap (behind [] (note ∷ [])) (play-more act wakes outcomes m ws os w o e)
 
 -- the same of events in order
 More : (Option ℕ → Choice) → List Event → Type 0
@@ -97,7 +87,7 @@ more_by choice es more act wakes outcomes m ws os w o None is e = let z : Some (
 more_by choice es more act wakes outcomes m ws os w o (Some (n, us, vs)) is e =
     let first : RunResult = play act wakes outcomes in
     let longer : play act (wakes ++ w) (outcomes ++ o) ≡ with_rest first (Some (n, us ++ w, vs ++ o)) = play-more act wakes outcomes n us vs w o is in
-    ap (λ (r : RunResult). then_run (part_of choice es) r r.rest) longer ∙ ap (behind first) (more n us vs m ws os w o e)
+    ap (λ (r : RunResult). then_run (part_of choice es) r r.rest) longer ∙ ap (behind first.lines first.notes) (more n us vs m ws os w o e)
 
 pub part_of-more : (choice : Option ℕ → Choice) (es : List Event) (n : RunState) (wakes : List Woken) (outcomes : List Outcome) (m : RunState) (ws : List Woken) (os : List Outcome) (w : List Woken) (o : List Outcome)
     → (part_of choice es n wakes outcomes).rest ≡ Some (m, ws, os) → part_of choice es n (wakes ++ w) (outcomes ++ o) ≡ with_rest (part_of choice es n wakes outcomes) (Some (m, ws ++ w, os ++ o))
@@ -109,7 +99,7 @@ part_of-more choice (x ∷ es) n wakes outcomes m ws os w o e =
 -- ---- what a loop over the events needs
 
 -- where an event went on, the disk is that of the state
-play-disk : (act : Act) (wakes : List Woken) (outcomes : List Outcome) (m : RunState) (ws : List Woken) (os : List Outcome) → (play act wakes outcomes).rest ≡ Some (m, ws, os) → (play act wakes outcomes).disk ≡ m.disk
+pub play-disk : (act : Act) (wakes : List Woken) (outcomes : List Outcome) (m : RunState) (ws : List Woken) (os : List Outcome) → (play act wakes outcomes).rest ≡ Some (m, ws, os) → (play act wakes outcomes).disk ≡ m.disk
 play-disk (run.done n) wakes outcomes m ws os e =
     let here : RunState × List Woken × List Outcome = (n, wakes, outcomes) in
     let there : RunState × List Woken × List Outcome = (m, ws, os) in
@@ -119,8 +109,7 @@ play-disk (run.ask disk next) wakes [] m ws os e = absurd cc
 play-disk (run.ask disk next) wakes (x ∷ outcomes) m ws os e = play-disk (next x) wakes outcomes m ws os e
 play-disk (run.wake disk next) [] outcomes m ws os e = absurd cc
 play-disk (run.wake disk next) (x ∷ wakes) outcomes m ws os e = play-disk (next x) wakes outcomes m ws os e
-play-disk (run.holds tree act) wakes outcomes m ws os e = play-disk act wakes outcomes m ws os e
-play-disk (run.saves clone act) wakes outcomes m ws os e = play-disk act wakes outcomes m ws os e
+play-disk (run.mark note act) wakes outcomes m ws os e = play-disk act wakes outcomes m ws os e
 
 one_event : (act : Act) (wakes : List Woken) (outcomes : List Outcome) (rest : Option Left) → (play act wakes outcomes).rest ≡ rest → then_run reached (play act wakes outcomes) rest ≡ play act wakes outcomes
 one_event act wakes outcomes None e = refl
@@ -128,9 +117,7 @@ one_event act wakes outcomes (Some (m, ws, os)) e =
     let r : RunResult = play act wakes outcomes in
     λ i. record {
       lines = append-nil r.lines i;
-      expects = append-nil r.expects i;
-      trees = append-nil r.trees i;
-      clones = append-nil r.clones i;
+      notes = append-nil r.notes i;
       disk = sym (play-disk act wakes outcomes m ws os e) i;
       rest = sym e i;
     }
@@ -138,31 +125,31 @@ one_event act wakes outcomes (Some (m, ws, os)) e =
 -- one more event: what it made of its own wakes and outcomes stands behind
 pub part_of-push : (choice : Option ℕ → Choice) (es : List Event) (e : Event) (first : RunState) (wakes : List Woken) (outcomes : List Outcome) (m : RunState) (w : List Woken) (o : List Outcome)
     → (part_of choice es first wakes outcomes).rest ≡ Some (m, [], [])
-    → part_of choice (es ++ e ∷ []) first (wakes ++ w) (outcomes ++ o) ≡ behind (part_of choice es first wakes outcomes) (play (event_step_of choice e m) w o)
+    → part_of choice (es ++ e ∷ []) first (wakes ++ w) (outcomes ++ o) ≡ behind (part_of choice es first wakes outcomes).lines (part_of choice es first wakes outcomes).notes (play (event_step_of choice e m) w o)
 part_of-push choice es e first wakes outcomes m w o is =
     run_until-append reached choice es (e ∷ []) first (wakes ++ w) (outcomes ++ o)
     ∙ ap (λ (r : RunResult). then_run (run_until reached choice (e ∷ [])) r r.rest) (part_of-more choice es first wakes outcomes m [] [] w o is)
-    ∙ ap (behind (part_of choice es first wakes outcomes)) (one_event (event_step_of choice e m) w o (play (event_step_of choice e m) w o).rest refl)
+    ∙ ap (behind (part_of choice es first wakes outcomes).lines (part_of choice es first wakes outcomes).notes) (one_event (event_step_of choice e m) w o (play (event_step_of choice e m) w o).rest refl)
 
 -- the end of the script: the closing lines stand behind
 pub run_from-end : (choice : Option ℕ → Choice) (es : List Event) (first : RunState) (wakes : List Woken) (outcomes : List Outcome) (m : RunState) → (part_of choice es first wakes outcomes).rest ≡ Some (m, [], [])
-    → run_from choice es first wakes outcomes ≡ behind (part_of choice es first wakes outcomes) (closed m [] [])
+    → run_from choice es first wakes outcomes ≡ behind (part_of choice es first wakes outcomes).lines (part_of choice es first wakes outcomes).notes (ended m [] [])
 run_from-end choice es first wakes outcomes m is =
     run_from-until choice es first wakes outcomes
-    ∙ ap (λ (l : List Event). run_until closed choice l first wakes outcomes) (sym (append-nil es))
-    ∙ run_until-append closed choice es [] first wakes outcomes
-    ∙ ap (then_run closed (part_of choice es first wakes outcomes)) is
+    ∙ ap (λ (l : List Event). run_until ended choice l first wakes outcomes) (sym (append-nil es))
+    ∙ run_until-append ended choice es [] first wakes outcomes
+    ∙ ap (then_run ended (part_of choice es first wakes outcomes)) is
 
 -- a run that is given up in an event, with these wakes and outcomes of the event: the run begins with what the events
 -- before it said, and with what the event says
 pub run_from-within : (choice : Option ℕ → Choice) (es : List Event) (e : Event) (more : List Event) (first : RunState) (wakes : List Woken) (outcomes : List Outcome) (m : RunState) (w : List Woken) (o : List Outcome)
     → (part_of choice es first wakes outcomes).rest ≡ Some (m, [], [])
     → run_from choice (es ++ e ∷ more) first (wakes ++ w) (outcomes ++ o)
-    ≡ behind (part_of choice es first wakes outcomes) (then_run (run_until closed choice more) (play (event_step_of choice e m) w o) (play (event_step_of choice e m) w o).rest)
+    ≡ behind (part_of choice es first wakes outcomes).lines (part_of choice es first wakes outcomes).notes (then_run (run_until ended choice more) (play (event_step_of choice e m) w o) (play (event_step_of choice e m) w o).rest)
 run_from-within choice es e more first wakes outcomes m w o is =
     run_from-until choice (es ++ e ∷ more) first (wakes ++ w) (outcomes ++ o)
-    ∙ run_until-append closed choice es (e ∷ more) first (wakes ++ w) (outcomes ++ o)
-    ∙ ap (λ (r : RunResult). then_run (run_until closed choice (e ∷ more)) r r.rest) (part_of-more choice es first wakes outcomes m [] [] w o is)
+    ∙ run_until-append ended choice es (e ∷ more) first (wakes ++ w) (outcomes ++ o)
+    ∙ ap (λ (r : RunResult). then_run (run_until ended choice (e ∷ more)) r r.rest) (part_of-more choice es first wakes outcomes m [] [] w o is)
 
 pub then_run-front : (go : RunState → List Woken → List Outcome → RunResult) (first : RunResult) (rest : Option (RunState × List Woken × List Outcome)) → (tail : List Line) × ((then_run go first rest).lines ≡ first.lines ++ tail)
 then_run-front go first None = ([], sym (append-nil first.lines))

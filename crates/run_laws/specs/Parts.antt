@@ -1,7 +1,7 @@
 -- What came of the first events of a script? (this project's own)
 use Rattle.std.specs.Prelude.{ℕ, List, [], ◌∷◌, Option}
 use Rattle.start_model.specs.Events.{Event}
-use Rattle.start_model.specs.Run.{RunState, Woken, Outcome, Choice, RunResult, play, then_run, reached, event_step_of}
+use Rattle.start_model.specs.Run.{RunState, Woken, Outcome, Choice, RunResult, play, then_run, reached, closing_act, event_step_of}
 
 -- the events in order, and then what `last` makes of it
 abbrev pub run_until : (RunState → List Woken → List Outcome → RunResult) → (Option ℕ → Choice) → List Event → RunState → List Woken → List Outcome → RunResult
@@ -12,3 +12,7 @@ run_until last choice (e ∷ es) m wakes outcomes =
 -- the events alone: the script goes on behind them
 abbrev pub part_of : (Option ℕ → Choice) → List Event → RunState → List Woken → List Outcome → RunResult
 part_of choice es m wakes outcomes = run_until reached choice es m wakes outcomes
+
+-- the end of the script, in this state
+abbrev pub ended : RunState → List Woken → List Outcome → RunResult
+ended m wakes outcomes = play (closing_act m) wakes outcomes
