@@ -3,7 +3,7 @@
 -- By the place of the group in ServiceGroupOrder, then by the place of the tag in GroupOrderList, then
 -- as they stand in the registry (Windows Internals, 4th edition, startup; Microsoft's documentation of
 -- service entries). That the services of the automatic phase stand by group and not by tag is from there too.
-use Rattle.std.specs.Prelude.{ℕ, ◌+◌, ◌-◌, ◌*◌, ◌/◌, min, nat_lt, nat_eq, Bool, true, false, ◌==◌, codes, List, [], ◌∷◌, map, length, slice_get, slice_range, position, unwrap_or, Option, if◌then◌else◌}
+use Rattle.std.specs.Prelude.{ℕ, ◌+◌, ◌-◌, ◌*◌, ◌/◌, min, nat_lt, nat_eq, Bool, true, false, ◌==◌, codes, List, [], ◌∷◌, map, filter, not, length, slice_get, slice_range, position, unwrap_or, Option, if◌then◌else◌}
 use Rattle.std.specs.declared.cmp.Ordering.{Ordering}
 use Rattle.std.specs.Ordering.{nat_cmp, ordering_then, is_lt}
 use Rattle.std.specs.Option.{option_map, option_map_or}
@@ -47,9 +47,14 @@ listed_groups set = option_map_or (find_strings (codes "List")) (find_key (codes
 abbrev pub tag_lists : Tree → Option Tree
 tag_lists set = find_key (codes "Control" ∷ codes "GroupOrderList" ∷ []) set
 
--- the listed groups of a set with their tags; a group that is listed again has a place there too
+-- the names without those that fold as one before them: a group that is listed again counts where it stands first (this project's own)
+abbrev pub first_names : List (List ℕ) → List (List ℕ)
+first_names [] = []
+first_names (n ∷ ns) = n ∷ filter (λ m. not (folds_same n m)) (first_names ns)
+
+-- the listed groups of a set with their tags, each where it stands first
 abbrev pub orders_of : Tree → List GroupOrder
-orders_of set = map (order_of (tag_lists set)) (listed_groups set)
+orders_of set = map (order_of (tag_lists set)) (first_names (listed_groups set))
 
 -- ---- the rank of an entry
 
