@@ -77,38 +77,38 @@ Keeps law h (run.ask disk next) = law.Asks h disk × ((o : Outcome) → Keeps la
 Keeps law h (run.wake disk next) = law.Wakes h disk × ((w : Woken) → Keeps law (push h (Woke disk)) (next w))
 Keeps law h (run.mark note act) = IsMark note × Keeps law (push h note) act
 
-abbrev Next : Law → (RunState → Act) → Type 0
+abbrev pub Next : Law → (RunState → Act) → Type 0
 Next law next = (h : List Note) (x : RunState) → law.Up h x → Keeps law h (next x)
 
 either : (law : Law) (h : List Note) (b : Bool) (x y : Act) → Keeps law h x → Keeps law h y → Keeps law h (cond b x y)
 either law h true x y f g = f
 either law h false x y f g = g
 
-say_all-keeps : (law : Law) (h : List Note) (ls : List Line) (act : Act) → Keeps law h act → Keeps law h (say_all ls act)
+pub say_all-keeps : (law : Law) (h : List Note) (ls : List Line) (act : Act) → Keeps law h act → Keeps law h (say_all ls act)
 say_all-keeps law h [] act k = k
 say_all-keeps law h (l ∷ ls) act k = say_all-keeps law h ls act k
 
 -- a start runs, or none: the fact of the one is that of the other
-up_rests : (law : Law) (h : List Note) (m : RunState) (o : Option Start) → law.Up h m → AtRest law h m o
+pub up_rests : (law : Law) (h : List Note) (m : RunState) (o : Option Start) → law.Up h m → AtRest law h m o
 up_rests law h m None u = law.over h m u
 up_rests law h m (Some s) u = u
 
-done-keeps : (law : Law) → Next law run.done
+pub done-keeps : (law : Law) → Next law run.done
 done-keeps law h m u = up_rests law h m m.machine.start u
 
 -- no start runs
-stays : (law : Law) (h : List Note) (m : RunState) → m.machine.start ≡ None → law.Down h m → AtRest law h m m.machine.start
+pub stays : (law : Law) (h : List Note) (m : RunState) → m.machine.start ≡ None → law.Down h m → AtRest law h m m.machine.start
 stays law h m off d = let P : Option Start → Type 0 = AtRest law h m in subst P (sym off) d
 
 -- ---- the end of a start, and a commit
 
-over-keeps : (law : Law) (h : List Note) (verdict : Verdict) (falls_back : Bool) (m : RunState) → law.Down h m → Keeps law h (end_with verdict falls_back m)
+pub over-keeps : (law : Law) (h : List Note) (verdict : Verdict) (falls_back : Bool) (m : RunState) → law.Down h m → Keeps law h (end_with verdict falls_back m)
 over-keeps law h verdict falls_back m d = law.down h m (start_over falls_back m).machine false m.starts d
 
-ends-keeps : (law : Law) (verdict : Verdict) (falls_back : Bool) → Next law (end_with verdict falls_back)
+pub ends-keeps : (law : Law) (verdict : Verdict) (falls_back : Bool) → Next law (end_with verdict falls_back)
 ends-keeps law verdict falls_back h m u = over-keeps law h verdict falls_back m (law.over h m u)
 
-commit-keeps : (law : Law) (what : CommitWord) (h : List Note) (m : RunState) (tree : Tree) (next : RunState → Act) → law.Up h m → Next law next → Keeps law h (commit what tree m next)
+pub commit-keeps : (law : Law) (what : CommitWord) (h : List Note) (m : RunState) (tree : Tree) (next : RunState → Act) → law.Up h m → Next law next → Keeps law h (commit what tree m next)
 commit-keeps law what h m tree next u f = (law.committing h m tree u, λ o. by_case o)
   where
     by_case : (o : Outcome) → Keeps law (push h (Ended o)) (committed what tree m next o)
@@ -118,85 +118,84 @@ commit-keeps law what h m tree next u f = (law.committing h m tree u, λ o. by_c
 
 -- ---- the save
 
-machine_up : (law : Law) (h : List Note) (m : RunState) (machine : MachineState) → law.Up h m → law.Up h (with_machine machine m)
+pub machine_up : (law : Law) (h : List Note) (m : RunState) (machine : MachineState) → law.Up h m → law.Up h (with_machine machine m)
 machine_up law h m machine u = law.up h m machine m.live m.changed u
 
-noted-keeps : (law : Law) (ok : Bool) (s : Start) (h : List Note) (m : RunState) (next : RunState → Act) → law.Up h m → Next law next → Keeps law h (next (noted_saved ok s m))
+pub noted-keeps : (law : Law) (ok : Bool) (s : Start) (h : List Note) (m : RunState) (next : RunState → Act) → law.Up h m → Next law next → Keeps law h (next (noted_saved ok s m))
 noted-keeps law ok s h m next u f = f h (noted_saved ok s m) (machine_up law h m (noted_saved ok s m).machine u)
 
-saved_by-keeps : (law : Law) (s : Start) (clone : Tree) (h : List Note) (m : RunState) (next : RunState → Act) (r : Result SetChange ChangeStop) → law.Up h m → Next law next → Keeps law h (saved_by s clone m next r)
+pub saved_by-keeps : (law : Law) (s : Start) (clone : Tree) (h : List Note) (m : RunState) (next : RunState → Act) (r : Result SetChange ChangeStop) → law.Up h m → Next law next → Keeps law h (saved_by s clone m next r)
 saved_by-keeps law s clone h m next (Ok change) u f =
     let behind : RunState → Act = λ after. run.say (run.select_line change.numbers) (next (noted_saved true s after)) in
     (tt, commit-keeps law lines.SaveCommit (push h (Saved clone)) m change.tree behind (law.saved h m clone u) (λ h x v. noted-keeps law true s h x next v f))
 saved_by-keeps law s clone h m next (Err (NoPlan stop)) u f = noted-keeps law false s h m next u f
 saved_by-keeps law s clone h m next (Err sets.Full) u f = noted-keeps law false s h m next u f
 
-save-keeps : (law : Law) (s : Start) (clone : Option Tree) (h : List Note) (m : RunState) (next : RunState → Act) → law.Up h m → Next law next → Keeps law h (save s clone m next)
+pub save-keeps : (law : Law) (s : Start) (clone : Option Tree) (h : List Note) (m : RunState) (next : RunState → Act) → law.Up h m → Next law next → Keeps law h (save s clone m next)
 save-keeps law s None h m next u f = f h m u
 save-keeps law s (Some clone) h m next u f = saved_by-keeps law s clone h m next (save_of m.version m.live clone) u f
 
-due-keeps : (law : Law) (o : Option Start) (h : List Note) (m : RunState) (next : RunState → Act) → law.Up h m → Next law next → Keeps law h (save_where_due o m next)
+pub due-keeps : (law : Law) (o : Option Start) (h : List Note) (m : RunState) (next : RunState → Act) → law.Up h m → Next law next → Keeps law h (save_where_due o m next)
 due-keeps law None h m next u f = f h m u
 due-keeps law (Some s) h m next u f = either law h (save_due s) (save s s.clone m next) (next m) (save-keeps law s s.clone h m next u f) (f h m u)
 
 -- ---- the starter
 
-judged-keeps : (law : Law) (j : Judgement) (h : List Note) (m : RunState) (next : RunState → Act) → law.Up h m → Next law next → Keeps law h (judged j m next)
+pub judged-keeps : (law : Law) (j : Judgement) (h : List Note) (m : RunState) (next : RunState → Act) → law.Up h m → Next law next → Keeps law h (judged j m next)
 judged-keeps law Ignore h m next u f = f h m u
 judged-keeps law Log h m next u f = f h m u
 judged-keeps law FallBack h m next u f = ends-keeps law lines.FallBack true h m u
 judged-keeps law Stop h m next u f = ends-keeps law lines.Stopped false h m u
 
-phase_step-keeps : (law : Law) (s : Start) (h : List Note) (m : RunState) (next : RunState → Act) → law.Up h m → Next law next → Keeps law h (phase_step s m next)
+pub phase_step-keeps : (law : Law) (s : Start) (h : List Note) (m : RunState) (next : RunState → Act) → law.Up h m → Next law next → Keeps law h (phase_step s m next)
 phase_step-keeps law s h m next u f =
     let after : Start = after_phase (live_set m s.number) s in
     let there : RunState = with_machine (with_start after m.machine) m in
     say_all-keeps law h (map UnmetLine (unmet_in s)) (run.say (phase_line after.phase) (save_where_due (Some after) there next))
     (due-keeps law (Some after) h there next (machine_up law h m (with_start after m.machine) u) f)
 
-starter_step-keeps : (law : Law) (s : Start) (h : List Note) (m : RunState) (next : RunState → Act) (o : Option (MachineState × Tried)) → law.Up h m → Next law next → Keeps law h (starter_step s m next o)
+pub starter_step-keeps : (law : Law) (s : Start) (h : List Note) (m : RunState) (next : RunState → Act) (o : Option (MachineState × Tried)) → law.Up h m → Next law next → Keeps law h (starter_step s m next o)
 starter_step-keeps law s h m next None u f = phase_step-keeps law s h m next u f
 starter_step-keeps law s h m next (Some one) u f = judged-keeps law one.1.judgement h (with_machine one.0 m) next (machine_up law h m one.0 u) f
 
-Rests : Law → (RunState → Act) → Type 0
+abbrev pub Rests : Law → (RunState → Act) → Type 0
 Rests law next = (h : List Note) (x : RunState) → AtRest law h x x.machine.start → Keeps law h (next x)
 
-stepping-keeps : (law : Law) (o : Option Start) (h : List Note) (m : RunState) (next : RunState → Act) → m.machine.start ≡ o → AtRest law h m o → Next law next → Keeps law h (stepping o m next)
+pub stepping-keeps : (law : Law) (o : Option Start) (h : List Note) (m : RunState) (next : RunState → Act) → m.machine.start ≡ o → AtRest law h m o → Next law next → Keeps law h (stepping o m next)
 stepping-keeps law None h m next is r f = stays law h m is r
 stepping-keeps law (Some s) h m next is u f =
     let attempt : Option (MachineState × Tried) = attempt_of m.machine (good_is_usable m.live) in
     either law h (is_done s.phase) (run.done m) (starter_step s m next attempt) (done-keeps law h m u) (starter_step-keeps law s h m next attempt u f)
 
-go_steps-keeps : (law : Law) (n : ℕ) → Rests law (go_steps n)
-unfolding go_steps Rests
+pub go_steps-keeps : (law : Law) (n : ℕ) → Rests law (go_steps n)
+unfolding go_steps
 go_steps-keeps law zero h m r = r
 go_steps-keeps law (suc n) h m r = stepping-keeps law m.machine.start h m (go_steps n) refl r (λ h x u. go_steps-keeps law n h x (up_rests law h x x.machine.start u))
 
-go_act-keeps : (law : Law) (steps : Option ℕ) (h : List Note) (m : RunState) → AtRest law h m m.machine.start → Keeps law h (go_act steps m)
-unfolding Rests
+pub go_act-keeps : (law : Law) (steps : Option ℕ) (h : List Note) (m : RunState) → AtRest law h m m.machine.start → Keeps law h (go_act steps m)
 go_act-keeps law None h m r = go_steps-keeps law (enough_steps m.machine.start m) h m r
 go_act-keeps law (Some n) h m r = go_steps-keeps law n h m r
 
 -- ---- the boot event
 
-begin_start-keeps : (law : Law) (number : ℕ) (on_good : Bool) (numbers : SelectNumbers) → Next law (begin_start number on_good numbers)
+pub begin_start-keeps : (law : Law) (number : ℕ) (on_good : Bool) (numbers : SelectNumbers) → Next law (begin_start number on_good numbers)
 begin_start-keeps law number on_good numbers h m u = machine_up law h m (run.begun_state number on_good m).machine u
 
-begin_with-keeps : (law : Law) (on_good : Bool) (change : SetChange) (h : List Note) (m : RunState) → law.Up h m → Keeps law h (begin_with on_good change m)
+pub begin_with-keeps : (law : Law) (on_good : Bool) (change : SetChange) (h : List Note) (m : RunState) → law.Up h m → Keeps law h (begin_with on_good change m)
 begin_with-keeps law on_good change h m u =
     let start : RunState → Act = begin_start change.chosen on_good change.numbers in
     either law h change.has_steps (commit lines.BeginCommit change.tree m start) (start m)
     (commit-keeps law lines.BeginCommit h m change.tree start u (begin_start-keeps law change.chosen on_good change.numbers))
     (begin_start-keeps law change.chosen on_good change.numbers h m u)
 
-begin_by-keeps : (law : Law) (on_good : Bool) (h : List Note) (m : RunState) (r : Result SetChange ChangeStop) → law.Up h m → Keeps law h (begin_by on_good m r)
+pub begin_by-keeps : (law : Law) (on_good : Bool) (h : List Note) (m : RunState) (r : Result SetChange ChangeStop) → law.Up h m → Keeps law h (begin_by on_good m r)
 begin_by-keeps law on_good h m (Ok change) u = begin_with-keeps law on_good change h m u
 begin_by-keeps law on_good h m (Err (NoPlan sets.NoControlSet)) u = ends-keeps law lines.NoControlSet false h m u
 begin_by-keeps law on_good h m (Err (NoPlan sets.NoLastKnownGood)) u = ends-keeps law lines.NoLastKnownGood false h m u
 begin_by-keeps law on_good h m (Err (NoPlan sets.NoFreeNumber)) u = ends-keeps law lines.NoNumber false h m u
 begin_by-keeps law on_good h m (Err sets.Full) u = ends-keeps law lines.Full false h m u
 
-woken-keeps : (law : Law) (on_good : Bool) (h : List Note) (m : RunState) (w : Woken) → law.Down h m → Keeps law (push h (Woke m.disk)) (woken on_good m w)
+pub woken-keeps : (law : Law) (on_good : Bool) (h : List Note) (m : RunState) (w : Woken) → law.Down h m → Keeps law (push h (Woke m.disk)) (woken on_good m w)
 woken-keeps law on_good h m w d = (tt, (law.loading h m w d, λ o. by_case o))
   where
     by_case : (o : Outcome) → Keeps law (push (with_wake h m.disk w) (Ended o)) (loaded on_good m w o)
@@ -205,37 +204,37 @@ woken-keeps law on_good h m w d = (tt, (law.loading h m w d, λ o. by_case o))
     by_case PowerCut = over-keeps law (push (with_wake h m.disk w) (Ended PowerCut)) lines.Cut false (woken_state m w) (law.stops h m w PowerCut tt d)
     by_case DeviceFault = over-keeps law (push (with_wake h m.disk w) (Ended DeviceFault)) lines.Device false (woken_state m w) (law.stops h m w DeviceFault tt d)
 
-chosen-keeps : (law : Law) (on_good : Bool) (h : List Note) (m : RunState) (choice : Choice) → law.Down h m → Keeps law h (chosen on_good m choice)
+pub chosen-keeps : (law : Law) (on_good : Bool) (h : List Note) (m : RunState) (choice : Choice) → law.Down h m → Keeps law h (chosen on_good m choice)
 chosen-keeps law on_good h m (run.EntryTaken number path entry_on_good) d = (law.waking h m d, λ w. woken-keeps law (on_good || entry_on_good) h m w d)
 chosen-keeps law on_good h m run.NoEntry d = over-keeps law h lines.NoEntry false m d
 chosen-keeps law on_good h m (run.OtherLoader number path) d = over-keeps law h lines.OtherLoader false m d
 chosen-keeps law on_good h m (run.NoSystem number path) d = over-keeps law h lines.NoSystem false m d
 
-boot_act-keeps : (law : Law) (choice : Option ℕ → Choice) (entry : Option ℕ) (good : Bool) (h : List Note) (m : RunState) → law.Down h m → Keeps law h (boot_act choice entry good m)
+pub boot_act-keeps : (law : Law) (choice : Option ℕ → Choice) (entry : Option ℕ) (good : Bool) (h : List Note) (m : RunState) → law.Down h m → Keeps law h (boot_act choice entry good m)
 boot_act-keeps law choice entry good h m d =
     chosen-keeps law (m.machine.fallback_due || good) h (accepted_state m) (choice entry) (law.down h m (accepted_state m).machine m.changed (m.starts + 1) d)
 
 -- ---- the other events
 
-edit_done-keeps : (law : Law) (e : Event) (h : List Note) (m : RunState) (r : Result Tree Refusal) → law.Up h m → Keeps law h (edit_done e m r)
+pub edit_done-keeps : (law : Law) (e : Event) (h : List Note) (m : RunState) (r : Result Tree Refusal) → law.Up h m → Keeps law h (edit_done e m r)
 edit_done-keeps law e h m (Ok tree) u = done-keeps law h _ (law.up h m m.machine tree _ u)
 edit_done-keeps law e h m (Err refusal) u = done-keeps law h m u
 
-flush_act-keeps : (law : Law) (h : List Note) (m : RunState) → law.Up h m → Keeps law h (flush_act m)
+pub flush_act-keeps : (law : Law) (h : List Note) (m : RunState) → law.Up h m → Keeps law h (flush_act m)
 flush_act-keeps law h m u =
     either law h m.changed (commit lines.FlushCommit m.live m run.done) (run.say lines.FlushNothingLine (run.done m)) (commit-keeps law lines.FlushCommit h m m.live run.done u (done-keeps law)) (done-keeps law h m u)
 
-off_act-keeps : (law : Law) (s : Start) (h : List Note) (m : RunState) → law.Up h m → Keeps law h (off_act s m)
+pub off_act-keeps : (law : Law) (s : Start) (h : List Note) (m : RunState) → law.Up h m → Keeps law h (off_act s m)
 off_act-keeps law s h m u =
     either law h m.changed (commit lines.OffCommit m.live m (end_with (ending_of s) false)) (end_with (ending_of s) false m)
     (commit-keeps law lines.OffCommit h m m.live (end_with (ending_of s) false) u (ends-keeps law (ending_of s) false)) (ends-keeps law (ending_of s) false h m u)
 
-logon_act-keeps : (law : Law) (s : Start) (h : List Note) (m : RunState) → law.Up h m → Keeps law h (logon_act s m)
+pub logon_act-keeps : (law : Law) (s : Start) (h : List Note) (m : RunState) → law.Up h m → Keeps law h (logon_act s m)
 logon_act-keeps law s h m u =
     let after : Start = record s { logged_on = true } in
     due-keeps law (Some after) h (with_machine (with_start after m.machine) m) run.done (machine_up law h m (with_start after m.machine) u) (done-keeps law)
 
-running_act-keeps : (law : Law) (s : Start) (e : Event) (h : List Note) (m : RunState) → law.Up h m → Keeps law h (running_act s e m)
+pub running_act-keeps : (law : Law) (s : Start) (e : Event) (h : List Note) (m : RunState) → law.Up h m → Keeps law h (running_act s e m)
 running_act-keeps law s (events.BootNow entry good) h m u = done-keeps law h m u
 running_act-keeps law s (events.Go steps) h m u = go_act-keeps law steps h m (done-keeps law h m u)
 running_act-keeps law s (events.Fail name count) h m u = done-keeps law h _ (machine_up law h m _ u)
@@ -246,7 +245,7 @@ running_act-keeps law s events.Off h m u = off_act-keeps law s h m u
 running_act-keeps law s (events.CutNow keep) h m u = (tt, (law.cutting h m u, λ o. over-keeps law (push (push h Cuts) (Ended o)) lines.Cut false m (law.cut h m o u)))
 running_act-keeps law s (events.Arm arming) h m u = (tt, done-keeps law (push h (Ordered arming)) m (law.ordered_up h m arming u))
 
-idle_act-keeps : (law : Law) (choice : Option ℕ → Choice) (e : Event) (h : List Note) (m : RunState) → m.machine.start ≡ None → law.Down h m → Keeps law h (idle_act choice e m)
+pub idle_act-keeps : (law : Law) (choice : Option ℕ → Choice) (e : Event) (h : List Note) (m : RunState) → m.machine.start ≡ None → law.Down h m → Keeps law h (idle_act choice e m)
 idle_act-keeps law choice (events.BootNow entry good) h m off d = boot_act-keeps law choice entry good h m d
 idle_act-keeps law choice (events.Go steps) h m off d = stays law h m off d
 idle_act-keeps law choice (events.Fail name count) h m off d = stays law h _ off (law.down h m _ m.changed m.starts d)
@@ -257,11 +256,11 @@ idle_act-keeps law choice events.Off h m off d = stays law h m off d
 idle_act-keeps law choice (events.CutNow keep) h m off d = stays law h m off d
 idle_act-keeps law choice (events.Arm arming) h m off d = (tt, stays law (push h (Ordered arming)) m off (law.ordered_down h m arming d))
 
-accepted_act-keeps : (law : Law) (choice : Option ℕ → Choice) (o : Option Start) (e : Event) (h : List Note) (m : RunState) → m.machine.start ≡ o → AtRest law h m o → Keeps law h (accepted_act choice o e m)
+pub accepted_act-keeps : (law : Law) (choice : Option ℕ → Choice) (o : Option Start) (e : Event) (h : List Note) (m : RunState) → m.machine.start ≡ o → AtRest law h m o → Keeps law h (accepted_act choice o e m)
 accepted_act-keeps law choice None e h m is r = idle_act-keeps law choice e h m is r
 accepted_act-keeps law choice (Some s) e h m is r = running_act-keeps law s e h m r
 
-act_unless-keeps : (law : Law) (choice : Option ℕ → Choice) (e : Event) (h : List Note) (m : RunState) (o : Option RefusedWord) → AtRest law h m m.machine.start → Keeps law h (act_unless choice e m o)
+pub act_unless-keeps : (law : Law) (choice : Option ℕ → Choice) (e : Event) (h : List Note) (m : RunState) (o : Option RefusedWord) → AtRest law h m m.machine.start → Keeps law h (act_unless choice e m o)
 act_unless-keeps law choice e h m (Some reason) r = r
 act_unless-keeps law choice e h m None r = accepted_act-keeps law choice m.machine.start e h m refl r
 

@@ -3,3 +3,6 @@ pub mod GoLemmas
 pub mod QuietLemmas
 pub mod PartLemmas
 pub mod KeptLemmas
+pub mod AlongLemmas
+pub mod StillLemmas
+pub mod ToldLemmas

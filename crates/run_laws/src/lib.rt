@@ -7,7 +7,11 @@
 mod going;
 mod parts;
 mod quiet;
+mod still;
+mod told;
 
 pub use going::more_steps_change_nothing;
 pub use parts::a_run_goes_on_event_by_event;
 pub use quiet::without_stops_the_run_is_the_quiet_one;
+pub use still::with_nothing_more_the_disk_may_load_as_before;
+pub use told::{a_commit_line_settles_its_state, each_wake_has_every_acknowledged_change};
