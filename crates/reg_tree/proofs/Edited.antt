@@ -8,6 +8,7 @@ use Rattle.std.proofs.lemmas.Bool.{ltb-false}
 use Rattle.nt_bytes.specs.Folding.{folds_same, folded_order}
 use Rattle.hive_model.specs.Tree.{Item, Tree, key, listed, head, children, is_named, is_item, find_key}
 use Rattle.hive_model.specs.Valid.{IsItem, is_backslash, IsValid, levels}
+use Rattle.nt_bytes.specs.declared.version.HiveVersion.{HiveVersion}
 use Rattle.hive_model.specs.Size.{bulk_of}
 use Rattle.hive_model.specs.Edit.{Step, set_value, delete_value, make_key, delete_key, copy_child, add_child, Refusal, no_key, no_value, exists, name_too_long, too_deep, data_too_long, full, unless, at_first, without_first, of_items, of_children, at_key, with_item, has_item, has_child, placed, is_bad_name, name_tests, new_key, with_key, without_key, renamed, with_child, then_edit, after_step, after_steps, most_bulk, edited}
 use Rattle.reg_tree.specs.Fitting.{Fits}
@@ -277,11 +278,11 @@ not_full : (b : Bool) (v u : Tree) → cond b (Err full) (Ok v) ≡ Ok u → (b 
 not_full true v u e = absurd cc
 not_full false v u e = let same : v ≡ u = cc in (refl, same)
 
-pub edited_valid : (t u : Tree) (steps : List Step) → IsValid t → All Fits steps → edited t steps ≡ Ok u → IsValid u
+pub edited_valid : (version : HiveVersion) (t u : Tree) (steps : List Step) → IsValid t → All Fits steps → edited version t steps ≡ Ok u → IsValid u
 unfolding edited
-edited_valid t u steps v f e =
-    let all = then_so (after_steps t steps) (λ w. cond (nat_lt most_bulk (bulk_of w)) (Err full) (Ok w)) u e in
-    let held = not_full (nat_lt most_bulk (bulk_of all.0)) all.0 u all.2 in
-    let small : bulk_of all.0 ≤ 16773120 = ltb-false most_bulk (bulk_of all.0) held.0 in
+edited_valid version t u steps v f e =
+    let all = then_so (after_steps t steps) (λ w. cond (nat_lt most_bulk (bulk_of version w)) (Err full) (Ok w)) u e in
+    let held = not_full (nat_lt most_bulk (bulk_of version all.0)) all.0 u all.2 in
+    let small : bulk_of version all.0 ≤ 16773120 = ltb-false most_bulk (bulk_of version all.0) held.0 in
     let before : Sound 1 t = sound_from 1 t v.keys (omega (arith, v.levels)) in
-    subst IsValid held.1 (valid_back all.0 (steps_sound steps t all.0 (each_from Fits steps f) all.1 before) small)
+    subst IsValid held.1 (valid_back version all.0 (steps_sound steps t all.0 (each_from Fits steps f) all.1 before) small)

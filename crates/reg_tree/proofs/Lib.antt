@@ -3,6 +3,7 @@ pub mod Sums
 pub mod Places
 pub mod Outcomes
 pub mod Changes
+pub mod Segments
 pub mod Stepping
 pub mod Unlike
 pub mod Sound

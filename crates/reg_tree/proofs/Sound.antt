@@ -4,6 +4,7 @@ use Rattle.std.specs.Prelude.{max}
 use Rattle.std.specs.List.{list_any}
 use Rattle.hive_model.specs.Tree.{Item, Head, Tree, Trees, key, none, more, trees, listed, head}
 use Rattle.hive_model.specs.Valid.{IsItem, is_backslash, IsKey, HoldsKeys, AllHoldKeys, levels, most_levels, IsValid}
+use Rattle.nt_bytes.specs.declared.version.HiveVersion.{HiveVersion}
 use Rattle.hive_model.specs.Size.{cell, items_sum, items_size, size, size_of_all, bulk_of}
 use Rattle.reg_tree.proofs.Trees.{listed_trees}
 use Rattle.reg_tree.proofs.Unlike.{Each, Unlike, each_from, each_all, unlike_from, unlike_pairs}
@@ -144,30 +145,31 @@ mutual
 some_cell : (p : ℕ) → 0 < cell p
 some_cell p = omega arith
 
-many_items : (vs : List Item) → length vs ≤ items_sum vs
-many_items [] = omega arith
-many_items (v ∷ vs) = omega (arith, many_items vs)
+many_items : (version : HiveVersion) (vs : List Item) → length vs ≤ items_sum version vs
+many_items version [] = omega arith
+many_items version (v ∷ vs) = omega (arith, many_items version vs)
 
-items_within : (vs : List Item) → length vs ≤ items_size vs
-items_within [] = omega arith
-items_within (v ∷ vs) = omega (arith, many_items (v ∷ vs))
+items_within : (version : HiveVersion) (vs : List Item) → length vs ≤ items_size version vs
+items_within version [] = omega arith
+items_within version (v ∷ vs) = omega (arith, many_items version (v ∷ vs))
 
-some_size : (shared : List ℕ) (t : Tree) → 0 < size shared t
-some_size shared (key h ts) = omega arith
+some_size : (version : HiveVersion) (shared : List ℕ) (t : Tree) → 0 < size version shared t
+some_size version shared (key h ts) = omega arith
 
-many_keys : (shared : List ℕ) (ts : Trees) → length (listed ts) ≤ size_of_all shared ts
-many_keys shared none = omega arith
-many_keys shared (more t ts) = omega (arith, some_size shared t, many_keys shared ts)
+many_keys : (version : HiveVersion) (shared : List ℕ) (ts : Trees) → length (listed ts) ≤ size_of_all version shared ts
+many_keys version shared none = omega arith
+many_keys version shared (more t ts) = omega (arith, some_size version shared t, many_keys version shared ts)
 
 mutual
-  pub few_by_size : (n : ℕ) (shared : List ℕ) (t : Tree) → size shared t ≤ n → Few n t
-  few_by_size n shared (key h ts) l = (omega (arith, items_within h.values), omega (arith, many_keys h.security ts), all_few n h.security ts (omega arith))
+  pub few_by_size : (version : HiveVersion) (n : ℕ) (shared : List ℕ) (t : Tree) → size version shared t ≤ n → Few n t
+  few_by_size version n shared (key h ts) l =
+      (omega (arith, items_within version h.values), omega (arith, many_keys version h.security ts), all_few version n h.security ts (omega arith))
 
-  pub all_few : (n : ℕ) (shared : List ℕ) (ts : Trees) → size_of_all shared ts ≤ n → AllFew n ts
-  all_few n shared none l = tt
-  all_few n shared (more t ts) l = (few_by_size n shared t (omega arith), all_few n shared ts (omega arith))
+  pub all_few : (version : HiveVersion) (n : ℕ) (shared : List ℕ) (ts : Trees) → size_of_all version shared ts ≤ n → AllFew n ts
+  all_few version n shared none l = tt
+  all_few version n shared (more t ts) l = (few_by_size version n shared t (omega arith), all_few version n shared ts (omega arith))
 
-pub valid_back : (t : Tree) → Sound 1 t → bulk_of t ≤ 16773120 → IsValid t
-valid_back t s b =
-    let few : Few 16773120 t = few_by_size 16773120 [] t (omega arith) in
+pub valid_back : (version : HiveVersion) (t : Tree) → Sound 1 t → bulk_of version t ≤ 16773120 → IsValid t
+valid_back version t s b =
+    let few : Few 16773120 t = few_by_size version 16773120 [] t (omega arith) in
     record { keys = sound_holds 16773120 1 t (omega arith) few s; levels = omega (arith, sound_levels 1 t s) }

@@ -4,6 +4,7 @@ use Rattle.std.specs.Option.{is_some}
 use Rattle.std.proofs.lemmas.Bool.{lt-ltb, le-ltb}
 use Rattle.hive_model.specs.Tree.{Tree, key, find_key, is_named}
 use Rattle.hive_model.specs.Valid.{levels}
+use Rattle.nt_bytes.specs.declared.version.HiveVersion.{HiveVersion}
 use Rattle.hive_model.specs.Size.{bulk_of}
 use Rattle.hive_model.specs.Edit.{Step, Refusal, full, most_bulk, at_first, at_key, of_children, without_first, without_key, key_deleted, then_edit, after_step, after_steps, edited}
 use Rattle.reg_tree.specs.declared.stop.EditStop.{EditStop}
@@ -44,23 +45,23 @@ refused_on stops.DataTooLong a b h r = h _ r
 refused_on stops.Full a b h r = h _ r
 refused_on stops.Memory a b h r = tt
 
-pub step_refused : (steps left later : List Step) (t work : Tree) (s : Step) (stop : EditStop) → after_steps work left ≡ after_steps t steps → left ≡ s ∷ later
-    → IsRefused (after_step s work) stop → IsRefused (edited t steps) stop
+pub step_refused : (version : HiveVersion) (steps left later : List Step) (t work : Tree) (s : Step) (stop : EditStop) → after_steps work left ≡ after_steps t steps → left ≡ s ∷ later
+    → IsRefused (after_step s work) stop → IsRefused (edited version t steps) stop
 unfolding edited
-step_refused steps left later t work s stop kept first r =
+step_refused version steps left later t work s stop kept first r =
     let all : after_steps t steps ≡ then_edit (after_step s work) (λ u. after_steps u later) = sym kept ∙ ap (after_steps work) first in
-    refused_on stop (after_step s work) (edited t steps) (λ why q. rw (all, q) refl) r
+    refused_on stop (after_step s work) (edited version t steps) (λ why q. rw (all, q) refl) r
 
-pub too_large : (steps left : List Step) (t work : Tree) (b : ℕ) → after_steps work left ≡ after_steps t steps → left ≡ [] → b ≡ bulk_of work → most_bulk < b → edited t steps ≡ Err full
+pub too_large : (version : HiveVersion) (steps left : List Step) (t work : Tree) (b : ℕ) → after_steps work left ≡ after_steps t steps → left ≡ [] → b ≡ bulk_of version work → most_bulk < b → edited version t steps ≡ Err full
 unfolding edited
-too_large steps left t work b kept empty size large =
+too_large version steps left t work b kept empty size large =
     let all : after_steps t steps ≡ Ok work = sym kept ∙ ap (after_steps work) empty in
-    let test : ltb most_bulk (bulk_of work) ≡ true = lt-ltb _ _ (omega arith) in
+    let test : ltb most_bulk (bulk_of version work) ≡ true = lt-ltb _ _ (omega arith) in
     rw (all, test) refl
 
-pub all_made : (steps left : List Step) (t work : Tree) (b : ℕ) → after_steps work left ≡ after_steps t steps → left ≡ [] → b ≡ bulk_of work → b ≤ most_bulk → edited t steps ≡ Ok work
+pub all_made : (version : HiveVersion) (steps left : List Step) (t work : Tree) (b : ℕ) → after_steps work left ≡ after_steps t steps → left ≡ [] → b ≡ bulk_of version work → b ≤ most_bulk → edited version t steps ≡ Ok work
 unfolding edited
-all_made steps left t work b kept empty size small =
+all_made version steps left t work b kept empty size small =
     let all : after_steps t steps ≡ Ok work = sym kept ∙ ap (after_steps work) empty in
-    let test : ltb most_bulk (bulk_of work) ≡ false = le-ltb _ _ (omega arith) in
+    let test : ltb most_bulk (bulk_of version work) ≡ false = le-ltb _ _ (omega arith) in
     rw (all, test) refl

@@ -1,6 +1,7 @@
 -- Edits whose own contents a hive can hold, and what they leave.
 use Rattle.std.specs.Prelude.{◌≡◌, List, Ok}
 use Rattle.std.specs.List.{All}
+use Rattle.nt_bytes.specs.declared.version.HiveVersion.{HiveVersion}
 use Rattle.hive_model.specs.Tree.{Tree}
 use Rattle.hive_model.specs.Valid.{HoldsKeys, IsValid}
 use Rattle.hive_model.specs.Edit.{Step, set_value, delete_value, make_key, delete_key, copy_child, add_child, edited}
@@ -16,4 +17,4 @@ Fits (add_child name tree) = HoldsKeys tree
 
 -- a tree that a hive can hold is one again after steps that fit and are not refused
 abbrev pub EditedIsValid : Type 0
-EditedIsValid = (t u : Tree) (steps : List Step) → IsValid t → All Fits steps → edited t steps ≡ Ok u → IsValid u
+EditedIsValid = (version : HiveVersion) (t u : Tree) (steps : List Step) → IsValid t → All Fits steps → edited version t steps ≡ Ok u → IsValid u

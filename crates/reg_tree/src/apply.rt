@@ -11,7 +11,7 @@ use crate::change::Change;
 use crate::key::Key;
 use crate::steps::{Steps, TreeStep};
 use crate::stop::EditStop;
-use nt_bytes::{Bytes, Names, Units};
+use nt_bytes::{Bytes, HiveVersion, Names, Units};
 use std::alloc::Global;
 
 /// The greatest bulk of an edited tree, in bytes.
@@ -171,10 +171,16 @@ impl Key {
     }
 
     /// Makes the steps in order, all or none. The first step that is refused decides; where none is,
-    /// a result whose bulk is over 16,773,120 bytes is `Full`. After an `Err` the tree is as before. A tree
-    /// that a hive can hold stays one, where each key that a step brings along can be held too.
-    pub fn apply(&mut self, alloc: Global, steps: Steps) -> Result<(), EditStop>
-        ensures made { Makes self.old self.new result (edited self.old (map step_of steps)) }
+    /// a result whose bulk in this version is over 16,773,120 bytes is `Full`. After an `Err` the tree is
+    /// as before. A tree that a hive can hold stays one, where each key that a step brings along can be
+    /// held too.
+    pub fn apply(
+        &mut self,
+        alloc: Global,
+        steps: Steps,
+        version: HiveVersion,
+    ) -> Result<(), EditStop>
+        ensures made { Makes self.old self.new result (edited version self.old (map step_of steps)) }
         ensures valid { IsValid self.old → All Fits (map step_of steps) → IsValid self.new }
     {
         let mut work = self.copy(alloc)?;
@@ -182,7 +188,7 @@ impl Key {
         'steps: while let Some(step) = rest.next() {
             work.step(alloc, step)?;
         }
-        if work.bulk() > MOST_BULK {
+        if work.bulk(version) > MOST_BULK {
             return Err(EditStop::Full);
         }
         *self = work;

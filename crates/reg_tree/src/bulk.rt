@@ -1,11 +1,13 @@
-//! How many bytes a tree takes in packed cells. Sums stay at the greatest number.
+//! How many bytes a tree takes in packed cells of a version. Sums stay at the greatest number.
 
-ghost use Rattle.std.specs.Prelude.{◌≡◌, ◌+◌, length, sum_by};
+ghost use Rattle.std.specs.Prelude.{◌≡◌, ◌+◌, ◌*◌, ◌∷◌, length, sum_by};
 ghost use Rattle.hive_model.specs.Tree.{head};
+ghost use Rattle.hive_model.specs.Size.{cells_sum, is_big, segment_count, segment_sizes, data_sizes};
 ghost use Rattle.hive_model.specs.Size.{capped, cell, is_narrow, name_bytes, item_size, items_size, class_size, security_size, head_size, list_size, size, bulk_of};
 
 use crate::key::{Key, Keys};
 use crate::value::Value;
+use nt_bytes::HiveVersion;
 
 fn cell_size(payload: u64) -> u64
     ensures { result ≡ capped (cell payload) }
@@ -33,39 +35,78 @@ fn name_len(name: &[u16]) -> u64
     }
 }
 
-#[tactic(auto, using(crate::proofs::Sums::sums))]
-fn value_size(value: &Value) -> u64
-    ensures { result ≡ capped (item_size value.now) }
+/// Are so many bytes of data written in segments?
+fn is_big(len: u64, version: HiveVersion) -> bool
+    ensures { result ≡ is_big version len }
 {
-    let own = cell_size(name_len(value.name.as_slice()).saturating_add(20));
-    let len = value.bytes.as_slice().len() as u64;
-    if 4 < len {
-        own.saturating_add(cell_size(len))
-    } else {
-        own
+    match version {
+        HiveVersion::V3 => false,
+        HiveVersion::V5 => len > 16344,
     }
 }
 
+/// The cells of the segments of big data of `len` bytes.
+fn segments_size(len: u64) -> u64
+    ensures { result ≡ capped (cells_sum (segment_sizes (segment_count len) len)) }
+{
+    let full = (len / 16344).saturating_mul(16352);
+    let rest = len % 16344;
+    if rest == 0 {
+        full
+    } else {
+        full.saturating_add(cell_size(rest))
+    }
+}
+
+/// The cells of big data of `len` bytes: `db`, the list of the segments, and the segments.
+fn big_size(len: u64) -> u64
+    ensures { result ≡ capped (cells_sum (8 ∷ 4 * segment_count len ∷ segment_sizes (segment_count len) len)) }
+{
+    let rest = len % 16344;
+    let count = len / 16344 + u64::from(rest > 0);
+    cell_size(8)
+        .saturating_add(cell_size(4 * count))
+        .saturating_add(segments_size(len))
+}
+
+/// The cells of a value's data of `len` bytes.
+fn data_size(len: u64, version: HiveVersion) -> u64
+    ensures { result ≡ capped (cells_sum (data_sizes version len)) }
+{
+    if is_big(len, version) {
+        return big_size(len);
+    }
+    if 4 < len { cell_size(len) } else { 0 }
+}
+
 #[tactic(auto, using(crate::proofs::Sums::sums))]
-fn values_sum(values: &[Value]) -> u64
-    ensures { result ≡ capped (sum_by item_size values.now) }
+fn value_size(value: &Value, version: HiveVersion) -> u64
+    ensures { result ≡ capped (item_size version value.now) }
+{
+    let own = cell_size(name_len(value.name.as_slice()).saturating_add(20));
+    own.saturating_add(data_size(value.bytes.as_slice().len() as u64, version))
+}
+
+#[tactic(auto, using(crate::proofs::Sums::sums))]
+fn values_sum(values: &[Value], version: HiveVersion) -> u64
+    ensures { result ≡ capped (sum_by (item_size version) values.now) }
 {
     let mut total = 0;
     for value in values {
-        total = value_size(value).saturating_add(total);
+        total = value_size(value, version).saturating_add(total);
     }
     total
 }
 
 #[tactic(auto, using(crate::proofs::Sums::sums, crate::proofs::Sums::some_items))]
-fn values_size(values: &[Value]) -> u64
-    ensures { result ≡ capped (items_size values.now) }
+fn values_size(values: &[Value], version: HiveVersion) -> u64
+    ensures { result ≡ capped (items_size version values.now) }
 {
     if values.len() == 0 {
         return 0;
     }
     let list = cell_size((values.len() as u64).saturating_mul(4));
-    list.saturating_add(values_sum(values))
+    list.saturating_add(values_sum(values, version))
 }
 
 #[tactic(auto, using(crate::proofs::Sums::sums))]
@@ -115,13 +156,13 @@ fn list_len(n: u64) -> u64
 
 impl Key {
     #[tactic(auto, using(crate::proofs::Sums::sums))]
-    fn head_len(&self, shared: &[u8]) -> u64
-        ensures { result ≡ capped (head_size shared.now (head self.now)) }
+    fn head_len(&self, shared: &[u8], version: HiveVersion) -> u64
+        ensures { result ≡ capped (head_size version shared.now (head self.now)) }
     {
         let own = cell_size(name_len(self.name.as_slice()).saturating_add(76));
         let class = class_len(self.class.as_slice());
         let security = security_len(shared, self.security.as_slice());
-        let values = values_size(self.values.as_slice());
+        let values = values_size(self.values.as_slice(), version);
         own.saturating_add(class)
             .saturating_add(security)
             .saturating_add(values)
@@ -129,33 +170,34 @@ impl Key {
 
     #[cycle(cells_size)]
     #[tactic(auto, using(crate::proofs::Sums::sums))]
-    fn cells_size(&self, shared: &[u8]) -> u64
-        ensures { result ≡ capped (size shared.now self.now) }
+    fn cells_size(&self, shared: &[u8], version: HiveVersion) -> u64
+        ensures { result ≡ capped (size version shared.now self.now) }
     {
-        let own = self.head_len(shared);
+        let own = self.head_len(shared, version);
         let lists = list_len(self.children.as_slice().len() as u64);
-        let below = self.children.cells_size(self.security.as_slice());
+        let below = self.children.cells_size(self.security.as_slice(), version);
         own.saturating_add(lists).saturating_add(below)
     }
 
-    /// How many bytes the tree takes in packed cells with the bin's header, or the greatest number.
+    /// How many bytes the tree takes in packed cells of a version with the bin's header, or the greatest
+    /// number.
     #[tactic(auto, using(crate::proofs::Sums::sums))]
-    pub fn bulk(&self) -> u64
-        ensures { result ≡ bulk_of self.now }
+    pub fn bulk(&self, version: HiveVersion) -> u64
+        ensures { result ≡ bulk_of version self.now }
     {
-        self.cells_size(&[]).saturating_add(32)
+        self.cells_size(&[], version).saturating_add(32)
     }
 }
 
 impl Keys {
     #[cycle(cells_size)]
     #[tactic(auto, using(crate::proofs::Sums::sums))]
-    fn cells_size(&self, shared: &[u8]) -> u64
-        ensures { result ≡ capped (sum_by (size shared.now) self.now) }
+    fn cells_size(&self, shared: &[u8], version: HiveVersion) -> u64
+        ensures { result ≡ capped (sum_by (size version shared.now) self.now) }
     {
         let mut total = 0;
         for child in &self.items {
-            total = child.cells_size(shared).saturating_add(total);
+            total = child.cells_size(shared, version).saturating_add(total);
         }
         total
     }

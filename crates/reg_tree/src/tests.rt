@@ -1,7 +1,7 @@
-//! A root alone: its bulk, and its copy.
+//! A root alone, or with one value: its bulk, and its copy.
 
 use super::*;
-use nt_bytes::{Bytes, narrow};
+use nt_bytes::{Bytes, HiveVersion, narrow};
 use std::alloc::{AllocError, Global};
 use std::test::Fail;
 
@@ -21,7 +21,37 @@ fn root(alloc: Global) -> Result<Key, AllocError> {
 #[test]
 fn a_root_alone_has_its_bulk(rt: HostRuntime) -> Result<(), Fail> {
     let tree = root(rt.alloc())?;
-    assert_eq!(rt; tree.bulk(), 120);
+    assert_eq!(rt; tree.bulk(HiveVersion::V3), 120);
+    assert_eq!(rt; tree.bulk(HiveVersion::V5), 120);
+    Ok(())
+}
+
+/// A root with the one value `A` of type 3, of so many bytes.
+fn root_with_value(alloc: Global, len: usize) -> Result<Key, AllocError> {
+    let mut bytes = Bytes::new(alloc);
+    bytes.append_zeros(len)?;
+    let mut key = root(alloc)?;
+    key.values.push(Value {
+        name: narrow(alloc, b"A")?,
+        kind: 3,
+        bytes,
+    })?;
+    Ok(key)
+}
+
+/// Data of over 16,344 bytes stand in segments in version 1.5, and in one cell in version 1.3.
+#[test]
+fn long_data_have_their_bulk(rt: HostRuntime) -> Result<(), Fail> {
+    let cases = [
+        (16_344, 16_512, 16_512),
+        (16_345, 16_512, 16_552),
+        (32_688, 32_856, 32_896),
+    ];
+    for (len, in_v3, in_v5) in cases {
+        let tree = root_with_value(rt.alloc(), len)?;
+        assert_eq!(rt; tree.bulk(HiveVersion::V3), in_v3, "{len} bytes");
+        assert_eq!(rt; tree.bulk(HiveVersion::V5), in_v5, "{len} bytes");
+    }
     Ok(())
 }
 

@@ -4,4 +4,4 @@ use Rattle.hive_model.specs.Size.{capped, item_size}
 use Rattle.reg_tree.proofs.bulk.values_sum.Given as goal
 
 abbrev pub invariant-loop-value : goal.invariant-loop-value
-invariant-loop-value l = l.total ≡ capped (sum_by item_size (take l.value-index l.values))
+invariant-loop-value l = l.total ≡ capped (sum_by (item_size l.version) (take l.value-index l.values))
