@@ -1,12 +1,12 @@
 -- The parts of a base block as they are laid into a sector.
-use Rattle.std.proofs.Common.{◌≡◌, ◌+◌, ◌≤◌, ℕ, List, [], ◌++◌, take, drop, length, arith, refl, ap, ◌∙◌, sym, length-append, length-drop, length-take, append-nil}
+use Rattle.std.proofs.Common.{◌≡◌, ◌≤◌, ℕ, List, [], ◌++◌, take, drop, length, arith, ap, ◌∙◌, sym, length-append, length-drop, length-take, append-nil}
 use Rattle.std.proofs.lemmas.List.{take-append-drop, take-append-le}
 use Rattle.std.proofs.lemmas.Slice.{take-put_mid, drop-put_mid, drop-append-drop}
 use Rattle.std.proofs.Math.ListN.{drop_of_length-le}
 use Rattle.std.proofs.Math.Seq.{take-length}
 use Rattle.std.specs.Int.{w32, to_le_bytes}
 use borrow.Rule.Slice.PartMut.{put_mid}
-use Rattle.hive_model.specs.Base.{checksum_of, moved_off, mixed_words}
+use Rattle.hive_model.specs.Base.{checksum_of, moved_off}
 use Rattle.hive_model.proofs.BaseLemmas.{mixed_front}
 
 module _ (h n r old : List ℕ) (h_long : length h ≡ 48) (n_long : length n ≡ 64) (r_long : length r ≡ 396) (old_long : length old ≡ 512) where

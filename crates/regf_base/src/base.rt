@@ -1,10 +1,10 @@
 //! Reading a base block.
 
 ghost use Rattle.std.specs.Prelude.{◌≡◌, Result, Ok, Err, Some, None, IsOk, OnOk, IfErr};
-ghost use Rattle.hive_model.specs.Base.{Base, base_of, base_checks, first_failing, fields_of, is_bins_size};
+ghost use Rattle.hive_model.specs.Base.{Base, base_of, base_checks, first_failing, fields_of, is_bins_size, is_minor, version_of};
 
 use crate::sum::checksum;
-use nt_bytes::{HiveFault, HiveKind, u32_at, u64_at};
+use nt_bytes::{HiveFault, HiveKind, HiveVersion, u32_at, u64_at};
 use std::marker::Model;
 
 /// The fields of a base block.
@@ -16,7 +16,7 @@ pub struct BaseBlock {
     pub second: u32,
     /// Last-written stamp.
     pub stamp: u64,
-    /// Minor version.
+    /// Minor version, 3 or 5 where it was read.
     pub minor: u32,
     /// File type: 0 primary, 1 log.
     pub kind: u32,
@@ -42,6 +42,19 @@ impl Model for BaseBlock {
     ghost inverse = { λ b. record { first = b.first; second = b.second; stamp = b.stamp; minor = b.minor; kind = b.kind; root = b.root; size = b.size; cluster = b.cluster; name = b.name; rest = b.rest } };
 }
 
+impl BaseBlock {
+    /// The version of the format that the minor version is.
+    pub fn version(&self) -> HiveVersion
+        ensures { result ≡ version_of self.now.minor }
+    {
+        if self.minor == 5 {
+            HiveVersion::V5
+        } else {
+            HiveVersion::V3
+        }
+    }
+}
+
 /// Reads sector 0 of a file of this kind: 0 for a primary, 1 for a log. Refuses with the first check
 /// that fails and the byte at which it stands.
 pub fn read_base(sector: &[u8; 512], kind: u32) -> Result<BaseBlock, HiveFault>
@@ -64,7 +77,7 @@ fn check(sector: &[u8; 512], kind: u32) -> Result<(), HiveFault>
     if u32_at(sector, 20) != 1 {
         return Err(fault(HiveKind::Version, 20));
     }
-    if u32_at(sector, 24) != 3 {
+    if !is_minor(u32_at(sector, 24)) {
         return Err(fault(HiveKind::Version, 24));
     }
     if u32_at(sector, 28) != kind {
@@ -77,6 +90,12 @@ fn check(sector: &[u8; 512], kind: u32) -> Result<(), HiveFault>
         return Err(fault(HiveKind::Size, 40));
     }
     Ok(())
+}
+
+fn is_minor(minor: u32) -> bool
+    ensures { result ≡ is_minor minor }
+{
+    minor == 3 || minor == 5
 }
 
 fn is_size(size: u32) -> bool

@@ -2,7 +2,7 @@
 //!
 //! `read_base` answers the fields, or the first check that fails with the byte at which it stands; it
 //! asks nothing of the bytes. `base_bytes` spells the fields with their checksum. Rules: regf format
-//! 1.3, "Base block"; docs/format.md.
+//! 1.3 and 1.5, "Base block"; docs/format.md.
 #![tactic(auto)]
 
 mod base;

@@ -1,7 +1,7 @@
 //! The base block of the packed hive of one key, and that block with one byte turned.
 
 use super::*;
-use nt_bytes::{HiveFault, HiveKind};
+use nt_bytes::{HiveFault, HiveKind, HiveVersion};
 use std::test::Fail;
 
 fn one_key() -> BaseBlock {
@@ -28,6 +28,22 @@ fn a_base_block_is_written(rt: HostRuntime) -> Result<(), Fail> {
     assert_eq!(rt; sector[36..44], [32, 0, 0, 0, 0, 0x10, 0, 0][..]);
     assert_eq!(rt; sector[508..512], [0x50, 0x75, 0x67, 0x66][..]);
     assert_eq!(rt; read_base(&sector, 0)?, one_key());
+    assert_eq!(rt; one_key().version(), HiveVersion::V3);
+    Ok(())
+}
+
+#[test]
+fn a_base_block_of_version_1_5_is_read_back(rt: HostRuntime) -> Result<(), Fail> {
+    let base = BaseBlock {
+        minor: 5,
+        ..one_key()
+    };
+    let mut sector = [0; 512];
+    base_bytes(&base, &mut sector);
+    assert_eq!(rt; sector[24..28], [5, 0, 0, 0][..]);
+    let found = read_base(&sector, 0)?;
+    assert_eq!(rt; found, base);
+    assert_eq!(rt; found.version(), HiveVersion::V5);
     Ok(())
 }
 

@@ -1,4 +1,3 @@
-use Rattle.std.proofs.Common.{arith}
 use Rattle.hive_model.specs.Base.{fields_of}
 use Rattle.regf_base.proofs.base.fields.Goals as goal
 

@@ -1,5 +1,5 @@
-use Rattle.std.proofs.Common.{◌≡◌, arith, rules, refl, ap, ◌∙◌}
-use Rattle.hive_model.specs.Base.{base_of, base_checks, first_failing, unless_fault}
+use Rattle.std.proofs.Common.{rules}
+use Rattle.hive_model.specs.Base.{base_of}
 use Rattle.regf_base.proofs.base.read_base.Goals as goal
 
 pub returns-in_err-check : goal.returns-in_err-check

@@ -1,6 +1,6 @@
-use Rattle.std.proofs.Common.{◌≡◌, ◌++◌, ℕ, List, take, drop, length, arith, rules, refl, ap, ◌∙◌, sym}
+use Rattle.std.proofs.Common.{◌++◌, ℕ, List, rules, ap, ◌∙◌}
 use Rattle.std.specs.Int.{w32, to_le_bytes}
-use Rattle.hive_model.specs.Base.{Base, base_text, summed_text, head_text, checksum_of, moved_off}
+use Rattle.hive_model.specs.Base.{Base, base_text, summed_text, head_text, checksum_of}
 use Rattle.regf_base.proofs.Laying.{spelled}
 use Rattle.regf_base.proofs.spelling.base_bytes.Goals as goal
 

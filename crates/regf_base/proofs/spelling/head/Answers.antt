@@ -1,4 +1,4 @@
-use Rattle.std.proofs.Common.{◌≡◌, arith, refl, ap, ◌∙◌, add-one, sym, subst}
+use Rattle.std.proofs.Common.{ap}
 use Rattle.hive_model.specs.Base.{head_text}
 use Rattle.regf_base.proofs.spelling.head.Goals as goal
 

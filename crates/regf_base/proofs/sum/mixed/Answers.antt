@@ -1,5 +1,5 @@
-use Rattle.std.proofs.Common.{◌≡◌, arith, refl, ap, ◌∙◌, add-one, sym, subst}
-use Rattle.hive_model.specs.Base.{mixed_words, word_at}
+use Rattle.std.proofs.Common.{refl, add-one}
+use Rattle.hive_model.specs.Base.{mixed_words}
 use Rattle.regf_base.proofs.sum.mixed.Goals as goal
 
 pub loop-word-init : goal.loop-word-init
