@@ -1,3 +1,4 @@
 pub mod Images
 pub mod Placing
 pub mod Writing
+pub mod Leaving
