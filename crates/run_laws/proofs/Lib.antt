@@ -6,3 +6,5 @@ pub mod KeptLemmas
 pub mod AlongLemmas
 pub mod StillLemmas
 pub mod ToldLemmas
+pub mod SameLemmas
+pub mod FailureLemmas
