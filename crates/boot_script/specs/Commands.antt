@@ -3,14 +3,14 @@
 --     boot [K] [lkg]           set PATH VALUE dword N      delete PATH VALUE    cut now KEEP
 --     go [N]                   set PATH VALUE sz TEXT      make PATH            cut read|write|sync N KEEP
 --     fail NAME N              set PATH VALUE multi TEXT.. remove PATH          fault read|write|sync N
---     flush  logon  off        set PATH VALUE binary HEX                        KEEP: none, all, odd
+--     flush  logon  off        set PATH VALUE binary HEX                        KEEP: none, all, odd, torn
 --
 -- A word that is missing, too many or unknown comes before a number that is out of its range.
 use Rattle.std.specs.Prelude.{ℕ, true, false, ◌&&◌, List, [], ◌∷◌, Option, Some, None, Result, Ok, Err, if◌then◌else◌, codes}
 use Rattle.std.specs.Str.{bytes_eq}
 use Rattle.nt_bytes.specs.Text.{is_digits}
 use Rattle.nt_edge.specs.declared.disk.Keep.{Keep}
-use Rattle.nt_edge.specs.declared.disk.Keep.TheVariants.{Nothing, Everything, OddOnes}
+use Rattle.nt_edge.specs.declared.disk.Keep.TheVariants.{Nothing, Everything, OddOnes, Torn}
 use Rattle.nt_edge.specs.declared.disk.DiskCall.{DiskCall}
 use Rattle.nt_edge.specs.declared.disk.DiskCall.TheVariants.{Read, Write, Sync}
 use Rattle.boot_script.specs.declared.event.Event.{Event}
@@ -78,6 +78,7 @@ keep_of word =
     if bytes_eq word (codes "none") then Ok Nothing
     else if bytes_eq word (codes "all") then Ok Everything
     else if bytes_eq word (codes "odd") then Ok OddOnes
+    else if bytes_eq word (codes "torn") then Ok Torn
     else Err Word
 
 unfoldable pub call_of : List ℕ → Result DiskCall ScriptFaultKind

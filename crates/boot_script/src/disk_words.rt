@@ -22,6 +22,9 @@ fn keep(word: &[u8]) -> Result<Keep, ScriptFaultKind>
     if word == b"odd".as_slice() {
         return Ok(Keep::OddOnes);
     }
+    if word == b"torn".as_slice() {
+        return Ok(Keep::Torn);
+    }
     Err(ScriptFaultKind::Word)
 }
 

@@ -61,10 +61,10 @@ fn the_first_fault_is_named(rt: HostRuntime) {
 #[test]
 fn every_command_is_read(rt: HostRuntime) -> Result<(), Fail> {
     let text =
-        b"  # \xff\n boot 00002 lkg \r\ngo 4294967295\n\"fail\" \"a b\" 0\nset A\\\\B V dword 258\nset \"\" \"\" sz X\nset A V multi\nset A V multi X \"\"\nset A V binary 0aF\x30\ndelete A V\nmake A\nremove A\\\nflush\nlogon\noff\ncut now none\ncut read 1 all\nfault sync 3";
+        b"  # \xff\n boot 00002 lkg \r\ngo 4294967295\n\"fail\" \"a b\" 0\nset A\\\\B V dword 258\nset \"\" \"\" sz X\nset A V multi\nset A V multi X \"\"\nset A V binary 0aF\x30\ndelete A V\nmake A\nremove A\\\nflush\nlogon\noff\ncut now none\ncut read 1 all\nfault sync 3\ncut write 2 torn";
     let script = read_script(rt.alloc(), text).ok().ok_or("a script")?;
     let events = script.as_slice();
-    assert_eq!(rt; events.len(), 17);
+    assert_eq!(rt; events.len(), 18);
     match &events[0] {
         Event::Boot {
             entry,
@@ -133,6 +133,16 @@ fn every_command_is_read(rt: HostRuntime) -> Result<(), Fail> {
             Event::ArmFault {
                 call: DiskCall::Sync,
                 n: 3
+            }
+        )
+    );
+    assert!(rt;
+        matches!(
+            &events[17],
+            Event::ArmCut {
+                call: DiskCall::Write,
+                n: 2,
+                keep: Keep::Torn
             }
         )
     );
