@@ -1,4 +1,6 @@
 pub mod WordLemmas
 pub mod SpellingLemmas
+pub mod EventLemmas
 pub mod ScriptLemmas
+pub mod AskLemmas
 pub mod PathLemmas

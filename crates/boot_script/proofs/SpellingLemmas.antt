@@ -12,21 +12,21 @@ use Rattle.boot_script.proofs.WordLemmas.{ok_is, shorter, next_word}
 
 -- ---- tests, and the front of a list that passes one
 
-both : (a b : Bool) → (a && b) ≡ true → (a ≡ true) × (b ≡ true)
+pub both : (a b : Bool) → (a && b) ≡ true → (a ≡ true) × (b ≡ true)
 both true b e = (refl, e)
 both false b e = absurd (false≢true e)
 
-joined : (a b : Bool) → a ≡ true → b ≡ true → (a && b) ≡ true
+pub joined : (a b : Bool) → a ≡ true → b ≡ true → (a && b) ≡ true
 joined a b e f = rw (e, f) refl
 
-not_true : (b : Bool) → not b ≡ true → b ≡ false
+pub not_true : (b : Bool) → not b ≡ true → b ≡ false
 not_true true e = absurd (false≢true e)
 not_true false e = refl
 
 one_more : (n : ℕ) → 1 + n ≡ suc n
 one_more n = omega arith
 
-front_passes : (p : ℕ → Bool) (xs : List ℕ) → list_all p (take (prefix_len p xs) xs) ≡ true
+pub front_passes : (p : ℕ → Bool) (xs : List ℕ) → list_all p (take (prefix_len p xs) xs) ≡ true
 front_passes p [] = refl
 front_passes p (x ∷ xs) = by_test (p x) refl (front_passes p xs)
   where
@@ -34,7 +34,7 @@ front_passes p (x ∷ xs) = by_test (p x) refl (front_passes p xs)
     by_test true e h = rw (one_more (prefix_len p xs)) (joined (p x) (list_all p (take (prefix_len p xs) xs)) e h)
     by_test false e h = refl
 
-stops : (ℕ → Bool) → List ℕ → Bool
+pub stops : (ℕ → Bool) → List ℕ → Bool
 stops p [] = true
 stops p (c ∷ rest) = not (p c)
 
@@ -44,11 +44,11 @@ prefix_is p [] [] e s = refl
 prefix_is p [] (c ∷ rest) e s = rw (not_true (p c) s) refl
 prefix_is p (c ∷ front) rest e s = let q = both (p c) (list_all p front) e in rw (q.0, prefix_is p front rest q.1 s) (omega arith)
 
-empty : (xs : List ℕ) → length xs ≡ 0 → xs ≡ []
+pub empty : (xs : List ℕ) → length xs ≡ 0 → xs ≡ []
 empty [] e = refl
 empty (x ∷ xs) e = absurd (omega arith)
 
-all_pass : (p : ℕ → Bool) (xs : List ℕ) → length (drop (prefix_len p xs) xs) ≡ 0 → list_all p xs ≡ true
+pub all_pass : (p : ℕ → Bool) (xs : List ℕ) → length (drop (prefix_len p xs) xs) ≡ 0 → list_all p xs ≡ true
 all_pass p xs none =
     let k : ℕ = prefix_len p xs in
     ap (list_all p) (sym (take-append-drop k xs) ∙ ap (λ (t : List ℕ). take k xs ++ t) (empty (drop k xs) none) ∙ append-nil (take k xs)) ∙ front_passes p xs
@@ -256,11 +256,15 @@ quoted_starts : (word rest : List ℕ) → stops is_space ((34 ∷ word ++ 34 �
 unfolding stops
 quoted_starts word rest = refl
 
-word_starts : (word shown rest : List ℕ) → IsBare word shown ⊎ IsQuoted word shown → stops is_space (shown ++ rest) ≡ true
+pub word_starts : (word shown rest : List ℕ) → IsBare word shown ⊎ IsQuoted word shown → stops is_space (shown ++ rest) ≡ true
 word_starts word shown rest (inl b) = ap (λ (t : List ℕ). stops is_space (t ++ rest)) b.0 ∙ bare_starts word rest b.1 b.2
 word_starts word shown rest (inr q) = ap (λ (t : List ℕ). stops is_space (t ++ rest)) q.0 ∙ quoted_starts word rest
 
-spaces_dropped : (gap text : List ℕ) → list_all is_space gap ≡ true → stops is_space text ≡ true → without_spaces (gap ++ text) ≡ text
+pub comment_stops : (rest : List ℕ) → stops is_space (35 ∷ rest) ≡ true
+unfolding stops
+comment_stops rest = refl
+
+pub spaces_dropped : (gap text : List ℕ) → list_all is_space gap ≡ true → stops is_space text ≡ true → without_spaces (gap ++ text) ≡ text
 spaces_dropped gap text all starts = drop_at gap text (prefix_len is_space (gap ++ text)) (sym (prefix_is is_space gap text all starts))
 
 put_before : (r : Result (List ℕ × List ℕ) ScriptFaultKind) (word rest : List ℕ) (others : List (List ℕ)) → r ≡ Ok (word, rest) → words_of rest ≡ Ok others
@@ -273,7 +277,7 @@ nothing_stops : (p : ℕ → Bool) → stops p [] ≡ true
 unfolding stops
 nothing_stops p = refl
 
-all_dropped : (line : List ℕ) → list_all is_space line ≡ true → length (without_spaces line) ≡ 0
+pub all_dropped : (line : List ℕ) → list_all is_space line ≡ true → length (without_spaces line) ≡ 0
 all_dropped line all =
     let k : prefix_len is_space line ≡ length line = ap (prefix_len is_space) (sym (append-nil line)) ∙ prefix_is is_space line [] all (nothing_stops is_space) in
     omega (arith, length-drop (prefix_len is_space line) line)

@@ -3,9 +3,10 @@
 -- Lines end with LF, and a CR before it is dropped. Lines of spaces, and lines whose first byte behind
 -- spaces is `#`, are skipped. At most 65,536 bytes and 64 `boot` lines.
 use Rattle.std.specs.Prelude.{◌≡◌, ℕ, ◌+◌, ◌≤◌, List, [], ◌∷◌, ◌++◌, length, Option, Some, None, Result, Ok, Err, nat_lt, ◌==◌, if◌then◌else◌, option_to_list}
+use Rattle.std.specs.List.{All}
 use Rattle.std.specs.Str.Lines.{lines}
 use Rattle.boot_script.specs.declared.event.Event.{Event}
-use Rattle.boot_script.specs.declared.event.Event.TheVariants.{Boot}
+use Rattle.boot_script.specs.declared.event.Event.TheVariants.{Boot, Go, Fail, ArmCut, ArmFault}
 use Rattle.boot_script.specs.declared.stop.ScriptFaultKind.{ScriptFaultKind}
 use Rattle.boot_script.specs.declared.stop.ScriptFaultKind.TheVariants.{TooLong, TooManyStarts}
 use Rattle.boot_script.specs.declared.stop.ScriptFault.{ScriptFault}
@@ -26,6 +27,11 @@ line_event line = trimmed_event (without_spaces line)
 abbrev pub starts : Option Event → ℕ
 starts (Some (Boot entry good)) = 1
 starts _ = 0
+
+-- how many starts the events ask for
+abbrev pub starts_in : List Event → ℕ
+starts_in [] = 0
+starts_in (e ∷ es) = starts (Some e) + starts_in es
 
 abbrev pub at_line : {A : Type 0} → ℕ → ScriptFaultKind → Result A ScriptFault
 at_line n kind = Err (record { kind = kind; line = n })
@@ -49,6 +55,22 @@ events_from n boots (line ∷ more) = after_line n boots (line_event line) (λ b
 -- the script that the text is, or the first fault
 unfoldable pub script_of : List ℕ → Result (List Event) ScriptFault
 script_of text = if nat_lt 65536 (length text) then at_line 0 TooLong else events_from 1 0 (lines text)
+
+-- ---- what holds of every script
+
+-- the numbers of the event that count something: all from 1 but the failures of `fail`, and of 32 bits
+abbrev pub HasCounts : Event → Type 0
+HasCounts (Boot (Some entry) good) = (1 ≤ entry) × (entry ≤ 4294967295)
+HasCounts (Go (Some steps)) = (1 ≤ steps) × (steps ≤ 4294967295)
+HasCounts (Fail name count) = count ≤ 4294967295
+HasCounts (ArmCut call n keep) = (1 ≤ n) × (n ≤ 4294967295)
+HasCounts (ArmFault call n) = (1 ≤ n) × (n ≤ 4294967295)
+HasCounts _ = Unit {0}
+
+pub record IsBounded (events : List Event) : Type 0 where
+  pub counts : All HasCounts events
+  pub few_starts : starts_in events ≤ 64
+  pub few_events : length events ≤ 65536
 
 -- ---- what the code returns
 

@@ -18,7 +18,7 @@ mod stop;
 mod words;
 
 pub use event::{Event, Script};
-pub use laws::words_are_those_written;
+pub use laws::{a_script_reads_as_what_it_spells, words_are_those_written};
 pub use script::read_script;
 pub use stop::{ScriptFault, ScriptFaultKind, ScriptStop};
 

@@ -4,7 +4,7 @@ ghost use Rattle.std.specs.Prelude.{◌≡◌, ◌==◌, ◌≤◌, length, IfOk
 ghost use Rattle.std.specs.Str.Lines.{lines};
 ghost use Rattle.boot_script.specs.declared.stop.ScriptStop.TheVariants as stops;
 ghost use Rattle.boot_script.specs.Words.{Gives};
-ghost use Rattle.boot_script.specs.Script.{trimmed_event, line_event, starts, events_from, script_of, GivesScript, TakesLine, RefusesLine};
+ghost use Rattle.boot_script.specs.Script.{trimmed_event, line_event, starts, events_from, script_of, IsBounded, GivesScript, TakesLine, RefusesLine};
 
 use crate::commands::event;
 use crate::event::{Event, Script};
@@ -55,6 +55,7 @@ fn fault(kind: ScriptFaultKind, line: u32) -> ScriptStop
 #[tactic(auto, unfolding(crate::specs::Script::script_of))]
 pub fn read_script(alloc: Global, text: &[u8]) -> Result<Script, ScriptStop>
     ensures exact { GivesScript result (script_of text.now) }
+    ensures bounds { IfOk result IsBounded }
 {
     if MAX_LEN < text.len() {
         return Err(fault(ScriptFaultKind::TooLong, 0));
