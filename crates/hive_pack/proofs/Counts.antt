@@ -3,6 +3,7 @@ use Rattle.std.proofs.Common.{◌≡◌, ◌≤◌, ◌<◌, ◌+◌, ◌*◌, �
 use Rattle.std.specs.Prelude.{nat_eq, if◌then◌else◌}
 use Rattle.std.specs.List.{All}
 use lib.Pointwise.{pointwise}
+use Rattle.nt_bytes.specs.declared.version.HiveVersion.{HiveVersion}
 use Rattle.hive_model.specs.Tree.{Item, Tree, Trees, key, none, more, trees, head, children}
 use Rattle.hive_model.specs.Valid.{IsItem, AllHoldKeys}
 use Rattle.hive_model.specs.Size.{size, size_of_all}
@@ -16,12 +17,12 @@ if_few true n m h = h
 if_few false n m h = omega arith
 
 mutual
-  pub few_sharers : (s shared : List ℕ) (t : Tree) → sharers s t ≤ size shared t
-  few_sharers s shared (key h ts) = if_few (pointwise nat_eq s h.security) (sharers_of_all s ts) (size shared (key h ts)) (omega (arith, few_of_all s h.security ts))
+  pub few_sharers : (version : HiveVersion) (s shared : List ℕ) (t : Tree) → sharers s t ≤ size version shared t
+  few_sharers version s shared (key h ts) = if_few (pointwise nat_eq s h.security) (sharers_of_all s ts) (size version shared (key h ts)) (omega (arith, few_of_all version s h.security ts))
 
-  pub few_of_all : (s shared : List ℕ) (ts : Trees) → sharers_of_all s ts ≤ size_of_all shared ts
-  few_of_all s shared none = omega arith
-  few_of_all s shared (more t ts) = omega (arith, few_sharers s shared t, few_of_all s shared ts)
+  pub few_of_all : (version : HiveVersion) (s shared : List ℕ) (ts : Trees) → sharers_of_all s ts ≤ size_of_all version shared ts
+  few_of_all version s shared none = omega arith
+  few_of_all version s shared (more t ts) = omega (arith, few_sharers version s shared t, few_of_all version s shared ts)
 
 pub sharers_parted : (s : List ℕ) (t : Tree) → sharers s t ≡ (if pointwise nat_eq s (head t).security then 1 + sharers_of_all s (trees (children t)) else 0)
 sharers_parted s (key h ts) = ap (λ us. if pointwise nat_eq s h.security then 1 + sharers_of_all s us else 0) (sym (trees_listed ts))

@@ -1,5 +1,6 @@
 -- The cells of a packed tree are well-formed.
 use Rattle.std.proofs.Common.{◌≤◌, ◌+◌, [], refl, arith}
+use Rattle.nt_bytes.specs.declared.version.HiveVersion.{HiveVersion}
 use Rattle.hive_model.specs.Tree.{Tree, Trees, key, none, more}
 use Rattle.hive_model.specs.Valid.{HoldsKeys, AllHoldKeys}
 use Rattle.hive_model.specs.Size.{size}
@@ -20,12 +21,12 @@ mutual
   all_apart (more t ts) f = (apart t f.0, all_apart ts f.1)
 
 pub packed_is_well_formed : PackedIsWellFormed
-packed_is_well_formed t f n le =
-    let cells = look_up (packed_bins t) in
-    let room : 32 + size [] t ≤ 16777216 = omega arith in
+packed_is_well_formed version t f n le =
+    let cells = look_up version (packed_bins version t) in
+    let room : 32 + size version [] t ≤ 16777216 = omega arith in
     record {
-      stands = packed_stands t f n le;
+      stands = packed_stands version t f n le;
       levels = f.levels;
       names = apart t f.keys;
-      once = checks_once cells (top (ring [] 32 t)) t room refl (above_root cells t room) (has_all t) f.keys n f.levels;
+      once = checks_once cells (top (ring version [] 32 t)) t room refl (above_root cells t room) (has_all version t) f.keys n f.levels;
     }

@@ -3,6 +3,7 @@ use Rattle.std.proofs.Common.{◌≡◌, ◌≤◌, ℕ, ◌+◌, ◌-◌, true,
 use lib.ListN.{replicate}
 use Rattle.std.proofs.lemmas.Bool.{ne_eqb}
 use Rattle.nt_bytes.specs.declared.fault.HiveKind.{HiveKind}
+use Rattle.nt_bytes.specs.declared.version.HiveVersion.{HiveVersion}
 use Rattle.hive_model.specs.Tree.{Tree}
 use Rattle.hive_model.specs.Size.{cell}
 use Rattle.hive_model.specs.Bins.{Cell, Cells, cell_size, in_cells, or_else, payload_of, look_up}
@@ -14,7 +15,7 @@ use Rattle.hive_pack.proofs.Rows.{space, length_filled}
 -- these payloads stand in a row from here on
 abbrev pub Has : Cells → ℕ → List (List ℕ) → Type 0
 Has cells at [] = Unit {0}
-Has cells at (p ∷ ps) = (cells at ≡ Ok (filled p)) × Has cells (at + cell (length p)) ps
+Has cells at (p ∷ ps) = (cells.payload at ≡ Ok (filled p)) × Has cells (at + cell (length p)) ps
 
 pub has_front : (cells : Cells) (at : ℕ) (a b : List (List ℕ)) → Has cells at (a ++ b) → Has cells at a
 has_front cells at [] b h = tt
@@ -32,33 +33,33 @@ has_behind cells at n place a b s p h = subst (λ (k : ℕ). Has cells k b) (ap 
 pub has_next : (cells : Cells) (at k : ℕ) (p : List ℕ) (ps : List (List ℕ)) → length p ≡ k → Has cells at (p ∷ ps) → Has cells (at + cell k) ps
 has_next cells at k p ps e h = subst (λ (n : ℕ). Has cells (at + cell n) ps) e h.1
 
-has_same : (c d : Cells) (at : ℕ) (ps : List (List ℕ)) → ((o : ℕ) → at ≤ o → c o ≡ d o) → Has c at ps → Has d at ps
+has_same : (c d : Cells) (at : ℕ) (ps : List (List ℕ)) → ((o : ℕ) → at ≤ o → c.payload o ≡ d.payload o) → Has c at ps → Has d at ps
 has_same c d at [] e h = tt
 has_same c d at (p ∷ ps) e h = (sym (e at (omega arith)) ∙ h.0, has_same c d (at + cell (length p)) ps (λ o le. e o (omega arith)) h.1)
 
 -- cells that begin here, looked up
-abbrev seen : List Cell → ℕ → Cells
-seen cs start o = payload_of (or_else (in_cells o start cs) None)
+abbrev seen : HiveVersion → List Cell → ℕ → Cells
+seen version cs start = record { version = version; payload = λ o. payload_of (or_else (in_cells o start cs) None) }
 
-has_seen : (start : ℕ) (ps : List (List ℕ)) (more : List Cell) → Has (seen (map used_cell ps ++ more) start) start ps
-has_seen start [] more = tt
-has_seen start (p ∷ ps) more =
+has_seen : (version : HiveVersion) (start : ℕ) (ps : List (List ℕ)) (more : List Cell) → Has (seen version (map used_cell ps ++ more) start) start ps
+has_seen version start [] more = tt
+has_seen version start (p ∷ ps) more =
     let cs = map used_cell ps ++ more in
     let next : start + cell_size (used_cell p) ≡ start + cell (length p) = omega (arith, length_filled p) in
     let here : eqb start start ≡ true = eq-eqb start start refl in (
       rw here refl,
-      has_same (seen cs (start + cell (length p))) (seen (used_cell p ∷ cs) start) (start + cell (length p)) ps
+      has_same (seen version cs (start + cell (length p))) (seen version (used_cell p ∷ cs) start) (start + cell (length p)) ps
           (λ o le.
           let no : eqb start o ≡ false = ne_eqb start o (λ e. omega arith) in
           rw (no, next) refl)
-          (has_seen (start + cell (length p)) ps more),
+          (has_seen version (start + cell (length p)) ps more),
     )
 
-pub has_all : (t : Tree) → Has (look_up (packed_bins t)) 32 (packed_cells t)
+pub has_all : (version : HiveVersion) (t : Tree) → Has (look_up version (packed_bins version t)) 32 (packed_cells version t)
 unfolding packed_bins
-has_all t = has_seen 32 (packed_cells t) (free_cells (rounded (whole t) - whole t))
+has_all version t = has_seen version 32 (packed_cells version t) (free_cells (rounded (whole version t) - whole version t))
 
 -- a form that is read, whatever fills the cell behind it, is read in its cell
-pub reads_in : {F : Type 0} (form : List ℕ → Result F HiveKind) (cells : Cells) (at : ℕ) (p : List ℕ) (x : F) → cells at ≡ Ok (filled p) → ((slack : List ℕ) → form (p ++ slack) ≡ Ok x) → reading form cells at ≡ Ok x
+pub reads_in : {F : Type 0} (form : List ℕ → Result F HiveKind) (cells : Cells) (at : ℕ) (p : List ℕ) (x : F) → cells.payload at ≡ Ok (filled p) → ((slack : List ℕ) → form (p ++ slack) ≡ Ok x) → reading form cells at ≡ Ok x
 unfolding filled
 reads_in form cells at p x h r = ap (λ c. c >>= form) h ∙ r (replicate (cell (length p) - 4 - length p) 0)

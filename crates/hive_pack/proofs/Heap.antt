@@ -26,17 +26,17 @@ free_are_cells (suc n) e le =
 
 pub packed_is_bins : PackedIsBins
 unfolding packed packed_bins
-packed_is_bins t le =
-    let free = rounded (whole t) - whole t in
-    let n = eights [] t in
-    let space-is = space_tree (top (ring [] 32 t)) 32 t in
-    let total = bin_is t in (
+packed_is_bins version t le =
+    let free = rounded (whole version t) - whole version t in
+    let n = eights version [] t in
+    let space-is = space_tree version (top (ring version [] 32 t)) 32 t in
+    let total = bin_is version t in (
       record {
         each = (
           record {
             ignored = refl;
             whole = omega (arith, total);
-            cells = all_cells (packed_cells t) (free_cells free) (omega (arith, space-is)) (free_are_cells free (omega (arith, n)) (omega arith));
+            cells = all_cells (packed_cells version t) (free_cells free) (omega (arith, space-is)) (free_are_cells free (omega (arith, n)) (omega arith));
           },
           tt,
         );

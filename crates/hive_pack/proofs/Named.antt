@@ -3,14 +3,16 @@ use Rattle.std.proofs.Common.{◌≡◌, ◌≤◌, ◌<◌, ℕ, zero, suc, ◌
 use Rattle.std.specs.Prelude.{nat_lt}
 use Rattle.std.proofs.lemmas.Bool.{ne_eqb, le-ltb, lt-ltb, cases_lt}
 use Rattle.std.proofs.lemmas.List.{append-nil, length-take, length-drop, take-append-drop}
+use Rattle.nt_bytes.specs.declared.version.HiveVersion.{HiveVersion}
+use Rattle.nt_bytes.specs.declared.version.HiveVersion.TheVariants.{V3, V5}
 use Rattle.hive_model.specs.Size.{cell, part_count, list_size}
 use Rattle.hive_model.specs.Bins.{Cells}
-use Rattle.hive_model.specs.Forms.{KeyNode, Lf, Ri, AreOffsets, AreHints, list_at, lf_text, ri_text}
-use Rattle.hive_model.specs.Walk.{reading, leaf_at, joined_at, entries_at}
+use Rattle.hive_model.specs.Forms.{KeyNode, ListKind, Lf, Lh, Ri, AreOffsets, AreHints, list_at, ri_text}
+use Rattle.hive_model.specs.Walk.{reading, is_list_of_lists, leaf_at, joined_at, entries_at}
 use Rattle.hive_model.specs.Stands.{ListsChildren}
-use Rattle.hive_model.specs.Packed.{part_places, parts, list_cells, place_of_some}
-use Rattle.hive_model.proofs.Spelling.{lf_again, ri_again}
-use Rattle.hive_pack.proofs.Rows.{length_lf, length_ri, length_part_places, hints_take, hints_drop, many_lists}
+use Rattle.hive_model.specs.Packed.{part_places, list_text, parts, list_cells, place_of_some}
+use Rattle.hive_model.proofs.Spelling.{lf_again, lh_again, ri_again, length_ri}
+use Rattle.hive_pack.proofs.Rows.{length_list_text, length_part_places, hints_take, hints_drop, many_lists}
 use Rattle.hive_pack.proofs.Found.{Has, has_next, reads_in}
 
 offsets_take : (n : ℕ) (os : List ℕ) → AreOffsets os → AreOffsets (take n os)
@@ -23,12 +25,31 @@ offsets_drop zero os f = f
 offsets_drop (suc n) [] f = tt
 offsets_drop (suc n) (o ∷ os) f = offsets_drop n os f.1
 
--- one list
-leaf_read : (cells : Cells) (at : ℕ) (os : List ℕ) (hs : List (List ℕ)) (later : List (List ℕ)) → Has cells at (lf_text os hs ∷ later) → length os ≡ length hs → length os ≤ 500 → AreOffsets os → AreHints hs
-    → reading leaf_at cells at ≡ Ok os
+-- the kind of the lists that a version writes
+abbrev pub written_kind : HiveVersion → ListKind
+written_kind V3 = Lf
+written_kind V5 = Lh
+
+list_again : (version : HiveVersion) (os : List ℕ) (hs : List (List ℕ)) (slack : List ℕ) → length os ≡ length hs → length os ≤ 500 → AreOffsets os → AreHints hs
+    → list_at (list_text version os hs ++ slack) ≡ Ok (record { kind = written_kind version; offsets = os })
+list_again V3 os hs slack e few f g = lf_again os hs slack e (omega arith) f g
+list_again V5 os hs slack e few f g = lh_again os hs slack e (omega arith) f g
+
+leaf_again : (version : HiveVersion) (os : List ℕ) (hs : List (List ℕ)) (slack : List ℕ) → length os ≡ length hs → length os ≤ 500 → AreOffsets os → AreHints hs
+    → leaf_at (list_text version os hs ++ slack) ≡ Ok os
 unfolding leaf_at
+leaf_again V3 os hs slack e few f g = rw (list_again V3 os hs slack e few f g) refl
+leaf_again V5 os hs slack e few f g = rw (list_again V5 os hs slack e few f g) refl
+
+pub no_lists : (version : HiveVersion) → is_list_of_lists (written_kind version) ≡ false
+no_lists V3 = refl
+no_lists V5 = refl
+
+-- one list
+leaf_read : (cells : Cells) (at : ℕ) (os : List ℕ) (hs : List (List ℕ)) (later : List (List ℕ)) → Has cells at (list_text cells.version os hs ∷ later) → length os ≡ length hs → length os ≤ 500 → AreOffsets os → AreHints hs
+    → reading leaf_at cells at ≡ Ok os
 leaf_read cells at os hs later has e few f g =
-    reads_in leaf_at cells at (lf_text os hs) os has.0 (λ slack. rw (lf_again os hs slack e (omega arith) f g) refl)
+    reads_in leaf_at cells at (list_text cells.version os hs) os has.0 (λ slack. leaf_again cells.version os hs slack e few f g)
 
 no_items : (n : ℕ) (os : List ℕ) → length os ≡ n → n ≡ 0 → os ≡ []
 no_items n [] e z = refl
@@ -56,15 +77,15 @@ part_then cells k n at os l p one rest = go (cases_lt 500 n)
         rw (one, none_left) (ap (λ (x : List ℕ). Ok x) (append-nil (take 500 os) ∙ take_all os (omega arith)))
 
 -- the lists of a list of lists
-parts_read : (cells : Cells) (k n at : ℕ) (os : List ℕ) (hs : List (List ℕ)) → length os ≡ n → length os ≡ length hs → AreOffsets os → AreHints hs → part_count n ≡ k → Has cells at (parts k os hs)
+parts_read : (cells : Cells) (k n at : ℕ) (os : List ℕ) (hs : List (List ℕ)) → length os ≡ n → length os ≡ length hs → AreOffsets os → AreHints hs → part_count n ≡ k → Has cells at (parts cells.version k os hs)
     → joined_at cells (part_places k at) ≡ Ok os
 parts_read cells zero n at os hs l e f g p has = ap (λ (x : List ℕ). Ok x) (sym (no_items n os l (omega arith)))
 parts_read cells (suc k) n at os hs l e f g p has =
-    let first = lf_text (take 500 os) (take 500 hs) in
-    let later = parts k (drop 500 os) (drop 500 hs) in
+    let first = list_text cells.version (take 500 os) (take 500 hs) in
+    let later = parts cells.version k (drop 500 os) (drop 500 hs) in
     let same : length (take 500 os) ≡ length (take 500 hs) = omega (arith, length-take 500 os, length-take 500 hs) in
     let few : length (take 500 os) ≤ 500 = omega (arith, length-take 500 os) in
-    let len : length first ≡ 4 + 8 * min 500 n = length_lf (take 500 os) (take 500 hs) same (hints_take 500 hs g) ∙ omega (arith, length-take 500 os) in
+    let len : length first ≡ 4 + 8 * min 500 n = length_list_text cells.version (take 500 os) (take 500 hs) same (hints_take 500 hs g) ∙ omega (arith, length-take 500 os) in
     part_then cells k n at os l p (leaf_read cells at (take 500 os) (take 500 hs) later has same few (offsets_take 500 os f) (hints_take 500 hs g))
     (λ many.
     let full : length first ≡ 4004 = len ∙ omega arith in
@@ -76,17 +97,17 @@ starts_fit zero at h = tt
 starts_fit (suc k) at h = (omega arith, starts_fit k (at + cell 4004) (omega arith))
 
 -- one list is read
-pub list_read : (cells : Cells) (at : ℕ) (os : List ℕ) (hs : List (List ℕ)) → Has cells at (list_cells at os hs) → 0 < length os → length os < 501 → length os ≡ length hs → AreOffsets os → AreHints hs
-    → reading list_at cells at ≡ Ok (record { kind = Lf; offsets = os })
+pub list_read : (cells : Cells) (at : ℕ) (os : List ℕ) (hs : List (List ℕ)) → Has cells at (list_cells cells.version at os hs) → 0 < length os → length os < 501 → length os ≡ length hs → AreOffsets os → AreHints hs
+    → reading list_at cells at ≡ Ok (record { kind = written_kind cells.version; offsets = os })
 unfolding list_cells
 list_read cells at os hs has some few e f g =
     let not_none : eqb (length os) 0 ≡ false = ne_eqb (length os) 0 (λ z. omega arith) in
     let one : nat_lt (length os) 501 ≡ true = lt-ltb (length os) 501 few in
-    let here : Has cells at (lf_text os hs ∷ []) = rw (not_none, one) at has in
-    reads_in list_at cells at (lf_text os hs) _ here.0 (λ slack. lf_again os hs slack e (omega arith) f g)
+    let here : Has cells at (list_text cells.version os hs ∷ []) = rw (not_none, one) at has in
+    reads_in list_at cells at (list_text cells.version os hs) _ here.0 (λ slack. list_again cells.version os hs slack e (omega arith) f g)
 
 -- a list of lists is read
-pub lists_read : (cells : Cells) (at : ℕ) (os : List ℕ) (hs : List (List ℕ)) → Has cells at (list_cells at os hs) → 501 ≤ length os → at + list_size (length os) ≤ 16777216
+pub lists_read : (cells : Cells) (at : ℕ) (os : List ℕ) (hs : List (List ℕ)) → Has cells at (list_cells cells.version at os hs) → 501 ≤ length os → at + list_size (length os) ≤ 16777216
     → reading list_at cells at ≡ Ok (record { kind = Ri; offsets = part_places (part_count (length os)) (at + cell (4 + 4 * part_count (length os))) })
 unfolding list_cells
 lists_read cells at os hs has many le =
@@ -94,12 +115,12 @@ lists_read cells at os hs has many le =
     let lists : nat_lt (length os) 501 ≡ false = le-ltb (length os) 501 many in
     let first = at + cell (4 + 4 * part_count (length os)) in
     let starts = part_places (part_count (length os)) first in
-    let here : Has cells at (ri_text starts ∷ parts (part_count (length os)) os hs) = rw (not_none, lists) at has in
+    let here : Has cells at (ri_text starts ∷ parts cells.version (part_count (length os)) os hs) = rw (not_none, lists) at has in
     let k : length starts ≡ part_count (length os) = length_part_places (part_count (length os)) first in
     let size = many_lists (length os) many in
     reads_in list_at cells at (ri_text starts) _ here.0 (λ slack. ri_again starts slack (omega (arith, k, size)) (starts_fit (part_count (length os)) first (omega (arith, size))))
 
-pub entries_read : (cells : Cells) (at : ℕ) (os : List ℕ) (hs : List (List ℕ)) → Has cells at (list_cells at os hs) → 0 < length os → length os ≡ length hs → AreOffsets os → AreHints hs → at + list_size (length os) ≤ 16777216
+pub entries_read : (cells : Cells) (at : ℕ) (os : List ℕ) (hs : List (List ℕ)) → Has cells at (list_cells cells.version at os hs) → 0 < length os → length os ≡ length hs → AreOffsets os → AreHints hs → at + list_size (length os) ≤ 16777216
     → entries_at cells at ≡ Ok os
 unfolding list_cells entries_at
 entries_read cells at os hs has some e f g le = go (cases_lt (length os) 501)
@@ -113,22 +134,22 @@ entries_read cells at os hs has some e f g le = go (cases_lt (length os) 501)
     go : (n < 501) ⊎ (501 ≤ n) → entries_at cells at ≡ Ok os
     go (inl few) =
         let one : nat_lt (length os) 501 ≡ true = lt-ltb (length os) 501 few in
-        let here : Has cells at (lf_text os hs ∷ []) = rw (not_none, one) at has in
-        let read : reading list_at cells at ≡ Ok (record { kind = Lf; offsets = os }) = reads_in list_at cells at (lf_text os hs) _ here.0 (λ slack. lf_again os hs slack e (omega arith) f g) in
-        rw read refl
+        let here : Has cells at (list_text cells.version os hs ∷ []) = rw (not_none, one) at has in
+        let read : reading list_at cells at ≡ Ok (record { kind = written_kind cells.version; offsets = os }) = reads_in list_at cells at (list_text cells.version os hs) _ here.0 (λ slack. list_again cells.version os hs slack e (omega arith) f g) in
+        rw (read, no_lists cells.version) refl
     go (inr many) =
         let lists : nat_lt (length os) 501 ≡ false = le-ltb (length os) 501 many in
         let first = at + cell (4 + 4 * part_count (length os)) in
         let starts = part_places (part_count (length os)) first in
-        let here : Has cells at (ri_text starts ∷ parts (part_count (length os)) os hs) = rw (not_none, lists) at has in
+        let here : Has cells at (ri_text starts ∷ parts cells.version (part_count (length os)) os hs) = rw (not_none, lists) at has in
         let k : length starts ≡ part_count (length os) = length_part_places (part_count (length os)) first in
         let size = many_lists (length os) many in
         let read : reading list_at cells at ≡ Ok (record { kind = Ri; offsets = starts }) =
         reads_in list_at cells at (ri_text starts) _ here.0 (λ slack. ri_again starts slack (omega (arith, k, size)) (starts_fit (part_count (length os)) first (omega (arith, size)))) in
-        let back = has_next cells at (4 + 4 * part_count (length os)) (ri_text starts) (parts (part_count (length os)) os hs) (length_ri starts ∙ ap (λ x. 4 + 4 * x) k) here in
+        let back = has_next cells at (4 + 4 * part_count (length os)) (ri_text starts) (parts cells.version (part_count (length os)) os hs) (length_ri starts ∙ ap (λ x. 4 + 4 * x) k) here in
         rw read (parts_read cells (part_count (length os)) (length os) first os hs refl e f g refl back)
 
-pub children_named : (cells : Cells) (node : KeyNode) (at : ℕ) (os : List ℕ) (hs : List (List ℕ)) → Has cells at (list_cells at os hs) → node.child_count ≡ length os → node.child_list ≡ place_of_some (length os) at
+pub children_named : (cells : Cells) (node : KeyNode) (at : ℕ) (os : List ℕ) (hs : List (List ℕ)) → Has cells at (list_cells cells.version at os hs) → node.child_count ≡ length os → node.child_list ≡ place_of_some (length os) at
     → length os ≡ length hs → AreOffsets os → AreHints hs → at + list_size (length os) ≤ 16777216 → ListsChildren cells node os
 children_named cells node at [] hs has c l e f g le = rw c refl
 children_named cells node at (o ∷ os) hs has c l e f g le =

@@ -1,8 +1,13 @@
 -- Lists of entries, and the bytes of names in them.
-use Rattle.std.proofs.Common.{◌≡◌, ◌<◌, ◌-◌, ◌+◌, ◌++◌, ℕ, zero, suc, List, [], ◌∷◌, length, take, drop, min, refl, ap, arith}
+use Rattle.std.proofs.Common.{◌≡◌, ◌<◌, ◌-◌, ◌+◌, ◌++◌, ℕ, zero, suc, List, [], ◌∷◌, length, take, drop, map, min, refl, ap, arith}
 use Rattle.std.specs.Prelude.{slice_index}
-use Rattle.hive_model.specs.Forms.{lf_text}
-use Rattle.hive_model.specs.Packed.{part_places, parts}
+use Rattle.std.specs.Int.{w32, to_le_bytes}
+use Rattle.std.proofs.lemmas.List.{take-map, drop-map}
+use Rattle.nt_bytes.specs.declared.version.HiveVersion.{HiveVersion}
+use Rattle.nt_bytes.specs.declared.version.HiveVersion.TheVariants.{V5}
+use Rattle.hive_model.specs.Tree.{Tree, head}
+use Rattle.hive_model.specs.Forms.{hash_of}
+use Rattle.hive_model.specs.Packed.{segment_places, segments, hint, part_places, list_text, parts}
 
 -- the first four bytes of a name, zeros behind a short one
 pub first_four : (name : List ℕ) → slice_index name 0 ∷ slice_index name 1 ∷ slice_index name 2 ∷ slice_index name 3 ∷ [] ≡ take 4 (name ++ 0 ∷ 0 ∷ 0 ∷ 0 ∷ [])
@@ -32,13 +37,34 @@ drop_least (suc k) (suc n) [] e = refl
 drop_least (suc k) (suc n) (x ∷ xs) e = drop_least k n xs (omega arith)
 
 -- the next list, and those behind it
-pub parts_next : (left k : ℕ) (places : List ℕ) (hints : List (List ℕ)) → 0 < left → length places ≡ length hints → k ≡ min (length places) 500
-    → parts left places hints ≡ lf_text (take k places) (take k hints) ∷ parts (left - 1) (drop k places) (drop k hints)
-parts_next zero k places hints h l e = absurd (omega arith)
-parts_next (suc left) k places hints h l e =
+pub parts_next : (version : HiveVersion) (left k : ℕ) (places : List ℕ) (keys : List Tree) → 0 < left → length places ≡ length keys → k ≡ min (length places) 500
+    → parts version left places (map (hint version) keys)
+    ≡ list_text version (take k places) (map (hint version) (take k keys)) ∷ parts version (left - 1) (drop k places) (map (hint version) (drop k keys))
+parts_next version zero k places keys h l e = absurd (omega arith)
+parts_next version (suc left) k places keys h l e =
     let n : suc left - 1 ≡ left = omega arith in
-    let same : k ≡ min (length hints) 500 = omega arith in
-    rw (n, take_least k 500 places e, take_least k 500 hints same, drop_least k 500 places e, drop_least k 500 hints same) refl
+    let same : k ≡ min (length keys) 500 = omega arith in
+    let hints = hint version in
+    rw (n, take-map hints 500 keys, drop-map hints 500 keys, take_least k 500 places e, take_least k 500 keys same, drop_least k 500 places e, drop_least k 500 keys same) refl
+
+-- the hashes of names, as four bytes each
+pub hashes_are : (keys : List Tree) → map (to_le_bytes w32) (map (λ (t : Tree). hash_of (head t).name) keys) ≡ map (hint V5) keys
+hashes_are [] = refl
+hashes_are (t ∷ ts) = ap (λ (hs : List (List ℕ)). hint V5 t ∷ hs) (hashes_are ts)
+
+-- the next segment, and those behind it
+pub segments_next : (left k : ℕ) (bytes : List ℕ) → 0 < left → k ≡ min (length bytes) 16344 → segments left bytes ≡ take k bytes ∷ segments (left - 1) (drop k bytes)
+segments_next zero k bytes h e = absurd (omega arith)
+segments_next (suc left) k bytes h e =
+    let n : suc left - 1 ≡ left = omega arith in
+    rw (n, take_least k 16344 bytes e, drop_least k 16344 bytes e) refl
+
+-- the next place of a full segment, and those behind it
+pub segment_starts_next : (left place : ℕ) → 0 < left → segment_places left place ≡ place ∷ segment_places (left - 1) (place + 16352)
+segment_starts_next zero place h = absurd (omega arith)
+segment_starts_next (suc left) place h =
+    let n : suc left - 1 ≡ left = omega arith in
+    rw n refl
 
 -- the next place of a full list, and those behind it
 pub starts_next : (left place : ℕ) → 0 < left → part_places left place ≡ place ∷ part_places (left - 1) (place + 4008)

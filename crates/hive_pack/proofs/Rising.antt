@@ -1,10 +1,11 @@
 -- The places of security cells rise.
 use Rattle.std.proofs.Common.{◌≡◌, ◌≤◌, ◌<◌, ℕ, zero, suc, ◌+◌, Bool, true, false, List, [], ◌∷◌, ◌++◌, length, get_or, refl, arith}
 use Rattle.std.specs.Prelude.{if◌then◌else◌}
+use Rattle.nt_bytes.specs.declared.version.HiveVersion.{HiveVersion}
 use Rattle.hive_model.specs.Tree.{Tree, Trees, key, none, more}
 use Rattle.hive_model.specs.Size.{cell, has_own, security_size, count, size, size_of_all}
 use Rattle.hive_model.specs.Forms.{AreOffsets}
-use Rattle.hive_model.specs.Packed.{own_place, descriptor_place, first_child, ring, ring_of_all}
+use Rattle.hive_model.specs.Packed.{own_place, descriptor_place, children_place, ring, ring_of_all}
 use Rattle.hive_pack.specs.Writes.{IsRising}
 
 -- rising numbers from lo to below hi
@@ -40,22 +41,22 @@ own_rises shared at s = go (has_own shared s)
     go false = omega arith
 
 mutual
-  tree_rises : (shared : List ℕ) (at hi : ℕ) (t : Tree) → at + size shared t ≡ hi → Rises at (ring shared at t) hi
-  tree_rises shared at hi (key h ts) e =
+  tree_rises : (version : HiveVersion) (shared : List ℕ) (at hi : ℕ) (t : Tree) → at + size version shared t ≡ hi → Rises at (ring version shared at t) hi
+  tree_rises version shared at hi (key h ts) e =
       let p = descriptor_place at h in
-      let first = first_child shared at h (count ts) in
-      let all = ring_of_all h.security first ts in
+      let first = children_place version shared at h (count ts) in
+      let all = ring_of_all version h.security first ts in
       joined at (own_place shared p h.security) (p + security_size shared h.security) all hi (earlier at p (own_place shared p h.security) (p + security_size shared h.security) (omega arith) (own_rises shared p h.security))
-      (earlier (p + security_size shared h.security) first all hi (omega arith) (trees_rise h.security first hi ts (omega arith)))
+      (earlier (p + security_size shared h.security) first all hi (omega arith) (trees_rise version h.security first hi ts (omega arith)))
 
-  trees_rise : (shared : List ℕ) (at hi : ℕ) (ts : Trees) → at + size_of_all shared ts ≡ hi → Rises at (ring_of_all shared at ts) hi
-  trees_rise shared at hi none e = omega arith
-  trees_rise shared at hi (more t ts) e =
-      let next = at + size shared t in
-      joined at (ring shared at t) next (ring_of_all shared next ts) hi (tree_rises shared at next t refl) (trees_rise shared next hi ts (omega arith))
+  trees_rise : (version : HiveVersion) (shared : List ℕ) (at hi : ℕ) (ts : Trees) → at + size_of_all version shared ts ≡ hi → Rises at (ring_of_all version shared at ts) hi
+  trees_rise version shared at hi none e = omega arith
+  trees_rise version shared at hi (more t ts) e =
+      let next = at + size version shared t in
+      joined at (ring version shared at t) next (ring_of_all version shared next ts) hi (tree_rises version shared at next t refl) (trees_rise version shared next hi ts (omega arith))
 
-pub ring_rises : (shared : List ℕ) (at : ℕ) (t : Tree) → IsRising (ring shared at t)
-ring_rises shared at t = rising at (ring shared at t) (at + size shared t) (tree_rises shared at (at + size shared t) t refl)
+pub ring_rises : (version : HiveVersion) (shared : List ℕ) (at : ℕ) (t : Tree) → IsRising (ring version shared at t)
+ring_rises version shared at t = rising at (ring version shared at t) (at + size version shared t) (tree_rises version shared at (at + size version shared t) t refl)
 
 rises_least : (lo : ℕ) (xs : List ℕ) (hi : ℕ) → Rises lo xs hi → lo ≤ hi
 rises_least lo [] hi r = r
@@ -65,5 +66,5 @@ rises_fit : (lo : ℕ) (xs : List ℕ) (hi : ℕ) → Rises lo xs hi → hi ≤ 
 rises_fit lo [] hi r h = tt
 rises_fit lo (x ∷ xs) hi r h = (omega (arith, rises_least (x + 1) xs hi r.1), rises_fit (x + 1) xs hi r.1 h)
 
-pub ring_fits : (shared : List ℕ) (at : ℕ) (t : Tree) → at + size shared t ≤ 16777216 → AreOffsets (ring shared at t)
-ring_fits shared at t h = rises_fit at (ring shared at t) (at + size shared t) (tree_rises shared at (at + size shared t) t refl) h
+pub ring_fits : (version : HiveVersion) (shared : List ℕ) (at : ℕ) (t : Tree) → at + size version shared t ≤ 16777216 → AreOffsets (ring version shared at t)
+ring_fits version shared at t h = rises_fit at (ring version shared at t) (at + size version shared t) (tree_rises version shared at (at + size version shared t) t refl) h

@@ -5,6 +5,7 @@ use lib.Pointwise.{pointwise}
 use Rattle.std.proofs.lemmas.Bool.{ne_eqb}
 use Rattle.std.proofs.lemmas.Slice.Eq.{bytes_eq-Decides}
 use Rattle.nt_bytes.specs.declared.fault.HiveKind.{HiveKind}
+use Rattle.nt_bytes.specs.declared.version.HiveVersion.{HiveVersion}
 use Rattle.hive_model.specs.Tree.{Head, Tree, Trees, key, none, more, listed, trees}
 use Rattle.hive_model.specs.Valid.{IsKey, HoldsKeys, AllHoldKeys}
 use Rattle.hive_model.specs.Size.{cell, is_narrow, has_own, items_size, class_size, security_size, node_size, head_size, list_size, count, size, size_of_all, bulk_of}
@@ -87,7 +88,7 @@ security_place_fits cells up at [] a le = omega arith
 security_place_fits cells up at (b ∷ s) a le = if_fits (has_own up.security (b ∷ s)) at up.security_place (omega arith) a.security_place
 
 pub below_stands : (cells : Cells) (up : Above) (at : ℕ) (h : Head) (n : ℕ) → AboveStands cells up → Has cells (descriptor_place at h) (security_cells up (descriptor_place at h) h.security n)
-    → at + head_size up.security h ≤ 16777216 → n ≤ 16777216 → AboveStands cells (below up at h)
+    → at + head_size cells.version up.security h ≤ 16777216 → n ≤ 16777216 → AboveStands cells (below up at h)
 below_stands cells up at h n a has le few = record {
   place = omega arith;
   security_place = security_place_fits cells up (descriptor_place at h) h.security a (omega arith);
@@ -116,17 +117,17 @@ flags_again name flags h = go (is_narrow name)
         let e : flags - flags / 32 % 2 * 32 + 0 ≡ flags = omega arith in
         rw (e, h) refl
 
-pub node_fits : (cells : Cells) (up : Above) (at : ℕ) (h : Head) (keys : List Tree) → AboveStands cells up → IsKey h keys → AllHoldKeys (trees keys) → HeadNumbers h → at + head_size up.security h ≤ 16777216 → IsKeyNode (node_of up at h keys)
+pub node_fits : (cells : Cells) (up : Above) (at : ℕ) (h : Head) (keys : List Tree) → AboveStands cells up → IsKey h keys → AllHoldKeys (trees keys) → HeadNumbers h → at + head_size cells.version up.security h ≤ 16777216 → IsKeyNode (node_of cells.version up at h keys)
 node_fits cells up at h keys a f g n le = record {
   flags = flags_fit (is_narrow h.name) h.flags n.flags;
   stamp = n.stamp;
   parent = a.place;
   child_count = f.key_count;
   volatile_count = omega arith;
-  child_list = place_fits (length keys) (list_place up at h) (omega arith);
+  child_list = place_fits (length keys) (list_place cells.version up.security at h) (omega arith);
   volatile_list = omega arith;
   value_count = f.item_count;
-  value_list = place_fits (length h.values) (values_place up at h) (omega arith);
+  value_list = place_fits (length h.values) (values_place up.security at h) (omega arith);
   security = security_place_fits cells up (descriptor_place at h) h.security a (omega arith);
   class = place_fits (length h.class) (at + node_size h) (omega arith);
   greatest_child_name = omega (arith, short_names keys g);
@@ -155,48 +156,48 @@ security_is cells node s h = h
 
 -- what stands of a key's own cells
 pub record HeadHas (cells : Cells) (up : Above) (at : ℕ) (h : Head) (ts : Trees) : Type 0 where
-  pub node : cells at ≡ Ok (Rattle.hive_model.specs.Packed.filled (key_node_text (node_of up at h (listed ts))))
+  pub node : cells.payload at ≡ Ok (Rattle.hive_model.specs.Packed.filled (key_node_text (node_of cells.version up at h (listed ts))))
   pub class : Has cells (at + node_size h) (class_cells h.class)
   pub security : Has cells (descriptor_place at h) (security_cells up (descriptor_place at h) h.security (sharers_of_all h.security ts))
-  pub values : Has cells (values_place up at h) (items_cells (values_place up at h) h.values)
+  pub values : Has cells (values_place up.security at h) (items_cells cells.version (values_place up.security at h) h.values)
 
-pub head_has : (cells : Cells) (up : Above) (at : ℕ) (h : Head) (ts : Trees) → Has cells at (head_cells up at h ts) → HeadHas cells up at h ts
+pub head_has : (cells : Cells) (up : Above) (at : ℕ) (h : Head) (ts : Trees) → Has cells at (head_cells cells.version up at h ts) → HeadHas cells up at h ts
 unfolding head_cells
 head_has cells up at h ts has =
-    let node = key_node_text (node_of up at h (listed ts)) in
+    let node = key_node_text (node_of cells.version up at h (listed ts)) in
     let own = descriptor_place at h in
     let cls = class_cells h.class in
     let sec = security_cells up own h.security (sharers_of_all h.security ts) in
-    let vals = items_cells (values_place up at h) h.values in
-    let rest = has_next cells at (76 + Rattle.hive_model.specs.Size.name_bytes h.name) node (cls ++ (sec ++ vals)) (length_node up at h (listed ts)) has in
+    let vals = items_cells cells.version (values_place up.security at h) h.values in
+    let rest = has_next cells at (76 + Rattle.hive_model.specs.Size.name_bytes h.name) node (cls ++ (sec ++ vals)) (length_node cells.version up at h (listed ts)) has in
     let later = has_behind cells (at + node_size h) (class_size h.class) own cls (sec ++ vals) (space_class h.class) refl rest in
     record {
       node = has.0;
       class = has_front cells (at + node_size h) cls (sec ++ vals) rest;
       security = has_front cells own sec vals later;
-      values = has_behind cells own (security_size up.security h.security) (values_place up at h) sec vals (space_security up own h.security (sharers_of_all h.security ts)) refl later;
+      values = has_behind cells own (security_size up.security h.security) (values_place up.security at h) sec vals (space_security up own h.security (sharers_of_all h.security ts)) refl later;
     }
 
-pub places_fit : (shared : List ℕ) (at : ℕ) (ts : Trees) → at + size_of_all shared ts ≤ 16777216 → AreOffsets (places shared at ts)
-places_fit shared at none le = tt
-places_fit shared at (more t ts) le = (omega arith, places_fit shared (at + size shared t) ts (omega arith))
+pub places_fit : (version : HiveVersion) (shared : List ℕ) (at : ℕ) (ts : Trees) → at + size_of_all version shared ts ≤ 16777216 → AreOffsets (places version shared at ts)
+places_fit version shared at none le = tt
+places_fit version shared at (more t ts) le = (omega arith, places_fit version shared (at + size version shared t) ts (omega arith))
 
 mutual
-  tree_stands : (cells : Cells) (up : Above) (at : ℕ) (t : Tree) → AboveStands cells up → Has cells at (cells_of up at t) → HoldsKeys t → HasNumbers t → at + size up.security t ≤ 16777216 → Stands cells at t
+  tree_stands : (cells : Cells) (up : Above) (at : ℕ) (t : Tree) → AboveStands cells up → Has cells at (cells_of cells.version up at t) → HoldsKeys t → HasNumbers t → at + size cells.version up.security t ≤ 16777216 → Stands cells at t
   tree_stands cells up at (key h ts) a has f n le =
-      let first = children_place up at h (count ts) in
-      let os = places h.security first ts in
-      let hs = map hint (listed ts) in
-      let lists = list_cells (list_place up at h) os hs in
-      let all = cells_of_all (below up at h) first ts in
-      let mine = head_has cells up at h ts (has_front cells at (head_cells up at h ts) (lists ++ all) has) in
-      let behind_head = has_behind cells at (head_size up.security h) (list_place up at h) (head_cells up at h ts) (lists ++ all) (space_head up at h ts) (omega arith) has in
-      let list = has_front cells (list_place up at h) lists all behind_head in
-      let later = has_behind cells (list_place up at h) (list_size (count ts)) first lists all (space_lists (list_place up at h) h.security first ts) refl behind_head in
-      let few : sharers_of_all h.security ts ≤ 16777216 = omega (arith, few_of_all h.security h.security ts) in
+      let first = children_place cells.version up.security at h (count ts) in
+      let os = places cells.version h.security first ts in
+      let hs = map (hint cells.version) (listed ts) in
+      let lists = list_cells cells.version (list_place cells.version up.security at h) os hs in
+      let all = cells_of_all cells.version (below up at h) first ts in
+      let mine = head_has cells up at h ts (has_front cells at (head_cells cells.version up at h ts) (lists ++ all) has) in
+      let behind_head = has_behind cells at (head_size cells.version up.security h) (list_place cells.version up.security at h) (head_cells cells.version up at h ts) (lists ++ all) (space_head cells.version up at h ts) (omega arith) has in
+      let list = has_front cells (list_place cells.version up.security at h) lists all behind_head in
+      let later = has_behind cells (list_place cells.version up.security at h) (list_size (count ts)) first lists all (space_lists cells.version (list_place cells.version up.security at h) h.security first ts) refl behind_head in
+      let few : sharers_of_all h.security ts ≤ 16777216 = omega (arith, few_of_all cells.version h.security h.security ts) in
       let keys = subst AllHoldKeys (sym (trees_listed ts)) f.1 in
-      let node = node_of up at h (listed ts) in
-      let n_os = length_places h.security first ts in (
+      let node = node_of cells.version up at h (listed ts) in
+      let n_os = length_places cells.version h.security first ts in (
         os,
         record {
           node = node;
@@ -206,29 +207,29 @@ mutual
           stamp = refl;
           class = class_stands cells node (at + node_size h) h.class refl refl mine.class;
           security = security_is cells node h.security (descriptor_stands cells up (descriptor_place at h) h.security (sharers_of_all h.security ts) a mine.security (omega arith) few);
-          values = values_stand cells node (values_place up at h) h.values refl refl mine.values f.0.items n.0.items (omega arith);
-          children = children_named cells node (list_place up at h) os hs list (sym n_os) (ap (λ k. place_of_some k (list_place up at h)) (sym n_os)) (same_hints h.security first ts) (places_fit h.security first ts (omega arith)) (hints_of (listed ts)) (omega (arith, ap list_size n_os));
+          values = values_stand cells node (values_place up.security at h) h.values refl refl mine.values f.0.items n.0.items (omega arith);
+          children = children_named cells node (list_place cells.version up.security at h) os hs list (sym n_os) (ap (λ k. place_of_some k (list_place cells.version up.security at h)) (sym n_os)) (same_hints cells.version h.security first ts) (places_fit cells.version h.security first ts (omega arith)) (hints_of cells.version (listed ts)) (omega (arith, ap list_size n_os));
         },
         trees_stand cells (below up at h) first ts (below_stands cells up at h (sharers_of_all h.security ts) a mine.security (omega arith) few) later f.1 n.1 (omega arith),
       )
 
-  trees_stand : (cells : Cells) (up : Above) (at : ℕ) (ts : Trees) → AboveStands cells up → Has cells at (cells_of_all up at ts) → AllHoldKeys ts → AllHaveNumbers ts → at + size_of_all up.security ts ≤ 16777216 → AllStand cells (places up.security at ts) ts
+  trees_stand : (cells : Cells) (up : Above) (at : ℕ) (ts : Trees) → AboveStands cells up → Has cells at (cells_of_all cells.version up at ts) → AllHoldKeys ts → AllHaveNumbers ts → at + size_of_all cells.version up.security ts ≤ 16777216 → AllStand cells (places cells.version up.security at ts) ts
   trees_stand cells up at none a has f n le = refl
   trees_stand cells up at (more t ts) a has f n le =
-      let next = at + size up.security t in
-      let back = has_behind cells at (size up.security t) next (cells_of up at t) (cells_of_all up next ts) (space_tree up at t) refl has in (
+      let next = at + size cells.version up.security t in
+      let back = has_behind cells at (size cells.version up.security t) next (cells_of cells.version up at t) (cells_of_all cells.version up next ts) (space_tree cells.version up at t) refl has in (
         at,
-        places up.security next ts,
+        places cells.version up.security next ts,
         refl,
-        tree_stands cells up at t a (has_front cells at (cells_of up at t) (cells_of_all up next ts) has) f.0 n.0 (omega arith),
+        tree_stands cells up at t a (has_front cells at (cells_of cells.version up at t) (cells_of_all cells.version up next ts) has) f.0 n.0 (omega arith),
         trees_stand cells up next ts a back f.1 n.1 (omega arith),
       )
 
-pub above_root : (cells : Cells) (t : Tree) → 32 + size [] t ≤ 16777216 → AboveStands cells (top (ring [] 32 t))
-above_root cells t room = record { place = omega arith; security_place = omega arith; descriptor = refl; ring = ring_fits [] 32 t room }
+pub above_root : (cells : Cells) (t : Tree) → 32 + size cells.version [] t ≤ 16777216 → AboveStands cells (top (ring cells.version [] 32 t))
+above_root cells t room = record { place = omega arith; security_place = omega arith; descriptor = refl; ring = ring_fits cells.version [] 32 t room }
 
 pub packed_stands : PackedStands
-packed_stands t f n le =
-    let cells = look_up (packed_bins t) in
-    let room : 32 + size [] t ≤ 16777216 = omega arith in
-    tree_stands cells (top (ring [] 32 t)) 32 t (above_root cells t room) (has_all t) f.keys n room
+packed_stands version t f n le =
+    let cells = look_up version (packed_bins version t) in
+    let room : 32 + size version [] t ≤ 16777216 = omega arith in
+    tree_stands cells (top (ring version [] 32 t)) 32 t (above_root cells t room) (has_all version t) f.keys n room

@@ -4,6 +4,7 @@ use Rattle.std.specs.Prelude.{nat_eq, if◌then◌else◌}
 use lib.Pointwise.{pointwise}
 use Rattle.std.proofs.lemmas.Bool.{ne_eqb}
 use Rattle.std.proofs.lemmas.Slice.Eq.{bytes_eq-Decides}
+use Rattle.nt_bytes.specs.declared.version.HiveVersion.{HiveVersion}
 use Rattle.hive_model.specs.Tree.{Tree, Trees, key, none, more}
 use Rattle.hive_model.specs.Size.{cell, has_own, security_size, count, size, size_of_all}
 use Rattle.hive_model.specs.Walk.{nowhere}
@@ -60,24 +61,24 @@ apart up at p (inr b) l r q = omega arith
 -- ---- trees that do not name a place
 
 mutual
-  unnamed : (p : ℕ) (up : Above) (at hi : ℕ) (t : Tree) → at + size up.security t ≡ hi → Outside p at hi → (nowhere ≡ p → ⊥) → (up.security_place ≡ p → ⊥) → times p (named up at t) ≡ 0
-  unnamed p up at hi (key h ts) e out real above =
+  unnamed : (version : HiveVersion) (p : ℕ) (up : Above) (at hi : ℕ) (t : Tree) → at + size version up.security t ≡ hi → Outside p at hi → (nowhere ≡ p → ⊥) → (up.security_place ≡ p → ⊥) → times p (named version up at t) ≡ 0
+  unnamed version p up at hi (key h ts) e out real above =
       let own = descriptor_place at h in
-      let first = children_place up at h (count ts) in
+      let first = children_place version up.security at h (count ts) in
       let d = security_place_of up own h.security in
       let differs : d ≡ p → ⊥ = not_here up p at hi own h.security out (omega arith) (omega arith) real above in
-      other p d (named_of_all (below up at h) first ts) differs
-      ∙ all_unnamed p (below up at h) first hi ts (omega arith) (narrow p at hi first hi out (omega arith) (omega arith)) real differs
+      other p d (named_of_all version (below up at h) first ts) differs
+      ∙ all_unnamed version p (below up at h) first hi ts (omega arith) (narrow p at hi first hi out (omega arith) (omega arith)) real differs
 
-  all_unnamed : (p : ℕ) (up : Above) (at hi : ℕ) (ts : Trees) → at + size_of_all up.security ts ≡ hi → Outside p at hi → (nowhere ≡ p → ⊥) → (up.security_place ≡ p → ⊥) → times p (named_of_all up at ts) ≡ 0
-  all_unnamed p up at hi none e out real above = refl
-  all_unnamed p up at hi (more t ts) e out real above =
-      let next = at + size up.security t in
+  all_unnamed : (version : HiveVersion) (p : ℕ) (up : Above) (at hi : ℕ) (ts : Trees) → at + size_of_all version up.security ts ≡ hi → Outside p at hi → (nowhere ≡ p → ⊥) → (up.security_place ≡ p → ⊥) → times p (named_of_all version up at ts) ≡ 0
+  all_unnamed version p up at hi none e out real above = refl
+  all_unnamed version p up at hi (more t ts) e out real above =
+      let next = at + size version up.security t in
       omega (
         arith,
-        times-append p (named up at t) (named_of_all up next ts),
-        unnamed p up at next t refl (narrow p at hi at next out (omega arith) (omega arith)) real above,
-        all_unnamed p up next hi ts (omega arith) (narrow p at hi next hi out (omega arith) (omega arith)) real above,
+        times-append p (named version up at t) (named_of_all version up next ts),
+        unnamed version p up at next t refl (narrow p at hi at next out (omega arith) (omega arith)) real above,
+        all_unnamed version p up next hi ts (omega arith) (narrow p at hi next hi out (omega arith) (omega arith)) real above,
       )
 
 -- ---- trees below a key that names a place
@@ -96,23 +97,23 @@ shared_here p up own s ts rest low real above some sharing_below none_below = go
     go false q = let differs = place_apart up own p s low real q in other p (security_place_of up own s) rest differs ∙ none_below differs
 
 mutual
-  sharing : (p : ℕ) (up : Above) (at hi : ℕ) (t : Tree) → at + size up.security t ≡ hi → p < at → (nowhere ≡ p → ⊥) → up.security_place ≡ p → 0 < length up.security → times p (named up at t) ≡ sharers up.security t
-  sharing p up at hi (key h ts) e low real above some =
-      let first = children_place up at h (count ts) in
-      let rest = named_of_all (below up at h) first ts in
+  sharing : (version : HiveVersion) (p : ℕ) (up : Above) (at hi : ℕ) (t : Tree) → at + size version up.security t ≡ hi → p < at → (nowhere ≡ p → ⊥) → up.security_place ≡ p → 0 < length up.security → times p (named version up at t) ≡ sharers up.security t
+  sharing version p up at hi (key h ts) e low real above some =
+      let first = children_place version up.security at h (count ts) in
+      let rest = named_of_all version (below up at h) first ts in
       shared_here p up (descriptor_place at h) h.security ts rest (omega arith) real above some
-      (λ place many. all_sharing p (below up at h) first hi ts (omega arith) (omega arith) real place many)
-      (λ differs. all_unnamed p (below up at h) first hi ts (omega arith) (inl (omega arith)) real differs)
+      (λ place many. all_sharing version p (below up at h) first hi ts (omega arith) (omega arith) real place many)
+      (λ differs. all_unnamed version p (below up at h) first hi ts (omega arith) (inl (omega arith)) real differs)
 
-  all_sharing : (p : ℕ) (up : Above) (at hi : ℕ) (ts : Trees) → at + size_of_all up.security ts ≡ hi → p < at → (nowhere ≡ p → ⊥) → up.security_place ≡ p → 0 < length up.security → times p (named_of_all up at ts) ≡ sharers_of_all up.security ts
-  all_sharing p up at hi none e low real above some = refl
-  all_sharing p up at hi (more t ts) e low real above some =
-      let next = at + size up.security t in
+  all_sharing : (version : HiveVersion) (p : ℕ) (up : Above) (at hi : ℕ) (ts : Trees) → at + size_of_all version up.security ts ≡ hi → p < at → (nowhere ≡ p → ⊥) → up.security_place ≡ p → 0 < length up.security → times p (named_of_all version up at ts) ≡ sharers_of_all up.security ts
+  all_sharing version p up at hi none e low real above some = refl
+  all_sharing version p up at hi (more t ts) e low real above some =
+      let next = at + size version up.security t in
       omega (
         arith,
-        times-append p (named up at t) (named_of_all up next ts),
-        sharing p up at next t refl low real above some,
-        all_sharing p up next hi ts (omega arith) (omega arith) real above some,
+        times-append p (named version up at t) (named_of_all version up next ts),
+        sharing version p up at next t refl low real above some,
+        all_sharing version p up next hi ts (omega arith) (omega arith) real above some,
       )
 
 -- ---- all security cells
@@ -122,12 +123,12 @@ abbrev Agrees : List ℕ → List ℕ → ℕ → ℕ → Type 0
 Agrees names some lo hi = (p : ℕ) → lo ≤ p → p < hi → times p names ≡ times p some
 
 mutual
-  counted : (names : List ℕ) (up : Above) (at hi : ℕ) (t : Tree) → at + size up.security t ≡ hi → hi ≤ 16777216 → IsAbove up at → Agrees names (named up at t) at hi → AreCounted names up at t
-  counted names up at hi (key h ts) e small i g =
+  counted : (version : HiveVersion) (names : List ℕ) (up : Above) (at hi : ℕ) (t : Tree) → at + size version up.security t ≡ hi → hi ≤ 16777216 → IsAbove up at → Agrees names (named version up at t) at hi → AreCounted version names up at t
+  counted version names up at hi (key h ts) e small i g =
       let own = descriptor_place at h in
-      let first = children_place up at h (count ts) in
+      let first = children_place version up.security at h (count ts) in
       let d = security_place_of up own h.security in
-      let rest = named_of_all (below up at h) first ts in
+      let rest = named_of_all version (below up at h) first ts in
       let d-above : IsAbove (below up at h) (own + security_size up.security h.security) = above_below up at own h.security i (omega arith) in
       let first-above = later_above (below up at h) (own + security_size up.security h.security) first (omega arith) d-above in (
         λ mine.
@@ -135,32 +136,32 @@ mutual
             sym (
             g own (omega arith) (omega (arith, parts.2))
             ∙ once_more own d rest parts.0
-            ∙ ap (λ n. 1 + n) (all_sharing own (below up at h) first hi ts (omega arith) (omega (arith, parts.2)) (λ q. omega arith) parts.0 parts.1)
+            ∙ ap (λ n. 1 + n) (all_sharing version own (below up at h) first hi ts (omega arith) (omega (arith, parts.2)) (λ q. omega arith) parts.0 parts.1)
             ),
-        all_counted names (below up at h) first hi ts (omega arith) small first-above (λ p l r. g p (omega arith) r ∙ other p d rest (apart (below up at h) first p first-above l (omega arith))),
+        all_counted version names (below up at h) first hi ts (omega arith) small first-above (λ p l r. g p (omega arith) r ∙ other p d rest (apart (below up at h) first p first-above l (omega arith))),
       )
 
-  all_counted : (names : List ℕ) (up : Above) (at hi : ℕ) (ts : Trees) → at + size_of_all up.security ts ≡ hi → hi ≤ 16777216 → IsAbove up at → Agrees names (named_of_all up at ts) at hi → AllAreCounted names up at ts
-  all_counted names up at hi none e small i g = tt
-  all_counted names up at hi (more t ts) e small i g =
-      let next = at + size up.security t in
-      let front = named up at t in
-      let back = named_of_all up next ts in (
-        counted names up at next t refl (omega arith) i (λ p l r.
+  all_counted : (version : HiveVersion) (names : List ℕ) (up : Above) (at hi : ℕ) (ts : Trees) → at + size_of_all version up.security ts ≡ hi → hi ≤ 16777216 → IsAbove up at → Agrees names (named_of_all version up at ts) at hi → AllAreCounted version names up at ts
+  all_counted version names up at hi none e small i g = tt
+  all_counted version names up at hi (more t ts) e small i g =
+      let next = at + size version up.security t in
+      let front = named version up at t in
+      let back = named_of_all version up next ts in (
+        counted version names up at next t refl (omega arith) i (λ p l r.
             omega (
               arith,
               g p l (omega arith),
               times-append p front back,
-              all_unnamed p up next hi ts (omega arith) (inl r) (λ q. omega arith) (apart up at p i l (omega arith)),
+              all_unnamed version p up next hi ts (omega arith) (inl r) (λ q. omega arith) (apart up at p i l (omega arith)),
             )),
-        all_counted names up next hi ts (omega arith) small (later_above up at next (omega arith) i) (λ p l r.
+        all_counted version names up next hi ts (omega arith) small (later_above up at next (omega arith) i) (λ p l r.
             omega (
               arith,
               g p (omega arith) r,
               times-append p front back,
-              unnamed p up at next t refl (inr l) (λ q. omega arith) (apart up at p i (omega arith) (omega arith)),
+              unnamed version p up at next t refl (inr l) (λ q. omega arith) (apart up at p i (omega arith) (omega arith)),
             )),
       )
 
 pub uses_are_counted : PackedCountsUses
-uses_are_counted t room = counted (named (top (ring [] 32 t)) 32 t) (top (ring [] 32 t)) 32 (32 + size [] t) t refl (omega arith) (inr refl) (λ p l r. refl)
+uses_are_counted version t room = counted version (named version (top (ring version [] 32 t)) 32 t) (top (ring version [] 32 t)) 32 (32 + size version [] t) t refl (omega arith) (inr refl) (λ p l r. refl)

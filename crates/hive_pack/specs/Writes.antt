@@ -1,5 +1,6 @@
 -- What the writer's own types say, and lists of places that rise.
-use Rattle.std.specs.Prelude.{ℕ, ◌<◌, List, length, slice_index_or}
+use Rattle.std.specs.Prelude.{ℕ, ◌*◌, ◌<◌, List, ◌∷◌, length, slice_index_or}
+use Rattle.hive_model.specs.Size.{segment_count, segment_sizes, cells_sum}
 use Rattle.hive_model.specs.Packed.{Above}
 use Rattle.hive_pack.specs.declared.security.Up.{Up}
 
@@ -10,3 +11,7 @@ above up = record { place = up.place; security = up.security.now; security_place
 -- each place is below all later ones
 abbrev pub IsRising : List ℕ → Type 0
 IsRising xs = (i j : ℕ) → i < j → j < length xs → slice_index_or xs i 0 < slice_index_or xs j 0
+
+-- the cells of so many bytes of big data: `db`, the list of the segments, and the segments
+abbrev pub big_size : ℕ → ℕ
+big_size n = cells_sum (8 ∷ 4 * segment_count n ∷ segment_sizes (segment_count n) n)

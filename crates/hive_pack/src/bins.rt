@@ -15,24 +15,24 @@ use crate::numbers::numbers_fit;
 use crate::ring::ring_of;
 use crate::security::Up;
 use crate::write::write_key;
-use nt_bytes::Bytes;
+use nt_bytes::{Bytes, HiveVersion};
 use reg_tree::Key;
 use std::alloc::{AllocError, Global};
 
-/// The bins data of the tree's packed form. Their cells are well-formed at 32, and the tree is the
+/// The bins data of the tree's packed form in a version. Their cells are well-formed at 32, and the tree is the
 /// one that stands there.
 #[tactic(auto, unfolding(hive_model::specs::Packed::packed))]
-pub fn pack(alloc: Global, tree: &Key) -> Result<Bytes, AllocError>
+pub fn pack(alloc: Global, tree: &Key, version: HiveVersion) -> Result<Bytes, AllocError>
     requires valid { IsValid tree.now }
-    requires room { bulk_of tree.now ≤ 16773120 }
-    ensures bytes { IfOk result (λ b. b ≡ packed tree.now) }
+    requires room { bulk_of version tree.now ≤ 16773120 }
+    ensures bytes { IfOk result (λ b. b ≡ packed version tree.now) }
     ensures sized { IfOk result (λ b. is_bins_size (length b) ≡ true) }
-    ensures bins { IfOk result (λ b. IsBins b (packed_bins tree.now)) }
-    ensures well_formed { IfOk result (λ _. IsWellFormed (look_up (packed_bins tree.now)) 32 tree.now) }
+    ensures bins { IfOk result (λ b. IsBins b (packed_bins version tree.now)) }
+    ensures well_formed { IfOk result (λ _. IsWellFormed (look_up version (packed_bins version tree.now)) 32 tree.now) }
 {
     numbers_fit(tree);
     let mut ring = Vec::new(alloc);
-    let _end = ring_of(&mut ring, &[], 32, tree)?;
+    let _end = ring_of(&mut ring, version, &[], 32, tree)?;
     let mut out = Bytes::new(alloc);
     out.append_zeros(32)?;
     let top = Up {
@@ -41,7 +41,7 @@ pub fn pack(alloc: Global, tree: &Key) -> Result<Bytes, AllocError>
         security_place: NOWHERE,
         ring: &ring,
     };
-    write_key(alloc, &mut out, top, tree)?;
+    write_key(alloc, &mut out, version, top, tree)?;
     let used = out.len();
     let size = (used + 4095) / 4096 * 4096;
     put_free(&mut out, size - used)?;

@@ -6,15 +6,15 @@ ghost use Rattle.std.specs.Prelude.{◌++◌, ◌-◌};
 ghost use lib.ListN.{replicate};
 ghost use Rattle.hive_model.specs.Tree.{Item, Tree, head, children};
 ghost use Rattle.hive_model.specs.Valid.{HoldsKeys};
-ghost use Rattle.hive_model.specs.Size.{item_size, head_size, list_size};
-ghost use Rattle.hive_model.specs.Packed.{item_form, node_of, stored_flags, greatest, place_of_some};
+ghost use Rattle.hive_model.specs.Size.{head_size, list_size};
+ghost use Rattle.hive_model.specs.Packed.{data_place, item_form, node_of, stored_flags, greatest, place_of_some};
 ghost use Rattle.cell_forms.specs.Views.{key_node_of, key_value_of};
 ghost use Rattle.hive_pack.specs.Writes.{above};
 
 use crate::security::{Up, security_place};
 use crate::sizes::{cell_size, class_len, is_narrow, name_len, node_len, security_len, values_len};
 use cell_forms::{NkForm, VkForm};
-use nt_bytes::{Bytes, Units, u32_at};
+use nt_bytes::{Bytes, HiveVersion, Units, u32_at};
 use reg_tree::{Key, Value};
 use std::alloc::{AllocError, Global};
 
@@ -43,7 +43,7 @@ fn size_field(bytes: &[u8]) -> u32
 }
 
 fn offset_field(alloc: Global, at: usize, value: &Value) -> Result<u32, AllocError>
-    requires { at + item_size value.now ≤ 16777216 }
+    requires { data_place at value.now ≤ 16777216 }
     ensures { IfOk result (λ n. n ≡ (item_form at value.now).offset) }
 {
     let data = value.data();
@@ -56,7 +56,8 @@ fn offset_field(alloc: Global, at: usize, value: &Value) -> Result<u32, AllocErr
 
 /// What the cell of a value says that stands here.
 pub(crate) fn value_form(alloc: Global, at: usize, value: &Value) -> Result<VkForm, AllocError>
-    requires { at + item_size value.now ≤ 16777216 }
+    requires place { data_place at value.now ≤ 16777216 }
+    requires bytes { length value.now.bytes ≤ 16777216 }
     ensures { IfOk result (λ f. key_value_of f ≡ item_form at value.now) }
 {
     Ok(VkForm {
@@ -153,20 +154,21 @@ fn place_of_some(n: usize, at: usize) -> u32
 /// What the node of a key says whose cells begin here.
 pub(crate) fn node_form(
     alloc: Global,
+    version: HiveVersion,
     up: Up<'_>,
     at: usize,
     key: &Key,
 ) -> Result<NkForm, AllocError>
     requires valid { HoldsKeys key.now }
-    requires room { at + head_size up.security.now (head key.now) + list_size (length (children key.now)) ≤ 16777216 }
-    ensures { IfOk result (λ f. key_node_of f ≡ node_of (above up.entry) at (head key.now) (children key.now)) }
+    requires room { at + head_size version up.security.now (head key.now) + list_size (length (children key.now)) ≤ 16777216 }
+    ensures { IfOk result (λ f. key_node_of f ≡ node_of version (above up.entry) at (head key.now) (children key.now)) }
 {
     let keys = key.subkeys();
     let values = key.items();
     let class_at = at + node_len(key);
     let own_at = class_at + class_len(key.class());
     let values_at = own_at + security_len(up.security, key.security());
-    let list_at = values_at + values_len(values);
+    let list_at = values_at + values_len(version, values);
     Ok(NkForm {
         flags: node_flags(key),
         stamp: key.stamp,

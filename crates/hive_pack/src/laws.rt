@@ -1,6 +1,7 @@
 //! What holds of packed trees.
 
 ghost use Rattle.std.specs.Prelude.{◌≡◌, ◌<◌, ◌+◌, ℕ, List, [], length, slice_index_or};
+ghost use Rattle.nt_bytes.specs.declared.version.HiveVersion.{HiveVersion};
 ghost use Rattle.hive_model.specs.Tree.{Tree};
 ghost use Rattle.hive_model.specs.Packed.{ring, forward, backward};
 ghost use Rattle.hive_pack.specs.Numbers.{PackedStands, PackedIsWellFormed, PackedIsBins};
@@ -27,7 +28,7 @@ pub fn packed_form_is_its_bins()
 /// last to the first, each backward to the one before, the first to the last; so the way back from
 /// the one that is next leads where it began.
 pub fn security_cells_are_a_ring()
-    ensures rising { (t : Tree) → IsRising (ring [] 32 t) }
+    ensures rising { (version : HiveVersion) (t : Tree) → IsRising (ring version [] 32 t) }
     ensures next { (places : List ℕ) (i : ℕ) → IsRising places → i + 1 < length places
         → forward places (slice_index_or places i 0) ≡ slice_index_or places (i + 1) 0 }
     ensures last { (places : List ℕ) (i : ℕ) → IsRising places → i + 1 ≡ length places

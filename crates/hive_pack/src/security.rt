@@ -2,7 +2,7 @@
 
 ghost use Rattle.std.specs.Prelude.{◌≡◌, ◌≤◌, ◌+◌, ◌++◌, length, OnOk};
 ghost use Rattle.hive_model.specs.Tree.{head, trees};
-ghost use Rattle.hive_model.specs.Size.{node_size, class_size, security_size, size, size_of_all};
+ghost use Rattle.hive_model.specs.Size.{node_size, class_size, security_size};
 ghost use Rattle.hive_model.specs.Packed.{below, descriptor_place, security_place_of, security_cells, sharers, sharers_of_all, text, forward, backward};
 ghost use Rattle.hive_pack.specs.Writes.{above, IsRising};
 
@@ -55,7 +55,7 @@ pub(crate) fn below_up<'a>(up: Up<'a>, at: usize, key: &'a Key) -> Up<'a>
 /// How many keys use this descriptor with the key above them.
 #[cycle(sharers)]
 fn sharers(security: &[u8], key: &Key) -> u32
-    requires { size security.now key.now ≤ 16777216 }
+    requires { sharers security.now key.now ≤ 16777216 }
     ensures { result ≡ sharers security.now key.now }
 {
     if security == key.security() {
@@ -67,7 +67,7 @@ fn sharers(security: &[u8], key: &Key) -> u32
 
 #[cycle(sharers)]
 fn sharers_of_all(security: &[u8], keys: &[Key]) -> u32
-    requires { size_of_all security.now (trees keys.now) ≤ 16777216 }
+    requires { sharers_of_all security.now (trees keys.now) ≤ 16777216 }
     ensures { result ≡ sharers_of_all security.now (trees keys.now) }
 {
     let mut found = 0;
@@ -127,7 +127,7 @@ pub(crate) fn write_security(
 ) -> Result<(), AllocError>
     requires rising { IsRising up.ring.now }
     requires room { length out.old + security_size up.security.now security.now ≤ 16777216 }
-    requires below { size_of_all security.now (trees keys.now) ≤ 16777216 }
+    requires few { sharers_of_all security.now (trees keys.now) ≤ 16777216 }
     ensures { OnOk result (out.new ≡ out.old ++ text (security_cells (above up.entry) (length out.old) security.now (sharers_of_all security.now (trees keys.now)))) }
 {
     if is_own(up.security, security) {

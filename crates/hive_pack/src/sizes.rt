@@ -1,10 +1,18 @@
 //! How many bytes cells take.
 
-ghost use Rattle.std.specs.Prelude.{◌≡◌, ◌≤◌, ◌+◌, length};
+ghost use Rattle.std.specs.Prelude.{◌≡◌, ◌≤◌, ◌<◌, ◌+◌, length};
 ghost use Rattle.hive_model.specs.Tree.{head};
-ghost use Rattle.hive_model.specs.Size.{cell, is_narrow, name_bytes, item_size, items_size, class_size, has_own, security_size, node_size, part_count, list_size};
+ghost use Rattle.hive_model.specs.Size.{cell, is_narrow, name_bytes, is_big, segment_count, data_size, item_size, items_size, class_size, has_own, security_size, node_size, part_count, list_size};
+ghost use Rattle.hive_pack.specs.Writes.{big_size};
 
+use nt_bytes::HiveVersion;
 use reg_tree::{Key, Value};
+
+/// How many bytes a full segment of big data holds.
+pub(crate) const SEGMENT: usize = 16344;
+
+/// How many bytes the cell of a full segment takes.
+pub(crate) const SEGMENT_CELL: usize = 16352;
 
 pub(crate) fn cell_size(payload: usize) -> usize
     requires { payload ≤ 16777216 }
@@ -70,18 +78,59 @@ pub(crate) fn security_len(shared: &[u8], security: &[u8]) -> usize
     }
 }
 
-fn value_len(value: &Value) -> usize
-    requires { item_size value.now ≤ 16777216 }
-    ensures { result ≡ item_size value.now }
+/// Whether data of so many bytes stand in segments.
+pub(crate) fn is_big(version: HiveVersion, n: usize) -> bool
+    ensures { result ≡ is_big version n }
 {
-    let own = cell_size(20 + name_len(value.name()));
-    let len = value.data().len();
-    if len > 4 { own + cell_size(len) } else { own }
+    match version {
+        HiveVersion::V3 => false,
+        HiveVersion::V5 => n > SEGMENT,
+    }
 }
 
-pub(crate) fn values_len(values: &[Value]) -> usize
-    requires { items_size values.now ≤ 16777216 }
-    ensures { result ≡ items_size values.now }
+/// How many segments so many bytes fill.
+pub(crate) fn segment_count(n: usize) -> usize
+    requires { n ≤ 16777216 }
+    ensures { result ≡ segment_count n }
+{
+    (n + 16343) / SEGMENT
+}
+
+/// The cells of so many bytes in segments: of `db`, of the list, and of segments that are full but
+/// for the last.
+#[tactic(auto, using(crate::proofs::Rows::segments_size))]
+fn big_len(n: usize) -> usize
+    requires some { 0 < n }
+    requires few { n ≤ 16777216 }
+    ensures { result ≡ big_size n }
+{
+    let count = segment_count(n);
+    let full = count - 1;
+    16 + cell_size(4 * count) + full * SEGMENT_CELL + cell_size(n - full * SEGMENT)
+}
+
+/// The cells of a value's data.
+fn data_len(version: HiveVersion, bytes: &[u8]) -> usize
+    requires { data_size version bytes.now ≤ 16777216 }
+    ensures { result ≡ data_size version bytes.now }
+{
+    let n = bytes.len();
+    if is_big(version, n) {
+        return big_len(n);
+    }
+    if n > 4 { cell_size(n) } else { 0 }
+}
+
+fn value_len(version: HiveVersion, value: &Value) -> usize
+    requires { item_size version value.now ≤ 16777216 }
+    ensures { result ≡ item_size version value.now }
+{
+    cell_size(20 + name_len(value.name())) + data_len(version, value.data())
+}
+
+pub(crate) fn values_len(version: HiveVersion, values: &[Value]) -> usize
+    requires { items_size version values.now ≤ 16777216 }
+    ensures { result ≡ items_size version values.now }
 {
     if values.is_empty() {
         return 0;
@@ -92,7 +141,7 @@ pub(crate) fn values_len(values: &[Value]) -> usize
         let [value, more @ ..] = rest else {
             return total;
         };
-        total += value_len(value);
+        total += value_len(version, value);
         rest = more;
     }
 }

@@ -5,14 +5,14 @@ ghost use Rattle.hive_model.specs.Valid.{IsValid};
 ghost use Rattle.hive_model.specs.Size.{bulk_of};
 
 use super::*;
-use nt_bytes::{Bytes, narrow};
+use nt_bytes::{Bytes, HiveVersion, narrow};
 use reg_tree::{Key, Keys, Values};
 use std::alloc::{AllocError, Global};
 use std::test::Fail;
 
 fn root(alloc: Global) -> Result<Key, AllocError>
     ensures valid { IfOk result IsValid }
-    ensures small { IfOk result (λ k. bulk_of k ≤ 16773120) }
+    ensures small { IfOk result (λ k. bulk_of HiveVersion.V3 k ≤ 16773120) }
 {
     Ok(Key {
         name: narrow(alloc, b"R")?,
@@ -28,7 +28,7 @@ fn root(alloc: Global) -> Result<Key, AllocError>
 #[test]
 fn a_root_alone(rt: HostRuntime) -> Result<(), Fail> {
     let tree = root(rt.alloc())?;
-    let bins = pack(rt.alloc(), &tree)?;
+    let bins = pack(rt.alloc(), &tree, HiveVersion::V3)?;
     assert_eq!(rt; bins.len(), 4096);
     let bytes = bins.as_slice();
     assert_eq!(rt;

@@ -4,7 +4,7 @@ use Rattle.hive_pack.proofs.Turning.{next_is, next_of_last, before_is, before_fi
 use Rattle.hive_pack.proofs.laws.security_cells_are_a_ring.Goals as goal
 
 pub returns-clause-rising : goal.returns-clause-rising
-returns-clause-rising c = ring_rises [] 32
+returns-clause-rising c = λ version t. ring_rises version [] 32 t
 
 pub returns-clause-next : goal.returns-clause-next
 returns-clause-next c = λ xs i r lt. sym (next_is xs (get_or xs i 0) i r (omega arith) refl lt)

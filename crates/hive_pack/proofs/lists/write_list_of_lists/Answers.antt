@@ -1,8 +1,9 @@
-use Rattle.std.proofs.Common.{◌≡◌, ◌+◌, ◌*◌, ◌++◌, List, ℕ, length, sym, ap, ◌∙◌, append_assoc, arith}
+use Rattle.std.proofs.Common.{◌≡◌, ◌+◌, ◌*◌, ◌++◌, List, ℕ, length, map, sym, ap, ◌∙◌, append_assoc, arith}
 use Rattle.hive_model.specs.Size.{cell, part_count}
 use Rattle.hive_model.specs.Forms.{ri_text}
-use Rattle.hive_model.specs.Packed.{cell_text, text, part_places, parts}
-use Rattle.hive_pack.proofs.Rows.{length_ri, length_part_places, many_lists, lists_many}
+use Rattle.hive_model.specs.Packed.{cell_text, text, hint, part_places, parts}
+use Rattle.hive_model.proofs.Spelling.{length_ri}
+use Rattle.hive_pack.proofs.Rows.{length_part_places, many_lists, lists_many}
 use Rattle.hive_pack.proofs.Written.{on_ok}
 use Rattle.hive_pack.proofs.lists.write_list_of_lists.Goals as goal
 
@@ -36,13 +37,14 @@ put_cell-requires c =
 pub returns : goal.returns
 returns c =
     let ps = c.args.places.now in
-    let hs = c.args.hints.now in
+    let ks = c.args.keys.now in
+    let hs = map (hint c.args.version) ks in
     let out = c.args.out.now in
     let n = c.part_count-count.ensures in
     let list : c.as_slice.result.now ≡ ri_text (part_places (part_count (length ps)) (c.args.at + cell (4 + 4 * part_count (length ps)))) =
     c.as_slice.ensures ∙ c.in_ok-list.ensures ∙ ap ri_text (c.deref.ensures.value ∙ c.in_ok-starts.ensures ∙ (λ j. part_places (n j) (c.args.at + (c.cell_size.ensures ∙ ap (λ k. cell (4 + 4 * k)) n) j))) in
     on_ok c.write_parts.result _ _
-    (λ e. e ∙ (λ j. (c.in_ok-put_cell.ensures ∙ ap (λ (x : List ℕ). out ++ cell_text x) list) j ++ text (parts (n j) ps hs))
+    (λ e. e ∙ (λ j. (c.in_ok-put_cell.ensures ∙ ap (λ (x : List ℕ). out ++ cell_text x) list) j ++ text (parts c.args.version (n j) ps hs))
     ∙ append_assoc out _ _
-    ∙ ap (λ (x : List ℕ). out ++ x) (sym (lists_many c.args.at ps hs c.requires.many)))
+    ∙ ap (λ (x : List ℕ). out ++ x) (sym (lists_many c.args.version c.args.at ps hs c.requires.many)))
     c.write_parts.ensures

@@ -1,6 +1,5 @@
 use Rattle.std.proofs.Common.{◌≡◌, ◌+◌, ◌≤◌, length}
 use Rattle.hive_model.specs.Tree.{trees, weight, weights}
-use Rattle.hive_model.specs.Size.{size_of_all}
 use Rattle.hive_model.specs.Packed.{sharers_of_all}
 use Rattle.hive_pack.proofs.security.+sharers.Given as goal
 
@@ -13,7 +12,6 @@ decreases-sharers_of_all l = weights l.keys.now
 abbrev pub invariant-sharers_of_all-keys : goal.invariant-sharers_of_all-keys
 invariant-sharers_of_all-keys l = record {
   found : l.found + sharers_of_all l.security (trees l.rest) ≡ sharers_of_all l.security (trees l.keys);
-  room : size_of_all l.security (trees l.rest) ≤ 16777216;
   fewer : weights l.rest ≤ weights l.keys;
 }
 

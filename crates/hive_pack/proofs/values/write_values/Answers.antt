@@ -9,20 +9,20 @@ use Rattle.hive_pack.proofs.values.write_values.Goals as goal
 pub put_cell-requires : goal.put_cell-requires
 put_cell-requires c =
     let vs = c.args.values.now in
-    omega (arith, ap (λ (x : List ℕ). length x) (c.as_slice.ensures ∙ c.in_ok-places.ensures.places), length_values_list (length c.append_zeros.new.self) vs, values_room vs (omega arith))
+    omega (arith, ap (λ (x : List ℕ). length x) (c.as_slice.ensures ∙ c.in_ok-places.ensures.places), length_values_list c.args.version (length c.append_zeros.new.self) vs, values_room c.args.version vs (omega arith))
 
 pub overwrite-requires : goal.overwrite-requires
 overwrite-requires c =
     let vs = c.args.values.now in
     let kept = c.append_zeros.new.self in
-    let list : c.as_slice-2.result.now ≡ cell_text (offsets_text (item_places (length kept) vs)) = c.as_slice-2.ensures ∙ c.in_ok-put_cell.ensures ∙ rw (c.new-list.ensures, c.as_slice.ensures, c.in_ok-places.ensures.places) refl in
+    let list : c.as_slice-2.result.now ≡ cell_text (offsets_text (item_places c.args.version (length kept) vs)) = c.as_slice-2.ensures ∙ c.in_ok-put_cell.ensures ∙ rw (c.new-list.ensures, c.as_slice.ensures, c.in_ok-places.ensures.places) refl in
     omega (
       arith,
       ap (λ (x : List ℕ). length x) list,
-      length_cell (offsets_text (item_places (length kept) vs)),
-      length_values_list (length kept) vs,
+      length_cell (offsets_text (item_places c.args.version (length kept) vs)),
+      length_values_list c.args.version (length kept) vs,
       ap (λ (x : List ℕ). length x) c.in_ok-places.ensures.written,
-      length-append kept (text (cells_of_items (length kept) vs)),
+      length-append kept (text (cells_of_items c.args.version (length kept) vs)),
       ap (λ (x : List ℕ). length x) c.in_ok-append_zeros.ensures,
       length-append c.args.out.now (zeros c.cell_size.result),
       length-zeros c.cell_size.result,
@@ -33,6 +33,6 @@ overwrite-requires c =
 pub returns : goal.returns
 returns c =
     let vs = c.args.values.now in
-    let list : c.as_slice-2.result.now ≡ cell_text (offsets_text (item_places (length c.append_zeros.new.self) vs)) = c.as_slice-2.ensures ∙ c.in_ok-put_cell.ensures ∙ rw (c.new-list.ensures, c.as_slice.ensures, c.in_ok-places.ensures.places) refl in
-    values_written c.args.out.now c.append_zeros.new.self c.write_each_value.new.out c.as_slice-2.result.now c.overwrite.new.self c.len-at.result c.cell_size.result vs (omega arith) c.len-at.ensures c.cell_size.ensures c.in_ok-append_zeros.ensures
+    let list : c.as_slice-2.result.now ≡ cell_text (offsets_text (item_places c.args.version (length c.append_zeros.new.self) vs)) = c.as_slice-2.ensures ∙ c.in_ok-put_cell.ensures ∙ rw (c.new-list.ensures, c.as_slice.ensures, c.in_ok-places.ensures.places) refl in
+    values_written c.args.version c.args.out.now c.append_zeros.new.self c.write_each_value.new.out c.as_slice-2.result.now c.overwrite.new.self c.len-at.result c.cell_size.result vs (omega arith) c.len-at.ensures c.cell_size.ensures c.in_ok-append_zeros.ensures
     c.in_ok-places.ensures.written list c.overwrite.ensures

@@ -1,11 +1,11 @@
 use Rattle.std.proofs.Common.{◌≡◌, ◌≤◌, ◌+◌, ◌-◌, ◌++◌, List, [], ◌∷◌, ℕ, length, take, drop, map, sym, ap, subst, ◌∙◌, append_assoc, arith}
+use Rattle.nt_bytes.specs.declared.version.HiveVersion.{HiveVersion}
 use Rattle.hive_model.specs.Tree.{Tree, trees, listed, head, children, weights}
 use Rattle.hive_model.specs.Valid.{AllHoldKeys}
 use Rattle.hive_model.specs.Size.{count, list_size, size_of_all}
-use Rattle.hive_model.specs.Forms.{AreHints}
 use Rattle.hive_model.specs.Packed.{Above, below, text, places, hint, list_cells, cells_of, cells_of_all}
 use Rattle.hive_pack.specs.Writes.{above, IsRising}
-use Rattle.hive_pack.proofs.Rows.{hints_of, same_hints, length_places, length_text, space_lists}
+use Rattle.hive_pack.proofs.Rows.{length_places, length_text, space_lists}
 use Rattle.hive_pack.proofs.Written.{uncons, parted, counted, listed_trees, size_parted, weight_parted, holds_parted, lists_place, first_place, key_written, child_next, child_next_place, list_room}
 use Rattle.hive_pack.proofs.write.+pack.Goals as goal
 
@@ -18,15 +18,15 @@ write_children-children-preserved m c =
     let rest = c.children.rest.now in
     let later : List Tree = take (length rest - 1) (drop 1 rest) in
     let r : rest ≡ t ∷ later = uncons rest t c.in-len1-up.len_at_least c.child-item.is in
-    let at = child_next_place up t out c.write_key.new.out c.in_ok-write_key.ensures in
-    let room = subst (λ (xs : List Tree). length out + size_of_all up.security (trees xs) ≤ 16777216) r i.room in
+    let at = child_next_place c.args.version up t out c.write_key.new.out c.in_ok-write_key.ensures in
+    let room = subst (λ (xs : List Tree). length out + size_of_all c.args.version up.security (trees xs) ≤ 16777216) r i.room in
     record {
-      written = child_next up t (trees later) out c.write_key.new.out c.in_ok-write_key.ensures ∙ ap (λ (xs : List Tree). out ++ text (cells_of_all up (length out) (trees xs))) (sym r) ∙ i.written;
+      written = child_next c.args.version up t (trees later) out c.write_key.new.out c.in_ok-write_key.ensures ∙ ap (λ (xs : List Tree). out ++ text (cells_of_all c.args.version up (length out) (trees xs))) (sym r) ∙ i.written;
       places =
-          ap (λ (ps : List ℕ). ps ++ places up.security (length c.write_key.new.out) (trees later)) (c.in_ok-push.ensures.items ∙ ap (λ (n : ℕ). c.children.places.items ++ n ∷ []) c.len.ensures)
-          ∙ append_assoc c.children.places.items (length out ∷ []) (places up.security (length c.write_key.new.out) (trees later))
-          ∙ ap (λ (n : ℕ). c.children.places.items ++ length out ∷ places up.security n (trees later)) at
-          ∙ ap (λ (xs : List Tree). c.children.places.items ++ places up.security (length out) (trees xs)) (sym r)
+          ap (λ (ps : List ℕ). ps ++ places c.args.version up.security (length c.write_key.new.out) (trees later)) (c.in_ok-push.ensures.items ∙ ap (λ (n : ℕ). c.children.places.items ++ n ∷ []) c.len.ensures)
+          ∙ append_assoc c.children.places.items (length out ∷ []) (places c.args.version up.security (length c.write_key.new.out) (trees later))
+          ∙ ap (λ (n : ℕ). c.children.places.items ++ length out ∷ places c.args.version up.security n (trees later)) at
+          ∙ ap (λ (xs : List Tree). c.children.places.items ++ places c.args.version up.security (length out) (trees xs)) (sym r)
           ∙ i.places;
       valid = (subst (λ (xs : List Tree). AllHoldKeys (trees xs)) r i.valid).1;
       room = omega (arith, room, at);
@@ -41,7 +41,7 @@ write_key-write_children-requires m c =
     let old = c.args.out.now in
     let f = holds_parted t c.requires.valid in
     let n : c.list_len.result ≡ list_size (count (trees cs)) = c.list_len.ensures ∙ ap (λ (ks : List Tree). list_size (length ks)) (c.subkeys-keys.ensures ∙ sym (listed_trees cs)) in
-    let first = first_place up (head t) (trees cs) old c.write_head.new.out c.append_zeros.new.self c.list_len.result c.in_ok-write_head.ensures n c.in_ok-append_zeros.ensures in
+    let first = first_place c.args.version up (head t) (trees cs) old c.write_head.new.out c.append_zeros.new.self c.list_len.result c.in_ok-write_head.ensures n c.in_ok-append_zeros.ensures in
     let security = ap (λ (u : Above). u.security) c.below_up-mine.ensures in (
       omega (arith, weight_parted t, ap weights c.subkeys-keys.ensures),
       (
@@ -52,9 +52,9 @@ write_key-write_children-requires m c =
             arith,
             first,
             c.requires.room,
-            size_parted up.security t,
+            size_parted c.args.version up.security t,
             ap list_size (counted cs),
-            ap (λ (s : List ℕ). size_of_all s (trees c.subkeys-keys.result.now)) security ∙ ap (λ (ks : List Tree). size_of_all (head t).security (trees ks)) c.subkeys-keys.ensures,
+            ap (λ (s : List ℕ). size_of_all c.args.version s (trees c.subkeys-keys.result.now)) security ∙ ap (λ (ks : List Tree). size_of_all c.args.version (head t).security (trees ks)) c.subkeys-keys.ensures,
           ),
         ),
       ),
@@ -65,13 +65,7 @@ write_key-write_lists-requires-clause-same m c =
     let ks = c.subkeys-keys.result.now in
     let security = c.below_up-mine.result.security.now in
     let two = length c.append_zeros.new.self in
-    ap (λ (x : List ℕ). length x) (c.deref.ensures.value ∙ c.in_ok-places.ensures.places)
-    ∙ same_hints security two (trees ks)
-    ∙ ap (λ (us : List Tree). length (map hint us)) (listed_trees ks)
-    ∙ ap (λ (x : List (List ℕ)). length x) (sym (c.deref-2.ensures.value ∙ c.in_ok-hints.ensures))
-
-pub write_key-write_lists-requires-clause-four : goal.write_key-write_lists-requires-clause-four
-write_key-write_lists-requires-clause-four m c = subst AreHints (sym (c.deref-2.ensures.value ∙ c.in_ok-hints.ensures)) (hints_of c.subkeys-keys.result.now)
+    ap (λ (x : List ℕ). length x) (c.deref.ensures.value ∙ c.in_ok-places.ensures.places) ∙ length_places c.args.version security two (trees ks) ∙ counted ks
 
 pub write_key-write_lists-requires-clause-room : goal.write_key-write_lists-requires-clause-room
 write_key-write_lists-requires-clause-room m c =
@@ -80,26 +74,27 @@ write_key-write_lists-requires-clause-room m c =
     let up = above c.args.up in
     let n : length c.deref.result.now ≡ length (children t) =
     ap (λ (x : List ℕ). length x) (c.deref.ensures.value ∙ c.in_ok-places.ensures.places)
-    ∙ length_places c.below_up-mine.result.security.now (length c.append_zeros.new.self) (trees ks)
+    ∙ length_places c.args.version c.below_up-mine.result.security.now (length c.append_zeros.new.self) (trees ks)
     ∙ counted ks
     ∙ ap (λ (us : List Tree). length us) c.subkeys-keys.ensures in
     omega (
       arith,
       c.len-list_at.ensures,
-      lists_place up (head t) (trees (children t)) c.args.out.now c.write_head.new.out c.in_ok-write_head.ensures,
+      lists_place c.args.version up (head t) (trees (children t)) c.args.out.now c.write_head.new.out c.in_ok-write_head.ensures,
       ap list_size n,
-      size_parted up.security t,
+      size_parted c.args.version up.security t,
       c.requires.room,
     )
 
 -- what was written of the lists
-lists_are : (at n : ℕ) (security shared : List ℕ) (ks cs : List Tree) (start new list ps : List ℕ) (hs : List (List ℕ)) → ks ≡ cs → security ≡ shared → ps ≡ places security n (trees ks) → hs ≡ map hint ks
-    → start ≡ [] → new ≡ start ++ text (list_cells at ps hs) → list ≡ new → list ≡ text (list_cells at (places shared n (trees cs)) (map hint (listed (trees cs))))
-lists_are at n security shared ks cs start new list ps hs k s p h e w l =
-    l ∙ w ∙ ap (λ (x : List ℕ). x ++ text (list_cells at ps hs)) e
-    ∙ (λ j. text (list_cells at (p j) (h j)))
-    ∙ (λ j. text (list_cells at (places (s j) n (trees (k j))) (map hint (k j))))
-    ∙ ap (λ (us : List Tree). text (list_cells at (places shared n (trees cs)) (map hint us))) (sym (listed_trees cs))
+lists_are : (version : HiveVersion) (at n : ℕ) (security shared : List ℕ) (ks cs : List Tree) (start new list ps : List ℕ) → ks ≡ cs → security ≡ shared → ps ≡ places version security n (trees ks)
+    → start ≡ [] → new ≡ start ++ text (list_cells version at ps (map (hint version) ks)) → list ≡ new
+    → list ≡ text (list_cells version at (places version shared n (trees cs)) (map (hint version) (listed (trees cs))))
+lists_are version at n security shared ks cs start new list ps k s p e w l =
+    l ∙ w ∙ ap (λ (x : List ℕ). x ++ text (list_cells version at ps (map (hint version) ks))) e
+    ∙ (λ j. text (list_cells version at (p j) (map (hint version) ks)))
+    ∙ (λ j. text (list_cells version at (places version (s j) n (trees (k j))) (map (hint version) (k j))))
+    ∙ ap (λ (us : List Tree). text (list_cells version at (places version shared n (trees cs)) (map (hint version) us))) (sym (listed_trees cs))
 
 pub write_key-overwrite-requires : goal.write_key-overwrite-requires
 write_key-overwrite-requires m c =
@@ -109,16 +104,16 @@ write_key-overwrite-requires m c =
     let two = c.append_zeros.new.self in
     let n : c.list_len.result ≡ list_size (count (trees cs)) = c.list_len.ensures ∙ ap (λ (us : List Tree). list_size (length us)) (c.subkeys-keys.ensures ∙ sym (listed_trees cs)) in
     let security = ap (λ (u : Above). u.security) c.below_up-mine.ensures in
-    let list = lists_are c.len-list_at.result (length two) c.below_up-mine.result.security.now (head t).security ks cs c.new-lists.result c.write_lists.new.out c.as_slice.result.now c.deref.result.now c.deref-2.result.now
-    c.subkeys-keys.ensures security (c.deref.ensures.value ∙ c.in_ok-places.ensures.places) (c.deref-2.ensures.value ∙ c.in_ok-hints.ensures) c.new-lists.ensures c.in_ok-write_lists.ensures c.as_slice.ensures in
+    let list = lists_are c.args.version c.len-list_at.result (length two) c.below_up-mine.result.security.now (head t).security ks cs c.new-lists.result c.write_lists.new.out c.as_slice.result.now c.deref.result.now
+    c.subkeys-keys.ensures security (c.deref.ensures.value ∙ c.in_ok-places.ensures.places) c.new-lists.ensures c.in_ok-write_lists.ensures c.as_slice.ensures in
     let len : length c.as_slice.result.now ≡ list_size (count (trees cs)) =
     ap (λ (x : List ℕ). length x) list
-    ∙ length_text (list_cells c.len-list_at.result (places (head t).security (length two) (trees cs)) (map hint (listed (trees cs))))
-    ∙ space_lists c.len-list_at.result (head t).security (length two) (trees cs) in
+    ∙ length_text (list_cells c.args.version c.len-list_at.result (places c.args.version (head t).security (length two) (trees cs)) (map (hint c.args.version) (listed (trees cs))))
+    ∙ space_lists c.args.version c.len-list_at.result (head t).security (length two) (trees cs) in
     omega (
       arith,
-      list_room (above c.below_up-mine.result) (head t) (trees cs) 0 c.write_head.new.out two c.write_children.new.out c.as_slice.result.now c.list_len.result n c.in_ok-append_zeros.ensures
-          (c.in_ok-places.ensures.written ∙ ap (λ (us : List Tree). two ++ text (cells_of_all (above c.below_up-mine.result) (length two) (trees us))) c.subkeys-keys.ensures) len,
+      list_room c.args.version (above c.below_up-mine.result) (head t) (trees cs) 0 c.write_head.new.out two c.write_children.new.out c.as_slice.result.now c.list_len.result n c.in_ok-append_zeros.ensures
+          (c.in_ok-places.ensures.written ∙ ap (λ (us : List Tree). two ++ text (cells_of_all c.args.version (above c.below_up-mine.result) (length two) (trees us))) c.subkeys-keys.ensures) len,
       c.len-list_at.ensures,
     )
 
@@ -132,10 +127,10 @@ write_key-returns m c =
     let up = above c.args.up in
     let n : c.list_len.result ≡ list_size (count (trees cs)) = c.list_len.ensures ∙ ap (λ (us : List Tree). list_size (length us)) (c.subkeys-keys.ensures ∙ sym (listed_trees cs)) in
     let mine : above c.below_up-mine.result ≡ below up (length old) (head t) = c.below_up-mine.ensures ∙ ap (λ (k : ℕ). below up k (head t)) c.len-at.ensures in
-    let three = c.in_ok-places.ensures.written ∙ (λ j. two ++ text (cells_of_all (mine j) (length two) (trees (c.subkeys-keys.ensures j)))) in
+    let three = c.in_ok-places.ensures.written ∙ (λ j. two ++ text (cells_of_all c.args.version (mine j) (length two) (trees (c.subkeys-keys.ensures j)))) in
     let security = ap (λ (u : Above). u.security) c.below_up-mine.ensures in
-    let list = lists_are c.len-list_at.result (length two) c.below_up-mine.result.security.now (head t).security ks cs c.new-lists.result c.write_lists.new.out c.as_slice.result.now c.deref.result.now c.deref-2.result.now
-    c.subkeys-keys.ensures security (c.deref.ensures.value ∙ c.in_ok-places.ensures.places) (c.deref-2.ensures.value ∙ c.in_ok-hints.ensures) c.new-lists.ensures c.in_ok-write_lists.ensures c.as_slice.ensures in
-    key_written up (head t) (trees cs) old c.write_head.new.out two c.write_children.new.out c.as_slice.result.now c.overwrite.new.self c.len-list_at.result c.list_len.result c.in_ok-write_head.ensures c.len-list_at.ensures n
+    let list = lists_are c.args.version c.len-list_at.result (length two) c.below_up-mine.result.security.now (head t).security ks cs c.new-lists.result c.write_lists.new.out c.as_slice.result.now c.deref.result.now
+    c.subkeys-keys.ensures security (c.deref.ensures.value ∙ c.in_ok-places.ensures.places) c.new-lists.ensures c.in_ok-write_lists.ensures c.as_slice.ensures in
+    key_written c.args.version up (head t) (trees cs) old c.write_head.new.out two c.write_children.new.out c.as_slice.result.now c.overwrite.new.self c.len-list_at.result c.list_len.result c.in_ok-write_head.ensures c.len-list_at.ensures n
     c.in_ok-append_zeros.ensures three list c.overwrite.ensures
-    ∙ ap (λ (u : Tree). old ++ text (cells_of up (length old) u)) (parted t)
+    ∙ ap (λ (u : Tree). old ++ text (cells_of c.args.version up (length old) u)) (parted t)

@@ -12,7 +12,7 @@ put_cell-requires c =
     omega (
       arith,
       ap (λ (x : List ℕ). length x) (c.as_slice.ensures ∙ c.in_ok-cell.ensures ∙ ap key_node_text c.in_ok-form.ensures),
-      length_node (above c.args.up) c.len.result (head t) (children t),
-      size_parted c.args.up.security.now t,
+      length_node c.args.version (above c.args.up) c.len.result (head t) (children t),
+      size_parted c.args.version c.args.up.security.now t,
       c.requires.room,
     )
