@@ -1,3 +1,5 @@
 pub mod NameLemmas
 pub mod NumberLemmas
 pub mod StepLemmas
+pub mod FitLemmas
+pub mod SetLemmas

@@ -9,13 +9,16 @@
 mod name;
 mod numbers;
 mod plan;
+mod sets;
 mod steps;
 mod stop;
 mod taken;
 #[cfg(test)]
 mod tests;
 
+pub use name::{set_name, set_path};
 pub use numbers::{SelectNumbers, read_select};
 pub use plan::{SetPlan, plan_begin, plan_save};
+pub use sets::{select_numbers, set_of};
 pub use stop::SelectStop;
 pub use taken::{Taken, sets_in};

@@ -13,8 +13,8 @@ const CONTROL_SET: [u16; 10] = [0x43, 0x6f, 0x6e, 0x74, 0x72, 0x6f, 0x6c, 0x53, 
 /// `0`.
 const ZERO: u16 = 0x30;
 
-/// The name of the set of this number.
-pub(crate) fn set_name(alloc: Global, number: u32) -> Result<Units, AllocError>
+/// The name of the set of this number, which has at most three digits: `ControlSet` and the digits.
+pub fn set_name(alloc: Global, number: u32) -> Result<Units, AllocError>
     requires { number ≤ 999 }
     ensures { IfOk result (λ u. u ≡ set_name number) }
 {
@@ -25,8 +25,8 @@ pub(crate) fn set_name(alloc: Global, number: u32) -> Result<Units, AllocError>
     Ok(name)
 }
 
-/// The path to the set of this number.
-pub(crate) fn set_path(alloc: Global, number: u32) -> Result<Names, AllocError>
+/// The path from the root to the set of this number.
+pub fn set_path(alloc: Global, number: u32) -> Result<Names, AllocError>
     requires { number ≤ 999 }
     ensures { IfOk result (λ p. p ≡ set_name number ∷ []) }
 {

@@ -1,6 +1,9 @@
 //! What the beginning of a start and the save of a good one change.
 
 ghost use Rattle.std.specs.Prelude.{◌≡◌, ◌≤◌, ◌∷◌, [], map, IfOk, Err, if◌then◌else◌};
+ghost use Rattle.std.specs.List.{All};
+ghost use Rattle.hive_model.specs.Valid.{HoldsKeys};
+ghost use Rattle.reg_tree.specs.Fitting.{Fits};
 ghost use Rattle.reg_tree.specs.Makes.{step_of};
 ghost use Rattle.start_model.specs.Sets.{plan_with, begin_plan_of, guarded_plan, save_plan_of, taken_number, free_number_of, NoLastKnownGood, NoControlSet};
 ghost use Rattle.select_keys.specs.Plans.{Plans, IsStopped};
@@ -46,7 +49,8 @@ pub fn plan_begin(
     taken: &Taken,
     last_known_good: bool,
 ) -> Result<SetPlan, SelectStop>
-    ensures { Plans result (begin_plan_of numbers taken.now last_known_good) }
+    ensures plans { Plans result (begin_plan_of numbers taken.now last_known_good) }
+    ensures fits { IfOk result (λ plan. All Fits plan.steps) }
 {
     let chosen = numbers.taken(last_known_good);
     if !taken.has(chosen) {
@@ -67,7 +71,8 @@ pub fn plan_save(
     taken: &Taken,
     clone: Key,
 ) -> Result<SetPlan, SelectStop>
-    ensures { Plans result (save_plan_of numbers taken.now clone) }
+    ensures plans { Plans result (save_plan_of numbers taken.now clone) }
+    ensures fits { HoldsKeys clone → IfOk result (λ plan. All Fits plan.steps) }
 {
     let Some(free) = taken.free_number() else {
         return Err(SelectStop::NoFreeNumber);
@@ -103,7 +108,8 @@ fn plan_guarded(
     last_known_good: bool,
 ) -> Result<SetPlan, SelectStop>
     requires { taken_number old last_known_good ≤ 999 }
-    ensures { Plans result (guarded_plan old taken.now last_known_good (free_number_of taken.now)) }
+    ensures plans { Plans result (guarded_plan old taken.now last_known_good (free_number_of taken.now)) }
+    ensures fits { IfOk result (λ plan. All Fits plan.steps) }
 {
     let Some(free) = taken.free_number() else {
         return Err(SelectStop::NoFreeNumber);
@@ -130,7 +136,8 @@ fn plan_with(
     new: SelectNumbers,
     first: Steps,
 ) -> Result<SetPlan, AllocError>
-    ensures { IfOk result (λ plan. plan ≡ plan_with chosen taken.now old new (map step_of first)) }
+    ensures plan { IfOk result (λ plan. plan ≡ plan_with chosen taken.now old new (map step_of first)) }
+    ensures fits { All Fits (map step_of first) → IfOk result (λ plan. All Fits plan.steps) }
 {
     let mut steps = first;
     taken.delete_retired(alloc, old, new, &mut steps)?;
