@@ -4,6 +4,7 @@ use Rattle.std.specs.List.{list_any}
 use Rattle.std.proofs.Common.{◌≡◌, ◌<◌, ◌≤◌, ◌+◌, ◌&&◌, ◌||◌, not, ℕ, Bool, true, false, List, [], ◌∷◌, ◌++◌, Option, Some, None, Result, Ok, Err, refl, ◌∙◌, ap, arith}
 use Rattle.std.proofs.lemmas.Bool.{ne_eqb, ltb-false}
 use Rattle.std.proofs.lemmas.List.Folds.{list_any-append}
+use Rattle.nt_bytes.specs.declared.version.HiveVersion.{HiveVersion}
 use Rattle.nt_bytes.specs.declared.fault.HiveFault.{HiveFault}
 use Rattle.nt_bytes.specs.declared.fault.HiveKind.{HiveKind}
 use Rattle.nt_bytes.specs.declared.fault.HiveKind.TheVariants.{Shared, TooDeep}
@@ -18,7 +19,7 @@ abbrev rising : Cells → ℕ → List Check → Option HiveFault
 rising cells bound [] = None
 rising cells bound (tests at None ∷ cs) = rising cells bound cs
 rising cells bound (tests at (Some kind) ∷ cs) = Some (record { kind = kind; at = at })
-rising cells bound (uses at security ∷ cs) = if nat_lt at bound then None else or_else (at_place at (found (cells at))) (rising cells (at + 1) cs)
+rising cells bound (uses at security ∷ cs) = if nat_lt at bound then None else or_else (at_place at (found (cells.payload at))) (rising cells (at + 1) cs)
 
 -- no use before is of a cell at the bound or further
 abbrev IsFresh : ℕ → List Check → Type 0
@@ -51,15 +52,15 @@ rising_first cells bound before (tests at None ∷ cs) f fresh e =
     rising_first cells bound (before ++ tests at None ∷ []) cs f (one_more bound before (tests at None) fresh (λ q s far. refl)) e
 rising_first cells bound before (tests at (Some kind) ∷ cs) f fresh e = e
 rising_first cells bound before (uses at s ∷ cs) f fresh e =
-    turn (nat_lt at bound) (cells at) (list_any (clash at s) before) (rising cells (at + 1) cs) (first_among cells (before ++ uses at s ∷ []) cs) at f e
+    turn (nat_lt at bound) (cells.payload at) (list_any (clash at s) before) (rising cells (at + 1) cs) (first_among cells (before ++ uses at s ∷ []) cs) at f e
     (λ far. fresh at s (ltb-false at bound far))
     (λ far rest. let low : bound ≤ at = ltb-false at bound far in
     rising_first cells (at + 1) (before ++ uses at s ∷ []) cs f
     (one_more (at + 1) before (uses at s) (λ q t further. fresh q t (omega arith)) (λ q t further. used_behind q at t s (omega arith))) rest)
 
-too_deep : rising endless 0 (all_checks endless 0) ≡ Some (fault_at TooDeep 8192)
+too_deep : (version : HiveVersion) → rising (endless version) 0 (all_checks (endless version) 0) ≡ Some (fault_at TooDeep 8192)
 unfolding key_name_at key_node_at key_node_text list_of list_at li_text node_at entries_at class_checks security_checks values_checks entries_checks children_checks key_checks all_checks endless
-too_deep = refl
+too_deep version = refl
 
-pub keys_end : first_fault endless 0 ≡ Some (fault_at TooDeep 8192)
-keys_end = rising_first endless 0 [] (all_checks endless 0) (fault_at TooDeep 8192) (λ at security far. refl) too_deep
+pub keys_end : (version : HiveVersion) → first_fault (endless version) 0 ≡ Some (fault_at TooDeep 8192)
+keys_end version = rising_first (endless version) 0 [] (all_checks (endless version) 0) (fault_at TooDeep 8192) (λ at security far. refl) (too_deep version)

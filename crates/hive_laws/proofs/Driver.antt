@@ -6,11 +6,12 @@ use Rattle.std.proofs.lemmas.Bool.{eqb-true, leb-true, ltb-true}
 use Rattle.std.proofs.lemmas.List.Elements.{All-cons}
 use Rattle.std.proofs.lemmas.List.Kept.{AllPairs-cons}
 use Rattle.nt_bytes.specs.Folding.{folds_same}
+use Rattle.nt_bytes.specs.declared.version.HiveVersion.TheVariants.{V3}
 use Rattle.nt_bytes.specs.declared.fault.HiveFault.{HiveFault}
 use Rattle.nt_bytes.specs.declared.fault.HiveKind.{HiveKind}
 use Rattle.nt_bytes.specs.declared.fault.HiveKind.TheVariants.{Shared}
 use Rattle.hive_model.specs.Forms.{KeyNode, key_node_in, key_name_at, key_node_at, value_name_at, key_value_at, bytes_in, offsets_in, list_of, list_at}
-use Rattle.hive_model.specs.Bins.{Cell, Bin, Cells, IsCell, IsBins, cell_size, cells_size, bins_size, spelled, look_up, or_else}
+use Rattle.hive_model.specs.Bins.{Cell, Bin, Cells, IsCell, IsBins, cell_size, cells_size, bins_size, spelled, payload_at, look_up, or_else}
 use Rattle.hive_model.specs.Tree.{Item, Tree, head, children}
 use Rattle.hive_model.specs.Valid.{KeysDiffer, ItemsDiffer}
 use Rattle.hive_model.specs.Walk.{Check, uses, tests, found, at_place, failing, clash, node_at, entries_at, first_among, first_fault, AreUsedOnce, all_checks, key_checks, class_checks, security_checks, data_checks, value_checks, values_checks, entries_checks, children_checks}
@@ -60,7 +61,7 @@ once cells before [] e = tt
 once cells before (tests at None ∷ cs) e = once cells (before ++ tests at None ∷ []) cs e
 once cells before (tests at (Some k) ∷ cs) e = absurd cc
 once cells before (uses at s ∷ cs) e =
-    let two = parts (cells at) (list_any (clash at s) before) (first_among cells (before ++ uses at s ∷ []) cs) e in
+    let two = parts (cells.payload at) (list_any (clash at s) before) (first_among cells (before ++ uses at s ∷ []) cs) e in
     (two.0, once cells (before ++ uses at s ∷ []) cs two.1)
   where
     parts : (p : Result (List ℕ) HiveKind) (b : Bool) (rest : Option HiveFault) → or_else (or_else (at_place at (found p)) (at_place at (failing b Shared))) rest ≡ None
@@ -100,7 +101,7 @@ payload_in (Err kind) = []
 
 -- the node at an offset
 node_in : ℕ → List ℕ → KeyNode
-node_in at name = key_node_in (payload_in (look_up (cells_in driver_bin) at)) name
+node_in at name = key_node_in (payload_in (payload_at (cells_in driver_bin) at)) name
 
 -- what has cells there
 pub heap : (bytes : List ℕ) → list_all is_cell (cut driver_sizes (drop 32 bytes)) ≡ true → bins_size (cells_in bytes) ≡ 4096
@@ -114,31 +115,31 @@ heap bytes each long same = (
   same,
 )
 
-pub no_fault : first_fault (look_up (cells_in driver_bin)) 32 ≡ None
+pub no_fault : first_fault (look_up V3 (cells_in driver_bin)) 32 ≡ None
 unfolding key_name_at key_node_at value_name_at key_value_at bytes_in offsets_in list_of list_at entries_at node_at driver_words driver_bin cells_in all_checks key_checks class_checks security_checks data_checks value_checks values_checks entries_checks children_checks
 no_fault = refl
 
-root_stands : KeyStands (look_up (cells_in driver_bin)) 32 (head one_driver) (144 ∷ 528 ∷ [])
+root_stands : KeyStands (look_up V3 (cells_in driver_bin)) 32 (head one_driver) (144 ∷ 528 ∷ [])
 unfolding key_name_at key_node_at value_name_at key_value_at bytes_in offsets_in list_of list_at entries_at node_at class_of security_of data_of item_at values_of driver_words driver_bin cells_in node_in payload_in
 root_stands = record { node = node_in 32 (codes "ROOT"); read = refl; name = refl; flags = refl; stamp = refl; class = refl; security = refl; values = refl; children = (refl, refl) }
 
-set_stands : KeyStands (look_up (cells_in driver_bin)) 144 (head set_key) (256 ∷ [])
+set_stands : KeyStands (look_up V3 (cells_in driver_bin)) 144 (head set_key) (256 ∷ [])
 unfolding key_name_at key_node_at value_name_at key_value_at bytes_in offsets_in list_of list_at entries_at node_at class_of security_of data_of item_at values_of driver_words driver_bin cells_in node_in payload_in
 set_stands = record { node = node_in 144 (codes "ControlSet001"); read = refl; name = refl; flags = refl; stamp = refl; class = refl; security = refl; values = refl; children = (refl, refl) }
 
-services_stands : KeyStands (look_up (cells_in driver_bin)) 256 (head services_key) (360 ∷ [])
+services_stands : KeyStands (look_up V3 (cells_in driver_bin)) 256 (head services_key) (360 ∷ [])
 unfolding key_name_at key_node_at value_name_at key_value_at bytes_in offsets_in list_of list_at entries_at node_at class_of security_of data_of item_at values_of driver_words driver_bin cells_in node_in payload_in
 services_stands = record { node = node_in 256 (codes "Services"); read = refl; name = refl; flags = refl; stamp = refl; class = refl; security = refl; values = refl; children = (refl, refl) }
 
-disk_stands : KeyStands (look_up (cells_in driver_bin)) 360 (head disk_key) ([])
+disk_stands : KeyStands (look_up V3 (cells_in driver_bin)) 360 (head disk_key) ([])
 unfolding key_name_at key_node_at value_name_at key_value_at bytes_in offsets_in list_of list_at entries_at node_at class_of security_of data_of item_at values_of driver_words driver_bin cells_in node_in payload_in
 disk_stands = record { node = node_in 360 (codes "Disk"); read = refl; name = refl; flags = refl; stamp = refl; class = refl; security = refl; values = refl; children = refl }
 
-select_stands : KeyStands (look_up (cells_in driver_bin)) 528 (head select_key) ([])
+select_stands : KeyStands (look_up V3 (cells_in driver_bin)) 528 (head select_key) ([])
 unfolding key_name_at key_node_at value_name_at key_value_at bytes_in offsets_in list_of list_at entries_at node_at class_of security_of data_of item_at values_of driver_words driver_bin cells_in node_in payload_in
 select_stands = record { node = node_in 528 (codes "Select"); read = refl; name = refl; flags = refl; stamp = refl; class = refl; security = refl; values = refl; children = refl }
 
-stands : Stands (look_up (cells_in driver_bin)) 32 one_driver
+stands : Stands (look_up V3 (cells_in driver_bin)) 32 one_driver
 stands = (144 ∷ 528 ∷ [], root_stands, (144, 528 ∷ [], refl, (256 ∷ [], set_stands, (256, [], refl, (360 ∷ [], services_stands, (360, [], refl, ([], disk_stands, refl), refl)), refl)), (528, [], refl, ([], select_stands, refl), refl)))
 
 names : HasApartNames one_driver
@@ -165,10 +166,10 @@ names = (
   ),
 )
 
-pub well_formed : IsWellFormed (look_up (cells_in driver_bin)) 32 one_driver
+pub well_formed : IsWellFormed (look_up V3 (cells_in driver_bin)) 32 one_driver
 well_formed = record {
   stands = stands;
   levels = lit≤ tt;
   names = names;
-  once = once (look_up (cells_in driver_bin)) [] (all_checks (look_up (cells_in driver_bin)) 32) no_fault;
+  once = once (look_up V3 (cells_in driver_bin)) [] (all_checks (look_up V3 (cells_in driver_bin)) 32) no_fault;
 }

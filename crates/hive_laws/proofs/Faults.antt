@@ -2,6 +2,7 @@
 use Rattle.std.specs.Prelude.{drop, replicate}
 use Rattle.std.specs.List.{list_all}
 use Rattle.std.proofs.Common.{◌≡◌, ◌<◌, ◌++◌, ℕ, true, false, List, [], length, Some, Ok, Err, refl, sym, subst, inl, inr, lit<}
+use Rattle.nt_bytes.specs.declared.version.HiveVersion.TheVariants.{V3}
 use Rattle.nt_bytes.specs.declared.fault.HiveFault.{HiveFault}
 use Rattle.nt_bytes.specs.declared.fault.HiveKind.{HiveKind}
 use Rattle.hive_model.specs.Base.{fault_at}
@@ -20,18 +21,18 @@ found edits = record { base = block 5 5 0; bins = changed edits driver_bin; dirt
 
 pub loaded : recovered_of (driver_with []) ≡ Ok (found []) → list_all is_cell (cut driver_sizes (drop 32 driver_bin)) ≡ true
     → bins_size (cells_in driver_bin) ≡ 4096 → driver_bin ≡ spelled 0 (cells_in driver_bin)
-    → Loads (driver_with []) (record { tree = one_driver; sequence = 5 }) false
+    → Loads (driver_with []) (record { tree = one_driver; sequence = 5; version = V3 }) false
 loaded read each long same = record {
   recovered = found [];
   read = read;
   was_dirty = refl;
-  holds = record { bins = cells_in driver_bin; cells = heap driver_bin each long same; tree = well_formed; sequence = refl };
+  holds = record { bins = cells_in driver_bin; cells = heap driver_bin each long same; tree = well_formed; sequence = refl; version = refl };
 }
 
 pub walk_fault : (edits : List (ℕ × ℕ)) (fault : HiveFault) → recovered_of (driver_with edits) ≡ Ok (found edits)
     → list_all is_cell (cut driver_sizes (drop 32 (changed edits driver_bin))) ≡ true
     → bins_size (cells_in (changed edits driver_bin)) ≡ 4096 → changed edits driver_bin ≡ spelled 0 (cells_in (changed edits driver_bin))
-    → first_fault (look_up (cells_in (changed edits driver_bin))) 32 ≡ Some fault → LoadFault (driver_with edits) fault
+    → first_fault (look_up V3 (cells_in (changed edits driver_bin))) 32 ≡ Some fault → LoadFault (driver_with edits) fault
 walk_fault edits fault read each long same first =
     inr (found edits, read, inr (record { bins = cells_in (changed edits driver_bin); cells = heap (changed edits driver_bin) each long same; first = first }))
 

@@ -13,3 +13,5 @@ pub mod Sized
 pub mod FirstFault
 pub mod FileSectors
 pub mod ReadBack
+pub mod FullHives
+pub mod WrittenLists

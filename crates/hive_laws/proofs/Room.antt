@@ -1,13 +1,14 @@
 -- The sizes of cells add up, and what an edit may need only grows by further steps.
-use Rattle.std.specs.Prelude.{nat_lt, if◌then◌else◌, replicate, flat_map, Contains, Result, Ok, Err}
+use Rattle.std.specs.Prelude.{nat_lt, if◌then◌else◌, replicate, map, flat_map, Contains, Result, Ok, Err}
 use Rattle.std.proofs.Common.{◌≡◌, ◌≤◌, ◌+◌, ◌*◌, ◌/◌, ◌%◌, ◌==◌, sum, ℕ, Bool, true, false, List, [], ◌∷◌, ◌++◌, length, refl, sym, ap, subst, ◌∙◌, append_assoc, arith}
 use Rattle.std.proofs.lemmas.Bool.{eqb-true, ne_eqb}
 use Rattle.std.proofs.lemmas.List.{append-nil}
 use Rattle.std.proofs.lemmas.List.Sums.{sum_by-append, sum_by-cons}
 use Rattle.std.proofs.lemmas.List.Folds.{sum_by-replicate}
 use Rattle.std.proofs.lemmas.List.Elements.{Contains-append_left}
+use Rattle.nt_bytes.specs.declared.version.HiveVersion.{HiveVersion}
 use Rattle.hive_model.specs.Tree.{Item, Head, Tree, Trees, key, none, more}
-use Rattle.hive_model.specs.Size.{cell, name_bytes, data_size, item_size, items_sum, items_size, class_size, security_size, node_size, head_size, part_count, list_size, count, size, size_of_all}
+use Rattle.hive_model.specs.Size.{cell, name_bytes, cells_sum, data_sizes, item_size, items_sum, items_size, class_size, security_size, node_size, head_size, part_count, list_size, count, size, size_of_all}
 use Rattle.hive_model.specs.Edit.{Step, Refusal, after_step, after_steps, then_edit}
 use Rattle.hive_model.specs.Bins.{Cells}
 use Rattle.hive_model.specs.Packed.{rounded}
@@ -49,53 +50,58 @@ unfolding list_sizes
 lists_sum n =
     sum_lists (n == 0) (nat_lt n 501) (n % 500 == 0) (cell (4 + 8 * n)) (cell (4 + 4 * part_count n)) (cell (4 + 8 * (n % 500))) (cell 4004) (n / 500)
 
-item_sum : (v : Item) → sum (item_sizes v) ≡ item_size v
-item_sum v =
-    sum_cons (cell (20 + name_bytes v.name)) (some_cell (data_size v.bytes))
-    ∙ ap (λ n. cell (20 + name_bytes v.name) + n) (some_cell_sum (data_size v.bytes))
+cells_sum_is : (ns : List ℕ) → sum (map cell ns) ≡ cells_sum ns
+cells_sum_is [] = refl
+cells_sum_is (n ∷ ns) = sum_cons (cell n) (map cell ns) ∙ ap (λ k. cell n + k) (cells_sum_is ns)
 
-items_sums : (vs : List Item) → sum (flat_map item_sizes vs) ≡ items_sum vs
-items_sums [] = refl
-items_sums (v ∷ vs) =
-    sum_append (item_sizes v) (flat_map item_sizes vs)
-    ∙ ap (λ n. n + sum (flat_map item_sizes vs)) (item_sum v)
-    ∙ ap (λ n. item_size v + n) (items_sums vs)
+item_sum : (version : HiveVersion) (v : Item) → sum (item_sizes version v) ≡ item_size version v
+item_sum version v =
+    let lengths = data_sizes version (length v.bytes) in
+    sum_cons (cell (20 + name_bytes v.name)) (map cell lengths)
+    ∙ ap (λ n. cell (20 + name_bytes v.name) + n) (cells_sum_is lengths)
 
-values_sum : (vs : List Item) → sum (value_list_sizes (length vs) ++ flat_map item_sizes vs) ≡ items_size vs
-values_sum [] = refl
-values_sum (v ∷ vs) =
-    sum_append (value_list_sizes (length (v ∷ vs))) (flat_map item_sizes (v ∷ vs))
-    ∙ ap (λ n. sum (value_list_sizes (length (v ∷ vs))) + n) (items_sums (v ∷ vs))
-    ∙ ap (λ b. sum (if b then [] else cell (4 * length (v ∷ vs)) ∷ []) + items_sum (v ∷ vs)) (ne_eqb (length (v ∷ vs)) 0 (λ e. omega arith))
-    ∙ ap (λ n. n + items_sum (v ∷ vs)) (sum_one false (cell (4 * length (v ∷ vs))))
+items_sums : (version : HiveVersion) (vs : List Item) → sum (flat_map (item_sizes version) vs) ≡ items_sum version vs
+items_sums version [] = refl
+items_sums version (v ∷ vs) =
+    sum_append (item_sizes version v) (flat_map (item_sizes version) vs)
+    ∙ ap (λ n. n + sum (flat_map (item_sizes version) vs)) (item_sum version v)
+    ∙ ap (λ n. item_size version v + n) (items_sums version vs)
 
-head_sum : (shared : List ℕ) (h : Head) → sum (head_sizes shared h) ≡ head_size shared h
-head_sum shared h =
-    let values = value_list_sizes (length h.values) ++ flat_map item_sizes h.values in
+values_sum : (version : HiveVersion) (vs : List Item) → sum (value_list_sizes (length vs) ++ flat_map (item_sizes version) vs) ≡ items_size version vs
+values_sum version [] = refl
+values_sum version (v ∷ vs) =
+    sum_append (value_list_sizes (length (v ∷ vs))) (flat_map (item_sizes version) (v ∷ vs))
+    ∙ ap (λ n. sum (value_list_sizes (length (v ∷ vs))) + n) (items_sums version (v ∷ vs))
+    ∙ ap (λ b. sum (if b then [] else cell (4 * length (v ∷ vs)) ∷ []) + items_sum version (v ∷ vs)) (ne_eqb (length (v ∷ vs)) 0 (λ e. omega arith))
+    ∙ ap (λ n. n + items_sum version (v ∷ vs)) (sum_one false (cell (4 * length (v ∷ vs))))
+
+head_sum : (version : HiveVersion) (shared : List ℕ) (h : Head) → sum (head_sizes version shared h) ≡ head_size version shared h
+head_sum version shared h =
+    let values = value_list_sizes (length h.values) ++ flat_map (item_sizes version) h.values in
     sum_cons (node_size h) (some_cell (class_size h.class) ++ (some_cell (security_size shared h.security) ++ values))
     ∙ ap (λ n. node_size h + n) (sum_append (some_cell (class_size h.class)) (some_cell (security_size shared h.security) ++ values))
     ∙ ap (λ n. node_size h + (sum (some_cell (class_size h.class)) + n)) (sum_append (some_cell (security_size shared h.security)) values)
     ∙ ap (λ n. node_size h + (n + (sum (some_cell (security_size shared h.security)) + sum values))) (some_cell_sum (class_size h.class))
     ∙ ap (λ n. node_size h + (class_size h.class + (n + sum values))) (some_cell_sum (security_size shared h.security))
-    ∙ ap (λ n. node_size h + (class_size h.class + (security_size shared h.security + n))) (values_sum h.values)
+    ∙ ap (λ n. node_size h + (class_size h.class + (security_size shared h.security + n))) (values_sum version h.values)
     ∙ (omega arith)
 
 mutual
-  pub sizes_sum : (shared : List ℕ) (t : Tree) → sum (sizes shared t) ≡ size shared t
-  sizes_sum shared (key h ts) =
-      sum_append (head_sizes shared h) (list_sizes (count ts) ++ sizes_of_all h.security ts)
-      ∙ ap (λ n. sum (head_sizes shared h) + n) (sum_append (list_sizes (count ts)) (sizes_of_all h.security ts))
-      ∙ ap (λ n. n + (sum (list_sizes (count ts)) + sum (sizes_of_all h.security ts))) (head_sum shared h)
-      ∙ ap (λ n. head_size shared h + (n + sum (sizes_of_all h.security ts))) (lists_sum (count ts))
-      ∙ ap (λ n. head_size shared h + (list_size (count ts) + n)) (sizes_of_all_sum h.security ts)
+  pub sizes_sum : (version : HiveVersion) (shared : List ℕ) (t : Tree) → sum (sizes version shared t) ≡ size version shared t
+  sizes_sum version shared (key h ts) =
+      sum_append (head_sizes version shared h) (list_sizes (count ts) ++ sizes_of_all version h.security ts)
+      ∙ ap (λ n. sum (head_sizes version shared h) + n) (sum_append (list_sizes (count ts)) (sizes_of_all version h.security ts))
+      ∙ ap (λ n. n + (sum (list_sizes (count ts)) + sum (sizes_of_all version h.security ts))) (head_sum version shared h)
+      ∙ ap (λ n. head_size version shared h + (n + sum (sizes_of_all version h.security ts))) (lists_sum (count ts))
+      ∙ ap (λ n. head_size version shared h + (list_size (count ts) + n)) (sizes_of_all_sum version h.security ts)
       ∙ (omega arith)
 
-  pub sizes_of_all_sum : (shared : List ℕ) (ts : Trees) → sum (sizes_of_all shared ts) ≡ size_of_all shared ts
-  sizes_of_all_sum shared none = refl
-  sizes_of_all_sum shared (more t ts) =
-      sum_append (sizes shared t) (sizes_of_all shared ts)
-      ∙ ap (λ n. n + sum (sizes_of_all shared ts)) (sizes_sum shared t)
-      ∙ ap (λ n. size shared t + n) (sizes_of_all_sum shared ts)
+  pub sizes_of_all_sum : (version : HiveVersion) (shared : List ℕ) (ts : Trees) → sum (sizes_of_all version shared ts) ≡ size_of_all version shared ts
+  sizes_of_all_sum version shared none = refl
+  sizes_of_all_sum version shared (more t ts) =
+      sum_append (sizes version shared t) (sizes_of_all version shared ts)
+      ∙ ap (λ n. n + sum (sizes_of_all version shared ts)) (sizes_sum version shared t)
+      ∙ ap (λ n. size version shared t + n) (sizes_of_all_sum version shared ts)
 
 -- ---- room
 
@@ -140,41 +146,41 @@ ok_is t u e = cc
 
 -- ---- the strain
 
-pub strain_least : (bytes : ℕ) (t : Tree) (steps : List Step) → bytes ≤ strain_of bytes t steps
-strain_least bytes t [] = omega arith
-strain_least bytes t (step ∷ steps) =
-    after (λ n. bytes ≤ n) (after_step step t) bytes (λ u. strain_of (bytes + room_of (needed_sizes t step u)) u steps) (omega arith)
-    (λ u. omega (arith, strain_least (bytes + room_of (needed_sizes t step u)) u steps))
+pub strain_least : (version : HiveVersion) (bytes : ℕ) (t : Tree) (steps : List Step) → bytes ≤ strain_of version bytes t steps
+strain_least version bytes t [] = omega arith
+strain_least version bytes t (step ∷ steps) =
+    after (λ n. bytes ≤ n) (after_step step t) bytes (λ u. strain_of version (bytes + room_of (needed_sizes version t step u)) u steps) (omega arith)
+    (λ u. omega (arith, strain_least version (bytes + room_of (needed_sizes version t step u)) u steps))
 
-pub strain_grows : (bytes : ℕ) (t : Tree) (steps further : List Step) → strain_of bytes t steps ≤ strain_of bytes t (steps ++ further)
-strain_grows bytes t [] further = strain_least bytes t further
-strain_grows bytes t (step ∷ steps) further =
+pub strain_grows : (version : HiveVersion) (bytes : ℕ) (t : Tree) (steps further : List Step) → strain_of version bytes t steps ≤ strain_of version bytes t (steps ++ further)
+strain_grows version bytes t [] further = strain_least version bytes t further
+strain_grows version bytes t (step ∷ steps) further =
     after_both (λ m n. m ≤ n) (after_step step t) bytes bytes
-    (λ u. strain_of (bytes + room_of (needed_sizes t step u)) u steps) (λ u. strain_of (bytes + room_of (needed_sizes t step u)) u (steps ++ further))
-    (omega arith) (λ u. strain_grows (bytes + room_of (needed_sizes t step u)) u steps further)
+    (λ u. strain_of version (bytes + room_of (needed_sizes version t step u)) u steps) (λ u. strain_of version (bytes + room_of (needed_sizes version t step u)) u (steps ++ further))
+    (omega arith) (λ u. strain_grows version (bytes + room_of (needed_sizes version t step u)) u steps further)
 
-pub strain_goes_on : (bytes : ℕ) (t u : Tree) (steps further : List Step) → after_steps t steps ≡ Ok u
-    → strain_of bytes t (steps ++ further) ≡ strain_of (strain_of bytes t steps) u further
-strain_goes_on bytes t u [] further e = ap (λ v. strain_of bytes v further) (ok_is t u e)
-strain_goes_on bytes t u (step ∷ steps) further e =
-    after_all (λ m n. n ≡ strain_of m u further) (after_step step t) (λ v. after_steps v steps) u bytes bytes
-    (λ v. strain_of (bytes + room_of (needed_sizes t step v)) v steps) (λ v. strain_of (bytes + room_of (needed_sizes t step v)) v (steps ++ further))
-    e (λ v rest. strain_goes_on (bytes + room_of (needed_sizes t step v)) v u steps further rest)
+pub strain_goes_on : (version : HiveVersion) (bytes : ℕ) (t u : Tree) (steps further : List Step) → after_steps t steps ≡ Ok u
+    → strain_of version bytes t (steps ++ further) ≡ strain_of version (strain_of version bytes t steps) u further
+strain_goes_on version bytes t u [] further e = ap (λ v. strain_of version bytes v further) (ok_is t u e)
+strain_goes_on version bytes t u (step ∷ steps) further e =
+    after_all (λ m n. n ≡ strain_of version m u further) (after_step step t) (λ v. after_steps v steps) u bytes bytes
+    (λ v. strain_of version (bytes + room_of (needed_sizes version t step v)) v steps) (λ v. strain_of version (bytes + room_of (needed_sizes version t step v)) v (steps ++ further))
+    e (λ v rest. strain_goes_on version (bytes + room_of (needed_sizes version t step v)) v u steps further rest)
 
-pub strain_ends : (bytes : ℕ) (t : Tree) (why : Refusal) (steps further : List Step) → after_steps t steps ≡ Err why
-    → strain_of bytes t (steps ++ further) ≡ strain_of bytes t steps
-strain_ends bytes t why [] further e = absurd cc
-strain_ends bytes t why (step ∷ steps) further e =
+pub strain_ends : (version : HiveVersion) (bytes : ℕ) (t : Tree) (why : Refusal) (steps further : List Step) → after_steps t steps ≡ Err why
+    → strain_of version bytes t (steps ++ further) ≡ strain_of version bytes t steps
+strain_ends version bytes t why [] further e = absurd cc
+strain_ends version bytes t why (step ∷ steps) further e =
     after_none (after_step step t) (λ v. after_steps v steps) why bytes
-    (λ v. strain_of (bytes + room_of (needed_sizes t step v)) v (steps ++ further)) (λ v. strain_of (bytes + room_of (needed_sizes t step v)) v steps)
-    e (λ v rest. strain_ends (bytes + room_of (needed_sizes t step v)) v why steps further rest)
+    (λ v. strain_of version (bytes + room_of (needed_sizes version t step v)) v (steps ++ further)) (λ v. strain_of version (bytes + room_of (needed_sizes version t step v)) v steps)
+    e (λ v rest. strain_ends version (bytes + room_of (needed_sizes version t step v)) v why steps further rest)
 
-pub strain_stays : (bytes : ℕ) (t u : Tree) (why : Refusal) (steps further : List Step) (step : Step) → after_steps t steps ≡ Ok u → after_step step u ≡ Err why
-    → strain_of bytes t (steps ++ step ∷ further) ≡ strain_of bytes t steps
-strain_stays bytes t u why steps further step e refused =
-    let now : ℕ = strain_of bytes t steps in
-    strain_goes_on bytes t u steps (step ∷ further) e
-    ∙ ap (λ r. unless_refused now r (λ v. strain_of (now + room_of (needed_sizes u step v)) v further)) refused
+pub strain_stays : (version : HiveVersion) (bytes : ℕ) (t u : Tree) (why : Refusal) (steps further : List Step) (step : Step) → after_steps t steps ≡ Ok u → after_step step u ≡ Err why
+    → strain_of version bytes t (steps ++ step ∷ further) ≡ strain_of version bytes t steps
+strain_stays version bytes t u why steps further step e refused =
+    let now : ℕ = strain_of version bytes t steps in
+    strain_goes_on version bytes t u steps (step ∷ further) e
+    ∙ ap (λ r. unless_refused now r (λ v. strain_of version (now + room_of (needed_sizes version u step v)) v further)) refused
 
 -- ---- the footprint
 

@@ -7,3 +7,4 @@ pub mod Cuts
 pub mod Whole
 pub mod Opened
 pub mod Rings
+pub mod Rows

@@ -41,3 +41,11 @@ driver_bin = flat_map (to_le_bytes w32) driver_words ++ replicate 3312 0
 -- the hive of one driver with its numbers 5, no log, and these bytes of its bins data changed
 unfoldable pub driver_with : List (ℕ × ℕ) → Image
 driver_with edits = image_of (file_of 5 5 (changed edits driver_bin)) []
+
+-- what is other in its lists at 120, 240 and 344 where the hive is packed in version 1.5: the signature `lh`, and the hash of each name
+abbrev pub hashed_lists : List (ℕ × ℕ)
+hashed_lists =
+    (125, 0x68) ∷ (132, 0xA2) ∷ (133, 0xA9) ∷ (134, 0x3B) ∷ (135, 0x8F) ∷ (140, 0xA0) ∷
+    (141, 0x24) ∷ (142, 0) ∷ (143, 0x5F) ∷ (245, 0x68) ∷ (252, 0x30) ∷ (253, 0xF7) ∷
+    (254, 0x7A) ∷ (255, 0x22) ∷ (349, 0x68) ∷ (356, 0x5F) ∷ (357, 0x21) ∷ (358, 0x36) ∷
+    (359, 0) ∷ []

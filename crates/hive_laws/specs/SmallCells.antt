@@ -1,9 +1,12 @@
 -- Cells of a few keys, for the walk and for the forms.
-use Rattle.std.specs.Prelude.{ℕ, ◌+◌, ◌%◌, ◌==◌, if◌then◌else◌, false, List, [], ◌∷◌, codes, replicate, Ok}
+use Rattle.std.specs.Prelude.{ℕ, ◌+◌, ◌%◌, ◌==◌, if◌then◌else◌, false, List, [], ◌∷◌, codes, replicate, Option, Ok, Err}
+use Rattle.nt_bytes.specs.declared.version.HiveVersion.{HiveVersion}
+use Rattle.nt_bytes.specs.declared.fault.HiveFault.{HiveFault}
+use Rattle.nt_bytes.specs.declared.fault.HiveKind.TheVariants.{OutOfRange}
 use Rattle.hive_model.specs.Bins.{Bin, Cells}
-use Rattle.hive_model.specs.Forms.{KeyNode, key_node_text, KeyValue, SecurityCell, security_text, li_text, lf_text}
+use Rattle.hive_model.specs.Forms.{KeyNode, key_node_text, KeyValue, SecurityCell, big_data_text, security_text, offsets_text, li_text, lf_text}
 use Rattle.hive_model.specs.Packed.{used_cell}
-use Rattle.hive_model.specs.Walk.{nowhere}
+use Rattle.hive_model.specs.Walk.{nowhere, data_checks, first_among}
 
 -- a key node with these flags and this name, with so many children in the list at an offset, and nothing else
 abbrev pub plain_node : ℕ → List ℕ → ℕ → ℕ → KeyNode
@@ -65,5 +68,29 @@ kin root_security security class = record {
 } ∷ []
 
 -- cells without end: at each place of a step of 16 a key `K`, whose list stands 8 further and names the next place
-unfoldable pub endless : Cells
-endless at = Ok (if at % 16 == 0 then key_node_text (plain_node 32 (codes "K") 1 (at + 8)) else li_text ((at + 8) ∷ []))
+unfoldable pub endless : HiveVersion → Cells
+endless version = record {
+  version = version;
+  payload = λ at. Ok (if at % 16 == 0 then key_node_text (plain_node 32 (codes "K") 1 (at + 8)) else li_text ((at + 8) ∷ []));
+}
+
+-- a value of 16,345 bytes, whose data are at 0
+abbrev pub long_value : KeyValue
+long_value = record { size = 16345; offset = 0; kind = 3; flags = 1; name = [] }
+
+-- At 0 a cell of big data that says this number of segments; at 16 their list, which names these; at 32 and at 48 cells with these
+-- bytes; no other cell.
+abbrev pub segmented : HiveVersion → ℕ → List ℕ → List ℕ → List ℕ → Cells
+segmented version number offsets one two = record {
+  version = version;
+  payload = λ at.
+      if at == 0 then Ok (big_data_text (record { segments = number; list = 16 }))
+      else if at == 16 then Ok (offsets_text offsets)
+      else if at == 32 then Ok one
+      else if at == 48 then Ok two
+      else Err OutOfRange;
+}
+
+-- the first fault of that value's data in cells
+abbrev pub data_fault : Cells → Option HiveFault
+data_fault cells = first_among cells [] (data_checks cells long_value)

@@ -1,5 +1,5 @@
 -- The trees that the worked examples are about.
-use Rattle.std.specs.Prelude.{ℕ, zero, suc, List, [], ◌∷◌, ◌++◌, codes}
+use Rattle.std.specs.Prelude.{ℕ, zero, suc, List, [], ◌∷◌, ◌++◌, codes, replicate}
 use Rattle.hive_model.specs.Tree.{Item, Head, Tree, key, none, trees}
 
 -- a key of this name and these flags without anything
@@ -73,6 +73,13 @@ values_from letter (bytes ∷ more) = record { name = letter ∷ []; kind = 3; b
 
 abbrev pub full_root : List (List ℕ) → Tree
 full_root contents = key (record { name = codes "R"; flags = 0x000C; stamp = 0; class = []; security = []; values = values_from 0x41 contents }) none
+
+-- 16,345 bytes, and a root with them as its one value `A`
+abbrev pub long_bytes : List ℕ
+long_bytes = replicate 16344 7 ++ 9 ∷ []
+
+abbrev pub long_root : Tree
+long_root = full_root (long_bytes ∷ [])
 
 -- the path of `Services` in the hive of one driver, and that of its driver
 abbrev pub services_path : List (List ℕ)

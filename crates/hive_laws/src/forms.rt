@@ -3,18 +3,19 @@
 ghost use Rattle.std.specs.Prelude.{◌≡◌, [], ◌∷◌, codes, replicate, take, slice_set, Ok, Err, true, false};
 ghost use Rattle.nt_bytes.specs.declared.fault.HiveKind.TheVariants.{FormShort, FormSign, FormLength, FormName, FormKind, BinSign, BinOffset, BinSize, CellSize, CellPastBin};
 ghost use Rattle.hive_model.specs.Bins.{header_at, size_at};
-ghost use Rattle.hive_model.specs.Forms.{key_node_at, key_node_text, key_value_at, key_value_text, security_at, security_text, list_at, li_text, lf_text, ri_text, offsets_in};
-ghost use Rattle.hive_model.specs.Walk.{node_at, leaf_at};
+ghost use Rattle.hive_model.specs.Forms.{key_node_at, key_node_text, key_value_at, key_value_text, security_at, security_text, big_data_at, big_data_text, list_at, li_text, lf_text, lh_text, ri_text, offsets_in};
+ghost use Rattle.hive_model.specs.Walk.{node_at, big_data_of, leaf_at};
 ghost use Rattle.hive_laws.specs.Samples.{root_alone};
 ghost use Rattle.hive_laws.specs.SmallCells.{plain_node, plain_value, plain_security};
 
-/// A key node has 76 bytes before its name, and a value 20.
+/// A key node has 76 bytes before its name, and a value 20; a cell of big data has eight.
 pub fn cut_short()
     ensures no_sign { key_node_at (0x6E ∷ []) ≡ Err FormShort }
     ensures node { key_node_at (take 75 (key_node_text (plain_node 32 (codes "Disk") 0 0))) ≡ Err FormShort }
     ensures name { key_node_at (take 79 (key_node_text (plain_node 32 (codes "Disk") 0 0))) ≡ Err FormShort }
     ensures whole { key_node_at (key_node_text (plain_node 32 (codes "Disk") 0 0)) ≡ Ok (plain_node 32 (codes "Disk") 0 0) }
     ensures value { key_value_at (take 19 (key_value_text (plain_value 0 (codes "Start")))) ≡ Err FormShort }
+    ensures big_data { big_data_at (take 7 (big_data_text (record { segments = 2; list = 16 }))) ≡ Err FormShort }
     ensures descriptor { security_at (take 22 (security_text (plain_security (1 ∷ 2 ∷ 3 ∷ [])))) ≡ Err FormShort }
 {}
 
@@ -22,6 +23,7 @@ pub fn cut_short()
 pub fn lists_cut_short()
     ensures list { list_at (take 7 (li_text (32 ∷ []))) ≡ Err FormShort }
     ensures hinted_list { list_at (take 11 (lf_text (32 ∷ []) ((0 ∷ 0 ∷ 0 ∷ 0 ∷ []) ∷ []))) ≡ Err FormShort }
+    ensures hashed_list { list_at (take 11 (lh_text (32 ∷ []) ((0 ∷ 0 ∷ 0 ∷ 0 ∷ []) ∷ []))) ≡ Err FormShort }
     ensures values { offsets_in 2 (32 ∷ 0 ∷ 0 ∷ 0 ∷ 64 ∷ 0 ∷ 0 ∷ []) ≡ Err FormShort }
 {}
 
@@ -30,7 +32,8 @@ pub fn other_signatures()
     ensures node { key_node_at (codes "vk") ≡ Err FormSign }
     ensures value { key_value_at (codes "nk") ≡ Err FormSign }
     ensures security { security_at (codes "nk") ≡ Err FormSign }
-    ensures list { list_at (codes "lh") ≡ Err FormSign }
+    ensures list { list_at (codes "lx") ≡ Err FormSign }
+    ensures big_data { big_data_at (codes "nk") ≡ Err FormSign }
 {}
 
 /// A name of 255 units is the longest of a key, one of 16,383 the longest of a value. Only the root's may be
@@ -45,10 +48,16 @@ pub fn faults_of_names()
     ensures below_root { node_at false (key_node_text (plain_node 32 [] 0 0)) ≡ Err FormName }
 {}
 
-/// Data in place have at most four bytes, and a list of lists names no list of lists.
+/// Data in place have at most four bytes; 16,345 bytes fill two segments, and 32,688 do too; a list of lists names no list of
+/// lists, but lists of the three other kinds.
 pub fn faults_of_fields()
     ensures in_place { key_value_at (key_value_text (plain_value 0x80000004 (codes "Start"))) ≡ Ok (plain_value 0x80000004 (codes "Start")) }
     ensures overfull { key_value_at (key_value_text (plain_value 0x80000005 (codes "Start"))) ≡ Err FormLength }
+    ensures segments { big_data_of 16345 (big_data_text (record { segments = 1; list = 16 })) ≡ Err FormLength }
+    ensures two { big_data_of 16345 (big_data_text (record { segments = 2; list = 16 })) ≡ Ok (record { segments = 2; list = 16 }) }
+    ensures two_full { big_data_of 32688 (big_data_text (record { segments = 2; list = 16 })) ≡ Ok (record { segments = 2; list = 16 }) }
+    ensures three { big_data_of 32689 (big_data_text (record { segments = 2; list = 16 })) ≡ Err FormLength }
+    ensures hashed_list { leaf_at (lh_text (32 ∷ []) ((0 ∷ 0 ∷ 0 ∷ 0 ∷ []) ∷ [])) ≡ Ok (32 ∷ []) }
     ensures inner_list { leaf_at (ri_text (32 ∷ [])) ≡ Err FormKind }
 {}
 

@@ -29,13 +29,13 @@ mod walks;
 pub use base::{a_checksum_is_no_reserved_word, the_checksum_of_a_root_alone};
 pub use cuts::{a_cut_leaves_one_of_two_readings, a_cut_leaves_one_of_two_trees};
 pub use edits::{
-    a_child_is_added, a_child_is_copied, a_full_hive, a_key_is_made, a_key_is_removed,
-    a_value_is_deleted, a_value_is_set, bad_names, keys_that_are_there, missing_keys,
-    no_step_or_all, too_deep_a_key, too_long_names, too_many_bytes,
+    a_child_is_added, a_child_is_copied, a_full_hive, a_full_hive_of_segments, a_key_is_made,
+    a_key_is_removed, a_value_is_deleted, a_value_is_set, bad_names, keys_that_are_there,
+    missing_keys, no_step_or_all, too_deep_a_key, too_long_names, too_many_bytes,
 };
 pub use footprints::{
     a_footprint_goes_on, a_footprint_only_grows, cells_of_new_keys, cells_of_removed_keys,
-    cells_of_the_start_value, cells_of_values,
+    cells_of_the_start_value, cells_of_two_segments, cells_of_values,
 };
 pub use forms::{
     cut_short, faults_of_bins_and_cells, faults_of_fields, faults_of_names, lists_cut_short,
@@ -56,16 +56,16 @@ pub use looking::{
     recovery_asks_where_it_looks, recovery_looks_nowhere_else, sectors_that_recovery_asks_for,
     seven_sectors_are_left_alone, what_recovery_looks_at_is_there,
 };
-pub use names::{names_are_stored, names_fold, strings_are_read};
+pub use names::{names_are_stored, names_fold, names_have_hashes, strings_are_read};
 pub use packing::{
     a_ring_of_three_is_packed, a_root_alone_is_packed, one_driver_is_packed,
-    two_descriptors_are_packed,
+    packed_lists_are_written_lists, two_descriptors_are_packed, two_segments_are_packed,
 };
 pub use recovery::{
     a_clean_hive, a_hive_with_its_log, a_log_is_read_back, faults_of_a_base_block, faults_of_a_log,
     faults_of_a_primary, what_is_carried_is_recovered,
 };
-pub use sizes::{lists_of_501_children, sizes_add_up};
+pub use sizes::{a_value_of_two_segments, cells_of_data, lists_of_501_children, sizes_add_up};
 pub use spelling::{a_base_block_is_read_back, forms_are_read_back, lists_are_read_back};
 pub use standing::{
     an_image_loads_or_has_a_fault, one_tree_stands, sectors_of_files_are_whole,
@@ -76,6 +76,6 @@ pub use strains::{
     strain_goes_on, strain_never_falls,
 };
 pub use walks::{
-    a_descriptor_serves_twice, a_family_stands, faults_of_a_family, keys_without_end,
-    roots_that_are_no_keys,
+    a_descriptor_serves_twice, a_family_stands, big_data_are_read, faults_of_a_family,
+    faults_of_big_data, keys_without_end, roots_that_are_no_keys,
 };

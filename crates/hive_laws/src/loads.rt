@@ -2,14 +2,15 @@
 
 ghost use Rattle.std.specs.Prelude.{◌≡◌, [], ◌∷◌, false};
 ghost use Rattle.nt_bytes.specs.declared.fault.HiveKind.TheVariants.{BinOffset, BinSign, BinSize, CellPastBin, CellSize, DoubleName, FormKind, FormLength, FormName, FormShort, FormSign, FreeCell, OutOfRange, Shared};
+ghost use Rattle.nt_bytes.specs.declared.version.HiveVersion.TheVariants.{V3};
 ghost use Rattle.hive_model.specs.Base.{fault_at};
 ghost use Rattle.hive_model.specs.Load.{Loads, LoadFault};
 ghost use Rattle.hive_laws.specs.OneDriver.{driver_with};
 ghost use Rattle.hive_laws.specs.Trees.{one_driver};
 
-/// Its sequence number is 5, and its tree has a set, a service and `Select`.
+/// Its sequence number is 5, its version 1.3, and its tree has a set, a service and `Select`.
 pub fn one_driver_loads()
-    ensures { Loads (driver_with []) (record { tree = one_driver; sequence = 5 }) false }
+    ensures { Loads (driver_with []) (record { tree = one_driver; sequence = 5; version = V3 }) false }
 {}
 
 /// The root's list names the root, a child twice, the free cell, or a place in a cell; the list of `Services`

@@ -4,4 +4,4 @@ use Rattle.hive_laws.proofs.edits.too_many_bytes.Goals as goal
 
 pub returns : goal.returns
 unfolding edited
-returns c = λ bytes long. let e : nat_lt 1048576 (length bytes) ≡ true = grind arith in rw e
+returns c = λ version bytes long. let e : nat_lt 1048576 (length bytes) ≡ true = grind arith in rw e

@@ -1,4 +1,4 @@
-use Rattle.hive_model.proofs.Spelling.{key_node_again, key_value_again, security_again, offsets_again, bytes_again}
+use Rattle.hive_model.proofs.Spelling.{key_node_again, key_value_again, big_data_again, security_again, offsets_again, bytes_again}
 use Rattle.hive_laws.proofs.spelling.forms_are_read_back.Goals as goal
 
 pub returns-clause-node : goal.returns-clause-node
@@ -15,3 +15,6 @@ returns-clause-values c = offsets_again
 
 pub returns-clause-bytes : goal.returns-clause-bytes
 returns-clause-bytes c = bytes_again
+
+pub returns-clause-big_data : goal.returns-clause-big_data
+returns-clause-big_data c = big_data_again

@@ -1,4 +1,4 @@
-use Rattle.hive_model.proofs.Spelling.{li_again, lf_again, ri_again}
+use Rattle.hive_model.proofs.Spelling.{li_again, lf_again, lh_again, ri_again}
 use Rattle.hive_laws.proofs.spelling.lists_are_read_back.Goals as goal
 
 pub returns-clause-li : goal.returns-clause-li
@@ -9,3 +9,6 @@ returns-clause-lf c = lf_again
 
 pub returns-clause-ri : goal.returns-clause-ri
 returns-clause-ri c = ri_again
+
+pub returns-clause-lh : goal.returns-clause-lh
+returns-clause-lh c = lh_again
