@@ -16,6 +16,7 @@ mod start;
 mod tried;
 
 pub use boot_phases::Phase;
+pub use boot_report::Verdict;
 pub use error_control::Judgement;
 pub use machine::Machine;
 pub use refusal::Refusal;
