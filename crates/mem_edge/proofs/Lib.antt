@@ -4,3 +4,4 @@ pub mod CutLemmas
 pub mod FlightLemmas
 pub mod KeepLemmas
 pub mod RoomLemmas
+pub mod StopLemmas

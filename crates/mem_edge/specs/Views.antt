@@ -1,22 +1,30 @@
 -- What vectors of sectors, maps of sectors and lists of writes stand for. (This project's own.)
-use Rattle.std.specs.Prelude.{◌<◌, ℕ, List, [], ◌∷◌, map, length, Option, Some, None, slice_index_or}
+use Rattle.std.specs.Prelude.{◌<◌, ℕ, List, [], ◌∷◌, map, length, Option, Some, None, slice_index_or, if◌then◌else◌}
 use Rattle.std.specs.Ordering.{nat_cmp}
 use Rattle.std.specs.BTreeMap as tree
-use Rattle.hive_model.specs.Image.{Content, Bytes, Image, Write, of_file, overlaid}
+use Rattle.hive_model.specs.Image.{Content, Bytes, Unreadable, Image, Write, of_file, overlaid, same_address}
 use Rattle.nt_edge.specs.declared.disk.Keep.{Keep}
-use Rattle.nt_edge.specs.declared.disk.Keep.TheVariants.{Nothing, Everything, OddOnes}
+use Rattle.nt_edge.specs.declared.disk.Keep.TheVariants.{Nothing, Everything, OddOnes, Torn}
 use Rattle.mem_edge.specs.declared.image.MemImage.{MemImage}
 use Rattle.mem_edge.specs.declared.writes.InFlight.{InFlight}
 use Rattle.mem_edge.specs.declared.writes.Latest.{Latest}
+use Rattle.mem_edge.specs.declared.writes.Sector.{Sector}
+use Rattle.mem_edge.specs.declared.writes.Sector.TheVariants as sectors
 
--- the content of a sector that may be absent
-abbrev pub content_of : Option (List ℕ) → Option Content
-content_of None = None
-content_of (Some bytes) = Some (Bytes bytes)
+-- what a sector has
+abbrev pub content_of : Sector → Option Content
+content_of sectors.Absent = None
+content_of (sectors.Whole bytes) = Some (Bytes bytes)
+content_of sectors.Unreadable = Some Unreadable
 
--- the content of a file's sector, by its number
-abbrev pub held_in : List (Option (List ℕ)) → ℕ → Option Content
-held_in sectors n = content_of (slice_index_or sectors n None)
+-- these bytes, where there are any
+abbrev pub whole_of : Option (List ℕ) → Option Content
+whole_of None = None
+whole_of (Some bytes) = Some (Bytes bytes)
+
+-- what a file's sector has, by its number
+abbrev pub held_in : List Sector → ℕ → Option Content
+held_in file n = content_of (slice_index_or file n sectors.Absent)
 
 -- the image that two vectors of sectors are
 abbrev pub held_of : MemImage → Image
@@ -24,7 +32,7 @@ held_of m = λ a. held_in (of_file m.primary.items m.log.items a.file) a.sector
 
 -- the image that two maps from sectors to bytes are
 abbrev pub latest_of : Latest → Image
-latest_of m = λ a. content_of (tree.get nat_cmp (of_file m.primary m.log a.file) a.sector)
+latest_of m = λ a. whole_of (tree.get nat_cmp (of_file m.primary m.log a.file) a.sector)
 
 -- a write in flight
 abbrev pub write_of : InFlight → Write
@@ -44,11 +52,21 @@ odd_ones [] = []
 odd_ones (x ∷ []) = x ∷ []
 odd_ones (x ∷ y ∷ rest) = x ∷ odd_ones rest
 
--- the writes that a cut keeps
-abbrev pub kept : {A : Type 0} → Keep → List A → List A
-kept Nothing ws = []
-kept Everything ws = ws
-kept OddOnes ws = odd_ones ws
+-- the sector of the write can't be read
+abbrev pub tear : Image → Write → Image
+tear image w = λ a. if same_address w.0 a then Some Unreadable else image a
+
+-- none of the sectors of these writes can be read
+abbrev pub torn : Image → List Write → Image
+torn image [] = image
+torn image (w ∷ ws) = torn (tear image w) ws
+
+-- what a cut leaves of what is held and of the writes in flight
+abbrev pub left : Keep → Image → List Write → Image
+left Nothing held flight = held
+left Everything held flight = overlaid held flight
+left OddOnes held flight = overlaid held (odd_ones flight)
+left Torn held flight = torn held flight
 
 -- files of so many sectors have a place for each of the writes
 abbrev pub HasRoom : ℕ → ℕ → List InFlight → Type 0

@@ -1,11 +1,9 @@
 //! The bench round a disk in memory.
 
 ghost use Rattle.std.specs.Prelude.{◌≡◌, IfOk, refl};
-ghost use Rattle.hive_model.specs.Image.{overlaid};
-ghost use Rattle.nt_edge.specs.Book.{file_of};
-ghost use Rattle.mem_edge.specs.State.{state_of};
 ghost use Rattle.mem_edge.specs.Laws.{ordered_law};
-ghost use Rattle.mem_edge.specs.Views.{held_of, writes_of, kept, Holds};
+ghost use Rattle.mem_edge.specs.Seen.{seen_of, settled};
+ghost use Rattle.mem_edge.specs.Views.{held_of};
 
 use crate::files::{cut_up, joined};
 use crate::image::MemImage;
@@ -18,8 +16,7 @@ use std::alloc::AllocError;
 impl MemDisk {
     /// A copy of the image that the disk settles to.
     fn settled(&self) -> Result<MemImage, AllocError>
-        ensures { IfOk result (λ m. held_of m
-            ≡ overlaid (held_of self.now.image) (writes_of (kept self.now.keep self.now.flight.writes.items))) }
+        ensures { IfOk result (λ m. held_of m ≡ settled (seen_of self.now)) }
     {
         let mut image = self.image.copy(self.alloc)?;
         image.make_room(&self.flight.writes)?;
@@ -29,7 +26,29 @@ impl MemDisk {
 }
 
 impl Bench for MemDisk {
-    fn place(&mut self, file: HiveFile, bytes: &[u8]) -> Result<(), DiskStop> {
+    ghost use Rattle.std.specs.Prelude.{◌≡◌, ◌≤◌, true, false, [], length, IfOk, IfErr, OnOk, OnErr};
+    ghost use Rattle.hive_model.specs.Image.{Image, IsCrashImage, IsFileOf, ArmedCut, ArmedFault};
+    ghost use Rattle.nt_edge.specs.Book.{file_of, call_of, keep_of};
+    ghost use Rattle.nt_edge.specs.Calls.{MakesNone};
+    ghost use Rattle.nt_edge.specs.Disk.{now_of};
+    ghost use Rattle.nt_edge.specs.Bench.{placed, woken, taken, turned_off, cut_off, armed};
+    ghost use Rattle.nt_edge.specs.declared.disk.DiskStop.TheVariants.{Memory};
+    ghost use Rattle.mem_edge.specs.Calls.{counts_calls};
+    ghost use Rattle.mem_edge.specs.State.{state_of};
+    ghost use Rattle.mem_edge.specs.Seen.{seen_of, settled, doing, woken_up, cut_with, cut_armed, fault_armed};
+
+    fn place(&mut self, file: HiveFile, bytes: &[u8]) -> Result<(), DiskStop>
+        requires off { (state_of self.old).on ≡ false }
+        requires still { (state_of self.old).flight ≡ [] }
+        requires few { length bytes.now ≤ 33554432 }
+        ensures does { OnOk result (seen_of self.new ≡ doing (placed (file_of file) bytes.now) (seen_of self.old)) }
+        ensures same { OnErr result (seen_of self.new ≡ seen_of self.old) }
+        ensures placed { OnOk result
+            (state_of self.new ≡ placed (file_of file) bytes.now (state_of self.old)) }
+        ensures before { OnErr result (state_of self.new ≡ state_of self.old) }
+        ensures quiet { MakesNone (counts_calls self.old) (counts_calls self.new) }
+        ensures memory { IfErr result (λ stop. stop ≡ Memory) }
+    {
         let Ok(sectors) = cut_up(self.alloc, bytes) else {
             return Err(DiskStop::Memory);
         };
@@ -41,7 +60,18 @@ impl Bench for MemDisk {
         Ok(())
     }
 
-    fn take(&mut self, file: HiveFile) -> Result<Bytes, DiskStop> {
+    fn take(&mut self, file: HiveFile) -> Result<Bytes, DiskStop>
+        requires off { (state_of self.old).on ≡ false }
+        ensures does { OnOk result (seen_of self.new ≡ doing (taken (settled (seen_of self.old))) (seen_of self.old)) }
+        ensures same { OnErr result (seen_of self.new ≡ seen_of self.old) }
+        ensures taken { IfOk result (λ bytes. (image : Image)
+            × IsCrashImage (state_of self.old).held (state_of self.old).flight image
+            × (state_of self.new ≡ taken image (state_of self.old))
+            × IsFileOf image (file_of file) bytes) }
+        ensures before { OnErr result (state_of self.new ≡ state_of self.old) }
+        ensures quiet { MakesNone (counts_calls self.old) (counts_calls self.new) }
+        ensures memory { IfErr result (λ stop. stop ≡ Memory) }
+    {
         let Ok(image) = self.settled() else {
             return Err(DiskStop::Memory);
         };
@@ -54,7 +84,17 @@ impl Bench for MemDisk {
         Ok(bytes)
     }
 
-    fn power_on(&mut self) -> Result<(), DiskStop> {
+    fn power_on(&mut self) -> Result<(), DiskStop>
+        requires off { (state_of self.old).on ≡ false }
+        ensures does { OnOk result (seen_of self.new ≡ woken_up (seen_of self.old)) }
+        ensures same { OnErr result (seen_of self.new ≡ seen_of self.old) }
+        ensures woken { OnOk result ((image : Image)
+            × IsCrashImage (state_of self.old).held (state_of self.old).flight image
+            × (state_of self.new ≡ woken image (state_of self.old))) }
+        ensures before { OnErr result (state_of self.new ≡ state_of self.old) }
+        ensures quiet { MakesNone (counts_calls self.old) (counts_calls self.new) }
+        ensures memory { IfErr result (λ stop. stop ≡ Memory) }
+    {
         let Ok(image) = self.settled() else {
             return Err(DiskStop::Memory);
         };
@@ -76,18 +116,38 @@ impl Bench for MemDisk {
         Ok(())
     }
 
-    fn power_off(&mut self) {
+    fn power_off(&mut self)
+        ensures does { seen_of self.new ≡ doing turned_off (seen_of self.old) }
+        ensures keeps_all { (state_of self.old).on ≡ true
+            → settled (seen_of self.new) ≡ now_of (state_of self.old) }
+        ensures off { state_of self.new ≡ turned_off (state_of self.old) }
+        ensures quiet { MakesNone (counts_calls self.old) (counts_calls self.new) }
+    {
         self.on = false;
     }
 
-    fn cut(&mut self, keep: Keep) {
+    fn cut(&mut self, keep: Keep)
+        requires on { (state_of self.old).on ≡ true }
+        ensures does { seen_of self.new ≡ cut_with keep (seen_of self.old) }
+        ensures cut { state_of self.new ≡ cut_off (state_of self.old) }
+        ensures quiet { MakesNone (counts_calls self.old) (counts_calls self.new) }
+    {
         self.on = false;
         self.keep = keep;
         self.cuts = self.cuts.saturating_add(1);
         self.cut_calls = self.cut_calls.saturating_add(1);
     }
 
-    fn arm_cut(&mut self, call: DiskCall, n: u32, keep: Keep) -> Result<(), DiskStop> {
+    fn arm_cut(&mut self, call: DiskCall, n: u32, keep: Keep) -> Result<(), DiskStop>
+        requires { 1 ≤ n }
+        ensures does { OnOk result (seen_of self.new ≡ cut_armed call n keep (seen_of self.old)) }
+        ensures same { OnErr result (seen_of self.new ≡ seen_of self.old) }
+        ensures armed { OnOk result (state_of self.new
+            ≡ armed (ArmedCut (call_of call) n (keep_of keep)) (state_of self.old)) }
+        ensures before { OnErr result (state_of self.new ≡ state_of self.old) }
+        ensures quiet { MakesNone (counts_calls self.old) (counts_calls self.new) }
+        ensures memory { IfErr result (λ stop. stop ≡ Memory) }
+    {
         if self.armings.push(Arming::Cut(call, n, keep)).is_err() {
             return Err(DiskStop::Memory);
         }
@@ -99,7 +159,16 @@ impl Bench for MemDisk {
         Ok(())
     }
 
-    fn arm_fault(&mut self, call: DiskCall, n: u32) -> Result<(), DiskStop> {
+    fn arm_fault(&mut self, call: DiskCall, n: u32) -> Result<(), DiskStop>
+        requires { 1 ≤ n }
+        ensures does { OnOk result (seen_of self.new ≡ fault_armed call n (seen_of self.old)) }
+        ensures same { OnErr result (seen_of self.new ≡ seen_of self.old) }
+        ensures armed { OnOk result (state_of self.new
+            ≡ armed (ArmedFault (call_of call) n) (state_of self.old)) }
+        ensures before { OnErr result (state_of self.new ≡ state_of self.old) }
+        ensures quiet { MakesNone (counts_calls self.old) (counts_calls self.new) }
+        ensures memory { IfErr result (λ stop. stop ≡ Memory) }
+    {
         if self.armings.push(Arming::Fault(call, n)).is_err() {
             return Err(DiskStop::Memory);
         }

@@ -1,17 +1,17 @@
 //! The calls of a disk in memory.
 
-ghost use Rattle.std.specs.Prelude.{◌≡◌, true, false, [], Some, None, IfNone, IsSome, IsNone};
-ghost use Rattle.nt_edge.specs.Host.{Rises};
-ghost use Rattle.nt_edge.specs.Disk.{CountsGrow, new_state, now_of, next};
-ghost use Rattle.nt_edge.specs.declared.disk.DiskStop.TheVariants.{PowerLost, Failed, Memory};
+ghost use Rattle.std.specs.Prelude.{◌≡◌, ◌&&◌, not, true, false, [], Some, None, if◌then◌else◌};
+ghost use Rattle.hive_model.specs.Image.{Bytes, Unreadable};
+ghost use Rattle.nt_edge.specs.Disk.{new_state, now_of, next};
+ghost use Rattle.nt_edge.specs.declared.disk.DiskStop.TheVariants.{PowerLost, Failed};
 ghost use Rattle.mem_edge.specs.Calls.{counts_calls, CountsOne};
-ghost use Rattle.mem_edge.specs.Orders.{IsDue};
+ghost use Rattle.mem_edge.specs.Seen.{seen_of, called, stop_of};
 ghost use Rattle.mem_edge.specs.State.{state_of, calls_of};
 ghost use Rattle.mem_edge.specs.Views.{content_of};
-ghost use Rattle.mem_edge.specs.Laws.{bounded_law};
+ghost use Rattle.mem_edge.specs.Laws.{bounded_law, some_law};
 
 use crate::image::MemImage;
-use crate::orders::is_due;
+use crate::orders::{comes, keep_at};
 use crate::store::MemDisk;
 use crate::writes::{Flight, Sector};
 use nt_edge::{Address, Disk, DiskCall, DiskStop, Keep, Presence};
@@ -63,6 +63,7 @@ impl MemDisk {
         ensures state { state_of self.new ≡ state_of self.old }
         ensures armed_cut { self.new.armed_cut ≡ self.old.armed_cut }
         ensures armed_fault { self.new.armed_fault ≡ self.old.armed_fault }
+        ensures keep { self.new.keep ≡ self.old.keep }
         ensures counted { calls_of self.new call ≡ next (calls_of self.old call) }
         ensures others { (other : DiskCall) → (other ≡ call → ⊥)
             → calls_of self.new other ≡ calls_of self.old other }
@@ -74,79 +75,133 @@ impl MemDisk {
         }
     }
 
-    /// Counts a call, and answers the stop that is due at it.
+    /// Counts a call, and answers the stop that comes in it.
     fn stop(&mut self, call: DiskCall) -> Option<DiskStop>
         ensures calls { CountsOne self.old self.new call }
-        ensures held { (state_of self.new).held ≡ (state_of self.old).held }
-        ensures flight { (state_of self.new).flight ≡ (state_of self.old).flight }
-        ensures history { (state_of self.new).history ≡ (state_of self.old).history }
-        ensures lacks { (state_of self.new).lacks ≡ (state_of self.old).lacks }
-        ensures counts { CountsGrow (state_of self.old) (state_of self.new) }
-        ensures none { IfNone result ((state_of self.new).on ≡ (state_of self.old).on) }
-        ensures power { result ≡ Some PowerLost
-            → ((state_of self.new).on ≡ false) × Rises (state_of self.old).cuts (state_of self.new).cuts }
-        ensures failed { result ≡ Some Failed → ((state_of self.new).on ≡ (state_of self.old).on)
-            × Rises (state_of self.old).faults (state_of self.new).faults }
-        ensures memory { result ≡ Some Memory → ⊥ }
-        ensures cut { IsDue self.old.armed_cut call → result ≡ Some PowerLost }
-        ensures fault { IsDue self.old.armed_fault call → IsSome result }
-        ensures idle { (IsDue self.old.armed_cut call → ⊥) → (IsDue self.old.armed_fault call → ⊥) → IsNone result }
+        ensures seen { seen_of self.new ≡ called call (seen_of self.old) }
+        ensures stop { result ≡ stop_of (seen_of self.old) call }
     {
         self.count(call);
-        let keep = match self.armed_cut {
-            Some(armed) => armed.keep,
-            None => self.keep,
-        };
-        let cut_due = is_due(&mut self.armed_cut, call);
-        let fault_due = is_due(&mut self.armed_fault, call);
-        if fault_due {
-            self.faults = self.faults.saturating_add(1);
-        }
-        if cut_due {
-            self.cuts = self.cuts.saturating_add(1);
-            self.keep = keep;
-            self.on = false;
-            return Some(DiskStop::PowerLost);
-        }
-        if fault_due {
-            Some(DiskStop::Failed)
-        } else {
-            None
+        self.keep = keep_at(&self.armed_cut, call, self.keep);
+        let cut = comes(&mut self.armed_cut, call);
+        let fault = comes(&mut self.armed_fault, call);
+        self.cuts = raised(self.cuts, cut);
+        self.faults = raised(self.faults, fault);
+        self.on = on_unless(self.on, cut);
+        stop_at(cut, fault)
+    }
+
+    /// Reads what is at an address as it was last written, if it can be read.
+    fn find(&self, at: Address, into: &mut [u8; 512]) -> Presence
+        ensures whole { result ≡ Presence.Whole → now_of (state_of self.now) at ≡ Some (Bytes into.new) }
+        ensures absent { result ≡ Presence.Absent → now_of (state_of self.now) at ≡ None }
+        ensures unreadable { result ≡ Presence.Unreadable → now_of (state_of self.now) at ≡ Some Unreadable }
+    {
+        match self.latest(at) {
+            Sector::Whole(bytes) => {
+                *into = bytes;
+                Presence::Whole
+            }
+            Sector::Absent => Presence::Absent,
+            Sector::Unreadable => Presence::Unreadable,
         }
     }
 
-    /// What a read finds at an address.
-    fn find(&self, at: Address) -> Sector
+    /// What is at an address, as it was last written.
+    fn latest(&self, at: Address) -> Sector
         ensures { content_of result ≡ now_of (state_of self.now) at }
     {
         match self.flight.get(at) {
-            Some(bytes) => Some(bytes),
+            Some(bytes) => Sector::Whole(bytes),
             None => self.image.get(at),
         }
     }
 }
 
+/// One more where it rises.
+fn raised(count: u64, rises: bool) -> u64
+    ensures { result ≡ (if rises then next count else count) }
+{
+    if rises {
+        count.saturating_add(1)
+    } else {
+        count
+    }
+}
+
+/// Off where the power is lost.
+fn on_unless(on: bool, lost: bool) -> bool
+    ensures { result ≡ (on && not lost) }
+{
+    on && !lost
+}
+
+/// Where both come, the power is lost.
+fn stop_at(cut: bool, fault: bool) -> Option<DiskStop>
+    ensures { result ≡ (if cut then Some PowerLost else (if fault then Some Failed else None)) }
+{
+    if cut {
+        Some(DiskStop::PowerLost)
+    } else if fault {
+        Some(DiskStop::Failed)
+    } else {
+        None
+    }
+}
+
 impl Disk for MemDisk {
+    ghost use Rattle.std.specs.Prelude.{◌≡◌, ◌⊎◌, true, Some, None, Ok, ◌++◌, [], ◌∷◌, OnOk, OnErr, IsErrOf};
+    ghost use Rattle.nt_edge.specs.Calls.{ReadAt, Wrote, Synced, Makes};
+    ghost use Rattle.nt_edge.specs.Disk.{CountsGrow, HasCause, IsOnUnlessLost};
+    ghost use Rattle.nt_edge.specs.declared.disk.DiskStop.TheVariants.{Memory};
+    ghost use Rattle.mem_edge.specs.Seen.{Does, nothing, written, synced};
+
     ghost tells = { true };
 
     ghost state = { state_of };
 
     ghost calls = { counts_calls };
 
-    fn read(&mut self, at: Address, into: &mut [u8; 512]) -> Result<Presence, DiskStop> {
+    fn read(&mut self, at: Address, into: &mut [u8; 512]) -> Result<Presence, DiskStop>
+        requires on { (state_of self.old).on ≡ true }
+        ensures does { Does DiskCall.Read nothing (seen_of self.old) (seen_of self.new) result }
+        ensures made { Makes (counts_calls self.old) (counts_calls self.new) (ReadAt at ∷ []) }
+        ensures whole { true ≡ true → result ≡ Ok Presence.Whole
+            → now_of (state_of self.old) at ≡ Some (Bytes into.new) }
+        ensures absent { true ≡ true → result ≡ Ok Presence.Absent → now_of (state_of self.old) at ≡ None }
+        ensures unreadable { true ≡ true → result ≡ Ok Presence.Unreadable
+            → now_of (state_of self.old) at ≡ Some Unreadable }
+        ensures held { true ≡ true → (state_of self.new).held ≡ (state_of self.old).held }
+        ensures flight { true ≡ true → (state_of self.new).flight ≡ (state_of self.old).flight }
+        ensures history { (state_of self.new).history ≡ (state_of self.old).history }
+        ensures counts { CountsGrow (state_of self.old) (state_of self.new) }
+        ensures cause { HasCause (state_of self.old) (state_of self.new) result }
+        ensures never_memory { IsErrOf result Memory → ⊥ }
+        ensures power { IsOnUnlessLost (state_of self.new) result }
+    {
         if let Some(stop) = self.stop(DiskCall::Read) {
             return Err(stop);
         }
-        match self.find(at) {
-            Some(bytes) => {
-                *into = bytes;
-                Ok(Presence::Whole)
-            }
-            None => Ok(Presence::Absent),
-        }
+        Ok(self.find(at, into))
     }
 
-    fn write(&mut self, at: Address, bytes: &[u8; 512]) -> Result<(), DiskStop> {
+    fn write(&mut self, at: Address, bytes: &[u8; 512]) -> Result<(), DiskStop>
+        requires on { (state_of self.old).on ≡ true }
+        ensures does { Does DiskCall.Write (written (at, bytes.now)) (seen_of self.old) (seen_of self.new) result }
+        ensures made { Makes (counts_calls self.old) (counts_calls self.new) (Wrote (at, bytes.now) ∷ []) }
+        ensures written { true ≡ true → OnOk result
+            ((state_of self.new).flight ≡ (state_of self.old).flight ++ (at, bytes.now) ∷ []) }
+        ensures perhaps { true ≡ true → OnErr result
+            (((state_of self.new).flight ≡ (state_of self.old).flight)
+            ⊎ ((state_of self.new).flight ≡ (state_of self.old).flight ++ (at, bytes.now) ∷ [])) }
+        ensures unwritten { true ≡ true → IsErrOf result Memory
+            → (state_of self.new).flight ≡ (state_of self.old).flight }
+        ensures held { true ≡ true → (state_of self.new).held ≡ (state_of self.old).held }
+        ensures history { (state_of self.new).history ≡ (state_of self.old).history }
+        ensures counts { CountsGrow (state_of self.old) (state_of self.new) }
+        ensures cause { HasCause (state_of self.old) (state_of self.new) result }
+        ensures power { IsOnUnlessLost (state_of self.new) result }
+    {
         if let Some(stop) = self.stop(DiskCall::Write) {
             return Err(stop);
         }
@@ -157,7 +212,21 @@ impl Disk for MemDisk {
         Ok(())
     }
 
-    fn sync(&mut self) -> Result<(), DiskStop> {
+    fn sync(&mut self) -> Result<(), DiskStop>
+        requires on { (state_of self.old).on ≡ true }
+        ensures does { Does DiskCall.Sync synced (seen_of self.old) (seen_of self.new) result }
+        ensures made { Makes (counts_calls self.old) (counts_calls self.new) (Synced ∷ []) }
+        ensures held { true ≡ true → OnOk result ((state_of self.new).held ≡ now_of (state_of self.old)) }
+        ensures flight { true ≡ true → OnOk result ((state_of self.new).flight ≡ []) }
+        ensures held_before { true ≡ true → OnErr result
+            ((state_of self.new).held ≡ (state_of self.old).held) }
+        ensures flight_before { true ≡ true → OnErr result
+            ((state_of self.new).flight ≡ (state_of self.old).flight) }
+        ensures history { (state_of self.new).history ≡ (state_of self.old).history }
+        ensures counts { CountsGrow (state_of self.old) (state_of self.new) }
+        ensures cause { HasCause (state_of self.old) (state_of self.new) result }
+        ensures power { IsOnUnlessLost (state_of self.new) result }
+    {
         if let Some(stop) = self.stop(DiskCall::Sync) {
             return Err(stop);
         }
@@ -171,4 +240,6 @@ impl Disk for MemDisk {
     }
 
     ghost bounded = { bounded_law };
+
+    ghost some = { some_law };
 }

@@ -17,7 +17,7 @@ pub fn cut_up(alloc: Global, bytes: &[u8]) -> Result<Vec<Sector>, AllocError>
     let mut rest = bytes;
     while !rest.is_empty() {
         let (sector, more) = first_of(rest);
-        sectors.push(Some(sector))?;
+        sectors.push(Sector::Whole(sector))?;
         rest = more;
     }
     Ok(sectors)
@@ -46,24 +46,24 @@ fn count_of(sectors: &[Sector]) -> usize
     ensures last { (n : ℕ) → result ≡ n + 1 → held_in sectors.now n ≡ None → ⊥ }
 {
     let mut count = sectors.len();
-    while count > 0 && sectors[count - 1].is_none() {
+    while count > 0 && sectors[count - 1].is_absent() {
         count -= 1;
     }
     count
 }
 
-/// The bytes of a sector, zeros for an absent one.
+/// The bytes of a sector, zeros where it is absent or can't be read.
 fn bytes_in(sector: Sector) -> [u8; 512]
     ensures bytes { result ≡ bytes_of (content_of sector) }
     ensures whole { length result ≡ 512 }
 {
     match sector {
-        Some(bytes) => bytes,
-        None => [0; 512],
+        Sector::Whole(bytes) => bytes,
+        Sector::Absent | Sector::Unreadable => [0; 512],
     }
 }
 
-/// The bytes of the sectors up to the last one that is present, zeros for an absent one.
+/// The bytes of the sectors up to the last one that is present, zeros for one that is absent or can't be read.
 pub fn joined(alloc: Global, sectors: &[Sector]) -> Result<Bytes, AllocError>
     ensures { IfOk result (λ bytes. IsJoined sectors.now bytes) }
 {

@@ -3,7 +3,7 @@
 ghost use Rattle.std.specs.Prelude.{◌≡◌, ◌<◌, ◌≤◌, ℕ, length, drop, None, IfOk, OnOk};
 ghost use Rattle.hive_model.specs.Image.{put, overlaid, of_file, Address};
 ghost use Rattle.nt_edge.specs.Book.{file_of};
-ghost use Rattle.mem_edge.specs.Views.{content_of, held_in, held_of, writes_of, write_of, kept, odd_ones, Holds};
+ghost use Rattle.mem_edge.specs.Views.{content_of, held_in, held_of, writes_of, write_of, tear, torn, left, odd_ones, Holds};
 
 use crate::writes::{InFlight, Sector};
 use nt_edge::{Address, HiveFile, Keep};
@@ -23,7 +23,7 @@ fn make_place(file: &mut Vec<Sector>, sector: u32) -> Result<(), AllocError>
     ensures place { OnOk result (sector < length file.new.items) }
 {
     while file.len() <= sector as usize {
-        file.push(None)?;
+        file.push(Sector::Absent)?;
     }
     Ok(())
 }
@@ -58,13 +58,13 @@ impl MemImage {
         }
     }
 
-    /// The bytes of a sector.
+    /// What a sector has.
     pub fn get(&self, at: Address) -> Sector
         ensures { content_of result ≡ held_of self.now at }
     {
         match self.file(at.file).get(at.sector as usize) {
             Some(sector) => *sector,
-            None => None,
+            None => Sector::Absent,
         }
     }
 
@@ -104,8 +104,8 @@ impl MemImage {
         ensures log { length self.new.log.items ≡ length self.old.log.items }
     {
         match w.at.file {
-            HiveFile::Primary => self.primary[w.at.sector as usize] = Some(w.bytes),
-            HiveFile::Log => self.log[w.at.sector as usize] = Some(w.bytes),
+            HiveFile::Primary => self.primary[w.at.sector as usize] = Sector::Whole(w.bytes),
+            HiveFile::Log => self.log[w.at.sector as usize] = Sector::Whole(w.bytes),
         }
     }
 
@@ -122,7 +122,7 @@ impl MemImage {
 
     fn lay_odd(&mut self, flight: &[InFlight])
         requires { Holds self.old flight.now }
-        ensures { held_of self.new ≡ overlaid (held_of self.old) (writes_of (odd_ones flight.now)) }
+        ensures { held_of self.new ≡ overlaid (held_of self.old) (odd_ones (writes_of flight.now)) }
     {
         let mut rest = flight;
         while let [w, more @ ..] = rest {
@@ -131,15 +131,42 @@ impl MemImage {
         }
     }
 
-    /// Lays those writes over the image that a cut keeps. The image has room for them, and none is wanted.
+    /// Makes the sector of a write unreadable, for which the image has a place.
+    fn tear(&mut self, w: &InFlight)
+        requires { w.now.at.sector
+            < of_file (length self.old.primary.items) (length self.old.log.items) w.now.at.file }
+        ensures torn { held_of self.new ≡ tear (held_of self.old) (write_of w.now) }
+        ensures primary { length self.new.primary.items ≡ length self.old.primary.items }
+        ensures log { length self.new.log.items ≡ length self.old.log.items }
+    {
+        match w.at.file {
+            HiveFile::Primary => self.primary[w.at.sector as usize] = Sector::Unreadable,
+            HiveFile::Log => self.log[w.at.sector as usize] = Sector::Unreadable,
+        }
+    }
+
+    fn tear_all(&mut self, flight: &[InFlight])
+        requires { Holds self.old flight.now }
+        ensures { held_of self.new ≡ torn (held_of self.old) (writes_of flight.now) }
+    {
+        let mut rest = flight;
+        while let [w, more @ ..] = rest {
+            self.tear(w);
+            rest = more;
+        }
+    }
+
+    /// Makes of the image what a cut leaves of it and of the writes in flight. The image has a place for
+    /// each of them, so none is wanted.
     pub fn settle(&mut self, flight: &[InFlight], keep: Keep)
         requires { Holds self.old flight.now }
-        ensures { held_of self.new ≡ overlaid (held_of self.old) (writes_of (kept keep flight.now)) }
+        ensures { held_of self.new ≡ left keep (held_of self.old) (writes_of flight.now) }
     {
         match keep {
             Keep::Nothing => {}
             Keep::Everything => self.lay_all(flight),
             Keep::OddOnes => self.lay_odd(flight),
+            Keep::Torn => self.tear_all(flight),
         }
     }
 }

@@ -1,5 +1,7 @@
 //! The fields of a disk in memory.
 
+ghost use Rattle.std.specs.Prelude.{◌≡◌, true};
+ghost use Rattle.nt_edge.specs.declared.disk.Keep.TheVariants.{Everything};
 ghost use Rattle.mem_edge.specs.Orders.{WithinOrders, WithinEnds};
 
 use crate::image::MemImage;
@@ -34,12 +36,15 @@ pub struct MemDisk {
     pub(crate) armings: Vec<Arming>,
     pub(crate) armed_cut: Option<Armed>,
     pub(crate) armed_fault: Option<Armed>,
-    // what the last cut keeps; where the power went without a cut, all
+    // what the last cut leaves of the writes in flight; where the power went without a cut, all
     pub(crate) keep: Keep,
     // the calls of each kind since the disk was made
     pub(crate) reads: u64,
     pub(crate) writes: u64,
     pub(crate) syncs: u64,
     ghost ends: { WithinEnds cuts faults lacks },
+    ghost bench_ends: { WithinEnds cut_calls placings takings },
+    ghost call_ends: { WithinEnds reads writes syncs },
+    ghost full: { on ≡ true → keep ≡ Everything },
     ghost orders: { WithinOrders cuts faults cut_calls armings.items armed_cut armed_fault },
 }

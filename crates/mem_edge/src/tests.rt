@@ -157,6 +157,32 @@ fn each_stop_comes_at_its_call_and_keeps_what_it_should(rt: HostRuntime) -> Resu
     Ok(())
 }
 
+/// A file is taken with zeros where a sector can't be read.
+#[test]
+fn a_cut_may_tear_what_is_in_flight(rt: HostRuntime) -> Result<(), Fail> {
+    let cases = [
+        (DiskCall::Read, 1, firsts(0, 0, 0)),
+        (DiskCall::Write, 3, firsts(0, 7, 0)),
+        (DiskCall::Sync, 1, firsts(0, 0, 0)),
+    ];
+    for (call, n, left) in cases {
+        let order = Order {
+            cut: true,
+            fault: false,
+            call,
+            n,
+            keep: Keep::Torn,
+        };
+        let mut disk = MemDisk::new(rt.alloc());
+        assert_eq!(rt;
+            run(&mut disk, order)?,
+            (Err(DiskStop::PowerLost), left),
+            "{order:?}"
+        );
+    }
+    Ok(())
+}
+
 #[test]
 fn without_an_order_nothing_stops(rt: HostRuntime) -> Result<(), Fail> {
     let order = Order {
@@ -205,6 +231,7 @@ fn a_cut_now_keeps_what_it_should(rt: HostRuntime) -> Result<(), Fail> {
         (Keep::Nothing, (None, None, None, None)),
         (Keep::Everything, (Some(0), Some(0), Some(5), None)),
         (Keep::OddOnes, (Some(0), Some(0), Some(4), None)),
+        (Keep::Torn, (Some(0), Some(0), Some(0), None)),
     ] {
         let mut disk = MemDisk::new(rt.alloc());
         assert_eq!(rt; cut_now(&mut disk, keep)?, left, "{keep:?}");
@@ -214,6 +241,36 @@ fn a_cut_now_keeps_what_it_should(rt: HostRuntime) -> Result<(), Fail> {
             "{keep:?}"
         );
     }
+    Ok(())
+}
+
+/// A write torn by a cut, and then what reads find there, behind it, and there again once it is written anew.
+fn tear<B: Bench>(bench: &mut B) -> Result<[Presence; 3], DiskStop>
+    requires { (B.state bench.old).on ≡ false }
+{
+    let at = |sector| Address {
+        file: HiveFile::Log,
+        sector,
+    };
+    let mut into = [0; 512];
+    bench.power_on()?;
+    bench.write(at(1), &[4; 512])?;
+    bench.cut(Keep::Torn);
+    bench.power_on()?;
+    let torn = bench.read(at(1), &mut into)?;
+    let behind = bench.read(at(2), &mut into)?;
+    bench.write(at(1), &[5; 512])?;
+    let anew = bench.read(at(1), &mut into)?;
+    Ok([torn, behind, anew])
+}
+
+#[test]
+fn a_torn_sector_is_unreadable_until_it_is_written(rt: HostRuntime) -> Result<(), Fail> {
+    let mut disk = MemDisk::new(rt.alloc());
+    assert_eq!(rt;
+        tear(&mut disk)?,
+        [Presence::Unreadable, Presence::Absent, Presence::Whole]
+    );
     Ok(())
 }
 

@@ -1,15 +1,31 @@
 //! The writes in flight, with the latest one to each sector at hand.
 
-ghost use Rattle.std.specs.Prelude.{◌≡◌, List, [], ◌∷◌, ◌++◌, None, OnOk, OnErr};
+ghost use Rattle.std.specs.Prelude.{◌≡◌, ◌↔◌, IsTrue, List, [], ◌∷◌, ◌++◌, None, OnOk, OnErr};
 ghost use Rattle.hive_model.specs.Image.{Address, put, overlaid};
-ghost use Rattle.mem_edge.specs.Views.{content_of, latest_of, write_of, writes_of, flying};
+ghost use Rattle.mem_edge.specs.Views.{content_of, whole_of, latest_of, write_of, writes_of, flying};
 
 use nt_edge::{Address, HiveFile};
 use std::alloc::{AllocError, Global};
 use std::collections::BTreeMap;
 
-/// The bytes of a sector, or none where it is absent.
-pub type Sector = Option<[u8; 512]>;
+/// A sector of an image.
+#[derive(Clone, Copy, Debug)]
+pub enum Sector {
+    Absent,
+    Whole([u8; 512]),
+    Unreadable,
+}
+
+impl Sector {
+    pub fn is_absent(self) -> bool
+        ensures { IsTrue result ↔ (content_of self ≡ None) }
+    {
+        match self {
+            Sector::Absent => true,
+            Sector::Whole(_) | Sector::Unreadable => false,
+        }
+    }
+}
 
 /// A write that is in flight.
 #[derive(Clone, Copy, Debug)]
@@ -44,8 +60,8 @@ impl Latest {
         }
     }
 
-    pub fn get(&self, at: Address) -> Sector
-        ensures { content_of result ≡ latest_of self.now at }
+    pub fn get(&self, at: Address) -> Option<[u8; 512]>
+        ensures { whole_of result ≡ latest_of self.now at }
     {
         let file = match at.file {
             HiveFile::Primary => &self.primary,
@@ -85,8 +101,8 @@ impl Flight {
     }
 
     /// The bytes of the latest write in flight to a sector.
-    pub fn get(&self, at: Address) -> Sector
-        ensures { content_of result ≡ flying (writes_of self.now.writes.items) at }
+    pub fn get(&self, at: Address) -> Option<[u8; 512]>
+        ensures { whole_of result ≡ flying (writes_of self.now.writes.items) at }
     {
         self.latest.get(at)
     }

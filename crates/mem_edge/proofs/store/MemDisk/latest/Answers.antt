@@ -1,7 +1,7 @@
 use Rattle.std.proofs.Common.{sym, ◌∙◌, ap}
 use Rattle.mem_edge.specs.Views.{held_of, writes_of}
 use Rattle.mem_edge.proofs.FlightLemmas.{overlaid_else, or_else}
-use Rattle.mem_edge.proofs.store.MemDisk.find.Goals as goal
+use Rattle.mem_edge.proofs.store.MemDisk.latest.Goals as goal
 
 pub returns-in-Some : goal.returns-in-Some
 returns-in-Some c =
