@@ -8,7 +8,8 @@ use Rattle.hive_model.specs.Tree.{Item, Tree, Trees, key, none, more, trees, hea
 use Rattle.hive_model.specs.Valid.{IsItem, AllHoldKeys}
 use Rattle.hive_model.specs.Size.{size, size_of_all}
 use Rattle.hive_model.specs.Packed.{sharers, sharers_of_all, greatest}
-use Rattle.hive_pack.proofs.Written.{trees_listed, holds_parted}
+use Rattle.reg_tree.proofs.Trees.{trees_listed}
+use Rattle.hive_pack.proofs.Written.{holds_parted}
 
 -- ---- sharers
 
@@ -18,14 +19,17 @@ if_few false n m h = omega arith
 
 mutual
   pub few_sharers : (version : HiveVersion) (s shared : List ℕ) (t : Tree) → sharers s t ≤ size version shared t
-  few_sharers version s shared (key h ts) = if_few (pointwise nat_eq s h.security) (sharers_of_all s ts) (size version shared (key h ts)) (omega (arith, few_of_all version s h.security ts))
+  few_sharers version s shared (key h ts) =
+      if_few (pointwise nat_eq s h.security) (sharers_of_all s ts) (size version shared (key h ts)) (omega (arith, few_of_all version s h.security ts))
 
   pub few_of_all : (version : HiveVersion) (s shared : List ℕ) (ts : Trees) → sharers_of_all s ts ≤ size_of_all version shared ts
   few_of_all version s shared none = omega arith
   few_of_all version s shared (more t ts) = omega (arith, few_sharers version s shared t, few_of_all version s shared ts)
 
-pub sharers_parted : (s : List ℕ) (t : Tree) → sharers s t ≡ (if pointwise nat_eq s (head t).security then 1 + sharers_of_all s (trees (children t)) else 0)
-sharers_parted s (key h ts) = ap (λ us. if pointwise nat_eq s h.security then 1 + sharers_of_all s us else 0) (sym (trees_listed ts))
+pub sharers_parted : (s : List ℕ) (t : Tree)
+    → sharers s t ≡ (if pointwise nat_eq s (head t).security then 1 + sharers_of_all s (trees (children t)) else 0)
+sharers_parted s (key h ts) =
+    ap (λ us. if pointwise nat_eq s h.security then 1 + sharers_of_all s us else 0) (sym (trees_listed ts))
 
 -- ---- greatest lengths
 

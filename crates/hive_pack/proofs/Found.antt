@@ -26,22 +26,27 @@ has_back cells at [] b h = let e : at + 0 ≡ at = omega arith in rw e h
 has_back cells at (p ∷ ps) b h = let e : at + (cell (length p) + space ps) ≡ at + cell (length p) + space ps = omega arith in rw e (has_back cells (at + cell (length p)) ps b h.1)
 
 -- behind cells that take so many bytes
-pub has_behind : (cells : Cells) (at n place : ℕ) (a b : List (List ℕ)) → space a ≡ n → at + n ≡ place → Has cells at (a ++ b) → Has cells place b
+pub has_behind : (cells : Cells) (at n place : ℕ) (a b : List (List ℕ)) → space a ≡ n → at + n ≡ place → Has cells at (a ++ b)
+    → Has cells place b
 has_behind cells at n place a b s p h = subst (λ (k : ℕ). Has cells k b) (ap (λ k. at + k) s ∙ p) (has_back cells at a b h)
 
 -- behind a payload of k bytes
-pub has_next : (cells : Cells) (at k : ℕ) (p : List ℕ) (ps : List (List ℕ)) → length p ≡ k → Has cells at (p ∷ ps) → Has cells (at + cell k) ps
+pub has_next : (cells : Cells) (at k : ℕ) (p : List ℕ) (ps : List (List ℕ)) → length p ≡ k → Has cells at (p ∷ ps)
+    → Has cells (at + cell k) ps
 has_next cells at k p ps e h = subst (λ (n : ℕ). Has cells (at + cell n) ps) e h.1
 
-has_same : (c d : Cells) (at : ℕ) (ps : List (List ℕ)) → ((o : ℕ) → at ≤ o → c.payload o ≡ d.payload o) → Has c at ps → Has d at ps
+has_same : (c d : Cells) (at : ℕ) (ps : List (List ℕ)) → ((o : ℕ) → at ≤ o → c.payload o ≡ d.payload o) → Has c at ps
+    → Has d at ps
 has_same c d at [] e h = tt
-has_same c d at (p ∷ ps) e h = (sym (e at (omega arith)) ∙ h.0, has_same c d (at + cell (length p)) ps (λ o le. e o (omega arith)) h.1)
+has_same c d at (p ∷ ps) e h =
+    (sym (e at (omega arith)) ∙ h.0, has_same c d (at + cell (length p)) ps (λ o le. e o (omega arith)) h.1)
 
 -- cells that begin here, looked up
 abbrev seen : HiveVersion → List Cell → ℕ → Cells
 seen version cs start = record { version = version; payload = λ o. payload_of (or_else (in_cells o start cs) None) }
 
-has_seen : (version : HiveVersion) (start : ℕ) (ps : List (List ℕ)) (more : List Cell) → Has (seen version (map used_cell ps ++ more) start) start ps
+has_seen : (version : HiveVersion) (start : ℕ) (ps : List (List ℕ)) (more : List Cell)
+    → Has (seen version (map used_cell ps ++ more) start) start ps
 has_seen version start [] more = tt
 has_seen version start (p ∷ ps) more =
     let cs = map used_cell ps ++ more in
@@ -60,6 +65,7 @@ unfolding packed_bins
 has_all version t = has_seen version 32 (packed_cells version t) (free_cells (rounded (whole version t) - whole version t))
 
 -- a form that is read, whatever fills the cell behind it, is read in its cell
-pub reads_in : {F : Type 0} (form : List ℕ → Result F HiveKind) (cells : Cells) (at : ℕ) (p : List ℕ) (x : F) → cells.payload at ≡ Ok (filled p) → ((slack : List ℕ) → form (p ++ slack) ≡ Ok x) → reading form cells at ≡ Ok x
+pub reads_in : {F : Type 0} (form : List ℕ → Result F HiveKind) (cells : Cells) (at : ℕ) (p : List ℕ) (x : F)
+    → cells.payload at ≡ Ok (filled p) → ((slack : List ℕ) → form (p ++ slack) ≡ Ok x) → reading form cells at ≡ Ok x
 unfolding filled
 reads_in form cells at p x h r = ap (λ c. c >>= form) h ∙ r (replicate (cell (length p) - 4 - length p) 0)

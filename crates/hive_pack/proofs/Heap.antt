@@ -11,9 +11,11 @@ use Rattle.hive_pack.proofs.Written.{length-zeros}
 use Rattle.hive_pack.proofs.Whole.{eights, bin_is}
 
 used_is_cell : (p : List ℕ) → cell (length p) ≤ 16777216 → IsCell (used_cell p)
-used_is_cell p le = record { least = omega (arith, length_filled p); whole = omega (arith, length_filled p); fits = omega (arith, length_filled p) }
+used_is_cell p le =
+    record { least = omega (arith, length_filled p); whole = omega (arith, length_filled p); fits = omega (arith, length_filled p) }
 
-all_cells : (ps : List (List ℕ)) (later : List Cell) → space ps ≤ 16777216 → AllByRecursion IsCell later → AllByRecursion IsCell (map used_cell ps ++ later)
+all_cells : (ps : List (List ℕ)) (later : List Cell) → space ps ≤ 16777216 → AllByRecursion IsCell later
+    → AllByRecursion IsCell (map used_cell ps ++ later)
 all_cells [] later le f = f
 all_cells (p ∷ ps) later le f = (used_is_cell p (omega arith), all_cells ps later (omega arith) f)
 

@@ -25,7 +25,8 @@ use Rattle.hive_pack.proofs.Found.{Has, has_front, has_behind, has_next, reads_i
 
 -- ---- names
 
-below_first : (b : Bool) (u : ℕ) (name : List ℕ) → nat_lt u 256 ≡ b → is_narrow (u ∷ name) ≡ true → (is_narrow name ≡ true → (k : ℕ) → slice_index name k < 256) → (k : ℕ) → slice_index (u ∷ name) k < 256
+below_first : (b : Bool) (u : ℕ) (name : List ℕ) → nat_lt u 256 ≡ b → is_narrow (u ∷ name) ≡ true
+    → (is_narrow name ≡ true → (k : ℕ) → slice_index name k < 256) → (k : ℕ) → slice_index (u ∷ name) k < 256
 below_first true u name p e later zero = ltb-true u 256 p
 below_first true u name p e later (suc k) = later (rw p at e) k
 below_first false u name p e later k = absurd (let q : false ≡ true = rw p at e in cc)
@@ -55,7 +56,8 @@ four_fit : (a b c d : ℕ) → a < 256 → b < 256 → c < 256 → d < 256 → f
 four_fit a b c d p q r s = omega arith
 
 number_fits : (bs : List ℕ) → length bs ≡ 4 → ((k : ℕ) → get_or bs k 0 < 256) → from_le_bytes w32 bs < 2 ^ 32
-number_fits bs l h = subst (λ (xs : List ℕ). from_le_bytes w32 xs < 2 ^ 32) (sym (four bs l)) (four_fit _ _ _ _ (h 0) (h 1) (h 2) (h 3))
+number_fits bs l h =
+    subst (λ (xs : List ℕ). from_le_bytes w32 xs < 2 ^ 32) (sym (four bs l)) (four_fit _ _ _ _ (h 0) (h 1) (h 2) (h 3))
 
 zero_fits : (n k : ℕ) → get_or (replicate n 0) k 0 < 256
 zero_fits zero k = omega arith
@@ -68,7 +70,8 @@ filled_fits (b ∷ bs) n h zero = h 0
 filled_fits (b ∷ bs) n h (suc k) = filled_fits bs n (λ j. h (suc j)) k
 
 own_length : (bytes : List ℕ) → length bytes ≤ 4 → length (bytes ++ replicate (4 - length bytes) 0) ≡ 4
-own_length bytes h = omega (arith, length-append bytes (replicate (4 - length bytes) 0), length-replicate {A = ℕ} (4 - length bytes) 0)
+own_length bytes h =
+    omega (arith, length-append bytes (replicate (4 - length bytes) 0), length-replicate {A = ℕ} (4 - length bytes) 0)
 
 -- ---- one value
 
@@ -79,7 +82,8 @@ if_bit false = omega arith
 value_units : (v : Item) → ItemNumbers v → UnitsFit (is_narrow_value (if is_narrow v.name then 1 else 0)) v.name
 value_units v f = subst (λ (b : Bool). UnitsFit b v.name) (sym (narrow_value v.name)) (units_fit v.name f.units)
 
-item_fits : (version : HiveVersion) (at : ℕ) (v : Item) → IsItem v → ItemNumbers v → at + item_size version v ≤ 16777216 → IsKeyValue (item_form at v)
+item_fits : (version : HiveVersion) (at : ℕ) (v : Item) → IsItem v → ItemNumbers v → at + item_size version v ≤ 16777216
+    → IsKeyValue (item_form at v)
 item_fits version at v f g le = go (nat_lt 4 (length v.bytes)) refl
   where
     go : (b : Bool) → nat_lt 4 (length v.bytes) ≡ b → IsKeyValue (item_form at v)
@@ -107,26 +111,36 @@ item_fits version at v f g le = go (nat_lt 4 (length v.bytes)) refl
           units = value_units v g;
         })
 
-pub item_read : (cells : Cells) (at : ℕ) (v : Item) → Has cells at (item_cells cells.version at v) → IsItem v → ItemNumbers v → at + item_size cells.version v ≤ 16777216 → reading key_value_at cells at ≡ Ok (item_form at v)
+pub item_read : (cells : Cells) (at : ℕ) (v : Item) → Has cells at (item_cells cells.version at v) → IsItem v → ItemNumbers v
+    → at + item_size cells.version v ≤ 16777216 → reading key_value_at cells at ≡ Ok (item_form at v)
 unfolding item_cells
-item_read cells at v h f g le = reads_in key_value_at cells at (key_value_text (item_form at v)) (item_form at v) h.0 (λ slack. key_value_again (item_form at v) slack (item_fits cells.version at v f g le))
+item_read cells at v h f g le =
+    reads_in key_value_at cells at (key_value_text (item_form at v)) (item_form at v) h.0 (λ slack. key_value_again (item_form at v) slack (item_fits cells.version at v f g le))
 
 -- ---- its data
 
+-- no bytes are the empty list
 no_bytes : (n : ℕ) (bytes : List ℕ) → length bytes ≡ n → n ≡ 0 → bytes ≡ []
 no_bytes n [] e z = refl
 no_bytes n (b ∷ bs) e z = absurd (omega arith)
 
+-- the places of segments fit their fields
 pub segment_places_fit : (k at : ℕ) → at + 16352 * k < 2 ^ 32 → AreOffsets (segment_places k at)
 segment_places_fit zero at h = tt
 segment_places_fit (suc k) at h = (omega arith, segment_places_fit k (at + cell 16344) (omega arith))
 
-segment_read : (cells : Cells) (at n : ℕ) (p : List ℕ) → cells.payload at ≡ Ok (filled p) → length p ≡ n → reading (bytes_in n) cells at ≡ Ok p
-segment_read cells at n p h e = reads_in (bytes_in n) cells at p p h (λ slack. subst (λ (k : ℕ). bytes_in k (p ++ slack) ≡ Ok p) e (bytes_again p slack))
+-- a cell with so many bytes is read
+segment_read : (cells : Cells) (at n : ℕ) (p : List ℕ) → cells.payload at ≡ Ok (filled p) → length p ≡ n
+    → reading (bytes_in n) cells at ≡ Ok p
+segment_read cells at n p h e =
+    reads_in (bytes_in n) cells at p p h (λ slack. subst (λ (k : ℕ). bytes_in k (p ++ slack) ≡ Ok p) e (bytes_again p slack))
 
-segments_read : (cells : Cells) (k n at : ℕ) (bytes : List ℕ) → length bytes ≡ n → segment_count n ≡ k → Has cells at (segments k bytes) → joined_segments cells n (segment_places k at) ≡ Ok bytes
+-- segments one behind another are read as the bytes that they hold
+segments_read : (cells : Cells) (k n at : ℕ) (bytes : List ℕ) → length bytes ≡ n → segment_count n ≡ k
+    → Has cells at (segments k bytes) → joined_segments cells n (segment_places k at) ≡ Ok bytes
 segments_read cells zero n at bytes l e has = ap (λ (x : List ℕ). Ok x) (sym (no_bytes n bytes l (omega arith)))
-segments_read cells (suc k) n at bytes l e has = go (cases_lt 16344 n) (segments_read cells k (n - 16344) (at + cell 16344) (drop 16344 bytes))
+segments_read cells (suc k) n at bytes l e has =
+    go (cases_lt 16344 n) (segments_read cells k (n - 16344) (at + cell 16344) (drop 16344 bytes))
   where
     front : List ℕ
     front = take 16344 bytes
@@ -141,7 +155,8 @@ segments_read cells (suc k) n at bytes l e has = go (cases_lt 16344 n) (segments
     one = segment_read cells at (min 16344 n) front has.0 len
 
     Behind : Type 0
-    Behind = length later ≡ n - 16344 → segment_count (n - 16344) ≡ k → Has cells (at + cell 16344) (segments k later) → joined_segments cells (n - 16344) (segment_places k (at + cell 16344)) ≡ Ok later
+    Behind =
+        length later ≡ n - 16344 → segment_count (n - 16344) ≡ k → Has cells (at + cell 16344) (segments k later) → joined_segments cells (n - 16344) (segment_places k (at + cell 16344)) ≡ Ok later
 
     go : (16344 < n) ⊎ (n ≤ 16344) → Behind → joined_segments cells n (segment_places (suc k) at) ≡ Ok bytes
     go (inl many) behind =
@@ -161,6 +176,7 @@ pub record BigStands (cells : Cells) (at k : ℕ) (bytes : List ℕ) : Type 0 wh
   pub list : reading (offsets_in k) cells (at + cell 8) ≡ Ok (segment_places k (at + cell 8 + cell (4 * k)))
   pub segments : joined_segments cells (length bytes) (segment_places k (at + cell 8 + cell (4 * k))) ≡ Ok bytes
 
+-- the cell of big data is read, and has as many segments as the bytes fill
 big_again : (n k at : ℕ) (slack : List ℕ) → segment_count n ≡ k → k < 2 ^ 16 → at < 2 ^ 32 → big_data_of n (big_data_text (record { segments = k; list = at }) ++ slack) ≡ Ok (record { segments = k; list = at })
 unfolding big_data_of
 big_again n k at slack e few small =
@@ -169,7 +185,10 @@ big_again n k at slack e few small =
     let same : eqb k (segment_count n) ≡ true = eq-eqb k (segment_count n) (sym e) in
     rw (again, same) refl
 
-pub big_stands : (cells : Cells) (at k : ℕ) (bytes : List ℕ) → segment_count (length bytes) ≡ k → Has cells at (big_cells at k bytes) → at + cells_sum (8 ∷ 4 * k ∷ segment_sizes k (length bytes)) ≤ 16777216 → BigStands cells at k bytes
+-- all of big data is read where it was written
+pub big_stands : (cells : Cells) (at k : ℕ) (bytes : List ℕ) → segment_count (length bytes) ≡ k
+    → Has cells at (big_cells at k bytes) → at + cells_sum (8 ∷ 4 * k ∷ segment_sizes k (length bytes)) ≤ 16777216
+    → BigStands cells at k bytes
 unfolding big_cells
 big_stands cells at k bytes e has le =
     let room = segments_room k (length bytes) e in
@@ -186,7 +205,9 @@ big_stands cells at k bytes e has le =
       segments = segments_read cells k (length bytes) first bytes refl e last;
     }
 
-bytes_stand : (cells : Cells) (at k : ℕ) (bytes : List ℕ) → BigStands cells at k bytes → big_bytes_at cells (length bytes) at ≡ Ok bytes
+-- and gives the bytes
+bytes_stand : (cells : Cells) (at k : ℕ) (bytes : List ℕ) → BigStands cells at k bytes
+    → big_bytes_at cells (length bytes) at ≡ Ok bytes
 unfolding big_bytes_at
 bytes_stand cells at k bytes stands = rw (stands.big, stands.list, stands.segments) refl
 
@@ -196,14 +217,18 @@ not_big V3 n h = refl
 not_big V5 n h = le-ltb 16344 n (omega arith)
 
 -- data of over four bytes in cells of their own
-cells_stand : (cells : Cells) (at : ℕ) (bytes : List ℕ) → 4 < length bytes → Has cells at (data_cells cells.version at bytes) → at + data_size cells.version bytes ≤ 16777216
-    → (if is_big cells.version (length bytes) then big_bytes_at cells (length bytes) at else reading (bytes_in (length bytes)) cells at) ≡ Ok bytes
+cells_stand : (cells : Cells) (at : ℕ) (bytes : List ℕ) → 4 < length bytes → Has cells at (data_cells cells.version at bytes)
+    → at + data_size cells.version bytes ≤ 16777216
+    → (if is_big cells.version (length bytes) then big_bytes_at cells (length bytes) at else reading (bytes_in (length bytes)) cells at)
+    ≡ Ok bytes
 cells_stand cells at bytes long has le = go (is_big cells.version (length bytes)) refl
   where
     four_more : nat_lt 4 (length bytes) ≡ true
     four_more = lt-ltb 4 (length bytes) long
 
-    go : (big : Bool) → is_big cells.version (length bytes) ≡ big → (if is_big cells.version (length bytes) then big_bytes_at cells (length bytes) at else reading (bytes_in (length bytes)) cells at) ≡ Ok bytes
+    go : (big : Bool) → is_big cells.version (length bytes) ≡ big
+        → (if is_big cells.version (length bytes) then big_bytes_at cells (length bytes) at else reading (bytes_in (length bytes)) cells at)
+        ≡ Ok bytes
     go true q =
         let here : Has cells at (big_cells at (segment_count (length bytes)) bytes) = rw q at has in
         let room = rw q at le in
@@ -212,7 +237,10 @@ cells_stand cells at bytes long has le = go (is_big cells.version (length bytes)
         let here : Has cells at (bytes ∷ []) = rw (q, four_more) at has in
         rw q (segment_read cells at (length bytes) bytes here.0 refl)
 
-data_stands : (cells : Cells) (at : ℕ) (v : Item) → Has cells (data_place at v) (data_cells cells.version (data_place at v) v.bytes) → ItemNumbers v → at + item_size cells.version v ≤ 16777216
+-- a value's data are read, in its cell or in others
+data_stands : (cells : Cells) (at : ℕ) (v : Item)
+    → Has cells (data_place at v) (data_cells cells.version (data_place at v) v.bytes) → ItemNumbers v
+    → at + item_size cells.version v ≤ 16777216
     → length v.bytes < 2 ^ 31 → data_of cells (item_form at v) ≡ Ok v.bytes
 unfolding data_of
 data_stands cells at v has g le few = go (nat_lt 4 (length v.bytes)) refl
@@ -231,17 +259,24 @@ data_stands cells at v has g le few = go (nat_lt 4 (length v.bytes)) refl
         let again : to_le_bytes w32 (from_le_bytes w32 own) ≡ own = le_bytes_4 own (from_le_bytes w32 own) (own_length v.bytes short) (filled_fits v.bytes (4 - length v.bytes) g.bytes) refl in
         rw (e, large, n, again, take_at v.bytes (replicate (4 - length v.bytes) 0) (length v.bytes) refl) refl
 
-pub data_has : (cells : Cells) (at : ℕ) (v : Item) → Has cells at (item_cells cells.version at v) → Has cells (data_place at v) (data_cells cells.version (data_place at v) v.bytes)
+-- the cells of a value's data stand behind its own
+pub data_has : (cells : Cells) (at : ℕ) (v : Item) → Has cells at (item_cells cells.version at v)
+    → Has cells (data_place at v) (data_cells cells.version (data_place at v) v.bytes)
 unfolding item_cells
-data_has cells at v has = has_next cells at (20 + name_bytes v.name) (key_value_text (item_form at v)) (data_cells cells.version (data_place at v) v.bytes) (length_value at v) has
+data_has cells at v has =
+    has_next cells at (20 + name_bytes v.name) (key_value_text (item_form at v)) (data_cells cells.version (data_place at v) v.bytes) (length_value at v) has
 
-pub item_stands : (cells : Cells) (at : ℕ) (v : Item) → Has cells at (item_cells cells.version at v) → IsItem v → ItemNumbers v → at + item_size cells.version v ≤ 16777216 → item_at cells at ≡ Ok v
+pub item_stands : (cells : Cells) (at : ℕ) (v : Item) → Has cells at (item_cells cells.version at v) → IsItem v → ItemNumbers v
+    → at + item_size cells.version v ≤ 16777216 → item_at cells at ≡ Ok v
 unfolding item_at
-item_stands cells at v h f g le = rw (item_read cells at v h f g le, data_stands cells at v (data_has cells at v h) g le f.bytes) refl
+item_stands cells at v h f g le =
+    rw (item_read cells at v h f g le, data_stands cells at v (data_has cells at v h) g le f.bytes) refl
 
 -- ---- all values of a key
 
-items_stand : (cells : Cells) (at : ℕ) (vs : List Item) → Has cells at (cells_of_items cells.version at vs) → All IsItem vs → AllByRecursion ItemNumbers vs → at + items_sum cells.version vs ≤ 16777216 → items_at cells (item_places cells.version at vs) ≡ Ok vs
+items_stand : (cells : Cells) (at : ℕ) (vs : List Item) → Has cells at (cells_of_items cells.version at vs) → All IsItem vs
+    → AllByRecursion ItemNumbers vs → at + items_sum cells.version vs ≤ 16777216
+    → items_at cells (item_places cells.version at vs) ≡ Ok vs
 items_stand cells at [] h f g le = refl
 items_stand cells at (v ∷ vs) h f g le =
     let next = at + item_size cells.version v in
@@ -250,12 +285,15 @@ items_stand cells at (v ∷ vs) h f g le =
     let all = items_stand cells next vs back (all_later v vs f) g.1 (omega arith) in
     rw (one, all) refl
 
-places_fit : (version : HiveVersion) (at : ℕ) (vs : List Item) → at + items_sum version vs ≤ 16777216 → AreOffsets (item_places version at vs)
+places_fit : (version : HiveVersion) (at : ℕ) (vs : List Item) → at + items_sum version vs ≤ 16777216
+    → AreOffsets (item_places version at vs)
 places_fit version at [] le = tt
 places_fit version at (v ∷ vs) le = (omega arith, places_fit version (at + item_size version v) vs (omega arith))
 
-pub values_stand : (cells : Cells) (node : KeyNode) (start : ℕ) (vs : List Item) → node.value_count ≡ length vs → node.value_list ≡ place_of_some (length vs) start → Has cells start (items_cells cells.version start vs)
-    → All IsItem vs → AllByRecursion ItemNumbers vs → start + items_size cells.version vs ≤ 16777216 → values_of cells node ≡ Ok vs
+pub values_stand : (cells : Cells) (node : KeyNode) (start : ℕ) (vs : List Item) → node.value_count ≡ length vs
+    → node.value_list ≡ place_of_some (length vs) start → Has cells start (items_cells cells.version start vs)
+    → All IsItem vs → AllByRecursion ItemNumbers vs → start + items_size cells.version vs ≤ 16777216
+    → values_of cells node ≡ Ok vs
 unfolding values_of items_cells
 values_stand cells node start [] n l has f g le = rw n refl
 values_stand cells node start (v ∷ vs) n l has f g le =
@@ -272,8 +310,10 @@ values_stand cells node start (v ∷ vs) n l has f g le =
 
 -- ---- and are read there
 
-pub values_read : (cells : Cells) (start : ℕ) (v : Item) (vs : List Item) → Has cells start (items_cells cells.version start (v ∷ vs)) → start + items_size cells.version (v ∷ vs) ≤ 16777216
-    → reading (offsets_in (length (v ∷ vs))) cells start ≡ Ok (item_places cells.version (start + cell (4 * length (v ∷ vs))) (v ∷ vs))
+pub values_read : (cells : Cells) (start : ℕ) (v : Item) (vs : List Item)
+    → Has cells start (items_cells cells.version start (v ∷ vs)) → start + items_size cells.version (v ∷ vs) ≤ 16777216
+    → reading (offsets_in (length (v ∷ vs))) cells start
+    ≡ Ok (item_places cells.version (start + cell (4 * length (v ∷ vs))) (v ∷ vs))
 unfolding items_cells
 values_read cells start v vs has le =
     let first = start + cell (4 * length (v ∷ vs)) in
@@ -281,7 +321,9 @@ values_read cells start v vs has le =
     reads_in (offsets_in (length (v ∷ vs))) cells start (offsets_text ps) ps has.0
     (λ slack. subst (λ (k : ℕ). offsets_in k (offsets_text ps ++ slack) ≡ Ok ps) (length_item_places cells.version first (v ∷ vs)) (offsets_again ps slack (places_fit cells.version first (v ∷ vs) (omega arith))))
 
-pub values_behind : (cells : Cells) (start : ℕ) (v : Item) (vs : List Item) → Has cells start (items_cells cells.version start (v ∷ vs)) → Has cells (start + cell (4 * length (v ∷ vs))) (cells_of_items cells.version (start + cell (4 * length (v ∷ vs))) (v ∷ vs))
+pub values_behind : (cells : Cells) (start : ℕ) (v : Item) (vs : List Item)
+    → Has cells start (items_cells cells.version start (v ∷ vs))
+    → Has cells (start + cell (4 * length (v ∷ vs))) (cells_of_items cells.version (start + cell (4 * length (v ∷ vs))) (v ∷ vs))
 unfolding items_cells
 values_behind cells start v vs has =
     let first = start + cell (4 * length (v ∷ vs)) in

@@ -30,23 +30,29 @@ abbrev pub written_kind : HiveVersion → ListKind
 written_kind V3 = Lf
 written_kind V5 = Lh
 
-list_again : (version : HiveVersion) (os : List ℕ) (hs : List (List ℕ)) (slack : List ℕ) → length os ≡ length hs → length os ≤ 500 → AreOffsets os → AreHints hs
+-- a written list is read, whatever fills its cell
+list_again : (version : HiveVersion) (os : List ℕ) (hs : List (List ℕ)) (slack : List ℕ) → length os ≡ length hs → length os ≤ 500
+    → AreOffsets os → AreHints hs
     → list_at (list_text version os hs ++ slack) ≡ Ok (record { kind = written_kind version; offsets = os })
 list_again V3 os hs slack e few f g = lf_again os hs slack e (omega arith) f g
 list_again V5 os hs slack e few f g = lh_again os hs slack e (omega arith) f g
 
-leaf_again : (version : HiveVersion) (os : List ℕ) (hs : List (List ℕ)) (slack : List ℕ) → length os ≡ length hs → length os ≤ 500 → AreOffsets os → AreHints hs
+-- and it is no list of lists
+leaf_again : (version : HiveVersion) (os : List ℕ) (hs : List (List ℕ)) (slack : List ℕ) → length os ≡ length hs → length os ≤ 500
+    → AreOffsets os → AreHints hs
     → leaf_at (list_text version os hs ++ slack) ≡ Ok os
 unfolding leaf_at
 leaf_again V3 os hs slack e few f g = rw (list_again V3 os hs slack e few f g) refl
 leaf_again V5 os hs slack e few f g = rw (list_again V5 os hs slack e few f g) refl
 
+-- in neither version
 pub no_lists : (version : HiveVersion) → is_list_of_lists (written_kind version) ≡ false
 no_lists V3 = refl
 no_lists V5 = refl
 
 -- one list
-leaf_read : (cells : Cells) (at : ℕ) (os : List ℕ) (hs : List (List ℕ)) (later : List (List ℕ)) → Has cells at (list_text cells.version os hs ∷ later) → length os ≡ length hs → length os ≤ 500 → AreOffsets os → AreHints hs
+leaf_read : (cells : Cells) (at : ℕ) (os : List ℕ) (hs : List (List ℕ)) (later : List (List ℕ))
+    → Has cells at (list_text cells.version os hs ∷ later) → length os ≡ length hs → length os ≤ 500 → AreOffsets os → AreHints hs
     → reading leaf_at cells at ≡ Ok os
 leaf_read cells at os hs later has e few f g =
     reads_in leaf_at cells at (list_text cells.version os hs) os has.0 (λ slack. leaf_again cells.version os hs slack e few f g)
@@ -65,7 +71,9 @@ take_all os h = go (cases os)
     cases xs = no_items 0 (drop 500 os) (length-drop 500 os ∙ omega arith) refl
 
 -- one list, and the rest where it is full
-part_then : (cells : Cells) (k n at : ℕ) (os : List ℕ) → length os ≡ n → part_count n ≡ suc k → reading leaf_at cells at ≡ Ok (take 500 os) → (500 < n → joined_at cells (part_places k (at + cell 4004)) ≡ Ok (drop 500 os))
+part_then : (cells : Cells) (k n at : ℕ) (os : List ℕ) → length os ≡ n → part_count n ≡ suc k
+    → reading leaf_at cells at ≡ Ok (take 500 os)
+    → (500 < n → joined_at cells (part_places k (at + cell 4004)) ≡ Ok (drop 500 os))
     → joined_at cells (part_places (suc k) at) ≡ Ok os
 part_then cells k n at os l p one rest = go (cases_lt 500 n)
   where
@@ -77,7 +85,8 @@ part_then cells k n at os l p one rest = go (cases_lt 500 n)
         rw (one, none_left) (ap (λ (x : List ℕ). Ok x) (append-nil (take 500 os) ∙ take_all os (omega arith)))
 
 -- the lists of a list of lists
-parts_read : (cells : Cells) (k n at : ℕ) (os : List ℕ) (hs : List (List ℕ)) → length os ≡ n → length os ≡ length hs → AreOffsets os → AreHints hs → part_count n ≡ k → Has cells at (parts cells.version k os hs)
+parts_read : (cells : Cells) (k n at : ℕ) (os : List ℕ) (hs : List (List ℕ)) → length os ≡ n → length os ≡ length hs
+    → AreOffsets os → AreHints hs → part_count n ≡ k → Has cells at (parts cells.version k os hs)
     → joined_at cells (part_places k at) ≡ Ok os
 parts_read cells zero n at os hs l e f g p has = ap (λ (x : List ℕ). Ok x) (sym (no_items n os l (omega arith)))
 parts_read cells (suc k) n at os hs l e f g p has =
@@ -85,7 +94,8 @@ parts_read cells (suc k) n at os hs l e f g p has =
     let later = parts cells.version k (drop 500 os) (drop 500 hs) in
     let same : length (take 500 os) ≡ length (take 500 hs) = omega (arith, length-take 500 os, length-take 500 hs) in
     let few : length (take 500 os) ≤ 500 = omega (arith, length-take 500 os) in
-    let len : length first ≡ 4 + 8 * min 500 n = length_list_text cells.version (take 500 os) (take 500 hs) same (hints_take 500 hs g) ∙ omega (arith, length-take 500 os) in
+    let len : length first ≡ 4 + 8 * min 500 n =
+    length_list_text cells.version (take 500 os) (take 500 hs) same (hints_take 500 hs g) ∙ omega (arith, length-take 500 os) in
     part_then cells k n at os l p (leaf_read cells at (take 500 os) (take 500 hs) later has same few (offsets_take 500 os f) (hints_take 500 hs g))
     (λ many.
     let full : length first ≡ 4004 = len ∙ omega arith in
@@ -97,7 +107,8 @@ starts_fit zero at h = tt
 starts_fit (suc k) at h = (omega arith, starts_fit k (at + cell 4004) (omega arith))
 
 -- one list is read
-pub list_read : (cells : Cells) (at : ℕ) (os : List ℕ) (hs : List (List ℕ)) → Has cells at (list_cells cells.version at os hs) → 0 < length os → length os < 501 → length os ≡ length hs → AreOffsets os → AreHints hs
+pub list_read : (cells : Cells) (at : ℕ) (os : List ℕ) (hs : List (List ℕ)) → Has cells at (list_cells cells.version at os hs)
+    → 0 < length os → length os < 501 → length os ≡ length hs → AreOffsets os → AreHints hs
     → reading list_at cells at ≡ Ok (record { kind = written_kind cells.version; offsets = os })
 unfolding list_cells
 list_read cells at os hs has some few e f g =
@@ -107,8 +118,10 @@ list_read cells at os hs has some few e f g =
     reads_in list_at cells at (list_text cells.version os hs) _ here.0 (λ slack. list_again cells.version os hs slack e (omega arith) f g)
 
 -- a list of lists is read
-pub lists_read : (cells : Cells) (at : ℕ) (os : List ℕ) (hs : List (List ℕ)) → Has cells at (list_cells cells.version at os hs) → 501 ≤ length os → at + list_size (length os) ≤ 16777216
-    → reading list_at cells at ≡ Ok (record { kind = Ri; offsets = part_places (part_count (length os)) (at + cell (4 + 4 * part_count (length os))) })
+pub lists_read : (cells : Cells) (at : ℕ) (os : List ℕ) (hs : List (List ℕ)) → Has cells at (list_cells cells.version at os hs)
+    → 501 ≤ length os → at + list_size (length os) ≤ 16777216
+    → reading list_at cells at
+    ≡ Ok (record { kind = Ri; offsets = part_places (part_count (length os)) (at + cell (4 + 4 * part_count (length os))) })
 unfolding list_cells
 lists_read cells at os hs has many le =
     let not_none : eqb (length os) 0 ≡ false = ne_eqb (length os) 0 (λ z. omega arith) in
@@ -120,7 +133,8 @@ lists_read cells at os hs has many le =
     let size = many_lists (length os) many in
     reads_in list_at cells at (ri_text starts) _ here.0 (λ slack. ri_again starts slack (omega (arith, k, size)) (starts_fit (part_count (length os)) first (omega (arith, size))))
 
-pub entries_read : (cells : Cells) (at : ℕ) (os : List ℕ) (hs : List (List ℕ)) → Has cells at (list_cells cells.version at os hs) → 0 < length os → length os ≡ length hs → AreOffsets os → AreHints hs → at + list_size (length os) ≤ 16777216
+pub entries_read : (cells : Cells) (at : ℕ) (os : List ℕ) (hs : List (List ℕ)) → Has cells at (list_cells cells.version at os hs)
+    → 0 < length os → length os ≡ length hs → AreOffsets os → AreHints hs → at + list_size (length os) ≤ 16777216
     → entries_at cells at ≡ Ok os
 unfolding list_cells entries_at
 entries_read cells at os hs has some e f g le = go (cases_lt (length os) 501)
@@ -149,7 +163,9 @@ entries_read cells at os hs has some e f g le = go (cases_lt (length os) 501)
         let back = has_next cells at (4 + 4 * part_count (length os)) (ri_text starts) (parts cells.version (part_count (length os)) os hs) (length_ri starts ∙ ap (λ x. 4 + 4 * x) k) here in
         rw read (parts_read cells (part_count (length os)) (length os) first os hs refl e f g refl back)
 
-pub children_named : (cells : Cells) (node : KeyNode) (at : ℕ) (os : List ℕ) (hs : List (List ℕ)) → Has cells at (list_cells cells.version at os hs) → node.child_count ≡ length os → node.child_list ≡ place_of_some (length os) at
+pub children_named : (cells : Cells) (node : KeyNode) (at : ℕ) (os : List ℕ) (hs : List (List ℕ))
+    → Has cells at (list_cells cells.version at os hs) → node.child_count ≡ length os
+    → node.child_list ≡ place_of_some (length os) at
     → length os ≡ length hs → AreOffsets os → AreHints hs → at + list_size (length os) ≤ 16777216 → ListsChildren cells node os
 children_named cells node at [] hs has c l e f g le = rw c refl
 children_named cells node at (o ∷ os) hs has c l e f g le =

@@ -32,7 +32,8 @@ pub all_append : (P : Check → Type 0) (a b : List Check) → AllByRecursion P 
 all_append P [] b p q = q
 all_append P (c ∷ cs) b p q = (p.0, all_append P cs b p.1 q)
 
-pub within_wider : (lo hi lo' hi' s : ℕ) (cs : List Check) → lo' ≤ lo → hi ≤ hi' → (s < lo → s < lo') → Within lo hi s cs → Within lo' hi' s cs
+pub within_wider : (lo hi lo' hi' s : ℕ) (cs : List Check) → lo' ≤ lo → hi ≤ hi' → (s < lo → s < lo') → Within lo hi s cs
+    → Within lo' hi' s cs
 within_wider lo hi lo' hi' s [] l h k w = tt
 within_wider lo hi lo' hi' s (tests at b ∷ cs) l h k w = (tt, within_wider lo hi lo' hi' s cs l h k w.1)
 within_wider lo hi lo' hi' s (uses at b ∷ cs) l h k w = (go w.0, within_wider lo hi lo' hi' s cs l h k w.1)
@@ -42,7 +43,8 @@ within_wider lo hi lo' hi' s (uses at b ∷ cs) l h k w = (go w.0, within_wider 
     go (inr p) = inr (p.0, p.1, k p.2)
 
 -- what the children use, under the key's own descriptor, lies in the key's own range
-pub within_own : (lo hi lo' hi' s s' : ℕ) (cs : List Check) → lo' ≤ lo → hi ≤ hi' → lo' ≤ s' → lo ≤ hi → Within lo hi s' cs → Within lo' hi' s cs
+pub within_own : (lo hi lo' hi' s s' : ℕ) (cs : List Check) → lo' ≤ lo → hi ≤ hi' → lo' ≤ s' → lo ≤ hi → Within lo hi s' cs
+    → Within lo' hi' s cs
 within_own lo hi lo' hi' s s' [] l h k m w = tt
 within_own lo hi lo' hi' s s' (tests at b ∷ cs) l h k m w = (tt, within_own lo hi lo' hi' s s' cs l h k m w.1)
 within_own lo hi lo' hi' s s' (uses at b ∷ cs) l h k m w = (go w.0, within_own lo hi lo' hi' s s' cs l h k m w.1)
@@ -83,7 +85,8 @@ kept_both : (s a : ℕ) (b e : Bool) → eqb s a ≡ e → (a ≡ s → b ≡ tr
 kept_both s a b true q h = let t : b ≡ true = h (sym (eq_of s a q)) in rw t refl
 kept_both s a b false q h = refl
 
-one : (s a : ℕ) (b : Bool) (h : a ≡ s → b ≡ true) (cs : List Check) → list_any (clash s true) cs ≡ false → list_any (clash s true) (uses a b ∷ cs) ≡ false
+one : (s a : ℕ) (b : Bool) (h : a ≡ s → b ≡ true) (cs : List Check) → list_any (clash s true) cs ≡ false
+    → list_any (clash s true) (uses a b ∷ cs) ≡ false
 one s a b h cs r = rw (kept_both s a b (eqb s a) refl h) r
 
 pub shared : (n s : ℕ) (before : List Check) → Clean n s before → list_any (clash s true) before ≡ false
@@ -93,8 +96,10 @@ shared n s (uses a b ∷ cs) c = one s a b c.0.1 cs (shared n s cs c.1)
 
 pub once_append : (before a b : List Check) → AreUsedOnce before a → AreUsedOnce (before ++ a) b → AreUsedOnce before (a ++ b)
 once_append before [] b p q = subst (λ (l : List Check). AreUsedOnce l b) (append-nil before) q
-once_append before (tests at k ∷ cs) b p q = once_append (before ++ tests at k ∷ []) cs b p (subst (λ (l : List Check). AreUsedOnce l b) (sym (append_assoc before (tests at k ∷ []) cs)) q)
-once_append before (uses at k ∷ cs) b p q = (p.0, once_append (before ++ uses at k ∷ []) cs b p.1 (subst (λ (l : List Check). AreUsedOnce l b) (sym (append_assoc before (uses at k ∷ []) cs)) q))
+once_append before (tests at k ∷ cs) b p q =
+    once_append (before ++ tests at k ∷ []) cs b p (subst (λ (l : List Check). AreUsedOnce l b) (sym (append_assoc before (tests at k ∷ []) cs)) q)
+once_append before (uses at k ∷ cs) b p q =
+    (p.0, once_append (before ++ uses at k ∷ []) cs b p.1 (subst (λ (l : List Check). AreUsedOnce l b) (sym (append_assoc before (uses at k ∷ []) cs)) q))
 
 -- ---- a stretch of checks
 
@@ -113,7 +118,8 @@ narrower s lo hi lo' hi' l h (inr p) = inr (omega arith)
 pub good_none : (lo hi s : ℕ) → Good lo hi s []
 good_none lo hi s = record { within = tt; once = λ before c. tt }
 
-pub good_append : (lo mid hi s : ℕ) (a b : List Check) → lo ≤ mid → mid ≤ hi → Outside s lo hi → Good lo mid s a → Good mid hi s b → Good lo hi s (a ++ b)
+pub good_append : (lo mid hi s : ℕ) (a b : List Check) → lo ≤ mid → mid ≤ hi → Outside s lo hi → Good lo mid s a → Good mid hi s b
+    → Good lo hi s (a ++ b)
 good_append lo mid hi s a b l h o g k = record {
   within = all_append (WithinCheck lo hi s) a b (within_wider lo mid lo hi s a (omega arith) h (λ p. p) g.within) (go o);
   once = λ before c. once_append before a b (g.once before c) (k.once (before ++ a) (all_append (CleanCheck mid s) before a (clean_later lo mid s before l c) (clean_within lo mid s a (narrower s lo hi lo mid (omega arith) h o) l g.within)));
@@ -129,7 +135,8 @@ good_tests lo hi s at kind cs g = record {
   once = λ before c. g.once (before ++ tests at kind ∷ []) (all_append (CleanCheck lo s) before (tests at kind ∷ []) c (tt, tt));
 }
 
-pub good_use : (lo mid hi s at : ℕ) (cs : List Check) → lo ≤ at → at < mid → mid ≤ hi → Outside s lo hi → Good mid hi s cs → Good lo hi s (uses at false ∷ cs)
+pub good_use : (lo mid hi s at : ℕ) (cs : List Check) → lo ≤ at → at < mid → mid ≤ hi → Outside s lo hi → Good mid hi s cs
+    → Good lo hi s (uses at false ∷ cs)
 good_use lo mid hi s at cs l m h o g = record {
   within = (inl (l, omega arith), go o);
   once = λ before c. (
@@ -155,7 +162,8 @@ good_shared lo hi s cs l g = record {
 
 -- under another descriptor, which stands before none of it
 pub good_other : (lo hi s d : ℕ) (cs : List Check) → lo ≤ hi → lo ≤ d → Good lo hi d cs → Good lo hi s cs
-good_other lo hi s d cs l p g = record { within = within_own lo hi lo hi s d cs (omega arith) (omega arith) p l g.within; once = λ before c. g.once before (clean_new lo s d before p c) }
+good_other lo hi s d cs l p g =
+    record { within = within_own lo hi lo hi s d cs (omega arith) (omega arith) p l g.within; once = λ before c. g.once before (clean_new lo s d before p c) }
 
 unused_any : (n s at : ℕ) (before : List Check) → n ≤ at → Clean n s before → list_any (clash at true) before ≡ false
 unused_any n s at [] l c = refl
@@ -165,7 +173,8 @@ unused_any n s at (uses a b ∷ cs) l c =
     rw e (unused_any n s at cs l c.1)
 
 -- a descriptor of the key's own
-pub good_own : (lo mid hi s d : ℕ) (cs : List Check) → lo ≤ d → d < mid → mid ≤ hi → Good mid hi d cs → Good lo hi s (uses d true ∷ cs)
+pub good_own : (lo mid hi s d : ℕ) (cs : List Check) → lo ≤ d → d < mid → mid ≤ hi → Good mid hi d cs
+    → Good lo hi s (uses d true ∷ cs)
 good_own lo mid hi s d cs l m h g = record {
   within = (inl (l, omega arith), within_own mid hi lo hi s d cs (omega arith) (omega arith) l h g.within);
   once = λ before c. (
@@ -175,11 +184,14 @@ good_own lo mid hi s d cs l m h g = record {
 }
 
 -- a use of a cell in the range
-pub use_only : {F : Type 0} (form : List ℕ → Result F HiveKind) (cells : Cells) (lo hi s at : ℕ) → lo ≤ at → at < hi → Outside s lo hi → Good lo hi s (use_as false form cells at)
-use_only form cells lo hi s at l h o = good_use lo hi hi s at (tests at (found (reading form cells at)) ∷ []) l h (omega arith) o (good_tests hi hi s at (found (reading form cells at)) [] (good_none hi hi s))
+pub use_only : {F : Type 0} (form : List ℕ → Result F HiveKind) (cells : Cells) (lo hi s at : ℕ) → lo ≤ at → at < hi
+    → Outside s lo hi → Good lo hi s (use_as false form cells at)
+use_only form cells lo hi s at l h o =
+    good_use lo hi hi s at (tests at (found (reading form cells at)) ∷ []) l h (omega arith) o (good_tests hi hi s at (found (reading form cells at)) [] (good_none hi hi s))
 
 -- and what is read there asks for more
-pub use_then : {F : Type 0} (form : List ℕ → Result F HiveKind) (cells : Cells) (lo mid hi s at : ℕ) (x : F) (below : F → List Check) → reading form cells at ≡ Ok x → lo ≤ at → at < mid → mid ≤ hi → Outside s lo hi
+pub use_then : {F : Type 0} (form : List ℕ → Result F HiveKind) (cells : Cells) (lo mid hi s at : ℕ) (x : F) (below : F → List Check)
+    → reading form cells at ≡ Ok x → lo ≤ at → at < mid → mid ≤ hi → Outside s lo hi
     → Good mid hi s (below x) → Good lo hi s (use_as false form cells at ++ below_of (reading form cells at) below)
 use_then form cells lo mid hi s at x below e l m h o g =
     subst (λ (r : Result _ HiveKind). Good lo hi s (uses at false ∷ tests at (found r) ∷ below_of r below)) (sym e) (good_use lo mid hi s at (tests at None ∷ below x) l m h o (good_tests mid hi s at None (below x) g))

@@ -10,7 +10,8 @@ use Rattle.hive_model.specs.Forms.{hash_of}
 use Rattle.hive_model.specs.Packed.{segment_places, segments, hint, part_places, list_text, parts}
 
 -- the first four bytes of a name, zeros behind a short one
-pub first_four : (name : List ℕ) → slice_index name 0 ∷ slice_index name 1 ∷ slice_index name 2 ∷ slice_index name 3 ∷ [] ≡ take 4 (name ++ 0 ∷ 0 ∷ 0 ∷ 0 ∷ [])
+pub first_four : (name : List ℕ)
+    → slice_index name 0 ∷ slice_index name 1 ∷ slice_index name 2 ∷ slice_index name 3 ∷ [] ≡ take 4 (name ++ 0 ∷ 0 ∷ 0 ∷ 0 ∷ [])
 first_four [] = refl
 first_four (a ∷ []) = refl
 first_four (a ∷ b ∷ []) = refl
@@ -37,7 +38,8 @@ drop_least (suc k) (suc n) [] e = refl
 drop_least (suc k) (suc n) (x ∷ xs) e = drop_least k n xs (omega arith)
 
 -- the next list, and those behind it
-pub parts_next : (version : HiveVersion) (left k : ℕ) (places : List ℕ) (keys : List Tree) → 0 < left → length places ≡ length keys → k ≡ min (length places) 500
+pub parts_next : (version : HiveVersion) (left k : ℕ) (places : List ℕ) (keys : List Tree) → 0 < left
+    → length places ≡ length keys → k ≡ min (length places) 500
     → parts version left places (map (hint version) keys)
     ≡ list_text version (take k places) (map (hint version) (take k keys)) ∷ parts version (left - 1) (drop k places) (map (hint version) (drop k keys))
 parts_next version zero k places keys h l e = absurd (omega arith)
@@ -53,14 +55,16 @@ hashes_are [] = refl
 hashes_are (t ∷ ts) = ap (λ (hs : List (List ℕ)). hint V5 t ∷ hs) (hashes_are ts)
 
 -- the next segment, and those behind it
-pub segments_next : (left k : ℕ) (bytes : List ℕ) → 0 < left → k ≡ min (length bytes) 16344 → segments left bytes ≡ take k bytes ∷ segments (left - 1) (drop k bytes)
+pub segments_next : (left k : ℕ) (bytes : List ℕ) → 0 < left → k ≡ min (length bytes) 16344
+    → segments left bytes ≡ take k bytes ∷ segments (left - 1) (drop k bytes)
 segments_next zero k bytes h e = absurd (omega arith)
 segments_next (suc left) k bytes h e =
     let n : suc left - 1 ≡ left = omega arith in
     rw (n, take_least k 16344 bytes e, drop_least k 16344 bytes e) refl
 
 -- the next place of a full segment, and those behind it
-pub segment_starts_next : (left place : ℕ) → 0 < left → segment_places left place ≡ place ∷ segment_places (left - 1) (place + 16352)
+pub segment_starts_next : (left place : ℕ) → 0 < left
+    → segment_places left place ≡ place ∷ segment_places (left - 1) (place + 16352)
 segment_starts_next zero place h = absurd (omega arith)
 segment_starts_next (suc left) place h =
     let n : suc left - 1 ≡ left = omega arith in

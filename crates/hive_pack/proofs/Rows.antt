@@ -46,7 +46,8 @@ narrow_value name = go (is_narrow name)
     go true = refl
     go false = refl
 
-pub length_node : (version : HiveVersion) (up : Above) (at : ℕ) (h : Head) (keys : List Tree) → length (key_node_text (node_of version up at h keys)) ≡ 76 + name_bytes h.name
+pub length_node : (version : HiveVersion) (up : Above) (at : ℕ) (h : Head) (keys : List Tree)
+    → length (key_node_text (node_of version up at h keys)) ≡ 76 + name_bytes h.name
 length_node version up at h keys =
     length_key_node (node_of version up at h keys)
     ∙ ap (λ b. 76 + length (name_text b h.name)) (narrow_stored h.name h.flags)
@@ -62,7 +63,8 @@ length_value at v =
 
 pub length_filled : (p : List ℕ) → length (filled p) ≡ cell (length p) - 4
 unfolding filled
-length_filled p = omega (arith, length-append p (replicate (cell (length p) - 4 - length p) 0), length-replicate {A = ℕ} (cell (length p) - 4 - length p) 0)
+length_filled p =
+    omega (arith, length-append p (replicate (cell (length p) - 4 - length p) 0), length-replicate {A = ℕ} (cell (length p) - 4 - length p) 0)
 
 -- four bytes for the size, with the sign of an allocated cell, and the payload
 pub cell_text_is : (p : List ℕ) → cell_text p ≡ to_le_bytes w32 (4294967296 - cell (length p)) ++ filled p
@@ -72,13 +74,16 @@ cell_text_is p =
     ap (λ k. to_le_bytes w32 (4294967296 - k) ++ filled p) n
 
 -- what is there once a cell was appended part by part
-pub cell_written : (old one two new p : List ℕ) (n : ℕ) → n ≡ cell (length p) → one ≡ old ++ to_le_bytes w32 (4294967296 - n) → two ≡ one ++ p → new ≡ two ++ replicate (n - 4 - length p) 0 → new ≡ old ++ cell_text p
+pub cell_written : (old one two new p : List ℕ) (n : ℕ) → n ≡ cell (length p) → one ≡ old ++ to_le_bytes w32 (4294967296 - n)
+    → two ≡ one ++ p → new ≡ two ++ replicate (n - 4 - length p) 0 → new ≡ old ++ cell_text p
 unfolding filled
 cell_written old one two new p n s a b c =
     let z : List ℕ = replicate (n - 4 - length p) 0 in
     let w = to_le_bytes w32 (4294967296 - n) in
-    c ∙ ap (λ (x : List ℕ). x ++ z) (b ∙ ap (λ (x : List ℕ). x ++ p) a) ∙ append_assoc (old ++ w) p z ∙ append_assoc old w (p ++ z)
-    ∙ (λ j. old ++ (to_le_bytes w32 (4294967296 - s j) ++ (p ++ replicate (s j - 4 - length p) 0))) ∙ ap (λ (x : List ℕ). old ++ x) (sym (cell_text_is p))
+    c ∙ ap (λ (x : List ℕ). x ++ z) (b ∙ ap (λ (x : List ℕ). x ++ p) a) ∙ append_assoc (old ++ w) p z
+    ∙ append_assoc old w (p ++ z)
+    ∙ (λ j. old ++ (to_le_bytes w32 (4294967296 - s j) ++ (p ++ replicate (s j - 4 - length p) 0)))
+    ∙ ap (λ (x : List ℕ). old ++ x) (sym (cell_text_is p))
 
 pub length_cell : (p : List ℕ) → length (cell_text p) ≡ cell (length p)
 length_cell p = ap (λ (x : List ℕ). length x) (cell_text_is p) ∙ omega (arith, length_filled p)
@@ -89,12 +94,14 @@ length_text (p ∷ ps) = omega (arith, length-append (cell_text p) (text ps), le
 
 -- ---- values
 
+-- the cells of segments
 space_segments : (k : ℕ) (bytes : List ℕ) → space (segments k bytes) ≡ cells_sum (segment_sizes k (length bytes))
 space_segments zero bytes = refl
 space_segments (suc k) bytes =
     ap (λ n. cell n + space (segments k (drop 16344 bytes))) (length-take 16344 bytes)
     ∙ ap (λ n. cell (min 16344 (length bytes)) + n) (space_segments k (drop 16344 bytes) ∙ ap (λ n. cells_sum (segment_sizes k n)) (length-drop 16344 bytes))
 
+-- as many places as segments
 pub length_segment_places : (k at : ℕ) → length (segment_places k at) ≡ k
 length_segment_places zero at = refl
 length_segment_places (suc k) at = omega (arith, length_segment_places k (at + cell 16344))
@@ -103,6 +110,7 @@ length_segment_places (suc k) at = omega (arith, length_segment_places k (at + c
 pub length_segment_list : (k at : ℕ) → length (offsets_text (segment_places k at)) ≡ 4 * k
 length_segment_list k at = length_offsets (segment_places k at) ∙ ap (λ n. 4 * n) (length_segment_places k at)
 
+-- the cells of big data
 space_big : (at k : ℕ) (bytes : List ℕ) → space (big_cells at k bytes) ≡ cells_sum (8 ∷ 4 * k ∷ segment_sizes k (length bytes))
 unfolding big_cells
 space_big at k bytes =
@@ -113,6 +121,7 @@ space_big at k bytes =
       space_segments k bytes,
     )
 
+-- the cells of data
 pub space_data : (version : HiveVersion) (at : ℕ) (bytes : List ℕ) → space (data_cells version at bytes) ≡ data_size version bytes
 space_data version at bytes = go (is_big version n) (nat_lt 4 n)
   where
@@ -130,7 +139,8 @@ pub segments_room : (k n : ℕ) → segment_count n ≡ k → 16352 * k ≤ cell
 segments_room zero n e = omega arith
 segments_room (suc k) n e = go (cases_lt 16344 n) (segments_room k (n - 16344))
   where
-    go : (16344 < n) ⊎ (n ≤ 16344) → (segment_count (n - 16344) ≡ k → 16352 * k ≤ cells_sum (segment_sizes k (n - 16344)) + 16344) → 16352 * suc k ≤ cells_sum (segment_sizes (suc k) n) + 16344
+    go : (16344 < n) ⊎ (n ≤ 16344) → (segment_count (n - 16344) ≡ k → 16352 * k ≤ cells_sum (segment_sizes k (n - 16344)) + 16344)
+        → 16352 * suc k ≤ cells_sum (segment_sizes (suc k) n) + 16344
     go (inl many) later =
         let m : min 16344 n ≡ 16344 = omega arith in
         rw m (omega (arith, later (omega arith)))
@@ -139,6 +149,7 @@ segments_room (suc k) n e = go (cases_lt 16344 n) (segments_room k (n - 16344))
         let last : k ≡ 0 = omega arith in
         rw (m, last) (omega arith)
 
+-- big data are some bytes
 big_some : (version : HiveVersion) (n : ℕ) → is_big version n ≡ true → 0 < n
 big_some V3 n e = absurd cc
 big_some V5 n e = omega (arith, ltb-true 16344 n e)
@@ -153,7 +164,9 @@ segments_exact (suc k) n e =
     let rest : n - 16344 - k * 16344 ≡ n - suc k * 16344 = omega arith in
     rw m (omega (arith, segments_exact k (n - 16344) (omega arith), ap cell rest))
 
-pub segments_size : (n : ℕ) → 0 < n → cells_sum (segment_sizes (segment_count n) n) ≡ (segment_count n - 1) * 16352 + cell (n - (segment_count n - 1) * 16344)
+-- the same, with as many segments as the bytes fill
+pub segments_size : (n : ℕ) → 0 < n
+    → cells_sum (segment_sizes (segment_count n) n) ≡ (segment_count n - 1) * 16352 + cell (n - (segment_count n - 1) * 16344)
 segments_size n h =
     let k : segment_count n ≡ suc (segment_count n - 1) = omega arith in
     ap (λ (m : ℕ). cells_sum (segment_sizes m n)) k ∙ segments_exact (segment_count n - 1) n k
@@ -166,7 +179,8 @@ data_few version bytes = go (is_big version n) (nat_lt 4 n) refl refl
     n = length bytes
 
     go : (big long : Bool) → is_big version n ≡ big → nat_lt 4 n ≡ long
-        → cells_sum (if big then 8 ∷ 4 * segment_count n ∷ segment_sizes (segment_count n) n else if long then n ∷ [] else []) ≤ 16777216 → n ≤ 16777216
+        → cells_sum (if big then 8 ∷ 4 * segment_count n ∷ segment_sizes (segment_count n) n else if long then n ∷ [] else []) ≤ 16777216
+        → n ≤ 16777216
     go true long e f le = omega (arith, segments_size n (big_some version n e))
     go false true e f le = omega arith
     go false false e f le = omega (arith, ltb-false 4 n f)
@@ -177,16 +191,20 @@ space_value version at v = omega (arith, length_value at v, space_data version (
 
 pub space_values : (version : HiveVersion) (at : ℕ) (vs : List Item) → space (cells_of_items version at vs) ≡ items_sum version vs
 space_values version at [] = refl
-space_values version at (v ∷ vs) = omega (arith, space_append (item_cells version at v) (cells_of_items version (at + item_size version v) vs), space_value version at v, space_values version (at + item_size version v) vs)
+space_values version at (v ∷ vs) =
+    omega (arith, space_append (item_cells version at v) (cells_of_items version (at + item_size version v) vs), space_value version at v, space_values version (at + item_size version v) vs)
 
 pub length_item_places : (version : HiveVersion) (at : ℕ) (vs : List Item) → length (item_places version at vs) ≡ length vs
 length_item_places version at [] = refl
 length_item_places version at (v ∷ vs) = omega (arith, length_item_places version (at + item_size version v) vs)
 
-pub length_values_list : (version : HiveVersion) (first : ℕ) (vs : List Item) → length (offsets_text (item_places version first vs)) ≡ 4 * length vs
-length_values_list version first vs = length_offsets (item_places version first vs) ∙ ap (λ k. 4 * k) (length_item_places version first vs)
+pub length_values_list : (version : HiveVersion) (first : ℕ) (vs : List Item)
+    → length (offsets_text (item_places version first vs)) ≡ 4 * length vs
+length_values_list version first vs =
+    length_offsets (item_places version first vs) ∙ ap (λ k. 4 * k) (length_item_places version first vs)
 
-pub space_all_values : (version : HiveVersion) (at : ℕ) (vs : List Item) → space (items_cells version at vs) ≡ items_size version vs
+pub space_all_values : (version : HiveVersion) (at : ℕ) (vs : List Item)
+    → space (items_cells version at vs) ≡ items_size version vs
 unfolding items_cells
 space_all_values version at [] = refl
 space_all_values version at (v ∷ vs) =
@@ -202,13 +220,16 @@ space_class (b ∷ c) = omega arith
 
 pub space_security : (up : Above) (at : ℕ) (s : List ℕ) (n : ℕ) → space (security_cells up at s n) ≡ security_size up.security s
 unfolding security_cells
-space_security up at s n = go (has_own up.security s) (record { forward = forward up.ring at; backward = backward up.ring at; uses = 1 + n; descriptor = s })
+space_security up at s n =
+    go (has_own up.security s) (record { forward = forward up.ring at; backward = backward up.ring at; uses = 1 + n; descriptor = s })
   where
-    go : (b : Bool) (p : SecurityCell) → space (if b then security_text p ∷ [] else []) ≡ (if b then cell (20 + length p.descriptor) else 0)
+    go : (b : Bool) (p : SecurityCell)
+        → space (if b then security_text p ∷ [] else []) ≡ (if b then cell (20 + length p.descriptor) else 0)
     go true p = omega (arith, length_security p)
     go false p = refl
 
-pub space_head : (version : HiveVersion) (up : Above) (at : ℕ) (h : Head) (ts : Trees) → space (head_cells version up at h ts) ≡ head_size version up.security h
+pub space_head : (version : HiveVersion) (up : Above) (at : ℕ) (h : Head) (ts : Trees)
+    → space (head_cells version up at h ts) ≡ head_size version up.security h
 unfolding head_cells
 space_head version up at h ts =
     let vs = items_cells version (values_place up.security at h) h.values in
@@ -243,6 +264,7 @@ length_hint_of true (a ∷ b ∷ c ∷ []) = refl
 length_hint_of true (a ∷ b ∷ c ∷ d ∷ name) = refl
 length_hint_of false name = refl
 
+-- a hint has four bytes in either version
 length_hint : (version : HiveVersion) (t : Tree) → length (hint version t) ≡ 4
 length_hint V3 t = length_hint_of (is_narrow (head t).name) (head t).name
 length_hint V5 t = refl
@@ -251,7 +273,9 @@ pub hints_of : (version : HiveVersion) (ts : List Tree) → AreHints (map (hint 
 hints_of version [] = tt
 hints_of version (t ∷ ts) = (length_hint version t, hints_of version ts)
 
-pub length_list_text : (version : HiveVersion) (os : List ℕ) (hs : List (List ℕ)) → length os ≡ length hs → AreHints hs → length (list_text version os hs) ≡ 4 + 8 * length os
+-- a list has the same length in either version
+pub length_list_text : (version : HiveVersion) (os : List ℕ) (hs : List (List ℕ)) → length os ≡ length hs → AreHints hs
+    → length (list_text version os hs) ≡ 4 + 8 * length os
 length_list_text V3 os hs e f = length_lf os hs e f
 length_list_text V5 os hs e f = length_lh os hs e f
 
@@ -278,13 +302,17 @@ no_tail : (n : ℕ) → n ≡ 0 → tail_size n ≡ 0
 unfolding tail_size
 no_tail n e = rw e refl
 
-space_parts : (version : HiveVersion) (k n : ℕ) (os : List ℕ) (hs : List (List ℕ)) → length os ≡ n → length os ≡ length hs → AreHints hs → part_count n ≡ k → space (parts version k os hs) ≡ tail_size n
+space_parts : (version : HiveVersion) (k n : ℕ) (os : List ℕ) (hs : List (List ℕ)) → length os ≡ n → length os ≡ length hs
+    → AreHints hs → part_count n ≡ k → space (parts version k os hs) ≡ tail_size n
 space_parts version zero n os hs l e f p = sym (no_tail n (omega arith))
 space_parts version (suc k) n os hs l e f p =
-    let first : length (list_text version (take 500 os) (take 500 hs)) ≡ 4 + 8 * min 500 n = length_list_text version (take 500 os) (take 500 hs) (omega (arith, length-take 500 os, length-take 500 hs)) (hints_take 500 hs f) ∙ omega (arith, length-take 500 os) in
+    let first : length (list_text version (take 500 os) (take 500 hs)) ≡ 4 + 8 * min 500 n =
+    length_list_text version (take 500 os) (take 500 hs) (omega (arith, length-take 500 os, length-take 500 hs)) (hints_take 500 hs f)
+    ∙ omega (arith, length-take 500 os) in
     let rest : space (parts version k (drop 500 os) (drop 500 hs)) ≡ tail_size (n - 500) =
     space_parts version k (n - 500) (drop 500 os) (drop 500 hs) (omega (arith, length-drop 500 os)) (omega (arith, length-drop 500 os, length-drop 500 hs)) (hints_drop 500 hs f) (omega arith) in
-    ap (λ x. cell x + space (parts version k (drop 500 os) (drop 500 hs))) first ∙ ap (λ x. cell (4 + 8 * min 500 n) + x) rest ∙ step (cases_lt n 500)
+    ap (λ x. cell x + space (parts version k (drop 500 os) (drop 500 hs))) first ∙ ap (λ x. cell (4 + 8 * min 500 n) + x) rest
+    ∙ step (cases_lt n 500)
   where
     step : (n < 500) ⊎ (500 ≤ n) → cell (4 + 8 * min 500 n) + tail_size (n - 500) ≡ tail_size n
     step (inl l) =
@@ -298,7 +326,8 @@ pub length_part_places : (n at : ℕ) → length (part_places n at) ≡ n
 length_part_places zero at = refl
 length_part_places (suc n) at = omega (arith, length_part_places n (at + cell 4004))
 
-pub space_list : (version : HiveVersion) (at : ℕ) (os : List ℕ) (hs : List (List ℕ)) → length os ≡ length hs → AreHints hs → space (list_cells version at os hs) ≡ list_size (length os)
+pub space_list : (version : HiveVersion) (at : ℕ) (os : List ℕ) (hs : List (List ℕ)) → length os ≡ length hs → AreHints hs
+    → space (list_cells version at os hs) ≡ list_size (length os)
 unfolding list_cells tail_size
 space_list version at os hs e f = go (length os == 0) (nat_lt (length os) 501)
   where
@@ -308,7 +337,8 @@ space_list version at os hs e f = go (length os == 0) (nat_lt (length os) 501)
     starts : List ℕ
     starts = part_places (part_count n) (at + cell (4 + 4 * part_count n))
 
-    go : (b c : Bool) → space (if b then [] else if c then list_text version os hs ∷ [] else ri_text starts ∷ parts version (part_count n) os hs)
+    go : (b c : Bool)
+        → space (if b then [] else if c then list_text version os hs ∷ [] else ri_text starts ∷ parts version (part_count n) os hs)
         ≡ (if b then 0 else if c then cell (4 + 8 * n) else cell (4 + 4 * part_count n) + n / 500 * cell 4004 + (if n % 500 == 0 then 0 else cell (4 + 8 * (n % 500))))
     go true c = refl
     go false true = omega (arith, length_list_text version os hs e f)
@@ -324,7 +354,8 @@ many_lists n h =
     rw (a, b) (omega arith)
 
 pub lists_many : (version : HiveVersion) (at : ℕ) (os : List ℕ) (hs : List (List ℕ)) → 501 ≤ length os
-    → text (list_cells version at os hs) ≡ cell_text (ri_text (part_places (part_count (length os)) (at + cell (4 + 4 * part_count (length os))))) ++ text (parts version (part_count (length os)) os hs)
+    → text (list_cells version at os hs)
+    ≡ cell_text (ri_text (part_places (part_count (length os)) (at + cell (4 + 4 * part_count (length os))))) ++ text (parts version (part_count (length os)) os hs)
 unfolding list_cells
 lists_many version at os hs h =
     let a : eqb (length os) 0 ≡ false = ne_eqb (length os) 0 (λ e. omega arith) in
@@ -333,18 +364,24 @@ lists_many version at os hs h =
 
 -- ---- a tree
 
-pub length_places : (version : HiveVersion) (shared : List ℕ) (at : ℕ) (ts : Trees) → length (places version shared at ts) ≡ count ts
+pub length_places : (version : HiveVersion) (shared : List ℕ) (at : ℕ) (ts : Trees)
+    → length (places version shared at ts) ≡ count ts
 length_places version shared at none = refl
 length_places version shared at (more t ts) = omega (arith, length_places version shared (at + size version shared t) ts)
 
-pub same_hints : (version : HiveVersion) (shared : List ℕ) (at : ℕ) (ts : Trees) → length (places version shared at ts) ≡ length (map (hint version) (listed ts))
+pub same_hints : (version : HiveVersion) (shared : List ℕ) (at : ℕ) (ts : Trees)
+    → length (places version shared at ts) ≡ length (map (hint version) (listed ts))
 same_hints version shared at ts = length_places version shared at ts ∙ sym (length-map (listed ts) (hint version))
 
-pub space_lists : (version : HiveVersion) (list_at : ℕ) (shared : List ℕ) (at : ℕ) (ts : Trees) → space (list_cells version list_at (places version shared at ts) (map (hint version) (listed ts))) ≡ list_size (count ts)
-space_lists version list_at shared at ts = space_list version list_at (places version shared at ts) (map (hint version) (listed ts)) (same_hints version shared at ts) (hints_of version (listed ts)) ∙ ap list_size (length_places version shared at ts)
+pub space_lists : (version : HiveVersion) (list_at : ℕ) (shared : List ℕ) (at : ℕ) (ts : Trees)
+    → space (list_cells version list_at (places version shared at ts) (map (hint version) (listed ts))) ≡ list_size (count ts)
+space_lists version list_at shared at ts =
+    space_list version list_at (places version shared at ts) (map (hint version) (listed ts)) (same_hints version shared at ts) (hints_of version (listed ts))
+    ∙ ap list_size (length_places version shared at ts)
 
 mutual
-  pub space_tree : (version : HiveVersion) (up : Above) (at : ℕ) (t : Tree) → space (cells_of version up at t) ≡ size version up.security t
+  pub space_tree : (version : HiveVersion) (up : Above) (at : ℕ) (t : Tree)
+      → space (cells_of version up at t) ≡ size version up.security t
   space_tree version up at (key h ts) =
       let first = children_place version up.security at h (count ts) in
       let lists = list_cells version (list_place version up.security at h) (places version h.security first ts) (map (hint version) (listed ts)) in
@@ -357,8 +394,10 @@ mutual
         space_trees version (below up at h) first ts,
       )
 
-  pub space_trees : (version : HiveVersion) (up : Above) (at : ℕ) (ts : Trees) → space (cells_of_all version up at ts) ≡ size_of_all version up.security ts
+  pub space_trees : (version : HiveVersion) (up : Above) (at : ℕ) (ts : Trees)
+      → space (cells_of_all version up at ts) ≡ size_of_all version up.security ts
   space_trees version up at none = refl
-  space_trees version up at (more t ts) = omega (arith, space_append (cells_of version up at t) (cells_of_all version up (at + size version up.security t) ts), space_tree version up at t, space_trees version up (at + size version up.security t) ts)
+  space_trees version up at (more t ts) =
+      omega (arith, space_append (cells_of version up at t) (cells_of_all version up (at + size version up.security t) ts), space_tree version up at t, space_trees version up (at + size version up.security t) ts)
 
 pub ruleset lengths = (length_node, length_value, length_security)

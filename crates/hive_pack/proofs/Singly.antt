@@ -15,7 +15,7 @@ use Rattle.hive_model.specs.Packed.{data_place, item_form, segment_places, big_c
 use Rattle.hive_model.proofs.Spelling.{key_node_again}
 use Rattle.hive_pack.specs.Numbers.{ItemNumbers, HasNumbers, AllHaveNumbers}
 use Rattle.hive_pack.proofs.Rows.{segments_room, space_value, space_head, space_lists, space_tree, length_places, same_hints, hints_of, many_lists}
-use Rattle.hive_pack.proofs.Written.{trees_listed}
+use Rattle.reg_tree.proofs.Trees.{trees_listed}
 use Rattle.hive_pack.proofs.Counts.{few_of_all, all_later}
 use Rattle.hive_pack.proofs.Found.{Has, has_front, has_behind, reads_in}
 use Rattle.hive_pack.proofs.Items.{big_stands, not_big, data_has, item_read, values_read, values_behind}
@@ -29,16 +29,21 @@ outside s lo hi lo' hi' l h (inr p) = inr (omega arith)
 
 -- ---- values
 
-segments_good : (cells : Cells) (k n at hi d : ℕ) → at + 16352 * k ≤ hi + 16344 → Outside d at hi → Good at hi d (segments_checks cells n (segment_places k at))
+-- segments one behind another
+segments_good : (cells : Cells) (k n at hi d : ℕ) → at + 16352 * k ≤ hi + 16344 → Outside d at hi
+    → Good at hi d (segments_checks cells n (segment_places k at))
 segments_good cells zero n at hi d e o = good_none at hi d
-segments_good cells (suc zero) n at hi d e o = good_append at hi hi d _ [] (omega arith) (omega arith) o (use_only (bytes_in (min 16344 n)) cells at hi d at (omega arith) (omega arith) o) (good_none hi hi d)
+segments_good cells (suc zero) n at hi d e o =
+    good_append at hi hi d _ [] (omega arith) (omega arith) o (use_only (bytes_in (min 16344 n)) cells at hi d at (omega arith) (omega arith) o) (good_none hi hi d)
 segments_good cells (suc (suc k)) n at hi d e o =
     let next = at + cell 16344 in
     good_append at next hi d _ _ (omega arith) (omega arith) o (use_only (bytes_in (min 16344 n)) cells at next d at (omega arith) (omega arith) (outside d at hi at next (omega arith) (omega arith) o))
     (segments_good cells (suc k) (n - 16344) next hi d (omega arith) (outside d at hi next hi (omega arith) (omega arith) o))
 
+-- the cell of big data, the list of segments, and these
 big_good : (cells : Cells) (at hi s : ℕ) (bytes : List ℕ) → Has cells at (big_cells at (segment_count (length bytes)) bytes)
-    → at + cells_sum (8 ∷ 4 * segment_count (length bytes) ∷ segment_sizes (segment_count (length bytes)) (length bytes)) ≡ hi → hi ≤ 16777216 → Outside s at hi → Good at hi s (big_checks cells (length bytes) at)
+    → at + cells_sum (8 ∷ 4 * segment_count (length bytes) ∷ segment_sizes (segment_count (length bytes)) (length bytes)) ≡ hi
+    → hi ≤ 16777216 → Outside s at hi → Good at hi s (big_checks cells (length bytes) at)
 unfolding big_checks
 big_good cells at hi s bytes has e le o =
     let k = segment_count (length bytes) in
@@ -51,14 +56,16 @@ big_good cells at hi s bytes has e le o =
     (segments_good cells k (length bytes) first hi s (omega (arith, e, room)) (outside s at hi first hi (omega arith) (omega arith) o)))
 
 -- of data of over four bytes in cells of their own
-cells_good : (cells : Cells) (at hi s : ℕ) (bytes : List ℕ) → 4 < length bytes → at + data_size cells.version bytes ≡ hi → hi ≤ 16777216 → Outside s at hi → Has cells at (data_cells cells.version at bytes)
+cells_good : (cells : Cells) (at hi s : ℕ) (bytes : List ℕ) → 4 < length bytes → at + data_size cells.version bytes ≡ hi
+    → hi ≤ 16777216 → Outside s at hi → Has cells at (data_cells cells.version at bytes)
     → Good at hi s (if is_big cells.version (length bytes) then big_checks cells (length bytes) at else use_as false (bytes_in (length bytes)) cells at)
 cells_good cells at hi s bytes long e le o has = go (is_big cells.version (length bytes)) refl
   where
     four_more : nat_lt 4 (length bytes) ≡ true
     four_more = lt-ltb 4 (length bytes) long
 
-    go : (big : Bool) → is_big cells.version (length bytes) ≡ big → Good at hi s (if is_big cells.version (length bytes) then big_checks cells (length bytes) at else use_as false (bytes_in (length bytes)) cells at)
+    go : (big : Bool) → is_big cells.version (length bytes) ≡ big
+        → Good at hi s (if is_big cells.version (length bytes) then big_checks cells (length bytes) at else use_as false (bytes_in (length bytes)) cells at)
     go true q =
         let here : Has cells at (big_cells at (segment_count (length bytes)) bytes) = rw q at has in
         let size = rw q at e in
@@ -67,8 +74,11 @@ cells_good cells at hi s bytes long e le o has = go (is_big cells.version (lengt
         let size = rw (q, four_more) at e in
         rw q (use_only (bytes_in (length bytes)) cells at hi s at (omega arith) (omega arith) o)
 
-data_good : (cells : Cells) (at hi s : ℕ) (v : Item) → at + item_size cells.version v ≡ hi → hi ≤ 16777216 → Outside s (data_place at v) hi
-    → Has cells (data_place at v) (data_cells cells.version (data_place at v) v.bytes) → length v.bytes < 2 ^ 31 → Good (data_place at v) hi s (data_checks cells (item_form at v))
+-- a value's data
+data_good : (cells : Cells) (at hi s : ℕ) (v : Item) → at + item_size cells.version v ≡ hi → hi ≤ 16777216
+    → Outside s (data_place at v) hi
+    → Has cells (data_place at v) (data_cells cells.version (data_place at v) v.bytes) → length v.bytes < 2 ^ 31
+    → Good (data_place at v) hi s (data_checks cells (item_form at v))
 unfolding data_checks
 data_good cells at hi s v e le o has few = go (nat_lt 4 (length v.bytes)) refl
   where
@@ -85,14 +95,18 @@ data_good cells at hi s v e le o has few = go (nat_lt 4 (length v.bytes)) refl
         let large : nat_le 2147483648 (2147483648 + length v.bytes) ≡ true = le-leb _ _ (omega arith) in
         rw (q, large) (subst (λ (m : ℕ). Good m hi s []) (omega arith) (good_none hi hi s))
 
-value_good : (cells : Cells) (names : List (List ℕ)) (at hi s : ℕ) (v : Item) → at + item_size cells.version v ≡ hi → hi ≤ 16777216 → Outside s at hi → Has cells at (item_cells cells.version at v) → IsItem v → ItemNumbers v → Good at hi s (value_checks cells names at)
+value_good : (cells : Cells) (names : List (List ℕ)) (at hi s : ℕ) (v : Item) → at + item_size cells.version v ≡ hi
+    → hi ≤ 16777216 → Outside s at hi → Has cells at (item_cells cells.version at v) → IsItem v → ItemNumbers v
+    → Good at hi s (value_checks cells names at)
 unfolding value_checks
 value_good cells names at hi s v e le o h f g =
     let mid = at + cell (20 + name_bytes v.name) in
     use_then key_value_at cells at mid hi s at (item_form at v) (λ value. name_check names at value.name ∷ data_checks cells value) (item_read cells at v h f g (omega arith)) (omega arith) (omega arith) (omega arith) o
     (good_tests mid hi s at _ _ (data_good cells at hi s v e le (outside s at hi mid hi (omega arith) (omega arith) o) (data_has cells at v h) f.bytes))
 
-values_good : (cells : Cells) (names : List (List ℕ)) (at hi s : ℕ) (vs : List Item) → at + items_sum cells.version vs ≡ hi → hi ≤ 16777216 → Outside s at hi → Has cells at (cells_of_items cells.version at vs) → All IsItem vs → AllByRecursion ItemNumbers vs
+values_good : (cells : Cells) (names : List (List ℕ)) (at hi s : ℕ) (vs : List Item) → at + items_sum cells.version vs ≡ hi
+    → hi ≤ 16777216 → Outside s at hi → Has cells at (cells_of_items cells.version at vs) → All IsItem vs
+    → AllByRecursion ItemNumbers vs
     → Good at hi s (values_in_turn cells names (item_places cells.version at vs))
 values_good cells names at hi s [] e le o h f g = good_none at hi s
 values_good cells names at hi s (v ∷ vs) e le o h f g =
@@ -102,8 +116,11 @@ values_good cells names at hi s (v ∷ vs) e le o h f g =
     good_append at next hi s _ _ (omega arith) (omega arith) o (value_good cells names at next s v refl (omega arith) (outside s at hi at next (omega arith) (omega arith) o) front (f 0 v (omega arith)) g.0)
     (values_good cells (names ++ names_of (λ value. value.name) (reading key_value_at cells at)) next hi s vs (omega arith) le (outside s at hi next hi (omega arith) (omega arith) o) back (all_later v vs f) g.1)
 
-all_values_good : (cells : Cells) (node : KeyNode) (start hi s : ℕ) (vs : List Item) → node.value_count ≡ length vs → node.value_list ≡ place_of_some (length vs) start → start + items_size cells.version vs ≡ hi → hi ≤ 16777216 → Outside s start hi
-    → Has cells start (items_cells cells.version start vs) → All IsItem vs → AllByRecursion ItemNumbers vs → Good start hi s (values_checks cells node)
+all_values_good : (cells : Cells) (node : KeyNode) (start hi s : ℕ) (vs : List Item) → node.value_count ≡ length vs
+    → node.value_list ≡ place_of_some (length vs) start → start + items_size cells.version vs ≡ hi → hi ≤ 16777216
+    → Outside s start hi
+    → Has cells start (items_cells cells.version start vs) → All IsItem vs → AllByRecursion ItemNumbers vs
+    → Good start hi s (values_checks cells node)
 unfolding values_checks
 all_values_good cells node start hi s [] n l e le o has f g = rw n (good_none start hi s)
 all_values_good cells node start hi s (v ∷ vs) n l e le o has f g =
@@ -115,7 +132,8 @@ all_values_good cells node start hi s (v ∷ vs) n l e le o has f g =
 
 -- ---- class and descriptor
 
-class_good : (cells : Cells) (node : KeyNode) (at hi s : ℕ) (c : List ℕ) → node.class_length ≡ length c → node.class ≡ place_of_some (length c) at → at + class_size c ≡ hi → Outside s at hi → Good at hi s (class_checks cells node)
+class_good : (cells : Cells) (node : KeyNode) (at hi s : ℕ) (c : List ℕ) → node.class_length ≡ length c
+    → node.class ≡ place_of_some (length c) at → at + class_size c ≡ hi → Outside s at hi → Good at hi s (class_checks cells node)
 unfolding class_checks
 class_good cells node at hi s [] n p e o = rw n (good_none at hi s)
 class_good cells node at hi s (b ∷ c) n p e o =
@@ -127,13 +145,17 @@ class_good cells node at hi s (b ∷ c) n p e o =
 abbrev pub IsAbove : Above → ℕ → Type 0
 IsAbove up at = (up.security_place < at) ⊎ (up.security_place ≡ nowhere)
 
-secured : (cells : Cells) (node : KeyNode) (up : Above) (p hi : ℕ) (s : List ℕ) (cs : List Check) → node.security ≡ security_place_of up p s → AboveStands cells up → IsAbove up p → p + security_size up.security s ≤ hi → hi ≤ 16777216
-    → Good (p + security_size up.security s) hi (security_place_of up p s) cs → Good p hi up.security_place (security_checks cells node ++ cs)
+secured : (cells : Cells) (node : KeyNode) (up : Above) (p hi : ℕ) (s : List ℕ) (cs : List Check)
+    → node.security ≡ security_place_of up p s → AboveStands cells up → IsAbove up p → p + security_size up.security s ≤ hi
+    → hi ≤ 16777216
+    → Good (p + security_size up.security s) hi (security_place_of up p s) cs
+    → Good p hi up.security_place (security_checks cells node ++ cs)
 unfolding security_checks
 secured cells node up p hi [] cs is a i le small g = let z : p + 0 ≡ p = omega arith in rw is (good_other p hi up.security_place nowhere cs (omega arith) (omega arith) (rw z at g))
 secured cells node up p hi (b ∷ s) cs is a i le small g = go (pointwise nat_eq up.security (b ∷ s)) refl
   where
-    go : (same : Bool) → pointwise nat_eq up.security (b ∷ s) ≡ same → Good p hi up.security_place (security_checks cells node ++ cs)
+    go : (same : Bool) → pointwise nat_eq up.security (b ∷ s) ≡ same
+        → Good p hi up.security_place (security_checks cells node ++ cs)
     go true e =
         let z : p + 0 ≡ p = omega arith in
         let h = rw (e, z) at g in
@@ -153,11 +175,13 @@ secured cells node up p hi (b ∷ s) cs is a i le small g = go (pointwise nat_eq
         let some : eqb p nowhere ≡ false = ne_eqb _ _ (λ q. omega arith) in
         rw (place, some) (good_own p (p + cell (20 + length (b ∷ s))) hi up.security_place p _ (omega arith) (omega arith) room (good_tests (p + cell (20 + length (b ∷ s))) hi p p _ cs h))
 
-pub above_below : (up : Above) (at p : ℕ) (s : List ℕ) → IsAbove up at → at < p → (security_place_of up p s < p + security_size up.security s) ⊎ (security_place_of up p s ≡ nowhere)
+pub above_below : (up : Above) (at p : ℕ) (s : List ℕ) → IsAbove up at → at < p
+    → (security_place_of up p s < p + security_size up.security s) ⊎ (security_place_of up p s ≡ nowhere)
 above_below up at p [] i l = inr refl
 above_below up at p (b ∷ s) i l = go (has_own up.security (b ∷ s)) i
   where
-    go : (own : Bool) → IsAbove up at → ((if own then p else up.security_place) < p + (if own then cell (20 + length (b ∷ s)) else 0)) ⊎ ((if own then p else up.security_place) ≡ nowhere)
+    go : (own : Bool) → IsAbove up at
+        → ((if own then p else up.security_place) < p + (if own then cell (20 + length (b ∷ s)) else 0)) ⊎ ((if own then p else up.security_place) ≡ nowhere)
     go true i = inl (omega arith)
     go false (inl q) = inl (omega arith)
     go false (inr q) = inr q
@@ -172,9 +196,11 @@ later_above up at p l (inr q) = inr q
 
 -- ---- lists
 
-leaves_good : (cells : Cells) (k at hi d : ℕ) → at + 4008 * k ≤ hi + 4000 → Outside d at hi → Good at hi d (leaves_checks cells (part_places k at))
+leaves_good : (cells : Cells) (k at hi d : ℕ) → at + 4008 * k ≤ hi + 4000 → Outside d at hi
+    → Good at hi d (leaves_checks cells (part_places k at))
 leaves_good cells zero at hi d e o = good_none at hi d
-leaves_good cells (suc zero) at hi d e o = good_append at hi hi d _ [] (omega arith) (omega arith) o (use_only leaf_at cells at hi d at (omega arith) (omega arith) o) (good_none hi hi d)
+leaves_good cells (suc zero) at hi d e o =
+    good_append at hi hi d _ [] (omega arith) (omega arith) o (use_only leaf_at cells at hi d at (omega arith) (omega arith) o) (good_none hi hi d)
 leaves_good cells (suc (suc k)) at hi d e o =
     let next = at + cell 4004 in
     good_append at next hi d _ _ (omega arith) (omega arith) o (use_only leaf_at cells at next d at (omega arith) (omega arith) (outside d at hi at next (omega arith) (omega arith) o))
@@ -209,7 +235,9 @@ some_list n h = go (cases_lt n 501)
     go (inl few) = let b : nat_lt n 501 ≡ true = lt-ltb n 501 few in rw (a, b) (omega arith)
     go (inr many) = omega (arith, many_lists n many)
 
-entries_good : (cells : Cells) (at hi d : ℕ) (os : List ℕ) (hs : List (List ℕ)) → Has cells at (list_cells cells.version at os hs) → 0 < length os → length os ≡ length hs → AreOffsets os → AreHints hs → at + list_size (length os) ≡ hi → hi ≤ 16777216 → Outside d at hi
+entries_good : (cells : Cells) (at hi d : ℕ) (os : List ℕ) (hs : List (List ℕ)) → Has cells at (list_cells cells.version at os hs)
+    → 0 < length os → length os ≡ length hs → AreOffsets os → AreHints hs → at + list_size (length os) ≡ hi → hi ≤ 16777216
+    → Outside d at hi
     → Good at hi d (entries_checks cells at)
 unfolding entries_checks
 entries_good cells at hi d os hs has some e f g taken le o = go (cases_lt (length os) 501)
@@ -223,8 +251,11 @@ entries_good cells at hi d os hs has some e f g taken le o = go (cases_lt (lengt
         use_then list_at cells at first hi d at _ _ (lists_read cells at os hs has many (omega arith)) (omega arith) (omega arith) (omega (arith, many_lists (length os) many)) o
         (leaves_good cells (part_count (length os)) first hi d (omega (arith, list_parts (length os) many)) (outside d at hi first hi (omega arith) (omega arith) o))
 
-children_good : (cells : Cells) (checks : List (List ℕ) → ℕ → List Check) (node : KeyNode) (at l mid hi d : ℕ) (os : List ℕ) (hs : List (List ℕ)) → Has cells l (list_cells cells.version l os hs) → node.child_count ≡ length os → node.child_list ≡ place_of_some (length os) l
-    → length os ≡ length hs → AreOffsets os → AreHints hs → l + list_size (length os) ≡ mid → mid ≤ hi → hi ≤ 16777216 → Outside d l hi → Good mid hi d (keys_in_turn checks cells [] os) → Good l hi d (children_checks checks cells node at)
+children_good : (cells : Cells) (checks : List (List ℕ) → ℕ → List Check) (node : KeyNode) (at l mid hi d : ℕ) (os : List ℕ) (hs : List (List ℕ))
+    → Has cells l (list_cells cells.version l os hs) → node.child_count ≡ length os
+    → node.child_list ≡ place_of_some (length os) l
+    → length os ≡ length hs → AreOffsets os → AreHints hs → l + list_size (length os) ≡ mid → mid ≤ hi → hi ≤ 16777216
+    → Outside d l hi → Good mid hi d (keys_in_turn checks cells [] os) → Good l hi d (children_checks checks cells node at)
 unfolding children_checks
 children_good cells checks node at l mid hi d [] hs has c p e f g taken m le o turn = rw c (good_none l hi d)
 children_good cells checks node at l mid hi d (x ∷ os) hs has c p e f g taken m le o turn =
@@ -242,7 +273,8 @@ good_name false false g = refl
 good_name false true (inl e) = absurd cc
 good_name false true (inr e) = absurd cc
 
-named_read : (root : Bool) (n : KeyNode) (slack : List ℕ) → IsKeyNode n → (eqb (length n.name) 0 && not root) ≡ false → node_at root (key_node_text n ++ slack) ≡ Ok n
+named_read : (root : Bool) (n : KeyNode) (slack : List ℕ) → IsKeyNode n → (eqb (length n.name) 0 && not root) ≡ false
+    → node_at root (key_node_text n ++ slack) ≡ Ok n
 unfolding node_at
 named_read root n slack f e = rw (key_node_again n slack f, e) refl
 
@@ -263,7 +295,9 @@ named_later t ts f = λ k d lt. f (suc k) d (omega arith)
 mutual
   unfolding key_checks
 
-  key_good : (cells : Cells) (left : ℕ) (root : Bool) (names : List (List ℕ)) (up : Above) (at hi : ℕ) (t : Tree) → at + size cells.version up.security t ≡ hi → hi ≤ 16777216 → AboveStands cells up → IsAbove up at → Has cells at (cells_of cells.version up at t) → HoldsKeys t → HasNumbers t
+  key_good : (cells : Cells) (left : ℕ) (root : Bool) (names : List (List ℕ)) (up : Above) (at hi : ℕ) (t : Tree)
+      → at + size cells.version up.security t ≡ hi → hi ≤ 16777216 → AboveStands cells up → IsAbove up at
+      → Has cells at (cells_of cells.version up at t) → HoldsKeys t → HasNumbers t
       → IsNamed root (head t).name → levels t ≤ left → Good at hi up.security_place (key_checks left cells root names at)
   key_good cells zero root names up at hi (key h ts) e le a i has f n called lv = absurd (omega arith)
   key_good cells (suc left) root names up at hi (key h ts) e le a i has f n called lv =
@@ -300,8 +334,11 @@ mutual
       use_then (node_at root) cells at p hi up.security_place at node (λ (k : KeyNode). name_check names at k.name ∷ below_node (key_checks left cells false) cells k at) read (omega arith) (omega arith) (omega arith) (outside_of up.security_place at hi le i)
       (good_tests p hi up.security_place at _ _ whole)
 
-  turn_good : (cells : Cells) (left : ℕ) (names : List (List ℕ)) (up : Above) (at hi : ℕ) (ts : Trees) → at + size_of_all cells.version up.security ts ≡ hi → hi ≤ 16777216 → AboveStands cells up → IsAbove up at → Has cells at (cells_of_all cells.version up at ts) → AllHoldKeys ts → AllHaveNumbers ts
-      → AreNamed (listed ts) → most_levels ts ≤ left → Good at hi up.security_place (keys_in_turn (key_checks left cells false) cells names (places cells.version up.security at ts))
+  turn_good : (cells : Cells) (left : ℕ) (names : List (List ℕ)) (up : Above) (at hi : ℕ) (ts : Trees)
+      → at + size_of_all cells.version up.security ts ≡ hi → hi ≤ 16777216 → AboveStands cells up → IsAbove up at
+      → Has cells at (cells_of_all cells.version up at ts) → AllHoldKeys ts → AllHaveNumbers ts
+      → AreNamed (listed ts) → most_levels ts ≤ left
+      → Good at hi up.security_place (keys_in_turn (key_checks left cells false) cells names (places cells.version up.security at ts))
   turn_good cells left names up at hi none e le a i has f n called lv = good_none at hi up.security_place
   turn_good cells left names up at hi (more t ts) e le a i has f n called lv =
       let next = at + size cells.version up.security t in
@@ -312,6 +349,9 @@ mutual
       (turn_good cells left (names ++ names_of (λ (k : KeyNode). k.name) (reading (node_at false) cells at)) up next hi ts (omega arith) le a (later_above up at next (omega arith) i) back f.1 n.1 (named_later t (listed ts) called) (omega arith))
 
 -- all checks of a packed tree's cells use each cell once, or each time as security
-pub checks_once : (cells : Cells) (up : Above) (t : Tree) → 32 + size cells.version up.security t ≤ 16777216 → up.security_place ≡ nowhere → AboveStands cells up → Has cells 32 (cells_of cells.version up 32 t) → HoldsKeys t → HasNumbers t → levels t ≤ 512 → AreUsedOnce [] (all_checks cells 32)
+pub checks_once : (cells : Cells) (up : Above) (t : Tree) → 32 + size cells.version up.security t ≤ 16777216
+    → up.security_place ≡ nowhere → AboveStands cells up → Has cells 32 (cells_of cells.version up 32 t) → HoldsKeys t
+    → HasNumbers t → levels t ≤ 512 → AreUsedOnce [] (all_checks cells 32)
 unfolding all_checks
-checks_once cells up t le is a has f n lv = (key_good cells 512 true [] up 32 (32 + size cells.version up.security t) t refl le a (inr is) has f n (inl refl) lv).once [] tt
+checks_once cells up t le is a has f n lv =
+    (key_good cells 512 true [] up 32 (32 + size cells.version up.security t) t refl le a (inr is) has f n (inl refl) lv).once [] tt

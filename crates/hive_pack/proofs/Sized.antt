@@ -42,7 +42,8 @@ bins_size_is : (n : ℕ) → n % 4096 ≡ 0 → 4096 ≤ n → n ≤ 16777216 �
 bins_size_is n even low high = rw (eq-eqb (n % 4096) 0 even, le-leb 4096 n low, le-leb n 16777216 high) refl
 
 -- whole pages, one at least and 4096 at most
-pub packed_is_sized : (version : HiveVersion) (t : Tree) → bulk_of version t ≤ 16773120 → is_bins_size (length (packed version t)) ≡ true
+pub packed_is_sized : (version : HiveVersion) (t : Tree) → bulk_of version t ≤ 16773120
+    → is_bins_size (length (packed version t)) ≡ true
 packed_is_sized version t room =
     let n = length_packed version t in
     bins_size_is (length (packed version t)) (omega (arith, n)) (omega (arith, n)) (omega (arith, n, room))

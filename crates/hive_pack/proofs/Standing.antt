@@ -17,7 +17,7 @@ use Rattle.hive_model.specs.Packed.{first_or, last_or, behind, ahead, forward, b
 use Rattle.hive_model.proofs.Spelling.{key_node_again, security_again, bytes_again}
 use Rattle.hive_pack.specs.Numbers.{HeadNumbers, HasNumbers, AllHaveNumbers, PackedStands}
 use Rattle.hive_pack.proofs.Rows.{length_node, narrow_stored, space_class, space_security, space_head, space_lists, space_tree, length_places, same_hints, hints_of}
-use Rattle.hive_pack.proofs.Written.{trees_listed}
+use Rattle.reg_tree.proofs.Trees.{trees_listed}
 use Rattle.hive_pack.proofs.Counts.{few_of_all, short_names, short_classes, short_value_names, short_data}
 use Rattle.hive_pack.proofs.Rising.{ring_fits}
 use Rattle.hive_pack.proofs.Found.{Has, has_front, has_behind, has_next, has_all, reads_in}
@@ -40,7 +40,8 @@ if_fits false x y h k = k
 
 behind_fits : (o : ℕ) (xs : List ℕ) (at : ℕ) → o < 2 ^ 32 → AreOffsets xs → behind o xs at < 2 ^ 32
 behind_fits o [] at h f = h
-behind_fits o (x ∷ xs) at h f = if_fits (eqb x at) (first_or o xs) (behind o xs at) (first_fits o xs h f.1) (behind_fits o xs at h f.1)
+behind_fits o (x ∷ xs) at h f =
+    if_fits (eqb x at) (first_or o xs) (behind o xs at) (first_fits o xs h f.1) (behind_fits o xs at h f.1)
 
 ahead_fits : (o : ℕ) (xs : List ℕ) (at : ℕ) → o < 2 ^ 32 → AreOffsets xs → ahead o xs at < 2 ^ 32
 ahead_fits o [] at h f = h
@@ -59,7 +60,8 @@ pub record AboveStands (cells : Cells) (up : Above) : Type 0 where
   pub descriptor : descriptor_at cells up.security_place ≡ Ok up.security
   pub ring : AreOffsets up.ring
 
-pub descriptor_stands : (cells : Cells) (up : Above) (at : ℕ) (s : List ℕ) (n : ℕ) → AboveStands cells up → Has cells at (security_cells up at s n) → at + security_size up.security s ≤ 16777216 → n ≤ 16777216
+pub descriptor_stands : (cells : Cells) (up : Above) (at : ℕ) (s : List ℕ) (n : ℕ) → AboveStands cells up
+    → Has cells at (security_cells up at s n) → at + security_size up.security s ≤ 16777216 → n ≤ 16777216
     → descriptor_at cells (security_place_of up at s) ≡ Ok s
 unfolding security_cells
 descriptor_stands cells up at [] n a h le few = refl
@@ -68,8 +70,10 @@ descriptor_stands cells up at (b ∷ s) n a h le few = go (pointwise nat_eq up.s
     form : SecurityCell
     form = record { forward = forward up.ring at; backward = backward up.ring at; uses = 1 + n; descriptor = b ∷ s }
 
-    go : (same : Bool) → pointwise nat_eq up.security (b ∷ s) ≡ same → descriptor_at cells (security_place_of up at (b ∷ s)) ≡ Ok (b ∷ s)
-    go true e = rw e (subst (λ (d : List ℕ). descriptor_at cells up.security_place ≡ Ok d) ((bytes_eq-Decides up.security (b ∷ s)).0 e) a.descriptor)
+    go : (same : Bool) → pointwise nat_eq up.security (b ∷ s) ≡ same
+        → descriptor_at cells (security_place_of up at (b ∷ s)) ≡ Ok (b ∷ s)
+    go true e =
+        rw e (subst (λ (d : List ℕ). descriptor_at cells up.security_place ≡ Ok d) ((bytes_eq-Decides up.security (b ∷ s)).0 e) a.descriptor)
     go false e =
         let here : Has cells at (security_text form ∷ []) = rw e at h in
         let room = rw e at le in
@@ -83,11 +87,14 @@ descriptor_stands cells up at (b ∷ s) n a h le few = go (pointwise nat_eq up.s
         let read : reading security_at cells at ≡ Ok form = reads_in security_at cells at (security_text form) form here.0 (λ slack. security_again form slack fits) in
         rw (e, somewhere, read) refl
 
-security_place_fits : (cells : Cells) (up : Above) (at : ℕ) (s : List ℕ) → AboveStands cells up → at ≤ 16777216 → security_place_of up at s < 2 ^ 32
+security_place_fits : (cells : Cells) (up : Above) (at : ℕ) (s : List ℕ) → AboveStands cells up → at ≤ 16777216
+    → security_place_of up at s < 2 ^ 32
 security_place_fits cells up at [] a le = omega arith
-security_place_fits cells up at (b ∷ s) a le = if_fits (has_own up.security (b ∷ s)) at up.security_place (omega arith) a.security_place
+security_place_fits cells up at (b ∷ s) a le =
+    if_fits (has_own up.security (b ∷ s)) at up.security_place (omega arith) a.security_place
 
-pub below_stands : (cells : Cells) (up : Above) (at : ℕ) (h : Head) (n : ℕ) → AboveStands cells up → Has cells (descriptor_place at h) (security_cells up (descriptor_place at h) h.security n)
+pub below_stands : (cells : Cells) (up : Above) (at : ℕ) (h : Head) (n : ℕ) → AboveStands cells up
+    → Has cells (descriptor_place at h) (security_cells up (descriptor_place at h) h.security n)
     → at + head_size cells.version up.security h ≤ 16777216 → n ≤ 16777216 → AboveStands cells (below up at h)
 below_stands cells up at h n a has le few = record {
   place = omega arith;
@@ -117,7 +124,9 @@ flags_again name flags h = go (is_narrow name)
         let e : flags - flags / 32 % 2 * 32 + 0 ≡ flags = omega arith in
         rw (e, h) refl
 
-pub node_fits : (cells : Cells) (up : Above) (at : ℕ) (h : Head) (keys : List Tree) → AboveStands cells up → IsKey h keys → AllHoldKeys (trees keys) → HeadNumbers h → at + head_size cells.version up.security h ≤ 16777216 → IsKeyNode (node_of cells.version up at h keys)
+pub node_fits : (cells : Cells) (up : Above) (at : ℕ) (h : Head) (keys : List Tree) → AboveStands cells up → IsKey h keys
+    → AllHoldKeys (trees keys) → HeadNumbers h → at + head_size cells.version up.security h ≤ 16777216
+    → IsKeyNode (node_of cells.version up at h keys)
 node_fits cells up at h keys a f g n le = record {
   flags = flags_fit (is_narrow h.name) h.flags n.flags;
   stamp = n.stamp;
@@ -140,7 +149,8 @@ node_fits cells up at h keys a f g n le = record {
   units = subst (λ (b : Bool). UnitsFit b h.name) (sym (narrow_stored h.name h.flags)) (units_fit h.name n.units);
 }
 
-class_stands : (cells : Cells) (node : KeyNode) (at : ℕ) (c : List ℕ) → node.class_length ≡ length c → node.class ≡ place_of_some (length c) at → Has cells at (class_cells c) → class_of cells node ≡ Ok c
+class_stands : (cells : Cells) (node : KeyNode) (at : ℕ) (c : List ℕ) → node.class_length ≡ length c
+    → node.class ≡ place_of_some (length c) at → Has cells at (class_cells c) → class_of cells node ≡ Ok c
 unfolding class_of class_cells
 class_stands cells node at [] n p has = rw n refl
 class_stands cells node at (b ∷ c) n p has =
@@ -148,7 +158,8 @@ class_stands cells node at (b ∷ c) n p has =
     let place : node.class ≡ at = p ∙ rw some refl in
     rw (n, some, place) (reads_in (bytes_in (length (b ∷ c))) cells at (b ∷ c) (b ∷ c) has.0 (λ slack. bytes_again (b ∷ c) slack))
 
-security_is : (cells : Cells) (node : KeyNode) (s : List ℕ) → descriptor_at cells node.security ≡ Ok s → security_of cells node ≡ Ok s
+security_is : (cells : Cells) (node : KeyNode) (s : List ℕ) → descriptor_at cells node.security ≡ Ok s
+    → security_of cells node ≡ Ok s
 unfolding security_of
 security_is cells node s h = h
 
@@ -161,7 +172,8 @@ pub record HeadHas (cells : Cells) (up : Above) (at : ℕ) (h : Head) (ts : Tree
   pub security : Has cells (descriptor_place at h) (security_cells up (descriptor_place at h) h.security (sharers_of_all h.security ts))
   pub values : Has cells (values_place up.security at h) (items_cells cells.version (values_place up.security at h) h.values)
 
-pub head_has : (cells : Cells) (up : Above) (at : ℕ) (h : Head) (ts : Trees) → Has cells at (head_cells cells.version up at h ts) → HeadHas cells up at h ts
+pub head_has : (cells : Cells) (up : Above) (at : ℕ) (h : Head) (ts : Trees) → Has cells at (head_cells cells.version up at h ts)
+    → HeadHas cells up at h ts
 unfolding head_cells
 head_has cells up at h ts has =
     let node = key_node_text (node_of cells.version up at h (listed ts)) in
@@ -178,12 +190,16 @@ head_has cells up at h ts has =
       values = has_behind cells own (security_size up.security h.security) (values_place up.security at h) sec vals (space_security up own h.security (sharers_of_all h.security ts)) refl later;
     }
 
-pub places_fit : (version : HiveVersion) (shared : List ℕ) (at : ℕ) (ts : Trees) → at + size_of_all version shared ts ≤ 16777216 → AreOffsets (places version shared at ts)
+pub places_fit : (version : HiveVersion) (shared : List ℕ) (at : ℕ) (ts : Trees) → at + size_of_all version shared ts ≤ 16777216
+    → AreOffsets (places version shared at ts)
 places_fit version shared at none le = tt
-places_fit version shared at (more t ts) le = (omega arith, places_fit version shared (at + size version shared t) ts (omega arith))
+places_fit version shared at (more t ts) le =
+    (omega arith, places_fit version shared (at + size version shared t) ts (omega arith))
 
 mutual
-  tree_stands : (cells : Cells) (up : Above) (at : ℕ) (t : Tree) → AboveStands cells up → Has cells at (cells_of cells.version up at t) → HoldsKeys t → HasNumbers t → at + size cells.version up.security t ≤ 16777216 → Stands cells at t
+  tree_stands : (cells : Cells) (up : Above) (at : ℕ) (t : Tree) → AboveStands cells up
+      → Has cells at (cells_of cells.version up at t) → HoldsKeys t → HasNumbers t
+      → at + size cells.version up.security t ≤ 16777216 → Stands cells at t
   tree_stands cells up at (key h ts) a has f n le =
       let first = children_place cells.version up.security at h (count ts) in
       let os = places cells.version h.security first ts in
@@ -213,7 +229,9 @@ mutual
         trees_stand cells (below up at h) first ts (below_stands cells up at h (sharers_of_all h.security ts) a mine.security (omega arith) few) later f.1 n.1 (omega arith),
       )
 
-  trees_stand : (cells : Cells) (up : Above) (at : ℕ) (ts : Trees) → AboveStands cells up → Has cells at (cells_of_all cells.version up at ts) → AllHoldKeys ts → AllHaveNumbers ts → at + size_of_all cells.version up.security ts ≤ 16777216 → AllStand cells (places cells.version up.security at ts) ts
+  trees_stand : (cells : Cells) (up : Above) (at : ℕ) (ts : Trees) → AboveStands cells up
+      → Has cells at (cells_of_all cells.version up at ts) → AllHoldKeys ts → AllHaveNumbers ts
+      → at + size_of_all cells.version up.security ts ≤ 16777216 → AllStand cells (places cells.version up.security at ts) ts
   trees_stand cells up at none a has f n le = refl
   trees_stand cells up at (more t ts) a has f n le =
       let next = at + size cells.version up.security t in
@@ -225,8 +243,10 @@ mutual
         trees_stand cells up next ts a back f.1 n.1 (omega arith),
       )
 
-pub above_root : (cells : Cells) (t : Tree) → 32 + size cells.version [] t ≤ 16777216 → AboveStands cells (top (ring cells.version [] 32 t))
-above_root cells t room = record { place = omega arith; security_place = omega arith; descriptor = refl; ring = ring_fits cells.version [] 32 t room }
+pub above_root : (cells : Cells) (t : Tree) → 32 + size cells.version [] t ≤ 16777216
+    → AboveStands cells (top (ring cells.version [] 32 t))
+above_root cells t room =
+    record { place = omega arith; security_place = omega arith; descriptor = refl; ring = ring_fits cells.version [] 32 t room }
 
 pub packed_stands : PackedStands
 packed_stands version t f n le =

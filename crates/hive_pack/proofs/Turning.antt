@@ -4,13 +4,15 @@ use Rattle.std.proofs.lemmas.Bool.{ne_eqb, cases_lt}
 use Rattle.hive_model.specs.Packed.{first_or, last_or, behind, ahead, forward, backward}
 use Rattle.hive_pack.specs.Writes.{IsRising}
 
-pub behind_none : (first : ℕ) (xs : List ℕ) (at : ℕ) → ((k : ℕ) → k < length xs → get_or xs k 0 ≡ at → ⊥) → behind first xs at ≡ first
+pub behind_none : (first : ℕ) (xs : List ℕ) (at : ℕ) → ((k : ℕ) → k < length xs → get_or xs k 0 ≡ at → ⊥)
+    → behind first xs at ≡ first
 behind_none first [] at h = refl
 behind_none first (x ∷ xs) at h =
     let no : eqb x at ≡ false = ne_eqb x at (h 0 (omega arith)) in
     rw no (behind_none first xs at (λ k lt. h (suc k) (omega arith)))
 
-pub behind_at : (first : ℕ) (xs : List ℕ) (at i : ℕ) → i < length xs → get_or xs i 0 ≡ at → ((k : ℕ) → k < i → get_or xs k 0 < at) → behind first xs at ≡ first_or first (drop (suc i) xs)
+pub behind_at : (first : ℕ) (xs : List ℕ) (at i : ℕ) → i < length xs → get_or xs i 0 ≡ at → ((k : ℕ) → k < i → get_or xs k 0 < at)
+    → behind first xs at ≡ first_or first (drop (suc i) xs)
 behind_at first [] at i lt e h = absurd (omega arith)
 behind_at first (x ∷ xs) at zero lt e h = let yes : eqb x at ≡ true = eq-eqb x at e in rw yes refl
 behind_at first (x ∷ xs) at (suc i) lt e h =
@@ -40,7 +42,8 @@ pub empty_backward : (xs : List ℕ) (at : ℕ) → length xs ≡ 0 → 0 ≡ ba
 empty_backward [] at e = refl
 empty_backward (x ∷ xs) at e = absurd (omega arith)
 
-pub ahead_none : (before : ℕ) (xs : List ℕ) (at : ℕ) → ((k : ℕ) → k < length xs → get_or xs k 0 ≡ at → ⊥) → ahead before xs at ≡ last_or before xs
+pub ahead_none : (before : ℕ) (xs : List ℕ) (at : ℕ) → ((k : ℕ) → k < length xs → get_or xs k 0 ≡ at → ⊥)
+    → ahead before xs at ≡ last_or before xs
 ahead_none before [] at h = refl
 ahead_none before (x ∷ xs) at h =
     let no : eqb x at ≡ false = ne_eqb x at (h 0 (omega arith)) in
@@ -50,7 +53,8 @@ pub ahead_first : (before : ℕ) (xs : List ℕ) (at : ℕ) → 0 < length xs �
 ahead_first before [] at lt e = absurd (omega arith)
 ahead_first before (x ∷ xs) at lt e = let yes : eqb x at ≡ true = eq-eqb x at e in rw yes refl
 
-pub ahead_later : (before : ℕ) (xs : List ℕ) (at i : ℕ) → suc i < length xs → get_or xs (suc i) 0 ≡ at → ((k : ℕ) → k < suc i → get_or xs k 0 < at) → ahead before xs at ≡ get_or xs i 0
+pub ahead_later : (before : ℕ) (xs : List ℕ) (at i : ℕ) → suc i < length xs → get_or xs (suc i) 0 ≡ at
+    → ((k : ℕ) → k < suc i → get_or xs k 0 < at) → ahead before xs at ≡ get_or xs i 0
 ahead_later before [] at i lt e h = absurd (omega arith)
 ahead_later before (x ∷ xs) at zero lt e h =
     let no : eqb x at ≡ false = ne_eqb x at (λ q. omega (arith, h 0 (omega arith), q)) in
@@ -81,20 +85,26 @@ weakly xs h i j le lt = elim (cases_le i j le) [ inl q ↦ omega (arith, h i j q
 
 -- ---- the ring by positions
 
-pub next_is : (xs : List ℕ) (at i : ℕ) → IsRising xs → i < length xs → get_or xs i 0 ≡ at → i + 1 < length xs → get_or xs (i + 1) 0 ≡ forward xs at
+pub next_is : (xs : List ℕ) (at i : ℕ) → IsRising xs → i < length xs → get_or xs i 0 ≡ at → i + 1 < length xs
+    → get_or xs (i + 1) 0 ≡ forward xs at
 next_is xs at i r lt e more =
     let one : i + 1 ≡ suc i = omega arith in
-    ap (λ k. get_or xs k 0) one ∙ sym (behind_at (first_or 0 xs) xs at i lt e (λ k l. omega (arith, r k i l lt, e)) ∙ head_drop (first_or 0 xs) xs (suc i) (omega arith))
+    ap (λ k. get_or xs k 0) one
+    ∙ sym (behind_at (first_or 0 xs) xs at i lt e (λ k l. omega (arith, r k i l lt, e)) ∙ head_drop (first_or 0 xs) xs (suc i) (omega arith))
 
-pub next_of_last : (xs : List ℕ) (at i : ℕ) → IsRising xs → i < length xs → get_or xs i 0 ≡ at → length xs ≤ i + 1 → get_or xs 0 0 ≡ forward xs at
-next_of_last xs at i r lt e last = sym (behind_at (first_or 0 xs) xs at i lt e (λ k l. omega (arith, r k i l lt, e)) ∙ head_past (first_or 0 xs) xs (suc i) (omega arith) ∙ head_first xs (omega arith))
+pub next_of_last : (xs : List ℕ) (at i : ℕ) → IsRising xs → i < length xs → get_or xs i 0 ≡ at → length xs ≤ i + 1
+    → get_or xs 0 0 ≡ forward xs at
+next_of_last xs at i r lt e last =
+    sym (behind_at (first_or 0 xs) xs at i lt e (λ k l. omega (arith, r k i l lt, e)) ∙ head_past (first_or 0 xs) xs (suc i) (omega arith) ∙ head_first xs (omega arith))
 
-pub before_is : (xs : List ℕ) (at i : ℕ) → IsRising xs → i < length xs → get_or xs i 0 ≡ at → 0 < i → get_or xs (i - 1) 0 ≡ backward xs at
+pub before_is : (xs : List ℕ) (at i : ℕ) → IsRising xs → i < length xs → get_or xs i 0 ≡ at → 0 < i
+    → get_or xs (i - 1) 0 ≡ backward xs at
 before_is xs at i r lt e some =
     let one : suc (i - 1) ≡ i = omega arith in
     sym (ahead_later (last_or 0 xs) xs at (i - 1) (omega arith) (ap (λ k. get_or xs k 0) one ∙ e) (λ k l. omega (arith, r k i (omega arith) lt, e)))
 
-pub before_first : (xs : List ℕ) (at i : ℕ) → 0 < length xs → get_or xs i 0 ≡ at → i ≡ 0 → get_or xs (length xs - 1) 0 ≡ backward xs at
+pub before_first : (xs : List ℕ) (at i : ℕ) → 0 < length xs → get_or xs i 0 ≡ at → i ≡ 0
+    → get_or xs (length xs - 1) 0 ≡ backward xs at
 before_first xs at i lt e z = sym (ahead_first (last_or 0 xs) xs at lt (ap (λ k. get_or xs k 0) (sym z) ∙ e) ∙ last_at 0 xs lt)
 
 -- backward undoes forward

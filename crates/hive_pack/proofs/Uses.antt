@@ -34,7 +34,8 @@ narrow p lo hi lower upper (inl a) l r = inl (omega arith)
 narrow p lo hi lower upper (inr b) l r = inr (omega arith)
 
 -- a place outside is not named where the key above does not name it
-not_here : (up : Above) (p lo hi d : ℕ) (s : List ℕ) → Outside p lo hi → lo ≤ d → d + security_size up.security s ≤ hi → (nowhere ≡ p → ⊥) → (up.security_place ≡ p → ⊥) → security_place_of up d s ≡ p → ⊥
+not_here : (up : Above) (p lo hi d : ℕ) (s : List ℕ) → Outside p lo hi → lo ≤ d → d + security_size up.security s ≤ hi
+    → (nowhere ≡ p → ⊥) → (up.security_place ≡ p → ⊥) → security_place_of up d s ≡ p → ⊥
 not_here up p lo hi d [] out l r real above q = real q
 not_here up p lo hi d (x ∷ s) out l r real above q = go (has_own up.security (x ∷ s)) r q
   where
@@ -42,15 +43,18 @@ not_here up p lo hi d (x ∷ s) out l r real above q = go (has_own up.security (
     go true r q = elim out [ inl a ↦ omega (arith, a, l, q) | inr b ↦ omega (arith, b, r, q) ]
     go false r q = above q
 
-place_shared : (up : Above) (d : ℕ) (s : List ℕ) → 0 < length s → pointwise nat_eq up.security s ≡ true → security_place_of up d s ≡ up.security_place
+place_shared : (up : Above) (d : ℕ) (s : List ℕ) → 0 < length s → pointwise nat_eq up.security s ≡ true
+    → security_place_of up d s ≡ up.security_place
 place_shared up d [] l e = absurd (omega arith)
 place_shared up d (x ∷ s) l e = rw e refl
 
-place_apart : (up : Above) (d p : ℕ) (s : List ℕ) → p < d → (nowhere ≡ p → ⊥) → pointwise nat_eq up.security s ≡ false → security_place_of up d s ≡ p → ⊥
+place_apart : (up : Above) (d p : ℕ) (s : List ℕ) → p < d → (nowhere ≡ p → ⊥) → pointwise nat_eq up.security s ≡ false
+    → security_place_of up d s ≡ p → ⊥
 place_apart up d p [] l real e q = real q
 place_apart up d p (x ∷ s) l real e q = let is : security_place_of up d (x ∷ s) ≡ d = rw e refl in omega (arith, l, is, q)
 
-place_own : (up : Above) (d : ℕ) (s : List ℕ) → has_own up.security s ≡ true → (security_place_of up d s ≡ d) × (0 < length s) × (0 < security_size up.security s)
+place_own : (up : Above) (d : ℕ) (s : List ℕ) → has_own up.security s ≡ true
+    → (security_place_of up d s ≡ d) × (0 < length s) × (0 < security_size up.security s)
 place_own up d [] m = absurd cc
 place_own up d (x ∷ s) m = (rw m refl, omega arith, rw m (omega arith))
 
@@ -61,7 +65,8 @@ apart up at p (inr b) l r q = omega arith
 -- ---- trees that do not name a place
 
 mutual
-  unnamed : (version : HiveVersion) (p : ℕ) (up : Above) (at hi : ℕ) (t : Tree) → at + size version up.security t ≡ hi → Outside p at hi → (nowhere ≡ p → ⊥) → (up.security_place ≡ p → ⊥) → times p (named version up at t) ≡ 0
+  unnamed : (version : HiveVersion) (p : ℕ) (up : Above) (at hi : ℕ) (t : Tree) → at + size version up.security t ≡ hi
+      → Outside p at hi → (nowhere ≡ p → ⊥) → (up.security_place ≡ p → ⊥) → times p (named version up at t) ≡ 0
   unnamed version p up at hi (key h ts) e out real above =
       let own = descriptor_place at h in
       let first = children_place version up.security at h (count ts) in
@@ -70,7 +75,9 @@ mutual
       other p d (named_of_all version (below up at h) first ts) differs
       ∙ all_unnamed version p (below up at h) first hi ts (omega arith) (narrow p at hi first hi out (omega arith) (omega arith)) real differs
 
-  all_unnamed : (version : HiveVersion) (p : ℕ) (up : Above) (at hi : ℕ) (ts : Trees) → at + size_of_all version up.security ts ≡ hi → Outside p at hi → (nowhere ≡ p → ⊥) → (up.security_place ≡ p → ⊥) → times p (named_of_all version up at ts) ≡ 0
+  all_unnamed : (version : HiveVersion) (p : ℕ) (up : Above) (at hi : ℕ) (ts : Trees)
+      → at + size_of_all version up.security ts ≡ hi → Outside p at hi → (nowhere ≡ p → ⊥) → (up.security_place ≡ p → ⊥)
+      → times p (named_of_all version up at ts) ≡ 0
   all_unnamed version p up at hi none e out real above = refl
   all_unnamed version p up at hi (more t ts) e out real above =
       let next = at + size version up.security t in
@@ -83,21 +90,28 @@ mutual
 
 -- ---- trees below a key that names a place
 
-shared_here : (p : ℕ) (up : Above) (own : ℕ) (s : List ℕ) (ts : Trees) (rest : List ℕ) → p < own → (nowhere ≡ p → ⊥) → up.security_place ≡ p → 0 < length up.security
-    → (security_place_of up own s ≡ p → 0 < length s → times p rest ≡ sharers_of_all s ts) → ((security_place_of up own s ≡ p → ⊥) → times p rest ≡ 0)
-    → times p (security_place_of up own s ∷ rest) ≡ (if pointwise nat_eq up.security s then 1 + sharers_of_all up.security ts else 0)
+shared_here : (p : ℕ) (up : Above) (own : ℕ) (s : List ℕ) (ts : Trees) (rest : List ℕ) → p < own → (nowhere ≡ p → ⊥)
+    → up.security_place ≡ p → 0 < length up.security
+    → (security_place_of up own s ≡ p → 0 < length s → times p rest ≡ sharers_of_all s ts)
+    → ((security_place_of up own s ≡ p → ⊥) → times p rest ≡ 0)
+    → times p (security_place_of up own s ∷ rest)
+    ≡ (if pointwise nat_eq up.security s then 1 + sharers_of_all up.security ts else 0)
 shared_here p up own s ts rest low real above some sharing_below none_below = go (pointwise nat_eq up.security s) refl
   where
-    go : (same : Bool) → pointwise nat_eq up.security s ≡ same → times p (security_place_of up own s ∷ rest) ≡ (if same then 1 + sharers_of_all up.security ts else 0)
+    go : (same : Bool) → pointwise nat_eq up.security s ≡ same
+        → times p (security_place_of up own s ∷ rest) ≡ (if same then 1 + sharers_of_all up.security ts else 0)
     go true q =
         let alike : up.security ≡ s = (bytes_eq-Decides up.security s).0 q in
         let many : 0 < length s = omega (arith, some, ap (λ (x : List ℕ). length x) alike) in
         let place = place_shared up own s many q ∙ above in
-        once_more p (security_place_of up own s) rest place ∙ ap (λ n. 1 + n) (sharing_below place many ∙ ap (λ (x : List ℕ). sharers_of_all x ts) (sym alike))
+        once_more p (security_place_of up own s) rest place
+        ∙ ap (λ n. 1 + n) (sharing_below place many ∙ ap (λ (x : List ℕ). sharers_of_all x ts) (sym alike))
     go false q = let differs = place_apart up own p s low real q in other p (security_place_of up own s) rest differs ∙ none_below differs
 
 mutual
-  sharing : (version : HiveVersion) (p : ℕ) (up : Above) (at hi : ℕ) (t : Tree) → at + size version up.security t ≡ hi → p < at → (nowhere ≡ p → ⊥) → up.security_place ≡ p → 0 < length up.security → times p (named version up at t) ≡ sharers up.security t
+  sharing : (version : HiveVersion) (p : ℕ) (up : Above) (at hi : ℕ) (t : Tree) → at + size version up.security t ≡ hi → p < at
+      → (nowhere ≡ p → ⊥) → up.security_place ≡ p → 0 < length up.security
+      → times p (named version up at t) ≡ sharers up.security t
   sharing version p up at hi (key h ts) e low real above some =
       let first = children_place version up.security at h (count ts) in
       let rest = named_of_all version (below up at h) first ts in
@@ -105,7 +119,9 @@ mutual
       (λ place many. all_sharing version p (below up at h) first hi ts (omega arith) (omega arith) real place many)
       (λ differs. all_unnamed version p (below up at h) first hi ts (omega arith) (inl (omega arith)) real differs)
 
-  all_sharing : (version : HiveVersion) (p : ℕ) (up : Above) (at hi : ℕ) (ts : Trees) → at + size_of_all version up.security ts ≡ hi → p < at → (nowhere ≡ p → ⊥) → up.security_place ≡ p → 0 < length up.security → times p (named_of_all version up at ts) ≡ sharers_of_all up.security ts
+  all_sharing : (version : HiveVersion) (p : ℕ) (up : Above) (at hi : ℕ) (ts : Trees)
+      → at + size_of_all version up.security ts ≡ hi → p < at → (nowhere ≡ p → ⊥) → up.security_place ≡ p → 0 < length up.security
+      → times p (named_of_all version up at ts) ≡ sharers_of_all up.security ts
   all_sharing version p up at hi none e low real above some = refl
   all_sharing version p up at hi (more t ts) e low real above some =
       let next = at + size version up.security t in
@@ -123,7 +139,8 @@ abbrev Agrees : List ℕ → List ℕ → ℕ → ℕ → Type 0
 Agrees names some lo hi = (p : ℕ) → lo ≤ p → p < hi → times p names ≡ times p some
 
 mutual
-  counted : (version : HiveVersion) (names : List ℕ) (up : Above) (at hi : ℕ) (t : Tree) → at + size version up.security t ≡ hi → hi ≤ 16777216 → IsAbove up at → Agrees names (named version up at t) at hi → AreCounted version names up at t
+  counted : (version : HiveVersion) (names : List ℕ) (up : Above) (at hi : ℕ) (t : Tree) → at + size version up.security t ≡ hi
+      → hi ≤ 16777216 → IsAbove up at → Agrees names (named version up at t) at hi → AreCounted version names up at t
   counted version names up at hi (key h ts) e small i g =
       let own = descriptor_place at h in
       let first = children_place version up.security at h (count ts) in
@@ -141,7 +158,9 @@ mutual
         all_counted version names (below up at h) first hi ts (omega arith) small first-above (λ p l r. g p (omega arith) r ∙ other p d rest (apart (below up at h) first p first-above l (omega arith))),
       )
 
-  all_counted : (version : HiveVersion) (names : List ℕ) (up : Above) (at hi : ℕ) (ts : Trees) → at + size_of_all version up.security ts ≡ hi → hi ≤ 16777216 → IsAbove up at → Agrees names (named_of_all version up at ts) at hi → AllAreCounted version names up at ts
+  all_counted : (version : HiveVersion) (names : List ℕ) (up : Above) (at hi : ℕ) (ts : Trees)
+      → at + size_of_all version up.security ts ≡ hi → hi ≤ 16777216 → IsAbove up at
+      → Agrees names (named_of_all version up at ts) at hi → AllAreCounted version names up at ts
   all_counted version names up at hi none e small i g = tt
   all_counted version names up at hi (more t ts) e small i g =
       let next = at + size version up.security t in
@@ -164,4 +183,5 @@ mutual
       )
 
 pub uses_are_counted : PackedCountsUses
-uses_are_counted version t room = counted version (named version (top (ring version [] 32 t)) 32 t) (top (ring version [] 32 t)) 32 (32 + size version [] t) t refl (omega arith) (inr refl) (λ p l r. refl)
+uses_are_counted version t room =
+    counted version (named version (top (ring version [] 32 t)) 32 t) (top (ring version [] 32 t)) 32 (32 + size version [] t) t refl (omega arith) (inr refl) (λ p l r. refl)

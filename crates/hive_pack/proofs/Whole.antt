@@ -27,7 +27,8 @@ eights_of_payloads (n ∷ ns) = omega (arith, eights_of_payloads ns)
 
 eights_of_items : (version : HiveVersion) (vs : List Item) → items_sum version vs % 8 ≡ 0
 eights_of_items version [] = refl
-eights_of_items version (v ∷ vs) = omega (arith, eights_of_payloads (data_sizes version (length v.bytes)), eights_of_items version vs)
+eights_of_items version (v ∷ vs) =
+    omega (arith, eights_of_payloads (data_sizes version (length v.bytes)), eights_of_items version vs)
 
 eights_of_all_items : (version : HiveVersion) (vs : List Item) → items_size version vs % 8 ≡ 0
 eights_of_all_items version [] = refl
@@ -40,7 +41,9 @@ eights_of_class (b ∷ c) = omega arith
 eights_of_list : (n : ℕ) → list_size n % 8 ≡ 0
 eights_of_list n = go (n == 0) (nat_lt n 501) (n % 500 == 0)
   where
-    go : (a b c : Bool) → (if a then 0 else if b then cell (4 + 8 * n) else cell (4 + 4 * part_count n) + n / 500 * cell 4004 + (if c then 0 else cell (4 + 8 * (n % 500)))) % 8 ≡ 0
+    go : (a b c : Bool)
+        → (if a then 0 else if b then cell (4 + 8 * n) else cell (4 + 4 * part_count n) + n / 500 * cell 4004 + (if c then 0 else cell (4 + 8 * (n % 500)))) % 8
+        ≡ 0
     go true b c = refl
     go false true c = omega arith
     go false false true = omega arith
@@ -76,7 +79,9 @@ free_size (suc n) h =
     let some : eqb (suc n) 0 ≡ false = ne_eqb (suc n) 0 (λ e. omega arith) in
     rw some (omega (arith, length-zeros (suc n - 4)))
 
-pub bin_is : (version : HiveVersion) (t : Tree) → 32 + cells_size (map used_cell (packed_cells version t) ++ free_cells (rounded (whole version t) - whole version t)) ≡ rounded (whole version t)
+pub bin_is : (version : HiveVersion) (t : Tree)
+    → 32 + cells_size (map used_cell (packed_cells version t) ++ free_cells (rounded (whole version t) - whole version t))
+    ≡ rounded (whole version t)
 bin_is version t =
     let free = rounded (whole version t) - whole version t in
     omega (
@@ -88,7 +93,9 @@ bin_is version t =
     )
 
 -- the bytes: header, cells and the free cell
-pub packed_is : (version : HiveVersion) (t : Tree) → packed version t ≡ head_bytes 0 (rounded (whole version t)) (replicate 20 0) ++ (text (packed_cells version t) ++ flat_map cell_bytes (free_cells (rounded (whole version t) - whole version t)))
+pub packed_is : (version : HiveVersion) (t : Tree)
+    → packed version t
+    ≡ head_bytes 0 (rounded (whole version t)) (replicate 20 0) ++ (text (packed_cells version t) ++ flat_map cell_bytes (free_cells (rounded (whole version t) - whole version t)))
 unfolding packed packed_bins
 packed_is version t =
     let used = map used_cell (packed_cells version t) in
@@ -98,7 +105,8 @@ packed_is version t =
 
 -- ---- what was written
 
-pub length_whole : (version : HiveVersion) (rs : List ℕ) (t : Tree) (kept_room out : List ℕ) → kept_room ≡ zeros 32 → out ≡ kept_room ++ text (cells_of version (top rs) (length kept_room) t) → length out ≡ whole version t
+pub length_whole : (version : HiveVersion) (rs : List ℕ) (t : Tree) (kept_room out : List ℕ) → kept_room ≡ zeros 32
+    → out ≡ kept_room ++ text (cells_of version (top rs) (length kept_room) t) → length out ≡ whole version t
 length_whole version rs t kept_room out k o =
     let n : length kept_room ≡ 32 = ap (λ (x : List ℕ). length x) k ∙ length-zeros 32 in
     omega (arith, ap (λ (x : List ℕ). length x) o, length-append kept_room (text (cells_of version (top rs) (length kept_room) t)), length_text (cells_of version (top rs) (length kept_room) t), space_tree version (top rs) (length kept_room) t)
@@ -107,8 +115,12 @@ pub length_header : (n : ℕ) → length (head_bytes 0 n (replicate 20 0)) ≡ 3
 unfolding head_bytes
 length_header n = refl
 
-pub whole_written : (version : HiveVersion) (ring_places : List ℕ) (t : Tree) (kept_room out three header new : List ℕ) (total free : ℕ) → ring_places ≡ ring version [] 32 t → kept_room ≡ zeros 32 → out ≡ kept_room ++ text (cells_of version (top ring_places) (length kept_room) t)
-    → total ≡ rounded (length out) → free ≡ total - length out → three ≡ out ++ flat_map cell_bytes (free_cells free) → header ≡ head_bytes 0 total (replicate 20 0) → new ≡ take 0 three ++ header ++ drop (0 + length header) three → new ≡ packed version t
+pub whole_written : (version : HiveVersion) (ring_places : List ℕ) (t : Tree) (kept_room out three header new : List ℕ) (total free : ℕ)
+    → ring_places ≡ ring version [] 32 t → kept_room ≡ zeros 32
+    → out ≡ kept_room ++ text (cells_of version (top ring_places) (length kept_room) t)
+    → total ≡ rounded (length out) → free ≡ total - length out → three ≡ out ++ flat_map cell_bytes (free_cells free)
+    → header ≡ head_bytes 0 total (replicate 20 0) → new ≡ take 0 three ++ header ++ drop (0 + length header) three
+    → new ≡ packed version t
 whole_written version ring_places t kept_room out three header new total free g k o w f h d n =
     let len = length_whole version ring_places t kept_room out k o in
     let size-is : total ≡ rounded (whole version t) = w ∙ ap rounded len in
@@ -117,7 +129,8 @@ whole_written version ring_places t kept_room out three header new total free g 
     let body = text (packed_cells version t) in
     let last = flat_map cell_bytes (free_cells free) in
     let out-is : out ≡ zeros 32 ++ body = o ∙ (λ j. k j ++ text (cells_of version (top (g j)) (first j) t)) in
-    let three-is : three ≡ [] ++ zeros 32 ++ (body ++ last) = h ∙ ap (λ (x : List ℕ). x ++ last) out-is ∙ append_assoc (zeros 32) body last in
+    let three-is : three ≡ [] ++ zeros 32 ++ (body ++ last) =
+    h ∙ ap (λ (x : List ℕ). x ++ last) out-is ∙ append_assoc (zeros 32) body last in
     let header-len : length (zeros 32) ≡ length header = sym (ap (λ (x : List ℕ). length x) d ∙ length_header total) in
     filled_in [] (zeros 32) header (body ++ last) three new 0 refl header-len three-is n
     ∙ ap (λ (x : List ℕ). x ++ (body ++ last)) (d ∙ ap (λ (m : ℕ). head_bytes 0 m (replicate 20 0)) size-is)

@@ -52,10 +52,12 @@ returns-clause-bytes c =
     (ap rounded c.len-used.ensures) (ap (λ (n : ℕ). rounded c.len-used.result - n) c.len-used.ensures) c.in_ok-put_free.ensures (c.as_slice.ensures ∙ c.in_ok-header.ensures) c.overwrite.ensures
 
 pub returns-clause-sized : goal.returns-clause-sized
-returns-clause-sized c = subst (λ (b : List ℕ). is_bins_size (length b) ≡ true) (sym (returns-clause-bytes c)) (packed_is_sized c.args.version c.args.tree.now c.requires.room)
+returns-clause-sized c =
+    subst (λ (b : List ℕ). is_bins_size (length b) ≡ true) (sym (returns-clause-bytes c)) (packed_is_sized c.args.version c.args.tree.now c.requires.room)
 
 pub returns-clause-bins : goal.returns-clause-bins
 returns-clause-bins c = let bins = packed_is_bins c.args.version c.args.tree.now c.requires.room in (bins.0, returns-clause-bytes c ∙ bins.1)
 
 pub returns-clause-well_formed : goal.returns-clause-well_formed
-returns-clause-well_formed c = packed_is_well_formed c.args.version c.args.tree.now c.requires.valid c.numbers_fit.ensures c.requires.room
+returns-clause-well_formed c =
+    packed_is_well_formed c.args.version c.args.tree.now c.requires.valid c.numbers_fit.ensures c.requires.room

@@ -8,4 +8,5 @@ pub numbers_fit-all_fit-requires : goal.numbers_fit-all_fit-requires
 numbers_fit-all_fit-requires t c = (omega (arith, weight_parted c.args.key.now, ap weights c.subkeys.ensures), tt)
 
 pub numbers_fit-returns : goal.numbers_fit-returns
-numbers_fit-returns t c = numbers_whole c.args.key.now c.head_fits.ensures (subst (λ (ks : List Tree). AllHaveNumbers (trees ks)) c.subkeys.ensures c.all_fit.ensures)
+numbers_fit-returns t c =
+    numbers_whole c.args.key.now c.head_fits.ensures (subst (λ (ks : List Tree). AllHaveNumbers (trees ks)) c.subkeys.ensures c.all_fit.ensures)

@@ -2,7 +2,8 @@ use Rattle.std.proofs.Common.{◌+◌, ◌++◌, List, ℕ, length, ap, ◌∙�
 use Rattle.hive_model.specs.Tree.{Item, Tree, trees, head, weights}
 use Rattle.hive_model.specs.Size.{class_size, security_size, items_size, list_size, size_of_all}
 use Rattle.hive_model.specs.Packed.{own_place, ring_of_all}
-use Rattle.hive_pack.proofs.Written.{if_ok, on_ok, size_parted, weight_parted, ring_written}
+use Rattle.reg_tree.proofs.Outcomes.{on_ok}
+use Rattle.hive_pack.proofs.Written.{if_ok, size_parted, weight_parted, ring_written}
 use Rattle.hive_pack.proofs.ring.+ring.Goals as goal
 
 pub ring_of-ring_of_all-requires : goal.ring_of-ring_of_all-requires

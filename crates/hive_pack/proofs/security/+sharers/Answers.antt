@@ -4,7 +4,8 @@ use lib.Pointwise.{pointwise}
 use Rattle.std.proofs.lemmas.Slice.Eq.{bytes_eq-Decides}
 use Rattle.hive_model.specs.Tree.{Tree, trees, head, children, weights}
 use Rattle.hive_model.specs.Packed.{sharers, sharers_of_all}
-use Rattle.hive_pack.proofs.Written.{uncons, weight_parted}
+use Rattle.reg_tree.proofs.Outcomes.{uncons}
+use Rattle.hive_pack.proofs.Written.{weight_parted}
 use Rattle.hive_pack.proofs.Counts.{sharers_parted}
 use Rattle.hive_pack.proofs.security.+sharers.Goals as goal
 
@@ -12,8 +13,11 @@ alike : (s d t : List ℕ) → pointwise nat_eq s d ≡ true → d ≡ t → (po
 alike s d t e q = (ap (λ (x : List ℕ). pointwise nat_eq s x) (sym q) ∙ e, (bytes_eq-Decides s d).0 e ∙ q)
 
 -- the count of a key that has the descriptor
-counted : (s d : List ℕ) (t : Tree) → pointwise nat_eq s d ≡ true → d ≡ (head t).security → sharers s t ≡ 1 + sharers_of_all s (trees (children t))
-counted s d t e q = sharers_parted s t ∙ ap (λ (b : Bool). if b then 1 + sharers_of_all s (trees (children t)) else 0) (alike s d (head t).security e q).0
+counted : (s d : List ℕ) (t : Tree) → pointwise nat_eq s d ≡ true → d ≡ (head t).security
+    → sharers s t ≡ 1 + sharers_of_all s (trees (children t))
+counted s d t e q =
+    sharers_parted s t
+    ∙ ap (λ (b : Bool). if b then 1 + sharers_of_all s (trees (children t)) else 0) (alike s d (head t).security e q).0
 
 pub sharers-sharers_of_all-requires : goal.sharers-sharers_of_all-requires
 sharers-sharers_of_all-requires t c =

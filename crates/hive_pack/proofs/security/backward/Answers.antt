@@ -5,8 +5,10 @@ use Rattle.hive_model.specs.Packed.{last_or, backward}
 use Rattle.hive_pack.proofs.Turning.{ahead_none, last_at, weakly, before_is, before_first}
 use Rattle.hive_pack.proofs.security.backward.Goals as goal
 
-none_is : (xs : List ℕ) (at j : ℕ) → 0 < length xs → ((k : ℕ) → k < j → get_or xs k 0 < at) → ((k : ℕ) → j ≤ k → k < length xs → at < get_or xs k 0) → get_or xs (length xs - 1) 0 ≡ backward xs at
-none_is xs at j some low high = sym (ahead_none (last_or 0 xs) xs at (λ k lt e. go k lt e (cases_lt k j)) ∙ same ∙ last_at 0 xs some)
+none_is : (xs : List ℕ) (at j : ℕ) → 0 < length xs → ((k : ℕ) → k < j → get_or xs k 0 < at)
+    → ((k : ℕ) → j ≤ k → k < length xs → at < get_or xs k 0) → get_or xs (length xs - 1) 0 ≡ backward xs at
+none_is xs at j some low high =
+    sym (ahead_none (last_or 0 xs) xs at (λ k lt e. go k lt e (cases_lt k j)) ∙ same ∙ last_at 0 xs some)
   where
     same : last_or (last_or 0 xs) xs ≡ last_or 0 xs
     same = last_at (last_or 0 xs) xs some ∙ sym (last_at 0 xs some)

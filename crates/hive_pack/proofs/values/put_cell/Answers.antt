@@ -1,5 +1,5 @@
 use Rattle.hive_pack.proofs.Rows.{cell_written}
-use Rattle.hive_pack.proofs.Written.{on_ok}
+use Rattle.reg_tree.proofs.Outcomes.{on_ok}
 use Rattle.hive_pack.proofs.values.put_cell.Goals as goal
 
 pub returns : goal.returns

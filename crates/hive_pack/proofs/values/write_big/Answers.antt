@@ -5,7 +5,8 @@ use Rattle.hive_model.specs.Forms.{BigData, big_data_text, offsets_text}
 use Rattle.hive_model.specs.Packed.{cell_text, segment_places}
 use Rattle.hive_model.proofs.Spelling.{length_big_data}
 use Rattle.hive_pack.proofs.Rows.{length_segment_list}
-use Rattle.hive_pack.proofs.Written.{on_ok, big_written}
+use Rattle.reg_tree.proofs.Outcomes.{on_ok}
+use Rattle.hive_pack.proofs.Written.{big_written}
 use Rattle.hive_pack.proofs.values.write_big.Goals as goal
 
 pub put_cell-requires : goal.put_cell-requires

@@ -6,7 +6,8 @@ use Rattle.hive_model.specs.Valid.{IsItem}
 use Rattle.hive_model.specs.Size.{items_sum}
 use Rattle.hive_model.specs.Forms.{offsets_text}
 use Rattle.hive_model.specs.Packed.{text, cells_of_items, item_places}
-use Rattle.hive_pack.proofs.Written.{uncons, value_next, value_next_place}
+use Rattle.reg_tree.proofs.Outcomes.{uncons}
+use Rattle.hive_pack.proofs.Written.{value_next, value_next_place}
 use Rattle.hive_pack.proofs.Counts.{all_later}
 use Rattle.hive_pack.proofs.values.write_each_value.Goals as goal
 

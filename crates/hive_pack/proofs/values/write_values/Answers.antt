@@ -15,7 +15,9 @@ pub overwrite-requires : goal.overwrite-requires
 overwrite-requires c =
     let vs = c.args.values.now in
     let kept = c.append_zeros.new.self in
-    let list : c.as_slice-2.result.now ≡ cell_text (offsets_text (item_places c.args.version (length kept) vs)) = c.as_slice-2.ensures ∙ c.in_ok-put_cell.ensures ∙ rw (c.new-list.ensures, c.as_slice.ensures, c.in_ok-places.ensures.places) refl in
+    let list : c.as_slice-2.result.now ≡ cell_text (offsets_text (item_places c.args.version (length kept) vs)) =
+    c.as_slice-2.ensures ∙ c.in_ok-put_cell.ensures
+    ∙ rw (c.new-list.ensures, c.as_slice.ensures, c.in_ok-places.ensures.places) refl in
     omega (
       arith,
       ap (λ (x : List ℕ). length x) list,
@@ -33,6 +35,8 @@ overwrite-requires c =
 pub returns : goal.returns
 returns c =
     let vs = c.args.values.now in
-    let list : c.as_slice-2.result.now ≡ cell_text (offsets_text (item_places c.args.version (length c.append_zeros.new.self) vs)) = c.as_slice-2.ensures ∙ c.in_ok-put_cell.ensures ∙ rw (c.new-list.ensures, c.as_slice.ensures, c.in_ok-places.ensures.places) refl in
+    let list : c.as_slice-2.result.now ≡ cell_text (offsets_text (item_places c.args.version (length c.append_zeros.new.self) vs)) =
+    c.as_slice-2.ensures ∙ c.in_ok-put_cell.ensures
+    ∙ rw (c.new-list.ensures, c.as_slice.ensures, c.in_ok-places.ensures.places) refl in
     values_written c.args.version c.args.out.now c.append_zeros.new.self c.write_each_value.new.out c.as_slice-2.result.now c.overwrite.new.self c.len-at.result c.cell_size.result vs (omega arith) c.len-at.ensures c.cell_size.ensures c.in_ok-append_zeros.ensures
     c.in_ok-places.ensures.written list c.overwrite.ensures

@@ -6,7 +6,9 @@ use Rattle.hive_model.specs.Size.{count, list_size, size_of_all}
 use Rattle.hive_model.specs.Packed.{Above, below, text, places, hint, list_cells, cells_of, cells_of_all}
 use Rattle.hive_pack.specs.Writes.{above, IsRising}
 use Rattle.hive_pack.proofs.Rows.{length_places, length_text, space_lists}
-use Rattle.hive_pack.proofs.Written.{uncons, parted, counted, listed_trees, size_parted, weight_parted, holds_parted, lists_place, first_place, key_written, child_next, child_next_place, list_room}
+use Rattle.reg_tree.proofs.Outcomes.{uncons}
+use Rattle.reg_tree.proofs.Trees.{listed_trees}
+use Rattle.hive_pack.proofs.Written.{parted, counted, size_parted, weight_parted, holds_parted, lists_place, first_place, key_written, child_next, child_next_place, list_room}
 use Rattle.hive_pack.proofs.write.+pack.Goals as goal
 
 pub write_children-children-preserved : goal.write_children-children-preserved
@@ -40,7 +42,8 @@ write_key-write_children-requires m c =
     let up = above c.args.up in
     let old = c.args.out.now in
     let f = holds_parted t c.requires.valid in
-    let n : c.list_len.result ≡ list_size (count (trees cs)) = c.list_len.ensures ∙ ap (λ (ks : List Tree). list_size (length ks)) (c.subkeys-keys.ensures ∙ sym (listed_trees cs)) in
+    let n : c.list_len.result ≡ list_size (count (trees cs)) =
+    c.list_len.ensures ∙ ap (λ (ks : List Tree). list_size (length ks)) (c.subkeys-keys.ensures ∙ sym (listed_trees cs)) in
     let first = first_place c.args.version up (head t) (trees cs) old c.write_head.new.out c.append_zeros.new.self c.list_len.result c.in_ok-write_head.ensures n c.in_ok-append_zeros.ensures in
     let security = ap (λ (u : Above). u.security) c.below_up-mine.ensures in (
       omega (arith, weight_parted t, ap weights c.subkeys-keys.ensures),
@@ -65,7 +68,8 @@ write_key-write_lists-requires-clause-same m c =
     let ks = c.subkeys-keys.result.now in
     let security = c.below_up-mine.result.security.now in
     let two = length c.append_zeros.new.self in
-    ap (λ (x : List ℕ). length x) (c.deref.ensures.value ∙ c.in_ok-places.ensures.places) ∙ length_places c.args.version security two (trees ks) ∙ counted ks
+    ap (λ (x : List ℕ). length x) (c.deref.ensures.value ∙ c.in_ok-places.ensures.places)
+    ∙ length_places c.args.version security two (trees ks) ∙ counted ks
 
 pub write_key-write_lists-requires-clause-room : goal.write_key-write_lists-requires-clause-room
 write_key-write_lists-requires-clause-room m c =
@@ -87,7 +91,8 @@ write_key-write_lists-requires-clause-room m c =
     )
 
 -- what was written of the lists
-lists_are : (version : HiveVersion) (at n : ℕ) (security shared : List ℕ) (ks cs : List Tree) (start new list ps : List ℕ) → ks ≡ cs → security ≡ shared → ps ≡ places version security n (trees ks)
+lists_are : (version : HiveVersion) (at n : ℕ) (security shared : List ℕ) (ks cs : List Tree) (start new list ps : List ℕ)
+    → ks ≡ cs → security ≡ shared → ps ≡ places version security n (trees ks)
     → start ≡ [] → new ≡ start ++ text (list_cells version at ps (map (hint version) ks)) → list ≡ new
     → list ≡ text (list_cells version at (places version shared n (trees cs)) (map (hint version) (listed (trees cs))))
 lists_are version at n security shared ks cs start new list ps k s p e w l =
@@ -102,7 +107,8 @@ write_key-overwrite-requires m c =
     let cs = children t in
     let ks = c.subkeys-keys.result.now in
     let two = c.append_zeros.new.self in
-    let n : c.list_len.result ≡ list_size (count (trees cs)) = c.list_len.ensures ∙ ap (λ (us : List Tree). list_size (length us)) (c.subkeys-keys.ensures ∙ sym (listed_trees cs)) in
+    let n : c.list_len.result ≡ list_size (count (trees cs)) =
+    c.list_len.ensures ∙ ap (λ (us : List Tree). list_size (length us)) (c.subkeys-keys.ensures ∙ sym (listed_trees cs)) in
     let security = ap (λ (u : Above). u.security) c.below_up-mine.ensures in
     let list = lists_are c.args.version c.len-list_at.result (length two) c.below_up-mine.result.security.now (head t).security ks cs c.new-lists.result c.write_lists.new.out c.as_slice.result.now c.deref.result.now
     c.subkeys-keys.ensures security (c.deref.ensures.value ∙ c.in_ok-places.ensures.places) c.new-lists.ensures c.in_ok-write_lists.ensures c.as_slice.ensures in
@@ -125,9 +131,13 @@ write_key-returns m c =
     let old = c.args.out.now in
     let two = c.append_zeros.new.self in
     let up = above c.args.up in
-    let n : c.list_len.result ≡ list_size (count (trees cs)) = c.list_len.ensures ∙ ap (λ (us : List Tree). list_size (length us)) (c.subkeys-keys.ensures ∙ sym (listed_trees cs)) in
-    let mine : above c.below_up-mine.result ≡ below up (length old) (head t) = c.below_up-mine.ensures ∙ ap (λ (k : ℕ). below up k (head t)) c.len-at.ensures in
-    let three = c.in_ok-places.ensures.written ∙ (λ j. two ++ text (cells_of_all c.args.version (mine j) (length two) (trees (c.subkeys-keys.ensures j)))) in
+    let n : c.list_len.result ≡ list_size (count (trees cs)) =
+    c.list_len.ensures ∙ ap (λ (us : List Tree). list_size (length us)) (c.subkeys-keys.ensures ∙ sym (listed_trees cs)) in
+    let mine : above c.below_up-mine.result ≡ below up (length old) (head t) =
+    c.below_up-mine.ensures ∙ ap (λ (k : ℕ). below up k (head t)) c.len-at.ensures in
+    let three =
+    c.in_ok-places.ensures.written
+    ∙ (λ j. two ++ text (cells_of_all c.args.version (mine j) (length two) (trees (c.subkeys-keys.ensures j)))) in
     let security = ap (λ (u : Above). u.security) c.below_up-mine.ensures in
     let list = lists_are c.args.version c.len-list_at.result (length two) c.below_up-mine.result.security.now (head t).security ks cs c.new-lists.result c.write_lists.new.out c.as_slice.result.now c.deref.result.now
     c.subkeys-keys.ensures security (c.deref.ensures.value ∙ c.in_ok-places.ensures.places) c.new-lists.ensures c.in_ok-write_lists.ensures c.as_slice.ensures in

@@ -4,7 +4,9 @@ use Rattle.hive_model.specs.Size.{security_size, items_size, size_of_all}
 use Rattle.hive_model.specs.Forms.{key_node_text}
 use Rattle.hive_model.specs.Packed.{cell_text, text, node_of, class_cells, security_cells, sharers_of_all, items_cells}
 use Rattle.hive_pack.specs.Writes.{above}
-use Rattle.hive_pack.proofs.Written.{on_ok, size_parted, listed_trees, own_security, class_at, values_at, head_written}
+use Rattle.reg_tree.proofs.Outcomes.{on_ok}
+use Rattle.reg_tree.proofs.Trees.{listed_trees}
+use Rattle.hive_pack.proofs.Written.{size_parted, own_security, class_at, values_at, head_written}
 use Rattle.hive_pack.proofs.Counts.{few_of_all}
 use Rattle.hive_pack.proofs.write.write_head.Goals as goal
 
@@ -14,7 +16,9 @@ write_security-requires-clause-room c =
     let up = above c.args.up in
     let old = c.args.out.now in
     let cs = children t in
-    let node = c.in_ok-write_node.ensures ∙ ap (λ (ks : List Tree). old ++ cell_text (key_node_text (node_of c.args.version up (length old) (head t) ks))) (sym (listed_trees cs)) in
+    let node =
+    c.in_ok-write_node.ensures
+    ∙ ap (λ (ks : List Tree). old ++ cell_text (key_node_text (node_of c.args.version up (length old) (head t) ks))) (sym (listed_trees cs)) in
     let class = c.in_ok-write_class.ensures ∙ ap (λ (b : List ℕ). c.write_node.new.out ++ text (class_cells b)) c.class.ensures in
     omega (arith, class_at c.args.version up (head t) (trees cs) old c.write_node.new.out c.write_class.new.out node class, ap (λ (s : List ℕ). security_size up.security s) c.security.ensures, size_parted c.args.version up.security t, c.requires.room)
 
@@ -38,11 +42,14 @@ write_values-requires-clause-room c =
     let old = c.args.out.now in
     let cs = children t in
     let two = c.write_class.new.out in
-    let node = c.in_ok-write_node.ensures ∙ ap (λ (ks : List Tree). old ++ cell_text (key_node_text (node_of c.args.version up (length old) (head t) ks))) (sym (listed_trees cs)) in
+    let node =
+    c.in_ok-write_node.ensures
+    ∙ ap (λ (ks : List Tree). old ++ cell_text (key_node_text (node_of c.args.version up (length old) (head t) ks))) (sym (listed_trees cs)) in
     let class = c.in_ok-write_class.ensures ∙ ap (λ (b : List ℕ). c.write_node.new.out ++ text (class_cells b)) c.class.ensures in
     let own = class_at c.args.version up (head t) (trees cs) old c.write_node.new.out two node class in
     let three : c.write_security.new.out ≡ two ++ text (own_security up (length old) (head t) (trees cs)) =
-    c.in_ok-write_security.ensures ∙ (λ j. two ++ text (security_cells up (own j) (c.security.ensures j) (sharers_of_all (c.security.ensures j) (trees (c.subkeys.ensures j))))) in
+    c.in_ok-write_security.ensures
+    ∙ (λ j. two ++ text (security_cells up (own j) (c.security.ensures j) (sharers_of_all (c.security.ensures j) (trees (c.subkeys.ensures j))))) in
     omega (arith, values_at up (head t) (trees cs) old two c.write_security.new.out own three, ap (λ (vs : List Item). items_size c.args.version vs) c.items.ensures, size_parted c.args.version up.security t, c.requires.room)
 
 pub returns : goal.returns
@@ -53,9 +60,13 @@ returns c =
     let cs = children t in
     let two = c.write_class.new.out in
     let three = c.write_security.new.out in
-    let node = c.in_ok-write_node.ensures ∙ ap (λ (ks : List Tree). old ++ cell_text (key_node_text (node_of c.args.version up (length old) (head t) ks))) (sym (listed_trees cs)) in
+    let node =
+    c.in_ok-write_node.ensures
+    ∙ ap (λ (ks : List Tree). old ++ cell_text (key_node_text (node_of c.args.version up (length old) (head t) ks))) (sym (listed_trees cs)) in
     let class = c.in_ok-write_class.ensures ∙ ap (λ (b : List ℕ). c.write_node.new.out ++ text (class_cells b)) c.class.ensures in
-    let security = c.in_ok-write_security.ensures ∙ (λ j. two ++ text (security_cells up (length two) (c.security.ensures j) (sharers_of_all (c.security.ensures j) (trees (c.subkeys.ensures j))))) in
+    let security =
+    c.in_ok-write_security.ensures
+    ∙ (λ j. two ++ text (security_cells up (length two) (c.security.ensures j) (sharers_of_all (c.security.ensures j) (trees (c.subkeys.ensures j))))) in
     on_ok c.write_values.result _ _
     (λ e. head_written c.args.version up (head t) (trees cs) old c.write_node.new.out two three c.write_values.new.out node class security (e ∙ ap (λ (vs : List Item). three ++ text (items_cells c.args.version (length three) vs)) c.items.ensures))
     c.write_values.ensures
