@@ -275,3 +275,38 @@ closing-keeps law h m r = by_start m.machine.start
     by_start : (o : Option Start) → Keeps law h (verdict_first o (run.say lines.EndLine (run.done m)))
     by_start None = r
     by_start (Some s) = r
+
+-- ---- the law that asks nothing: what an act marks is no wake and no outcome
+
+abbrev pub nothing : Law
+nothing = record {
+  Down = λ h m. Unit {0};
+  Up = λ h m. Unit {0};
+  Asks = λ h p. Unit {0};
+  Wakes = λ h p. Unit {0};
+  down = λ h m machine changed starts d. tt;
+  up = λ h m machine live changed u. tt;
+  over = λ h m u. tt;
+  ordered_down = λ h m arming d. tt;
+  ordered_up = λ h m arming u. tt;
+  saved = λ h m clone u. tt;
+  cutting = λ h m u. tt;
+  cut = λ h m o u. tt;
+  committing = λ h m tree u. tt;
+  commits = λ h m tree u. tt;
+  opens = λ h m tree o stop u. tt;
+  waking = λ h m d. tt;
+  loading = λ h m w d. tt;
+  loads = λ h m w d. tt;
+  stops = λ h m w o stop d. tt;
+}
+
+nothing_rest : (h : List Note) (m : RunState) (o : Option Start) → AtRest nothing h m o
+nothing_rest h m None = tt
+nothing_rest h m (Some s) = tt
+
+pub event_step_of-marks : (choice : Option ℕ → Choice) (e : Event) (m : RunState) → Keeps nothing [] (event_step_of choice e m)
+event_step_of-marks choice e m = event_step_of-keeps nothing choice e [] m (nothing_rest [] m m.machine.start)
+
+pub closing-marks : (m : RunState) → Keeps nothing [] (closing_act m)
+closing-marks m = closing-keeps nothing [] m (nothing_rest [] m m.machine.start)

@@ -8,3 +8,4 @@ pub mod StillLemmas
 pub mod ToldLemmas
 pub mod SameLemmas
 pub mod FailureLemmas
+pub mod NoteLemmas

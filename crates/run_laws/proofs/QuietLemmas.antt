@@ -10,6 +10,7 @@ use Rattle.start_model.specs.Run.{RunState, Possible, Act, Note, Woke, Held, Sav
 use Rattle.start_model.specs.Machine.{Start}
 use Rattle.start_model.specs.Fits.{IsPossible, ArePossible, woke_in}
 use Rattle.run_laws.specs.Quiet.{AllFinished}
+use Rattle.run_laws.proofs.NoteLemmas.{woke_in-append}
 use Rattle.run_laws.proofs.KeptLemmas.{Law, AtRest, IsMark, IsStop, Keeps, push, with_wake, closing-keeps, event_step_of-keeps}
 
 -- ---- as long as each operation was done, what the disk loads as is certain
@@ -173,15 +174,6 @@ Behind : (Option ℕ → Choice) → List Event → Type 0
 Behind choice es =
     (h : List Note) (m : RunState) → AtRest certain h m m.machine.start → AllDone h → (wakes : List Woken) (outcomes : List Outcome) (left : Left) → (run_from choice es m wakes outcomes).rest ≡ Some left
     → ArePossible wakes (woke_in (run_from choice es m wakes outcomes).notes) → AllFinished outcomes → RunsQuiet choice es m wakes outcomes left
-
-woke_in-append : (a b : List Note) → woke_in (a ++ b) ≡ woke_in a ++ woke_in b
-woke_in-append [] b = refl
-woke_in-append (Woke p ∷ a) b = ap (λ (ps : List Possible). p ∷ ps) (woke_in-append a b)
-woke_in-append (Held t ∷ a) b = woke_in-append a b
-woke_in-append (Saved t ∷ a) b = woke_in-append a b
-woke_in-append (Ordered x ∷ a) b = woke_in-append a b
-woke_in-append (Cuts ∷ a) b = woke_in-append a b
-woke_in-append (Ended o ∷ a) b = woke_in-append a b
 
 record ThenQuiet (choice : Option ℕ → Choice) (es : List Event) (act : Act) (r : RunResult) (left : Left) : Type 0 where
   lines : r.lines ≡ (quiet_behind (quiet_play act).lines (quiet_from choice es (quiet_play act).state)).lines

@@ -26,3 +26,9 @@ IsStill [] = Unit {0}
 IsStill (Woke p ∷ ns) = ⊥
 IsStill (Ended o ∷ ns) = ⊥
 IsStill (note ∷ ns) = IsStill ns
+
+-- how the operations ended, in order
+abbrev pub ended_in : List Note → List Outcome
+ended_in [] = []
+ended_in (Ended o ∷ ns) = o ∷ ended_in ns
+ended_in (note ∷ ns) = ended_in ns

@@ -3,9 +3,10 @@ use Rattle.std.proofs.Common.{◌≡◌, inl, inr, ℕ, ◌<◌, ◌≤◌, ◌^
 use Rattle.std.specs.Prelude.{codes}
 use Rattle.std.specs.Option.{is_some}
 use Rattle.std.proofs.lemmas.Bool.{false≢true}
+use Rattle.nt_bytes.specs.declared.version.HiveVersion.{HiveVersion}
 use Rattle.hive_model.specs.Tree.{Tree, key}
 use Rattle.hive_model.specs.Edit.{Step, copy_child, delete_key, renamed, with_child, Refusal, after_steps}
-use Rattle.start_model.specs.Sets.{SelectNumbers, SetPlan, SetStop, NoControlSet, NoLastKnownGood, ChangeStop, set_name, set_of, numbers_in, select_numbers_of, usable_numbers_of, is_usable, has_number, free_number_of, four_of, deletions_of, written, writes_of, plan_with, taken_number, begun, guarded_plan, begin_plan_of, stepped, changed_by, planned, begin_of}
+use Rattle.start_model.specs.Sets.{SelectNumbers, SetPlan, SetStop, NoControlSet, NoLastKnownGood, ChangeStop, SetChange, set_name, set_of, numbers_in, select_numbers_of, usable_numbers_of, is_usable, has_number, free_number_of, four_of, deletions_of, written, writes_of, plan_with, taken_number, begun, guarded_plan, begin_plan_of, stepped, changed_by, planned, begin_of}
 use Rattle.start_model.specs.Fits.{SameSet, good_set_of}
 use Rattle.start_laws.specs.Changes.{IsLowestFree, Begins}
 use Rattle.start_laws.proofs.NumberLemmas.{is_free}
@@ -196,13 +197,13 @@ begins_plain t u on_good usable other e =
           (k, (good_set u old.good k good p.usable.least p.usable.most (s.sets old.good p.usable.most (names_good new) ∙ p.is), refl)));
     }
 
-pub begins : (t u : Tree) (on_good : Bool) (plan : SetPlan) → begin_plan_of (select_numbers_of t) (usable_numbers_of t) on_good ≡ Ok plan → stepped t plan.steps ≡ Ok u → Begins t on_good plan.chosen u
-begins t u on_good plan is made =
+pub begins : (version : HiveVersion) (t u : Tree) (on_good : Bool) (plan : SetPlan) → begin_plan_of (select_numbers_of t) (usable_numbers_of t) on_good ≡ Ok plan → stepped version t plan.steps ≡ Ok u → Begins t on_good plan.chosen u
+begins version t u on_good plan is made =
     let b = begin_case (select_numbers_of t) (usable_numbers_of t) on_good plan is in
     split b.usable_one b.kind
   where
     all : after_steps t plan.steps ≡ Ok u
-    all = steps_made plan.steps t u made
+    all = steps_made version plan.steps t u made
 
     split : has_number (usable_numbers_of t) (taken_number (select_numbers_of t) on_good) ≡ true → BeginCase (select_numbers_of t) (usable_numbers_of t) on_good plan → Begins t on_good plan.chosen u
     split usable (guarded free free_is same p) =
@@ -214,9 +215,9 @@ begins t u on_good plan is made =
 
 -- ---- steps, or none
 
-pub without_steps : (t : Tree) (steps : List Step) → length steps ≡ 0 → stepped t steps ≡ Ok t
-without_steps t [] h = refl
-without_steps t (s ∷ ss) h = absurd (omega arith)
+pub without_steps : (version : HiveVersion) (t : Tree) (steps : List Step) → length steps ≡ 0 → stepped version t steps ≡ Ok t
+without_steps version t [] h = refl
+without_steps version t (s ∷ ss) h = absurd (omega arith)
 
 filter_none : (p : ℕ → Bool) (xs : List ℕ) → ((n : ℕ) → p n ≡ false) → filter p xs ≡ []
 filter_none p [] h = refl
@@ -246,14 +247,14 @@ plain_changes t u false usable other current same =
     let was : old.default ≡ old.current = sym current ∙ ap (λ v. (select_numbers_of v).current) same in
     nothing_to_do usable old (begun old false) (λ i. record { current = was i; default = old.default; failed = old.failed; good = old.good })
 
-pub begin_changes : (t u : Tree) (on_good : Bool) (plan : SetPlan) → begin_plan_of (select_numbers_of t) (usable_numbers_of t) on_good ≡ Ok plan → stepped t plan.steps ≡ Ok u
+pub begin_changes : (version : HiveVersion) (t u : Tree) (on_good : Bool) (plan : SetPlan) → begin_plan_of (select_numbers_of t) (usable_numbers_of t) on_good ≡ Ok plan → stepped version t plan.steps ≡ Ok u
     → (length plan.steps ≡ 0 → ⊥) → u ≡ t → ⊥
-begin_changes t u on_good plan is made some same =
+begin_changes version t u on_good plan is made some same =
     let b = begin_case (select_numbers_of t) (usable_numbers_of t) on_good plan is in
     split b.usable_one b.kind
   where
     all : after_steps t plan.steps ≡ Ok u
-    all = steps_made plan.steps t u made
+    all = steps_made version plan.steps t u made
 
     split : has_number (usable_numbers_of t) (taken_number (select_numbers_of t) on_good) ≡ true → BeginCase (select_numbers_of t) (usable_numbers_of t) on_good plan → ⊥
     split usable (guarded free free_is good p) =
@@ -266,29 +267,29 @@ begin_changes t u on_good plan is made some same =
 
 -- ---- the beginning of a tree
 
-pub record Planned (t : Tree) (r : Result SetPlan SetStop) (n : ℕ) (u : Tree) : Type 0 where
+-- the change comes of a plan
+pub record Planned (version : HiveVersion) (t : Tree) (r : Result SetPlan SetStop) (change : SetChange) : Type 0 where
   pub plan : SetPlan
   pub is : r ≡ Ok plan
-  pub chosen : plan.chosen ≡ n
-  pub made : stepped t plan.steps ≡ Ok u
+  pub chosen : plan.chosen ≡ change.chosen
+  pub numbers : plan.numbers ≡ change.numbers
+  pub has_steps : not (length plan.steps == 0) ≡ change.has_steps
+  pub made : stepped version t plan.steps ≡ Ok change.tree
 
-pair_is : (a b : ℕ × Tree) → ◌≡◌ {A = Result (ℕ × Tree) ChangeStop} (Ok a) (Ok b) → a ≡ b
-pair_is a b e = cc
+by_steps : (version : HiveVersion) (t : Tree) (plan : SetPlan) (change : SetChange) (s : Result Tree Refusal) → stepped version t plan.steps ≡ s → changed_by plan s ≡ Ok change → Planned version t (Ok plan) change
+by_steps version t plan change (Ok v) is e =
+    let made : SetChange = record { chosen = plan.chosen; numbers = plan.numbers; has_steps = not (length plan.steps == 0); tree = v } in
+    let q : made ≡ change = cc in
+    let P : SetChange → Type 0 = Planned version t (Ok plan) in
+    subst P q (record { plan = plan; is = refl; chosen = refl; numbers = refl; has_steps = refl; made = is })
+by_steps version t plan change (Err why) is e = absurd cc
 
-by_steps : (t : Tree) (plan : SetPlan) (n : ℕ) (u : Tree) (s : Result Tree Refusal) → stepped t plan.steps ≡ s → changed_by plan.chosen s ≡ Ok (n, u) → Planned t (Ok plan) n u
-by_steps t plan n u (Ok v) is e =
-    let here : ℕ × Tree = (plan.chosen, v) in
-    let there : ℕ × Tree = (n, u) in
-    let q : here ≡ there = pair_is here there e in
-    record { plan = plan; is = refl; chosen = ap (λ (p : ℕ × Tree). p.0) q; made = is ∙ ap (λ (p : ℕ × Tree). Ok p.1) q }
-by_steps t plan n u (Err why) is e = absurd cc
+pub by_plan : (version : HiveVersion) (t : Tree) (r : Result SetPlan SetStop) (change : SetChange) → planned version t r ≡ Ok change → Planned version t r change
+by_plan version t (Ok plan) change e = by_steps version t plan change (stepped version t plan.steps) refl e
+by_plan version t (Err stop) change e = absurd cc
 
-pub by_plan : (t : Tree) (r : Result SetPlan SetStop) (n : ℕ) (u : Tree) → planned t r ≡ Ok (n, u) → Planned t r n u
-by_plan t (Ok plan) n u e = by_steps t plan n u (stepped t plan.steps) refl e
-by_plan t (Err stop) n u e = absurd cc
-
-pub begin_of-begins : (t : Tree) (on_good : Bool) (n : ℕ) (u : Tree) → begin_of t on_good ≡ Ok (n, u) → Begins t on_good n u
-begin_of-begins t on_good n u e =
-    let p = by_plan t (begin_plan_of (select_numbers_of t) (usable_numbers_of t) on_good) n u e in
-    let P : ℕ → Type 0 = λ m. Begins t on_good m u in
-    subst P p.chosen (begins t u on_good p.plan p.is p.made)
+pub begin_of-begins : (version : HiveVersion) (t : Tree) (on_good : Bool) (change : SetChange) → begin_of version t on_good ≡ Ok change → Begins t on_good change.chosen change.tree
+begin_of-begins version t on_good change e =
+    let p = by_plan version t (begin_plan_of (select_numbers_of t) (usable_numbers_of t) on_good) change e in
+    let P : ℕ → Type 0 = λ m. Begins t on_good m change.tree in
+    subst P p.chosen (begins version t change.tree on_good p.plan p.is p.made)

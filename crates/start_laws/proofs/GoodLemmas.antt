@@ -1,10 +1,11 @@
 -- The first good set stays the first one, and the saved ones stay.
-use Rattle.std.proofs.Common.{inl, inr, List, [], ◌∷◌, ◌++◌, sym, subst, arith}
+use Rattle.std.proofs.Common.{◌≡◌, inl, inr, List, [], ◌∷◌, ◌++◌, sym, ap, subst, ◌∙◌, arith}
 use Rattle.std.specs.Prelude.{Contains}
 use Rattle.std.proofs.lemmas.List.Elements.{Contains-append_left}
 use Rattle.hive_model.specs.Tree.{Tree}
-use Rattle.start_model.specs.Run.{RunResult}
-use Rattle.start_model.specs.Fits.{first_good_in, IsGoodSet}
+use Rattle.start_model.specs.Run.{RunResult, Note}
+use Rattle.start_model.specs.Fits.{first_good_in, IsGoodSet, held_in, saved_in}
+use Rattle.run_laws.proofs.NoteLemmas.{held_in-append, saved_in-append}
 use Rattle.start_laws.specs.Fronts.{IsFrontOfRun}
 
 -- the set that LastKnownGood names in the first tree
@@ -24,8 +25,11 @@ good_stays trees more clones later set g = (
   ),
 )
 
-pub good_in_front : (first whole : RunResult) (set : Tree) → IsFrontOfRun first whole → IsGoodSet first.trees first.clones set → IsGoodSet whole.trees whole.clones set
+pub good_in_front : (first whole : RunResult) (set : Tree) → IsFrontOfRun first whole → IsGoodSet (held_in first.notes) (saved_in first.notes) set → IsGoodSet (held_in whole.notes) (saved_in whole.notes) set
 good_in_front first whole set f g =
-    let P : List Tree → Type 0 = λ ts. IsGoodSet ts (first.clones ++ f.clones.0) set in
-    let Q : List Tree → Type 0 = λ cs. IsGoodSet whole.trees cs set in
-    subst Q (sym f.clones.1) (subst P (sym f.trees.1) (good_stays first.trees f.trees.0 first.clones f.clones.0 set g))
+    let rest : List Note = f.notes.rest in
+    let held : held_in whole.notes ≡ held_in first.notes ++ held_in rest = ap held_in f.notes.cut ∙ held_in-append first.notes rest in
+    let saved : saved_in whole.notes ≡ saved_in first.notes ++ saved_in rest = ap saved_in f.notes.cut ∙ saved_in-append first.notes rest in
+    let P : List Tree → Type 0 = λ ts. IsGoodSet ts (saved_in first.notes ++ saved_in rest) set in
+    let Q : List Tree → Type 0 = λ cs. IsGoodSet (held_in whole.notes) cs set in
+    subst Q (sym saved) (subst P (sym held) (good_stays (held_in first.notes) (held_in rest) (saved_in first.notes) (saved_in rest) set g))

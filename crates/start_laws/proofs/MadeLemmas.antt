@@ -6,6 +6,7 @@ use Rattle.std.specs.List.{AllByRecursion, range_with_len}
 use Rattle.std.specs.Int.{w32, to_le_bytes}
 use Rattle.std.proofs.lemmas.Bool.{false≢true, le-ltb}
 use Rattle.std.proofs.lemmas.Bool.Decides.{nat_tests}
+use Rattle.nt_bytes.specs.declared.version.HiveVersion.{HiveVersion}
 use Rattle.hive_model.specs.Tree.{Tree, children, is_named, find_key}
 use Rattle.hive_model.specs.Size.{bulk_of}
 use Rattle.hive_model.specs.Valid.{levels}
@@ -214,12 +215,12 @@ plan_made from t m old new first chosen e sets there =
 
 -- ---- the plans of a tree
 
-made_or_full : (steps : List Step) (t u : Tree) (why : Refusal) → after_steps t steps ≡ Ok u → stepped t steps ≡ Err why → why ≡ full
+made_or_full : (version : HiveVersion) (steps : List Step) (t u : Tree) (why : Refusal) → after_steps t steps ≡ Ok u → stepped version t steps ≡ Err why → why ≡ full
 unfolding edited
-made_or_full [] t u why e f = absurd cc
-made_or_full (s ∷ ss) t u why e f =
-    let all : ◌≡◌ {A = Result Tree Refusal} (cond (ltb most_bulk (bulk_of u)) (Err full) (Ok u)) (Err why) = sym (ap (λ r. then_edit r (λ v. cond (ltb most_bulk (bulk_of v)) (Err full) (Ok v))) e) ∙ f in
-    split (ltb most_bulk (bulk_of u)) all
+made_or_full version [] t u why e f = absurd cc
+made_or_full version (s ∷ ss) t u why e f =
+    let all : ◌≡◌ {A = Result Tree Refusal} (cond (ltb most_bulk (bulk_of version u)) (Err full) (Ok u)) (Err why) = sym (ap (λ r. then_edit r (λ v. cond (ltb most_bulk (bulk_of version v)) (Err full) (Ok v))) e) ∙ f in
+    split (ltb most_bulk (bulk_of version u)) all
   where
     split : (b : Bool) → ◌≡◌ {A = Result Tree Refusal} (cond b (Err full) (Ok u)) (Err why) → why ≡ full
     split true is = cc
@@ -260,16 +261,16 @@ begin_made t on_good plan usable (plain other p) =
     let P : SetPlan → Type 0 = λ q. Made t q.steps in
     subst P (sym p) (plan_made t t t old (begun old on_good) [] n refl (λ j le is. (usable_parts t j is).there) (taken_there t on_good un.least))
 
-pub begin_only_full : (t : Tree) (on_good : Bool) (plan : SetPlan) (why : Refusal) → begin_plan_of (select_numbers_of t) (usable_numbers_of t) on_good ≡ Ok plan → stepped t plan.steps ≡ Err why → why ≡ full
-begin_only_full t on_good plan why is e =
+pub begin_only_full : (version : HiveVersion) (t : Tree) (on_good : Bool) (plan : SetPlan) (why : Refusal) → begin_plan_of (select_numbers_of t) (usable_numbers_of t) on_good ≡ Ok plan → stepped version t plan.steps ≡ Err why → why ≡ full
+begin_only_full version t on_good plan why is e =
     let b = begin_case (select_numbers_of t) (usable_numbers_of t) on_good plan is in
     let m = begin_made t on_good plan b.usable_one b.kind in
-    made_or_full plan.steps t m.0 why m.1 e
+    made_or_full version plan.steps t m.0 why m.1 e
 
-pub save_only_full : (t clone : Tree) (plan : SetPlan) (why : Refusal) → is_some (find_key (codes "Select" ∷ []) t) ≡ true → levels clone ≤ 511
-    → save_plan_of (select_numbers_of t) (usable_numbers_of t) clone ≡ Ok plan → stepped t plan.steps ≡ Err why → why ≡ full
+pub save_only_full : (version : HiveVersion) (t clone : Tree) (plan : SetPlan) (why : Refusal) → is_some (find_key (codes "Select" ∷ []) t) ≡ true → levels clone ≤ 511
+    → save_plan_of (select_numbers_of t) (usable_numbers_of t) clone ≡ Ok plan → stepped version t plan.steps ≡ Err why → why ≡ full
 unfolding select_key
-save_only_full t clone plan why there deep is e =
+save_only_full version t clone plan why there deep is e =
     let old : SelectNumbers = select_numbers_of t in
     let c = save_case old (usable_numbers_of t) clone plan is in
     let f = is_free (usable_numbers_of t) c.free c.is in
@@ -280,4 +281,4 @@ save_only_full t clone plan why there deep is e =
     let P : SetPlan → Type 0 = λ q. Made t q.steps in
     let all : Made t plan.steps = subst P (sym c.plan_is)
     (plan_made t t m old (record old { good = c.free }) (add ∷ []) c.free made (λ j le is. sets_stay t m c.free j f keeps le is) (ap is_some keeps.select ∙ there)) in
-    made_or_full plan.steps t all.0 why all.1 e
+    made_or_full version plan.steps t all.0 why all.1 e

@@ -1,9 +1,10 @@
 -- A save: the clone under the free number, what retires, and the numbers.
 use Rattle.std.proofs.Common.{◌≡◌, inl, inr, ℕ, Bool, true, false, ◌≤◌, ◌||◌, ◌==◌, List, [], ◌∷◌, ◌++◌, Option, Some, None, Ok, refl, sym, ap, subst, ◌∙◌, arith}
 use Rattle.std.proofs.lemmas.Bool.{false≢true}
+use Rattle.nt_bytes.specs.declared.version.HiveVersion.{HiveVersion}
 use Rattle.hive_model.specs.Tree.{Tree}
 use Rattle.hive_model.specs.Edit.{Step, add_child, renamed, with_child, after_steps}
-use Rattle.start_model.specs.Sets.{SelectNumbers, SetPlan, set_name, set_of, numbers_in, select_numbers_of, usable_numbers_of, free_number_of, has_number, four_of, deletions_of, writes_of, plan_with, saved_plan, save_plan_of, stepped, save_of}
+use Rattle.start_model.specs.Sets.{SelectNumbers, SetPlan, SetChange, set_name, set_of, numbers_in, select_numbers_of, usable_numbers_of, free_number_of, has_number, four_of, deletions_of, writes_of, plan_with, saved_plan, save_plan_of, stepped, save_of}
 use Rattle.start_laws.specs.Changes.{Saves}
 use Rattle.start_laws.proofs.NumberLemmas.{is_free}
 use Rattle.start_laws.proofs.UsableLemmas.{usable_parts, usable_has, free_is_none, lowest_free, small_among}
@@ -75,21 +76,21 @@ saves_so t clone u free is e =
       rest = plan_keeps usable old new (step ∷ []) t u (small_among _ t) (addition_keeps free clone f.least f.most, tt) e;
     }
 
-pub saves : (t clone u : Tree) (plan : SetPlan) → save_plan_of (select_numbers_of t) (usable_numbers_of t) clone ≡ Ok plan → stepped t plan.steps ≡ Ok u → Saves t clone plan.chosen u
-saves t clone u plan is made =
+pub saves : (version : HiveVersion) (t clone u : Tree) (plan : SetPlan) → save_plan_of (select_numbers_of t) (usable_numbers_of t) clone ≡ Ok plan → stepped version t plan.steps ≡ Ok u → Saves t clone plan.chosen u
+saves version t clone u plan is made =
     let c = save_case (select_numbers_of t) (usable_numbers_of t) clone plan is in
-    let all : after_steps t plan.steps ≡ Ok u = steps_made plan.steps t u made in
+    let all : after_steps t plan.steps ≡ Ok u = steps_made version plan.steps t u made in
     let P : ℕ → Type 0 = λ n. Saves t clone n u in
     subst P (ap (λ (q : SetPlan). q.chosen) (sym c.plan_is)) (saves_so t clone u c.free c.is (ap (λ (q : SetPlan). after_steps t q.steps) (sym c.plan_is) ∙ all))
 
-pub save_changes : (t clone u : Tree) (plan : SetPlan) → save_plan_of (select_numbers_of t) (usable_numbers_of t) clone ≡ Ok plan → stepped t plan.steps ≡ Ok u → u ≡ t → ⊥
-save_changes t clone u plan is made same =
-    let s = saves t clone u plan is made in
+pub save_changes : (version : HiveVersion) (t clone u : Tree) (plan : SetPlan) → save_plan_of (select_numbers_of t) (usable_numbers_of t) clone ≡ Ok plan → stepped version t plan.steps ≡ Ok u → u ≡ t → ⊥
+save_changes version t clone u plan is made same =
+    let s = saves version t clone u plan is made in
     let none : Some (renamed (set_name plan.chosen) clone) ≡ None = sym s.added ∙ ap (λ v. set_of v plan.chosen) same ∙ s.lowest.free in
     absurd cc
 
-pub save_of-saves : (t clone : Tree) (n : ℕ) (u : Tree) → save_of t clone ≡ Ok (n, u) → Saves t clone n u
-save_of-saves t clone n u e =
-    let p = by_plan t (save_plan_of (select_numbers_of t) (usable_numbers_of t) clone) n u e in
-    let P : ℕ → Type 0 = λ m. Saves t clone m u in
-    subst P p.chosen (saves t clone u p.plan p.is p.made)
+pub save_of-saves : (version : HiveVersion) (t clone : Tree) (change : SetChange) → save_of version t clone ≡ Ok change → Saves t clone change.chosen change.tree
+save_of-saves version t clone change e =
+    let p = by_plan version t (save_plan_of (select_numbers_of t) (usable_numbers_of t) clone) change e in
+    let P : ℕ → Type 0 = λ m. Saves t clone m change.tree in
+    subst P p.chosen (saves version t clone change.tree p.plan p.is p.made)

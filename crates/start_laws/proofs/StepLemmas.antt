@@ -6,6 +6,7 @@ use Rattle.std.specs.Int.{w32, to_le_bytes, from_le_bytes}
 use Rattle.std.proofs.lemmas.Bool.{false≢true}
 use Rattle.std.proofs.lemmas.Nat.{from_le_bytes-to_le_bytes_4}
 use Rattle.nt_bytes.specs.Folding.{folds_same}
+use Rattle.nt_bytes.specs.declared.version.HiveVersion.{HiveVersion}
 use Rattle.hive_model.specs.Tree.{Item, Tree, key, trees, listed, head, children, is_named, is_item, find_key, dword_in}
 use Rattle.hive_model.specs.Size.{bulk_of}
 use Rattle.hive_model.specs.Valid.{levels}
@@ -236,11 +237,11 @@ too_large_or : (b : Bool) (v u : Tree) → cond b (Err full) (Ok v) ≡ Ok u →
 too_large_or true v u e = absurd cc
 too_large_or false v u e = ok_is v u e
 
-pub steps_made : (steps : List Step) (t u : Tree) → stepped t steps ≡ Ok u → after_steps t steps ≡ Ok u
+pub steps_made : (version : HiveVersion) (steps : List Step) (t u : Tree) → stepped version t steps ≡ Ok u → after_steps t steps ≡ Ok u
 unfolding edited
-steps_made [] t u e = e
-steps_made (s ∷ ss) t u e = split (after_steps t (s ∷ ss)) refl e
+steps_made version [] t u e = e
+steps_made version (s ∷ ss) t u e = split (after_steps t (s ∷ ss)) refl e
   where
-    split : (r : Result Tree Refusal) → after_steps t (s ∷ ss) ≡ r → then_edit r (λ v. cond (ltb most_bulk (bulk_of v)) (Err full) (Ok v)) ≡ Ok u → after_steps t (s ∷ ss) ≡ Ok u
-    split (Ok v) is same = is ∙ ap (λ v. Ok v) (too_large_or (ltb most_bulk (bulk_of v)) v u same)
+    split : (r : Result Tree Refusal) → after_steps t (s ∷ ss) ≡ r → then_edit r (λ v. cond (ltb most_bulk (bulk_of version v)) (Err full) (Ok v)) ≡ Ok u → after_steps t (s ∷ ss) ≡ Ok u
+    split (Ok v) is same = is ∙ ap (λ v. Ok v) (too_large_or (ltb most_bulk (bulk_of version v)) v u same)
     split (Err why) is same = absurd cc

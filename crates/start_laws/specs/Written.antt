@@ -1,19 +1,20 @@
 -- How is a system written out, and what is said of it? (this project's own)
 --
 -- Each key has no class, no descriptor and no stamp.
-use Rattle.std.specs.Prelude.{ℕ, zero, suc, ◌/◌, ◌%◌, false, List, [], ◌∷◌, ◌++◌, Option, codes}
+use Rattle.std.specs.Prelude.{ℕ, zero, suc, ◌/◌, ◌%◌, true, false, List, [], ◌∷◌, ◌++◌, Option, codes}
 use Rattle.std.specs.Fmt.{digits}
 use Rattle.std.specs.List.{flat_map}
 use Rattle.std.specs.Int.{w32, to_le_bytes}
+use Rattle.nt_bytes.specs.declared.version.HiveVersion.TheVariants.{V3}
 use Rattle.hive_model.specs.Tree.{Item, Tree, key, trees}
 use Rattle.hive_model.specs.Edit.{edited}
-use Rattle.hive_model.specs.State.{HiveState}
+use Rattle.hive_model.specs.Load.{state_of}
 use Rattle.start_model.specs.Demand.{all_sets, is_taken}
 use Rattle.start_model.specs.Events.{Event}
 use Rattle.start_model.specs.Lines.{unit_text, line_text, text_of}
 use Rattle.start_model.specs.Machine.{attempt_of}
-use Rattle.start_model.specs.Sets.{set_name, usable_numbers_of, free_number_of}
-use Rattle.start_model.specs.Run.{Choice, EntryTaken, Outcome, Finished, RunResult, go_steps, event_step_of, run_of, quiet_run_of}
+use Rattle.start_model.specs.Sets.{SetChange, set_name, usable_numbers_of, free_number_of}
+use Rattle.start_model.specs.Run.{Choice, EntryTaken, Woken, Outcome, Finished, RunResult, go_steps, event_step_of, run_of, quiet_run_of}
 
 -- the bytes of units, each low byte first
 abbrev pub wide : List ℕ → List ℕ
@@ -69,9 +70,14 @@ select current default failed good =
 abbrev pub system : List Tree → Tree
 system keys = key (record { name = codes "ROOT"; flags = 0x0C; stamp = 0; class = []; security = []; values = [] }) (trees keys)
 
--- the tree in a hive whose last change had the number 5
-abbrev pub placed : Tree → HiveState
-placed tree = record { tree = tree; sequence = 5 }
+-- a beginning that changed something: the number that it takes, the four numbers then, and the tree
+abbrev pub begun_as : ℕ → ℕ → ℕ → ℕ → ℕ → Tree → SetChange
+begun_as chosen current default failed good tree =
+    record { chosen = chosen; numbers = record { current = current; default = default; failed = failed; good = good }; has_steps = true; tree = tree }
+
+-- the tree in a hive of version 1.3 whose last change had the number 5, and which needs no log
+abbrev pub placed : Tree → Woken
+placed tree = record { state = state_of tree 5 V3; dirty = false }
 
 -- boot.ini is empty: the one entry is the system itself, and it is not on LastKnownGood
 abbrev pub first_entry : Option ℕ → Choice
@@ -100,9 +106,9 @@ all_done (suc n) = Finished ∷ all_done n
 -- the report of a script on a disk without cuts and faults
 unfoldable pub report : Tree → List Event → List ℕ
 unfolding digits all_sets is_taken edited usable_numbers_of free_number_of attempt_of unit_text line_text go_steps event_step_of quiet_run_of
-report tree script = text_of (quiet_run_of first_entry script (placed tree) false)
+report tree script = text_of (quiet_run_of first_entry script (placed tree)).lines
 
 -- the run of a script with one boot, where so many operations of the disk are done
 unfoldable pub run_with : Tree → List Event → ℕ → RunResult
 unfolding digits all_sets is_taken edited usable_numbers_of free_number_of attempt_of go_steps event_step_of run_of
-run_with tree script operations = run_of first_entry script (placed tree) (record { state = placed tree; dirty = false } ∷ []) (all_done operations)
+run_with tree script operations = run_of first_entry script (placed tree) (placed tree ∷ []) (all_done operations)

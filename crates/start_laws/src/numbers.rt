@@ -2,13 +2,15 @@
 
 ghost use Rattle.std.specs.Prelude.{◌≡◌, ℕ, Bool, true, false, List, [], ◌∷◌, Some, None, Ok, Err, codes};
 ghost use Rattle.std.specs.List.{range_with_len};
+ghost use Rattle.nt_bytes.specs.declared.version.HiveVersion.TheVariants.{V3};
 ghost use Rattle.hive_model.specs.Tree.{Tree};
+ghost use Rattle.hive_model.specs.Load.{state_of};
 ghost use Rattle.start_model.specs.Lines.{SetLine, SaveRefusedLine, NoNumber};
 ghost use Rattle.start_model.specs.Machine.{Start};
 ghost use Rattle.start_model.specs.Sets.{SelectNumbers, NoFreeNumber, has_number, select_numbers_of, usable_numbers_of, free_number_of, taken_number, begin_plan_of, save_plan_of, begin_of};
 ghost use Rattle.start_model.specs.Run.{RunState, Act, say, settled_at, take_set, end_with, save, noted_saved};
 ghost use Rattle.start_laws.specs.Taken.{AllTaken};
-ghost use Rattle.start_laws.specs.Written.{select, set_with, service, system, report, run_with, lines};
+ghost use Rattle.start_laws.specs.Written.{begun_as, select, set_with, service, system, report, run_with, lines};
 ghost use Rattle.start_laws.specs.TwoSets.{unguarded, disables_the_disk, disk_only, left_behind, new_driver};
 
 /// Where LastKnownGood names the set that is taken, a copy is kept for it, which edits leave alone.
@@ -26,21 +28,16 @@ pub fn a_start_guards_what_it_takes()
         ∷ codes "verdict running"
         ∷ codes "end"
         ∷ []) }
-    ensures kept { (run_with unguarded disables_the_disk 3).disk ≡ settled_at (record {
-      tree = system (disk_only 1 4 ∷ disk_only 2 0 ∷ select 1 1 0 2 ∷ []);
-      sequence = 7;
-    }) }
+    ensures kept { (run_with unguarded disables_the_disk 3).disk ≡ settled_at (state_of
+        (system (disk_only 1 4 ∷ disk_only 2 0 ∷ select 1 1 0 2 ∷ [])) 7 V3) }
 {}
 
 /// A set that one of the numbers named and none names any more is deleted, with or without the guard.
 pub fn a_set_that_no_number_names_retires()
-    ensures alone { begin_of (left_behind 2) false ≡ Ok (1, system (disk_only 1 0 ∷ disk_only 2 0 ∷ select 1 1 0 2 ∷ [])) }
-    ensures guarded { begin_of (left_behind 1) false ≡ Ok (1, system (disk_only 1 0 ∷ disk_only 2 0 ∷ disk_only 4 0 ∷ select 1 1 0 4 ∷ [])) }
-    ensures failed { begin_of new_driver true ≡ Ok (
-      2,
-      system (
-          set_with 1 (service (codes "Disk") 0 1 1 [] ∷ service (codes "New") 0 1 2 [] ∷ []) ∷ disk_only 2 0 ∷ disk_only 3 0 ∷ select 2 2 1 3 ∷ []),
-    ) }
+    ensures alone { begin_of V3 (left_behind 2) false ≡ Ok (begun_as 1 1 1 0 2 (system (disk_only 1 0 ∷ disk_only 2 0 ∷ select 1 1 0 2 ∷ []))) }
+    ensures guarded { begin_of V3 (left_behind 1) false ≡ Ok (begun_as 1 1 1 0 4 (system (disk_only 1 0 ∷ disk_only 2 0 ∷ disk_only 4 0 ∷ select 1 1 0 4 ∷ []))) }
+    ensures failed { begin_of V3 new_driver true ≡ Ok (begun_as 2 2 2 1 3 (system
+        (set_with 1 (service (codes "Disk") 0 1 1 [] ∷ service (codes "New") 0 1 2 [] ∷ []) ∷ disk_only 2 0 ∷ disk_only 3 0 ∷ select 2 2 1 3 ∷ []))) }
 {}
 
 /// Where each number from 1 to 999 names a set, none is free: a start that needs the guard is not begun, and

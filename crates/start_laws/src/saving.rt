@@ -1,6 +1,8 @@
 //! What a good start saves.
 
 ghost use Rattle.std.specs.Prelude.{◌≡◌, [], ◌∷◌, ◌++◌, codes};
+ghost use Rattle.nt_bytes.specs.declared.version.HiveVersion.TheVariants.{V3};
+ghost use Rattle.hive_model.specs.Load.{state_of};
 ghost use Rattle.start_model.specs.Run.{settled_at};
 ghost use Rattle.start_laws.specs.Written.{select, system, report, run_with, lines, first_lines};
 ghost use Rattle.start_laws.specs.TwoSets.{used, two_services, logs_on_and_edits};
@@ -20,8 +22,6 @@ pub fn the_clone_is_saved()
         ∷ codes "verdict good"
         ∷ codes "end"
         ∷ []) }
-    ensures kept { (run_with used logs_on_and_edits 2).disk ≡ settled_at (record {
-      tree = system (two_services 1 ((codes "Tag", 9) ∷ []) ∷ two_services 3 [] ∷ select 1 1 0 3 ∷ []);
-      sequence = 6;
-    }) }
+    ensures kept { (run_with used logs_on_and_edits 2).disk ≡ settled_at (state_of
+        (system (two_services 1 ((codes "Tag", 9) ∷ []) ∷ two_services 3 [] ∷ select 1 1 0 3 ∷ [])) 6 V3) }
 {}

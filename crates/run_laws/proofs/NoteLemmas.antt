@@ -1,0 +1,42 @@
+-- What notes tell, one list behind another.
+use Rattle.std.proofs.Common.{◌≡◌, List, [], ◌∷◌, ◌++◌, refl, ap}
+use Rattle.hive_model.specs.Tree.{Tree}
+use Rattle.start_model.specs.Run.{Possible, Outcome, Note, Woke, Held, Saved, Ordered, Cuts, Ended}
+use Rattle.start_model.specs.Fits.{woke_in, held_in, saved_in}
+use Rattle.run_laws.specs.Told.{ended_in}
+
+pub woke_in-append : (a b : List Note) → woke_in (a ++ b) ≡ woke_in a ++ woke_in b
+woke_in-append [] b = refl
+woke_in-append (Woke p ∷ a) b = ap (λ (ps : List Possible). p ∷ ps) (woke_in-append a b)
+woke_in-append (Held t ∷ a) b = woke_in-append a b
+woke_in-append (Saved t ∷ a) b = woke_in-append a b
+woke_in-append (Ordered x ∷ a) b = woke_in-append a b
+woke_in-append (Cuts ∷ a) b = woke_in-append a b
+woke_in-append (Ended o ∷ a) b = woke_in-append a b
+
+pub held_in-append : (a b : List Note) → held_in (a ++ b) ≡ held_in a ++ held_in b
+held_in-append [] b = refl
+held_in-append (Woke p ∷ a) b = held_in-append a b
+held_in-append (Held t ∷ a) b = ap (λ (ts : List Tree). t ∷ ts) (held_in-append a b)
+held_in-append (Saved t ∷ a) b = held_in-append a b
+held_in-append (Ordered x ∷ a) b = held_in-append a b
+held_in-append (Cuts ∷ a) b = held_in-append a b
+held_in-append (Ended o ∷ a) b = held_in-append a b
+
+pub saved_in-append : (a b : List Note) → saved_in (a ++ b) ≡ saved_in a ++ saved_in b
+saved_in-append [] b = refl
+saved_in-append (Woke p ∷ a) b = saved_in-append a b
+saved_in-append (Held t ∷ a) b = saved_in-append a b
+saved_in-append (Saved t ∷ a) b = ap (λ (ts : List Tree). t ∷ ts) (saved_in-append a b)
+saved_in-append (Ordered x ∷ a) b = saved_in-append a b
+saved_in-append (Cuts ∷ a) b = saved_in-append a b
+saved_in-append (Ended o ∷ a) b = saved_in-append a b
+
+pub ended_in-append : (a b : List Note) → ended_in (a ++ b) ≡ ended_in a ++ ended_in b
+ended_in-append [] b = refl
+ended_in-append (Woke p ∷ a) b = ended_in-append a b
+ended_in-append (Held t ∷ a) b = ended_in-append a b
+ended_in-append (Saved t ∷ a) b = ended_in-append a b
+ended_in-append (Ordered x ∷ a) b = ended_in-append a b
+ended_in-append (Cuts ∷ a) b = ended_in-append a b
+ended_in-append (Ended o ∷ a) b = ap (λ (os : List Outcome). o ∷ os) (ended_in-append a b)
