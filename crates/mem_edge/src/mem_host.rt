@@ -15,6 +15,7 @@ pub struct MemHost {
     alloc: Global,
     pub(crate) files: BTreeMap<String, Vec<u8>>,
     pub(crate) said: Vec<u8>,
+    pub(crate) gets: u64,
     pub(crate) reads: u64,
     pub(crate) writes: u64,
     // how many calls are still to come until the one that fails, that one among them; 0: none is to fail
@@ -32,6 +33,7 @@ impl MemHost {
     pub fn new(alloc: Global) -> MemHost
         ensures files { (q : List ℕ) → files_of result q ≡ None }
         ensures said { result.said.items ≡ [] }
+        ensures gets { result.gets ≡ 0 }
         ensures reads { result.reads ≡ 0 }
         ensures writes { result.writes ≡ 0 }
         ensures no_read { result.fail_read ≡ 0 }
@@ -41,6 +43,7 @@ impl MemHost {
             alloc,
             files: BTreeMap::new(alloc),
             said: Vec::new(alloc),
+            gets: 0,
             reads: 0,
             writes: 0,
             fail_read: 0,
@@ -53,6 +56,7 @@ impl MemHost {
         ensures put { OnOk result (Puts (files_of self.old) (files_of self.new) name.now bytes.now) }
         ensures same { OnErr result (files_of self.new ≡ files_of self.old) }
         ensures said { self.new.said ≡ self.old.said }
+        ensures gets { self.new.gets ≡ self.old.gets }
         ensures reads { self.new.reads ≡ self.old.reads }
         ensures writes { self.new.writes ≡ self.old.writes }
         ensures fail_read { self.new.fail_read ≡ self.old.fail_read }
@@ -71,6 +75,7 @@ impl MemHost {
         ensures other { self.new.fail_write ≡ self.old.fail_write }
         ensures files { self.new.files ≡ self.old.files }
         ensures said { self.new.said ≡ self.old.said }
+        ensures gets { self.new.gets ≡ self.old.gets }
         ensures reads { self.new.reads ≡ self.old.reads }
         ensures writes { self.new.writes ≡ self.old.writes }
     {
@@ -85,6 +90,7 @@ impl MemHost {
         ensures other { self.new.fail_read ≡ self.old.fail_read }
         ensures files { self.new.files ≡ self.old.files }
         ensures said { self.new.said ≡ self.old.said }
+        ensures gets { self.new.gets ≡ self.old.gets }
         ensures reads { self.new.reads ≡ self.old.reads }
         ensures writes { self.new.writes ≡ self.old.writes }
     {
@@ -123,7 +129,7 @@ fn is_due(left: &mut u64) -> bool
 
 impl Host for MemHost {
     ghost use Rattle.std.specs.Prelude.{◌≡◌, ◌++◌, true, IfOk, OnOk, OnErr, IsErrOf};
-    ghost use Rattle.nt_edge.specs.Host.{Puts, KeepsOthers, KeepsHost, KeepsFiles, IsUnsaid, SaysFront, CountsFault};
+    ghost use Rattle.nt_edge.specs.Host.{Puts, KeepsOthers, KeepsHost, KeepsFiles, IsUnsaid, Asks, AsksNone, SaysFront, CountsFault};
     ghost use Rattle.nt_edge.specs.declared.host.HostStop.TheVariants.{Read, Write};
     ghost use Rattle.mem_edge.specs.Hosts.{host_of, FailsRead, FailsWrite, bounded_law};
 
@@ -134,10 +140,12 @@ impl Host for MemHost {
         ensures keeps { KeepsHost (host_of self.old) (host_of self.new) }
         ensures files { KeepsFiles (host_of self.old) (host_of self.new) }
         ensures unsaid { IsUnsaid (host_of self.old) (host_of self.new) }
+        ensures asks { Asks (host_of self.old) (host_of self.new) }
         ensures counts { CountsFault result (host_of self.old) (host_of self.new) }
         ensures never_write { IsErrOf result Write → ⊥ }
         ensures fails { FailsRead result self.old self.new }
     {
+        self.gets = self.gets.saturating_add(1);
         if is_due(&mut self.fail_read) {
             self.reads = self.reads.saturating_add(1);
             return Err(HostStop::Read);
@@ -158,6 +166,7 @@ impl Host for MemHost {
         ensures others { (host_of self.old).tells ≡ true → OnErr result
             (KeepsOthers (host_of self.old).files (host_of self.new).files name.now) }
         ensures unsaid { IsUnsaid (host_of self.old) (host_of self.new) }
+        ensures unasked { AsksNone (host_of self.old) (host_of self.new) }
         ensures counts { CountsFault result (host_of self.old) (host_of self.new) }
         ensures never_read { IsErrOf result Read → ⊥ }
         ensures fails { FailsWrite result self.old self.new }
@@ -179,6 +188,7 @@ impl Host for MemHost {
             (SaysFront (host_of self.old).said (host_of self.new).said bytes.now) }
         ensures keeps { KeepsHost (host_of self.old) (host_of self.new) }
         ensures files { KeepsFiles (host_of self.old) (host_of self.new) }
+        ensures unasked { AsksNone (host_of self.old) (host_of self.new) }
         ensures counts { CountsFault result (host_of self.old) (host_of self.new) }
         ensures never_read { IsErrOf result Read → ⊥ }
         ensures fails { FailsWrite result self.old self.new }

@@ -15,6 +15,7 @@ pub struct QuietHost {
     alloc: Global,
     pub(crate) files: BTreeMap<String, Vec<u8>>,
     pub(crate) said: Vec<u8>,
+    pub(crate) gets: u64,
 }
 
 impl QuietHost {
@@ -27,6 +28,7 @@ impl QuietHost {
             alloc,
             files: BTreeMap::new(alloc),
             said: Vec::new(alloc),
+            gets: 0,
         }
     }
 
@@ -35,6 +37,7 @@ impl QuietHost {
         ensures put { OnOk result (Puts (quiet_files_of self.old) (quiet_files_of self.new) name.now bytes.now) }
         ensures same { OnErr result (quiet_files_of self.new ≡ quiet_files_of self.old) }
         ensures said { self.new.said ≡ self.old.said }
+        ensures gets { self.new.gets ≡ self.old.gets }
     {
         let name = String::from_str(self.alloc, name)?;
         let bytes = Vec::from_slice(self.alloc, bytes)?;
@@ -64,6 +67,7 @@ impl Host for QuietHost {
     ghost state = { quiet_host_of };
 
     fn get(&mut self, name: &str) -> Result<Option<Bytes>, HostStop> {
+        self.gets = self.gets.saturating_add(1);
         match self.files.get(name) {
             None => Ok(None),
             Some(bytes) => match Bytes::from_slice(self.alloc, bytes) {

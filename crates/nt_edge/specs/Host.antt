@@ -1,5 +1,5 @@
 -- What a host is at a moment: its files, and what was said to it; and what its calls leave. (This project's own.)
-use Rattle.std.specs.Prelude.{◌≡◌, ◌⊎◌, ◌<◌, ◌≤◌, ◌++◌, ℕ, Bool, true, List, Option, Some, if◌then◌else◌}
+use Rattle.std.specs.Prelude.{◌≡◌, ◌⊎◌, ◌<◌, ◌≤◌, ◌+◌, ◌++◌, min, ℕ, Bool, true, List, Option, Some, if◌then◌else◌}
 use Rattle.std.specs.Prelude.{bytes_eq, Result, Ok, Err}
 use Rattle.nt_edge.specs.declared.host.HostStop.{HostStop}
 use Rattle.nt_edge.specs.declared.host.HostStop.TheVariants.{Read, Write, Memory}
@@ -13,13 +13,14 @@ abbrev pub Files : Type 0
 Files = List ℕ → Option (List ℕ)
 
 -- A host at a moment: whether it tells its files and what was said to it; whether it refuses no call from now on
--- but for want of memory; the files; what was said so far; how many faults there were in reading, and in writing
--- a file or saying something.
+-- but for want of memory; the files; what was said so far; how often a file was asked for; how many faults there were
+-- in reading, and in writing a file or saying something.
 pub record HostState : Type 0 where
   pub tells : Bool
   pub quiet : Bool
   pub files : Files
   pub said : List ℕ
+  pub gets : ℕ
   pub reads : ℕ
   pub writes : ℕ
 
@@ -37,6 +38,14 @@ pub record SaysFront (old new text : List ℕ) : Type 0 where
   pub rest : List ℕ
   pub cut : text ≡ front ++ rest
   pub said : new ≡ old ++ front
+
+-- a file was asked for once more, up to the end of the count
+abbrev pub Asks : HostState → HostState → Type 0
+Asks old new = new.gets ≡ min (old.gets + 1) 18446744073709551615
+
+-- no file was asked for
+abbrev pub AsksNone : HostState → HostState → Type 0
+AsksNone old new = new.gets ≡ old.gets
 
 -- whether the host tells stays, and one that is quiet stays quiet
 pub record KeepsHost (old new : HostState) : Type 0 where

@@ -1,7 +1,7 @@
 //! A host of files, to which a report is said.
 
 ghost use Rattle.std.specs.Prelude.{◌≡◌, ◌++◌, true, IfOk, OnOk, OnErr, IsErrOf};
-ghost use Rattle.nt_edge.specs.Host.{HostState, Puts, KeepsOthers, KeepsHost, KeepsFiles, IsUnsaid, SaysFront, CountsFault, IsWithinEnds};
+ghost use Rattle.nt_edge.specs.Host.{HostState, Puts, KeepsOthers, KeepsHost, KeepsFiles, IsUnsaid, Asks, AsksNone, SaysFront, CountsFault, IsWithinEnds};
 ghost use Rattle.nt_edge.specs.declared.host.HostStop.TheVariants.{Read, Write};
 
 use nt_bytes::Bytes;
@@ -30,6 +30,7 @@ pub trait Host {
         ensures keeps { KeepsHost (state self.old) (state self.new) }
         ensures files { KeepsFiles (state self.old) (state self.new) }
         ensures unsaid { IsUnsaid (state self.old) (state self.new) }
+        ensures asks { Asks (state self.old) (state self.new) }
         ensures counts { CountsFault result (state self.old) (state self.new) }
         ensures never_write { IsErrOf result Write → ⊥ };
 
@@ -41,6 +42,7 @@ pub trait Host {
         ensures others { (state self.old).tells ≡ true → OnErr result
             (KeepsOthers (state self.old).files (state self.new).files name.now) }
         ensures unsaid { IsUnsaid (state self.old) (state self.new) }
+        ensures unasked { AsksNone (state self.old) (state self.new) }
         ensures counts { CountsFault result (state self.old) (state self.new) }
         ensures never_read { IsErrOf result Read → ⊥ };
 
@@ -52,6 +54,7 @@ pub trait Host {
             (SaysFront (state self.old).said (state self.new).said bytes.now) }
         ensures keeps { KeepsHost (state self.old) (state self.new) }
         ensures files { KeepsFiles (state self.old) (state self.new) }
+        ensures unasked { AsksNone (state self.old) (state self.new) }
         ensures counts { CountsFault result (state self.old) (state self.new) }
         ensures never_read { IsErrOf result Read → ⊥ };
 
