@@ -1,0 +1,19 @@
+-- Acts of the book with what follows left open. (this project's own)
+use Rattle.std.specs.Prelude.{false}
+use Rattle.start_model.specs.Run.{Act, RunState, Woken, Outcome, Finished, PowerCut, DeviceFault, ask, say, mark, wake, Held, woken_at, woken_state, loaded_state, end_with}
+use Rattle.start_model.specs.Lines as lines
+use Rattle.start_model.specs.Lines.{LoadLine}
+
+-- the hive was loaded, its line is said, and the run goes on; or the load was stopped, and the start ends
+abbrev pub loaded : RunState → (RunState → Act) → Woken → Outcome → Act
+loaded m next w Finished = say (LoadLine w.state.sequence w.dirty) (next (loaded_state m w))
+loaded m next w PowerCut = end_with lines.Cut false (woken_state m w)
+loaded m next w DeviceFault = end_with lines.Device false (woken_state m w)
+
+-- the disk is turned on
+abbrev pub woken : RunState → (RunState → Act) → Woken → Act
+woken m next w = mark (Held w.state.tree) (ask (woken_at w) (loaded m next w))
+
+-- a load: the disk wakes up, and then is asked for the hive
+abbrev pub load : RunState → (RunState → Act) → Act
+load m next = wake m.disk (woken m next)

@@ -1,0 +1,5 @@
+pub mod Hosts
+pub mod Views
+pub mod Acts
+pub mod Choices
+pub mod Ends

@@ -1,0 +1,35 @@
+-- The values of the code as those of the book.
+use Rattle.std.specs.Prelude.{option_map, Result}
+use Rattle.nt_edge.specs.Disk.{DiskState}
+use Rattle.nt_edge.specs.Host.{HostState}
+use Rattle.start_model.specs.Summary as book
+use Rattle.boot_report.specs.Report.{verdict_of}
+use Rattle.start_model.specs.Run.{Act}
+use Rattle.run_parts.specs.Parts.{Told, PlaysOr}
+use Rattle.boot_run.specs.declared.summary.Summary.{Summary}
+use Rattle.boot_run.specs.declared.runner.Runner.{Runner}
+use Rattle.boot_run.specs.declared.stop.RunStop.{RunStop}
+
+abbrev pub summary_in : Summary → book.Summary
+summary_in s = record { started = s.started; failed = s.failed; unmet = s.unmet; verdict = option_map verdict_of s.verdict; sequence = s.sequence }
+
+-- what a host was told, counted so
+abbrev pub told_by : HostState → Summary → Told
+told_by host summary = record { said = host.said; summary = summary_in summary }
+
+-- what was told through the runner
+abbrev pub told_in : HostState → Runner → Told
+told_in host runner = told_by host runner.summary
+
+-- a run at a moment: what was told, and the disk
+pub record Moment : Type 0 where
+  pub told : Told
+  pub disk : DiskState
+
+-- the moment of this host, runner and disk
+abbrev pub moment : HostState → Runner → DiskState → Moment
+moment host runner disk = record { told = told_in host runner; disk = disk }
+
+-- from the one moment to the other the act was played up to a rest, of which more is known; or it was given up
+abbrev pub RunsTo : {T : Type 0} → Act → Moment → Moment → Result T RunStop → (T → Act → Type 0) → Type 0
+RunsTo act old new result Left = PlaysOr act old.told new.told old.disk new.disk result Left

@@ -1,0 +1,38 @@
+//! A start ends.
+
+ghost use Rattle.std.specs.Prelude.{◌≡◌, true};
+ghost use Rattle.start_model.specs.Lines.{VerdictLine};
+ghost use Rattle.start_model.specs.Machine.{ended};
+ghost use Rattle.boot_report.specs.Report.{verdict_of};
+ghost use Rattle.boot_machine.specs.Steps.{falls_back};
+ghost use Rattle.nt_edge.specs.Bench.{turned_off};
+ghost use Rattle.run_parts.specs.Parts.{TellsOr};
+ghost use Rattle.boot_run.specs.Hosts.{LeavesHost};
+ghost use Rattle.boot_run.specs.Views.{told_by, told_in};
+
+use crate::runner::Runner;
+use crate::saying::say;
+use crate::stop::RunStop;
+use boot_report::{Line, Verdict};
+use nt_edge::{Bench, Host};
+use std::alloc::Global;
+
+/// The disk is turned off, the start is over, and its verdict is said.
+pub(crate) fn end_with<H: Host, B: Bench>(
+    alloc: Global,
+    word: Verdict,
+    runner: &mut Runner,
+    host: &mut H,
+    bench: &mut B,
+) -> Result<(), RunStop>
+    ensures tells { (H.state host.old).tells ≡ true
+        → TellsOr (VerdictLine (verdict_of word)) (told_in (H.state host.old) runner.old) (told_in (H.state host.new) runner.new) result }
+    ensures machine { runner.new.machine ≡ ended (falls_back (verdict_of word)) runner.old.machine }
+    ensures starts { runner.new.starts ≡ runner.old.starts }
+    ensures off { B.state bench.new ≡ turned_off (B.state bench.old) }
+    ensures host { LeavesHost result (H.state host.old) (H.state host.new) }
+{
+    bench.power_off();
+    runner.machine.end(word);
+    say(alloc, host, &mut runner.summary, Line::Verdict { word })
+}

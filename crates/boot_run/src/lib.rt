@@ -1,0 +1,18 @@
+//! The run of a script on a disk: each start begins from what the disk then loads as.
+//!
+//! `run` plays the events in order over any host and any bench, and says each line at once, behind the step that it tells of.
+//! What was said is the report of the book's run on what the disk woke up with; at a refusal it is a front of it. Rules:
+//! docs/startup.md, "The order of a start" and "The script"; docs/texts.md, "The report".
+#![tactic(auto)]
+
+mod ending;
+mod paths;
+mod runner;
+mod saying;
+mod stop;
+mod summary;
+mod words;
+
+pub use runner::Runner;
+pub use stop::RunStop;
+pub use summary::Summary;

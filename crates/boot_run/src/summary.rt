@@ -1,0 +1,60 @@
+//! What the lines of a report come to.
+
+ghost use Rattle.std.specs.Prelude.{◌≡◌};
+ghost use Rattle.boot_report.specs.Report.{line_of, try_of};
+ghost use Rattle.start_model.specs.Summary as book;
+ghost use Rattle.boot_run.specs.Views.{summary_in};
+
+use boot_report::{Line, TryWord, Verdict};
+
+/// The lines of a report, counted: each count ends at 4,294,967,295 and stays there.
+#[derive(Clone, Copy, Debug, PartialEq, Eq)]
+pub struct Summary {
+    /// Attempts that went well.
+    pub started: u32,
+    /// Attempts that failed.
+    pub failed: u32,
+    /// Entries that were unmet at the end of a phase.
+    pub unmet: u32,
+    /// The last start's verdict; none before the first.
+    pub verdict: Option<Verdict>,
+    /// The sequence number of the last load or commit, 0 before the first.
+    pub sequence: u32,
+}
+
+impl Summary {
+    /// That of a report without a line.
+    pub fn new() -> Summary
+        ensures { summary_in result ≡ book.no_summary }
+    {
+        Summary {
+            started: 0,
+            failed: 0,
+            unmet: 0,
+            verdict: None,
+            sequence: 0,
+        }
+    }
+
+    /// Counts one more line.
+    pub(crate) fn count(&mut self, line: &Line)
+        ensures { summary_in self.new ≡ book.with_line (summary_in self.old) (line_of line.now) }
+    {
+        match line {
+            Line::Load { sequence, .. } | Line::Commit { sequence, .. } => self.sequence = *sequence,
+            Line::Try { outcome, .. } => self.count_try(*outcome),
+            Line::Unmet { .. } => self.unmet = self.unmet.saturating_add(1),
+            Line::Verdict { word } => self.verdict = Some(*word),
+            _ => {}
+        }
+    }
+
+    fn count_try(&mut self, outcome: TryWord)
+        ensures { summary_in self.new ≡ book.with_try (try_of outcome) (summary_in self.old) }
+    {
+        match outcome {
+            TryWord::Ok => self.started = self.started.saturating_add(1),
+            _ => self.failed = self.failed.saturating_add(1),
+        }
+    }
+}

@@ -1,0 +1,126 @@
+//! The words of the report for what the machine, the tree and the script say.
+
+ghost use Rattle.std.specs.Prelude.{◌≡◌, option_map};
+ghost use Rattle.boot_machine.specs.Views.{event_in, refusal_in, tried_in};
+ghost use Rattle.boot_phases.specs.Phases.{phase_in};
+ghost use Rattle.boot_report.specs.Report.{event_of, refused_of, phase_of, try_of, verdict_of, line_of};
+ghost use Rattle.reg_tree.specs.Makes.{refusal_of};
+ghost use Rattle.start_model.specs.Run.{event_word_of, phase_line, try_line, select_line, reason_of};
+ghost use Rattle.start_model.specs.Lines.{PhaseLine, TryLine};
+ghost use Rattle.boot_run.specs.Ends.{EndsAs, missing};
+
+use boot_machine::{Phase, Refusal, Tried};
+use boot_report::{EventWord, Line, PhaseWord, RefusedWord, TryWord, Verdict};
+use boot_script::Event;
+use error_control::Judgement;
+use reg_tree::EditStop;
+use select_keys::SelectNumbers;
+
+/// The first word of the event's line.
+pub(crate) fn event_word(event: &Event) -> EventWord
+    ensures { event_of result ≡ event_word_of (event_in event.now) }
+{
+    match event {
+        Event::Boot { .. } => EventWord::Boot,
+        Event::Go { .. } => EventWord::Go,
+        Event::Fail { .. } => EventWord::Fail,
+        Event::Set { .. } => EventWord::Set,
+        Event::Delete { .. } => EventWord::Delete,
+        Event::Make { .. } => EventWord::Make,
+        Event::Remove { .. } => EventWord::Remove,
+        Event::Flush => EventWord::Flush,
+        Event::Logon => EventWord::Logon,
+        Event::Off => EventWord::Off,
+        Event::CutNow { .. } | Event::ArmCut { .. } => EventWord::Cut,
+        Event::ArmFault { .. } => EventWord::Fault,
+    }
+}
+
+pub(crate) fn refused_word(refusal: Refusal) -> RefusedWord
+    ensures { refused_of result ≡ refusal_in refusal }
+{
+    match refusal {
+        Refusal::Off => RefusedWord::Off,
+        Refusal::Running => RefusedWord::Running,
+        Refusal::Early => RefusedWord::Early,
+        Refusal::Again => RefusedWord::Again,
+        Refusal::Idle => RefusedWord::Idle,
+        Refusal::Protected => RefusedWord::Protected,
+    }
+}
+
+/// The word of an edit's refusal; none for want of memory.
+pub(crate) fn edit_word(stop: EditStop) -> Option<RefusedWord>
+    ensures { option_map refused_of result ≡ option_map reason_of (refusal_of stop) }
+{
+    match stop {
+        EditStop::NoKey => Some(RefusedWord::NoKey),
+        EditStop::NoValue => Some(RefusedWord::NoValue),
+        EditStop::BadName | EditStop::Exists => Some(RefusedWord::BadName),
+        EditStop::NameTooLong => Some(RefusedWord::NameTooLong),
+        EditStop::TooDeep => Some(RefusedWord::TooDeep),
+        EditStop::DataTooLong => Some(RefusedWord::DataTooLong),
+        EditStop::Full => Some(RefusedWord::Full),
+        EditStop::Memory => None,
+    }
+}
+
+pub(crate) fn phase_word(phase: Phase) -> PhaseWord
+    ensures { PhaseLine (phase_of result) ≡ phase_line (phase_in phase) }
+{
+    match phase {
+        Phase::Boot => PhaseWord::Boot,
+        Phase::System => PhaseWord::System,
+        Phase::Automatic => PhaseWord::Automatic,
+        Phase::Done => PhaseWord::Done,
+    }
+}
+
+/// How an attempt went.
+pub(crate) fn try_word(tried: &Tried) -> TryWord
+    ensures { TryLine tried.now.name (try_of result) ≡ try_line (tried_in tried.now) }
+{
+    if tried.ok {
+        return TryWord::Ok;
+    }
+    match tried.judgement {
+        Judgement::Ignore => TryWord::Ignored,
+        Judgement::Log => TryWord::Logged,
+        Judgement::FallBack => TryWord::FallBack,
+        Judgement::Stop => TryWord::Stop,
+    }
+}
+
+/// The verdict with which an attempt ends its start, if it does.
+pub(crate) fn verdict_after(tried: &Tried) -> Option<Verdict>
+    ensures { EndsAs result tried.now.judgement }
+{
+    match tried.judgement {
+        Judgement::Ignore | Judgement::Log => None,
+        Judgement::FallBack => Some(Verdict::FallBack),
+        Judgement::Stop => Some(Verdict::Stopped),
+    }
+}
+
+/// The verdict where no set is there to be taken.
+pub(crate) fn missing(on_good: bool) -> Verdict
+    ensures { verdict_of result ≡ missing on_good }
+{
+    if on_good {
+        Verdict::NoLastKnownGood
+    } else {
+        Verdict::NoControlSet
+    }
+}
+
+/// The line of the four numbers.
+pub(crate) fn select_line(numbers: SelectNumbers) -> Line
+    ensures { line_of result ≡ select_line numbers }
+{
+    Line::Select {
+        current: numbers.current,
+        default: numbers.default,
+        failed: numbers.failed,
+        good: numbers.good,
+    }
+}
