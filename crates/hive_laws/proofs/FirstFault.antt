@@ -1,6 +1,7 @@
 -- An image of whole sectors has one first fault at most, and loads where it has none.
 use Rattle.std.proofs.Common.{◌≡◌, ◌⊎◌, ◌≤◌, inl, inr, Bool, List, length, Option, Some, None, Result, Ok, Err, refl, sym, ◌∙◌, ap, subst}
 use Rattle.nt_bytes.specs.declared.fault.HiveFault.{HiveFault}
+use Rattle.hive_model.specs.Base.{version_of}
 use Rattle.hive_model.specs.Bins.{Bin, IsBins, BinsFault, look_up}
 use Rattle.hive_model.specs.Image.{Image}
 use Rattle.hive_model.specs.Load.{Loads, HeldFault, LoadFault}
@@ -31,7 +32,7 @@ held_one r f g small (inl b) (inr w) = absurd (not_both r.bins w.bins f w.cells.
 held_one r f g small (inr v) (inl c) = absurd (not_both r.bins v.bins g v.cells.0 v.cells.1 c)
 held_one r f g small (inr v) (inr w) =
     let bins : v.bins ≡ w.bins = one_list v.bins w.bins v.cells.0 w.cells.0 (sym v.cells.1 ∙ w.cells.1) in
-    some_same f g (first_fault (look_up w.bins) r.base.root) (sym (ap (λ (bs : List Bin). first_fault (look_up bs) r.base.root) bins) ∙ v.first) w.first
+    some_same f g (first_fault (look_up (version_of r.base.minor) w.bins) r.base.root) (sym (ap (λ (bs : List Bin). first_fault (look_up (version_of r.base.minor) bs) r.base.root) bins) ∙ v.first) w.first
 
 pub one_first : (image : Image) (f g : HiveFault) → HasWholeSectors image → LoadFault image f → LoadFault image g → f ≡ g
 one_first image f g whole (inl a) (inl b) = err_same f g (recovered_of image) a b
@@ -47,18 +48,18 @@ LoadsOrNot image = ((state : HiveState) × (dirty : Bool) × Loads image state d
 pub loads_or_not : (image : Image) → HasWholeSectors image → HasBytes image → LoadsOrNot image
 loads_or_not image whole small = here (recovered_of image) refl
   where
-    walked : (r : Recovered) → recovered_of image ≡ Ok r → (bins : List Bin) → IsBins r.bins bins → (o : Option HiveFault) → first_fault (look_up bins) r.base.root ≡ o → LoadsOrNot image
+    walked : (r : Recovered) → recovered_of image ≡ Ok r → (bins : List Bin) → IsBins r.bins bins → (o : Option HiveFault) → first_fault (look_up (version_of r.base.minor) bins) r.base.root ≡ o → LoadsOrNot image
     walked r e bins is None none =
-        let stands = stands-where-none-fails (look_up bins) r.base.root none in
+        let stands = stands-where-none-fails (look_up (version_of r.base.minor) bins) r.base.root none in
         inl (
-          record { tree = stands.0; sequence = r.base.first },
+          record { tree = stands.0; sequence = r.base.first; version = version_of r.base.minor },
           r.dirty,
-          record { recovered = r; read = e; was_dirty = refl; holds = record { bins = bins; cells = is; tree = stands.1; sequence = refl } },
+          record { recovered = r; read = e; was_dirty = refl; holds = record { bins = bins; cells = is; tree = stands.1; sequence = refl; version = refl } },
         )
     walked r e bins is (Some f) fails = inr (f, inr (r, e, inr (record { bins = bins; cells = is; first = fails })))
 
     judged : (r : Recovered) → recovered_of image ≡ Ok r → ((bins : List Bin) × IsBins r.bins bins) ⊎ ((f : HiveFault) × BinsFault r.bins f) → LoadsOrNot image
-    judged r e (inl is) = walked r e is.0 is.1 (first_fault (look_up is.0) r.base.root) refl
+    judged r e (inl is) = walked r e is.0 is.1 (first_fault (look_up (version_of r.base.minor) is.0) r.base.root) refl
     judged r e (inr fails) = inr (fails.0, inr (r, e, inl fails.1))
 
     here : (o : Result Recovered HiveFault) → recovered_of image ≡ o → LoadsOrNot image

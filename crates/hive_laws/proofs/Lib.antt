@@ -15,3 +15,4 @@ pub mod FileSectors
 pub mod ReadBack
 pub mod FullHives
 pub mod WrittenLists
+pub mod SecurityRead

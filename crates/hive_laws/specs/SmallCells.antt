@@ -53,19 +53,23 @@ family child_count first second name = record {
 } ∷ []
 
 -- One bin. At 32 a root `R` with a descriptor at this offset; at 120 its list; at 136 a child `A` with a descriptor, and a class
--- of two bytes, at these offsets; at 224 a security cell; at 256 a cell of bytes; at 272 a free cell.
-unfoldable pub kin : ℕ → ℕ → ℕ → List Bin
-kin root_security security class = record {
+-- of two bytes, at these offsets; at 224 a security cell with this count; at 256 a cell of bytes; at 272 a free cell.
+unfoldable pub kin_used : ℕ → ℕ → ℕ → ℕ → List Bin
+kin_used uses root_security security class = record {
   ignored = replicate 20 0;
   cells =
       used_cell (key_node_text (record (plain_node 32 (codes "R") 1 120) { security = root_security }))
       ∷ used_cell (li_text (136 ∷ []))
       ∷ used_cell (key_node_text (record (plain_node 32 (codes "A") 0 nowhere) { security = security; class = class; class_length = 2 }))
-      ∷ used_cell (security_text (plain_security (1 ∷ 2 ∷ [])))
+      ∷ used_cell (security_text (record (plain_security (1 ∷ 2 ∷ [])) { uses = uses }))
       ∷ used_cell (0x41 ∷ 0 ∷ [])
       ∷ record { used = false; payload = replicate 3820 0 }
       ∷ [];
 } ∷ []
+
+-- the same where the count is one
+abbrev pub kin : ℕ → ℕ → ℕ → List Bin
+kin root_security security class = kin_used 1 root_security security class
 
 -- cells without end: at each place of a step of 16 a key `K`, whose list stands 8 further and names the next place
 unfoldable pub endless : HiveVersion → Cells

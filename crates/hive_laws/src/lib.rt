@@ -14,6 +14,7 @@ mod footprints;
 mod forms;
 mod heaps;
 mod images;
+mod in_place;
 mod loads;
 mod logs;
 mod looking;
@@ -46,6 +47,7 @@ pub use images::{
     a_longer_flight_allows_more, a_write_is_kept_or_lost_by_itself,
     nothing_in_flight_leaves_what_is_held,
 };
+pub use in_place::{a_count_goes_up_and_down, cells_keep_themselves, keys_are_counted};
 pub use loads::{
     bins_of_one_driver, forms_of_one_driver, one_driver_loads, uses_of_one_driver,
     values_of_one_driver,
