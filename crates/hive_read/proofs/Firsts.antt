@@ -1,5 +1,5 @@
 -- A walk stops at the first fault of its checks.
-use Rattle.std.proofs.Common.{◌≡◌, ℕ, Bool, true, false, not, cond, eqb, ◌&&◌, ◌||◌, List, [], ◌∷◌, ◌++◌, Option, Some, None, Result, Ok, Err, refl, sym, ap, subst, ◌∙◌}
+use Rattle.std.proofs.Common.{◌≡◌, ℕ, Bool, true, false, not, cond, eqb, ◌&&◌, ◌||◌, List, [], ◌∷◌, ◌++◌, Option, Some, None, Result, Ok, Err, refl, sym, ap, ◌∙◌}
 use Rattle.std.specs.List.{list_any}
 use Rattle.std.specs.Ordering.{nat_cmp}
 use Rattle.std.specs.Cmp.{nat_cmp_total, unsigned_ties}
@@ -64,7 +64,7 @@ walk-first cells seen before [] h = refl
 walk-first cells seen before (tests at None ∷ cs) h = walk-first cells seen (before ++ tests at None ∷ []) cs (remembers-tests seen before at None h)
 walk-first cells seen before (tests at (Some k) ∷ cs) h = refl
 walk-first cells seen before (uses at s ∷ cs) h =
-    turn (cells at) (clashes (map.get seen at) s) refl (sym (h at s)) (λ fresh. walk-first cells (map.insert seen at s) (before ++ uses at s ∷ []) cs (remembers-uses seen before at s fresh h))
+    turn (cells.payload at) (clashes (map.get seen at) s) refl (sym (h at s)) (λ fresh. walk-first cells (map.insert seen at s) (before ++ uses at s ∷ []) cs (remembers-uses seen before at s fresh h))
   where
     turn : (p : Result (List ℕ) HiveKind) (b : Bool) → clashes (map.get seen at) s ≡ b → list_any (clash at s) before ≡ clashes (map.get seen at) s
         → (clashes (map.get seen at) s ≡ false → Agrees (walk cells (map.insert seen at s) cs) (first_among cells (before ++ uses at s ∷ []) cs))

@@ -1,6 +1,6 @@
 -- Walks over the checks of keys.
-use Rattle.std.proofs.Common.{◌≡◌, ℕ, zero, suc, ◌+◌, ◌-◌, ◌<◌, Bool, true, false, not, ◌&&◌, eqb, cond, List, [], ◌∷◌, ◌++◌, map, length, Option, Some, None, Result, Ok, Err, refl, sym, ap, subst, ◌∙◌, append_assoc, eq-eqb, arith}
-use Rattle.std.specs.Prelude.{MatchBool, ◌==◌, if◌then◌else◌}
+use Rattle.std.proofs.Common.{◌≡◌, ℕ, zero, suc, ◌-◌, ◌<◌, Bool, true, false, not, ◌&&◌, cond, List, [], ◌∷◌, ◌++◌, map, length, Result, Ok, Err, refl, sym, ap, subst, ◌∙◌, append_assoc, eq-eqb, arith}
+use Rattle.std.specs.Prelude.{◌==◌, if◌then◌else◌}
 use Rattle.std.proofs.lemmas.List.{map_push}
 use Rattle.nt_bytes.specs.declared.fault.HiveKind.{HiveKind}
 use Rattle.nt_bytes.specs.declared.fault.HiveKind.TheVariants.{FormName, TooDeep, Count}
@@ -45,7 +45,7 @@ done n = Ok n
 -- a node that may stand where it does is a node
 pub node-plain : (root : Bool) (cells : Cells) (at : ℕ) (node : KeyNode) → reading (node_at root) cells at ≡ Ok node → reading key_node_at cells at ≡ Ok node
 unfolding node_at
-node-plain root cells at node e = payload (cells at) e
+node-plain root cells at node e = payload (cells.payload at) e
   where
     named-so : (b : Bool) (n : KeyNode) → cond b (Err FormName) (Ok n) ≡ Ok node → done n ≡ Ok node
     named-so true n e = absurd cc

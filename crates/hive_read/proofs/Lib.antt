@@ -1,8 +1,9 @@
-pub mod Marks
+pub mod MarkLemmas
 pub mod TakenLemmas
 pub mod Walks
 pub mod ValueWalks
 pub mod ListWalks
+pub mod BigWalks
 pub mod KeyWalks
 pub mod Apart
 pub mod Passing

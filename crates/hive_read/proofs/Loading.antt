@@ -1,15 +1,14 @@
 -- An image loads as one state at most, and has then no first fault.
-use Rattle.std.proofs.Common.{◌≡◌, ℕ, Bool, List, Option, Some, None, Result, Ok, Err, inl, inr, refl, sym, ap, subst, ◌∙◌}
-use Rattle.std.specs.Prelude.{◌⊎◌}
+use Rattle.std.proofs.Common.{◌≡◌, ℕ, Bool, List, Option, Some, None, Result, Ok, Err, inl, inr, sym, ap, subst, ◌∙◌}
 use Rattle.nt_bytes.specs.declared.fault.HiveFault.{HiveFault}
 use Rattle.hive_model.specs.Image.{Image}
-use Rattle.hive_model.specs.Bins.{Bin, Cells, IsHeap, IsBins, BinsFault, spelled, look_up}
-use Rattle.hive_model.specs.Tree.{Tree}
+use Rattle.hive_model.specs.Base.{version_of}
+use Rattle.hive_model.specs.Bins.{Bin, IsHeap, IsBins, BinsFault, spelled, look_up}
 use Rattle.hive_model.specs.Recovery.{Recovered, recovered_of}
 use Rattle.hive_model.specs.Walk.{first_fault}
 use Rattle.hive_model.specs.Stands.{IsWellFormed}
 use Rattle.hive_model.specs.State.{HiveState}
-use Rattle.hive_model.specs.Load.{Holds, WalkFault, HeldFault, Loads, LoadFault}
+use Rattle.hive_model.specs.Load.{Holds, HeldFault, Loads, LoadFault}
 use Rattle.hive_read.proofs.One.{one_stands}
 use Rattle.hive_read.proofs.Wellformed.{well-formed-passes}
 
@@ -32,10 +31,11 @@ bins-one one text xs ys h g = one xs ys h.0 g.0 (sym h.1 ∙ g.1)
 holds-one : OneList → (r : Recovered) (s u : HiveState) → Holds r s → Holds r u → s ≡ u
 holds-one one r s u h g =
     let bins : h.bins ≡ g.bins = bins-one one r.bins h.bins g.bins h.cells g.cells in
-    let moved : IsWellFormed (look_up g.bins) r.base.root s.tree = subst (λ (bs : List Bin). IsWellFormed (look_up bs) r.base.root s.tree) bins h.tree in
-    let tree : s.tree ≡ u.tree = one_stands (look_up g.bins) r.base.root s.tree u.tree moved.stands g.tree.stands in
+    let moved : IsWellFormed (look_up (version_of r.base.minor) g.bins) r.base.root s.tree = subst (λ (bs : List Bin). IsWellFormed (look_up (version_of r.base.minor) bs) r.base.root s.tree) bins h.tree in
+    let tree : s.tree ≡ u.tree = one_stands (look_up (version_of r.base.minor) g.bins) r.base.root s.tree u.tree moved.stands g.tree.stands in
     let sequence : s.sequence ≡ u.sequence = h.sequence ∙ sym g.sequence in
-    λ i. record { tree = tree i; sequence = sequence i }
+    let version : s.version ≡ u.version = h.version ∙ sym g.version in
+    λ i. record { tree = tree i; sequence = sequence i; version = version i }
 
 pub one-load : OneList → (image : Image) (s u : HiveState) (d e : Bool) → Loads image s d → Loads image u e → (s ≡ u) × (d ≡ e)
 one-load one image s u d e h g =
@@ -49,9 +49,9 @@ held-sound : OneList → ListOrFault → (r : Recovered) (s : HiveState) (fault 
 held-sound one either r s fault h (inl b) = either h.bins fault h.cells.0 (subst (λ (t : List ℕ). BinsFault t fault) h.cells.1 b)
 held-sound one either r s fault h (inr w) =
     let bins : h.bins ≡ w.bins = bins-one one r.bins h.bins w.bins h.cells w.cells in
-    let passes : first_fault (look_up w.bins) r.base.root ≡ None = subst (λ (bs : List Bin). first_fault (look_up bs) r.base.root ≡ None) bins (well-formed-passes (look_up h.bins) r.base.root s.tree h.tree) in
-    let fails : first_fault (look_up w.bins) r.base.root ≡ some fault = w.first in
-    none-some (first_fault (look_up w.bins) r.base.root) fault passes fails
+    let passes : first_fault (look_up (version_of r.base.minor) w.bins) r.base.root ≡ None = subst (λ (bs : List Bin). first_fault (look_up (version_of r.base.minor) bs) r.base.root ≡ None) bins (well-formed-passes (look_up (version_of r.base.minor) h.bins) r.base.root s.tree h.tree) in
+    let fails : first_fault (look_up (version_of r.base.minor) w.bins) r.base.root ≡ some fault = w.first in
+    none-some (first_fault (look_up (version_of r.base.minor) w.bins) r.base.root) fault passes fails
   where
     none-some : (o : Option HiveFault) (f : HiveFault) → o ≡ None → o ≡ some f → ⊥
     none-some o f e g = cc

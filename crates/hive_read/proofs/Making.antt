@@ -1,5 +1,5 @@
 -- Where all checks pass, a tree stands, with names apart and not too many levels.
-use Rattle.std.proofs.Common.{◌≡◌, ℕ, zero, suc, ◌<◌, ◌≤◌, Bool, true, false, not, ◌&&◌, eqb, cond, List, [], ◌∷◌, ◌++◌, length, Option, Some, None, Result, Ok, Err, refl, sym, ap, subst, ◌∙◌, arith}
+use Rattle.std.proofs.Common.{◌≡◌, ℕ, zero, suc, ◌-◌, ◌<◌, ◌≤◌, Bool, true, false, not, ◌&&◌, eqb, cond, List, [], ◌∷◌, ◌++◌, length, Option, Some, None, Result, Ok, Err, refl, ap, subst, ◌∙◌, arith}
 use Rattle.std.specs.Prelude.{MatchBool, ◌==◌, is_some, if◌then◌else◌}
 use Rattle.std.specs.List.{All, AllPairs, list_any}
 use Rattle.std.proofs.lemmas.List.Elements.{All-cons, All-nil}
@@ -7,14 +7,17 @@ use Rattle.std.proofs.lemmas.Bool.{eqb-true}
 use Rattle.nt_bytes.specs.Folding.{folds_same}
 use Rattle.nt_bytes.specs.declared.fault.HiveKind.{HiveKind}
 use Rattle.nt_bytes.specs.declared.fault.HiveKind.TheVariants.{FormName, DoubleName, Count}
-use Rattle.hive_model.specs.Forms.{◌>>=◌, KeyNode, key_node_at, KeyValue, key_value_at, data_inside, bytes_in, security_at, SecurityCell, SubkeyList, list_at, offsets_in}
+use Rattle.hive_model.specs.Forms.{◌>>=◌, KeyNode, key_node_at, KeyValue, key_value_at, data_inside, bytes_in, security_at, SubkeyList, list_at, offsets_in}
 use Rattle.hive_model.specs.Bins.{Cells}
-use Rattle.hive_model.specs.Tree.{Tree, key, trees, listed, Head, head, Item}
-use Rattle.hive_model.specs.Walk.{Check, tests, reading, nowhere, node_at, leaf_at, is_list_of_lists, joined_at, entries_of, entries_at, below_of, use_as, failing, name_check, names_of, class_checks, security_checks, data_checks, value_checks, values_in_turn, values_checks, leaves_checks, entries_checks, keys_in_turn, children_checks, below_node, key_checks}
+use Rattle.hive_model.specs.Tree.{Tree, key, trees, listed, Item}
+use Rattle.hive_model.specs.Walk.{Check, tests, reading, nowhere, node_at, leaf_at, is_list_of_lists, joined_at, entries_of, entries_at, below_of, use_as, failing, name_check, names_of, class_checks, security_checks, big_data_of, segments_checks, big_checks, data_checks, value_checks, values_in_turn, values_checks, leaves_checks, entries_checks, keys_in_turn, children_checks, below_node, key_checks}
 use Rattle.hive_model.specs.Valid.{levels, most_levels}
-use Rattle.hive_model.specs.Stands.{tree_flags, class_of, security_of, data_or, data_of, item_at, items_at, values_of, ListsChildren, KeyStands, Stands, AllStand, HasApartNames, HaveApartNames}
+use Rattle.hive_model.specs.Stands.{tree_flags, class_of, security_of, data_or, joined_segments, big_bytes_at, data_of, item_at, items_at, values_of, ListsChildren, AllStand, HasApartNames, HaveApartNames}
+use Rattle.hive_model.specs.Size.{segment_bytes, is_big, segment_part}
+use Rattle.hive_read.specs.Celled.{celled_checks, celled_bytes}
 use Rattle.hive_read.specs.Walked.{KeyRead}
 use Rattle.hive_read.proofs.Apart.{Apart, Differ, apart-pairs}
+use Rattle.hive_read.proofs.BigWalks.{listed_segments}
 use Rattle.hive_read.proofs.ValueWalks.{item_of, item-stands, item-named}
 use Rattle.hive_read.proofs.KeyWalks.{key_name, node-plain}
 use Rattle.hive_read.proofs.Passing.{AllPass, pass-split, use-made, below-made, not-failing, choice-made}
@@ -31,13 +34,44 @@ security-made cells node p = go (node.security == nowhere) p
     go true p = ([], refl)
     go false p = let r = use-made true security_at cells node.security p in (r.0.descriptor, ap (λ q. q >>= λ s. Ok s.descriptor) r.1)
 
+segments-both : (cells : Cells) (n at : ℕ) (more part others : List ℕ) → reading (bytes_in (segment_part n)) cells at ≡ Ok part → joined_segments cells (n - segment_bytes) more ≡ Ok others
+    → joined_segments cells n (at ∷ more) ≡ Ok (part ++ others)
+segments-both cells n at more part others r s = rw (r, s) refl
+
+segments-made : (cells : Cells) (n : ℕ) (offsets : List ℕ) → AllPass cells (segments_checks cells n offsets) → (b : List ℕ) × (joined_segments cells n offsets ≡ Ok b)
+segments-made cells n [] p = ([], refl)
+segments-made cells n (at ∷ more) p =
+    let halves = pass-split cells (use_as false (bytes_in (segment_part n)) cells at) (segments_checks cells (n - segment_bytes) more) p in
+    let part = use-made false (bytes_in (segment_part n)) cells at halves.0 in
+    let others = segments-made cells (n - segment_bytes) more halves.1 in
+    (part.0 ++ others.0, segments-both cells n at more part.0 others.0 part.1 others.1)
+
+big-made : (cells : Cells) (n at : ℕ) → AllPass cells (big_checks cells n at) → (b : List ℕ) × (big_bytes_at cells n at ≡ Ok b)
+unfolding big_checks big_bytes_at
+big-made cells n at p =
+    let halves = pass-split cells (use_as false (big_data_of n) cells at) (below_of (reading (big_data_of n) cells at) (listed_segments cells n)) p in
+    let big = use-made false (big_data_of n) cells at halves.0 in
+    let below = below-made cells (reading (big_data_of n) cells at) (listed_segments cells n) big.0 big.1 halves.1 in
+    let parts = pass-split cells (use_as false (offsets_in big.0.segments) cells big.0.list) (below_of (reading (offsets_in big.0.segments) cells big.0.list) (segments_checks cells n)) below in
+    let list = use-made false (offsets_in big.0.segments) cells big.0.list parts.0 in
+    let bytes = segments-made cells n list.0 (below-made cells (reading (offsets_in big.0.segments) cells big.0.list) (segments_checks cells n) list.0 list.1 parts.1) in
+    (bytes.0, ap (λ q. q >>= λ big. reading (offsets_in big.segments) cells big.list >>= joined_segments cells n) big.1 ∙ ap (λ q. q >>= joined_segments cells n) list.1 ∙ bytes.1)
+
+celled-made : (cells : Cells) (n at : ℕ) → AllPass cells (celled_checks cells n at) → (b : List ℕ) × (celled_bytes cells n at ≡ Ok b)
+celled-made cells n at p = go (is_big cells.version n) p
+  where
+    go : (big : Bool) → AllPass cells (cond big (big_checks cells n at) (use_as false (bytes_in n) cells at)) → (b : List ℕ) × (cond big (big_bytes_at cells n at) (reading (bytes_in n) cells at) ≡ Ok b)
+    go true p = big-made cells n at p
+    go false p = use-made false (bytes_in n) cells at p
+
 data-made : (cells : Cells) (value : KeyValue) → AllPass cells (data_checks cells value) → (b : List ℕ) × (data_of cells value ≡ Ok b)
 unfolding data_checks data_of
 data-made cells value p = go (data_inside value) p
   where
-    go : (o : Option (List ℕ)) → AllPass cells (if is_some o then [] else use_as false (bytes_in value.size) cells value.offset) → (b : List ℕ) × (data_or o (reading (bytes_in value.size) cells value.offset) ≡ Ok b)
+    go : (o : Option (List ℕ)) → AllPass cells (if is_some o then [] else celled_checks cells value.size value.offset)
+        → (b : List ℕ) × (data_or o (celled_bytes cells value.size value.offset) ≡ Ok b)
     go (Some b) p = (b, refl)
-    go None p = use-made false (bytes_in value.size) cells value.offset p
+    go None p = celled-made cells value.size value.offset p
 
 -- ---- values
 
@@ -181,7 +215,7 @@ above (suc n) e = omega arith
 -- the root's name, or one that is not empty
 node-named : (root : Bool) (cells : Cells) (at : ℕ) (node : KeyNode) → reading (node_at root) cells at ≡ Ok node → root ≡ false → 0 < length node.name
 unfolding node_at
-node-named root cells at node e r = payload (cells at) e
+node-named root cells at node e r = payload (cells.payload at) e
   where
     filled : (n : KeyNode) (b : Bool) → (length n.name == 0) ≡ b → cond (b && not root) (Err FormName) (Ok n) ≡ done node → 0 < length node.name
     filled n true z e = absurd (let f : cond (not root) (Err FormName) (Ok n) ≡ done node = e in let g : cond (not false) (Err FormName) (Ok n) ≡ done node = subst (λ (t : Bool). cond (not t) (Err FormName) (Ok n) ≡ done node) r f in cc)

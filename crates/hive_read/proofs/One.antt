@@ -1,5 +1,5 @@
 -- At most one tree stands at an offset.
-use Rattle.std.proofs.Common.{◌≡◌, ℕ, Bool, true, false, List, [], ◌∷◌, length, Result, Ok, Err, refl, sym, ap, subst, ◌∙◌}
+use Rattle.std.proofs.Common.{◌≡◌, ℕ, Bool, true, false, List, [], ◌∷◌, length, Result, Ok, refl, sym, ap, subst, ◌∙◌}
 use Rattle.std.specs.Prelude.{MatchBool, ◌==◌}
 use Rattle.nt_bytes.specs.declared.fault.HiveKind.{HiveKind}
 use Rattle.hive_model.specs.Forms.{KeyNode, key_node_at}

@@ -1,5 +1,5 @@
 -- Checks that find nothing, whatever was used before.
-use Rattle.std.proofs.Common.{◌≡◌, ℕ, Bool, true, false, cond, List, [], ◌∷◌, ◌++◌, Option, Some, None, Result, Ok, Err, refl, sym, ap, subst, ◌∙◌}
+use Rattle.std.proofs.Common.{◌≡◌, ℕ, Bool, true, false, cond, List, [], ◌∷◌, ◌++◌, Option, Some, None, Result, Ok, Err, refl, sym, ap, subst}
 use Rattle.std.specs.List.{list_any}
 use Rattle.nt_bytes.specs.declared.fault.HiveKind.{HiveKind}
 use Rattle.nt_bytes.specs.declared.fault.HiveKind.TheVariants.{Shared}
@@ -10,7 +10,7 @@ use Rattle.hive_model.specs.Walk.{Check, uses, tests, reading, found, below_of, 
 
 -- a check passes but for earlier uses of its cell
 abbrev pub Passes : Cells → Check → Type 0
-Passes cells (uses at security) = (payload : List ℕ) × (cells at ≡ Ok payload)
+Passes cells (uses at security) = (payload : List ℕ) × (cells.payload at ≡ Ok payload)
 Passes cells (tests at kind) = kind ≡ None
 
 abbrev pub AllPass : Cells → List Check → Type 0
@@ -31,7 +31,7 @@ passing cells before [] e = (tt, tt)
 passing cells before (tests at None ∷ cs) e = let h = passing cells (before ++ tests at None ∷ []) cs e in ((refl, h.0), h.1)
 passing cells before (tests at (Some k) ∷ cs) e = absurd cc
 passing cells before (uses at s ∷ cs) e =
-    let c = parts (cells at) (list_any (clash at s) before) (first_among cells (before ++ uses at s ∷ []) cs) e in
+    let c = parts (cells.payload at) (list_any (clash at s) before) (first_among cells (before ++ uses at s ∷ []) cs) e in
     let h = passing cells (before ++ uses at s ∷ []) cs c.2 in
     ((c.0, h.0), (c.1, h.1))
   where
@@ -55,7 +55,7 @@ payload-read form (Err k) x e = absurd cc
 
 -- a form that stands passes, and where it passes one stands
 pub use-passes : {F : Type 0} (security : Bool) (form : List ℕ → Result F HiveKind) (cells : Cells) (at : ℕ) (x : F) → reading form cells at ≡ Ok x → AllPass cells (use_as security form cells at)
-use-passes security form cells at x r = (payload-read form (cells at) x r, (ap found r, tt))
+use-passes security form cells at x r = (payload-read form (cells.payload at) x r, (ap found r, tt))
 
 read-of : {F : Type 0} (r : Result F HiveKind) → found r ≡ None → (x : F) × (r ≡ Ok x)
 read-of (Ok x) e = (x, refl)

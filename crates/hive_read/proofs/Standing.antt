@@ -1,5 +1,5 @@
 -- Cells without a first fault are well-formed, and what reading a tree answers.
-use Rattle.std.proofs.Common.{◌≡◌, ℕ, Bool, true, List, [], Option, Some, None, Result, Ok, Err, refl, sym, ap, subst, ◌∙◌}
+use Rattle.std.proofs.Common.{◌≡◌, ℕ, true, [], Option, Some, None, Result, Ok, Err, ap, subst, ◌∙◌}
 use Rattle.std.specs.Prelude.{IfOk}
 use Rattle.std.specs.FinMap as map
 use Rattle.nt_bytes.specs.declared.fault.HiveFault.{HiveFault}
@@ -7,10 +7,9 @@ use Rattle.nt_bytes.specs.declared.fault.ReadStop.{ReadStop}
 use Rattle.nt_bytes.specs.declared.fault.ReadStop.TheVariants as stops
 use Rattle.hive_model.specs.Bins.{Cells}
 use Rattle.hive_model.specs.Tree.{Tree}
-use Rattle.hive_model.specs.Walk.{key_checks, all_checks, first_among, first_fault}
+use Rattle.hive_model.specs.Walk.{key_checks, all_checks, first_fault}
 use Rattle.hive_model.specs.Valid.{IsValid}
 use Rattle.hive_model.specs.Stands.{Stands, IsWellFormed}
-use Rattle.hive_read.specs.Taken.{Knows}
 use Rattle.hive_read.specs.Walked.{Seen, walk, Steps, Reads, KeyRead}
 use Rattle.hive_read.proofs.Passing.{passing}
 use Rattle.hive_read.proofs.Firsts.{Agrees, remembers-none, walk-first}

@@ -1,5 +1,5 @@
 -- Folded names in an ordered set.
-use Rattle.std.proofs.Common.{◌≡◌, ℕ, Bool, true, false, not, ◌||◌, ◌&&◌, List, [], ◌∷◌, ◌++◌, map, refl, sym, ap, subst, ◌∙◌}
+use Rattle.std.proofs.Common.{◌≡◌, ℕ, Bool, true, false, not, ◌||◌, ◌&&◌, List, [], ◌∷◌, ◌++◌, map, refl, sym, ap, ◌∙◌}
 use Rattle.std.specs.List.{list_any}
 use Rattle.std.specs.Ordering.{is_eq, nat_cmp, match_ordering}
 use Rattle.std.specs.declared.cmp.Ordering.{Ordering}
@@ -11,7 +11,7 @@ use Rattle.std.proofs.lemmas.Map.Text.{is_eq-slice_cmp}
 use Rattle.std.proofs.lemmas.Bool.{eqb-true}
 use Rattle.std.proofs.lemmas.List.Folds.{list_any-append}
 use Rattle.std.proofs.Common.{eqb}
-use Rattle.nt_bytes.specs.Folding.{folded, folded_unit, folds_same}
+use Rattle.nt_bytes.specs.Folding.{folded, folds_same}
 use Rattle.hive_read.specs.Taken.{folds_to, has_name, Knows}
 
 folded-same : (n m : List ℕ) → bytes_eq (folded n) (folded m) ≡ folds_same n m

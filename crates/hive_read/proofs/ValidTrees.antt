@@ -1,23 +1,26 @@
 -- A tree that stands in well-formed cells of bytes is one that a hive can hold.
-use Rattle.std.proofs.Common.{◌≡◌, ℕ, zero, suc, ◌+◌, ◌/◌, ◌%◌, ◌<◌, ◌≤◌, ◌^◌, Bool, true, false, cond, List, [], ◌∷◌, ◌++◌, length, get_or, Option, Some, None, Result, Ok, Err, refl, sym, ap, subst, ◌∙◌, arith}
-use Rattle.std.specs.Prelude.{MatchBool, ◌==◌, if◌then◌else◌}
+use Rattle.std.proofs.Common.{◌≡◌, ℕ, ◌+◌, ◌-◌, ◌/◌, ◌%◌, ◌<◌, ◌≤◌, Bool, true, false, cond, List, [], ◌∷◌, ◌++◌, length, length-append, Option, Some, None, Result, Ok, Err, refl, sym, subst, arith}
+use Rattle.std.specs.Prelude.{MatchBool, ◌==◌}
 use Rattle.std.specs.List.{All, list_any, flat_map}
 use Rattle.std.proofs.lemmas.List.Elements.{All-cons, All-nil}
 use Rattle.std.specs.Int.{w32, to_le_bytes}
 use Rattle.nt_bytes.specs.declared.fault.HiveKind.{HiveKind}
+use Rattle.nt_bytes.specs.declared.version.HiveVersion.{HiveVersion}
 use Rattle.nt_bytes.specs.declared.fault.HiveKind.TheVariants.{FreeCell}
-use Rattle.hive_model.specs.Forms.{◌>>=◌, KeyNode, key_node_at, KeyValue, key_value_at, data_inside, bytes_in, SecurityCell, security_at, offsets_in}
+use Rattle.hive_model.specs.Forms.{◌>>=◌, KeyNode, key_node_at, KeyValue, key_value_at, data_inside, bytes_in, security_at, offsets_in}
 use Rattle.hive_model.specs.Bins.{Cell, Bin, Cells, head_number, cell_size, bin_size, cell_bytes, head_bytes, bin_bytes, spelled, in_cells, in_bins, or_else, cell_at, payload_of, look_up}
-use Rattle.hive_model.specs.Tree.{Tree, Trees, key, none, more, listed, Head, Item}
-use Rattle.hive_model.specs.Walk.{reading, nowhere, entries_at}
-use Rattle.hive_model.specs.Valid.{IsItem, IsKey, HoldsKeys, AllHoldKeys, IsValid, is_backslash}
-use Rattle.hive_model.specs.Stands.{tree_flags, class_of, security_of, data_or, data_of, item_at, items_at, values_of, ListsChildren, KeyStands, Stands, AllStand, HasApartNames, HaveApartNames, IsWellFormed}
-use Rattle.hive_read.proofs.FormFacts.{IsBytes, bytes-front, bytes-back, NodeFacts, node-facts, value-facts, held-short, celled-small, bytes-in, descriptor-small, offsets-length, own-flags}
+use Rattle.hive_model.specs.Tree.{Tree, Trees, key, none, more, listed, Item}
+use Rattle.hive_model.specs.Walk.{reading, nowhere, big_data_of, entries_at}
+use Rattle.hive_model.specs.Valid.{IsItem, HoldsKeys, AllHoldKeys, IsValid, is_backslash}
+use Rattle.hive_model.specs.Stands.{class_of, security_of, data_or, joined_segments, big_bytes_at, data_of, item_at, items_at, values_of, ListsChildren, Stands, AllStand, HasApartNames, HaveApartNames, IsWellFormed}
+use Rattle.hive_model.specs.Size.{segment_bytes, is_big, segment_part}
+use Rattle.hive_read.specs.Celled.{celled_bytes}
+use Rattle.hive_read.proofs.FormFacts.{IsBytes, bytes-front, bytes-back, node-facts, value-facts, held-short, celled-small, bytes-in, descriptor-small, offsets-length, own-flags}
 use Rattle.hive_read.proofs.ValueWalks.{item_of}
 
 -- each payload is bytes
 abbrev pub AreBytes : Cells → Type 0
-AreBytes cells = (at : ℕ) (p : List ℕ) → cells at ≡ Ok p → IsBytes p
+AreBytes cells = (at : ℕ) (p : List ℕ) → cells.payload at ≡ Ok p → IsBytes p
 
 abbrev done : {A : Type 0} → A → Result A HiveKind
 done x = Ok x
@@ -31,7 +34,7 @@ then-so (Err k) f y e = absurd cc
 
 -- a form that stands, in the payload in which it does
 payload : {F : Type 0} (form : List ℕ → Result F HiveKind) (cells : Cells) (at : ℕ) (x : F) → AreBytes cells → reading form cells at ≡ done x → (p : List ℕ) × IsBytes p × (form p ≡ done x)
-payload form cells at x h r = let p = then-so (cells at) form x r in (p.0, h at p.0 p.1, p.2)
+payload form cells at x h r = let p = then-so (cells.payload at) form x r in (p.0, h at p.0 p.1, p.2)
 
 class-short : (cells : Cells) (node : KeyNode) (b : List ℕ) → AreBytes cells → class_of cells node ≡ done b → length b ≤ node.class_length
 unfolding class_of
@@ -52,17 +55,40 @@ security-small cells node b h r = go (node.security == nowhere) r
         let p = payload security_at cells node.security s.0 h s.1 in
         subst (λ (x : List ℕ). length x < 4294967296) (ok_same s.0.descriptor b s.2) (descriptor-small p.0 s.0 p.1 p.2)
 
+segments-short : (cells : Cells) (n : ℕ) (offsets b : List ℕ) → AreBytes cells → joined_segments cells n offsets ≡ done b → length b ≤ n
+segments-short cells n [] b h r = let same : [] ≡ b = ok_same [] b r in subst (λ (x : List ℕ). length x ≤ n) same (omega arith)
+segments-short cells n (at ∷ rest) b h r =
+    let part = then-so (reading (bytes_in (segment_part n)) cells at) (λ xs. joined_segments cells (n - segment_bytes) rest >>= λ ys. Ok (xs ++ ys)) b r in
+    let others = then-so (joined_segments cells (n - segment_bytes) rest) (λ ys. Ok (part.0 ++ ys)) b part.2 in
+    let p = payload (bytes_in (segment_part n)) cells at part.0 h part.1 in
+    let one : length part.0 ≤ segment_part n = bytes-in (segment_part n) p.0 part.0 p.2 in
+    let more : length others.0 ≤ n - segment_bytes = segments-short cells (n - segment_bytes) rest others.0 h others.1 in
+    subst (λ (x : List ℕ). length x ≤ n) (ok_same (part.0 ++ others.0) b others.2) (rw (length-append part.0 others.0) (omega arith))
+
+big-short : (cells : Cells) (n at : ℕ) (b : List ℕ) → AreBytes cells → big_bytes_at cells n at ≡ done b → length b ≤ n
+unfolding big_bytes_at
+big-short cells n at b h r =
+    let big = then-so (reading (big_data_of n) cells at) (λ big. reading (offsets_in big.segments) cells big.list >>= joined_segments cells n) b r in
+    let list = then-so (reading (offsets_in big.0.segments) cells big.0.list) (joined_segments cells n) b big.2 in
+    segments-short cells n list.0 b h list.2
+
+celled-short : (cells : Cells) (n at : ℕ) (b : List ℕ) → AreBytes cells → celled_bytes cells n at ≡ done b → length b ≤ n
+celled-short cells n at b h r = go (is_big cells.version n) r
+  where
+    go : (big : Bool) → cond big (big_bytes_at cells n at) (reading (bytes_in n) cells at) ≡ done b → length b ≤ n
+    go true r = big-short cells n at b h r
+    go false r = let p = payload (bytes_in n) cells at b h r in bytes-in n p.0 b p.2
+
 data-small : (cells : Cells) (value : KeyValue) (b : List ℕ) → AreBytes cells → data_of cells value ≡ done b → length b < 2147483648
 unfolding data_of
 data-small cells value b h r = go (data_inside value) refl r
   where
-    go : (o : Option (List ℕ)) → data_inside value ≡ o → data_or o (reading (bytes_in value.size) cells value.offset) ≡ done b → length b < 2147483648
+    go : (o : Option (List ℕ)) → data_inside value ≡ o → data_or o (celled_bytes cells value.size value.offset) ≡ done b → length b < 2147483648
     go (Some d) e r =
         let short : length d ≤ 4 = held-short value d e in
         subst (λ (x : List ℕ). length x < 2147483648) (ok_same d b r) (omega arith)
     go None e r =
-        let p = payload (bytes_in value.size) cells value.offset b h r in
-        let short : length b ≤ value.size = bytes-in value.size p.0 b p.2 in
+        let short : length b ≤ value.size = celled-short cells value.size value.offset b h r in
         let small : value.size < 2147483648 = celled-small value e in
         omega arith
 
@@ -175,8 +201,8 @@ bin-in o at (b ∷ bs) c h e =
     (λ f. cell-in o (at + 32) b.cells c (bytes-back (head_bytes at (bin_size b) b.ignored) (flat_map cell_bytes b.cells) front) f)
     (λ f. bin-in o (at + bin_size b) bs c (bytes-back (bin_bytes at b) (spelled (at + bin_size b) bs) h) f) e
 
-pub cells-bytes : (bins : List Bin) → IsBytes (spelled 0 bins) → AreBytes (look_up bins)
-cells-bytes bins h at p e = go (cell_at bins at) refl e
+pub cells-bytes : (version : HiveVersion) (bins : List Bin) → IsBytes (spelled 0 bins) → AreBytes (look_up version bins)
+cells-bytes version bins h at p e = go (cell_at bins at) refl e
   where
     used : (c : Cell) (t : Bool) → cond t (Ok c.payload) (Err FreeCell) ≡ done p → c.payload ≡ p
     used c true e = ok_same c.payload p e

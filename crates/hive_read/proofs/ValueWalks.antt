@@ -1,5 +1,5 @@
 -- Walks over the checks of values.
-use Rattle.std.proofs.Common.{◌≡◌, ℕ, Bool, true, false, List, [], ◌∷◌, ◌++◌, map, Option, Some, None, Result, Ok, Err, refl, sym, ap, subst, ◌∙◌, append_assoc, eqb}
+use Rattle.std.proofs.Common.{◌≡◌, ℕ, false, List, [], ◌∷◌, ◌++◌, map, Result, Ok, Err, refl, sym, ap, ◌∙◌, append_assoc}
 use Rattle.std.specs.Prelude.{◌==◌}
 use Rattle.std.proofs.lemmas.List.{map_push}
 use Rattle.nt_bytes.specs.declared.fault.HiveKind.{HiveKind}
@@ -7,10 +7,10 @@ use Rattle.nt_bytes.specs.declared.fault.HiveFault.{HiveFault}
 use Rattle.hive_model.specs.Forms.{◌>>=◌, KeyValue, key_value_at, KeyNode, offsets_in}
 use Rattle.hive_model.specs.Bins.{Cells}
 use Rattle.hive_model.specs.Tree.{Item}
-use Rattle.hive_model.specs.Walk.{Check, reading, below_of, use_as, name_check, names_of, data_checks, value_checks, values_in_turn, values_checks}
+use Rattle.hive_model.specs.Walk.{reading, below_of, use_as, name_check, names_of, data_checks, value_checks, values_in_turn, values_checks}
 use Rattle.hive_model.specs.Stands.{data_of, item_at, items_at, values_of}
 use Rattle.hive_read.specs.Walked.{Seen, walk}
-use Rattle.hive_read.proofs.Walks.{walk-append, walk-on, walk-off, walk-below, not-same}
+use Rattle.hive_read.proofs.Walks.{walk-on, walk-off, walk-below, not-same}
 
 abbrev pub item_of : KeyValue → List ℕ → Item
 item_of v b = record { name = v.name; kind = v.kind; bytes = b }

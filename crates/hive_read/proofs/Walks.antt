@@ -1,5 +1,5 @@
 -- Walks over lists of checks, and over the checks of a form.
-use Rattle.std.proofs.Common.{◌≡◌, ℕ, Bool, true, false, List, [], ◌∷◌, ◌++◌, Option, Some, None, Result, Ok, Err, refl, sym, ap, subst, ◌∙◌}
+use Rattle.std.proofs.Common.{◌≡◌, ℕ, Bool, true, false, List, [], ◌∷◌, ◌++◌, Option, Some, None, Result, Ok, Err, refl, sym, ap, ◌∙◌}
 use Rattle.std.proofs.Common.{eqb, ◌-◌, ◌<◌, ◌≤◌, length, get_or, take, drop, arith}
 use Rattle.std.specs.Prelude.{IfOk}
 use Rattle.std.proofs.Math.Seq.{take-length}
@@ -9,7 +9,7 @@ use Rattle.nt_bytes.specs.declared.fault.HiveFault.{HiveFault}
 use Rattle.nt_bytes.specs.declared.fault.ReadStop.{ReadStop}
 use Rattle.nt_bytes.specs.declared.fault.ReadStop.TheVariants as stops
 use Rattle.hive_model.specs.Forms.{◌>>=◌, Gives}
-use Rattle.hive_model.specs.Bins.{Cells, placed}
+use Rattle.hive_model.specs.Bins.{Cells}
 use Rattle.hive_model.specs.Walk.{Check, uses, tests, reading, found, below_of, use_as}
 use Rattle.hive_read.specs.Walked.{Seen, fault, check, walk, Stops, Steps}
 
@@ -62,7 +62,7 @@ use-off security form cells seen at f e = ap (λ r. r >>= λ after. walk cells a
 
 -- a cell whose payload has a form, or its first fault
 pub use-form : {X F : Type 0} (view : X → F) (security : Bool) (form : List ℕ → Result F HiveKind) (cells : Cells) (seen after : Seen) (at : ℕ) (payload : List ℕ) (r : Result X ReadStop)
-    → check cells seen (uses at security) ≡ Ok after → cells at ≡ Ok payload → Gives view at r (form payload)
+    → check cells seen (uses at security) ≡ Ok after → cells.payload at ≡ Ok payload → Gives view at r (form payload)
     → Steps (λ x. reading form cells at ≡ Ok (view x)) (walk cells seen (use_as security form cells at)) after r
 use-form view security form cells seen after at payload (Ok x) u c g =
     let r : reading form cells at ≡ Ok (view x) = ap (λ p. p >>= form) c ∙ g in

@@ -1,18 +1,21 @@
 -- The checks of well-formed cells find nothing.
-use Rattle.std.proofs.Common.{◌≡◌, ℕ, zero, suc, ◌<◌, ◌≤◌, Bool, true, false, not, ◌&&◌, eqb, cond, List, [], ◌∷◌, ◌++◌, length, Option, Some, None, Result, Ok, Err, refl, sym, ap, subst, ◌∙◌, arith, eq-eqb}
+use Rattle.std.proofs.Common.{◌≡◌, ℕ, zero, suc, ◌-◌, ◌<◌, ◌≤◌, Bool, true, false, not, ◌&&◌, cond, List, [], ◌∷◌, ◌++◌, length, Option, Some, None, Result, Ok, Err, refl, sym, ap, subst, ◌∙◌, arith, eq-eqb}
 use Rattle.std.specs.Prelude.{MatchBool, ◌==◌, is_some, if◌then◌else◌}
-use Rattle.std.specs.List.{All, AllPairs, list_any}
+use Rattle.std.specs.List.{All, list_any}
 use Rattle.std.proofs.lemmas.Bool.{eqb-true}
 use Rattle.nt_bytes.specs.Folding.{folds_same}
 use Rattle.nt_bytes.specs.declared.fault.HiveKind.{HiveKind}
-use Rattle.nt_bytes.specs.declared.fault.HiveKind.TheVariants.{FormName, DoubleName, Count}
-use Rattle.hive_model.specs.Forms.{◌>>=◌, KeyNode, key_node_at, KeyValue, key_value_at, data_inside, bytes_in, security_at, SecurityCell, SubkeyList, list_at, offsets_in}
+use Rattle.nt_bytes.specs.declared.fault.HiveKind.TheVariants.{FormName, Count}
+use Rattle.hive_model.specs.Forms.{◌>>=◌, KeyNode, key_node_at, KeyValue, key_value_at, data_inside, bytes_in, security_at, SubkeyList, list_at, offsets_in}
 use Rattle.hive_model.specs.Bins.{Cells}
-use Rattle.hive_model.specs.Tree.{Tree, Trees, key, none, more, listed, Head, head, Item}
-use Rattle.hive_model.specs.Walk.{Check, tests, reading, nowhere, node_at, leaf_at, is_list_of_lists, joined_at, entries_of, entries_at, below_of, use_as, failing, name_check, names_of, class_checks, security_checks, data_checks, value_checks, values_in_turn, values_checks, leaves_checks, entries_checks, keys_in_turn, children_checks, below_node, key_checks, all_checks, first_fault}
+use Rattle.hive_model.specs.Tree.{Tree, Trees, key, none, more, listed, Item}
+use Rattle.hive_model.specs.Walk.{Check, tests, reading, nowhere, node_at, leaf_at, is_list_of_lists, joined_at, entries_of, entries_at, below_of, use_as, failing, name_check, names_of, class_checks, security_checks, big_data_of, segments_checks, big_checks, data_checks, value_checks, values_in_turn, values_checks, leaves_checks, entries_checks, keys_in_turn, children_checks, below_node, key_checks, all_checks, first_fault}
 use Rattle.hive_model.specs.Valid.{levels, most_levels}
-use Rattle.hive_model.specs.Stands.{class_of, security_of, data_or, data_of, item_at, items_at, values_of, ListsChildren, KeyStands, Stands, AllStand, HasApartNames, HaveApartNames, IsWellFormed}
-use Rattle.hive_read.proofs.Apart.{Apart, Differ, differ-apart}
+use Rattle.hive_model.specs.Stands.{class_of, security_of, data_or, joined_segments, big_bytes_at, data_of, item_at, items_at, values_of, ListsChildren, Stands, AllStand, HasApartNames, HaveApartNames, IsWellFormed}
+use Rattle.hive_model.specs.Size.{segment_bytes, is_big, segment_part}
+use Rattle.hive_read.specs.Celled.{celled_checks, celled_bytes}
+use Rattle.hive_read.proofs.BigWalks.{listed_segments}
+use Rattle.hive_read.proofs.Apart.{Apart, differ-apart}
 use Rattle.hive_read.proofs.ValueWalks.{item_of, item-named}
 use Rattle.hive_read.proofs.KeyWalks.{key_name}
 use Rattle.hive_read.proofs.Making.{item_name}
@@ -44,13 +47,39 @@ security-passes cells node b r = go (node.security == nowhere) r
     go true r = tt
     go false r = let p = first-part (reading security_at cells node.security) (λ s. Ok s.descriptor) b r in use-passes true security_at cells node.security p.0 p.1
 
+segments-passes : (cells : Cells) (n : ℕ) (offsets b : List ℕ) → joined_segments cells n offsets ≡ Ok b → AllPass cells (segments_checks cells n offsets)
+segments-passes cells n [] b r = tt
+segments-passes cells n (at ∷ tail) b r =
+    let part = first-part (reading (bytes_in (segment_part n)) cells at) (λ xs. joined_segments cells (n - segment_bytes) tail >>= λ ys. Ok (xs ++ ys)) b r in
+    let others = first-part (joined_segments cells (n - segment_bytes) tail) (λ ys. Ok (part.0 ++ ys)) b part.2 in
+    pass-append cells (use_as false (bytes_in (segment_part n)) cells at) (segments_checks cells (n - segment_bytes) tail)
+    (use-passes false (bytes_in (segment_part n)) cells at part.0 part.1) (segments-passes cells (n - segment_bytes) tail others.0 others.1)
+
+big-passes : (cells : Cells) (n at : ℕ) (b : List ℕ) → big_bytes_at cells n at ≡ Ok b → AllPass cells (big_checks cells n at)
+unfolding big_checks big_bytes_at
+big-passes cells n at b r =
+    let big = first-part (reading (big_data_of n) cells at) (λ big. reading (offsets_in big.segments) cells big.list >>= joined_segments cells n) b r in
+    let list = first-part (reading (offsets_in big.0.segments) cells big.0.list) (joined_segments cells n) b big.2 in
+    pass-append cells (use_as false (big_data_of n) cells at) (below_of (reading (big_data_of n) cells at) (listed_segments cells n)) (use-passes false (big_data_of n) cells at big.0 big.1)
+    (below-passes cells (reading (big_data_of n) cells at) (listed_segments cells n) big.0 big.1
+    (pass-append cells (use_as false (offsets_in big.0.segments) cells big.0.list) (below_of (reading (offsets_in big.0.segments) cells big.0.list) (segments_checks cells n))
+    (use-passes false (offsets_in big.0.segments) cells big.0.list list.0 list.1)
+    (below-passes cells (reading (offsets_in big.0.segments) cells big.0.list) (segments_checks cells n) list.0 list.1 (segments-passes cells n list.0 b list.2))))
+
+celled-passes : (cells : Cells) (n at : ℕ) (b : List ℕ) → celled_bytes cells n at ≡ Ok b → AllPass cells (celled_checks cells n at)
+celled-passes cells n at b r = go (is_big cells.version n) r
+  where
+    go : (big : Bool) → cond big (big_bytes_at cells n at) (reading (bytes_in n) cells at) ≡ Ok b → AllPass cells (cond big (big_checks cells n at) (use_as false (bytes_in n) cells at))
+    go true r = big-passes cells n at b r
+    go false r = use-passes false (bytes_in n) cells at b r
+
 data-passes : (cells : Cells) (value : KeyValue) (b : List ℕ) → data_of cells value ≡ Ok b → AllPass cells (data_checks cells value)
 unfolding data_checks data_of
 data-passes cells value b r = go (data_inside value) r
   where
-    go : (o : Option (List ℕ)) → data_or o (reading (bytes_in value.size) cells value.offset) ≡ Ok b → AllPass cells (if is_some o then [] else use_as false (bytes_in value.size) cells value.offset)
+    go : (o : Option (List ℕ)) → data_or o (celled_bytes cells value.size value.offset) ≡ Ok b → AllPass cells (if is_some o then [] else celled_checks cells value.size value.offset)
     go (Some d) r = tt
-    go None r = use-passes false (bytes_in value.size) cells value.offset b r
+    go None r = celled-passes cells value.size value.offset b r
 
 fresh-passes : (cells : Cells) (names : List (List ℕ)) (at : ℕ) (name : List ℕ) (rest : List Check) → list_any (folds_same name) names ≡ false → AllPass cells rest → AllPass cells (name_check names at name ∷ rest)
 fresh-passes cells names at name rest e p = (rw e refl, p)
@@ -115,7 +144,7 @@ entries-passes cells at offsets r =
 node-may : (root : Bool) (cells : Cells) (at : ℕ) (node : KeyNode) → reading key_node_at cells at ≡ Ok node → (root ≡ false → 0 < length node.name) → reading (node_at root) cells at ≡ Ok node
 unfolding node_at
 node-may root cells at node r h =
-    let p = first-part (cells at) key_node_at node r in
+    let p = first-part (cells.payload at) key_node_at node r in
     ap (λ q. q >>= λ bytes. key_node_at bytes >>= λ n. if (length n.name == 0) && not root then Err FormName else Ok n) p.1
     ∙ ap (λ q. q >>= λ n. if (length n.name == 0) && not root then Err FormName else Ok n) p.2
     ∙ go root (length node.name == 0) h refl

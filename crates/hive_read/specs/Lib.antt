@@ -1,3 +1,6 @@
 pub mod Taken
+pub mod Marks
 pub mod Walked
 pub mod Payloads
+pub mod Sources
+pub mod Celled

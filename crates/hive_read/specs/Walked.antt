@@ -1,5 +1,5 @@
 -- A walk over checks that keeps which cells were used, and what a reader on its way did.
-use Rattle.std.specs.Prelude.{◌≡◌, ℕ, Bool, true, false, ◌&&◌, not, if◌then◌else◌, List, [], ◌∷◌, Option, Some, None, Result, Ok, Err}
+use Rattle.std.specs.Prelude.{◌≡◌, ℕ, Bool, false, ◌&&◌, not, if◌then◌else◌, List, [], ◌∷◌, Option, Some, None, Result, Ok, Err}
 use Rattle.std.specs.Ordering.{nat_cmp}
 use Rattle.std.specs.FinMap as map
 use Rattle.nt_bytes.specs.declared.fault.HiveKind.{HiveKind}
@@ -33,7 +33,7 @@ marked seen at security payload = if clashes (map.get seen at) security then fau
 abbrev pub check : Cells → Seen → Check → Result Seen HiveFault
 check cells seen (tests at None) = Ok seen
 check cells seen (tests at (Some kind)) = fault kind at
-check cells seen (uses at security) = placed at (cells at) >>= marked seen at security
+check cells seen (uses at security) = placed at (cells.payload at) >>= marked seen at security
 
 -- the same after checks
 abbrev pub walk : Cells → Seen → List Check → Result Seen HiveFault

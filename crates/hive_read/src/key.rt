@@ -4,6 +4,7 @@ ghost use Rattle.std.specs.Prelude.{◌≡◌, ◌-◌, ◌<◌, ◌||◌, ℕ, 
 ghost use Rattle.nt_bytes.specs.Folding.{folds_same};
 ghost use Rattle.hive_model.specs.Forms.{key_node_at};
 ghost use Rattle.hive_model.specs.Bins.{look_up};
+ghost use Rattle.hive_read.specs.Sources.{cells_of};
 ghost use Rattle.hive_model.specs.Tree.{head, trees};
 ghost use Rattle.hive_model.specs.Valid.{IsValid};
 ghost use Rattle.hive_model.specs.Walk.{reading, class_checks, security_checks, children_checks, keys_in_turn, below_node, key_checks};
@@ -13,24 +14,25 @@ ghost use Rattle.hive_read.specs.Taken.{has_name, Knows};
 ghost use Rattle.hive_read.specs.Walked.{walk, Steps, Reads, KeyRead, ChildrenRead};
 
 use crate::list::read_entries;
+use crate::source::Source;
 use crate::taken::Taken;
 use crate::used::Used;
 use crate::uses::{stop, take_name, use_bytes, use_node, use_security};
 use crate::value::read_values;
 use cell_forms::NkForm;
 use hive_cells::CellHeap;
-use nt_bytes::{Bytes, HiveKind, ReadStop};
+use nt_bytes::{Bytes, HiveKind, HiveVersion, ReadStop};
 use reg_tree::{Key, Keys};
 use std::alloc::Global;
 
 #[tactic(auto, unfolding(hive_model::specs::Walk::class_checks, hive_model::specs::Stands::class_of))]
 fn read_class(
     alloc: Global,
-    cells: &CellHeap,
+    cells: &Source,
     used: &mut Used,
     node: &NkForm,
 ) -> Result<Bytes, ReadStop>
-    ensures { Steps (λ b. class_of (look_up cells.now) (key_node_of node.now) ≡ Ok b) (walk (look_up cells.now) used.old (class_checks (look_up cells.now) (key_node_of node.now))) used.new result }
+    ensures { Steps (λ b. class_of (cells_of cells.now) (key_node_of node.now) ≡ Ok b) (walk (cells_of cells.now) used.old (class_checks (cells_of cells.now) (key_node_of node.now))) used.new result }
 {
     if node.class_length == 0 {
         return Ok(Bytes::new(alloc));
@@ -41,11 +43,11 @@ fn read_class(
 #[tactic(auto, unfolding(hive_model::specs::Walk::security_checks, hive_model::specs::Stands::security_of))]
 fn read_descriptor(
     alloc: Global,
-    cells: &CellHeap,
+    cells: &Source,
     used: &mut Used,
     node: &NkForm,
 ) -> Result<Bytes, ReadStop>
-    ensures { Steps (λ b. security_of (look_up cells.now) (key_node_of node.now) ≡ Ok b) (walk (look_up cells.now) used.old (security_checks (look_up cells.now) (key_node_of node.now))) used.new result }
+    ensures { Steps (λ b. security_of (cells_of cells.now) (key_node_of node.now) ≡ Ok b) (walk (cells_of cells.now) used.old (security_checks (cells_of cells.now) (key_node_of node.now))) used.new result }
 {
     if node.security == 0xffff_ffff {
         return Ok(Bytes::new(alloc));
@@ -68,7 +70,7 @@ fn own_flags(flags: u16) -> u16
 #[cycle(walk)]
 fn read_key(
     alloc: Global,
-    cells: &CellHeap,
+    cells: &Source,
     used: &mut Used,
     taken: &mut Taken,
     left: u32,
@@ -76,7 +78,7 @@ fn read_key(
     at: u32,
 ) -> Result<Key, ReadStop>
     ensures walked { (names : List (List ℕ)) → Knows taken.old names →
-        Steps (KeyRead (look_up cells.now) root at) (walk (look_up cells.now) used.old (key_checks left (look_up cells.now) root names at)) used.new result }
+        Steps (KeyRead (cells_of cells.now) root at) (walk (cells_of cells.now) used.old (key_checks left (cells_of cells.now) root names at)) used.new result }
     ensures known { IfOk result (λ t. (n : List ℕ) → has_name taken.new n ≡ (has_name taken.old n || folds_same n (head t).name)) }
 {
     if left == 0 {
@@ -91,13 +93,13 @@ fn read_key(
 #[cycle(walk)]
 fn read_below(
     alloc: Global,
-    cells: &CellHeap,
+    cells: &Source,
     used: &mut Used,
     left: u32,
     node: NkForm,
     at: u32,
 ) -> Result<Key, ReadStop>
-    ensures walked { Steps (λ t. reading key_node_at (look_up cells.now) at ≡ Ok (key_node_of node) → Stands (look_up cells.now) at t) (walk (look_up cells.now) used.old (below_node (key_checks left (look_up cells.now) false) (look_up cells.now) (key_node_of node) at)) used.new result }
+    ensures walked { Steps (λ t. reading key_node_at (cells_of cells.now) at ≡ Ok (key_node_of node) → Stands (cells_of cells.now) at t) (walk (cells_of cells.now) used.old (below_node (key_checks left (cells_of cells.now) false) (cells_of cells.now) (key_node_of node) at)) used.new result }
     ensures named { IfOk result (λ t. (head t).name ≡ node.name) }
 {
     let class = read_class(alloc, cells, used, &node)?;
@@ -119,13 +121,13 @@ fn read_below(
 #[cycle(walk)]
 fn read_children(
     alloc: Global,
-    cells: &CellHeap,
+    cells: &Source,
     used: &mut Used,
     left: u32,
     node: &NkForm,
     at: u32,
 ) -> Result<Keys, ReadStop>
-    ensures { Steps (ChildrenRead (look_up cells.now) (key_node_of node.now)) (walk (look_up cells.now) used.old (children_checks (key_checks left (look_up cells.now) false) (look_up cells.now) (key_node_of node.now) at)) used.new result }
+    ensures { Steps (ChildrenRead (cells_of cells.now) (key_node_of node.now)) (walk (cells_of cells.now) used.old (children_checks (key_checks left (cells_of cells.now) false) (cells_of cells.now) (key_node_of node.now) at)) used.new result }
 {
     if node.child_count == 0 {
         return Ok(Keys::new(alloc));
@@ -142,12 +144,12 @@ fn read_children(
 #[cycle(walk)]
 fn read_in_turn(
     alloc: Global,
-    cells: &CellHeap,
+    cells: &Source,
     used: &mut Used,
     left: u32,
     offsets: &[u32],
 ) -> Result<Keys, ReadStop>
-    ensures { Steps (λ ts. AllStand (look_up cells.now) offsets.now (trees ts)) (walk (look_up cells.now) used.old (keys_in_turn (key_checks left (look_up cells.now) false) (look_up cells.now) [] offsets.now)) used.new result }
+    ensures { Steps (λ ts. AllStand (cells_of cells.now) offsets.now (trees ts)) (walk (cells_of cells.now) used.old (keys_in_turn (key_checks left (cells_of cells.now) false) (cells_of cells.now) [] offsets.now)) used.new result }
 {
     let mut taken = Taken::new(alloc);
     let mut children = Keys::new(alloc);
@@ -169,14 +171,24 @@ fn are_bytes(bytes: &[u8])
     let _whole = bytes;
 }
 
-/// The tree that stands at a root, or the first fault. At most 512 levels are taken, `TooDeep` beyond.
-/// Each kind of fault comes where its check is the first that fails, with the place that is judged.
-pub fn read_tree(alloc: Global, cells: &CellHeap, root: u32) -> Result<Key, ReadStop>
-    ensures exact { Reads (look_up cells.now) root result }
+/// The tree that stands at a root in a hive of this version, or the first fault. At most 512 levels are
+/// taken, `TooDeep` beyond. Each kind of fault comes where its check is the first that fails, with the
+/// place that is judged.
+pub fn read_tree(
+    alloc: Global,
+    cells: &CellHeap,
+    root: u32,
+    version: HiveVersion,
+) -> Result<Key, ReadStop>
+    ensures exact { Reads (look_up version cells.now) root result }
     ensures valid { IfOk result (λ t. IsValid t) }
 {
     are_bytes(cells.bytes());
+    let source = Source {
+        heap: cells,
+        version,
+    };
     let mut used = Used::new(alloc);
     let mut taken = Taken::new(alloc);
-    read_key(alloc, cells, &mut used, &mut taken, 512, true, root)
+    read_key(alloc, &source, &mut used, &mut taken, 512, true, root)
 }

@@ -5,9 +5,14 @@
 //! docs/format.md and in the book of hives, `Walk`; this project's own.
 #![tactic(auto)]
 
+mod bits;
+mod data;
+#[cfg(test)]
+mod data_tests;
 mod key;
 mod laws;
 mod list;
+mod source;
 mod taken;
 #[cfg(test)]
 mod tests;

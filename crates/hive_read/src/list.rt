@@ -1,15 +1,15 @@
 //! Subkey lists.
 
 ghost use Rattle.std.specs.Prelude.{◌≡◌, Ok};
-ghost use Rattle.hive_model.specs.Bins.{look_up};
+ghost use Rattle.hive_read.specs.Sources.{cells_of};
 ghost use Rattle.hive_model.specs.Walk.{is_list_of_lists, joined_at, entries_at, leaves_checks, entries_checks};
 ghost use Rattle.cell_forms.specs.Views.{kind_of};
 ghost use Rattle.hive_read.specs.Walked.{walk, Steps};
 
+use crate::source::Source;
 use crate::used::Used;
 use crate::uses::{use_leaf, use_list};
 use cell_forms::{ListKind, Offsets};
-use hive_cells::CellHeap;
 use nt_bytes::ReadStop;
 use std::alloc::Global;
 
@@ -19,6 +19,7 @@ fn lists_lists(kind: ListKind) -> bool
     match kind {
         ListKind::Li => false,
         ListKind::Lf => false,
+        ListKind::Lh => false,
         ListKind::Ri => true,
     }
 }
@@ -26,11 +27,11 @@ fn lists_lists(kind: ListKind) -> bool
 // The entries of the lists at these offsets, joined in order.
 fn read_leaves(
     alloc: Global,
-    cells: &CellHeap,
+    cells: &Source,
     used: &mut Used,
     lists: &[u32],
 ) -> Result<Offsets, ReadStop>
-    ensures { Steps (λ o. joined_at (look_up cells.now) lists.now ≡ Ok o) (walk (look_up cells.now) used.old (leaves_checks (look_up cells.now) lists.now)) used.new result }
+    ensures { Steps (λ o. joined_at (cells_of cells.now) lists.now ≡ Ok o) (walk (cells_of cells.now) used.old (leaves_checks (cells_of cells.now) lists.now)) used.new result }
 {
     let mut all = Vec::new(alloc);
     let mut rest = lists;
@@ -47,11 +48,11 @@ fn read_leaves(
 /// The offsets of children that the list at an offset names, in order, through a list of lists too.
 pub(crate) fn read_entries(
     alloc: Global,
-    cells: &CellHeap,
+    cells: &Source,
     used: &mut Used,
     at: u32,
 ) -> Result<Offsets, ReadStop>
-    ensures { Steps (λ o. entries_at (look_up cells.now) at ≡ Ok o) (walk (look_up cells.now) used.old (entries_checks (look_up cells.now) at)) used.new result }
+    ensures { Steps (λ o. entries_at (cells_of cells.now) at ≡ Ok o) (walk (cells_of cells.now) used.old (entries_checks (cells_of cells.now) at)) used.new result }
 {
     let list = use_list(alloc, cells, used, at)?;
     if lists_lists(list.kind) {

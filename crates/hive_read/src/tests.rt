@@ -2,7 +2,7 @@
 
 use super::*;
 use hive_cells::read_cells;
-use nt_bytes::{Bytes, HiveFault, HiveKind, Names, ReadStop, narrow};
+use nt_bytes::{Bytes, HiveFault, HiveKind, HiveVersion, Names, ReadStop, narrow};
 use std::alloc::{AllocError, Global};
 use std::process::Abort;
 use std::test::Fail;
@@ -49,16 +49,26 @@ fn small_hive(alloc: Global) -> Result<Bytes, AllocError> {
     Ok(bins)
 }
 
-// What reading these bins data from a root stops at.
-fn stop_of(rt: &impl Abort, alloc: Global, bins: Bytes, root: u32) -> Option<ReadStop> {
+// What reading these bins data from a root stops at, in a version.
+pub(crate) fn stop_in(
+    rt: &impl Abort,
+    alloc: Global,
+    bins: Bytes,
+    root: u32,
+    version: HiveVersion,
+) -> Option<ReadStop> {
     assert!(rt; bins.len() <= 16_777_216);
     match read_cells(alloc, bins) {
         Err(stop) => Some(stop),
-        Ok(cells) => match read_tree(alloc, &cells, root) {
+        Ok(cells) => match read_tree(alloc, &cells, root, version) {
             Err(stop) => Some(stop),
             Ok(_) => None,
         },
     }
+}
+
+fn stop_of(rt: &impl Abort, alloc: Global, bins: Bytes, root: u32) -> Option<ReadStop> {
+    stop_in(rt, alloc, bins, root, HiveVersion::V3)
 }
 
 #[test]
@@ -66,7 +76,7 @@ fn a_small_hive_is_read(rt: HostRuntime) -> Result<(), Fail> {
     let bins = small_hive(rt.alloc())?;
     assert_eq!(rt; bins.len(), 4096);
     let cells = read_cells(rt.alloc(), bins)?;
-    let root = read_tree(rt.alloc(), &cells, 32)?;
+    let root = read_tree(rt.alloc(), &cells, 32, HiveVersion::V3)?;
     let mut path = Names::new(rt.alloc());
     for name in ["ControlSet001", "Services", "disk"] {
         path.push(narrow(rt.alloc(), name.as_bytes())?)?;
@@ -138,6 +148,11 @@ fn fields_that_do_not_count_are_not_looked_at(rt: HostRuntime) -> Result<(), Fai
         at: 240,
     });
     assert_eq!(rt; stop_of(&rt, rt.alloc(), bins, 32), Some(nested));
+    // a list with hashes, and what they are
+    let mut bins = small_hive(rt.alloc())?;
+    assert_eq!(rt; bins.len(), 4096);
+    bins.overwrite(124, b"lh");
+    assert_eq!(rt; stop_of(&rt, rt.alloc(), bins, 32), None);
     // a root that is no cell
     let bins = small_hive(rt.alloc())?;
     let nowhere = ReadStop::Fault(HiveFault {

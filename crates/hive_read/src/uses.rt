@@ -4,19 +4,21 @@ ghost use Rattle.std.specs.Prelude.{◌≡◌, ℕ, true, false, List, [], ◌�
 ghost use Rattle.nt_bytes.specs.declared.fault.ReadStop.TheVariants.{Fault};
 ghost use Rattle.hive_model.specs.Forms.{Gives, key_value_at, security_at, list_at, offsets_in, bytes_in};
 ghost use Rattle.nt_bytes.specs.Folding.{folds_same};
-ghost use Rattle.hive_model.specs.Bins.{Cells, look_up};
-ghost use Rattle.hive_model.specs.Walk.{uses, use_as, reading, node_at, leaf_at, name_check};
-ghost use Rattle.cell_forms.specs.Views.{key_node_of, key_value_of, security_of, subkey_list_of};
+ghost use Rattle.hive_model.specs.Bins.{Cells};
+ghost use Rattle.hive_read.specs.Sources.{cells_of};
+ghost use Rattle.hive_model.specs.Size.{segment_count as segments_of};
+ghost use Rattle.hive_model.specs.Walk.{uses, use_as, reading, node_at, big_data_of, leaf_at, name_check};
+ghost use Rattle.cell_forms.specs.Views.{key_node_of, key_value_of, big_data_of as form_of, security_of, subkey_list_of};
 ghost use Rattle.hive_read.specs.Taken.{has_name, Knows};
 ghost use Rattle.hive_read.specs.Walked.{Seen, check, walk, Steps};
 
+use crate::source::Source;
 use crate::taken::Taken;
 use crate::used::Used;
 use cell_forms::{
-    ListForm, ListKind, NkForm, Offsets, SkForm, VkForm, read_bytes, read_list, read_nk,
-    read_offsets, read_sk, read_vk,
+    DbForm, ListForm, ListKind, NkForm, Offsets, SkForm, VkForm, read_bytes, read_db, read_list,
+    read_nk, read_offsets, read_sk, read_vk,
 };
-use hive_cells::CellHeap;
 use nt_bytes::{Bytes, HiveFault, HiveKind, ReadStop};
 use std::alloc::Global;
 
@@ -29,18 +31,16 @@ pub(crate) fn stop(kind: HiveKind, at: u32) -> ReadStop
 
 // Uses a cell, if it wasn't used before but both times as security.
 fn use_cell<'a>(
-    cells: &'a CellHeap,
+    cells: &Source<'a>,
     used: &mut Used,
     at: u32,
     security: bool,
 ) -> Result<&'a [u8], ReadStop>
-    ensures { Steps (λ p. look_up cells.entry.now at ≡ Ok p.now) (check (look_up cells.entry.now) used.old (uses at security)) used.new result }
+    ensures { Steps (λ p. (cells_of cells.now).payload at ≡ Ok p.now) (check (cells_of cells.now) used.old (uses at security)) used.new result }
 {
-    let payload = cells.payload(at)?;
-    if let Some(before) = used.get(at) {
-        if !(before && security) {
-            return Err(stop(HiveKind::Shared, at));
-        }
+    let payload = cells.heap.payload(at)?;
+    if used.clashes(at, security) {
+        return Err(stop(HiveKind::Shared, at));
     }
     used.mark(at, security)?;
     Ok(payload)
@@ -62,6 +62,13 @@ pub(crate) fn take_name(
         return Err(stop(HiveKind::DoubleName, at));
     }
     Ok(())
+}
+
+// How many segments so many bytes of big data fill.
+fn segment_count(size: u32) -> u64
+    ensures { result ≡ segments_of size }
+{
+    (u64::from(size) + 16_343) / 16_344
 }
 
 // A key node. The root's name may be empty.
@@ -88,14 +95,38 @@ fn leaf_form(alloc: Global, payload: &[u8], at: u32) -> Result<Offsets, ReadStop
     }
 }
 
+// A cell of big data for so many bytes: it has as many segments as these fill.
+#[tactic(auto, unfolding(hive_model::specs::Walk::big_data_of))]
+fn big_data_form(payload: &[u8], size: u32, at: u32) -> Result<DbForm, ReadStop>
+    ensures { Gives form_of at result (big_data_of size payload.now) }
+{
+    let form = read_db(payload, at)?;
+    if u64::from(form.segments) != segment_count(size) {
+        return Err(stop(HiveKind::FormLength, at));
+    }
+    Ok(form)
+}
+
+// The first bytes of a payload.
+#[tactic(auto, unfolding(hive_model::specs::Forms::bytes_in))]
+fn front(payload: &[u8], count: u32, at: u32) -> Result<&[u8], ReadStop>
+    ensures { Gives (λ p. p.now) at result (bytes_in count payload.now) }
+{
+    let count = count as usize;
+    if payload.len() < count {
+        return Err(stop(HiveKind::FormShort, at));
+    }
+    Ok(&payload[..count])
+}
+
 pub(crate) fn use_node(
     alloc: Global,
-    cells: &CellHeap,
+    cells: &Source,
     used: &mut Used,
     root: bool,
     at: u32,
 ) -> Result<NkForm, ReadStop>
-    ensures { Steps (λ x. reading (node_at root) (look_up cells.now) at ≡ Ok (key_node_of x)) (walk (look_up cells.now) used.old (use_as false (node_at root) (look_up cells.now) at)) used.new result }
+    ensures { Steps (λ x. reading (node_at root) (cells_of cells.now) at ≡ Ok (key_node_of x)) (walk (cells_of cells.now) used.old (use_as false (node_at root) (cells_of cells.now) at)) used.new result }
 {
     let payload = use_cell(cells, used, at, false)?;
     node_form(alloc, payload, root, at)
@@ -103,11 +134,11 @@ pub(crate) fn use_node(
 
 pub(crate) fn use_value(
     alloc: Global,
-    cells: &CellHeap,
+    cells: &Source,
     used: &mut Used,
     at: u32,
 ) -> Result<VkForm, ReadStop>
-    ensures { Steps (λ x. reading key_value_at (look_up cells.now) at ≡ Ok (key_value_of x)) (walk (look_up cells.now) used.old (use_as false key_value_at (look_up cells.now) at)) used.new result }
+    ensures { Steps (λ x. reading key_value_at (cells_of cells.now) at ≡ Ok (key_value_of x)) (walk (cells_of cells.now) used.old (use_as false key_value_at (cells_of cells.now) at)) used.new result }
 {
     let payload = use_cell(cells, used, at, false)?;
     read_vk(alloc, payload, at)
@@ -115,11 +146,11 @@ pub(crate) fn use_value(
 
 pub(crate) fn use_security(
     alloc: Global,
-    cells: &CellHeap,
+    cells: &Source,
     used: &mut Used,
     at: u32,
 ) -> Result<SkForm, ReadStop>
-    ensures { Steps (λ x. reading security_at (look_up cells.now) at ≡ Ok (security_of x)) (walk (look_up cells.now) used.old (use_as true security_at (look_up cells.now) at)) used.new result }
+    ensures { Steps (λ x. reading security_at (cells_of cells.now) at ≡ Ok (security_of x)) (walk (cells_of cells.now) used.old (use_as true security_at (cells_of cells.now) at)) used.new result }
 {
     let payload = use_cell(cells, used, at, true)?;
     read_sk(alloc, payload, at)
@@ -127,11 +158,11 @@ pub(crate) fn use_security(
 
 pub(crate) fn use_list(
     alloc: Global,
-    cells: &CellHeap,
+    cells: &Source,
     used: &mut Used,
     at: u32,
 ) -> Result<ListForm, ReadStop>
-    ensures { Steps (λ x. reading list_at (look_up cells.now) at ≡ Ok (subkey_list_of x)) (walk (look_up cells.now) used.old (use_as false list_at (look_up cells.now) at)) used.new result }
+    ensures { Steps (λ x. reading list_at (cells_of cells.now) at ≡ Ok (subkey_list_of x)) (walk (cells_of cells.now) used.old (use_as false list_at (cells_of cells.now) at)) used.new result }
 {
     let payload = use_cell(cells, used, at, false)?;
     read_list(alloc, payload, at)
@@ -140,11 +171,11 @@ pub(crate) fn use_list(
 /// A list of a list of lists.
 pub(crate) fn use_leaf(
     alloc: Global,
-    cells: &CellHeap,
+    cells: &Source,
     used: &mut Used,
     at: u32,
 ) -> Result<Offsets, ReadStop>
-    ensures { Steps (λ x. reading leaf_at (look_up cells.now) at ≡ Ok x) (walk (look_up cells.now) used.old (use_as false leaf_at (look_up cells.now) at)) used.new result }
+    ensures { Steps (λ x. reading leaf_at (cells_of cells.now) at ≡ Ok x) (walk (cells_of cells.now) used.old (use_as false leaf_at (cells_of cells.now) at)) used.new result }
 {
     let payload = use_cell(cells, used, at, false)?;
     leaf_form(alloc, payload, at)
@@ -153,12 +184,12 @@ pub(crate) fn use_leaf(
 /// The offsets of a value list.
 pub(crate) fn use_offsets(
     alloc: Global,
-    cells: &CellHeap,
+    cells: &Source,
     used: &mut Used,
     count: u32,
     at: u32,
 ) -> Result<Offsets, ReadStop>
-    ensures { Steps (λ x. reading (offsets_in count) (look_up cells.now) at ≡ Ok x) (walk (look_up cells.now) used.old (use_as false (offsets_in count) (look_up cells.now) at)) used.new result }
+    ensures { Steps (λ x. reading (offsets_in count) (cells_of cells.now) at ≡ Ok x) (walk (cells_of cells.now) used.old (use_as false (offsets_in count) (cells_of cells.now) at)) used.new result }
 {
     let payload = use_cell(cells, used, at, false)?;
     read_offsets(alloc, payload, count, at)
@@ -167,13 +198,39 @@ pub(crate) fn use_offsets(
 /// The first bytes of a cell, as of a class or of data.
 pub(crate) fn use_bytes(
     alloc: Global,
-    cells: &CellHeap,
+    cells: &Source,
     used: &mut Used,
     count: u32,
     at: u32,
 ) -> Result<Bytes, ReadStop>
-    ensures { Steps (λ x. reading (bytes_in count) (look_up cells.now) at ≡ Ok x) (walk (look_up cells.now) used.old (use_as false (bytes_in count) (look_up cells.now) at)) used.new result }
+    ensures { Steps (λ x. reading (bytes_in count) (cells_of cells.now) at ≡ Ok x) (walk (cells_of cells.now) used.old (use_as false (bytes_in count) (cells_of cells.now) at)) used.new result }
 {
     let payload = use_cell(cells, used, at, false)?;
     read_bytes(alloc, payload, count, at)
+}
+
+/// The same without a copy.
+pub(crate) fn use_front<'a>(
+    cells: &Source<'a>,
+    used: &mut Used,
+    count: u32,
+    at: u32,
+) -> Result<&'a [u8], ReadStop>
+    ensures { Steps (λ p. reading (bytes_in count) (cells_of cells.now) at ≡ Ok p.now) (walk (cells_of cells.now) used.old (use_as false (bytes_in count) (cells_of cells.now) at)) used.new result }
+{
+    let payload = use_cell(cells, used, at, false)?;
+    front(payload, count, at)
+}
+
+/// The cell of big data of so many bytes.
+pub(crate) fn use_big_data(
+    cells: &Source,
+    used: &mut Used,
+    size: u32,
+    at: u32,
+) -> Result<DbForm, ReadStop>
+    ensures { Steps (λ x. reading (big_data_of size) (cells_of cells.now) at ≡ Ok (form_of x)) (walk (cells_of cells.now) used.old (use_as false (big_data_of size) (cells_of cells.now) at)) used.new result }
+{
+    let payload = use_cell(cells, used, at, false)?;
+    big_data_form(payload, size, at)
 }

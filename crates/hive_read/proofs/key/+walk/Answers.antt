@@ -1,11 +1,11 @@
-use Rattle.std.proofs.Common.{◌≡◌, ◌-◌, ℕ, ◌||◌, List, [], ◌∷◌, map, true, false, length, take, drop, get_or, Ok, refl, sym, ap, subst, ◌∙◌, arith}
+use Rattle.std.proofs.Common.{◌≡◌, ◌-◌, ℕ, ◌||◌, List, [], ◌∷◌, map, false, length, take, drop, get_or, Ok, refl, sym, ap, subst, ◌∙◌, arith}
 use Rattle.std.proofs.lemmas.Result.{err_from_is_err_and, IfOk-weaker}
 use Rattle.std.proofs.lemmas.List.{append-nil, map_push}
 use Rattle.nt_bytes.specs.Folding.{folds_same}
 use Rattle.hive_model.specs.Forms.{KeyNode, key_node_at}
-use Rattle.hive_model.specs.Bins.{look_up}
+use Rattle.hive_read.specs.Sources.{cells_of}
 use Rattle.hive_model.specs.Tree.{Tree, trees, head}
-use Rattle.hive_model.specs.Walk.{reading, node_at, names_of, name_check, keys_in_turn, below_node, key_checks}
+use Rattle.hive_model.specs.Walk.{reading, names_of, name_check, keys_in_turn, below_node, key_checks}
 use Rattle.hive_model.specs.Stands.{Stands, AllStand}
 use Rattle.cell_forms.specs.Views.{key_node_of}
 use Rattle.hive_read.specs.Taken.{has_name, Knows}
@@ -19,17 +19,17 @@ use Rattle.hive_read.proofs.key.+walk.Goals as goal
 
 pub read_key-returns-then-left-eq0-clause-walked : goal.read_key-returns-then-left-eq0-clause-walked
 read_key-returns-then-left-eq0-clause-walked t c = λ names k.
-    rw c.stop.ensures (key-deep c.args.left (look_up c.args.cells.now) c.args.root c.args.used.now names c.args.at c.if-left-eq0.true)
+    rw c.stop.ensures (key-deep c.args.left (cells_of c.args.cells.now) c.args.root c.args.used.now names c.args.at c.if-left-eq0.true)
 
 pub read_key-returns-in_err-node-clause-walked : goal.read_key-returns-in_err-node-clause-walked
 read_key-returns-in_err-node-clause-walked t c = λ names k.
     let p = err_from_is_err_and c.from_residual.result c.from_residual.ensures.1 in
-    rw (p.1, p.2) (stops-on c.in_err-node.field-0.0 _ _ (λ f. key-off c.args.left (look_up c.args.cells.now) c.args.root c.args.used.now names c.args.at f (omega arith)) c.in_err-node.ensures)
+    rw (p.1, p.2) (stops-on c.in_err-node.field-0.0 _ _ (λ f. key-off c.args.left (cells_of c.args.cells.now) c.args.root c.args.used.now names c.args.at f (omega arith)) c.in_err-node.ensures)
 
 pub read_key-returns-in_err-take_name-clause-walked : goal.read_key-returns-in_err-take_name-clause-walked
 read_key-returns-in_err-take_name-clause-walked t c = λ names k.
     let p = err_from_is_err_and c.from_residual-in_err-take_name.result c.from_residual-in_err-take_name.ensures.1 in
-    let cells = look_up c.args.cells.now in
+    let cells = cells_of c.args.cells.now in
     let u = c.in_ok-node.ensures in
     let node = key_node_of c.in_ok-node.node in
     rw (p.1, p.2) (stops-on c.in_err-take_name.field-0.0 _ _
@@ -39,7 +39,7 @@ read_key-returns-in_err-take_name-clause-walked t c = λ names k.
 
 pub read_key-returns-clause-walked : goal.read_key-returns-clause-walked
 read_key-returns-clause-walked t c = λ names k.
-    let cells = look_up c.args.cells.now in
+    let cells = cells_of c.args.cells.now in
     let u = c.in_ok-node.ensures in
     let node = key_node_of c.in_ok-node.node in
     let taken = rw c.as_slice.ensures at (c.in_ok-take_name.ensures.walked names k cells c.use_node.new.used) in
@@ -61,34 +61,34 @@ read_key-returns-clause-known t c =
 pub read_below-returns-in_err-class-clause-walked : goal.read_below-returns-in_err-class-clause-walked
 read_below-returns-in_err-class-clause-walked t c =
     let p = err_from_is_err_and c.from_residual.result c.from_residual.ensures.1 in
-    let cells = look_up c.args.cells.now in
+    let cells = cells_of c.args.cells.now in
     rw (p.1, p.2) (stops-on c.in_err-class.field-0.0 _ _ (λ f. below-class (key_checks c.args.left cells false) cells c.args.used.now (key_node_of c.args.node) c.args.at f) c.in_err-class.ensures)
 
 pub read_below-returns-in_err-security-clause-walked : goal.read_below-returns-in_err-security-clause-walked
 read_below-returns-in_err-security-clause-walked t c =
     let p = err_from_is_err_and c.from_residual-in_err-security.result c.from_residual-in_err-security.ensures.1 in
-    let cells = look_up c.args.cells.now in
+    let cells = cells_of c.args.cells.now in
     rw (p.1, p.2) (stops-on c.in_err-security.field-0.0 _ _ (λ f. below-security (key_checks c.args.left cells false) cells c.args.used.now c.read_class.new.used (key_node_of c.args.node) c.args.at f c.in_ok-class.ensures.0)
     c.in_err-security.ensures)
 
 pub read_below-returns-in_err-values-clause-walked : goal.read_below-returns-in_err-values-clause-walked
 read_below-returns-in_err-values-clause-walked t c =
     let p = err_from_is_err_and c.from_residual-in_err-values.result c.from_residual-in_err-values.ensures.1 in
-    let cells = look_up c.args.cells.now in
+    let cells = cells_of c.args.cells.now in
     rw (p.1, p.2) (stops-on c.in_err-values.field-0.0 _ _
     (λ f. below-values (key_checks c.args.left cells false) cells c.args.used.now c.read_class.new.used c.read_descriptor.new.used (key_node_of c.args.node) c.args.at f c.in_ok-class.ensures.0 c.in_ok-security.ensures.0) c.in_err-values.ensures)
 
 pub read_below-returns-in_err-children-clause-walked : goal.read_below-returns-in_err-children-clause-walked
 read_below-returns-in_err-children-clause-walked t c =
     let p = err_from_is_err_and c.from_residual-in_err-children.result c.from_residual-in_err-children.ensures.1 in
-    let cells = look_up c.args.cells.now in
+    let cells = cells_of c.args.cells.now in
     let below = below-children (key_checks c.args.left cells false) cells c.args.used.now c.read_class.new.used c.read_descriptor.new.used c.read_values.new.used (key_node_of c.args.node) c.args.at
     c.in_ok-class.ensures.0 c.in_ok-security.ensures.0 c.in_ok-values.ensures.0 in
     rw (p.1, p.2) (stops-on c.in_err-children.field-0.0 _ _ (λ f e. below ∙ e) c.in_err-children.ensures)
 
 pub read_below-returns-clause-walked : goal.read_below-returns-clause-walked
 read_below-returns-clause-walked t c =
-    let cells = look_up c.args.cells.now in
+    let cells = cells_of c.args.cells.now in
     let s = c.in_ok-children.ensures in
     let below = below-children (key_checks c.args.left cells false) cells c.args.used.now c.read_class.new.used c.read_descriptor.new.used c.read_values.new.used (key_node_of c.args.node) c.args.at
     c.in_ok-class.ensures.0 c.in_ok-security.ensures.0 c.in_ok-values.ensures.0 in (
@@ -114,27 +114,27 @@ read_below-returns-clause-walked t c =
 
 pub read_children-returns-then-node-eq0 : goal.read_children-returns-then-node-eq0
 read_children-returns-then-node-eq0 t c =
-    let cells = look_up c.args.cells.now in
+    let cells = cells_of c.args.cells.now in
     let n = children-none (key_checks c.args.left cells false) cells c.args.used.now (key_node_of c.args.node.now) c.args.at c.if-node-eq0.true in
     rw c.new.ensures (n.0, ([], n.1, refl))
 
 pub read_children-returns-in_err-offsets : goal.read_children-returns-in_err-offsets
 read_children-returns-in_err-offsets t c =
     let p = err_from_is_err_and c.from_residual.result c.from_residual.ensures.1 in
-    let cells = look_up c.args.cells.now in
+    let cells = cells_of c.args.cells.now in
     rw (p.1, p.2) (stops-on c.in_err-offsets.field-0.0 _ _
     (λ f. children-off (key_checks c.args.left cells false) cells c.args.used.now (key_node_of c.args.node.now) c.args.at f c.if-node-eq0.false) c.in_err-offsets.ensures)
 
 pub read_children-returns-then-found-node : goal.read_children-returns-then-found-node
 read_children-returns-then-found-node t c =
-    let cells = look_up c.args.cells.now in
+    let cells = cells_of c.args.cells.now in
     let e = c.in_ok-offsets.ensures in
     rw c.stop.ensures (children-count (key_checks c.args.left cells false) cells c.args.used.now c.read_entries.new.used (key_node_of c.args.node.now) c.args.at c.in_ok-offsets.offsets c.if-node-eq0.false e.0 e.1
     (λ d. c.if-found-node.true (ap length c.as_slice-found.ensures ∙ d)))
 
 pub read_children-returns : goal.read_children-returns
 read_children-returns t c =
-    let cells = look_up c.args.cells.now in
+    let cells = cells_of c.args.cells.now in
     let e = c.in_ok-offsets.ensures in
     let on = children-on (key_checks c.args.left cells false) cells c.args.used.now c.read_entries.new.used (key_node_of c.args.node.now) c.args.at c.in_ok-offsets.offsets c.if-node-eq0.false e.0 e.1
     (sym (ap length c.as_slice-found.ensures) ∙ c.if-found-node.false) in
@@ -149,7 +149,7 @@ read_in_turn-children-init t c = rw c.new-children.ensures (record { told = refl
 
 pub read_in_turn-returns-in_default : goal.read_in_turn-returns-in_default
 read_in_turn-returns-in_default t c =
-    let cells = look_up c.args.cells.now in
+    let cells = cells_of c.args.cells.now in
     let i = c.children.invariant in
     let z = none-left c.children.rest.now c.in_default.len_below in (
       sym i.told ∙ ap (λ r. walk cells c.children.used (keys_in_turn (key_checks c.args.left cells false) cells (map key_name c.children.children) r)) z,
@@ -159,7 +159,7 @@ read_in_turn-returns-in_default t c =
 pub read_in_turn-returns-in_err-child : goal.read_in_turn-returns-in_err-child
 read_in_turn-returns-in_err-child t c =
     let p = err_from_is_err_and c.from_residual.result c.from_residual.ensures.1 in
-    let cells = look_up c.args.cells.now in
+    let cells = cells_of c.args.cells.now in
     let i = c.children.invariant in
     let rest = c.children.rest.now in
     let r = first-and-rest rest c.in-len1-up.len_at_least in
@@ -169,7 +169,7 @@ read_in_turn-returns-in_err-child t c =
 
 pub read_in_turn-children-preserved : goal.read_in_turn-children-preserved
 read_in_turn-children-preserved t c =
-    let cells = look_up c.args.cells.now in
+    let cells = cells_of c.args.cells.now in
     let i = c.children.invariant in
     let rest = c.children.rest.now in
     let r = first-and-rest rest c.in-len1-up.len_at_least in

@@ -1,5 +1,5 @@
 use Rattle.std.proofs.Common.{◌≡◌, ◌+◌, ◌*◌, ◌++◌, false, List, [], map, length}
-use Rattle.hive_model.specs.Bins.{look_up}
+use Rattle.hive_read.specs.Sources.{cells_of}
 use Rattle.hive_model.specs.Tree.{Tree, trees}
 use Rattle.hive_model.specs.Walk.{keys_in_turn, key_checks}
 use Rattle.hive_model.specs.Stands.{AllStand}
@@ -22,7 +22,7 @@ decreases-read_below l = 4 * l.left + 3
 
 abbrev pub invariant-read_in_turn-children : goal.invariant-read_in_turn-children
 invariant-read_in_turn-children l =
-    let cells = look_up l.cells in
+    let cells = cells_of l.cells in
     record {
       told : walk cells l.used (keys_in_turn (key_checks l.left cells false) cells (map key_name l.children) l.rest) ≡ walk cells l.fn.used (keys_in_turn (key_checks l.left cells false) cells [] l.offsets);
       stand : (ts : List Tree) → AllStand cells l.rest (trees ts) → AllStand cells l.offsets (trees (l.children ++ ts));

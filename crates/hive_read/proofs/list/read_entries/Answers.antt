@@ -1,6 +1,6 @@
-use Rattle.std.proofs.Common.{◌≡◌, ℕ, List, true, false, Ok, sym, ap, ◌∙◌}
+use Rattle.std.proofs.Common.{◌≡◌, ℕ, List, true, false, Ok, sym, ◌∙◌}
 use Rattle.std.proofs.lemmas.Result.{err_from_is_err_and}
-use Rattle.hive_model.specs.Bins.{look_up}
+use Rattle.hive_read.specs.Sources.{cells_of}
 use Rattle.hive_model.specs.Walk.{is_list_of_lists, joined_at, entries_at}
 use Rattle.cell_forms.specs.Views.{kind_of, subkey_list_of}
 use Rattle.hive_read.proofs.Walks.{stops-on, steps-same}
@@ -10,11 +10,11 @@ use Rattle.hive_read.proofs.list.read_entries.Goals as goal
 pub returns-in_err-list : goal.returns-in_err-list
 returns-in_err-list c =
     let p = err_from_is_err_and c.from_residual.result c.from_residual.ensures.1 in
-    rw (p.1, p.2) (stops-on c.in_err-list.field-0.0 _ _ (λ f. entries-off (look_up c.args.cells.now) c.args.used.now c.args.at f) c.in_err-list.ensures)
+    rw (p.1, p.2) (stops-on c.in_err-list.field-0.0 _ _ (λ f. entries-off (cells_of c.args.cells.now) c.args.used.now c.args.at f) c.in_err-list.ensures)
 
 pub returns-then-lists_lists : goal.returns-then-lists_lists
 returns-then-lists_lists c =
-    let cells = look_up c.args.cells.now in
+    let cells = cells_of c.args.cells.now in
     let list = c.in_ok-list.list in
     let u = c.in_ok-list.ensures in
     let k : is_list_of_lists (kind_of list.kind) ≡ true = sym c.lists_lists.ensures ∙ c.if-lists_lists.true in
@@ -24,7 +24,7 @@ returns-then-lists_lists c =
 
 pub returns : goal.returns
 returns c =
-    let cells = look_up c.args.cells.now in
+    let cells = cells_of c.args.cells.now in
     let list = c.in_ok-list.list in
     let u = c.in_ok-list.ensures in
     let k : is_list_of_lists (kind_of list.kind) ≡ false = sym c.lists_lists.ensures ∙ c.if-lists_lists.false in

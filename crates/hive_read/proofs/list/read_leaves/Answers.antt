@@ -1,7 +1,7 @@
-use Rattle.std.proofs.Common.{◌≡◌, ◌-◌, ℕ, List, [], length, take, drop, get_or, Ok, refl, sym, ap, ◌∙◌}
+use Rattle.std.proofs.Common.{◌-◌, ℕ, List, [], length, take, drop, get_or, Ok, sym, ap, ◌∙◌}
 use Rattle.std.proofs.lemmas.Result.{err_from_is_err_and}
 use Rattle.std.proofs.lemmas.List.{append-nil}
-use Rattle.hive_model.specs.Bins.{look_up}
+use Rattle.hive_read.specs.Sources.{cells_of}
 use Rattle.hive_model.specs.Walk.{joined_at, leaves_checks}
 use Rattle.hive_read.specs.Walked.{walk}
 use Rattle.hive_read.proofs.Walks.{stops-on, none-left, first-and-rest}
@@ -10,7 +10,7 @@ use Rattle.hive_read.proofs.list.read_leaves.Goals as goal
 
 pub returns-in_default : goal.returns-in_default
 returns-in_default c =
-    let cells = look_up c.args.cells.now in
+    let cells = cells_of c.args.cells.now in
     let i = c.lists.invariant in
     let z = none-left c.lists.rest.now c.in_default.len_below in
     rw c.from_vec.ensures (
@@ -21,7 +21,7 @@ returns-in_default c =
 pub returns-in_err-leaf : goal.returns-in_err-leaf
 returns-in_err-leaf c =
     let p = err_from_is_err_and c.from_residual.result c.from_residual.ensures.1 in
-    let cells = look_up c.args.cells.now in
+    let cells = cells_of c.args.cells.now in
     let i = c.lists.invariant in
     let rest = c.lists.rest.now in
     let r = first-and-rest rest c.in-len1-up.len_at_least in
@@ -30,7 +30,7 @@ returns-in_err-leaf c =
 
 pub lists-preserved : goal.lists-preserved
 lists-preserved c =
-    let cells = look_up c.args.cells.now in
+    let cells = cells_of c.args.cells.now in
     let i = c.lists.invariant in
     let rest = c.lists.rest.now in
     let r = first-and-rest rest c.in-len1-up.len_at_least in

@@ -1,5 +1,5 @@
 use Rattle.std.proofs.Common.{◌≡◌, ◌++◌, ℕ, List, length, Ok}
-use Rattle.hive_model.specs.Bins.{look_up}
+use Rattle.hive_read.specs.Sources.{cells_of}
 use Rattle.hive_model.specs.Walk.{joined_at, leaves_checks}
 use Rattle.hive_read.specs.Walked.{walk}
 use Rattle.hive_read.proofs.list.read_leaves.Given as goal
@@ -9,7 +9,7 @@ decreases-lists l = length l.rest
 
 abbrev pub invariant-lists : goal.invariant-lists
 invariant-lists l =
-    let cells = look_up l.cells in
+    let cells = cells_of l.cells in
     record {
       told : walk cells l.used (leaves_checks cells l.rest) ≡ walk cells l.fn.used (leaves_checks cells l.lists);
       stand : (more : List ℕ) → joined_at cells l.rest ≡ Ok more → joined_at cells l.lists ≡ Ok (l.all.items ++ more);

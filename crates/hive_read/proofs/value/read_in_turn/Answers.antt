@@ -1,7 +1,7 @@
-use Rattle.std.proofs.Common.{◌≡◌, ◌-◌, ℕ, List, [], map, length, take, drop, get_or, Ok, refl, sym, ap, subst, ◌∙◌}
+use Rattle.std.proofs.Common.{◌-◌, ℕ, List, [], map, length, take, drop, get_or, Ok, refl, sym, ap, subst, ◌∙◌}
 use Rattle.std.proofs.lemmas.Result.{err_from_is_err_and}
 use Rattle.std.proofs.lemmas.List.{append-nil, map_push}
-use Rattle.hive_model.specs.Bins.{look_up}
+use Rattle.hive_read.specs.Sources.{cells_of}
 use Rattle.hive_model.specs.Tree.{Item}
 use Rattle.hive_model.specs.Walk.{values_in_turn}
 use Rattle.hive_model.specs.Stands.{items_at}
@@ -14,7 +14,7 @@ use Rattle.hive_read.proofs.value.read_in_turn.Goals as goal
 
 pub returns-in_default : goal.returns-in_default
 returns-in_default c =
-    let cells = look_up c.args.cells.now in
+    let cells = cells_of c.args.cells.now in
     let i = c.values.invariant in
     let z = none-left c.values.rest.now c.in_default.len_below in (
       sym i.told ∙ ap (λ r. walk cells c.values.used (values_in_turn cells (map (λ (v : Item). v.name) c.values.values) r)) z,
@@ -24,7 +24,7 @@ returns-in_default c =
 pub returns-in_err-value : goal.returns-in_err-value
 returns-in_err-value c =
     let p = err_from_is_err_and c.from_residual.result c.from_residual.ensures.1 in
-    let cells = look_up c.args.cells.now in
+    let cells = cells_of c.args.cells.now in
     let i = c.values.invariant in
     let rest = c.values.rest.now in
     let r = first-and-rest rest c.in-len1-up.len_at_least in
@@ -34,7 +34,7 @@ returns-in_err-value c =
 
 pub values-preserved : goal.values-preserved
 values-preserved c =
-    let cells = look_up c.args.cells.now in
+    let cells = cells_of c.args.cells.now in
     let i = c.values.invariant in
     let rest = c.values.rest.now in
     let r = first-and-rest rest c.in-len1-up.len_at_least in

@@ -1,6 +1,6 @@
-use Rattle.std.proofs.Common.{◌≡◌, List, ◌∷◌, [], refl, sym, ap, ◌∙◌}
+use Rattle.std.proofs.Common.{◌∷◌, [], ◌∙◌}
 use Rattle.std.proofs.lemmas.Result.{err_from_is_err_and}
-use Rattle.hive_model.specs.Bins.{look_up}
+use Rattle.hive_read.specs.Sources.{cells_of}
 use Rattle.hive_model.specs.Walk.{name_check, data_checks}
 use Rattle.cell_forms.specs.Views.{key_value_of}
 use Rattle.hive_read.proofs.Walks.{stops-on, walk-on, walk-off}
@@ -10,12 +10,12 @@ use Rattle.hive_read.proofs.value.read_value.Goals as goal
 pub returns-in_err-form-clause-walked : goal.returns-in_err-form-clause-walked
 returns-in_err-form-clause-walked c = λ names k.
     let p = err_from_is_err_and c.from_residual.result c.from_residual.ensures.1 in
-    rw (p.1, p.2) (stops-on c.in_err-form.field-0.0 _ _ (λ f. value-off (look_up c.args.cells.now) c.args.used.now names c.args.at f) c.in_err-form.ensures)
+    rw (p.1, p.2) (stops-on c.in_err-form.field-0.0 _ _ (λ f. value-off (cells_of c.args.cells.now) c.args.used.now names c.args.at f) c.in_err-form.ensures)
 
 pub returns-in_err-take_name-clause-walked : goal.returns-in_err-take_name-clause-walked
 returns-in_err-take_name-clause-walked c = λ names k.
     let p = err_from_is_err_and c.from_residual-in_err-take_name.result c.from_residual-in_err-take_name.ensures.1 in
-    let cells = look_up c.args.cells.now in
+    let cells = cells_of c.args.cells.now in
     let u = c.in_ok-form.ensures in
     let v = key_value_of c.in_ok-form.form in
     rw (p.1, p.2) (stops-on c.in_err-take_name.field-0.0 _ _
@@ -25,7 +25,7 @@ returns-in_err-take_name-clause-walked c = λ names k.
 pub returns-in_err-bytes-clause-walked : goal.returns-in_err-bytes-clause-walked
 returns-in_err-bytes-clause-walked c = λ names k.
     let p = err_from_is_err_and c.from_residual-in_err-bytes.result c.from_residual-in_err-bytes.ensures.1 in
-    let cells = look_up c.args.cells.now in
+    let cells = cells_of c.args.cells.now in
     let u = c.in_ok-form.ensures in
     let v = key_value_of c.in_ok-form.form in
     let t = rw c.as_slice.ensures at (c.in_ok-take_name.ensures.walked names k cells c.use_value.new.used) in
@@ -35,7 +35,7 @@ returns-in_err-bytes-clause-walked c = λ names k.
 
 pub returns-clause-walked : goal.returns-clause-walked
 returns-clause-walked c = λ names k.
-    let cells = look_up c.args.cells.now in
+    let cells = cells_of c.args.cells.now in
     let u = c.in_ok-form.ensures in
     let v = key_value_of c.in_ok-form.form in
     let t = rw c.as_slice.ensures at (c.in_ok-take_name.ensures.walked names k cells c.use_value.new.used) in

@@ -1,0 +1,11 @@
+//! What a walk reads from.
+
+use hive_cells::CellHeap;
+use nt_bytes::HiveVersion;
+
+/// The cells of a hive, and the version that they are read in.
+#[derive(Drop)]
+pub struct Source<'a> {
+    pub heap: &'a CellHeap,
+    pub version: HiveVersion,
+}
