@@ -1,15 +1,16 @@
 -- A text that is read as a path spells it, and so what is read is a path.
-use Rattle.std.proofs.Common.{◌≡◌, inl, inr, ℕ, zero, suc, ◌+◌, ◌-◌, ◌^◌, ◌<◌, ◌≤◌, Bool, true, false, cond, ltb, eqb, not, ◌&&◌, ◌||◌, List, [], ◌∷◌, ◌++◌, length, take, drop, get_or, reverse, Result, Ok, Err, refl, sym, subst, ap, ◌∙◌, arith, append_assoc, codes}
+use Rattle.std.proofs.Common.{◌≡◌, inl, inr, ℕ, suc, ◌+◌, ◌-◌, ◌^◌, ◌<◌, ◌≤◌, Bool, true, false, cond, ltb, eqb, not, ◌&&◌, ◌||◌, List, [], ◌∷◌, ◌++◌, length, take, drop, Result, Ok, Err, refl, sym, subst, ap, ◌∙◌, arith, append_assoc, codes}
 use Rattle.std.specs.List.{list_all, prefix_len, suffix_len}
 use Rattle.std.specs.Char.{is_digit, to_ascii_lowercase}
 use Rattle.std.specs.Str.{str_eq_ignore_ascii_case}
 use Rattle.std.specs.Str.Parse.{AllDigits, digits_value}
 use Rattle.std.proofs.lemmas.Int.Digits.{digits_value-lt}
 use Rattle.std.proofs.Math.Nat.{pow-le-pow_right}
-use Rattle.std.proofs.lemmas.Bool.{false≢true, ltb-true, ltb-false, eqb-true, eqb-false}
-use Rattle.std.proofs.lemmas.List.{length-drop, length-reverse, get_or-reverse, get_or-drop, take_all, take-append-drop, take_more, reverse-append}
+use Rattle.std.proofs.lemmas.Bool.{false≢true, ltb-true, ltb-false, eqb-true, eqb-false, ne_eqb}
+use Rattle.std.proofs.lemmas.List.{take_all, take-append-drop}
 use Rattle.std.proofs.lemmas.List.Folds.{length-prefix_len, list_all-append}
-use Rattle.std.proofs.lemmas.List.Sums.{prefix_len_stops, prefix_len_passes, suffix_len-take_no, suffix_len-le-length}
+use Rattle.std.proofs.lemmas.List.Sums.{prefix_len_passes}
+use Rattle.arc_path.proofs.Ends.{both, all_from, whole_front, no_suffix, all_behind, last_fails, no_end}
 use Rattle.arc_path.specs.declared.arc.Arc.{Arc}
 use Rattle.arc_path.specs.declared.arc.ArcKind.{ArcKind}
 use Rattle.arc_path.specs.declared.arc.ArcKind.TheVariants.{Multi, Scsi, Signature}
@@ -104,10 +105,6 @@ number_front radix most text x e =
     })
 
 -- ---- a word with its number
-
-pub both : (a b : Bool) → (a && b) ≡ true → (a ≡ true) × (b ≡ true)
-both true b e = (refl, e)
-both false b e = absurd (false≢true e)
 
 lower_closing : (c : ℕ) → to_ascii_lowercase c ≡ 41 → c ≡ 41
 lower_closing c e = grind (arith, ltb-true, ltb-false)
@@ -218,47 +215,6 @@ numbers_front text x e =
 
 -- ---- the directory
 
-before_stop : (p : ℕ → Bool) (text : List ℕ) → 0 < length text - suffix_len p text → p (get_or text (length text - suffix_len p text - 1) 0) ≡ false
-before_stop p text some =
-    let r : length (reverse text) ≡ length text = length-reverse text in
-    let inside : prefix_len p (reverse text) < length (reverse text) = omega arith in
-    let stop = prefix_len_stops p (reverse text) 0 inside in
-    let at : length text - suffix_len p text - 1 ≡ length text - 1 - prefix_len p (reverse text) = omega arith in
-    let lt : prefix_len p (reverse text) < length text = omega arith in
-    rw at (rw (get_or-reverse text (prefix_len p (reverse text)) 0 lt) at stop)
-
-no_suffix : (p : ℕ → Bool) (text : List ℕ) (k : ℕ) → k ≡ length text - suffix_len p text → suffix_len p (take k text) ≡ 0
-no_suffix p text zero e = refl
-no_suffix p text (suc k) e =
-    let stop : p (get_or text (suc k - 1) 0) ≡ false = rw e (before_stop p text (omega arith)) in
-    suffix_len-take_no p text (suc k) 0 (omega arith) (omega arith) stop
-
--- what has no such end ends with no `\`
-pub no_last : (dir front : List ℕ) → suffix_len is_backslash dir ≡ 0 → dir ≡ front ++ codes "\\" → ⊥
-no_last dir front none is =
-    let back : suffix_len is_backslash dir ≡ 1 + suffix_len is_backslash front = ap (suffix_len is_backslash) is ∙ ap (prefix_len is_backslash) (reverse-append front (codes "\\")) in
-    omega arith
-
--- a list of which each passes
-pub all_from : (p : ℕ → Bool) (xs : List ℕ) → ((i : ℕ) → i < length xs → p (get_or xs i 0) ≡ true) → list_all p xs ≡ true
-all_from p [] each = refl
-all_from p (x ∷ xs) each = rw (each 0 (omega arith), all_from p xs (λ i lt. each (suc i) (omega arith))) refl
-
--- the end of a list, of which each passes
-all_behind : (p : ℕ → Bool) (text : List ℕ) (k : ℕ) → k ≡ length text - suffix_len p text → list_all p (drop k text) ≡ true
-all_behind p text k e =
-    all_from p (drop k text)
-    (λ i lt.
-    let r : length (reverse text) ≡ length text = length-reverse text in
-    let few : suffix_len p text ≤ length text = suffix_len-le-length p text in
-    let d : length (drop k text) ≡ length text - k = length-drop k text in
-    let m : ℕ = length text - 1 - (k + i) in
-    let inside : m < prefix_len p (reverse text) = omega arith in
-    let within : m < length text = omega arith in
-    let back : length text - 1 - m ≡ k + i = omega arith in
-    let passes : p (get_or (reverse text) m 0) ≡ true = prefix_len_passes p (reverse text) m 0 inside in
-    rw (get_or-drop k text i 0) (rw (get_or-reverse text m 0 within, back) at passes))
-
 is_92 : (c : ℕ) → not (is_backslash c) ≡ false → c ≡ 92
 is_92 c e = by_test (is_backslash c) refl e
   where
@@ -278,7 +234,7 @@ found_dir text dir k at is all =
       spelled = ap (λ (t : List ℕ). 92 ∷ t) (parts ∙ ap (λ (t : List ℕ). t ++ drop k text) is);
       dropped = all_behind is_backslash text k at;
       printable = ap (list_all is_printable) (sym is) ∙ (both _ _ printable).0;
-      ends = λ front e. no_last dir front none e;
+      ends = λ front e. false≢true (sym (last_fails is_backslash dir front 92 none e));
     }
 
 directory_front : (text dir : List ℕ) → directory_at text ≡ Ok dir → IsDirectory dir text
@@ -340,26 +296,12 @@ two_le_radix Multi = omega arith
 two_le_radix Scsi = omega arith
 two_le_radix Signature = omega arith
 
--- a list of which each passes is its own front
-pub whole_front : (p : ℕ → Bool) (text : List ℕ) → list_all p text ≡ true → prefix_len p text ≡ length text
-whole_front p [] e = refl
-whole_front p (c ∷ text) e = let q = both (p c) (list_all p text) e in rw (q.0, whole_front p text q.1) (omega arith)
-
--- a text that ends with no `\` keeps its length
+-- a directory that ends with no `\` has no end to drop
 pub no_backslashes : (dir : List ℕ) → ((front : List ℕ) → dir ≡ front ++ codes "\\" → ⊥) → suffix_len is_backslash dir ≡ 0
-no_backslashes [] ends = refl
-no_backslashes (c ∷ dir) ends = by_test (is_backslash (get_or (c ∷ dir) (length dir) 0)) refl
-  where
-    whole : take (length dir + 1) (c ∷ dir) ≡ c ∷ dir
-    whole = take_all (length dir + 1) (c ∷ dir) (omega arith)
-
-    last : length dir + 1 - 1 ≡ length dir
-    last = omega arith
-
-    by_test : (b : Bool) → is_backslash (get_or (c ∷ dir) (length dir) 0) ≡ b → suffix_len is_backslash (c ∷ dir) ≡ 0
-    by_test true is =
-        absurd (ends (take (length dir) (c ∷ dir)) (sym whole ∙ take_more (c ∷ dir) (length dir) 0 (omega arith) ∙ ap (λ (d : ℕ). take (length dir) (c ∷ dir) ++ d ∷ []) (eqb-true _ 92 is)))
-    by_test false is = ap (suffix_len is_backslash) (sym whole) ∙ suffix_len-take_no is_backslash (c ∷ dir) (length dir + 1) 0 (omega arith) (omega arith) (rw last is)
+no_backslashes dir ends =
+    no_end is_backslash dir
+    (λ front c is.
+    ne_eqb c 92 (λ e. ends front (is ∙ ap (λ (d : ℕ). front ++ d ∷ []) e)))
 
 record IsDir (dir : List ℕ) : Type 0 where
   printable : prefix_len is_printable dir ≡ length dir

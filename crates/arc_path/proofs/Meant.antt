@@ -1,13 +1,12 @@
 -- A text that spells a path is read as that path; the text that is written spells it.
-use Rattle.std.proofs.Common.{◌≡◌, inl, inr, ℕ, zero, suc, ◌+◌, ◌-◌, ◌^◌, ◌<◌, ◌≤◌, ◌/◌, ◌%◌, Bool, true, false, eqb, List, [], ◌∷◌, ◌++◌, length, take, reverse, Ok, refl, sym, ap, ◌∙◌, arith, append_assoc, codes}
+use Rattle.std.proofs.Common.{◌≡◌, inl, inr, ℕ, zero, suc, ◌+◌, ◌-◌, ◌^◌, ◌<◌, ◌≤◌, ◌/◌, ◌%◌, true, false, eqb, List, [], ◌∷◌, ◌++◌, length, take, Ok, refl, sym, ap, ◌∙◌, arith, append_assoc, codes}
 use Rattle.std.specs.List.{list_all, prefix_len, suffix_len}
 use Rattle.std.specs.Char.{is_digit, digit_value, to_ascii_lowercase}
 use Rattle.std.specs.Fmt.{decimal, digit_glyph}
 use Rattle.std.specs.Str.{str_eq_ignore_ascii_case}
 use Rattle.std.specs.Str.Parse.{AllDigits}
 use Rattle.std.proofs.lemmas.Fmt.{decimal_is_IsNumeral, length-decimal-le}
-use Rattle.std.proofs.lemmas.Grind.{reverse_onto}
-use Rattle.std.proofs.lemmas.List.{take_at, drop_at, length-append, length-reverse, length-take, reverse-append, append-nil}
+use Rattle.std.proofs.lemmas.List.{take_at, drop_at, length-append, length-take, append-nil}
 use Rattle.std.proofs.lemmas.List.Sums.{prefix_len_passes, suffix_len-le-length}
 use Rattle.std.proofs.lemmas.List.Folds.{list_all-append}
 use Rattle.std.proofs.lemmas.Bool.{false≢true, eqb-true, lt-ltb, le-ltb, ne_eqb}
@@ -17,7 +16,8 @@ use Rattle.arc_path.specs.declared.arc.ArcKind.{ArcKind}
 use Rattle.arc_path.specs.declared.arc.ArcKind.TheVariants.{Multi, Scsi, Signature}
 use Rattle.arc_path.specs.Reading.{number_at, word_at, item_at, kind_at, partition_at, numbers_at, directory_at, parts_at, arc_of, is_printable, is_backslash, without_last_backslashes, radix_of, most_of}
 use Rattle.arc_path.specs.Spelling.{IsNumeral, IsItem, word_of, IsDirectory, IsSpelled, IsPath, eight_digits, text_of, first_text, numbers_text, directory_text}
-use Rattle.arc_path.proofs.Found.{both, IsNamed, whole_front, no_backslashes, no_last, all_from}
+use Rattle.arc_path.proofs.Ends.{both, all_from, whole_front, last_fails, end_dropped}
+use Rattle.arc_path.proofs.Found.{IsNamed, no_backslashes}
 
 -- ---- words
 
@@ -105,23 +105,6 @@ no_digit Signature = refl
 
 -- ---- the directory
 
-all_back : (p : ℕ → Bool) (xs : List ℕ) → list_all p xs ≡ true → list_all p (reverse xs) ≡ true
-all_back p [] e = refl
-all_back p (x ∷ xs) e =
-    let q = both (p x) (list_all p xs) e in
-    ap (list_all p) (reverse_onto xs x []) ∙ list_all-append p (reverse xs) (x ∷ []) ∙ rw (all_back p xs q.1, q.0) refl
-
-prefix_whole : (p : ℕ → Bool) (front rest : List ℕ) → list_all p front ≡ true → prefix_len p (front ++ rest) ≡ length front + prefix_len p rest
-prefix_whole p [] rest e = omega arith
-prefix_whole p (c ∷ front) rest e = let q = both (p c) (list_all p front) e in rw (q.0, prefix_whole p front rest q.1) (omega arith)
-
-ends_dropped : (dir more : List ℕ) → list_all is_backslash more ≡ true → suffix_len is_backslash dir ≡ 0 → without_last_backslashes (dir ++ more) ≡ dir
-ends_dropped dir more all none =
-    let back : suffix_len is_backslash (dir ++ more) ≡ length (reverse more) + suffix_len is_backslash dir =
-    ap (prefix_len is_backslash) (reverse-append dir more) ∙ prefix_whole is_backslash (reverse more) (reverse dir) (all_back is_backslash more all) in
-    let keep : length (dir ++ more) - suffix_len is_backslash (dir ++ more) ≡ length dir = omega (arith, length-append dir more, length-reverse more) in
-    ap (λ (k : ℕ). take k (dir ++ more)) keep ∙ take_at dir more (length dir) refl
-
 backslashes_print : (more : List ℕ) → list_all is_backslash more ≡ true → list_all is_printable more ≡ true
 backslashes_print [] e = refl
 backslashes_print (c ∷ more) e = let q = both (is_backslash c) (list_all is_backslash more) e in rw (eqb-true c 92 q.0, backslashes_print more q.1) refl
@@ -130,7 +113,7 @@ directory_behind : (dir more : List ℕ) → list_all is_backslash more ≡ true
 unfolding directory_at
 directory_behind dir more dropped printable none =
     let all : list_all is_printable (dir ++ more) ≡ true = list_all-append is_printable dir more ∙ rw (printable, backslashes_print more dropped) refl in
-    rw (whole_front is_printable (dir ++ more) all, le-ltb (length (dir ++ more)) (length (dir ++ more)) (omega arith), ends_dropped dir more dropped none) refl
+    rw (whole_front is_printable (dir ++ more) all, le-ltb (length (dir ++ more)) (length (dir ++ more)) (omega arith), end_dropped is_backslash dir more dropped none) refl
 
 no_directory : directory_at [] ≡ Ok []
 unfolding directory_at
@@ -222,7 +205,7 @@ ends_so dir front trimmed is =
     let short : length (front ++ codes "\\") ≡ length front + 1 = length-append front (codes "\\") in
     let long : length dir ≡ length (front ++ codes "\\") = ap length is in
     let none : suffix_len is_backslash dir ≡ 0 = omega (arith, length-take (length dir - suffix_len is_backslash dir) dir, suffix_len-le-length is_backslash dir) in
-    no_last dir front none is
+    false≢true (sym (last_fails is_backslash dir front 92 none is))
 
 directory_is : (dir : List ℕ) → prefix_len is_printable dir ≡ length dir → without_last_backslashes dir ≡ dir → IsDirectory dir (directory_text dir)
 directory_is [] all trimmed = inl (refl, refl)
