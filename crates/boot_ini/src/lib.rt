@@ -9,10 +9,12 @@ mod choosing;
 mod entries;
 mod ini;
 mod keys;
+mod laws;
 mod reading;
 
 pub use choosing::{Chosen, choose, wants_last_known_good};
 pub use ini::{BootIni, IniStop, OsEntries, OsEntry, Switches};
+pub use laws::a_boot_ini_reads_as_what_it_spells;
 pub use reading::read_boot_ini;
 
 #[cfg(test)]
