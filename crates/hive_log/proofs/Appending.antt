@@ -4,8 +4,8 @@ use Rattle.std.specs.Prelude.{codes, nat_le}
 use Rattle.std.proofs.Math.Seq.{take-add}
 use Rattle.std.proofs.lemmas.Bool.{eqb-true, leb-true}
 use Rattle.hive_model.specs.Base.{Base, base_text, is_bins_size}
-use Rattle.hive_model.specs.Recovery.{sector, bit, bitmap_sectors}
-use Rattle.hive_model.specs.Log.{byte_of, bytes_of_bits, bitmap_text, marked_sectors, log_of, logged_bits}
+use Rattle.hive_model.specs.Recovery.{sector, bitmap_sectors}
+use Rattle.hive_model.specs.Log.{byte_of, bytes_of_bits, bitmap_text, marked_sectors, log_of}
 
 pub take_sector : (text : List ℕ) (k : ℕ) → take (512 * (k + 1)) text ≡ take (512 * k) text ++ sector text k
 unfolding sector
@@ -27,26 +27,6 @@ module _ (bits : ℕ → Bool) (new : List ℕ) (i count : ℕ) (small : i < cou
   marked_on log whole on so_far =
       append_assoc log (sector new i) _
       ∙ ap (λ b. log ++ (cond b (sector new i) [] ++ marked_sectors bits new (i + 1) (count - (i + 1)))) (sym on) ∙ ap (λ l. log ++ l) (sym next) ∙ so_far
-
--- a bitmap with every bit on
-ones : (r : ℕ) → r < 8 → (255 / 2 ^ r % 2 == 1) ≡ true
-ones zero below = refl
-ones (suc zero) below = refl
-ones (suc (suc zero)) below = refl
-ones (suc (suc (suc zero))) below = refl
-ones (suc (suc (suc (suc zero)))) below = refl
-ones (suc (suc (suc (suc (suc zero))))) below = refl
-ones (suc (suc (suc (suc (suc (suc zero)))))) below = refl
-ones (suc (suc (suc (suc (suc (suc (suc zero))))))) below = refl
-ones (suc (suc (suc (suc (suc (suc (suc (suc r)))))))) below = absurd (omega arith)
-
-pub all_on : (bitmap : List ℕ) → ((k : ℕ) → k < 4096 → get_or bitmap k 0 ≡ 255) → (i : ℕ) → i < 32768 → bit bitmap i ≡ true
-unfolding bit
-all_on bitmap each i small = ap (λ b. b / 2 ^ (i % 8) % 2 == 1) (each (i / 8) (omega arith)) ∙ ones (i % 8) (omega arith)
-
-pub logged_on : (old new : List ℕ) (i : ℕ) → logged_bits old new i ≡ true
-unfolding logged_bits
-logged_on old new i = refl
 
 -- bits that agree on the sectors make one log
 module _ (a b : ℕ → Bool) where

@@ -5,6 +5,8 @@ pub mod LogParts
 pub mod Finding
 pub mod Opened
 pub mod Text
+pub mod Dirty
+pub mod Same
 pub mod Appending
 pub mod SoFar
 pub mod Looked

@@ -17,15 +17,6 @@ pub fn has_bit(bitmap: &[u8], i: usize) -> bool
     }
 }
 
-/// Turns every bit on.
-pub fn mark_all(into: &mut [u8; 4096])
-    ensures { (k : ℕ) → k < 4096 → slice_index into.new k ≡ 255 }
-{
-    for byte in into.iter_mut() {
-        *byte = 0xff;
-    }
-}
-
 /// How many sectors `DIRT` and the bits take for bins data of this size in bytes.
 pub fn bitmap_sectors(size: usize) -> usize
     requires { size ≤ 16777216 }

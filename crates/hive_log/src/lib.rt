@@ -9,14 +9,16 @@ mod blocks;
 mod files;
 mod gathering;
 mod looking;
+mod marking;
 mod outcome;
 mod sectors;
 mod spelling;
 mod stops;
 
-pub use bitmap::{bitmap_sector, bitmap_sectors, first_dirty, has_bit, mark_all};
+pub use bitmap::{bitmap_sector, bitmap_sectors, first_dirty, has_bit};
 pub use files::recovered;
 pub use looking::{Reading, read_recovered};
+pub use marking::mark_dirty;
 pub use outcome::Recovered;
 pub use sectors::{copy_sector, logged_block};
 pub use spelling::log_sectors;

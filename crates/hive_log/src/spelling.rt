@@ -3,17 +3,17 @@
 ghost use Rattle.std.specs.Prelude.{◌≡◌, ◌≤◌, ◌++◌, ◌*◌, ◌/◌, true, length, IfOk, OnOk};
 ghost use Rattle.hive_model.specs.Base.{is_bins_size};
 ghost use Rattle.hive_model.specs.Recovery.{bit};
-ghost use Rattle.hive_model.specs.Log.{bitmap_text, marked_sectors, log_of, logged_bits};
+ghost use Rattle.hive_model.specs.Log.{bitmap_text, marked_sectors, log_of, dirty};
 
 use crate::sectors::sector_of;
-use crate::{bitmap_sector, bitmap_sectors, has_bit, logged_block, mark_all};
+use crate::{bitmap_sector, bitmap_sectors, has_bit, logged_block, mark_dirty};
 use nt_bytes::Bytes;
 use regf_base::{BaseBlock, base_bytes};
 use std::alloc::{AllocError, Global};
 
 /// The log for going from old to new bins data, whose size in bytes is a multiple of 4096 from 4096 to
-/// 16,777,216. The base block gives the size, the root and the sequence numbers; want of memory alone
-/// is refused. The old data decides nothing yet: each sector is logged, whether it differs or not.
+/// 16,777,216. It has those sectors of the new data that differ from the old or lie past their end. The base
+/// block gives the size, the root and the sequence numbers. Out of memory alone is refused.
 pub fn log_sectors(
     alloc: Global,
     old: &[u8],
@@ -21,10 +21,10 @@ pub fn log_sectors(
     base: &BaseBlock,
 ) -> Result<Bytes, AllocError>
     requires { is_bins_size (length new.now) ≡ true }
-    ensures { IfOk result (λ log. log ≡ log_of (logged_bits old.now new.now) new.now base.now) }
+    ensures { IfOk result (λ log. log ≡ log_of (dirty old.now new.now) new.now base.now) }
 {
     let mut bitmap = [0; 4096];
-    mark_all(&mut bitmap);
+    mark_dirty(old, new, &mut bitmap);
     let mut sector = [0; 512];
     base_bytes(&logged_block(base), &mut sector);
     let mut log = Bytes::from_slice(alloc, &sector)?;
