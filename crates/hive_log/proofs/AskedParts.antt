@@ -4,12 +4,13 @@ use Rattle.nt_bytes.specs.declared.fault.HiveFault.{HiveFault}
 use Rattle.nt_edge.specs.Calls.{Made, ReadAt, Makes}
 use Rattle.nt_edge.specs.declared.disk.DiskStop.{DiskStop}
 use Rattle.nt_edge.specs.declared.disk.DiskStop.TheVariants as disk
-use Rattle.hive_model.specs.Image.{Address, Image, Log}
-use Rattle.hive_model.specs.Recovery.{bit}
+use Rattle.hive_model.specs.Image.{Address}
+use Rattle.nt_bytes.specs.Front.{IsFront}
+use Rattle.hive_model.specs.Asked.{unless_fault}
 use Rattle.hive_log.specs.declared.stops.LoadStop.{LoadStop}
 use Rattle.hive_log.specs.declared.stops.LoadStop.TheVariants as load
-use Rattle.hive_log.specs.Stops.{Reads, load_stop_of}
-use Rattle.hive_log.specs.Asked.{run_at, unmarked_at, one_by_one, unless_fault, asked_sector, asked_bitmap, MakesReads, IsFront, IsAsked, IsAskedFirst, AsksFirst}
+use Rattle.hive_log.specs.Stops.{IsFaultOf, Reads, load_stop_of}
+use Rattle.hive_log.specs.Asked.{asked_sector, MakesReads, IsAsked, IsAskedFirst, AsksFirst}
 use Rattle.hive_log.proofs.Asking.{reads_in_turn}
 
 -- one sector, by what it is read as
@@ -24,7 +25,7 @@ pub asks_sector : {A : Type 0} (before after : List Made → Type 0) (tells : Bo
 asks_sector before after tells at read result makes reads = record { sectors = at ∷ []; made = makes; are = λ told. sector_first at read result (reads told) }
 
 -- nothing is said of what a stop of the disk reads
-pub stop_reads : (A : Type 0) (stop : DiskStop) (read : Result A HiveFault) → Reads {T = A} (Err (load_stop_of stop)) read
+pub stop_reads : (A : Type 0) (stop : DiskStop) (read : Result A HiveFault) → IsFaultOf (load_stop_of stop) read
 stop_reads A disk.PowerLost read = tt
 stop_reads A disk.Failed read = tt
 stop_reads A disk.Memory read = tt
@@ -48,28 +49,13 @@ asks_behind {before = before} {between = between} {after = after} {first = first
   are = λ told. joined_first first second one.sectors two.sectors (one.are told) result (two.are told);
 }
 
--- the same part of the same image
-asks_same : {T : Type 0} {before after : List Made → Type 0} {tells : Bool} {part : List Address → List Address} {result : Result T LoadStop} → AsksFirst before after tells part result → (same : List Address → List Address) → (tells ≡ true → part ≡ same) → AsksFirst before after tells same result
-asks_same {T = T} {part = part} {result = result} asks same is = record {
+-- a part that asks for the same
+pub asks_as : {T : Type 0} {before after : List Made → Type 0} {tells : Bool} {part : List Address → List Address} {result : Result T LoadStop} → AsksFirst before after tells part result → (same : List Address → List Address) → (tells ≡ true → (more : List Address) → part more ≡ same more) → AsksFirst before after tells same result
+asks_as {T = T} {part = part} {result = result} asks same is = record {
   sectors = asks.sectors;
   made = asks.made;
-  are = λ told. subst (λ (p : List Address → List Address). IsAskedFirst p result asks.sectors) (is told) (asks.are told);
+  are = λ told. subst (λ (p : List Address → List Address). IsAskedFirst p result asks.sectors) (λ i more. is told more i) (asks.are told);
 }
-
--- the same bits, run and bins data of the same image
-module _ {T : Type 0} {before after : List Made → Type 0} {tells : Bool} {result : Result T LoadStop} (now then : Image) (held : tells ≡ true → now ≡ then) where
-  pub bitmap_asks : (n size : ℕ) → n ≡ size → AsksFirst before after tells (asked_bitmap now n) result → AsksFirst before after tells (asked_bitmap then size) result
-  bitmap_asks n size long asks = asks_same asks (asked_bitmap then size) (λ told. ap (λ (i : Image). asked_bitmap i n) (held told) ∙ ap (asked_bitmap then) long)
-
-  pub run_asks : (from first n count : ℕ) → from ≡ first → n ≡ count → AsksFirst before after tells (one_by_one now (run_at Log from n)) result → AsksFirst before after tells (one_by_one then (run_at Log first count)) result
-  run_asks from first n count same long asks =
-      asks_same asks (one_by_one then (run_at Log first count))
-      (λ told. ap (λ (i : Image). one_by_one i (run_at Log from n)) (held told) ∙ ap (λ k. one_by_one then (run_at Log k n)) same ∙ ap (λ k. one_by_one then (run_at Log first k)) long)
-
-  pub bins_asks : (bitmap bits : List ℕ) (n count : ℕ) → bitmap ≡ bits → n ≡ count → AsksFirst before after tells (one_by_one now (unmarked_at (bit bitmap) n)) result → AsksFirst before after tells (one_by_one then (unmarked_at (bit bits) count)) result
-  bins_asks bitmap bits n count same long asks =
-      asks_same asks (one_by_one then (unmarked_at (bit bits) count))
-      (λ told. ap (λ (i : Image). one_by_one i (unmarked_at (bit bitmap) n)) (held told) ∙ ap (λ (b : List ℕ). one_by_one then (unmarked_at (bit b) n)) same ∙ ap (λ k. one_by_one then (unmarked_at (bit bits) k)) long)
 
 -- another answer to the same sectors
 pub asks_kept : {T U : Type 0} {before after : List Made → Type 0} {tells : Bool} {part : List Address → List Address} {x : U} → AsksFirst before after tells part (Ok x) → (y : T) → AsksFirst before after tells part (Ok y)
@@ -88,6 +74,15 @@ cut_first T U first second load.Memory asked is = λ more. is (second more)
 
 pub asks_cut : {T : Type 0} {before after : List Made → Type 0} {tells : Bool} {first : List Address → List Address} {e : LoadStop} → AsksFirst {T = T} before after tells first (Err e) → (U : Type 0) (second : List Address → List Address) → AsksFirst {T = U} before after tells (λ more. first (second more)) (Err e)
 asks_cut {T = T} {first = first} {e = e} asks U second = record { sectors = asks.sectors; made = asks.made; are = λ told. cut_first T U first second e asks.sectors (asks.are told) }
+
+-- what was read ends the part, whatever would have stood behind
+pub asks_end : {U : Type 0} {before after : List Made → Type 0} {tells : Bool} {first : List Address → List Address} {x : U} → AsksFirst before after tells first (Ok x) → (T : Type 0) (f : HiveFault) (part : List Address → List Address)
+    → (tells ≡ true → (more : List Address) → part more ≡ first []) → AsksFirst {T = T} before after tells part (Err (load.Fault f))
+asks_end asks T f part ends = record {
+  sectors = asks.sectors;
+  made = asks.made;
+  are = λ told more. sym (append-nil asks.sectors) ∙ sym (asks.are told []) ∙ sym (ends told more);
+}
 
 -- all parts were asked for
 pub asks_in_whole : {T : Type 0} {before after : List Made → Type 0} {tells : Bool} {part : List Address → List Address} {x : T} → AsksFirst before after tells part (Ok x) → (whole : List Address) → (tells ≡ true → part [] ≡ whole) → MakesReads before after (λ sectors. tells ≡ true → sectors ≡ whole)

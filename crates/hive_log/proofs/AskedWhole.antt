@@ -1,15 +1,14 @@
 -- What recovery asks for in all, step by step as it is read.
-use Rattle.std.proofs.Common.{◌≡◌, ◌/◌, ◌==◌, ◌&&◌, ◌∷◌, ℕ, Bool, true, false, cond, List, [], Result, Ok, Err, refl, sym, ◌∙◌, ap}
+use Rattle.std.proofs.Common.{◌≡◌, ◌/◌, ◌==◌, ◌∷◌, ℕ, Bool, true, false, cond, List, [], drop, Option, Some, None, Result, Ok, Err, refl, sym, ◌∙◌, ap}
 use Rattle.std.specs.Prelude.{map, filter, not}
 use Rattle.std.specs.List.{range_with_len}
-use Rattle.std.proofs.lemmas.Bool.{eq-eqb, ne_eqb}
 use Rattle.nt_bytes.specs.declared.fault.HiveFault.{HiveFault}
+use Rattle.hive_model.specs.Asked.{log_at, primary_at, bin_at, run_at, unmarked_at, unless_fault, asked_bins, asked_behind_log, asked_log, asked_behind_base, asked_of}
 use Rattle.hive_model.specs.Base.{Base}
 use Rattle.hive_model.specs.Image.{Address, Image, Primary}
-use Rattle.hive_model.specs.Recovery.{primary_in, log_in, base_in, logged_in, bitmap_in, bit}
-use Rattle.hive_model.specs.Carries.{HasBase}
-use Rattle.hive_log.specs.Asked.{run_at, unmarked_at, one_by_one, unless_fault, asked_sector, asked_bitmap, asked_bins, asked_bits, asked_behind_log, asked_log, asked_behind_base, asked_of}
-use Rattle.hive_log.specs.Places.{log_at, primary_at, bin_at}
+use Rattle.hive_model.specs.Recovery.{base_in, goes_with, logged_in, bitmap_in, bit}
+use Rattle.hive_log.specs.Asked.{asked_sector, asked_bitmap, asked_log_bits, asked_by_bits}
+use Rattle.hive_log.specs.Found.{HasLogBits}
 use Rattle.hive_log.proofs.Looked.{none_on}
 
 -- a sector with what stands behind it
@@ -30,40 +29,54 @@ none_marked count = ap (map bin_at) (all_kept (λ i. not (bit [] i)) (range_with
 
 module _ (image : Image) where
   abbrev pub base_part : List Address → List Address
-  base_part = asked_sector (primary_at 0) (base_in (primary_in image))
+  base_part = asked_sector (primary_at 0) (base_in image)
 
-  pub base_refused : base_part (unless_fault (base_in (primary_in image)) (asked_behind_base image)) ≡ asked_of image
+  pub base_refused : base_part (unless_fault (base_in image) (asked_behind_base image)) ≡ asked_of image
   unfolding asked_of
-  base_refused = sector_and_more (primary_at 0) (base_in (primary_in image)) (asked_behind_base image)
+  base_refused = sector_and_more (primary_at 0) (base_in image) (asked_behind_base image)
 
-  module _ (base : Base) (has : HasBase image base) where
-    by_block : base_part (asked_behind_base image base) ≡ asked_of image
-    unfolding asked_of
-    by_block = sector_read (primary_at 0) (base_in (primary_in image)) base (asked_behind_base image) has
+  pub base_asked : (opened : Option Base) → base_in image ≡ Ok opened → base_part (asked_behind_base image opened) ≡ asked_of image
+  unfolding asked_of
+  base_asked opened has = sector_read (primary_at 0) (base_in image) opened (asked_behind_base image) has
 
-    pub clean_asked : base.first ≡ base.second → base_part (one_by_one image (run_at Primary 8 (base.size / 512)) []) ≡ asked_of image
-    clean_asked even = sym (ap (λ t. base_part (cond t (one_by_one image (run_at Primary 8 (base.size / 512)) []) (asked_log image base))) (eq-eqb base.first base.second even)) ∙ by_block
+  -- the log as far as its bits
+  module _ (opened : Option Base) where
+    abbrev pub log_part : List Address → List Address
+    log_part = asked_sector (log_at 0) (logged_in image)
 
-    pub dirty_asked : (base.first ≡ base.second → ⊥) → base_part (asked_log image base) ≡ asked_of image
-    dirty_asked odd = sym (ap (λ t. base_part (cond t (one_by_one image (run_at Primary 8 (base.size / 512)) []) (asked_log image base))) (ne_eqb base.first base.second odd)) ∙ by_block
+    -- what the log's base block leads to, and more behind the bits
+    abbrev pub behind_block : List Address → Base → List Address
+    behind_block more logged = cond (goes_with opened logged) (asked_bitmap image logged.size more) []
 
-  module _ (opened : Base) where
-    abbrev log_part : List Address → List Address
-    log_part = asked_sector (log_at 0) (logged_in (log_in image))
+    pub block_refused : (more : List Address) → log_part (unless_fault (logged_in image) (behind_block more)) ≡ asked_log_bits image opened more
+    block_refused more = sector_and_more (log_at 0) (logged_in image) (behind_block more)
 
-    pub log_refused : log_part (unless_fault (logged_in (log_in image)) (asked_behind_log image opened)) ≡ asked_log image opened
-    log_refused = sector_and_more (log_at 0) (logged_in (log_in image)) (asked_behind_log image opened)
+    module _ (logged : Base) (l : logged_in image ≡ Ok logged) where
+      pub numbers_asked : goes_with opened logged ≡ false → (more : List Address) → asked_log_bits image opened more ≡ log_part []
+      numbers_asked differ more = sym
+          (sym (ap (λ t. log_part (cond t (asked_bitmap image logged.size more) [])) differ)
+          ∙ sector_read (log_at 0) (logged_in image) logged (behind_block more) l)
 
-    module _ (logged : Base) (l : logged_in (log_in image) ≡ Ok logged) where
-      by_log : log_part (asked_behind_log image opened logged) ≡ asked_log image opened
-      by_log = sector_read (log_at 0) (logged_in (log_in image)) logged (asked_behind_log image opened) l
+      pub bits_asked : goes_with opened logged ≡ true → (more : List Address) → log_part (asked_bitmap image logged.size more) ≡ asked_log_bits image opened more
+      bits_asked goes more =
+          sym (ap (λ t. log_part (cond t (asked_bitmap image logged.size more) [])) goes)
+          ∙ sector_read (log_at 0) (logged_in image) logged (behind_block more) l
 
-      pub numbers_asked : ((logged.first == opened.first) && (logged.second == opened.first)) ≡ false → log_part [] ≡ asked_log image opened
-      numbers_asked differ = sym (ap (λ t. log_part (cond t (asked_bits image logged.size) [])) differ) ∙ by_log
+    -- what the bits tell of
+    abbrev pub behind_bits : List Address
+    behind_bits = unless_fault (logged_in image) (λ logged. unless_fault (bitmap_in image logged.size) (asked_bins image logged.size))
 
-      module _ (same : ((logged.first == opened.first) && (logged.second == opened.first)) ≡ true) where
-        pub bits_asked : log_part (asked_bits image logged.size) ≡ asked_log image opened
-        bits_asked = sym (ap (λ t. log_part (cond t (asked_bits image logged.size) [])) same) ∙ by_log
+    pub log_asked : asked_log_bits image opened behind_bits ≡ asked_log image opened
+    log_asked =
+        let more : Result Base HiveFault → List Address = λ r. unless_fault r (λ logged. unless_fault (bitmap_in image logged.size) (asked_bins image logged.size)) in
+        let here : (r : Result Base HiveFault) → log_at 0 ∷ unless_fault r (behind_block (more r)) ≡ log_at 0 ∷ unless_fault r (asked_behind_log image opened) =
+        elim [ Ok logged ↦ refl | Err f ↦ refl ] in
+        here (logged_in image)
 
-        pub bins_asked : (text : List ℕ) → bitmap_in (log_in image) logged.size ≡ Ok text → log_part (asked_bitmap image logged.size (asked_bins image logged.size text)) ≡ asked_log image opened
-        bins_asked text t = sym (ap (λ r. log_part (asked_bitmap image logged.size (unless_fault r (asked_bins image logged.size)))) t) ∙ bits_asked
+    pub all_asked : (logged : Base) (bits : List ℕ) → HasLogBits image opened logged bits → asked_log_bits image opened (asked_by_bits image logged.size (bit bits) []) ≡ asked_log image opened
+    all_asked logged bits has =
+        ap (asked_log_bits image opened)
+        (ap (λ (l : List ℕ). asked_by_bits image logged.size (bit l) []) has.bits_are
+        ∙ sym (ap (λ r. unless_fault r (asked_bins image logged.size)) has.text_there)
+        ∙ sym (ap (λ r. unless_fault r (λ x. unless_fault (bitmap_in image x.size) (asked_bins image x.size))) has.log_block))
+        ∙ log_asked

@@ -1,19 +1,19 @@
 -- The sectors that were read so far of those that are asked for one after the other.
-use Rattle.std.proofs.Common.{◌≡◌, ◌<◌, ◌+◌, ◌-◌, ◌++◌, ◌∷◌, ℕ, zero, suc, Bool, true, false, cond, List, [], None, Ok, Err, refl, sym, ◌∙◌, ap, subst, arith, append_assoc, append-nil}
+use Rattle.std.proofs.Common.{◌≡◌, ◌<◌, ◌+◌, ◌-◌, ◌++◌, ◌∷◌, ℕ, zero, suc, Bool, true, false, cond, List, [], Option, Some, None, Ok, Err, refl, sym, ◌∙◌, ap, subst, arith, append_assoc, append-nil}
 use Rattle.std.specs.Prelude.{map, filter, not}
 use Rattle.std.specs.List.{range_with_len}
-use Rattle.std.specs.Option.{is_some}
 use Rattle.std.proofs.lemmas.List.{map-append}
 use Rattle.std.proofs.lemmas.List.Elements.{filter-append}
 use Rattle.nt_bytes.specs.declared.fault.HiveFault.{HiveFault}
 use Rattle.nt_edge.specs.Calls.{Made, ReadAt, reads_of, Makes}
-use Rattle.nt_edge.specs.declared.disk.DiskStop.{DiskStop}
-use Rattle.nt_edge.specs.declared.disk.DiskStop.TheVariants as disk
-use Rattle.hive_model.specs.Image.{Address, Image, File}
+use Rattle.hive_model.specs.Image.{Address, Image, File, Content, Bytes, Unreadable}
+use Rattle.hive_log.specs.declared.stops.LoadStop.{LoadStop}
 use Rattle.hive_log.specs.declared.stops.LoadStop.TheVariants as load
-use Rattle.hive_log.specs.Stops.{load_stop_of}
-use Rattle.hive_log.specs.Asked.{run_at, unmarked_at, one_by_one, IsFront, IsAskedFirst, AsksFirst}
-use Rattle.hive_log.specs.Places.{bin_at}
+use Rattle.hive_log.specs.Stops.{IsFaultOf}
+use Rattle.nt_bytes.specs.Front.{IsFront}
+use Rattle.hive_model.specs.Asked.{bin_at, run_at, unmarked_at, is_readable, one_by_one}
+use Rattle.hive_model.specs.Recovery.{bytes_or}
+use Rattle.hive_log.specs.Asked.{IsAskedFirst, AsksFirst}
 
 -- reads in turn
 pub reads_in_turn : (before between after : List Made → Type 0) (first second : List Address) → Makes before between (reads_of first) → Makes between after (reads_of second) → Makes before after (reads_of (first ++ second))
@@ -23,9 +23,9 @@ reads_in_turn before between after first second makes makes_more = λ earlier wa
 -- the sectors are all there
 abbrev pub AreThere : Image → List Address → Type 0
 AreThere image [] = Unit {0}
-AreThere image (at ∷ sectors) = (is_some (image at) ≡ true) × AreThere image sectors
+AreThere image (at ∷ sectors) = (is_readable (image at) ≡ true) × AreThere image sectors
 
-there_more : (image : Image) (sectors : List Address) (at : Address) → AreThere image sectors → is_some (image at) ≡ true → AreThere image (sectors ++ at ∷ [])
+there_more : (image : Image) (sectors : List Address) (at : Address) → AreThere image sectors → is_readable (image at) ≡ true → AreThere image (sectors ++ at ∷ [])
 there_more image [] at there is = (is, tt)
 there_more image (first ∷ sectors) at there is = (there.0, there_more image sectors at there.1 is)
 
@@ -44,11 +44,16 @@ module _ (image : Image) where
   whole_there : (front more : List Address) → AreThere image front → one_by_one image front more ≡ front ++ more
   whole_there front more there = ap (λ l. one_by_one image l more) (sym (append-nil front)) ∙ behind_there front [] more there
 
--- a stop of the disk leaves a front
-stopped : (T : Type 0) (part : List Address → List Address) (stop : DiskStop) (asked : List Address) → ((more : List Address) → IsFront (part more) asked) → IsAskedFirst {T = T} part (Err (load_stop_of stop)) asked
-stopped T part disk.PowerLost asked is = is
-stopped T part disk.Failed asked is = is
-stopped T part disk.Memory asked is = is
+-- a sector has bytes, or has none that can be read
+pub readable : (absent unreadable : HiveFault) (c : Option Content) (bytes : List ℕ) → bytes_or absent unreadable c ≡ Ok bytes → is_readable c ≡ true
+readable absent unreadable None bytes is = absurd (cc)
+readable absent unreadable (Some Unreadable) bytes is = absurd (cc)
+readable absent unreadable (Some (Bytes found)) bytes is = refl
+
+unread : (absent unreadable f : HiveFault) (c : Option Content) → bytes_or absent unreadable c ≡ Err f → is_readable c ≡ false
+unread absent unreadable f None is = refl
+unread absent unreadable f (Some Unreadable) is = refl
+unread absent unreadable f (Some (Bytes found)) is = absurd (cc)
 
 -- the last sector was read
 pub asks_all : {T : Type 0} {before after : List Made → Type 0} {tells : Bool} {image : Image} {sectors : List Address} → AsksSoFar before after tells image sectors → (x : T) → AsksFirst before after tells (one_by_one image sectors) (Ok x)
@@ -74,34 +79,33 @@ module _ {before between : List Made → Type 0} {tells : Bool} {image : Image} 
   next_made : Makes before after (reads_of (front ++ at ∷ []))
   next_made = reads_in_turn before between after front (at ∷ []) so_far.made makes
 
-  pub asks_more : (tells ≡ true → is_some (image at) ≡ true) → AsksSoFar before after tells image (front ++ at ∷ [])
+  pub asks_more : (tells ≡ true → is_readable (image at) ≡ true) → AsksSoFar before after tells image (front ++ at ∷ [])
   asks_more there = record { made = next_made; there = λ told. there_more image front at (so_far.there told) (there told) }
 
   module _ (all rest : List Address) (is : all ≡ front ++ at ∷ rest) where
     next_front : tells ≡ true → (more : List Address) → IsFront (one_by_one image all more) (front ++ at ∷ [])
     next_front told more =
-        let then_more = cond (is_some (image at)) (one_by_one image rest more) [] in
+        let then_more = cond (is_readable (image at)) (one_by_one image rest more) [] in
         record {
           rest = then_more;
           cut = ap (λ l. one_by_one image l more) is ∙ behind_there image front (at ∷ rest) more (so_far.there told) ∙ sym (append_assoc front (at ∷ []) then_more);
         }
 
-    pub asks_stopped : (T : Type 0) (stop : DiskStop) → AsksFirst {T = T} before after tells (one_by_one image all) (Err (load_stop_of stop))
-    asks_stopped T stop = record { sectors = front ++ at ∷ []; made = next_made; are = λ told. stopped T (one_by_one image all) stop (front ++ at ∷ []) (next_front told) }
-
     pub asks_unheld : (T : Type 0) → AsksFirst {T = T} before after tells (one_by_one image all) (Err load.Memory)
     asks_unheld T = record { sectors = front ++ at ∷ []; made = next_made; are = next_front }
 
-    -- where it is absent, it is the last
-    pub asks_absent : (T : Type 0) (f : HiveFault) → (tells ≡ true → image at ≡ None) → AsksFirst {T = T} before after tells (one_by_one image all) (Err (load.Fault f))
-    asks_absent T f absent = record {
-      sectors = front ++ at ∷ [];
-      made = next_made;
-      are = λ told more. sym
-          (ap (λ l. one_by_one image l more) is
-          ∙ behind_there image front (at ∷ rest) more (so_far.there told)
-          ∙ ap (λ s. front ++ (at ∷ cond (is_some s) (one_by_one image rest more) [])) (absent told));
-    }
+    refusal : (T : Type 0) (e : LoadStop) (absent unreadable : HiveFault) → IsFaultOf e (bytes_or absent unreadable (image at)) → tells ≡ true → IsAskedFirst {T = T} (one_by_one image all) (Err e) (front ++ at ∷ [])
+    refusal T (load.Fault f) absent unreadable fault told = λ more. sym
+        (ap (λ l. one_by_one image l more) is
+        ∙ behind_there image front (at ∷ rest) more (so_far.there told)
+        ∙ ap (λ b. front ++ (at ∷ cond b (one_by_one image rest more) [])) (unread absent unreadable f (image at) fault))
+    refusal T load.PowerLost absent unreadable fault told = next_front told
+    refusal T load.Device absent unreadable fault told = next_front told
+    refusal T load.Memory absent unreadable fault told = next_front told
+
+    -- where it can't be read, it is the last
+    pub asks_refused : (T : Type 0) (e : LoadStop) (absent unreadable : HiveFault) → (tells ≡ true → IsFaultOf e (bytes_or absent unreadable (image at))) → AsksFirst {T = T} before after tells (one_by_one image all) (Err e)
+    asks_refused T e absent unreadable fault = record { sectors = front ++ at ∷ []; made = next_made; are = λ told. refusal T e absent unreadable (fault told) told }
 
 -- numbers in turn
 range_split : (from m n : ℕ) → range_with_len from (m + n) ≡ range_with_len from m ++ range_with_len (from + m) n

@@ -9,6 +9,7 @@ pub mod Dirty
 pub mod Same
 pub mod Appending
 pub mod SoFar
+pub mod Looks
 pub mod Looked
 pub mod Asking
 pub mod AskedParts

@@ -1,26 +1,26 @@
 -- An image in the middle of a commit, with its whole log, is recovered as what the commit leads to.
-use Rattle.std.proofs.Common.{◌≡◌, ◌<◌, ◌≤◌, ◌+◌, ◌-◌, ◌*◌, ◌/◌, ◌++◌, ℕ, Bool, true, false, cond, List, length, take, drop, replicate, Some, Ok, Err, refl, sym, ◌∙◌, ap, arith, length-drop}
+use Rattle.std.proofs.Common.{◌≡◌, ◌⊎◌, ◌<◌, ◌≤◌, ◌+◌, ◌-◌, ◌*◌, ◌/◌, ◌++◌, ◌==◌, ℕ, Bool, true, false, cond, List, length, take, drop, replicate, Option, Some, None, Ok, Err, refl, sym, ◌∙◌, ap, arith, length-drop, ⊎_elim}
 use Rattle.std.specs.Prelude.{codes, nat_eq}
 use Rattle.std.specs.List.{starts_with}
 use Rattle.std.proofs.lemmas.List.{take-append-drop, drop-drop}
-use Rattle.nt_bytes.specs.declared.fault.HiveKind.TheVariants.{LogAbsent, LogDirt}
+use Rattle.std.proofs.lemmas.Bool.{eq-eqb, ne_eqb, and_from}
+use Rattle.nt_bytes.specs.declared.fault.HiveKind.TheVariants.{LogAbsent, LogUnreadable, LogDirt}
 use Rattle.hive_model.specs.Base.{Base, IsBase, base_of, fault_at}
-use Rattle.hive_model.specs.Image.{Image, Bytes}
-use Rattle.hive_model.specs.Recovery.{primary_in, log_in, sector, gathered, bins_short, log_short, bit, rank, bitmap_sectors, first_dirty, picked, closed_by, and_then, bytes_or, joined, as_log_base, bitmap_behind, bitmap_in, logged_in, recovered_of}
+use Rattle.hive_model.specs.Image.{Image, Bytes, Unreadable}
+use Rattle.hive_model.specs.Recovery.{primary_in, log_in, sector, read_log, read_bin, gathered, bit, rank, bitmap_sectors, first_dirty, picked, closed_by, goes_with, and_then, bytes_or, joined, as_log_base, front_in, bitmap_in, logged_in, base_at, base_in, recovered_of}
 use Rattle.hive_model.specs.Carries.{HasBase, HasLog}
 use Rattle.hive_model.specs.Log.{bitmap_text, marked_sectors, log_of}
 use Rattle.hive_model.proofs.BaseLemmas.{base_back}
-use Rattle.hive_log.specs.Mixing.{run_in}
-use Rattle.hive_log.specs.Found.{Found}
+use Rattle.hive_log.specs.Found.{IsUnfinished, HasLogBits, bins_by, Found}
 use Rattle.hive_log.proofs.Bits.{bit_back}
 use Rattle.hive_log.proofs.Ranks.{rank_same, rank_below}
-use Rattle.hive_log.proofs.Runs.{gathered_whole}
+use Rattle.hive_log.proofs.Runs.{gathered_whole, run_counted}
 use Rattle.hive_log.proofs.LogParts.{bitmap_long, run_long, log_long, log_block, log_bitmap, log_run, log_marked}
-use Rattle.hive_log.proofs.Finding.{found_recovered}
+use Rattle.hive_log.proofs.Finding.{bin_read, log_read, found_recovered}
 
--- the base block is another, the log is whole, and the sectors whose bit is off are there
+-- the base block is another or can't be read, the log is whole, and the sectors whose bit is off are there
 pub record IsOpened (image : Image) (opened closed : Base) (bits : ℕ → Bool) (bins : List ℕ) : Type 0 where
-  pub block : HasBase image opened
+  pub block : HasBase image opened ⊎ (primary_in image 0 ≡ Some Unreadable)
   pub logged : HasLog image (log_of bits bins closed)
   pub unmarked : (i : ℕ) → 512 * i < length bins → bits i ≡ false → primary_in image (8 + i) ≡ Some (Bytes (sector bins i))
 
@@ -79,77 +79,97 @@ module _ (image : Image) (opened closed : Base) (bits : ℕ → Bool) (bins : Li
   log_is : (n : ℕ) → n < first_dirty size + rank bits count → log_in image n ≡ Some (Bytes (sector (log_of bits bins closed) n))
   log_is n small = is.logged n (omega (arith, log_long bits bins closed of.fits whole))
 
-  front_there : log_in image 1 ≡ Some (Bytes (sector text 0))
-  front_there = log_is 1 (omega arith) ∙ ap (λ b. Some (Bytes b)) (log_bitmap bits bins closed of.fits whole 0 (omega arith))
+  front_there : front_in image ≡ Ok (sector text 0)
+  front_there =
+      ap (λ r. and_then r (λ front. cond (starts_with nat_eq front (codes "DIRT")) (Ok front) (Err (fault_at LogDirt 512))))
+      (log_read image 1 (sector text 0) (log_is 1 (omega arith) ∙ ap (λ b. Some (Bytes b)) (log_bitmap bits bins closed of.fits whole 0 (omega arith))))
+      ∙ ap (λ t. cond t (Ok (sector text 0)) (Err (fault_at LogDirt 512))) (bitmap_signed bits size)
 
-  more_there : run_in (log_in image) 2 (bitmap_sectors size - 1) ≡ Ok (drop 512 text)
-  more_there = gathered_whole (λ k. log_in image (2 + k)) (λ k. log_short (2 + k)) (drop 512 text) (bitmap_sectors size - 1)
+  more_there : gathered (read_log image) 2 (bitmap_sectors size - 1) ≡ Ok (drop 512 text)
+  more_there =
+      run_counted (read_log image) 2 (bitmap_sectors size - 1)
+      ∙ gathered_whole (λ k. read_log image (2 + k)) (drop 512 text) (bitmap_sectors size - 1)
       (omega (arith, length-drop 512 text, bitmap_long bits size))
       (λ i small.
       let at : 2 + i ≡ 1 + (1 + i) = omega arith in
-      ap (log_in image) at ∙ log_is (1 + (1 + i)) (omega arith)
-      ∙ ap (λ b. Some (Bytes b)) (log_bitmap bits bins closed of.fits whole (1 + i) (omega arith) ∙ sym (sector_drop text i)))
+      ap (read_log image) at
+      ∙ log_read image (1 + (1 + i)) (sector (drop 512 text) i)
+      (log_is (1 + (1 + i)) (omega arith)
+      ∙ ap (λ b. Some (Bytes b)) (log_bitmap bits bins closed of.fits whole (1 + i) (omega arith) ∙ sym (sector_drop text i))))
+
+  text_there : bitmap_in image size ≡ Ok (sector text 0 ++ drop 512 text)
+  text_there = ap (λ r. joined r (gathered (read_log image) 2 (bitmap_sectors size - 1))) front_there ∙ ap (joined (Ok (sector text 0))) more_there
 
   same_rank : (i : ℕ) → i ≤ count → rank (bit read) i ≡ rank bits i
   same_rank i small = rank_same (bit read) bits i (λ j below. read_bit j (omega arith))
 
-  marked_there : run_in (log_in image) (first_dirty size) (rank (bit read) count) ≡ Ok (marked_sectors bits bins 0 count)
+  marked_there : gathered (read_log image) (first_dirty size) (rank (bit read) count) ≡ Ok (marked_sectors bits bins 0 count)
   marked_there =
       let ranks = same_rank count (omega arith) in
-      gathered_whole (λ k. log_in image (first_dirty size + k)) (λ k. log_short (first_dirty size + k)) (marked_sectors bits bins 0 count) (rank (bit read) count)
+      run_counted (read_log image) (first_dirty size) (rank (bit read) count)
+      ∙ gathered_whole (λ k. read_log image (first_dirty size + k)) (marked_sectors bits bins 0 count) (rank (bit read) count)
       (omega (arith, ranks, run_long bits bins closed of.fits whole))
-      (λ k small. log_is (first_dirty size + k) (omega (arith, ranks)) ∙ ap (λ b. Some (Bytes b)) (log_run bits bins closed of.fits whole k))
+      (λ k small. log_read image (first_dirty size + k) (sector (marked_sectors bits bins 0 count) k)
+      (log_is (first_dirty size + k) (omega (arith, ranks)) ∙ ap (λ b. Some (Bytes b)) (log_run bits bins closed of.fits whole k)))
 
-  picked_is : (i : ℕ) → i < count → picked (primary_in image) (log_in image) (first_dirty size) (bit read) i ≡ Some (Bytes (sector bins i))
+  picked_is : (i : ℕ) → i < count → picked image (first_dirty size) (bit read) i ≡ Ok (sector bins i)
   picked_is i small =
       let in_bins : 512 * i < length bins = omega (arith, whole) in
-      let here : (b : Bool) → bits i ≡ b → cond b (log_in image (first_dirty size + rank (bit read) i)) (primary_in image (8 + i)) ≡ Some (Bytes (sector bins i)) =
+      let here : (b : Bool) → bits i ≡ b → cond b (read_log image (first_dirty size + rank (bit read) i)) (read_bin image i) ≡ Ok (sector bins i) =
       elim [
         | true ↦ λ on.
             let below : rank bits i < rank bits count = rank_below bits count i small on in
-            ap (λ r. log_in image (first_dirty size + r)) (same_rank i (omega arith))
-            ∙ log_is (first_dirty size + rank bits i) (omega arith)
-            ∙ ap (λ b. Some (Bytes b)) (log_marked bits bins closed of.fits whole i in_bins on)
-        | false ↦ λ off. is.unmarked i in_bins off
+            ap (λ r. read_log image (first_dirty size + r)) (same_rank i (omega arith))
+            ∙ log_read image (first_dirty size + rank bits i) (sector bins i)
+            (log_is (first_dirty size + rank bits i) (omega arith) ∙ ap (λ b. Some (Bytes b)) (log_marked bits bins closed of.fits whole i in_bins on))
+        | false ↦ λ off. bin_read image i (sector bins i) (is.unmarked i in_bins off)
       ] in
-      ap (λ b. cond b (log_in image (first_dirty size + rank (bit read) i)) (primary_in image (8 + i))) (read_bit i small) ∙ here (bits i) refl
+      ap (λ b. cond b (read_log image (first_dirty size + rank (bit read) i)) (read_bin image i)) (read_bit i small) ∙ here (bits i) refl
 
-  bins_gathered : gathered (picked (primary_in image) (log_in image) (first_dirty size) (bit read)) bins_short 0 count ≡ Ok bins
-  bins_gathered = gathered_whole (picked (primary_in image) (log_in image) (first_dirty size) (bit read)) bins_short bins count (omega (arith, whole)) picked_is
+  bins_there : bins_by image size (bit read) ≡ Ok bins
+  bins_there =
+      ap (λ r. and_then r (λ _. gathered (picked image (first_dirty size) (bit read)) 0 count)) marked_there
+      ∙ gathered_whole (picked image (first_dirty size) (bit read)) bins count (omega (arith, whole)) picked_is
 
-  closed_is : closed ≡ closed_by opened logged
-  closed_is = λ i. record closed { first = of.first i; second = of.second i; kind = of.kind i }
-
-  text_there : bitmap_in (log_in image) size ≡ Ok (sector text 0 ++ drop 512 text)
-  text_there =
-      ap (λ c. and_then (bytes_or (log_short 1) c) (bitmap_behind (log_in image) size)) front_there
-      ∙ ap (λ t. cond t (joined (Ok (sector text 0)) (run_in (log_in image) 2 (bitmap_sectors size - 1))) (Err (fault_at LogDirt 512))) (bitmap_signed bits size)
-      ∙ ap (joined (Ok (sector text 0))) more_there
-
-  log_there : logged_in (log_in image) ≡ Ok logged
+  log_there : logged_in image ≡ Ok logged
   log_there =
-      ap (λ c. and_then (bytes_or (fault_at LogAbsent 0) c) (λ block. as_log_base (base_of block 1))) (log_is 0 (omega arith) ∙ ap (λ b. Some (Bytes b)) (log_block bits bins closed of.fits whole))
+      ap (λ c. and_then (bytes_or (fault_at LogAbsent 0) (fault_at LogUnreadable 0) c) (λ block. as_log_base (base_of block 1)))
+      (log_is 0 (omega arith) ∙ ap (λ b. Some (Bytes b)) (log_block bits bins closed of.fits whole))
       ∙ ap as_log_base (base_back logged of.fits)
 
-  pub opened_found : Found image closed (drop 4 text) bins
-  opened_found = record {
-    opened = opened;
-    logged = logged;
+  closed_is : closed ≡ closed_by logged
+  closed_is = λ i. record closed { kind = of.kind i }
+
+  log_bits : (found : Option Base) → goes_with found logged ≡ true → HasLogBits image found logged (drop 4 text)
+  log_bits found goes = record {
     text = sector text 0 ++ drop 512 text;
-    marked = marked_sectors bits bins 0 count;
-    block = is.block;
-    odd = of.odd;
     log_block = log_there;
-    first_same = of.first;
-    second_same = of.second;
+    goes = goes;
+    text_there = ap (bitmap_in image) of.size ∙ text_there;
+    bits_are = ap (drop 4) (sym (front_again text));
+  }
+
+  found_with : (found : Option Base) → base_in image ≡ Ok found → IsUnfinished found → goes_with found logged ≡ true → Found image closed (drop 4 text) bins
+  found_with found block unfinished goes = record {
+    opened = found;
+    logged = logged;
+    block = block;
+    unfinished = unfinished;
+    log = log_bits found goes;
     closed_is = closed_is;
-    text_there = ap (λ s. bitmap_in (log_in image) s) of.size ∙ text_there;
-    bitmap_is = ap (drop 4) (sym (front_again text));
-    marked_there = ap (λ s. run_in (log_in image) (first_dirty s) (rank (bit read) (s / 512))) of.size ∙ marked_there;
-    bins_gathered = ap (λ s. gathered (picked (primary_in image) (log_in image) (first_dirty s) (bit read)) bins_short 0 (s / 512)) of.size ∙ bins_gathered;
+    bins_there = ap (λ s. bins_by image s (bit (drop 4 text))) of.size ∙ ap (λ l. bins_by image size (bit (drop 4 l))) (sym (front_again text)) ∙ bins_there;
     size = of.size;
     unmarked = λ i small off. is.unmarked i small (sym (bitmap_bit bits size i (omega (arith, of.pages))) ∙ off);
   }
+
+  goes : goes_with (Some opened) logged ≡ true
+  goes = and_from (closed.first == opened.first) (closed.second == opened.first) (eq-eqb closed.first opened.first of.first) (eq-eqb closed.second opened.first of.second)
+
+  pub opened_found : Found image closed (drop 4 text) bins
+  opened_found = ⊎_elim
+      (λ block. found_with (Some opened) block of.odd goes)
+      (λ torn. found_with None (ap base_at torn) tt (eq-eqb closed.first closed.second (of.first ∙ sym of.second)))
+      is.block
 
   pub opened_recovered : recovered_of image ≡ Ok (record { base = closed; bins = bins; dirty = true })
   opened_recovered = found_recovered image closed (drop 4 text) bins opened_found

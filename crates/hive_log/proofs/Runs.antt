@@ -1,10 +1,8 @@
 -- Runs of sectors: what is gathered of them, by what each of them is.
-use Rattle.std.proofs.Common.{◌≡◌, ◌<◌, ◌≤◌, ◌+◌, ◌*◌, ◌++◌, ℕ, zero, suc, List, length, take, drop, Some, Ok, refl, sym, ◌∙◌, ap, arith, length-take, length-drop}
+use Rattle.std.proofs.Common.{◌≡◌, ◌<◌, ◌≤◌, ◌+◌, ◌*◌, ◌++◌, ℕ, zero, suc, List, length, take, drop, Ok, refl, sym, ◌∙◌, ap, arith, length-take, length-drop}
 use Rattle.std.proofs.Math.Seq.{take-add, take-length, drop-append-add}
 use Rattle.std.proofs.lemmas.List.{drop-drop, take-append-le, drop-append-le}
-use Rattle.nt_bytes.specs.declared.fault.HiveFault.{HiveFault}
-use Rattle.hive_model.specs.Image.{Bytes}
-use Rattle.hive_model.specs.Recovery.{Sectors, sector, bytes_or, joined, gathered}
+use Rattle.hive_model.specs.Recovery.{Sectors, sector, joined, gathered}
 
 -- the sector, and those behind it
 run_more : (v : List ℕ) (from n : ℕ) → sector v from ++ take (512 * n) (drop (512 * suc from) v) ≡ take (512 * suc n) (drop (512 * from) v)
@@ -17,25 +15,37 @@ run_more v from n =
     ∙ sym (take-add 512 (512 * n) (drop (512 * from) v))
     ∙ ap (λ k. take k (drop (512 * from) v)) long
 
-pub gathered_is : (at : Sectors) (fault : ℕ → HiveFault) (v : List ℕ) (from n : ℕ) → ((i : ℕ) → from ≤ i → i < from + n → at i ≡ Some (Bytes (sector v i))) → gathered at fault from n ≡ Ok (take (512 * n) (drop (512 * from) v))
-gathered_is at fault v from zero each = refl
-gathered_is at fault v from (suc n) each =
-    ap (λ s. joined (bytes_or (fault from) s) (gathered at fault (suc from) n)) (each from (omega arith) (omega arith))
-    ∙ ap (joined (Ok (sector v from))) (gathered_is at fault v (suc from) n (λ i low high. each i (omega arith) (omega arith)))
+pub gathered_is : (at : Sectors) (v : List ℕ) (from n : ℕ) → ((i : ℕ) → from ≤ i → i < from + n → at i ≡ Ok (sector v i)) → gathered at from n ≡ Ok (take (512 * n) (drop (512 * from) v))
+gathered_is at v from zero each = refl
+gathered_is at v from (suc n) each =
+    ap (λ s. joined s (gathered at (suc from) n)) (each from (omega arith) (omega arith))
+    ∙ ap (joined (Ok (sector v from))) (gathered_is at v (suc from) n (λ i low high. each i (omega arith) (omega arith)))
     ∙ ap (λ l. Ok l) (run_more v from n)
 
 -- all of the bytes
-pub gathered_whole : (at : Sectors) (fault : ℕ → HiveFault) (v : List ℕ) (n : ℕ) → length v ≡ 512 * n → ((i : ℕ) → i < n → at i ≡ Some (Bytes (sector v i))) → gathered at fault 0 n ≡ Ok v
-gathered_whole at fault v n long each =
-    gathered_is at fault v 0 n (λ i low high. each i (omega arith))
+pub gathered_whole : (at : Sectors) (v : List ℕ) (n : ℕ) → length v ≡ 512 * n → ((i : ℕ) → i < n → at i ≡ Ok (sector v i)) → gathered at 0 n ≡ Ok v
+gathered_whole at v n long each =
+    gathered_is at v 0 n (λ i low high. each i (omega arith))
     ∙ ap (λ k. Ok (take k v)) (sym long) ∙ ap (λ l. Ok l) (take-length v)
 
 -- only the sectors that are asked for count
-pub gathered_same : (a b : Sectors) (fault : ℕ → HiveFault) (from n : ℕ) → ((i : ℕ) → from ≤ i → i < from + n → a i ≡ b i) → gathered a fault from n ≡ gathered b fault from n
-gathered_same a b fault from zero each = refl
-gathered_same a b fault from (suc n) each =
-    ap (λ s. joined (bytes_or (fault from) s) (gathered a fault (suc from) n)) (each from (omega arith) (omega arith))
-    ∙ ap (joined (bytes_or (fault from) (b from))) (gathered_same a b fault (suc from) n (λ i low high. each i (omega arith) (omega arith)))
+pub gathered_same : (a b : Sectors) (from n : ℕ) → ((i : ℕ) → from ≤ i → i < from + n → a i ≡ b i) → gathered a from n ≡ gathered b from n
+gathered_same a b from zero each = refl
+gathered_same a b from (suc n) each =
+    ap (λ s. joined s (gathered a (suc from) n)) (each from (omega arith) (omega arith))
+    ∙ ap (joined (b from)) (gathered_same a b (suc from) n (λ i low high. each i (omega arith) (omega arith)))
+
+-- a run is counted from its first sector on
+counted_from : (at : Sectors) (first i n : ℕ) → gathered at (first + i) n ≡ gathered (λ k. at (first + k)) i n
+counted_from at first i zero = refl
+counted_from at first i (suc n) =
+    let next : suc (first + i) ≡ first + suc i = omega arith in
+    ap (λ k. joined (at (first + i)) (gathered at k n)) next ∙ ap (joined (at (first + i))) (counted_from at first (suc i) n)
+
+pub run_counted : (at : Sectors) (first n : ℕ) → gathered at first n ≡ gathered (λ k. at (first + k)) 0 n
+run_counted at first n =
+    let start : first ≡ first + 0 = omega arith in
+    ap (λ k. gathered at k n) start ∙ counted_from at first 0 n
 
 -- sectors of bytes that are joined
 pub sector_front : (xs ys : List ℕ) (i : ℕ) → 512 * i + 512 ≤ length xs → sector (xs ++ ys) i ≡ sector xs i

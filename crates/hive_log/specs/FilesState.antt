@@ -1,8 +1,9 @@
--- Two files as a disk: it is on, holds their first 65,536 sectors, and every write to it wants for memory.
+-- Two files as a disk: it is on, holds their first 65,536 sectors, and every write to it lacks memory.
 -- (This project's own.)
-use Rattle.std.specs.Prelude.{true, []}
+use Rattle.std.specs.Prelude.{true, List, []}
 use Rattle.std.proofs.Common.{lit≤}
 use Rattle.hive_model.specs.Image.{image_of}
+use Rattle.nt_edge.specs.Calls.{Made}
 use Rattle.nt_edge.specs.Disk.{DiskState, IsBounded}
 use Rattle.hive_log.specs.declared.files.Files.{Files}
 
@@ -18,4 +19,8 @@ files_state files = record {
 }
 
 pub files_bounded : (files : Files) → IsBounded (files_state files)
-files_bounded files = record { cuts = lit≤ tt; faults = lit≤ tt; lacks = lit≤ tt }
+files_bounded files = record { cuts = lit≤ tt; faults = lit≤ tt; lacks = lit≤ tt; cut_calls = lit≤ tt; placings = lit≤ tt; takings = lit≤ tt }
+
+-- no call is remembered, so each list is said
+pub files_said : (files : Files) → List Made × Unit {0}
+files_said files = ([], tt)

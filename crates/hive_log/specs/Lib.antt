@@ -2,6 +2,5 @@ pub mod Asked
 pub mod FilesState
 pub mod Found
 pub mod Mixing
-pub mod Places
 pub mod Shown
 pub mod Stops

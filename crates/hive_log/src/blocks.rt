@@ -1,37 +1,29 @@
 //! Reading the base blocks and the bitmap of a disk. Nothing is written.
 
-ghost use Rattle.std.specs.Prelude.{◌≡◌, ◌<◌, ◌≤◌, ◌*◌, ◌==◌, ◌&&◌, true, [], length, drop, IfOk};
-ghost use Rattle.hive_model.specs.Base.{is_bins_size, base_of};
-ghost use Rattle.hive_model.specs.Image.{Primary, Log};
-ghost use Rattle.hive_model.specs.Recovery.{primary_in, log_in, bit, rank, as_log_base, base_in, logged_in, bitmap_in};
+ghost use Rattle.std.specs.Prelude.{◌≡◌, ◌<◌, ◌≤◌, ◌*◌, true, Some, [], length, drop, IfOk};
+ghost use Rattle.hive_model.specs.Asked.{log_at, primary_at};
+ghost use Rattle.hive_model.specs.Base.{Base, is_bins_size, base_of};
+ghost use Rattle.hive_model.specs.Recovery.{bit, rank, as_log_base, base_in, logged_in, front_in, bitmap_in};
 ghost use Rattle.hive_model.specs.Recovery as book;
-ghost use Rattle.nt_edge.specs.Disk.{CountsGrow};
 ghost use Rattle.hive_log.specs.Asked.{asked_sector, asked_bitmap, AsksFirst};
-ghost use Rattle.hive_log.specs.Mixing.{front_in};
-ghost use Rattle.hive_log.specs.Stops.{Reads, HasLoadCause, IsOnAfterLoad};
-ghost use Rattle.hive_log.specs.Places.{log_at, primary_at};
+ghost use Rattle.hive_log.specs.Stops.{Reads, IsLookAt};
 
-use crate::gathering::{read_log_run, short_log};
+use crate::gathering::{read_log_run, read_log_sector, read_sector};
 use crate::{LoadStop, bitmap_sectors, has_bit};
 use nt_bytes::{Bytes, HiveFault, HiveKind};
 use nt_edge::{Address, Disk, HiveFile, Presence};
 use regf_base::{BaseBlock, read_base};
 use std::alloc::{AllocError, Global};
 
-/// The primary's base block.
-pub(crate) fn read_primary_block<D: Disk>(disk: &mut D) -> Result<BaseBlock, LoadStop>
+/// The primary's base block, none where it can't be read.
+pub(crate) fn read_primary_block<D: Disk>(disk: &mut D) -> Result<Option<BaseBlock>, LoadStop>
     requires on { (D.state disk.old).on ≡ true }
     requires still { D.tells ≡ true → (D.state disk.old).flight ≡ [] }
-    ensures block { D.tells ≡ true → Reads result (base_in (primary_in (D.state disk.old).held)) }
+    ensures block { D.tells ≡ true → Reads result (base_in (D.state disk.old).held) }
     ensures asked { AsksFirst (D.calls disk.old) (D.calls disk.new) D.tells
-        (asked_sector (primary_at 0) (base_in (primary_in (D.state disk.old).held))) result }
-    ensures sized { IfOk result (λ b. is_bins_size b.size ≡ true) }
-    ensures held { D.tells ≡ true → (D.state disk.new).held ≡ (D.state disk.old).held }
-    ensures flight { D.tells ≡ true → (D.state disk.new).flight ≡ (D.state disk.old).flight }
-    ensures history { (D.state disk.new).history ≡ (D.state disk.old).history }
-    ensures counts { CountsGrow (D.state disk.old) (D.state disk.new) }
-    ensures cause { HasLoadCause (D.state disk.old) (D.state disk.new) result }
-    ensures power { IsOnAfterLoad (D.state disk.new) result }
+        (asked_sector (primary_at 0) (base_in (D.state disk.old).held)) result }
+    ensures sized { (b : Base) → result ≡ Ok (Some b) → is_bins_size b.size ≡ true }
+    ensures look { IsLookAt D.tells (D.state disk.old) (D.state disk.new) result }
 {
     let mut sector = [0; 512];
     let at = Address {
@@ -39,7 +31,8 @@ pub(crate) fn read_primary_block<D: Disk>(disk: &mut D) -> Result<BaseBlock, Loa
         sector: 0,
     };
     match disk.read(at, &mut sector)? {
-        Presence::Whole => Ok(read_base(&sector, 0)?),
+        Presence::Whole => Ok(Some(read_base(&sector, 0)?)),
+        Presence::Unreadable => Ok(None),
         Presence::Absent => Err(LoadStop::Fault(HiveFault {
             kind: HiveKind::NotRegf,
             at: 0,
@@ -51,29 +44,27 @@ pub(crate) fn read_primary_block<D: Disk>(disk: &mut D) -> Result<BaseBlock, Loa
 pub(crate) fn read_log_block<D: Disk>(disk: &mut D) -> Result<BaseBlock, LoadStop>
     requires on { (D.state disk.old).on ≡ true }
     requires still { D.tells ≡ true → (D.state disk.old).flight ≡ [] }
-    ensures block { D.tells ≡ true → Reads result (logged_in (log_in (D.state disk.old).held)) }
+    ensures block { D.tells ≡ true → Reads result (logged_in (D.state disk.old).held) }
     ensures asked { AsksFirst (D.calls disk.old) (D.calls disk.new) D.tells
-        (asked_sector (log_at 0) (logged_in (log_in (D.state disk.old).held))) result }
+        (asked_sector (log_at 0) (logged_in (D.state disk.old).held)) result }
     ensures sized { IfOk result (λ b. is_bins_size b.size ≡ true) }
-    ensures held { D.tells ≡ true → (D.state disk.new).held ≡ (D.state disk.old).held }
-    ensures flight { D.tells ≡ true → (D.state disk.new).flight ≡ (D.state disk.old).flight }
-    ensures history { (D.state disk.new).history ≡ (D.state disk.old).history }
-    ensures counts { CountsGrow (D.state disk.old) (D.state disk.new) }
-    ensures cause { HasLoadCause (D.state disk.old) (D.state disk.new) result }
-    ensures power { IsOnAfterLoad (D.state disk.new) result }
+    ensures look { IsLookAt D.tells (D.state disk.old) (D.state disk.new) result }
 {
     let mut sector = [0; 512];
     let at = Address {
         file: HiveFile::Log,
         sector: 0,
     };
-    match disk.read(at, &mut sector)? {
-        Presence::Whole => Ok(read_logged(&sector)?),
-        Presence::Absent => Err(LoadStop::Fault(HiveFault {
-            kind: HiveKind::LogAbsent,
-            at: 0,
-        })),
-    }
+    let absent = HiveFault {
+        kind: HiveKind::LogAbsent,
+        at: 0,
+    };
+    let unreadable = HiveFault {
+        kind: HiveKind::LogUnreadable,
+        at: 0,
+    };
+    read_sector(disk, at, absent, unreadable, &mut sector)?;
+    Ok(read_logged(&sector)?)
 }
 
 fn read_logged(sector: &[u8; 512]) -> Result<BaseBlock, HiveFault>
@@ -92,26 +83,14 @@ fn read_logged(sector: &[u8; 512]) -> Result<BaseBlock, HiveFault>
 fn read_bitmap_front<D: Disk>(alloc: Global, disk: &mut D) -> Result<Bytes, LoadStop>
     requires on { (D.state disk.old).on ≡ true }
     requires still { D.tells ≡ true → (D.state disk.old).flight ≡ [] }
-    ensures front { D.tells ≡ true → Reads result (front_in (log_in (D.state disk.old).held)) }
+    ensures front { D.tells ≡ true → Reads result (front_in (D.state disk.old).held) }
     ensures asked { AsksFirst (D.calls disk.old) (D.calls disk.new) D.tells
-        (asked_sector (log_at 1) (front_in (log_in (D.state disk.old).held))) result }
+        (asked_sector (log_at 1) (front_in (D.state disk.old).held)) result }
     ensures long { IfOk result (λ b. length b ≡ 512) }
-    ensures held { D.tells ≡ true → (D.state disk.new).held ≡ (D.state disk.old).held }
-    ensures flight { D.tells ≡ true → (D.state disk.new).flight ≡ (D.state disk.old).flight }
-    ensures history { (D.state disk.new).history ≡ (D.state disk.old).history }
-    ensures counts { CountsGrow (D.state disk.old) (D.state disk.new) }
-    ensures cause { HasLoadCause (D.state disk.old) (D.state disk.new) result }
-    ensures power { IsOnAfterLoad (D.state disk.new) result }
+    ensures look { IsLookAt D.tells (D.state disk.old) (D.state disk.new) result }
 {
     let mut sector = [0; 512];
-    let at = Address {
-        file: HiveFile::Log,
-        sector: 1,
-    };
-    match disk.read(at, &mut sector)? {
-        Presence::Whole => {}
-        Presence::Absent => return Err(short_log(1)),
-    }
+    read_log_sector(disk, 1, &mut sector)?;
     if !sector.starts_with(b"DIRT") {
         return Err(LoadStop::Fault(HiveFault {
             kind: HiveKind::LogDirt,
@@ -130,16 +109,11 @@ pub(crate) fn read_bitmap<D: Disk>(
     requires on { (D.state disk.old).on ≡ true }
     requires still { D.tells ≡ true → (D.state disk.old).flight ≡ [] }
     requires few { size ≤ 16777216 }
-    ensures text { D.tells ≡ true → Reads result (bitmap_in (log_in (D.state disk.old).held) size) }
+    ensures text { D.tells ≡ true → Reads result (bitmap_in (D.state disk.old).held size) }
     ensures asked { AsksFirst (D.calls disk.old) (D.calls disk.new) D.tells
         (asked_bitmap (D.state disk.old).held size) result }
     ensures long { IfOk result (λ b. length b ≡ 512 * book.bitmap_sectors size) }
-    ensures held { D.tells ≡ true → (D.state disk.new).held ≡ (D.state disk.old).held }
-    ensures flight { D.tells ≡ true → (D.state disk.new).flight ≡ (D.state disk.old).flight }
-    ensures history { (D.state disk.new).history ≡ (D.state disk.old).history }
-    ensures counts { CountsGrow (D.state disk.old) (D.state disk.new) }
-    ensures cause { HasLoadCause (D.state disk.old) (D.state disk.new) result }
-    ensures power { IsOnAfterLoad (D.state disk.new) result }
+    ensures look { IsLookAt D.tells (D.state disk.old) (D.state disk.new) result }
 {
     let mut text = read_bitmap_front(alloc, disk)?;
     let more = read_log_run(alloc, disk, 2, bitmap_sectors(size as usize) as u32 - 1)?;
@@ -169,9 +143,19 @@ pub(crate) fn bits_behind(alloc: Global, text: &[u8]) -> Result<Bytes, AllocErro
     Bytes::from_slice(alloc, &text[4..])
 }
 
-/// Whether both numbers of the log's base block are the primary's first one.
-pub(crate) fn follows(opened: &BaseBlock, logged: &BaseBlock) -> bool
-    ensures { result ≡ ((logged.now.first == opened.now.first) && (logged.now.second == opened.now.first)) }
+/// Whether the log's two numbers are one, and the primary's first one where its base block could be read.
+pub(crate) fn goes_with(opened: &Option<BaseBlock>, logged: &BaseBlock) -> bool
+    ensures { result ≡ book.goes_with opened.now logged.now }
 {
-    logged.first == opened.first && logged.second == opened.first
+    match opened {
+        None => logged.first == logged.second,
+        Some(base) => logged.first == base.first && logged.second == base.first,
+    }
+}
+
+/// The log's base block, as that of a primary.
+pub(crate) fn closed_block(logged: BaseBlock) -> BaseBlock
+    ensures { result ≡ book.closed_by logged }
+{
+    BaseBlock { kind: 0, ..logged }
 }

@@ -4,7 +4,6 @@ ghost use Rattle.std.specs.Prelude.{◌≡◌, ◌*◌, ◌<◌, true, Some, Non
 ghost use Rattle.hive_model.specs.Base.{is_bins_size};
 ghost use Rattle.hive_model.specs.Image as image;
 ghost use Rattle.hive_model.specs.Recovery.{recovered_of};
-ghost use Rattle.nt_edge.specs.declared.disk.Presence.TheVariants.{Whole, Absent};
 ghost use Rattle.hive_log.specs.Stops.{ReadsFiles};
 
 use crate::{LoadStop, Reading, Recovered, read_recovered};
@@ -12,7 +11,7 @@ use nt_bytes::ReadStop;
 use nt_edge::{Address, Disk, DiskStop, HiveFile, Presence};
 use std::alloc::Global;
 
-/// The first 65,536 sectors of two files, as a disk whose every write wants for memory.
+/// The first 65,536 sectors of two files, as a disk whose every write lacks memory.
 #[derive(Drop)]
 struct Files<'a> {
     primary: &'a [u8],
@@ -21,7 +20,7 @@ struct Files<'a> {
 
 impl Disk for Files<'_> {
     ghost use Rattle.std.specs.Prelude.{true};
-    ghost use Rattle.hive_log.specs.FilesState.{files_state, files_bounded};
+    ghost use Rattle.hive_log.specs.FilesState.{files_state, files_bounded, files_said};
 
     ghost tells = { true };
 
@@ -51,13 +50,16 @@ impl Disk for Files<'_> {
     }
 
     ghost bounded = { files_bounded };
+
+    ghost some = { files_said };
 }
 
 /// Sector n of a file, filled up with zeros, unless it lies past the end.
 fn file_sector(bytes: &[u8], n: usize, into: &mut [u8; 512]) -> Presence
     requires { n < 65536 }
-    ensures whole { result ≡ Whole → image.sector_of bytes.now n ≡ Some (image.Bytes into.new) }
-    ensures absent { result ≡ Absent → image.sector_of bytes.now n ≡ None }
+    ensures whole { result ≡ Presence.Whole → image.sector_of bytes.now n ≡ Some (image.Bytes into.new) }
+    ensures absent { result ≡ Presence.Absent → image.sector_of bytes.now n ≡ None }
+    ensures readable { result ≡ Presence.Unreadable → ⊥ }
 {
     if bytes.len() <= 512 * n {
         return Presence::Absent;

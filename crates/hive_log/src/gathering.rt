@@ -1,15 +1,13 @@
-//! Reading runs of sectors of a disk. Nothing is written.
+//! Reading sectors of a disk, and runs of them. Nothing is written.
 
-ghost use Rattle.std.specs.Prelude.{◌≡◌, ◌<◌, ◌≤◌, ◌+◌, ◌*◌, ℕ, true, Some, [], length, IfOk};
+ghost use Rattle.std.specs.Prelude.{◌≡◌, ◌<◌, ◌≤◌, ◌+◌, ◌*◌, ℕ, true, Ok, [], ◌∷◌, length, IfOk};
+ghost use Rattle.hive_model.specs.Asked.{log_at, bin_at, run_at, unmarked_at, one_by_one};
 ghost use Rattle.hive_model.specs.Image as image;
-ghost use Rattle.hive_model.specs.Base.{fault_at};
-ghost use Rattle.hive_model.specs.Recovery.{primary_in, log_in, sector, bins_short, bit, rank};
-ghost use Rattle.nt_edge.specs.Disk.{CountsGrow};
-ghost use Rattle.hive_log.specs.Asked.{one_by_one, run_at, unmarked_at, AsksFirst};
-ghost use Rattle.hive_log.specs.Mixing.{mixed, run_in, mixed_bins};
-ghost use Rattle.hive_log.specs.Stops.{Reads, HasLoadCause, IsOnAfterLoad};
-ghost use Rattle.nt_bytes.specs.declared.fault.HiveKind.TheVariants.{LogShort};
-ghost use Rattle.hive_log.specs.declared.stops.LoadStop.TheVariants.{Fault};
+ghost use Rattle.hive_model.specs.Recovery.{bytes_or, read_log, read_bin, gathered, sector, bit, rank};
+ghost use Rattle.nt_edge.specs.Calls.{Makes, ReadAt};
+ghost use Rattle.hive_log.specs.Asked.{AsksFirst};
+ghost use Rattle.hive_log.specs.Mixing.{mixed};
+ghost use Rattle.hive_log.specs.Stops.{Reads, ReadsAs, IsLookAt};
 
 use crate::sectors::sector_of;
 use crate::{LoadStop, has_bit};
@@ -17,28 +15,82 @@ use nt_bytes::{Bytes, HiveFault, HiveKind};
 use nt_edge::{Address, Disk, HiveFile, Presence};
 use std::alloc::Global;
 
-/// A sector of the log is absent.
-pub(crate) fn short_log(n: u32) -> LoadStop
-    requires { n < 100000 }
-    ensures { result ≡ Fault (fault_at LogShort (512 * n)) }
+/// Reads a sector as it was last written, or answers the one fault where it is absent, the other where it
+/// can't be read.
+pub(crate) fn read_sector<D: Disk>(
+    disk: &mut D,
+    at: Address,
+    absent: HiveFault,
+    unreadable: HiveFault,
+    into: &mut [u8; 512],
+) -> Result<(), LoadStop>
+    requires on { (D.state disk.old).on ≡ true }
+    requires still { D.tells ≡ true → (D.state disk.old).flight ≡ [] }
+    ensures made { Makes (D.calls disk.old) (D.calls disk.new) (ReadAt at ∷ []) }
+    ensures bytes { D.tells ≡ true → ReadsAs (λ _. into.new) result (bytes_or absent unreadable ((D.state disk.old).held at)) }
+    ensures look { IsLookAt D.tells (D.state disk.old) (D.state disk.new) result }
 {
-    LoadStop::Fault(HiveFault {
+    match disk.read(at, into)? {
+        Presence::Whole => Ok(()),
+        Presence::Absent => Err(LoadStop::Fault(absent)),
+        Presence::Unreadable => Err(LoadStop::Fault(unreadable)),
+    }
+}
+
+/// Reads a sector of the log, from number 1 on. Its faults name the byte in the log.
+pub(crate) fn read_log_sector<D: Disk>(
+    disk: &mut D,
+    n: u32,
+    into: &mut [u8; 512],
+) -> Result<(), LoadStop>
+    requires on { (D.state disk.old).on ≡ true }
+    requires still { D.tells ≡ true → (D.state disk.old).flight ≡ [] }
+    requires few { n < 100000 }
+    ensures made { Makes (D.calls disk.old) (D.calls disk.new) (ReadAt (log_at n) ∷ []) }
+    ensures bytes { D.tells ≡ true → ReadsAs (λ _. into.new) result (read_log (D.state disk.old).held n) }
+    ensures look { IsLookAt D.tells (D.state disk.old) (D.state disk.new) result }
+{
+    let at = Address {
+        file: HiveFile::Log,
+        sector: n,
+    };
+    let absent = HiveFault {
         kind: HiveKind::LogShort,
         at: 512 * n,
-    })
+    };
+    let unreadable = HiveFault {
+        kind: HiveKind::LogUnreadable,
+        at: 512 * n,
+    };
+    read_sector(disk, at, absent, unreadable, into)
 }
 
-/// A sector of the primary is absent that belongs to the bins data.
-fn short_bins() -> LoadStop
-    ensures { result ≡ Fault (bins_short 0) }
+/// Reads a sector of the bins data in the primary. Where it is absent the file is too short, and the fault is
+/// that of the size; where it can't be read the fault names the byte in the file.
+fn read_bin_sector<D: Disk>(disk: &mut D, i: u32, into: &mut [u8; 512]) -> Result<(), LoadStop>
+    requires on { (D.state disk.old).on ≡ true }
+    requires still { D.tells ≡ true → (D.state disk.old).flight ≡ [] }
+    requires few { i < 100000 }
+    ensures made { Makes (D.calls disk.old) (D.calls disk.new) (ReadAt (bin_at i) ∷ []) }
+    ensures bytes { D.tells ≡ true → ReadsAs (λ _. into.new) result (read_bin (D.state disk.old).held i) }
+    ensures look { IsLookAt D.tells (D.state disk.old) (D.state disk.new) result }
 {
-    LoadStop::Fault(HiveFault {
+    let at = Address {
+        file: HiveFile::Primary,
+        sector: 8 + i,
+    };
+    let absent = HiveFault {
         kind: HiveKind::Size,
         at: 40,
-    })
+    };
+    let unreadable = HiveFault {
+        kind: HiveKind::Unreadable,
+        at: 512 * (8 + i),
+    };
+    read_sector(disk, at, absent, unreadable, into)
 }
 
-/// The sectors of the log from one number on, or `LogShort` at the byte of the first that is absent.
+/// The sectors of the log from one number on.
 pub(crate) fn read_log_run<D: Disk>(
     alloc: Global,
     disk: &mut D,
@@ -48,35 +100,24 @@ pub(crate) fn read_log_run<D: Disk>(
     requires on { (D.state disk.old).on ≡ true }
     requires still { D.tells ≡ true → (D.state disk.old).flight ≡ [] }
     requires few { first + count < 100000 }
-    ensures run { D.tells ≡ true → Reads result (run_in (log_in (D.state disk.old).held) first count) }
+    ensures run { D.tells ≡ true → Reads result (gathered (read_log (D.state disk.old).held) first count) }
     ensures asked { AsksFirst (D.calls disk.old) (D.calls disk.new) D.tells
         (one_by_one (D.state disk.old).held (run_at image.Log first count)) result }
     ensures long { IfOk result (λ b. length b ≡ 512 * count) }
-    ensures sectors { D.tells ≡ true → IfOk result (λ b. (k : ℕ) → k < count → log_in (D.state disk.old).held (first + k) ≡ Some (image.Bytes (sector b k))) }
-    ensures held { D.tells ≡ true → (D.state disk.new).held ≡ (D.state disk.old).held }
-    ensures flight { D.tells ≡ true → (D.state disk.new).flight ≡ (D.state disk.old).flight }
-    ensures history { (D.state disk.new).history ≡ (D.state disk.old).history }
-    ensures counts { CountsGrow (D.state disk.old) (D.state disk.new) }
-    ensures cause { HasLoadCause (D.state disk.old) (D.state disk.new) result }
-    ensures power { IsOnAfterLoad (D.state disk.new) result }
+    ensures sectors { D.tells ≡ true → IfOk result (λ b. (k : ℕ) → k < count → read_log (D.state disk.old).held (first + k) ≡ Ok (sector b k)) }
+    ensures look { IsLookAt D.tells (D.state disk.old) (D.state disk.new) result }
 {
     let mut bytes = Bytes::new(alloc);
     let mut sector = [0; 512];
     for k in 0..count {
-        let at = Address {
-            file: HiveFile::Log,
-            sector: first + k,
-        };
-        match disk.read(at, &mut sector)? {
-            Presence::Whole => bytes.append(&sector)?,
-            Presence::Absent => return Err(short_log(first + k)),
-        }
+        read_log_sector(disk, first + k, &mut sector)?;
+        bytes.append(&sector)?;
     }
     Ok(bytes)
 }
 
 /// The bins data: a sector whose bit is on is the next of the log's run, the others are read from the
-/// primary. An absent one is `Size`.
+/// primary.
 pub(crate) fn read_bins<D: Disk>(
     alloc: Global,
     disk: &mut D,
@@ -88,17 +129,12 @@ pub(crate) fn read_bins<D: Disk>(
     requires still { D.tells ≡ true → (D.state disk.old).flight ≡ [] }
     requires few { count ≤ 32768 }
     requires run_long { length run.now ≡ 512 * rank (bit bitmap.now) count }
-    ensures bins { D.tells ≡ true → Reads result (mixed_bins (primary_in (D.state disk.old).held) run.now (bit bitmap.now) count) }
+    ensures bins { D.tells ≡ true → Reads result (gathered (mixed (D.state disk.old).held run.now (bit bitmap.now)) 0 count) }
     ensures asked { AsksFirst (D.calls disk.old) (D.calls disk.new) D.tells
         (one_by_one (D.state disk.old).held (unmarked_at (bit bitmap.now) count)) result }
     ensures long { IfOk result (λ b. length b ≡ 512 * count) }
-    ensures sectors { D.tells ≡ true → IfOk result (λ b. (i : ℕ) → i < count → mixed (primary_in (D.state disk.old).held) run.now (bit bitmap.now) i ≡ Some (image.Bytes (sector b i))) }
-    ensures held { D.tells ≡ true → (D.state disk.new).held ≡ (D.state disk.old).held }
-    ensures flight { D.tells ≡ true → (D.state disk.new).flight ≡ (D.state disk.old).flight }
-    ensures history { (D.state disk.new).history ≡ (D.state disk.old).history }
-    ensures counts { CountsGrow (D.state disk.old) (D.state disk.new) }
-    ensures cause { HasLoadCause (D.state disk.old) (D.state disk.new) result }
-    ensures power { IsOnAfterLoad (D.state disk.new) result }
+    ensures sectors { D.tells ≡ true → IfOk result (λ b. (i : ℕ) → i < count → mixed (D.state disk.old).held run.now (bit bitmap.now) i ≡ Ok (sector b i)) }
+    ensures look { IsLookAt D.tells (D.state disk.old) (D.state disk.new) result }
 {
     let mut bytes = Bytes::new(alloc);
     let mut sector = [0; 512];
@@ -109,14 +145,8 @@ pub(crate) fn read_bins<D: Disk>(
             taken += 1;
             continue;
         }
-        let at = Address {
-            file: HiveFile::Primary,
-            sector: 8 + i,
-        };
-        match disk.read(at, &mut sector)? {
-            Presence::Whole => bytes.append(&sector)?,
-            Presence::Absent => return Err(short_bins()),
-        }
+        read_bin_sector(disk, i, &mut sector)?;
+        bytes.append(&sector)?;
     }
     Ok(bytes)
 }

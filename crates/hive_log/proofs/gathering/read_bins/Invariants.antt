@@ -1,7 +1,7 @@
 use Rattle.std.proofs.Common.{◌≡◌, ◌≤◌, ◌*◌, length, true}
-use Rattle.hive_model.specs.Recovery.{primary_in, bins_short, bit, rank}
-use Rattle.nt_edge.specs.Disk.{CountsGrow}
-use Rattle.hive_log.specs.Asked.{unmarked_at}
+use Rattle.hive_model.specs.Asked.{unmarked_at}
+use Rattle.hive_model.specs.Recovery.{bit, rank}
+use Rattle.nt_edge.specs.Frames.{LeavesAsRead}
 use Rattle.hive_log.specs.Mixing.{mixed}
 use Rattle.hive_log.proofs.Asking.{AsksSoFar}
 use Rattle.hive_log.proofs.SoFar.{ReadSoFar}
@@ -10,13 +10,10 @@ use Rattle.hive_log.proofs.gathering.read_bins.Given as goal
 abbrev pub invariant-loop-i : goal.invariant-loop-i
 invariant-loop-i g l = record {
   on : (g.D.Disk.state l.disk).on ≡ true;
-  held : g.D.Disk.tells ≡ true → (g.D.Disk.state l.disk).held ≡ (g.D.Disk.state l.fn.disk).held;
-  flight : g.D.Disk.tells ≡ true → (g.D.Disk.state l.disk).flight ≡ (g.D.Disk.state l.fn.disk).flight;
+  look : LeavesAsRead g.D.Disk.tells (g.D.Disk.state l.fn.disk) (g.D.Disk.state l.disk) ⊥ ⊥;
   long : length l.bytes ≡ 512 * l.i;
   place : l.taken ≡ rank (bit l.bitmap) l.i;
   small : l.taken ≤ l.i;
-  read : g.D.Disk.tells ≡ true → ReadSoFar (mixed (primary_in (g.D.Disk.state l.fn.disk).held) l.run (bit l.bitmap)) bins_short l.count l.bytes l.i;
+  read : g.D.Disk.tells ≡ true → ReadSoFar (mixed (g.D.Disk.state l.fn.disk).held l.run (bit l.bitmap)) l.count l.bytes l.i;
   asked : AsksSoFar (g.D.Disk.calls l.fn.disk) (g.D.Disk.calls l.disk) g.D.Disk.tells (g.D.Disk.state l.fn.disk).held (unmarked_at (bit l.bitmap) l.i);
-  history : (g.D.Disk.state l.disk).history ≡ (g.D.Disk.state l.fn.disk).history;
-  counts : CountsGrow (g.D.Disk.state l.fn.disk) (g.D.Disk.state l.disk);
 }

@@ -1,16 +1,16 @@
 use Rattle.std.proofs.Common.{◌≡◌, ◌*◌, ◌/◌, Result, List, [], ℕ, sym, ◌∙◌, ap, arith}
 use Rattle.std.proofs.lemmas.Result.{err_from_is_err_and}
 use Rattle.nt_bytes.specs.declared.fault.HiveFault.{HiveFault}
+use Rattle.hive_model.specs.Asked.{one_by_one, run_at, unmarked_at}
 use Rattle.hive_model.specs.Base.{Base}
 use Rattle.hive_model.specs.Image.{Address, Primary}
-use Rattle.hive_model.specs.Recovery.{primary_in, bit, recovered_of}
+use Rattle.hive_model.specs.Recovery.{bit, gathered, recovered_of}
 use Rattle.hive_log.specs.declared.looking.Reading.{Reading}
-use Rattle.hive_log.specs.Asked.{one_by_one, run_at, unmarked_at}
 use Rattle.hive_log.proofs.AskedParts.{asks_in_whole, asks_no_more}
 use Rattle.hive_log.proofs.AskedWhole.{none_marked}
-use Rattle.hive_log.specs.Mixing.{mixed_bins}
-use Rattle.hive_log.specs.Shown.{read_of}
-use Rattle.hive_log.proofs.Looked.{fault_as, no_run, clean_fault, clean_ok, clean_carries}
+use Rattle.hive_log.specs.Mixing.{mixed}
+use Rattle.hive_log.proofs.Looked.{no_run, clean_fault, clean_ok, clean_carries}
+use Rattle.hive_log.proofs.SoFar.{fault_on}
 use Rattle.hive_log.proofs.looking.read_clean.Goals as goal
 
 pub read_bins-requires-clause-run_long : goal.read_bins-requires-clause-run_long
@@ -21,17 +21,17 @@ returns-in_err-bins-clause-exact g c = λ tells.
     let h = (g.D.Disk.state c.args.disk.now).held in
     let base = c.args.base in
     let e : c.base.inside.size ≡ base.size = ap (λ (b : Base). b.size) c.base.view_is in
-    let all : ℕ → Result (List ℕ) HiveFault = λ s. mixed_bins (primary_in h) [] (bit []) (s / 512) in
+    let all : ℕ → Result (List ℕ) HiveFault = λ s. gathered (mixed h [] (bit [])) 0 (s / 512) in
     let p = err_from_is_err_and c.from_residual.result c.from_residual.ensures.1 in
     rw (p.1, p.2)
-    (fault_as read_of c.in_err-bins.field-0.0 (all c.base.inside.size) (recovered_of h)
+    (fault_on c.in_err-bins.field-0.0 (all c.base.inside.size) (recovered_of h)
     (λ f is. clean_fault h base (c.requires.block tells) c.requires.clean f (ap all (sym e) ∙ is)) (c.in_err-bins.ensures.bins tells))
 
 pub returns-clause-exact : goal.returns-clause-exact
 returns-clause-exact g c = λ tells.
     let h = (g.D.Disk.state c.args.disk.now).held in
     let e : c.base.inside.size ≡ c.args.base.size = ap (λ (b : Base). b.size) c.base.view_is in
-    let all : ℕ → Result (List ℕ) HiveFault = λ s. mixed_bins (primary_in h) [] (bit []) (s / 512) in
+    let all : ℕ → Result (List ℕ) HiveFault = λ s. gathered (mixed h [] (bit [])) 0 (s / 512) in
     clean_ok h c.args.base (c.requires.block tells) c.requires.clean c.in_ok-bins.bins (ap all (sym e) ∙ c.in_ok-bins.ensures.bins tells)
 
 pub returns-clause-carries : goal.returns-clause-carries
