@@ -1,5 +1,5 @@
--- Bins and cells, their bytes, and the first check that fails (regf format 1.3, hive bins and hive bin cells; that
--- the bins data have at most 16 MiB, and the order of the checks, are this project's own).
+-- Bins and cells, their bytes, and the first check that fails (regf format 1.3 and 1.5, hive bins and hive bin
+-- cells; that the bins data have at most 16 MiB, and the order of the checks, are this project's own).
 use Rattle.std.specs.Prelude.{◌≡◌, ◌⊎◌, ℕ, ◌+◌, ◌-◌, ◌%◌, ◌<◌, ◌≤◌, ◌==◌, nat_lt, Bool, if◌then◌else◌, List, [], ◌∷◌, ◌++◌, length, Option, Some, None, Result, Ok, Err, refl}
 use Rattle.std.specs.List.{AllByRecursion, flat_map}
 use Rattle.std.specs.Int.{w32, to_le_bytes}

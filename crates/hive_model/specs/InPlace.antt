@@ -4,7 +4,8 @@
 -- A security cell may serve keys that no step names, and its links name its neighbours in a ring. So an edit never frees such a
 -- cell, not even where its count falls to 0: the links of its neighbours would then lead to a free cell. It never changes the links
 -- of a cell that is there; a new cell names itself in both links. One key more that uses a cell raises its count by one, one key
--- less lowers it by one, and the count stops at 0 and at 4,294,967,295.
+-- less lowers it by one, and the count stops at 0 and at 4,294,967,295. A key that is made or added uses the cell of the key above
+-- where that has its descriptor, and a copied key the cell of the one that it is a copy of; else a new cell is written for it.
 use Rattle.std.specs.Prelude.{◌≡◌, ◌≤◌, ◌<◌, ◌⊎◌, ℕ, ◌+◌, ◌-◌, min, Bool, if◌then◌else◌, List, [], ◌∷◌, ◌++◌, length, take, drop, Contains, Ok}
 use Rattle.hive_model.specs.Size.{part_count}
 use Rattle.hive_model.specs.Forms.{SecurityCell, security_at, ri_text}
