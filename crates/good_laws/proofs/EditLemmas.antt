@@ -6,6 +6,7 @@ use Rattle.std.specs.List.{list_all}
 use Rattle.std.proofs.lemmas.Bool.{false≢true}
 use Rattle.std.proofs.lemmas.Bool.Decides.{nat_tests}
 use Rattle.nt_bytes.specs.Folding.{folded_unit, folds_same}
+use Rattle.nt_bytes.specs.declared.version.HiveVersion.{HiveVersion}
 use Rattle.hive_model.specs.Tree.{Item, Tree, key, head, children, is_named, is_item, find_key}
 use Rattle.hive_model.specs.Edit.{Step, no_key, no_value, too_deep, name_too_long, data_too_long, has_item, has_child, at_first, without_first, of_items, of_children, at_key, with_item, placed, new_key, with_key, without_key, name_tests, after_step, edited}
 use Rattle.start_model.specs.Sets.{set_name, set_of}
@@ -274,7 +275,7 @@ edit_keeps n (Remove path) t u le free e =
     (key_goes n path t le (or_left (begins_protected path) (is_current_alone path) free) (or_right (begins_protected path) (is_current_alone path) free))
 
 -- the same of the tree that the run goes on with
-pub edited_keeps : (n : ℕ) (edit : Edit) (t u : Tree) → n ≤ 999 → is_protected edit ≡ false → edited t (step_of n edit ∷ []) ≡ Ok u → KeepsSets n t u
-edited_keeps n edit t u le free e =
+pub edited_keeps : (version : HiveVersion) (n : ℕ) (edit : Edit) (t u : Tree) → n ≤ 999 → is_protected edit ≡ false → edited version t (step_of n edit ∷ []) ≡ Ok u → KeepsSets n t u
+edited_keeps version n edit t u le free e =
     let steps : List Step = step_of n edit ∷ [] in
-    edit_keeps n edit t u le free (single (step_of n edit) t u (steps_made steps t u e))
+    edit_keeps n edit t u le free (single (step_of n edit) t u (steps_made version steps t u e))

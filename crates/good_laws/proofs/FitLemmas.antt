@@ -1,20 +1,26 @@
--- Wakes that fit as far as they were taken.
-use Rattle.std.proofs.Common.{List, [], ◌∷◌, length, take}
+-- Wakes that may be, as far as they were taken.
+use Rattle.std.proofs.Common.{List, [], ◌∷◌, ◌++◌, length, take}
+use Rattle.hive_model.specs.Tree.{Tree}
 use Rattle.start_model.specs.Run.{Possible, Woken}
-use Rattle.start_model.specs.Fits.{Fits, IsPossible}
+use Rattle.start_model.specs.Fits.{ArePossible, IsPossible}
 
 -- the first wakes are what the disk could load as then, and there are as many of them; more may be left over
 abbrev pub FitsSoFar : List Woken → List Possible → Type 0
 FitsSoFar wakes [] = Unit {0}
-FitsSoFar [] (p ∷ expects) = ⊥
-FitsSoFar (w ∷ wakes) (p ∷ expects) = IsPossible p w.state × FitsSoFar wakes expects
+FitsSoFar [] (p ∷ ps) = ⊥
+FitsSoFar (w ∷ wakes) (p ∷ ps) = IsPossible p w × FitsSoFar wakes ps
 
-pub fits_taken : (wakes : List Woken) (expects : List Possible) → Fits (take (length expects) wakes) expects → FitsSoFar wakes expects
+pub fits_taken : (wakes : List Woken) (ps : List Possible) → ArePossible (take (length ps) wakes) ps → FitsSoFar wakes ps
 fits_taken wakes [] f = tt
-fits_taken [] (p ∷ expects) f = f
-fits_taken (w ∷ wakes) (p ∷ expects) f = (f.0, fits_taken wakes expects f.1)
+fits_taken [] (p ∷ ps) f = f
+fits_taken (w ∷ wakes) (p ∷ ps) f = (f.0, fits_taken wakes ps f.1)
 
-pub fits_whole : (wakes : List Woken) (expects : List Possible) → Fits wakes expects → FitsSoFar wakes expects
+pub fits_whole : (wakes : List Woken) (ps : List Possible) → ArePossible wakes ps → FitsSoFar wakes ps
 fits_whole wakes [] f = tt
-fits_whole [] (p ∷ expects) f = f
-fits_whole (w ∷ wakes) (p ∷ expects) f = (f.0, fits_whole wakes expects f.1)
+fits_whole [] (p ∷ ps) f = f
+fits_whole (w ∷ wakes) (p ∷ ps) f = (f.0, fits_whole wakes ps f.1)
+
+-- what each wake loads as is such a tree
+abbrev pub EachWake : (Tree → Type 0) → List Woken → Type 0
+EachWake P [] = Unit {0}
+EachWake P (w ∷ wakes) = P w.state.tree × EachWake P wakes

@@ -1,371 +1,444 @@
--- What an event loads and commits: trees in which LastKnownGood names a good set, or none as long as it never did.
-use Rattle.std.proofs.Common.{◌≡◌, inl, inr, ℕ, zero, suc, ◌+◌, Bool, true, false, ◌||◌, ◌==◌, cond, List, [], ◌∷◌, ◌++◌, length, map, Option, Some, None, Result, Ok, Err, refl, sym, subst, arith, eqb-true}
-use Rattle.std.specs.Prelude.{option_and_then, slice_get}
-use Rattle.std.specs.Option.{option_map}
+-- What an event loads and commits: trees in which LastKnownGood names a good set, or none as long as it never did; and what a
+-- start that runs keeps for its save.
+use Rattle.std.proofs.Common.{◌≡◌, ◌⊎◌, inl, inr, ℕ, zero, suc, ◌+◌, Bool, true, false, not, ◌||◌, ◌==◌, cond, List, [], ◌∷◌, ◌++◌, length, map, Option, Some, None, Result, Ok, Err, refl, sym, ap, subst, ◌∙◌, eqb-true}
+use Rattle.std.specs.Prelude.{IfSome, option_and_then, slice_get, unwrap_or}
+use Rattle.std.specs.Option.{is_some, option_map}
+use Rattle.std.proofs.lemmas.Bool.{false≢true}
+use Rattle.nt_bytes.specs.declared.version.HiveVersion.{HiveVersion}
+use Rattle.hive_model.specs.Image.{Arming}
 use Rattle.hive_model.specs.Tree.{Tree}
 use Rattle.hive_model.specs.State.{HiveState}
-use Rattle.hive_model.specs.Edit.{Step, Refusal, edited}
+use Rattle.hive_model.specs.Edit.{Refusal, edited}
 use Rattle.start_model.specs.Lines as lines
 use Rattle.start_model.specs.Lines.{Line, Verdict, CommitWord, RefusedWord, UnmetLine}
 use Rattle.start_model.specs.Judge.{Judgement, Ignore, Log, FallBack, Stop}
 use Rattle.start_model.specs.Entries.{Entry}
 use Rattle.start_model.specs.Sets as sets
-use Rattle.start_model.specs.Sets.{SelectNumbers, SetPlan, SetStop, select_numbers_of, usable_numbers_of, begin_plan_of, save_plan_of, stepped}
+use Rattle.start_model.specs.Sets.{SelectNumbers, SetChange, ChangeStop, NoPlan, set_of, select_numbers_of, usable_numbers_of, begin_plan_of, begin_of, save_of}
 use Rattle.start_model.specs.Events as events
 use Rattle.start_model.specs.Events.{Event, Edit, is_protected, step_of}
-use Rattle.start_model.specs.Machine.{Start, MachineState, Tried, attempt_at, attempt_in, attempt_of, next_in, after_phase, unmet_in, is_done, save_due, with_start, ending_of, refusal_in, refusal_of}
+use Rattle.start_model.specs.Machine.{Start, MachineState, Tried, attempt_at, attempt_in, attempt_of, next_in, after_phase, unmet_in, is_done, save_due, with_start, failing, ending_of, refusal_in, refusal_of}
 use Rattle.start_model.specs.Run as run
-use Rattle.start_model.specs.Run.{RunState, Possible, Act, Woken, Outcome, Finished, PowerCut, DeviceFault, Choice, next_state, settled_at, open_between, say_all, commit, committed, end_with, with_machine, noted_saved, saved_as, saved_by, save, save_where_due, live_set, good_is_usable, phase_line, judged, phase_step, starter_step, stepping, go_steps, enough_steps, go_act, begin_start, begin_changed, begin_by, take_set, loaded, woken, chosen, boot_act, edit_done, flush_act, off_act, logon_act, running_act, idle_act, accepted_act, act_unless, event_step_of}
-use Rattle.start_model.specs.Fits.{IsPossible}
+use Rattle.start_model.specs.Run.{RunState, Possible, Act, Note, Woke, Held, Saved, Ordered, Cuts, Ended, Woken, Outcome, Finished, PowerCut, DeviceFault, Choice, next_state, settled_at, open_between, woken_at, committed_state, opened_state, loaded_state, woken_state, begun_state, accepted_state, say_all, commit, committed, end_with, with_machine, noted_saved, saved_by, save, save_where_due, no_set, live_set, good_is_usable, phase_line, judged, phase_step, starter_step, stepping, go_steps, enough_steps, go_act, begin_start, begin_with, begin_by, take_set, loaded, woken, chosen, boot_act, edit_done, flush_act, off_act, logon_act, running_act, idle_act, accepted_act, act_unless, event_step_of, verdict_first, closing_act}
+use Rattle.start_model.specs.Fits.{IsPossible, held_in, saved_in}
+use Rattle.start_laws.proofs.BeginLemmas.{some_tree, without_steps, by_plan, begin_of-begins}
 use Rattle.good_laws.proofs.EditLemmas.{edited_keeps}
-use Rattle.good_laws.proofs.GoodLemmas.{IsFine, fine_with, fine_then, IsRunning, running_with, running_then, edit_runs, save_runs, begin_runs}
+use Rattle.good_laws.proofs.GoodLemmas.{push, HasHeld, IsFine, fine_note, fine_saved, fine_held, same_held, same_saved, held_note, held_then, IsRunning, running_by, running_note, edit_runs, save_runs, begin_runs}
 
 -- ---- a run in its course
 
 -- the other state of an open change, where there is one
-abbrev pub OtherFine : Tree → Bool → List Tree → Option HiveState → Type 0
-OtherFine first named clones None = Unit {0}
-OtherFine first named clones (Some state) = IsFine first named clones state.tree
+abbrev pub OtherFine : List Note → Option HiveState → Type 0
+OtherFine h o = IfSome o (λ state. IsFine h state.tree)
 
--- the start that runs, where one does
-abbrev pub Runs : Tree → Bool → List Tree → Tree → Option Start → Type 0
-Runs first named clones live None = Unit {0}
-Runs first named clones live (Some s) = IsRunning first named clones live s.number
+-- whatever the disk may load as
+pub record DiskFine (h : List Note) (disk : Possible) : Type 0 where
+  pub settled : IsFine h disk.settled.tree
+  pub other : OtherFine h disk.other
+
+-- the clone is a set of a tree that the disk woke up with, of which P holds
+abbrev pub IsCloneOf : (Tree → Type 0) → Tree → Type 0
+IsCloneOf P clone = (t : Tree) × ((n : ℕ) × (P t × (set_of t n ≡ Some clone)))
+
+-- a start that runs: its set is there, and so is its clone until it is saved
+pub record StartRuns (P : Tree → Type 0) (h : List Note) (live : Tree) (s : Start) : Type 0 where
+  pub on_set : IsRunning h live s.number
+  pub clone : IfSome s.clone (IsCloneOf P)
+
+abbrev pub Runs : (Tree → Type 0) → List Note → Tree → Option Start → Type 0
+Runs P h live o = IfSome o (StartRuns P h live)
 
 -- what the disk may load as, and the live tree of a start that runs
-pub record KeepsGoing (first : Tree) (named : Bool) (clones : List Tree) (m : RunState) : Type 0 where
-  pub settled : IsFine first named clones m.disk.settled.tree
-  pub other : OtherFine first named clones m.disk.other
-  pub runs : Runs first named clones m.live m.machine.start
+pub record KeepsGoing (P : Tree → Type 0) (h : List Note) (m : RunState) : Type 0 where
+  pub disk : DiskFine h m.disk
+  pub runs : Runs P h m.live m.machine.start
 
--- an event keeps all that, whatever the wakes that fit and however the operations end
-abbrev pub Keeps : Act → Tree → Bool → List Tree → Type 0
-Keeps (run.done m) first named clones = KeepsGoing first named clones m
-Keeps (run.say l act) first named clones = Keeps act first named clones
-Keeps (run.ask disk next) first named clones = (o : Outcome) → Keeps (next o) first named clones
-Keeps (run.wake disk next) first named clones = (w : Woken) → IsPossible disk w.state → Keeps (next w) first named clones
-Keeps (run.holds tree act) first named clones = IsFine first named clones tree × Keeps act first (named || good_is_usable tree) clones
-Keeps (run.saves clone act) first named clones = Keeps act first named (clones ++ clone ∷ [])
+-- a tree that is held is fine
+abbrev pub HeldFine : List Note → Note → Type 0
+HeldFine h (Held t) = IsFine h t
+HeldFine h note = Unit {0}
 
-abbrev Next : Tree → (RunState → Act) → Type 0
-Next first next = (named : Bool) (clones : List Tree) (x : RunState) → KeepsGoing first named clones x → Keeps (next x) first named clones
+-- what an act marks is no wake and no outcome, which are noted as they come; a tree that it holds is fine
+abbrev pub MarkFine : List Note → Note → Type 0
+MarkFine h (Woke p) = ⊥
+MarkFine h (Ended o) = ⊥
+MarkFine h note = HeldFine h note
 
-either : (b : Bool) (x y : Act) (first : Tree) (named : Bool) (clones : List Tree) → Keeps x first named clones → Keeps y first named clones → Keeps (cond b x y) first named clones
-either true x y first named clones h g = h
-either false x y first named clones h g = g
+-- an event keeps all that, whatever the wakes that may be and however the operations end
+abbrev pub Keeps : (Tree → Type 0) → List Note → Act → Type 0
+Keeps P h (run.done m) = KeepsGoing P h m
+Keeps P h (run.say l act) = Keeps P h act
+Keeps P h (run.ask disk next) = DiskFine h disk × ((o : Outcome) → Keeps P (push h (Ended o)) (next o))
+Keeps P h (run.wake disk next) = DiskFine h disk × ((w : Woken) → IsPossible disk w → P w.state.tree → Keeps P (push h (Woke disk)) (next w))
+Keeps P h (run.mark note act) = MarkFine h note × Keeps P (push h note) act
 
-say_all-keeps : (ls : List Line) (act : Act) (first : Tree) (named : Bool) (clones : List Tree) → Keeps act first named clones → Keeps (say_all ls act) first named clones
-say_all-keeps [] act first named clones h = h
-say_all-keeps (l ∷ ls) act first named clones h = say_all-keeps ls act first named clones h
+abbrev Next : (Tree → Type 0) → (RunState → Act) → Type 0
+Next P next = (h : List Note) (x : RunState) → KeepsGoing P h x → Keeps P h (next x)
 
-runs_with : (first : Tree) (named : Bool) (clones later : List Tree) (live : Tree) (o : Option Start) → Runs first named clones live o → Runs first named (clones ++ later) live o
-runs_with first named clones later live None r = tt
-runs_with first named clones later live (Some s) r = running_with first named clones later live s.number r
+either : (P : Tree → Type 0) (h : List Note) (b : Bool) (x y : Act) → Keeps P h x → Keeps P h y → Keeps P h (cond b x y)
+either P h true x y f g = f
+either P h false x y f g = g
 
-runs_then : (first : Tree) (named : Bool) (clones : List Tree) (live : Tree) (o : Option Start) → Runs first named clones live o → Runs first (named || good_is_usable live) clones live o
-runs_then first named clones live None r = tt
-runs_then first named clones live (Some s) r = running_then first named clones live s.number r
+say_all-keeps : (P : Tree → Type 0) (h : List Note) (ls : List Line) (act : Act) → Keeps P h act → Keeps P h (say_all ls act)
+say_all-keeps P h [] act k = k
+say_all-keeps P h (l ∷ ls) act k = say_all-keeps P h ls act k
 
-other_with : (first : Tree) (named : Bool) (clones later : List Tree) (o : Option HiveState) → OtherFine first named clones o → OtherFine first named (clones ++ later) o
-other_with first named clones later None f = tt
-other_with first named clones later (Some state) f = fine_with first named clones later state.tree f
+-- ---- more notes
 
--- with more clones
-pub going_with : (first : Tree) (named : Bool) (clones later : List Tree) (m : RunState) → KeepsGoing first named clones m → KeepsGoing first named (clones ++ later) m
-going_with first named clones later m k = record {
-  settled = fine_with first named clones later m.disk.settled.tree k.settled;
-  other = other_with first named clones later m.disk.other k.other;
-  runs = runs_with first named clones later m.live m.machine.start k.runs;
-}
+other_note : (h k : List Note) (o : Option HiveState) → held_in k ≡ held_in h → saved_in k ≡ saved_in h → OtherFine h o → OtherFine k o
+other_note h k None held saved f = tt
+other_note h k (Some state) held saved f = fine_note h k state.tree held saved f
+
+disk_note : (h k : List Note) (disk : Possible) → held_in k ≡ held_in h → saved_in k ≡ saved_in h → DiskFine h disk → DiskFine k disk
+disk_note h k disk held saved d = record { settled = fine_note h k disk.settled.tree held saved d.settled; other = other_note h k disk.other held saved d.other }
+
+start_by : (P : Tree → Type 0) (h k : List Note) (live : Tree) (s : Start) → IsRunning k live s.number → StartRuns P h live s → StartRuns P k live s
+start_by P h k live s on r = record { on_set = on; clone = r.clone }
+
+runs_note : (P : Tree → Type 0) (h k : List Note) (live : Tree) (o : Option Start) → held_in k ≡ held_in h → saved_in k ≡ saved_in h → Runs P h live o → Runs P k live o
+runs_note P h k live None held saved r = tt
+runs_note P h k live (Some s) held saved r = start_by P h k live s (running_note h k live s.number held saved r.on_set) r
+
+-- a note that tells of no tree
+going_note : (P : Tree → Type 0) (h k : List Note) (m : RunState) → held_in k ≡ held_in h → saved_in k ≡ saved_in h → KeepsGoing P h m → KeepsGoing P k m
+going_note P h k m held saved g = record { disk = disk_note h k m.disk held saved g.disk; runs = runs_note P h k m.live m.machine.start held saved g.runs }
+
+disk_saved : (h : List Note) (clone : Tree) (disk : Possible) → DiskFine h disk → DiskFine (push h (Saved clone)) disk
+disk_saved h clone disk d = record { settled = fine_saved h clone disk.settled.tree d.settled; other = by_other disk.other d.other }
+  where
+    by_other : (o : Option HiveState) → OtherFine h o → OtherFine (push h (Saved clone)) o
+    by_other None f = tt
+    by_other (Some state) f = fine_saved h clone state.tree f
 
 -- ---- a commit
 
--- the state after a commit of the tree
-abbrev committed_state : Tree → RunState → RunState
-committed_state tree m = record m { live = tree; sequence = (next_state m tree).sequence; changed = false; disk = settled_at (next_state m tree) }
+-- behind the end of a commit, its tree is held
+after_commit : (h : List Note) (tree : Tree) → IsFine h tree → IsFine (push h (Ended Finished)) tree
+after_commit h tree f = fine_note h (push h (Ended Finished)) tree (same_held h (Ended Finished) refl) (same_saved h (Ended Finished) refl) f
 
-commit-keeps : (what : CommitWord) (tree : Tree) (m : RunState) (next : RunState → Act) (first : Tree) (named : Bool) (clones : List Tree) → IsFine first named clones tree → KeepsGoing first named clones m
-    → Keeps (next (committed_state tree m)) first (named || good_is_usable tree) clones → Keeps (commit what tree m next) first named clones
-commit-keeps what tree m next first named clones fine k then = λ o. by_case o
+disk_settled : (h : List Note) (state : HiveState) → IsFine h state.tree → DiskFine h (settled_at state)
+disk_settled h state f = record { settled = f; other = tt }
+
+commit-keeps : (P : Tree → Type 0) (what : CommitWord) (h : List Note) (m : RunState) (tree : Tree) (next : RunState → Act) → IsFine h tree → DiskFine h m.disk
+    → Keeps P (push (push h (Ended Finished)) (Held tree)) (next (committed_state m tree)) → Keeps P h (commit what tree m next)
+commit-keeps P what h m tree next fine disk then = (opened, λ o. by_case o)
   where
-    stopped : KeepsGoing first named clones (run.start_over false (record m { disk = open_between m.disk.settled (next_state m tree) }))
-    stopped = record { settled = k.settled; other = fine; runs = tt }
+    opened : DiskFine h (open_between m.disk.settled (next_state m tree))
+    opened = record { settled = disk.settled; other = fine }
 
-    by_case : (o : Outcome) → Keeps (committed what tree m next o) first named clones
-    by_case Finished = (fine, then)
-    by_case PowerCut = stopped
-    by_case DeviceFault = stopped
+    stopped : (o : Outcome) → KeepsGoing P (push h (Ended o)) (run.start_over false (opened_state m tree))
+    stopped o = record { disk = disk_note h (push h (Ended o)) (open_between m.disk.settled (next_state m tree)) (same_held h (Ended o) refl) (same_saved h (Ended o) refl) opened; runs = tt }
 
--- the start goes on with the committed tree
-going_committed : (tree : Tree) (m : RunState) (first : Tree) (named : Bool) (clones : List Tree) → IsFine first named clones tree → Runs first (named || good_is_usable tree) clones tree m.machine.start
-    → KeepsGoing first (named || good_is_usable tree) clones (committed_state tree m)
-going_committed tree m first named clones fine r = record { settled = fine_then first named clones tree fine; other = tt; runs = r }
+    by_case : (o : Outcome) → Keeps P (push h (Ended o)) (committed what tree m next o)
+    by_case Finished = (after_commit h tree fine, then)
+    by_case PowerCut = stopped PowerCut
+    by_case DeviceFault = stopped DeviceFault
 
-ended-keeps : (verdict : Verdict) (falls_back : Bool) (m : RunState) (first : Tree) (named : Bool) (clones : List Tree) → KeepsGoing first named clones m → Keeps (end_with verdict falls_back m) first named clones
-ended-keeps verdict falls_back m first named clones k = record { settled = k.settled; other = k.other; runs = tt }
+-- the running start behind a commit of this tree
+run_committed : (h : List Note) (tree : Tree) (n : ℕ) → IsRunning h tree n → IsRunning (push (push h (Ended Finished)) (Held tree)) tree n
+run_committed h tree n r =
+    let k : List Note = push h (Ended Finished) in
+    running_by h (push k (Held tree)) tree n (held_then k tree) (fine_held k tree (after_commit h tree r.fine)) r
+
+ended-keeps : (P : Tree → Type 0) (h : List Note) (verdict : Verdict) (falls_back : Bool) (m : RunState) → DiskFine h m.disk → Keeps P h (end_with verdict falls_back m)
+ended-keeps P h verdict falls_back m d = record { disk = d; runs = tt }
 
 -- ---- the save
 
--- what a save notes changes no tree
-noted_going : (ok : Bool) (s : Start) (m : RunState) (first : Tree) (named : Bool) (clones : List Tree) → KeepsGoing first named clones m → IsRunning first named clones m.live s.number
-    → KeepsGoing first named clones (noted_saved ok s m)
-noted_going ok s m first named clones k r = record { settled = k.settled; other = k.other; runs = r }
+-- the start as it is noted after a save, whose clone is given up
+noted_going : (P : Tree → Type 0) (h : List Note) (ok : Bool) (s : Start) (m : RunState) → DiskFine h m.disk → IsRunning h m.live s.number → KeepsGoing P h (noted_saved ok s m)
+noted_going P h ok s m d r = record { disk = d; runs = record { on_set = r; clone = tt } }
 
-saved_as-keeps : (s : Start) (clone : Tree) (plan : SetPlan) (m : RunState) (next : RunState → Act) (first : Tree) (named : Bool) (clones : List Tree) (r : Result Tree Refusal)
-    → save_plan_of (select_numbers_of m.live) (usable_numbers_of m.live) clone ≡ Ok plan → stepped m.live plan.steps ≡ r
-    → KeepsGoing first named clones m → IsRunning first named clones m.live s.number → Next first next → Keeps (saved_as s clone plan.numbers m next r) first named clones
-saved_as-keeps s clone plan m next first named clones (Ok tree) is made k r f =
-    let more : List Tree = clones ++ clone ∷ [] in
-    let then : Bool = named || good_is_usable tree in
-    let saved = save_runs first named clones m.live clone tree plan s.number is made r in
-    let after : RunState = committed_state tree m in
-    commit-keeps lines.SaveCommit tree m (λ after. run.say (run.select_line plan.numbers) (next (noted_saved true s after))) first named more saved.fine (going_with first named clones (clone ∷ []) m k)
-    (f then more (noted_saved true s after) (record { settled = fine_then first named more tree saved.fine; other = tt; runs = running_then first named more tree s.number saved }))
-saved_as-keeps s clone plan m next first named clones (Err refusal) is made k r f = f named clones (noted_saved false s m) (noted_going false s m first named clones k r)
+saved_by-keeps : (P : Tree → Type 0) (s : Start) (clone : Tree) (h : List Note) (m : RunState) (next : RunState → Act) (r : Result SetChange ChangeStop) → save_of m.version m.live clone ≡ r
+    → DiskFine h m.disk → IsRunning h m.live s.number → Next P next → Keeps P h (saved_by s clone m next r)
+saved_by-keeps P s clone h m next (Ok change) is d r f =
+    let k : List Note = push h (Saved clone) in
+    let after : List Note = push (push k (Ended Finished)) (Held change.tree) in
+    let saved = save_runs m.version h m.live clone change s.number is r in
+    let settled : IsRunning after change.tree s.number = run_committed k change.tree s.number saved in
+    let behind : RunState → Act = λ after. run.say (run.select_line change.numbers) (next (noted_saved true s after)) in (
+      tt,
+      commit-keeps P lines.SaveCommit k m change.tree behind saved.fine (disk_saved h clone m.disk d)
+          (f after (noted_saved true s (committed_state m change.tree)) (noted_going P after true s (committed_state m change.tree) (disk_settled after (next_state m change.tree) settled.fine) settled)),
+    )
+saved_by-keeps P s clone h m next (Err (NoPlan stop)) is d r f = f h (noted_saved false s m) (noted_going P h false s m d r)
+saved_by-keeps P s clone h m next (Err sets.Full) is d r f = f h (noted_saved false s m) (noted_going P h false s m d r)
 
-saved_by-keeps : (s : Start) (clone : Tree) (m : RunState) (next : RunState → Act) (first : Tree) (named : Bool) (clones : List Tree) (r : Result SetPlan SetStop)
-    → save_plan_of (select_numbers_of m.live) (usable_numbers_of m.live) clone ≡ r
-    → KeepsGoing first named clones m → IsRunning first named clones m.live s.number → Next first next → Keeps (saved_by s clone m next r) first named clones
-saved_by-keeps s clone m next first named clones (Ok plan) is k r f = saved_as-keeps s clone plan m next first named clones (stepped m.live plan.steps) is refl k r f
-saved_by-keeps s clone m next first named clones (Err stop) is k r f = f named clones (noted_saved false s m) (noted_going false s m first named clones k r)
-
-save-keeps : (s : Start) (clone : Option Tree) (m : RunState) (next : RunState → Act) (first : Tree) (named : Bool) (clones : List Tree)
-    → KeepsGoing first named clones m → IsRunning first named clones m.live s.number → Next first next → Keeps (save s clone m next) first named clones
-save-keeps s None m next first named clones k r f = f named clones m k
-save-keeps s (Some clone) m next first named clones k r f = saved_by-keeps s clone m next first named clones (save_plan_of (select_numbers_of m.live) (usable_numbers_of m.live) clone) refl k r f
+save-keeps : (P : Tree → Type 0) (s : Start) (clone : Option Tree) (h : List Note) (m : RunState) (next : RunState → Act) → KeepsGoing P h m → IsRunning h m.live s.number → Next P next → Keeps P h (save s clone m next)
+save-keeps P s None h m next g r f = f h m g
+save-keeps P s (Some clone) h m next g r f = saved_by-keeps P s clone h m next (save_of m.version m.live clone) refl g.disk r f
 
 -- the start is noted as it is now, and saved where that is due
-due-keeps : (s : Start) (m : RunState) (next : RunState → Act) (first : Tree) (named : Bool) (clones : List Tree)
-    → KeepsGoing first named clones m → IsRunning first named clones m.live s.number → Next first next → Keeps (save_where_due (Some s) (with_machine (with_start s m.machine) m) next) first named clones
-due-keeps s m next first named clones k r f =
+due-keeps : (P : Tree → Type 0) (s : Start) (h : List Note) (m : RunState) (next : RunState → Act) → DiskFine h m.disk → StartRuns P h m.live s → Next P next
+    → Keeps P h (save_where_due (Some s) (with_machine (with_start s m.machine) m) next)
+due-keeps P s h m next d r f =
     let there : RunState = with_machine (with_start s m.machine) m in
-    let going : KeepsGoing first named clones there = record { settled = k.settled; other = k.other; runs = r } in
-    either (save_due s) (save s s.clone there next) (next there) first named clones (save-keeps s s.clone there next first named clones going r f) (f named clones there going)
+    let going : KeepsGoing P h there = record { disk = d; runs = r } in
+    either P h (save_due s) (save s s.clone there next) (next there) (save-keeps P s s.clone h there next going r.on_set f) (f h there going)
 
 -- ---- the starter
 
-judged-keeps : (j : Judgement) (m : RunState) (next : RunState → Act) (first : Tree) (named : Bool) (clones : List Tree) → KeepsGoing first named clones m → Next first next → Keeps (judged j m next) first named clones
-judged-keeps Ignore m next first named clones k f = f named clones m k
-judged-keeps Log m next first named clones k f = f named clones m k
-judged-keeps FallBack m next first named clones k f = ended-keeps lines.FallBack true m first named clones k
-judged-keeps Stop m next first named clones k f = ended-keeps lines.Stopped false m first named clones k
+judged-keeps : (P : Tree → Type 0) (j : Judgement) (h : List Note) (m : RunState) (next : RunState → Act) → KeepsGoing P h m → Next P next → Keeps P h (judged j m next)
+judged-keeps P Ignore h m next g f = f h m g
+judged-keeps P Log h m next g f = f h m g
+judged-keeps P FallBack h m next g f = ended-keeps P h lines.FallBack true m g.disk
+judged-keeps P Stop h m next g f = ended-keeps P h lines.Stopped false m g.disk
 
--- the start that an attempt leaves took the same set
-record SameNumber (s : Start) (one : MachineState × Tried) : Type 0 where
+-- the start that an attempt leaves took the same set, and has the same clone
+record SameStart (s : Start) (one : MachineState × Tried) : Type 0 where
   after : Start
   is : one.0.start ≡ Some after
   number : s.number ≡ after.number
+  clone : s.clone ≡ after.clone
 
-attempted_at : (m : MachineState) (s : Start) (usable : Bool) (place : ℕ) (o : Option Entry) (one : MachineState × Tried) → option_map (attempt_at m s usable place) o ≡ Some one → SameNumber s one
+attempted_at : (m : MachineState) (s : Start) (usable : Bool) (place : ℕ) (o : Option Entry) (one : MachineState × Tried) → option_map (attempt_at m s usable place) o ≡ Some one → SameStart s one
 attempted_at m s usable place None one e = absurd cc
 attempted_at m s usable place (Some entry) one e =
     let made : MachineState × Tried = attempt_at m s usable place entry in
     let same : made ≡ one = cc in
-    let P : MachineState × Tried → Type 0 = SameNumber s in
-    subst P same (record { after = _; is = refl; number = refl })
+    let Q : MachineState × Tried → Type 0 = SameStart s in
+    subst Q same (record { after = _; is = refl; number = refl; clone = refl })
 
 attempted_in : (m : MachineState) (s : Start) (usable : Bool) (place : Option ℕ) (one : MachineState × Tried)
-    → option_and_then (λ place. option_map (attempt_at m s usable place) (slice_get s.waiting place)) place ≡ Some one → SameNumber s one
+    → option_and_then (λ place. option_map (attempt_at m s usable place) (slice_get s.waiting place)) place ≡ Some one → SameStart s one
 attempted_in m s usable None one e = absurd cc
 attempted_in m s usable (Some place) one e = attempted_at m s usable place (slice_get s.waiting place) one e
 
-attempted : (m : MachineState) (s : Start) (usable : Bool) (one : MachineState × Tried) → m.start ≡ Some s → attempt_of m usable ≡ Some one → SameNumber s one
+attempted : (m : MachineState) (s : Start) (usable : Bool) (one : MachineState × Tried) → m.start ≡ Some s → attempt_of m usable ≡ Some one → SameStart s one
 unfolding attempt_of
 attempted m s usable one is e =
-    let P : Option Start → Type 0 = λ o. option_and_then (λ s. attempt_in m s usable) o ≡ Some one in
-    attempted_in m s usable (next_in s) one (subst P is e)
+    let Q : Option Start → Type 0 = λ o. option_and_then (λ s. attempt_in m s usable) o ≡ Some one in
+    attempted_in m s usable (next_in s) one (subst Q is e)
 
-running_at : (first : Tree) (named : Bool) (clones : List Tree) (live : Tree) (o : Option Start) (s : Start) → o ≡ Some s → Runs first named clones live o → IsRunning first named clones live s.number
-running_at first named clones live o s e r = let P : Option Start → Type 0 = Runs first named clones live in subst P e r
+running_at : (P : Tree → Type 0) (h : List Note) (live : Tree) (o : Option Start) (s : Start) → o ≡ Some s → Runs P h live o → StartRuns P h live s
+running_at P h live o s e r = let Q : Option Start → Type 0 = Runs P h live in subst Q e r
 
-runs_at : (first : Tree) (named : Bool) (clones : List Tree) (live : Tree) (o : Option Start) (s : Start) → o ≡ Some s → IsRunning first named clones live s.number → Runs first named clones live o
-runs_at first named clones live o s e r = let P : Option Start → Type 0 = Runs first named clones live in subst P (sym e) r
+runs_at : (P : Tree → Type 0) (h : List Note) (live : Tree) (o : Option Start) (s : Start) → o ≡ Some s → StartRuns P h live s → Runs P h live o
+runs_at P h live o s e r = let Q : Option Start → Type 0 = Runs P h live in subst Q (sym e) r
 
-phase_step-keeps : (s : Start) (m : RunState) (next : RunState → Act) (first : Tree) (named : Bool) (clones : List Tree)
-    → KeepsGoing first named clones m → IsRunning first named clones m.live s.number → Next first next → Keeps (phase_step s m next) first named clones
-phase_step-keeps s m next first named clones k r f =
+phase_step-keeps : (P : Tree → Type 0) (s : Start) (h : List Note) (m : RunState) (next : RunState → Act) → DiskFine h m.disk → StartRuns P h m.live s → Next P next → Keeps P h (phase_step s m next)
+phase_step-keeps P s h m next d r f =
     let after : Start = after_phase (live_set m s.number) s in
     let there : RunState = with_machine (with_start after m.machine) m in
-    say_all-keeps (map UnmetLine (unmet_in s)) (run.say (phase_line after.phase) (save_where_due (Some after) there next)) first named clones (due-keeps after m next first named clones k r f)
+    say_all-keeps P h (map UnmetLine (unmet_in s)) (run.say (phase_line after.phase) (save_where_due (Some after) there next)) (due-keeps P after h m next d (record { on_set = r.on_set; clone = r.clone }) f)
 
-starter_step-keeps : (s : Start) (m : RunState) (next : RunState → Act) (first : Tree) (named : Bool) (clones : List Tree) (o : Option (MachineState × Tried))
-    → m.machine.start ≡ Some s → attempt_of m.machine (good_is_usable m.live) ≡ o → KeepsGoing first named clones m → Next first next → Keeps (starter_step s m next o) first named clones
-starter_step-keeps s m next first named clones None is tried k f = phase_step-keeps s m next first named clones k (running_at first named clones m.live m.machine.start s is k.runs) f
-starter_step-keeps s m next first named clones (Some one) is tried k f =
+starter_step-keeps : (P : Tree → Type 0) (s : Start) (h : List Note) (m : RunState) (next : RunState → Act) (o : Option (MachineState × Tried))
+    → m.machine.start ≡ Some s → attempt_of m.machine (good_is_usable m.live) ≡ o → KeepsGoing P h m → Next P next → Keeps P h (starter_step s m next o)
+starter_step-keeps P s h m next None is tried g f = phase_step-keeps P s h m next g.disk (running_at P h m.live m.machine.start s is g.runs) f
+starter_step-keeps P s h m next (Some one) is tried g f =
     let a = attempted m.machine s (good_is_usable m.live) one is tried in
-    let P : ℕ → Type 0 = IsRunning first named clones m.live in
-    let r : IsRunning first named clones m.live a.after.number = subst P a.number (running_at first named clones m.live m.machine.start s is k.runs) in
-    let going : KeepsGoing first named clones (with_machine one.0 m) = record { settled = k.settled; other = k.other; runs = runs_at first named clones m.live one.0.start a.after a.is r } in
-    judged-keeps one.1.judgement (with_machine one.0 m) next first named clones going f
+    let r = running_at P h m.live m.machine.start s is g.runs in
+    let N : ℕ → Type 0 = IsRunning h m.live in
+    let C : Option Tree → Type 0 = λ o. IfSome o (IsCloneOf P) in
+    let after : StartRuns P h m.live a.after = record { on_set = subst N a.number r.on_set; clone = subst C a.clone r.clone } in
+    judged-keeps P one.1.judgement h (with_machine one.0 m) next (record { disk = g.disk; runs = runs_at P h m.live one.0.start a.after a.is after }) f
 
-stepping-keeps : (o : Option Start) (m : RunState) (next : RunState → Act) (first : Tree) (named : Bool) (clones : List Tree)
-    → m.machine.start ≡ o → KeepsGoing first named clones m → Next first next → Keeps (stepping o m next) first named clones
-stepping-keeps None m next first named clones is k f = k
-stepping-keeps (Some s) m next first named clones is k f =
+stepping-keeps : (P : Tree → Type 0) (o : Option Start) (h : List Note) (m : RunState) (next : RunState → Act) → m.machine.start ≡ o → KeepsGoing P h m → Next P next → Keeps P h (stepping o m next)
+stepping-keeps P None h m next is g f = g
+stepping-keeps P (Some s) h m next is g f =
     let attempt : Option (MachineState × Tried) = attempt_of m.machine (good_is_usable m.live) in
-    either (is_done s.phase) (run.done m) (starter_step s m next attempt) first named clones k (starter_step-keeps s m next first named clones attempt is refl k f)
+    either P h (is_done s.phase) (run.done m) (starter_step s m next attempt) g (starter_step-keeps P s h m next attempt is refl g f)
 
-go_steps-keeps : (n : ℕ) (first : Tree) → Next first (go_steps n)
+go_steps-keeps : (P : Tree → Type 0) (n : ℕ) → Next P (go_steps n)
 unfolding go_steps
-go_steps-keeps zero first named clones m k = k
-go_steps-keeps (suc n) first named clones m k = stepping-keeps m.machine.start m (go_steps n) first named clones refl k (go_steps-keeps n first)
+go_steps-keeps P zero h m g = g
+go_steps-keeps P (suc n) h m g = stepping-keeps P m.machine.start h m (go_steps n) refl g (go_steps-keeps P n)
 
-go_act-keeps : (steps : Option ℕ) (m : RunState) (first : Tree) (named : Bool) (clones : List Tree) → KeepsGoing first named clones m → Keeps (go_act steps m) first named clones
-go_act-keeps None m first named clones k = go_steps-keeps (enough_steps m.machine.start m) first named clones m k
-go_act-keeps (Some n) m first named clones k = go_steps-keeps n first named clones m k
+go_act-keeps : (P : Tree → Type 0) (steps : Option ℕ) (h : List Note) (m : RunState) → KeepsGoing P h m → Keeps P h (go_act steps m)
+go_act-keeps P None h m g = go_steps-keeps P (enough_steps m.machine.start m) h m g
+go_act-keeps P (Some n) h m g = go_steps-keeps P n h m g
 
 -- ---- the boot event
 
-begin_start-keeps : (number : ℕ) (on_good : Bool) (numbers : SelectNumbers) (m : RunState) (first : Tree) (named : Bool) (clones : List Tree)
-    → IsFine first named clones m.disk.settled.tree → OtherFine first named clones m.disk.other → IsRunning first named clones m.live number → Keeps (begin_start number on_good numbers m) first named clones
-begin_start-keeps number on_good numbers m first named clones settled other r = record { settled = settled; other = other; runs = r }
+-- the clone is the set as the start begins with it
+clone_is : (P : Tree → Type 0) (t u : Tree) (n : ℕ) → P t → set_of u n ≡ set_of t n → is_some (set_of u n) ≡ true → IsCloneOf P (unwrap_or (set_of u n) no_set)
+clone_is P t u n p same there =
+    let k = some_tree (set_of u n) there in
+    let here : k.0 ≡ unwrap_or (set_of u n) no_set = sym (ap (λ o. unwrap_or o no_set) k.1) in
+    (t, (n, (p, sym same ∙ k.1 ∙ ap (λ c. Some c) here)))
 
-begin_changed-keeps : (on_good : Bool) (plan : SetPlan) (m : RunState) (first : Tree) (named : Bool) (clones : List Tree) (r : Result Tree Refusal)
-    → begin_plan_of (select_numbers_of m.live) (usable_numbers_of m.live) on_good ≡ Ok plan → stepped m.live plan.steps ≡ r
-    → KeepsGoing first named clones m → IsFine first named clones m.live → Keeps (begin_changed plan.chosen on_good plan m r) first named clones
-begin_changed-keeps on_good plan m first named clones (Ok tree) is made k fine =
-    let begun = begin_runs first named clones m.live tree on_good plan is made fine in
-    commit-keeps lines.BeginCommit tree m (begin_start plan.chosen on_good plan.numbers) first named clones begun.fine k
-    (begin_start-keeps plan.chosen on_good plan.numbers (committed_state tree m) first (named || good_is_usable tree) clones
-    (fine_then first named clones tree begun.fine) tt (running_then first named clones tree plan.chosen begun))
-begin_changed-keeps on_good plan m first named clones (Err refusal) is made k fine = ended-keeps lines.Full false m first named clones k
-
-no_steps : (t : Tree) (steps : List Step) → length steps ≡ 0 → stepped t steps ≡ Ok t
-no_steps t [] e = refl
-no_steps t (s ∷ ss) e = absurd (omega arith)
-
-begin_by-keeps : (on_good : Bool) (m : RunState) (taken : ℕ) (first : Tree) (named : Bool) (clones : List Tree) (r : Result SetPlan SetStop)
-    → begin_plan_of (select_numbers_of m.live) (usable_numbers_of m.live) on_good ≡ r
-    → KeepsGoing first named clones m → IsFine first named clones m.live → Keeps (begin_by on_good m taken r) first named clones
-begin_by-keeps on_good m taken first named clones (Ok plan) is k fine = split (length plan.steps == 0) refl
+-- a beginning without steps leaves the tree
+unchanged : (version : HiveVersion) (t : Tree) (on_good : Bool) (change : SetChange) → begin_of version t on_good ≡ Ok change → change.has_steps ≡ false → change.tree ≡ t
+unchanged version t on_good change is none =
+    let p = by_plan version t (begin_plan_of (select_numbers_of t) (usable_numbers_of t) on_good) change is in
+    let zero : length p.plan.steps ≡ 0 = eqb-true _ _ (not_not (length p.plan.steps == 0) (p.has_steps ∙ none)) in
+    let both : ◌≡◌ {A = Result Tree Refusal} (Ok change.tree) (Ok t) = sym p.made ∙ without_steps version t p.plan.steps zero in
+    cc
   where
-    split : (b : Bool) → (length plan.steps == 0) ≡ b
-        → Keeps (cond b (begin_start plan.chosen on_good plan.numbers m) (begin_changed plan.chosen on_good plan m (stepped m.live plan.steps))) first named clones
-    split true none =
-        let begun = begin_runs first named clones m.live m.live on_good plan is (no_steps m.live plan.steps (eqb-true _ _ none)) fine in
-        begin_start-keeps plan.chosen on_good plan.numbers m first named clones k.settled k.other begun
-    split false some = begin_changed-keeps on_good plan m first named clones (stepped m.live plan.steps) is refl k fine
-begin_by-keeps on_good m taken first named clones (Err sets.NoControlSet) is k fine = ended-keeps lines.NoControlSet false m first named clones k
-begin_by-keeps on_good m taken first named clones (Err sets.NoLastKnownGood) is k fine = ended-keeps lines.NoLastKnownGood false m first named clones k
-begin_by-keeps on_good m taken first named clones (Err sets.NoFreeNumber) is k fine = ended-keeps lines.NoNumber false m first named clones k
+    not_not : (b : Bool) → not b ≡ false → b ≡ true
+    not_not true e = refl
+    not_not false e = absurd (false≢true (sym e))
 
--- a set is taken of the loaded tree
-take_set-keeps : (on_good : Bool) (m : RunState) (first : Tree) (named : Bool) (clones : List Tree)
-    → KeepsGoing first named clones m → IsFine first named clones m.live → Keeps (take_set on_good m) first named clones
-take_set-keeps on_good m first named clones k fine =
-    let numbers : SelectNumbers = select_numbers_of m.live in
-    begin_by-keeps on_good m (cond on_good numbers.good numbers.default) first named clones (begin_plan_of numbers (usable_numbers_of m.live) on_good) refl k fine
+begin_start-keeps : (P : Tree → Type 0) (h : List Note) (number : ℕ) (on_good : Bool) (numbers : SelectNumbers) (m : RunState) → DiskFine h m.disk → IsRunning h m.live number
+    → IsCloneOf P (live_set m number) → Keeps P h (begin_start number on_good numbers m)
+begin_start-keeps P h number on_good numbers m d r c = record { disk = d; runs = record { on_set = r; clone = c } }
 
-no_start : (first : Tree) (named : Bool) (clones : List Tree) (live : Tree) (o : Option Start) → o ≡ None → Runs first named clones live o
-no_start first named clones live o e = let P : Option Start → Type 0 = Runs first named clones live in subst P (sym e) tt
-
-possible_fine : (first : Tree) (named : Bool) (clones : List Tree) (disk : Possible) (state : HiveState) → IsFine first named clones disk.settled.tree → OtherFine first named clones disk.other
-    → IsPossible disk state → IsFine first named clones state.tree
-possible_fine first named clones disk state settled other (inl is) = let P : HiveState → Type 0 = λ h. IsFine first named clones h.tree in subst P (sym is) settled
-possible_fine first named clones disk state settled other (inr is) = let P : Option HiveState → Type 0 = OtherFine first named clones in subst P is other
-
-woken-keeps : (on_good : Bool) (m : RunState) (w : Woken) (first : Tree) (named : Bool) (clones : List Tree) → m.machine.start ≡ None → IsFine first named clones w.state.tree
-    → Keeps (woken on_good m w) first named clones
-woken-keeps on_good m w first named clones off fine = (fine, λ o. by_case o)
+begin_with-keeps : (P : Tree → Type 0) (h : List Note) (on_good : Bool) (change : SetChange) (m : RunState) → begin_of m.version m.live on_good ≡ Ok change → P m.live
+    → DiskFine h m.disk → HasHeld h → IsFine h m.live → Keeps P h (begin_with on_good change m)
+begin_with-keeps P h on_good change m is p d held fine = by_case change.has_steps refl
   where
-    now : IsFine first (named || good_is_usable w.state.tree) clones w.state.tree
-    now = fine_then first named clones w.state.tree fine
+    begun : IsRunning h change.tree change.chosen
+    begun = begin_runs m.version h m.live on_good change is held fine
 
-    by_case : (o : Outcome) → Keeps (loaded on_good (record m { disk = settled_at w.state }) w o) first (named || good_is_usable w.state.tree) clones
+    clone : IsCloneOf P (unwrap_or (set_of change.tree change.chosen) no_set)
+    clone = clone_is P m.live change.tree change.chosen p (begin_of-begins m.version m.live on_good change is).set begun.there
+
+    after : List Note
+    after = push (push h (Ended Finished)) (Held change.tree)
+
+    settled : IsRunning (push (push h (Ended Finished)) (Held change.tree)) change.tree change.chosen
+    settled = run_committed h change.tree change.chosen begun
+
+    by_case : (b : Bool) → change.has_steps ≡ b
+        → Keeps P h (cond b (commit lines.BeginCommit change.tree m (begin_start change.chosen on_good change.numbers)) (begin_start change.chosen on_good change.numbers m))
+    by_case true some =
+        commit-keeps P lines.BeginCommit h m change.tree (begin_start change.chosen on_good change.numbers) begun.fine d
+        (begin_start-keeps P (push (push h (Ended Finished)) (Held change.tree)) change.chosen on_good change.numbers (committed_state m change.tree)
+        (disk_settled (push (push h (Ended Finished)) (Held change.tree)) (next_state m change.tree) settled.fine) settled clone)
+    by_case false none =
+        let same : change.tree ≡ m.live = unchanged m.version m.live on_good change is none in
+        let R : Tree → Type 0 = λ t. IsRunning h t change.chosen in
+        let C : Tree → Type 0 = λ t. IsCloneOf P (unwrap_or (set_of t change.chosen) no_set) in
+        begin_start-keeps P h change.chosen on_good change.numbers m d (subst R same begun) (subst C same clone)
+
+begin_by-keeps : (P : Tree → Type 0) (h : List Note) (on_good : Bool) (m : RunState) (r : Result SetChange ChangeStop) → begin_of m.version m.live on_good ≡ r → P m.live
+    → DiskFine h m.disk → HasHeld h → IsFine h m.live → Keeps P h (begin_by on_good m r)
+begin_by-keeps P h on_good m (Ok change) is p d held fine = begin_with-keeps P h on_good change m is p d held fine
+begin_by-keeps P h on_good m (Err (NoPlan sets.NoControlSet)) is p d held fine = ended-keeps P h lines.NoControlSet false m d
+begin_by-keeps P h on_good m (Err (NoPlan sets.NoLastKnownGood)) is p d held fine = ended-keeps P h lines.NoLastKnownGood false m d
+begin_by-keeps P h on_good m (Err (NoPlan sets.NoFreeNumber)) is p d held fine = ended-keeps P h lines.NoNumber false m d
+begin_by-keeps P h on_good m (Err sets.Full) is p d held fine = ended-keeps P h lines.Full false m d
+
+possible_fine : (h : List Note) (disk : Possible) (w : Woken) → DiskFine h disk → IsPossible disk w → IsFine h w.state.tree
+possible_fine h disk w d may = by_state may.state
+  where
+    by_state : (w.state ≡ disk.settled) ⊎ (disk.other ≡ Some w.state) → IsFine h w.state.tree
+    by_state (inl is) = let Q : HiveState → Type 0 = λ state. IsFine h state.tree in subst Q (sym is) d.settled
+    by_state (inr is) = let Q : Option HiveState → Type 0 = OtherFine h in subst Q is d.other
+
+woken-keeps : (P : Tree → Type 0) (h : List Note) (on_good : Bool) (m : RunState) (w : Woken) → P w.state.tree → IsFine h w.state.tree → Keeps P h (woken on_good m w)
+woken-keeps P h on_good m w p fine = (fine, (record { settled = now; other = tt }, λ o. by_case o))
+  where
+    now : IsFine (push h (Held w.state.tree)) w.state.tree
+    now = fine_held h w.state.tree fine
+
+    ended : (o : Outcome) → IsFine (push (push h (Held w.state.tree)) (Ended o)) w.state.tree
+    ended o =
+        (let k : List Note = push h (Held w.state.tree) in
+        fine_note k (push k (Ended o)) w.state.tree (same_held k (Ended o) refl) (same_saved k (Ended o) refl) now)
+
+    stopped : (o : Outcome) → KeepsGoing P (push (push h (Held w.state.tree)) (Ended o)) (run.start_over false (woken_state m w))
+    stopped o = record { disk = record { settled = ended o; other = tt }; runs = tt }
+
+    by_case : (o : Outcome) → Keeps P (push (push h (Held w.state.tree)) (Ended o)) (loaded on_good m w o)
     by_case Finished =
-        take_set-keeps on_good (record m { disk = settled_at w.state; live = w.state.tree; sequence = w.state.sequence; changed = false }) first (named || good_is_usable w.state.tree) clones
-        (record { settled = now; other = tt; runs = no_start first (named || good_is_usable w.state.tree) clones w.state.tree m.machine.start off }) now
-    by_case PowerCut = record { settled = now; other = tt; runs = tt }
-    by_case DeviceFault = record { settled = now; other = tt; runs = tt }
+        (let k : List Note = push (push h (Held w.state.tree)) (Ended Finished) in
+        let held : HasHeld k = held_note (push h (Held w.state.tree)) k (same_held (push h (Held w.state.tree)) (Ended Finished) refl) (held_then h w.state.tree) in
+        begin_by-keeps P k on_good (loaded_state m w) (begin_of w.state.version w.state.tree on_good) refl p (disk_settled k w.state (ended Finished)) held (ended Finished))
+    by_case PowerCut = stopped PowerCut
+    by_case DeviceFault = stopped DeviceFault
 
-chosen-keeps : (on_good : Bool) (m : RunState) (choice : Choice) (first : Tree) (named : Bool) (clones : List Tree) → m.machine.start ≡ None → KeepsGoing first named clones m
-    → Keeps (chosen on_good m choice) first named clones
-chosen-keeps on_good m (run.EntryTaken number path entry_on_good) first named clones off k =
-    λ w possible. woken-keeps (on_good || entry_on_good) m w first named clones off (possible_fine first named clones m.disk w.state k.settled k.other possible)
-chosen-keeps on_good m run.NoEntry first named clones off k = ended-keeps lines.NoEntry false m first named clones k
-chosen-keeps on_good m (run.OtherLoader number path) first named clones off k = ended-keeps lines.OtherLoader false m first named clones k
-chosen-keeps on_good m (run.NoSystem number path) first named clones off k = ended-keeps lines.NoSystem false m first named clones k
-
-boot_act-keeps : (choice : Option ℕ → Choice) (entry : Option ℕ) (good : Bool) (m : RunState) (first : Tree) (named : Bool) (clones : List Tree) → m.machine.start ≡ None
-    → KeepsGoing first named clones m → Keeps (boot_act choice entry good m) first named clones
-boot_act-keeps choice entry good m first named clones off k =
-    chosen-keeps (m.machine.fallback_due || good) (record m { starts = m.starts + 1; machine = record m.machine { fallback_due = false } }) (choice entry) first named clones off
-    (record { settled = k.settled; other = k.other; runs = k.runs })
+chosen-keeps : (P : Tree → Type 0) (h : List Note) (on_good : Bool) (m : RunState) (choice : Choice) → DiskFine h m.disk → Keeps P h (chosen on_good m choice)
+chosen-keeps P h on_good m (run.EntryTaken number path entry_on_good) d = (
+  d,
+  λ w may p. woken-keeps P (push h (Woke m.disk)) (on_good || entry_on_good) m w p
+      (fine_note h (push h (Woke m.disk)) w.state.tree (same_held h (Woke m.disk) refl) (same_saved h (Woke m.disk) refl) (possible_fine h m.disk w d may)),
+)
+chosen-keeps P h on_good m run.NoEntry d = ended-keeps P h lines.NoEntry false m d
+chosen-keeps P h on_good m (run.OtherLoader number path) d = ended-keeps P h lines.OtherLoader false m d
+chosen-keeps P h on_good m (run.NoSystem number path) d = ended-keeps P h lines.NoSystem false m d
 
 -- ---- the other events
 
-edit_done-keeps : (e : Event) (edit : Edit) (s : Start) (m : RunState) (first : Tree) (named : Bool) (clones : List Tree) (r : Result Tree Refusal)
-    → m.machine.start ≡ Some s → is_protected edit ≡ false → edited m.live (step_of s.number edit ∷ []) ≡ r → KeepsGoing first named clones m → Keeps (edit_done e m r) first named clones
-edit_done-keeps e edit s m first named clones (Ok tree) is free made k =
-    let r = running_at first named clones m.live m.machine.start s is k.runs in
-    let after = edit_runs first named clones m.live tree s.number (edited_keeps s.number edit m.live tree r.most free made) r in
-    record { settled = k.settled; other = k.other; runs = runs_at first named clones tree m.machine.start s is after }
-edit_done-keeps e edit s m first named clones (Err refusal) is free made k = k
+edit_done-keeps : (P : Tree → Type 0) (e : Event) (edit : Edit) (s : Start) (h : List Note) (m : RunState) (r : Result Tree Refusal)
+    → m.machine.start ≡ Some s → is_protected edit ≡ false → edited m.version m.live (step_of s.number edit ∷ []) ≡ r → KeepsGoing P h m → Keeps P h (edit_done e m r)
+edit_done-keeps P e edit s h m (Ok tree) is free made g =
+    let r = running_at P h m.live m.machine.start s is g.runs in
+    let after = edit_runs h m.live tree s.number (edited_keeps m.version s.number edit m.live tree r.on_set.most free made) r.on_set in
+    record { disk = g.disk; runs = runs_at P h tree m.machine.start s is (record { on_set = after; clone = r.clone }) }
+edit_done-keeps P e edit s h m (Err refusal) is free made g = g
 
 -- the live tree is committed as it is
-live-keeps : (what : CommitWord) (s : Start) (m : RunState) (next : RunState → Act) (first : Tree) (named : Bool) (clones : List Tree) → m.machine.start ≡ Some s
-    → KeepsGoing first named clones m → Next first next → Keeps (commit what m.live m next) first named clones
-live-keeps what s m next first named clones is k f =
-    let fine = (running_at first named clones m.live m.machine.start s is k.runs).fine in
-    commit-keeps what m.live m next first named clones fine k
-    (f (named || good_is_usable m.live) clones (committed_state m.live m) (going_committed m.live m first named clones fine (runs_then first named clones m.live m.machine.start k.runs)))
+live-keeps : (P : Tree → Type 0) (what : CommitWord) (s : Start) (h : List Note) (m : RunState) (next : RunState → Act) → m.machine.start ≡ Some s → KeepsGoing P h m → Next P next → Keeps P h (commit what m.live m next)
+live-keeps P what s h m next is g f =
+    let r = running_at P h m.live m.machine.start s is g.runs in
+    let after : List Note = push (push h (Ended Finished)) (Held m.live) in
+    let on : IsRunning after m.live s.number = run_committed h m.live s.number r.on_set in
+    let going : KeepsGoing P after (committed_state m m.live) = record { disk = disk_settled after (next_state m m.live) on.fine; runs = runs_at P after m.live m.machine.start s is (record { on_set = on; clone = r.clone }) } in
+    commit-keeps P what h m m.live next r.on_set.fine g.disk (f after (committed_state m m.live) going)
 
-flush_act-keeps : (s : Start) (m : RunState) (first : Tree) (named : Bool) (clones : List Tree) → m.machine.start ≡ Some s → KeepsGoing first named clones m → Keeps (flush_act m) first named clones
-flush_act-keeps s m first named clones is k =
-    either m.changed (commit lines.FlushCommit m.live m run.done) (run.say lines.FlushNothingLine (run.done m)) first named clones
-    (live-keeps lines.FlushCommit s m run.done first named clones is k (λ named clones x h. h)) k
+flush_act-keeps : (P : Tree → Type 0) (s : Start) (h : List Note) (m : RunState) → m.machine.start ≡ Some s → KeepsGoing P h m → Keeps P h (flush_act m)
+flush_act-keeps P s h m is g =
+    either P h m.changed (commit lines.FlushCommit m.live m run.done) (run.say lines.FlushNothingLine (run.done m)) (live-keeps P lines.FlushCommit s h m run.done is g (λ h x k. k)) g
 
-off_act-keeps : (s : Start) (m : RunState) (first : Tree) (named : Bool) (clones : List Tree) → m.machine.start ≡ Some s → KeepsGoing first named clones m → Keeps (off_act s m) first named clones
-off_act-keeps s m first named clones is k =
-    either m.changed (commit lines.OffCommit m.live m (end_with (ending_of s) false)) (end_with (ending_of s) false m) first named clones
-    (live-keeps lines.OffCommit s m (end_with (ending_of s) false) first named clones is k (λ named clones x h. ended-keeps (ending_of s) false x first named clones h))
-    (ended-keeps (ending_of s) false m first named clones k)
+off_act-keeps : (P : Tree → Type 0) (s : Start) (h : List Note) (m : RunState) → m.machine.start ≡ Some s → KeepsGoing P h m → Keeps P h (off_act s m)
+off_act-keeps P s h m is g =
+    either P h m.changed (commit lines.OffCommit m.live m (end_with (ending_of s) false)) (end_with (ending_of s) false m)
+    (live-keeps P lines.OffCommit s h m (end_with (ending_of s) false) is g (λ h x k. ended-keeps P h (ending_of s) false x k.disk)) (ended-keeps P h (ending_of s) false m g.disk)
 
-logon_act-keeps : (s : Start) (m : RunState) (first : Tree) (named : Bool) (clones : List Tree) → m.machine.start ≡ Some s → KeepsGoing first named clones m → Keeps (logon_act s m) first named clones
-logon_act-keeps s m first named clones is k =
+logon_act-keeps : (P : Tree → Type 0) (s : Start) (h : List Note) (m : RunState) → m.machine.start ≡ Some s → KeepsGoing P h m → Keeps P h (logon_act s m)
+logon_act-keeps P s h m is g =
     let after : Start = record s { logged_on = true } in
-    due-keeps after m run.done first named clones k (running_at first named clones m.live m.machine.start s is k.runs) (λ named clones x h. h)
+    let r = running_at P h m.live m.machine.start s is g.runs in
+    due-keeps P after h m run.done g.disk (record { on_set = r.on_set; clone = r.clone }) (λ h x k. k)
+
+cut-keeps : (P : Tree → Type 0) (h : List Note) (m : RunState) → KeepsGoing P h m → Keeps P h (run.cut_act m)
+cut-keeps P h m g =
+    let k : List Note = push h Cuts in
+    let d : DiskFine k m.disk = disk_note h k m.disk (same_held h Cuts refl) (same_saved h Cuts refl) g.disk in
+    (tt, (d, λ o. ended-keeps P (push k (Ended o)) lines.Cut false m (disk_note k (push k (Ended o)) m.disk (same_held k (Ended o) refl) (same_saved k (Ended o) refl) d)))
+
+arm-keeps : (P : Tree → Type 0) (h : List Note) (m : RunState) (arming : Arming) → KeepsGoing P h m → Keeps P h (run.arm_act arming m)
+arm-keeps P h m arming g = (tt, going_note P h (push h (Ordered arming)) m (same_held h (Ordered arming) refl) (same_saved h (Ordered arming) refl) g)
 
 not_refused : (b : Bool) (why : RefusedWord) → cond b (Some why) None ≡ None → b ≡ false
 not_refused true why e = absurd cc
 not_refused false why e = refl
 
-running_act-keeps : (s : Start) (e : Event) (m : RunState) (first : Tree) (named : Bool) (clones : List Tree) → m.machine.start ≡ Some s → refusal_in (Some s) e ≡ None → KeepsGoing first named clones m
-    → Keeps (running_act s e m) first named clones
-running_act-keeps s (events.BootNow entry good) m first named clones is free k = k
-running_act-keeps s (events.Go steps) m first named clones is free k = go_act-keeps steps m first named clones k
-running_act-keeps s (events.Fail name count) m first named clones is free k = record { settled = k.settled; other = k.other; runs = k.runs }
-running_act-keeps s (events.Edits edit) m first named clones is free k =
-    edit_done-keeps (events.Edits edit) edit s m first named clones (edited m.live (step_of s.number edit ∷ [])) is (not_refused (is_protected edit) lines.ProtectedReason free) refl k
-running_act-keeps s events.Flush m first named clones is free k = flush_act-keeps s m first named clones is k
-running_act-keeps s events.Logon m first named clones is free k = logon_act-keeps s m first named clones is k
-running_act-keeps s events.Off m first named clones is free k = off_act-keeps s m first named clones is k
-running_act-keeps s (events.CutNow keep) m first named clones is free k = λ o. ended-keeps lines.Cut false m first named clones k
-running_act-keeps s (events.Arm arming) m first named clones is free k = k
+fail_going : (P : Tree → Type 0) (h : List Note) (name : List ℕ) (count : ℕ) (m : RunState) → KeepsGoing P h m → KeepsGoing P h (with_machine (failing name count m.machine) m)
+fail_going P h name count m g = record { disk = g.disk; runs = g.runs }
 
-idle_act-keeps : (choice : Option ℕ → Choice) (e : Event) (m : RunState) (first : Tree) (named : Bool) (clones : List Tree) → m.machine.start ≡ None → KeepsGoing first named clones m
-    → Keeps (idle_act choice e m) first named clones
-idle_act-keeps choice (events.BootNow entry good) m first named clones off k = boot_act-keeps choice entry good m first named clones off k
-idle_act-keeps choice (events.Go steps) m first named clones off k = k
-idle_act-keeps choice (events.Fail name count) m first named clones off k = record { settled = k.settled; other = k.other; runs = k.runs }
-idle_act-keeps choice (events.Edits edit) m first named clones off k = k
-idle_act-keeps choice events.Flush m first named clones off k = k
-idle_act-keeps choice events.Logon m first named clones off k = k
-idle_act-keeps choice events.Off m first named clones off k = k
-idle_act-keeps choice (events.CutNow keep) m first named clones off k = k
-idle_act-keeps choice (events.Arm arming) m first named clones off k = k
+running_act-keeps : (P : Tree → Type 0) (s : Start) (e : Event) (h : List Note) (m : RunState) → m.machine.start ≡ Some s → refusal_in (Some s) e ≡ None → KeepsGoing P h m → Keeps P h (running_act s e m)
+running_act-keeps P s (events.BootNow entry good) h m is free g = g
+running_act-keeps P s (events.Go steps) h m is free g = go_act-keeps P steps h m g
+running_act-keeps P s (events.Fail name count) h m is free g = fail_going P h name count m g
+running_act-keeps P s (events.Edits edit) h m is free g =
+    edit_done-keeps P (events.Edits edit) edit s h m (edited m.version m.live (step_of s.number edit ∷ [])) is (not_refused (is_protected edit) lines.ProtectedReason free) refl g
+running_act-keeps P s events.Flush h m is free g = flush_act-keeps P s h m is g
+running_act-keeps P s events.Logon h m is free g = logon_act-keeps P s h m is g
+running_act-keeps P s events.Off h m is free g = off_act-keeps P s h m is g
+running_act-keeps P s (events.CutNow keep) h m is free g = cut-keeps P h m g
+running_act-keeps P s (events.Arm arming) h m is free g = arm-keeps P h m arming g
 
-accepted-keeps : (choice : Option ℕ → Choice) (o : Option Start) (e : Event) (m : RunState) (first : Tree) (named : Bool) (clones : List Tree) → m.machine.start ≡ o → refusal_in o e ≡ None
-    → KeepsGoing first named clones m → Keeps (accepted_act choice o e m) first named clones
-accepted-keeps choice None e m first named clones is free k = idle_act-keeps choice e m first named clones is k
-accepted-keeps choice (Some s) e m first named clones is free k = running_act-keeps s e m first named clones is free k
+idle_act-keeps : (P : Tree → Type 0) (choice : Option ℕ → Choice) (e : Event) (h : List Note) (m : RunState) → KeepsGoing P h m → Keeps P h (idle_act choice e m)
+idle_act-keeps P choice (events.BootNow entry good) h m g = chosen-keeps P h (m.machine.fallback_due || good) (accepted_state m) (choice entry) g.disk
+idle_act-keeps P choice (events.Go steps) h m g = g
+idle_act-keeps P choice (events.Fail name count) h m g = fail_going P h name count m g
+idle_act-keeps P choice (events.Edits edit) h m g = g
+idle_act-keeps P choice events.Flush h m g = g
+idle_act-keeps P choice events.Logon h m g = g
+idle_act-keeps P choice events.Off h m g = g
+idle_act-keeps P choice (events.CutNow keep) h m g = g
+idle_act-keeps P choice (events.Arm arming) h m g = arm-keeps P h m arming g
 
-unless-keeps : (choice : Option ℕ → Choice) (e : Event) (m : RunState) (first : Tree) (named : Bool) (clones : List Tree) (o : Option RefusedWord) → refusal_of m.machine e ≡ o
-    → KeepsGoing first named clones m → Keeps (act_unless choice e m o) first named clones
-unless-keeps choice e m first named clones (Some reason) is k = k
-unless-keeps choice e m first named clones None is k = accepted-keeps choice m.machine.start e m first named clones refl is k
+accepted-keeps : (P : Tree → Type 0) (choice : Option ℕ → Choice) (o : Option Start) (e : Event) (h : List Note) (m : RunState) → m.machine.start ≡ o → refusal_in o e ≡ None
+    → KeepsGoing P h m → Keeps P h (accepted_act choice o e m)
+accepted-keeps P choice None e h m is free g = idle_act-keeps P choice e h m g
+accepted-keeps P choice (Some s) e h m is free g = running_act-keeps P s e h m is free g
 
-pub event_step_of-keeps : (choice : Option ℕ → Choice) (e : Event) (m : RunState) (first : Tree) (named : Bool) (clones : List Tree) → KeepsGoing first named clones m
-    → Keeps (event_step_of choice e m) first named clones
+unless-keeps : (P : Tree → Type 0) (choice : Option ℕ → Choice) (e : Event) (h : List Note) (m : RunState) (o : Option RefusedWord) → refusal_of m.machine e ≡ o
+    → KeepsGoing P h m → Keeps P h (act_unless choice e m o)
+unless-keeps P choice e h m (Some reason) is g = g
+unless-keeps P choice e h m None is g = accepted-keeps P choice m.machine.start e h m refl is g
+
+pub event_step_of-keeps : (P : Tree → Type 0) (choice : Option ℕ → Choice) (e : Event) (h : List Note) (m : RunState) → KeepsGoing P h m → Keeps P h (event_step_of choice e m)
 unfolding event_step_of
-event_step_of-keeps choice e m first named clones k = unless-keeps choice e m first named clones (refusal_of m.machine e) refl k
+event_step_of-keeps P choice e h m g = unless-keeps P choice e h m (refusal_of m.machine e) refl g
+
+-- the end of the script
+pub closing-keeps : (P : Tree → Type 0) (h : List Note) (m : RunState) → KeepsGoing P h m → Keeps P h (closing_act m)
+closing-keeps P h m g = by_start m.machine.start
+  where
+    by_start : (o : Option Start) → Keeps P h (verdict_first o (run.say lines.EndLine (run.done m)))
+    by_start None = g
+    by_start (Some s) = g

@@ -2,5 +2,4 @@ pub mod EditLemmas
 pub mod GoodLemmas
 pub mod KeepLemmas
 pub mod FitLemmas
-pub mod FirstLemmas
 pub mod RunLemmas

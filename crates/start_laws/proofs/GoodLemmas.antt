@@ -4,8 +4,8 @@ use Rattle.std.specs.Prelude.{Contains}
 use Rattle.std.proofs.lemmas.List.Elements.{Contains-append_left}
 use Rattle.hive_model.specs.Tree.{Tree}
 use Rattle.start_model.specs.Run.{RunResult, Note}
-use Rattle.start_model.specs.Fits.{first_good_in, IsGoodSet, held_in, saved_in}
-use Rattle.run_laws.proofs.NoteLemmas.{held_in-append, saved_in-append}
+use Rattle.start_model.specs.Fits.{first_good_in, IsGoodSet, woke_in, held_in, saved_in}
+use Rattle.run_laws.proofs.NoteLemmas.{woke_in-append, held_in-append, saved_in-append}
 use Rattle.start_laws.specs.Fronts.{IsFrontOfRun}
 
 -- the set that LastKnownGood names in the first tree
@@ -33,3 +33,13 @@ good_in_front first whole set f g =
     let P : List Tree → Type 0 = λ ts. IsGoodSet ts (saved_in first.notes ++ saved_in rest) set in
     let Q : List Tree → Type 0 = λ cs. IsGoodSet (held_in whole.notes) cs set in
     subst Q (sym saved) (subst P (sym held) (good_stays (held_in first.notes) (held_in rest) (saved_in first.notes) (saved_in rest) set g))
+
+-- what one note more tells
+pub held_more : (h : List Note) (n : Note) → held_in (h ++ n ∷ []) ≡ held_in h ++ held_in (n ∷ [])
+held_more h n = held_in-append h (n ∷ [])
+
+pub saved_more : (h : List Note) (n : Note) → saved_in (h ++ n ∷ []) ≡ saved_in h ++ saved_in (n ∷ [])
+saved_more h n = saved_in-append h (n ∷ [])
+
+pub woke_behind : (a b : List Note) → woke_in (a ++ b) ≡ woke_in a ++ woke_in b
+woke_behind a b = woke_in-append a b

@@ -235,7 +235,7 @@ select_there : (name : List ℕ) (o : Option Tree) → 1 ≤ select_number name 
 select_there name None h = absurd (omega arith)
 select_there name (Some t) h = refl
 
-taken_there : (t : Tree) (on_good : Bool) → 1 ≤ taken_number (select_numbers_of t) on_good → is_some (select_key t) ≡ true
+pub taken_there : (t : Tree) (on_good : Bool) → 1 ≤ taken_number (select_numbers_of t) on_good → is_some (select_key t) ≡ true
 unfolding select_key
 taken_there t true h = select_there (codes "LastKnownGood") (find_key (codes "Select" ∷ []) t) h
 taken_there t false h = select_there (codes "Default") (find_key (codes "Select" ∷ []) t) h
