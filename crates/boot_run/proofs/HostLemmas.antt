@@ -1,11 +1,18 @@
 -- What calls one behind another leave of their host.
-use Rattle.std.proofs.Common.{◌≡◌, ℕ, true, sym, ap, ◌∙◌, subst}
+use Rattle.std.proofs.Common.{◌≡◌, ℕ, true, refl, sym, ap, ◌∙◌, subst}
 use Rattle.std.specs.Prelude.{Result, Ok, Err}
 use Rattle.std.specs.Result.{IsErrAnd}
 use Rattle.nt_edge.specs.Host.{HostState, Rises, KeepsHost, KeepsFiles, KeepsCounts, CountsWrite}
 use Rattle.boot_run.specs.declared.stop.RunStop.{RunStop}
 use Rattle.boot_run.specs.declared.stop.RunStop.TheVariants as stops
-use Rattle.boot_run.specs.Hosts.{LeavesHost, CountsStop}
+use Rattle.boot_run.specs.Hosts.{LeavesHost, CountsStop, StillHost}
+
+-- an answer of a call that is done, and of one that was given up
+abbrev as_done : {T : Type 0} → T → Result T RunStop
+as_done x = Ok x
+
+abbrev as_stopped : {T : Type 0} → RunStop → Result T RunStop
+as_stopped stop = Err stop
 
 keeps-then : (a b c : HostState) → KeepsHost a b → KeepsHost b c → KeepsHost a c
 keeps-then a b c p q = record { tells = q.tells ∙ p.tells; quiet = λ e. q.quiet (p.quiet e) }
@@ -21,9 +28,32 @@ counts-then (Err stops.Write) a b c k p q =
     record { reads = q.reads ∙ p.reads; writes = subst P p.writes q.writes; loud = λ e. q.loud (k.quiet e) }
 
 -- a call that is done, and one behind it
-pub leaves-then : {U : Type 0} → (r : Result U RunStop) (a b c : HostState) → KeepsHost a b → KeepsFiles a b → KeepsCounts a b → LeavesHost r b c → LeavesHost r a c
-leaves-then r a b c keeps files counts q = record {
-  keeps = keeps-then a b c keeps q.keeps;
-  files = files-then a b c keeps files q.files;
-  counts = counts-then r a b c keeps counts q.counts;
+pub leaves-then : {U : Type 0} → (r : Result U RunStop) (a b c : HostState) → StillHost a b → LeavesHost r b c → LeavesHost r a c
+leaves-then r a b c p q = record {
+  keeps = keeps-then a b c p.keeps q.keeps;
+  files = files-then a b c p.keeps p.files q.files;
+  counts = counts-then r a b c p.keeps p.counts q.counts;
 }
+
+pub still-host : (a : HostState) → StillHost a a
+still-host a = record { keeps = record { tells = refl; quiet = λ e. e }; files = λ e. refl; counts = record { reads = refl; writes = refl } }
+
+-- one more call that is done
+pub still-then : {T : Type 0} → (x : T) (a b c : HostState) → StillHost a b → LeavesHost (as_done x) b c → StillHost a c
+still-then x a b c p q = record {
+  keeps = keeps-then a b c p.keeps q.keeps;
+  files = files-then a b c p.keeps p.files q.files;
+  counts = record { reads = q.counts.reads ∙ p.counts.reads; writes = q.counts.writes ∙ p.counts.writes };
+}
+
+counts_on : {T U : Type 0} → (r : Result T RunStop) (q : Result U RunStop) (e : RunStop) (a b : HostState) → r ≡ Err e → q ≡ Err e → CountsStop q a b → CountsStop r a b
+counts_on (Ok x) q e a b is was c = absurd cc
+counts_on (Err f) (Ok y) e a b is was c = absurd cc
+counts_on (Err stops.Write) (Err stops.Write) e a b is was c = c
+counts_on (Err stops.Write) (Err stops.Memory) e a b is was c = absurd cc
+counts_on (Err stops.Memory) (Err stops.Write) e a b is was c = absurd cc
+counts_on (Err stops.Memory) (Err stops.Memory) e a b is was c = c
+
+-- a refusal that is handed on
+pub leaves-on : {T U : Type 0} → (r : Result T RunStop) (q : Result U RunStop) (e : RunStop) (a b : HostState) → r ≡ Err e → q ≡ Err e → LeavesHost q a b → LeavesHost r a b
+leaves-on r q e a b is was h = record { keeps = h.keeps; files = h.files; counts = counts_on r q e a b is was h.counts }

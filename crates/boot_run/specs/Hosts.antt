@@ -15,3 +15,9 @@ pub record LeavesHost {T : Type 0} (result : Result T RunStop) (old new : HostSt
   pub keeps : KeepsHost old new
   pub files : KeepsFiles old new
   pub counts : CountsStop result old new
+
+-- the host tells what it told, its files are as they were, and no fault was counted
+pub record StillHost (old new : HostState) : Type 0 where
+  pub keeps : KeepsHost old new
+  pub files : KeepsFiles old new
+  pub counts : KeepsCounts old new

@@ -1,11 +1,12 @@
 -- The values of the code as those of the book.
-use Rattle.std.specs.Prelude.{option_map, Result}
+use Rattle.std.specs.Prelude.{◌≡◌, ℕ, List, ◌∷◌, ◌++◌, option_map, Result, Ok, Err}
 use Rattle.nt_edge.specs.Disk.{DiskState}
-use Rattle.nt_edge.specs.Host.{HostState}
+use Rattle.nt_edge.specs.Host.{HostState, SaysFront}
 use Rattle.start_model.specs.Summary as book
 use Rattle.boot_report.specs.Report.{verdict_of}
 use Rattle.start_model.specs.Run.{Act}
-use Rattle.run_parts.specs.Parts.{Told, PlaysOr}
+use Rattle.start_model.specs.Lines.{Line, line_text}
+use Rattle.run_parts.specs.Parts.{Told, Tells, PlaysOr}
 use Rattle.boot_run.specs.declared.summary.Summary.{Summary}
 use Rattle.boot_run.specs.declared.runner.Runner.{Runner}
 use Rattle.boot_run.specs.declared.stop.RunStop.{RunStop}
@@ -33,3 +34,24 @@ moment host runner disk = record { told = told_in host runner; disk = disk }
 -- from the one moment to the other the act was played up to a rest, of which more is known; or it was given up
 abbrev pub RunsTo : {T : Type 0} → Act → Moment → Moment → Result T RunStop → (T → Act → Type 0) → Type 0
 RunsTo act old new result Left = PlaysOr act old.told new.told old.disk new.disk result Left
+
+-- of these lines some were told, and of the next one a front was said
+pub record SaysPart (lines : List Line) (old : Told) (said : List ℕ) : Type 0 where
+  pub first : List Line
+  pub line : Line
+  pub rest : List Line
+  pub parts : lines ≡ first ++ line ∷ rest
+  pub mid : Told
+  pub told : Tells old mid first
+  pub front : SaysFront mid.said said (line_text line)
+
+-- of these lines those before the rest were told
+pub record TellsBefore (lines rest : List Line) (old new : Told) : Type 0 where
+  pub first : List Line
+  pub parts : lines ≡ first ++ rest
+  pub told : Tells old new first
+
+-- these lines were told; or those before one, of which a front was said
+abbrev pub SaysAll : {T : Type 0} → List Line → Told → Told → Result T RunStop → Type 0
+SaysAll lines old new (Ok x) = Tells old new lines
+SaysAll lines old new (Err e) = SaysPart lines old new.said

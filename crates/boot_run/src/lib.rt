@@ -9,8 +9,10 @@ mod ending;
 mod paths;
 mod runner;
 mod saying;
+mod steps;
 mod stop;
 mod summary;
+mod unmet;
 mod words;
 
 pub use runner::Runner;

@@ -41,7 +41,8 @@ impl Summary {
         ensures { summary_in self.new ≡ book.with_line (summary_in self.old) (line_of line.now) }
     {
         match line {
-            Line::Load { sequence, .. } | Line::Commit { sequence, .. } => self.sequence = *sequence,
+            Line::Load { sequence, .. } | Line::Commit { sequence, .. } => self.sequence =
+                *sequence,
             Line::Try { outcome, .. } => self.count_try(*outcome),
             Line::Unmet { .. } => self.unmet = self.unmet.saturating_add(1),
             Line::Verdict { word } => self.verdict = Some(*word),
