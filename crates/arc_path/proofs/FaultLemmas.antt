@@ -132,7 +132,7 @@ digits_stand radix most text x pieces e h behind =
 
 -- ---- a word, a number and `)`
 
-abbrev item_pieces : List ℕ → List Piece → List Piece
+abbrev pub item_pieces : List ℕ → List Piece → List Piece
 item_pieces word pieces = Name word ∷ Digits 10 9 ∷ Name (codes ")") ∷ pieces
 
 item_lacks : (word text : List ℕ) (pieces : List Piece) (e : Early) → item_at word text ≡ Err e → Faulty (item_pieces word pieces) e text
@@ -160,7 +160,7 @@ item_stands word text x pieces e h behind =
 
 -- ---- the partition
 
-abbrev partition_pieces : List Piece → List Piece
+abbrev pub partition_pieces : List Piece → List Piece
 partition_pieces pieces = Name (codes "partition(") ∷ Counted ∷ Name (codes ")") ∷ pieces
 
 -- a number that was read, which is zero, or a fault behind it

@@ -27,7 +27,7 @@ same_length [] (d ∷ word) e = absurd (false≢true e)
 same_length (c ∷ name) [] e = absurd (false≢true e)
 same_length (c ∷ name) (d ∷ word) e = let same : length name ≡ length word = same_length name word (both (eqb (to_ascii_lowercase c) (to_ascii_lowercase d)) _ e).1 in omega arith
 
-word_found : (word name rest : List ℕ) → IsNamed word name → word_at word (name ++ rest) ≡ Ok rest
+pub word_found : (word name rest : List ℕ) → IsNamed word name → word_at word (name ++ rest) ≡ Ok rest
 unfolding word_at
 word_found word name rest e =
     let n = same_length name word e in
@@ -54,7 +54,7 @@ same_front (suc k) (c ∷ name) rest (d ∷ word) (o ∷ other) is le =
     let q = both (eqb (to_ascii_lowercase c) (to_ascii_lowercase d)) _ is in
     rw (eqb-true (to_ascii_lowercase c) (to_ascii_lowercase d) q.0, same_front k name rest word other q.1 (omega arith)) refl
 
-kind_found : (k : ArcKind) (name rest : List ℕ) → IsNamed (word_of k) name → kind_at (name ++ rest) ≡ Ok (k, rest)
+pub kind_found : (k : ArcKind) (name rest : List ℕ) → IsNamed (word_of k) name → kind_at (name ++ rest) ≡ Ok (k, rest)
 unfolding kind_at
 kind_found Multi name rest e =
     let n = same_length name (codes "multi(") e in rw (take_at name rest 6 n, e, drop_at name rest 6 n) refl
