@@ -33,7 +33,8 @@ regroup (Ok x) g f what place text s = s
 regroup (Err e) g f what place text s = s
 
 -- a reader that fails here
-stops_here : {A B : Type 0} (r : Result A Early) (f : A → Result B Early) (what : ArcFaultKind) (place : ℕ) (text : List ℕ) → r ≡ fault_at what text → place ≡ 0 → Stops (r >>= f) what place text
+stops_here : {A B : Type 0} (r : Result A Early) (f : A → Result B Early) (what : ArcFaultKind) (place : ℕ) (text : List ℕ)
+    → r ≡ fault_at what text → place ≡ 0 → Stops (r >>= f) what place text
 stops_here r f what place text fails zero =
     record { e = record { kind = what; left = length text }; fails = ap (λ (q : Result _ Early). q >>= f) fails; kind_is = refl; left = omega arith }
 
@@ -50,12 +51,15 @@ word_fails : (word text : List ℕ) → BeginsNot word text → word_at word tex
 unfolding word_at
 word_fails word text none = by_test (str_eq_ignore_ascii_case (take (length word) text) word) refl
   where
-    by_test : (b : Bool) → str_eq_ignore_ascii_case (take (length word) text) word ≡ b → cond b (Ok (drop (length word) text)) (fault_at Word text) ≡ fault_at Word text
+    by_test : (b : Bool) → str_eq_ignore_ascii_case (take (length word) text) word ≡ b
+        → cond b (Ok (drop (length word) text)) (fault_at Word text) ≡ fault_at Word text
     by_test true is = absurd (none (take (length word) text) (drop (length word) text) (sym (take-append-drop (length word) text)) is)
     by_test false is = refl
 
-word_then : {B : Type 0} (word text : List ℕ) (pieces : List Piece) (what : ArcFaultKind) (place : ℕ) (f : List ℕ → Result B Early) → IsFaultIn (Name word ∷ pieces) what place text
-    → ((rest : List ℕ) (behind : ℕ) → IsFaultIn pieces what behind rest → Stops (f rest) what behind rest) → Stops (word_at word text >>= f) what place text
+word_then : {B : Type 0} (word text : List ℕ) (pieces : List Piece) (what : ArcFaultKind) (place : ℕ) (f : List ℕ → Result B Early)
+    → IsFaultIn (Name word ∷ pieces) what place text
+    → ((rest : List ℕ) (behind : ℕ) → IsFaultIn pieces what behind rest → Stops (f rest) what behind rest)
+    → Stops (word_at word text >>= f) what place text
 word_then word text pieces what place f (inl h) next =
     subst (λ (k : ArcFaultKind). Stops (word_at word text >>= f) k place text) (sym h.0.0) (stops_here (word_at word text) f Word place text (word_fails word text h.0.1) h.1)
 word_then word text pieces what place f (inr h) next =
@@ -64,7 +68,8 @@ word_then word text pieces what place f (inr h) next =
 
 -- ---- numbers
 
-digits_are : (radix : ℕ) (ds rest : List ℕ) → AllDigits radix ds → StartsNoDigit radix rest → digit_count radix (ds ++ rest) ≡ length ds
+digits_are : (radix : ℕ) (ds rest : List ℕ) → AllDigits radix ds → StartsNoDigit radix rest
+    → digit_count radix (ds ++ rest) ≡ length ds
 digits_are radix [] [] all none = refl
 digits_are radix [] (c ∷ rest) all none = rw none refl
 digits_are radix (d ∷ ds) rest all none = rw (lt-ltb _ _ all.0, digits_are radix ds rest all.1 none) (omega arith)
@@ -76,10 +81,12 @@ wrong_count n most (inr many) = rw (ne_eqb n 0 (λ z. absurd (omega arith)), lt-
 number_fails : (radix most : ℕ) (text : List ℕ) → HasNoNumber radix most text → number_at radix most text ≡ fault_at Number text
 unfolding number_at
 number_fails radix most text none =
-    let count : digit_count radix text ≡ length none.digits = ap (digit_count radix) none.spelled ∙ digits_are radix none.digits none.rest none.all none.whole in
+    let count : digit_count radix text ≡ length none.digits =
+    ap (digit_count radix) none.spelled ∙ digits_are radix none.digits none.rest none.all none.whole in
     rw (count, wrong_count (length none.digits) most none.wrong) refl
 
-number_goes : (radix most value : ℕ) (shown rest : List ℕ) → IsNumeral radix most value shown → StartsNoDigit radix rest → number_at radix most (shown ++ rest) ≡ Ok (value, rest)
+number_goes : (radix most value : ℕ) (shown rest : List ℕ) → IsNumeral radix most value shown → StartsNoDigit radix rest
+    → number_at radix most (shown ++ rest) ≡ Ok (value, rest)
 unfolding number_at
 number_goes radix most value shown rest is none =
     let count = digits_are radix shown rest is.digits none in
@@ -87,17 +94,20 @@ number_goes radix most value shown rest is none =
     rw (count, ne_eqb (length shown) 0 (λ z. absurd (omega arith)), le-ltb most (length shown) is.few, take_at shown rest (length shown) refl, drop_at shown rest (length shown) refl, is.writes) refl
 
 digits_then : {B : Type 0} (radix most : ℕ) (text : List ℕ) (pieces : List Piece) (what : ArcFaultKind) (place : ℕ) (f : ℕ × List ℕ → Result B Early) → IsFaultIn (Digits radix most ∷ pieces) what place text
-    → ((x : ℕ × List ℕ) (behind : ℕ) → IsFaultIn pieces what behind x.1 → Stops (f x) what behind x.1) → Stops (number_at radix most text >>= f) what place text
+    → ((x : ℕ × List ℕ) (behind : ℕ) → IsFaultIn pieces what behind x.1 → Stops (f x) what behind x.1)
+    → Stops (number_at radix most text >>= f) what place text
 digits_then radix most text pieces what place f (inl h) next =
     subst (λ (k : ArcFaultKind). Stops (number_at radix most text >>= f) k place text) (sym h.0.0)
     (stops_here (number_at radix most text) f Number place text (number_fails radix most text h.0.1) h.1)
 digits_then radix most text pieces what place f (inr h) next =
     let number = h.4 in
-    let ok : number_at radix most text ≡ Ok (number.0, h.1) = ap (number_at radix most) h.3 ∙ number_goes radix most number.0 h.0 h.1 number.1 number.2 in
+    let ok : number_at radix most text ≡ Ok (number.0, h.1) =
+    ap (number_at radix most) h.3 ∙ number_goes radix most number.0 h.0 h.1 number.1 number.2 in
     stops_behind (number_at radix most text) f (number.0, h.1) what place h.2 text h.0 h.1 ok h.3 h.6 (next (number.0, h.1) h.2 h.5)
 
 item_then : {B : Type 0} (word text : List ℕ) (pieces : List Piece) (what : ArcFaultKind) (place : ℕ) (f : ℕ × List ℕ → Result B Early) → IsFaultIn (item_pieces word pieces) what place text
-    → ((x : ℕ × List ℕ) (behind : ℕ) → IsFaultIn pieces what behind x.1 → Stops (f x) what behind x.1) → Stops (item_at word text >>= f) what place text
+    → ((x : ℕ × List ℕ) (behind : ℕ) → IsFaultIn pieces what behind x.1 → Stops (f x) what behind x.1)
+    → Stops (item_at word text >>= f) what place text
 unfolding item_at
 item_then word text pieces what place f is next =
     regroup (word_at word text) _ f what place text
@@ -120,13 +130,15 @@ counted_some true text x what place f is s = absurd (false≢true (sym is))
 counted_some false text x what place f is s = s
 
 counted_then : {B : Type 0} (text : List ℕ) (pieces : List Piece) (what : ArcFaultKind) (place : ℕ) (f : ℕ × List ℕ → Result B Early) → IsFaultIn (Counted ∷ Name (codes ")") ∷ pieces) what place text
-    → ((x : ℕ × List ℕ) (behind : ℕ) → IsFaultIn pieces what behind x.1 → Stops (f x) what behind x.1) → Stops (number_at 10 9 text >>= counted text f) what place text
+    → ((x : ℕ × List ℕ) (behind : ℕ) → IsFaultIn pieces what behind x.1 → Stops (f x) what behind x.1)
+    → Stops (number_at 10 9 text >>= counted text f) what place text
 counted_then text pieces what place f (inl (inl h, zero)) next =
     subst (λ (k : ArcFaultKind). Stops (number_at 10 9 text >>= counted text f) k place text) (sym h.0)
     (stops_here (number_at 10 9 text) (counted text f) Number place text (number_fails 10 9 text h.1) zero)
 counted_then text pieces what place f (inl (inr h, zero)) next =
     let none : HasZero text = h.1 in
-    let ok : number_at 10 9 text ≡ Ok (0, none.rest) = ap (number_at 10 9) none.spelled ∙ number_goes 10 9 0 none.digits none.rest none.numeral none.whole in
+    let ok : number_at 10 9 text ≡ Ok (0, none.rest) =
+    ap (number_at 10 9) none.spelled ∙ number_goes 10 9 0 none.digits none.rest none.numeral none.whole in
     record {
       e = record { kind = Partition; left = length text };
       fails = ap (λ (q : Result (ℕ × List ℕ) Early). q >>= counted text f) ok;
@@ -135,7 +147,8 @@ counted_then text pieces what place f (inl (inr h, zero)) next =
     }
 counted_then text pieces what place f (inr h) next =
     let number = h.4 in
-    let ok : number_at 10 9 text ≡ Ok (number.0, h.1) = ap (number_at 10 9) h.3 ∙ number_goes 10 9 number.0 h.0 h.1 number.1 number.3 in
+    let ok : number_at 10 9 text ≡ Ok (number.0, h.1) =
+    ap (number_at 10 9) h.3 ∙ number_goes 10 9 number.0 h.0 h.1 number.1 number.3 in
     let some : 0 < number.0 = number.2 in
     let ne : eqb number.0 0 ≡ false = ne_eqb number.0 0 (λ z. absurd (omega arith)) in
     stops_behind (number_at 10 9 text) (counted text f) (number.0, h.1) what place h.2 text h.0 h.1 ok h.3 h.6
@@ -143,7 +156,8 @@ counted_then text pieces what place f (inr h) next =
     (regroup (word_at (codes ")") h.1) _ f what h.2 h.1 (word_then (codes ")") h.1 pieces what h.2 _ h.5 (λ rest b is. next (number.0, rest) b is))))
 
 partition_then : {B : Type 0} (text : List ℕ) (pieces : List Piece) (what : ArcFaultKind) (place : ℕ) (f : ℕ × List ℕ → Result B Early) → IsFaultIn (partition_pieces pieces) what place text
-    → ((x : ℕ × List ℕ) (behind : ℕ) → IsFaultIn pieces what behind x.1 → Stops (f x) what behind x.1) → Stops (partition_at text >>= f) what place text
+    → ((x : ℕ × List ℕ) (behind : ℕ) → IsFaultIn pieces what behind x.1 → Stops (f x) what behind x.1)
+    → Stops (partition_at text >>= f) what place text
 unfolding partition_at
 partition_then text pieces what place f is next =
     regroup (word_at (codes "partition(") text) _ f what place text
@@ -157,17 +171,22 @@ other_tail : (c : ℕ) (rest : List ℕ) → (c ≡ 92 → ⊥) → directory_at
 unfolding directory_at
 other_tail c rest other = rw (ne_eqb c 92 other) refl
 
-printed_tail : (front : List ℕ) (c : ℕ) (rest : List ℕ) → list_all is_printable front ≡ true → is_printable c ≡ false → directory_at (92 ∷ (front ++ c ∷ rest)) ≡ fault_at Tail (c ∷ rest)
+printed_tail : (front : List ℕ) (c : ℕ) (rest : List ℕ) → list_all is_printable front ≡ true → is_printable c ≡ false
+    → directory_at (92 ∷ (front ++ c ∷ rest)) ≡ fault_at Tail (c ∷ rest)
 unfolding directory_at
 printed_tail front c rest all none =
     let stop : prefix_len is_printable (c ∷ rest) ≡ 0 = rw none refl in
-    let n : prefix_len is_printable (front ++ c ∷ rest) ≡ length front = prefix_whole is_printable front (c ∷ rest) all ∙ rw stop (omega arith) in
-    let within : ltb (length front) (length (front ++ c ∷ rest)) ≡ true = lt-ltb _ _ (omega (arith, length-append front (c ∷ rest))) in
+    let n : prefix_len is_printable (front ++ c ∷ rest) ≡ length front =
+    prefix_whole is_printable front (c ∷ rest) all ∙ rw stop (omega arith) in
+    let within : ltb (length front) (length (front ++ c ∷ rest)) ≡ true =
+    lt-ltb _ _ (omega (arith, length-append front (c ∷ rest))) in
     rw (n, within, drop_at front (c ∷ rest) (length front) refl) refl
 
-tail_stops : {B : Type 0} (text : List ℕ) (what : ArcFaultKind) (place : ℕ) (f : List ℕ → Result B Early) → IsFaultIn [] what place text → Stops (directory_at text >>= f) what place text
+tail_stops : {B : Type 0} (text : List ℕ) (what : ArcFaultKind) (place : ℕ) (f : List ℕ → Result B Early)
+    → IsFaultIn [] what place text → Stops (directory_at text >>= f) what place text
 tail_stops text what place f (is, inl h) =
-    let fails : directory_at text ≡ fault_at Tail text = ap directory_at h.3 ∙ other_tail h.1 h.2 h.4 ∙ ap (fault_at Tail) (sym h.3) in
+    let fails : directory_at text ≡ fault_at Tail text =
+    ap directory_at h.3 ∙ other_tail h.1 h.2 h.4 ∙ ap (fault_at Tail) (sym h.3) in
     subst (λ (k : ArcFaultKind). Stops (directory_at text >>= f) k place text) (sym is) (stops_here (directory_at text) f Tail place text fails h.0)
 tail_stops text what place f (is, inr h) =
     let fails : directory_at text ≡ fault_at Tail (h.1 ∷ h.2) = ap directory_at h.3 ∙ printed_tail h.0 h.1 h.2 h.4 h.5 in
@@ -190,8 +209,10 @@ kind_fails : (text : List ℕ) → ((k : ArcKind) → BeginsNot (word_of k) text
 unfolding kind_at
 kind_fails text none = rw (begins_no (codes "multi(") text (none Multi), begins_no (codes "scsi(") text (none Scsi), begins_no (codes "signature(") text (none Signature)) refl
 
-kind_then : {B : Type 0} (text : List ℕ) (what : ArcFaultKind) (place : ℕ) (f : ArcKind × List ℕ → Result B Early) → IsFaultAt what place text
-    → ((x : ArcKind × List ℕ) (behind : ℕ) → IsFaultIn (pieces_of x.0) what behind x.1 → Stops (f x) what behind x.1) → Stops (kind_at text >>= f) what place text
+kind_then : {B : Type 0} (text : List ℕ) (what : ArcFaultKind) (place : ℕ) (f : ArcKind × List ℕ → Result B Early)
+    → IsFaultAt what place text
+    → ((x : ArcKind × List ℕ) (behind : ℕ) → IsFaultIn (pieces_of x.0) what behind x.1 → Stops (f x) what behind x.1)
+    → Stops (kind_at text >>= f) what place text
 kind_then text what place f (inl h) next =
     subst (λ (k : ArcFaultKind). Stops (kind_at text >>= f) k place text) (sym h.0) (stops_here (kind_at text) f Kind place text (kind_fails text h.1) h.2)
 kind_then text what place f (inr h) next =
