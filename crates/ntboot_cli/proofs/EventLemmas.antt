@@ -41,7 +41,8 @@ pub off_event : (choice : Option ℕ → Choice) (machine : MachineState) (m : R
     (λ s. said_by (off_act s m)) machine.start not_built
 off_event choice machine m e is accepted =
     let P : Event → Type 0 = λ x. refusal_of machine (event_in x) ≡ None in
-    ap (λ (x : Event). said_by (accepted_act choice machine.start (event_in x) m)) is ∙ off_running choice m machine.start (subst P is accepted)
+    ap (λ (x : Event). said_by (accepted_act choice machine.start (event_in x) m)) is
+    ∙ off_running choice m machine.start (subst P is accepted)
 
 -- ---- the events in order
 
@@ -126,7 +127,13 @@ pub turn_stops : {A B : Type 0} {whole : Said} {x : A} {first : B → Said} {sto
 turn_stops {B = B} {first = first} {stop = stop} {mid = mid} {new = new} choice waiting e m some is a b stopped =
     let more : List book.Event = map event_in (take (length waiting - 1) (drop 1 waiting)) in
     let rest : Plays (said_from choice (event_in e ∷ more) m) first (Err stop) mid new =
-    record { keeps = b.keeps; unasked = b.unasked; counts = b.counts; unread = b.unread; said = λ tells. event-front choice (event_in e) more m mid.said new.said (b.said tells) } in
+    record {
+      keeps = b.keeps;
+      unasked = b.unasked;
+      counts = b.counts;
+      unread = b.unread;
+      said = λ tells. event-front choice (event_in e) more m mid.said new.said (b.said tells);
+    } in
     all_stop (plays_then (one_more choice waiting e m some is a) rest) stopped
 
 -- ---- the end of the script
@@ -150,7 +157,10 @@ script_ends {whole = whole} {old = old} {new = new} choice waiting m none a b =
       counts = all.counts;
       unread = tt;
       said = λ tells.
-          (let both = all_said whole old.said new.said m (all.said tells) in record { ends = subst (λ (s : Option RunState). IsSome s) (sym both.0) refl; said = both.1 });
+          (let both = all_said whole old.said new.said m (all.said tells) in record {
+            ends = subst (λ (s : Option RunState). IsSome s) (sym both.0) refl;
+            said = both.1;
+          });
     }
 
 pub close_stops : {A B : Type 0} {whole : Said} {x : A} {rest : B → Said} {stop : HostStop}
@@ -169,7 +179,8 @@ pub script_begins : {A : Type 0} {x : A} (choice : Option ℕ → Choice) (es : 
     (Ok x) state state
 unfolding report_of
 script_begins choice es placed machine starts state is none =
-    plays_none state (ap (λ (m : MachineState). said_from choice es (state_at placed m starts)) is ∙ ap (λ (n : ℕ). said_from choice es (state_at placed off_machine n)) none)
+    plays_none state (ap (λ (m : MachineState). said_from choice es (state_at placed m starts)) is ∙ ap
+    (λ (n : ℕ). said_from choice es (state_at placed off_machine n)) none)
 
 pub off_quiet : (live : Tree) (machine : MachineState) → machine ≡ off_machine → RunsQuietly live machine.start
 off_quiet live machine is = subst (λ (m : MachineState). RunsQuietly live m.start) (sym is) tt
@@ -185,7 +196,8 @@ pub built_parts : (waiting : List Event) (e : Event) → 1 ≤ length waiting �
     → (is_built (event_in e) ≡ true) ×
     (list_all is_built (map event_in (take (length waiting - 1) (drop 1 waiting))) ≡ true)
 built_parts waiting e some is all =
-    first_built (is_built (event_in e)) _ (subst (λ (es : List Event). list_all is_built (map event_in es) ≡ true) (uncons waiting e some is) all)
+    first_built (is_built (event_in e)) _
+    (subst (λ (es : List Event). list_all is_built (map event_in es) ≡ true) (uncons waiting e some is) all)
 
 pub starts_parts : (waiting : List Event) (e : Event) → 1 ≤ length waiting → e ≡ get_or waiting 0 e
     → starts_in waiting ≡ starts (Some e) + starts_in (take (length waiting - 1) (drop 1 waiting))

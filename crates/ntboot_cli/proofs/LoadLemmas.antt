@@ -21,7 +21,8 @@ by_itself base (Ok bins) found e =
     let q : clean ≡ found = cc in
     sym (ap (λ (r : Recovered). r.dirty) q)
 
-no_log : (image : Image) (opened : Option Base) (found : Recovered) → log_in image 0 ≡ None → by_log image opened ≡ Ok found → ⊥
+no_log : (image : Image) (opened : Option Base) (found : Recovered) → log_in image 0 ≡ None → by_log image opened
+    ≡ Ok found → ⊥
 no_log image opened found none e =
     let block : Option Content → Result Base HiveFault = λ o.
     and_then (bytes_or (fault_at LogAbsent 0) (fault_at LogUnreadable 0) o) (λ bytes. as_log_base (base_of bytes 1)) in
@@ -29,7 +30,8 @@ no_log image opened found none e =
     let absent : P None = subst P none e in
     cc
 
-by_opened : (image : Image) (opened : Option Base) (found : Recovered) → log_in image 0 ≡ None → by_base image opened ≡ Ok found
+by_opened : (image : Image) (opened : Option Base) (found : Recovered) → log_in image 0 ≡ None → by_base image opened
+    ≡ Ok found
     → found.dirty ≡ false
 by_opened image None found none e = absurd (no_log image None found none e)
 by_opened image (Some base) found none e = by_case (base.first == base.second) e
@@ -51,6 +53,11 @@ clean_alone file found e = by_first (image_of file []) (base_in (image_of file [
 
 pub held_loads : (file : List ℕ) (found : Recovered) (r : Result Loaded ReadStop)
     → recovered_of (image_of file []) ≡ Ok found → HoldsAs found r → LoadsFile (image_of file []) r
-held_loads file found (Ok l) is holds = record { recovered = found; read = is; was_dirty = sym (clean_alone file found is); holds = holds }
+held_loads file found (Ok l) is holds = record {
+  recovered = found;
+  read = is;
+  was_dirty = sym (clean_alone file found is);
+  holds = holds;
+}
 held_loads file found (Err (stops.Fault f)) is holds = inr (found, is, holds)
 held_loads file found (Err stops.Memory) is holds = tt

@@ -18,7 +18,12 @@ keeps_all state = record { tells = refl; quiet = λ q. q; files = λ tells. refl
 
 pub keeps_then : (old mid new : HostState) → Keeps old mid → Keeps mid new → Keeps old new
 keeps_then old mid new k l =
-    record { tells = l.tells ∙ k.tells; quiet = λ q. l.quiet (k.quiet q); files = λ tells. l.files (k.tells ∙ tells) ∙ k.files tells }
+    record {
+      tells = l.tells ∙ k.tells;
+      quiet = λ q. l.quiet (k.quiet q);
+      files = λ tells. l.files (k.tells ∙ tells)
+          ∙ k.files tells;
+    }
 
 -- no fault before, and what came then
 pub counts_then : {A : Type 0} (r : Result A HostStop) (old mid new : HostState)

@@ -61,7 +61,10 @@ quiet_act (run.ask disk next) m e =
 quiet_act (run.wake disk next) m e =
     let rest : SaysQuietly (next (quiet_wake disk)) m = quiet_act (next (quiet_wake disk)) m e in
     record { lines = rest.lines; state = rest.state }
-quiet_act (run.mark note act) m e = (let rest : SaysQuietly act m = quiet_act act m e in record { lines = rest.lines; state = rest.state })
+quiet_act (run.mark note act) m e = (let rest : SaysQuietly act m = quiet_act act m e in record {
+  lines = rest.lines;
+  state = rest.state;
+})
 
 -- ---- a script that comes to nothing unbuilt
 
@@ -77,7 +80,8 @@ closing_lines m = by_start m.machine.start
 quiet_next : (choice : Option ℕ → Choice) (es : List Event) (act : Act) (first : Option RunState) (m : RunState)
     → (said_by act).state ≡ first
     → (then_said (said_by act) (said_from choice es) first).state ≡ Some m
-    → ((n k : RunState) → (said_from choice es n).state ≡ Some k → (said_from choice es n).lines ≡ (quiet_from choice es n).lines)
+    → ((n k : RunState) → (said_from choice es n).state ≡ Some k → (said_from choice es n).lines ≡
+    (quiet_from choice es n).lines)
     → (then_said (said_by act) (said_from choice es) first).lines ≡ (quiet_play act).lines ++
     (quiet_from choice es (quiet_play act).state).lines
 quiet_next choice es act None m is e more = (let z : Some m ≡ None = sym e ∙ is in absurd cc)
@@ -201,7 +205,9 @@ ends_unbuilt inputs placed status o mid n unread undone all refused =
     let report : Said = run_report inputs placed in
     let is = ap (λ (s : Option RunState). played_to s report.lines) all.ends in
     record {
-      report = subst (λ (a : Answer). Ends a status o n) (sym is) (both_said (codes "not built\n") status (stop_in status) o mid n (text_of report.lines) all.said unread refused);
+      report = subst (λ (a : Answer). Ends a status o n) (sym is)
+          (both_said (codes "not built\n") status (stop_in status) o mid n
+          (text_of report.lines) all.said unread refused);
       quiet = λ e. absurd (undone e);
     }
 
@@ -225,7 +231,12 @@ ends_stop inputs placed Memory o n unread f =
 pub leaves_whole : (inputs : Inputs) (placed : HiveState) (old new : HostState)
     → PlaysAll (run_report inputs placed) (Ok Goes) old new → Leaves (EndsRun inputs placed) statuses.Done old new
 leaves_whole inputs placed old new a =
-    record { keeps = a.keeps; counts = a.counts; said = λ tells. ends_whole inputs placed old.said new.said (a.said tells) }
+    record {
+      keeps = a.keeps;
+      counts = a.counts;
+      said = λ tells. ends_whole inputs placed old.said new.said
+          (a.said tells);
+    }
 
 pub counts_by : (stop : Option HostStop) (old mid new : HostState) → Keeps old mid → KeepsCounts old mid
     → CountsBy stop mid new → CountsBy stop old new
@@ -254,7 +265,11 @@ stop_counts Memory old new c = c
 pub leaves_stop : (inputs : Inputs) (placed : HiveState) (stop : HostStop) (old new : HostState)
     → PlaysAll (run_report inputs placed) (Err stop) old new → Leaves (EndsRun inputs placed) (stopped_as stop) old new
 leaves_stop inputs placed stop old new a =
-    record { keeps = a.keeps; counts = stop_counts stop old new a.counts; said = λ tells. ends_stop inputs placed stop old.said new.said a.unread (a.said tells) }
+    record {
+      keeps = a.keeps;
+      counts = stop_counts stop old new a.counts;
+      said = λ tells. ends_stop inputs placed stop old.said new.said a.unread (a.said tells);
+    }
 
 pub kept_unread : (status : Status) → IsRefusedAs refusals.NotBuilt status → stop_in status ≡ Some Read → ⊥
 kept_unread status (inl is) e = (let z : None ≡ Some Read = sym (ap stop_in is) ∙ e in absurd cc)

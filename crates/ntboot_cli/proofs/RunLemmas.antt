@@ -93,16 +93,19 @@ unsaved s e = by_good (is_done s.phase)
 pub phase-step : (n : ℕ) (m : RunState) (s : Start) → m.machine.start ≡ Some s → is_done s.phase ≡ false
     → is_at_end m.machine.start ≡ true → s.logged_on ≡ false
     → said_by (go_steps (suc n) m) ≡ behind (map UnmetLine (unmet_in s))
-    (behind (phase_line (after_phase (live_set m s.number) s).phase ∷ []) (said_by (go_steps n (with_machine (with_start (after_phase (live_set m s.number) s) m.machine) m))))
+    (behind (phase_line (after_phase (live_set m s.number) s).phase ∷ [])
+    (said_by (go_steps n (with_machine (with_start (after_phase (live_set m s.number) s) m.machine) m))))
 phase-step n m s is more ends quiet =
     let after : Start = after_phase (live_set m s.number) s in
     let there : RunState = with_machine (with_start after m.machine) m in
     let unsaid : save_where_due (Some after) there (go_steps n) ≡ go_steps n there = rw (unsaved after quiet) refl in
     ap said_by
-    (under_way n m s is more ∙ ap (starter_step s m (go_steps n)) (none_next m.machine s (good_is_usable m.live) is ends))
+    (under_way n m s is more ∙ ap (starter_step s m (go_steps n))
+    (none_next m.machine s (good_is_usable m.live) is ends))
     ∙ said_all (unmet_in s) _
     ∙ ap (behind (map UnmetLine (unmet_in s))) (by_phase after.phase (save_where_due (Some after) there (go_steps n)))
-    ∙ ap (λ (act : Act). behind (map UnmetLine (unmet_in s)) (behind (phase_line after.phase ∷ []) (said_by act))) unsaid
+    ∙ ap (λ (act : Act). behind (map UnmetLine (unmet_in s))
+    (behind (phase_line after.phase ∷ []) (said_by act))) unsaid
   where
     by_phase : (p : Phase) (act : Act) → said_by (say (phase_line p) act) ≡ behind (phase_line p ∷ []) (said_by act)
     by_phase Boot act = refl
@@ -131,14 +134,20 @@ pub event-goes : (choice : Option ℕ → Choice) (e : Event) (es : List Event) 
 event-goes choice e es m next o n x =
     record {
       lines = x.lines;
-      begins = ap (λ (first : Said). then_said first (said_from choice es) first.state) x.begins ∙ ap (λ (ls : List Line). behind ls (said_from choice es next)) (append-nil x.lines);
+      begins = ap (λ (first : Said). then_said first (said_from choice es) first.state) x.begins ∙ ap
+          (λ (ls : List Line). behind ls (said_from choice es next)) (append-nil x.lines);
       said = x.said;
     }
 
 pub event-unbuilt : (choice : Option ℕ → Choice) (e : Event) (es : List Event) (m : RunState) (o n : List ℕ)
     → Says (said_by (event_step_of choice e m)) o n not_built → Says (said_from choice (e ∷ es) m) o n not_built
 event-unbuilt choice e es m o n x =
-    record { lines = x.lines; begins = ap (λ (first : Said). then_said first (said_from choice es) first.state) x.begins; said = x.said }
+    record {
+      lines = x.lines;
+      begins = ap
+          (λ (first : Said). then_said first (said_from choice es) first.state) x.begins;
+      said = x.said;
+    }
 
 pub event-front : (choice : Option ℕ → Choice) (e : Event) (es : List Event) (m : RunState) (o n : List ℕ)
     → SaysFront o n (text_of (said_by (event_step_of choice e m)).lines)
@@ -158,13 +167,19 @@ event-front choice e es m o n f = by_state (said_by (event_step_of choice e m)).
 
 pub all_said : (report : Said) (o n : List ℕ) (m : RunState) → Says report o n (said_by (run.done m))
     → (report.state ≡ Some m) × (n ≡ o ++ text_of report.lines)
-all_said report o n m x =
-    (ap (λ (r : Said). r.state) x.begins, x.said ∙ ap (λ (ls : List Line). o ++ text_of ls) (sym (ap (λ (r : Said). r.lines) x.begins ∙ append-nil x.lines)))
+all_said report o n m x = (
+  ap (λ (r : Said). r.state) x.begins,
+  x.said ∙ ap (λ (ls : List Line). o ++ text_of ls)
+      (sym (ap (λ (r : Said). r.lines) x.begins ∙ append-nil x.lines)),
+)
 
 pub unbuilt_said : (report : Said) (o n : List ℕ) → Says report o n not_built
     → (report.state ≡ None) × (n ≡ o ++ text_of report.lines)
-unbuilt_said report o n x =
-    (ap (λ (r : Said). r.state) x.begins, x.said ∙ ap (λ (ls : List Line). o ++ text_of ls) (sym (ap (λ (r : Said). r.lines) x.begins ∙ append-nil x.lines)))
+unbuilt_said report o n x = (
+  ap (λ (r : Said). r.state) x.begins,
+  x.said ∙ ap (λ (ls : List Line). o ++ text_of ls)
+      (sym (ap (λ (r : Said). r.lines) x.begins ∙ append-nil x.lines)),
+)
 
 -- ---- the end of the script
 
@@ -221,7 +236,8 @@ off_as placed machine starts v ends = by_start machine.start ends
         → said_by (end_with (ending_of s) false (state_at placed machine starts)) ≡ said_by
         (end_with v (falls_back v) (state_at placed machine starts))
     same s e =
-        ap (λ (b : Bool). said_by (end_with (ending_of s) b (state_at placed machine starts))) (sym (ending_stays (is_good s) s.saved))
+        ap (λ (b : Bool). said_by (end_with (ending_of s) b (state_at placed machine starts)))
+        (sym (ending_stays (is_good s) s.saved))
         ∙ ap (λ (w : Verdict). said_by (end_with w (falls_back w) (state_at placed machine starts))) (sym e)
 
     by_start : (o : Option Start) → Some v ≡ option_map ending_of o

@@ -21,14 +21,19 @@ pub nothing : (r : Said) (x : List ℕ) → Says r x x r
 nothing r x = record { lines = []; begins = refl; said = sym (append-nil x) }
 
 pub one_line : (l : Line) (r : Said) (o n : List ℕ) → n ≡ o ++ line_text l → Says (behind (l ∷ []) r) o n r
-one_line l r o n e = record { lines = l ∷ []; begins = refl; said = e ∙ ap (λ (t : List ℕ). o ++ t) (sym (append-nil (line_text l))) }
+one_line l r o n e = record {
+  lines = l ∷ [];
+  begins = refl;
+  said = e ∙ ap (λ (t : List ℕ). o ++ t) (sym (append-nil (line_text l)));
+}
 
 pub then : (a b c : Said) (o m n : List ℕ) → Says a o m b → Says b m n c → Says a o n c
 then a b c o m n x y =
     record {
       lines = x.lines ++ y.lines;
       begins = x.begins ∙ ap (behind x.lines) y.begins ∙ sym (behind-append x.lines y.lines c);
-      said = y.said ∙ ap (λ (t : List ℕ). t ++ text_of y.lines) x.said ∙ append_assoc o (text_of x.lines) (text_of y.lines) ∙ ap (λ (t : List ℕ). o ++ t) (sym (text_of-append x.lines y.lines));
+      said = y.said ∙ ap (λ (t : List ℕ). t ++ text_of y.lines) x.said ∙ append_assoc o (text_of x.lines)
+          (text_of y.lines) ∙ ap (λ (t : List ℕ). o ++ t) (sym (text_of-append x.lines y.lines));
     }
 
 -- ---- a front of it
@@ -37,7 +42,12 @@ pub no_front : (t old new : List ℕ) → new ≡ old → SaysFront old new t
 no_front t old new same = record { front = []; rest = t; cut = refl; said = same ∙ sym (append-nil old) }
 
 pub longer_front : (t u old new : List ℕ) → SaysFront old new t → SaysFront old new (t ++ u)
-longer_front t u old new f = record { front = f.front; rest = f.rest ++ u; cut = ap (λ (x : List ℕ). x ++ u) f.cut ∙ append_assoc f.front f.rest u; said = f.said }
+longer_front t u old new f = record {
+  front = f.front;
+  rest = f.rest ++ u;
+  cut = ap (λ (x : List ℕ). x ++ u) f.cut ∙ append_assoc f.front f.rest u;
+  said = f.said;
+}
 
 pub later_front : (t u old mid new : List ℕ) → mid ≡ old ++ t → SaysFront mid new u → SaysFront old new (t ++ u)
 later_front t u old mid new first f =
@@ -54,7 +64,8 @@ then_front a b o m n x f =
     record {
       front = text_of x.lines ++ f.front;
       rest = f.rest;
-      cut = ap (λ (r : Said). text_of r.lines) x.begins ∙ text_of-append x.lines b.lines ∙ ap (λ (t : List ℕ). text_of x.lines ++ t) f.cut ∙ sym (append_assoc (text_of x.lines) f.front f.rest);
+      cut = ap (λ (r : Said). text_of r.lines) x.begins ∙ text_of-append x.lines b.lines ∙ ap
+          (λ (t : List ℕ). text_of x.lines ++ t) f.cut ∙ sym (append_assoc (text_of x.lines) f.front f.rest);
       said = f.said ∙ ap (λ (t : List ℕ). t ++ f.front) x.said ∙ append_assoc o (text_of x.lines) f.front;
     }
 

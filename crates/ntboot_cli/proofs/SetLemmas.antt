@@ -39,7 +39,8 @@ usable_where t n true e =
     (leb-true n 999 (right_of (nat_le 1 n) (nat_le n 999) e))
 usable_where t n false e =
     let outside : 1 ≤ n → n ≤ 999 → ⊥ = λ low high.
-    (let within : (nat_le 1 n && nat_le n 999) ≡ true = rw (le-leb 1 n low, le-leb n 999 high) refl in true≢false (sym within ∙ e)) in
+    (let within : (nat_le 1 n && nat_le n 999) ≡ true = rw (le-leb 1 n low, le-leb n 999 high) refl in true≢false
+    (sym within ∙ e)) in
     has_none-outside (is_usable t) n outside ∙ sym (ap (λ (b : Bool). b && is_some (set_of t n)) e)
 
 pub has_usable : (t : Tree) (n : ℕ) → has_number (usable_numbers_of t) n ≡ is_usable t n
@@ -84,8 +85,10 @@ taken-good : (on_good : Bool) (m : RunState) → is_usable m.live (taken_number 
     → ((select_numbers_of m.live).good == taken_number (select_numbers_of m.live) on_good) ≡ true
     → said_by (take_set on_good m) ≡ behind
     (SetLine (taken_number (select_numbers_of m.live) on_good) on_good ∷ []) not_built
-taken-good true m e same = (let old = select_numbers_of m.live in rw (has_usable m.live old.good, e, same) (guarded true m old (usable_numbers_of m.live) (free_number_of (usable_numbers_of m.live))))
-taken-good false m e same = (let old = select_numbers_of m.live in rw (has_usable m.live old.default, e, same) (guarded false m old (usable_numbers_of m.live) (free_number_of (usable_numbers_of m.live))))
+taken-good true m e same = (let old = select_numbers_of m.live in rw (has_usable m.live old.good, e, same)
+    (guarded true m old (usable_numbers_of m.live) (free_number_of (usable_numbers_of m.live))))
+taken-good false m e same = (let old = select_numbers_of m.live in rw (has_usable m.live old.default, e, same)
+    (guarded false m old (usable_numbers_of m.live) (free_number_of (usable_numbers_of m.live))))
 
 -- Current is another number than Default
 some_step : (xs : List Step) (y : Step) (ys : List Step) → (s : Step) × (ss : List Step) × (xs ++ y ∷ ys ≡ s ∷ ss)
@@ -128,12 +131,14 @@ without_steps : (plan : SetPlan) (m : RunState) → plan.steps ≡ []
     → said_by (begin_by false m (changed_by plan (stepped m.version m.live plan.steps))) ≡ behind
     (set_line false m ∷ []) (said_by (begin_start plan.chosen false plan.numbers m))
 without_steps plan m none =
-    ap (λ (r : Result Tree Refusal). said_by (begin_by false m (changed_by plan r))) (ap (stepped m.version m.live) none)
+    ap (λ (r : Result Tree Refusal). said_by (begin_by false m (changed_by plan r)))
+    (ap (stepped m.version m.live) none)
     ∙ by_steps (not (length plan.steps == 0)) (ap (λ (x : List Step). not (length x == 0)) none)
   where
     by_steps : (b : Bool) → b ≡ false
         → behind (set_line false m ∷ [])
-        (said_by (begin_with false (record { chosen = plan.chosen; numbers = plan.numbers; has_steps = b; tree = m.live }) m))
+        (said_by (begin_with false
+        (record { chosen = plan.chosen; numbers = plan.numbers; has_steps = b; tree = m.live }) m))
         ≡ behind (set_line false m ∷ []) (said_by (begin_start plan.chosen false plan.numbers m))
     by_steps true e = absurd (true≢false e)
     by_steps false e = refl
@@ -146,11 +151,16 @@ taken-same : (m : RunState) → is_usable m.live (select_numbers_of m.live).defa
 taken-same m e good current =
     let old = select_numbers_of m.live in
     let usable = usable_numbers_of m.live in
-    let same : begun old false ≡ old = λ i. record
-    { current = sym (eqb-true old.current old.default current) i; default = old.default; failed = old.failed; good = old.good } in
+    let same : begun old false ≡ old = λ i. record {
+      current = sym (eqb-true old.current old.default current) i;
+      default = old.default;
+      failed = old.failed;
+      good = old.good;
+    } in
     let P : SelectNumbers → Type 0 = λ new.
     said_by
-    (begin_by false m (changed_by (plan_with old.default usable old new []) (stepped m.version m.live (plan_with old.default usable old new []).steps)))
+    (begin_by false m (changed_by (plan_with old.default usable old new [])
+    (stepped m.version m.live (plan_with old.default usable old new []).steps)))
     ≡ behind (SetLine old.default false ∷ []) (said_by (begin_start old.default false old m)) in
     let begins : P (begun old false) = subst P (sym same)
     (without_steps (plan_with old.default usable old old []) m (no_steps old.default usable old)) in

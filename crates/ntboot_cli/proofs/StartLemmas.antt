@@ -35,11 +35,15 @@ pub begun_as : (placed : HiveState) (machine new : MachineState) (starts number 
     → new ≡ with_start (begun_with set number false) machine
     → said_by (run.done (state_at placed new starts))
     ≡ said_by
-    (run.done (with_machine (with_start (begun_with (live_set (state_at placed machine starts) number) number false) machine) (state_at placed machine starts)))
+    (run.done (with_machine (with_start
+    (begun_with (live_set (state_at placed machine starts) number) number false) machine)
+    (state_at placed machine starts)))
 begun_as placed machine new starts number set there is =
     let m : RunState = state_at placed machine starts in
     ap (λ (x : MachineState). said_by (run.done (state_at placed x starts))) is
-    ∙ sym (ap (λ (s : Tree). said_by (run.done (state_at placed (with_start (begun_with s number false) machine) starts))) (live_there m set number there))
+    ∙ sym (ap (λ (s : Tree). said_by
+    (run.done (state_at placed (with_start (begun_with s number false) machine) starts)))
+    (live_there m set number there))
 
 pub few_in : (set : Tree) (phase : Phase) (tried : List (List ℕ)) → HoldsKeys set
     → length (plan_of set phase tried) < 2 ^ 32
@@ -49,6 +53,9 @@ pub begin_quiet : (live set : Tree) (number : ℕ) (machine new : MachineState) 
     → usable_set live number ≡ Some set → new ≡ with_start (begun_with set number false) machine
     → RunsQuietly live new.start
 begin_quiet live set number machine new held there is =
-    let quiet : IsQuiet live (begun_with set number false) = record
-    { logged_off = refl; on_set = usable_by_set live set number there; few = few_in set Boot [] held } in
+    let quiet : IsQuiet live (begun_with set number false) = record {
+      logged_off = refl;
+      on_set = usable_by_set live set number there;
+      few = few_in set Boot [] held;
+    } in
     subst (λ (m : MachineState). RunsQuietly live m.start) (sym is) quiet

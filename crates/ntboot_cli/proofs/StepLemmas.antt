@@ -79,7 +79,8 @@ quiet_at live m s usable place (Some entry) one h is e =
     let q : made ≡ one = cc in
     let fewer = length-remove s.waiting place (slice_get_within s.waiting place entry is) in
     let few : length (remove s.waiting place) < 2 ^ 32 = omega (arith, fewer, h.few) in
-    subst (λ (x : MachineState × Tried). RunsQuietly live x.0.start) q (record { logged_off = h.logged_off; on_set = h.on_set; few = few })
+    subst (λ (x : MachineState × Tried). RunsQuietly live x.0.start) q
+    (record { logged_off = h.logged_off; on_set = h.on_set; few = few })
 
 quiet_in : (live : Tree) (m : MachineState) (s : Start) (usable : Bool) (place : Option ℕ) (one : MachineState × Tried)
     → IsQuiet live s
@@ -112,7 +113,8 @@ phase_said set m new l on is e = by_start m.start refl on
     by_start (Some s) at on =
         let now : new.start ≡ Some (after_phase set s) = ap (λ (x : MachineState). x.start) is
         ∙ ap (option_map (after_phase set)) at in
-        ap (λ (k : Line). k ∷ []) (sym (e ∙ ap (λ (o : Option Start). phase_line (option_map_or (λ t. t.phase) o Done)) now))
+        ap (λ (k : Line). k ∷ [])
+        (sym (e ∙ ap (λ (o : Option Start). phase_line (option_map_or (λ t. t.phase) o Done)) now))
 
 -- the step as a whole
 pub change_said : (n : ℕ) (placed : HiveState) (m new : MachineState) (starts : ℕ) (s : Start) (set : Tree)
@@ -120,23 +122,30 @@ pub change_said : (n : ℕ) (placed : HiveState) (m new : MachineState) (starts 
     → usable_set placed.tree s.number ≡ Some set → new ≡ on_start (after_phase set) m
     → said_by (go_steps (suc n) (state_at placed m starts))
     ≡ behind (map UnmetLine (option_map_or unmet_in m.start []))
-    (behind (option_map_or (λ s. phase_line (phase_after s.phase) ∷ []) m.start []) (said_by (go_steps n (state_at placed new starts))))
+    (behind (option_map_or (λ s. phase_line (phase_after s.phase) ∷ []) m.start [])
+    (said_by (go_steps n (state_at placed new starts))))
 change_said n placed m new starts s set at more ends off there is =
     let here : RunState = state_at placed m starts in
     let now : new ≡ with_start (after_phase set s) m = is
     ∙ ap (λ (o : Option Start). record m { start = option_map (after_phase set) o }) at in
     let live : live_set here s.number ≡ set = live_there here set s.number there in
     phase-step n here s at more ends off
-    ∙ ap (λ (t : Tree). behind (map UnmetLine (unmet_in s)) (behind (phase_line (phase_after s.phase) ∷ []) (said_by (go_steps n (with_machine (with_start (after_phase t s) m) here))))) live
-    ∙ ap (λ (x : MachineState). behind (map UnmetLine (unmet_in s)) (behind (phase_line (phase_after s.phase) ∷ []) (said_by (go_steps n (state_at placed x starts))))) (sym now)
-    ∙ ap (λ (o : Option Start). behind (map UnmetLine (option_map_or unmet_in o [])) (behind (option_map_or (λ s. phase_line (phase_after s.phase) ∷ []) o []) (said_by (go_steps n (state_at placed new starts))))) (sym at)
+    ∙ ap (λ (t : Tree). behind (map UnmetLine (unmet_in s))
+    (behind (phase_line (phase_after s.phase) ∷ [])
+    (said_by (go_steps n (with_machine (with_start (after_phase t s) m) here))))) live
+    ∙ ap (λ (x : MachineState). behind (map UnmetLine (unmet_in s))
+    (behind (phase_line (phase_after s.phase) ∷ []) (said_by (go_steps n (state_at placed x starts))))) (sym now)
+    ∙ ap (λ (o : Option Start). behind (map UnmetLine (option_map_or unmet_in o []))
+    (behind (option_map_or (λ s. phase_line (phase_after s.phase) ∷ []) o [])
+    (said_by (go_steps n (state_at placed new starts))))) (sym at)
 
 pub change_quiet : (live set : Tree) (m new : MachineState) (s : Start) → HoldsKeys set → m.start ≡ Some s
     → IsQuiet live s → new ≡ on_start (after_phase set) m → RunsQuietly live new.start
 change_quiet live set m new s held at h is =
     let now : new.start ≡ Some (after_phase set s) = ap (λ (x : MachineState). x.start) is
     ∙ ap (option_map (after_phase set)) at in
-    subst (λ (o : Option Start). RunsQuietly live o) (sym now) (record { logged_off = h.logged_off; on_set = h.on_set; few = few_in set (phase_after s.phase) s.tried held })
+    subst (λ (o : Option Start). RunsQuietly live o) (sym now)
+    (record { logged_off = h.logged_off; on_set = h.on_set; few = few_in set (phase_after s.phase) s.tried held })
 
 -- ---- a start that is under way
 
@@ -165,7 +174,8 @@ pub change_of : (n : ℕ) (placed : HiveState) (m new : MachineState) (starts : 
     → option_map (λ s. usable_set placed.tree s.number) m.start ≡ Some (Some set) → new ≡ on_start (after_phase set) m
     → said_by (go_steps (suc n) (state_at placed m starts))
     ≡ behind (map UnmetLine (option_map_or unmet_in m.start []))
-    (behind (option_map_or (λ s. phase_line (phase_after s.phase) ∷ []) m.start []) (said_by (go_steps n (state_at placed new starts))))
+    (behind (option_map_or (λ s. phase_line (phase_after s.phase) ∷ []) m.start [])
+    (said_by (go_steps n (state_at placed new starts))))
 change_of n placed m new starts set under_way ends quiet there is = by_start m.start refl under_way quiet there
   where
     not_done : (b : Bool) → not b ≡ true → b ≡ false
@@ -179,7 +189,8 @@ change_of n placed m new starts set under_way ends quiet there is = by_start m.s
         → option_map (λ s. usable_set placed.tree s.number) o ≡ Some (Some set)
         → said_by (go_steps (suc n) (state_at placed m starts))
         ≡ behind (map UnmetLine (option_map_or unmet_in m.start []))
-        (behind (option_map_or (λ s. phase_line (phase_after s.phase) ∷ []) m.start []) (said_by (go_steps n (state_at placed new starts))))
+        (behind (option_map_or (λ s. phase_line (phase_after s.phase) ∷ []) m.start [])
+        (said_by (go_steps n (state_at placed new starts))))
     by_start None at u q t = absurd (false≢true u)
     by_start (Some s) at u q t =
         change_said n placed m new starts s set at (not_done (is_done s.phase) u) ends q.logged_off

@@ -25,7 +25,8 @@ Number m on_good = taken_number (select_numbers_of m.live) on_good
 pub first_line : (on_good : Bool) (m : RunState) (set : Tree)
     → usable_set m.live (taken_number (select_numbers_of m.live) on_good) ≡ Some set
     → (rest : Said) ×
-    (said_by (take_set on_good m) ≡ behind (SetLine (taken_number (select_numbers_of m.live) on_good) on_good ∷ []) rest)
+    (said_by (take_set on_good m) ≡ behind
+    (SetLine (taken_number (select_numbers_of m.live) on_good) on_good ∷ []) rest)
 first_line on_good m set there = by_change (changes_sets (select_numbers_of m.live) on_good) refl
   where
     by_change : (b : Bool) → changes_sets (select_numbers_of m.live) on_good ≡ b
@@ -39,7 +40,8 @@ pub begins_as : (m : RunState) (k : ℕ) (numbers : SelectNumbers) (on_good : Bo
     → said_by (begin_start (taken_number (select_numbers_of m.live) on_good) false (select_numbers_of m.live) m)
     ≡ said_by (begin_start k false numbers m)
 begins_as m k numbers on_good is same =
-    sym (ap (λ (x : ℕ). said_by (begin_start x false numbers m)) is ∙ ap (λ (x : SelectNumbers). said_by (begin_start (Number m on_good) false x m)) same)
+    sym (ap (λ (x : ℕ). said_by (begin_start x false numbers m)) is ∙ ap
+    (λ (x : SelectNumbers). said_by (begin_start (Number m on_good) false x m)) same)
 
 -- the number names no set
 missing_stays : (on_good : Bool) → falls_back (missing on_good) ≡ false
@@ -75,7 +77,8 @@ boot_as choice wanted last_known_good placed machine after starts due on_good ch
     ∙ ap (λ (b : Bool). b || last_known_good) is_due in
     ap (behind (StartLine (starts + 1) ∷ []))
     (ap (λ (b : Bool). said_by (run.chosen b m (choice wanted))) (sym good)
-    ∙ ap (λ (x : MachineState). said_by (run.chosen on_good (state_at placed x (starts + 1)) (choice wanted))) (sym is_after)
+    ∙ ap (λ (x : MachineState). said_by (run.chosen on_good (state_at placed x (starts + 1)) (choice wanted)))
+    (sym is_after)
     ∙ ap (λ (c : Choice). said_by (run.chosen on_good (state_at placed after (starts + 1)) c)) (sym is_chosen))
 
 -- ---- what boot.ini has for the start

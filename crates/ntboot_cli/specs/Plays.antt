@@ -95,9 +95,9 @@ abbrev pub stands : {A : Type 0} → Loaded → Session → A → Said
 stands l s x = said_by (done (run_at l s))
 
 -- what is left of an event that went on, or came to what isn't built
-abbrev pub left_by : Loaded → Session → Progress → Said
-left_by l s Goes = said_by (done (run_at l s))
-left_by l s NotBuilt = not_built
+abbrev pub left : Loaded → Session → Progress → Said
+left l s Goes = said_by (done (run_at l s))
+left l s NotBuilt = not_built
 
 -- ---- the parts of a script
 
@@ -106,8 +106,8 @@ abbrev pub ending : Verdict → Loaded → Session → Said
 ending verdict l s = said_by (end_with verdict (falls_back verdict) (run_at l s))
 
 -- so many steps of the starter, and all that `go` asks for
-abbrev pub steps_part : ℕ → Loaded → Session → Said
-steps_part n l s = said_by (go_steps n (run_at l s))
+abbrev pub steps : ℕ → Loaded → Session → Said
+steps n l s = said_by (go_steps n (run_at l s))
 
 abbrev pub go_part : Option ℕ → Loaded → Session → Said
 go_part asked l s = said_by (go_act asked (run_at l s))
@@ -127,8 +127,8 @@ take_part on_good l s = said_by (take_set on_good (run_at l s))
 abbrev pub loaded_part : Bool → Loaded → Session → Said
 loaded_part on_good l s = said_by (loaded on_good (run_at l s) (woken_clean (state_in l)) Finished)
 
-abbrev pub chosen_part : Bool → Inputs → Chosen → Loaded → Session → Said
-chosen_part on_good inputs c l s = said_by (chosen on_good (run_at l s) (choice_in inputs.ini c))
+abbrev pub chosen_in : Bool → Inputs → Chosen → Loaded → Session → Said
+chosen_in on_good inputs c l s = said_by (chosen on_good (run_at l s) (choice_in inputs.ini c))
 
 abbrev pub boot_part : Inputs → Option ℕ → Bool → Loaded → Session → Said
 boot_part inputs wanted on_good l s = said_by (boot_act (choices inputs) wanted on_good (run_at l s))

@@ -8,7 +8,7 @@ ghost use Rattle.boot_machine.specs.Steps.{is_there};
 ghost use Rattle.ntboot_cli.specs.Built.{Said, behind};
 ghost use Rattle.ntboot_cli.specs.Choices.{entry_line, is_on_good};
 ghost use Rattle.select_keys.specs.Sets.{usable_set};
-ghost use Rattle.ntboot_cli.specs.Plays.{Plays, stands, left_by, begin_part, take_part, loaded_part, chosen_part, boot_part, RunsQuietly};
+ghost use Rattle.ntboot_cli.specs.Plays.{Plays, stands, left, begin_part, take_part, loaded_part, chosen_in, boot_part, RunsQuietly};
 
 use crate::inputs::Inputs;
 use crate::load::Loaded;
@@ -83,7 +83,7 @@ fn begin_on<H: Host>(
     requires numbers { numbers ≡ select_numbers_of loaded.now.tree }
     requires set { usable_set loaded.now.tree (taken_number numbers on_good) ≡ Some set.now }
     requires off { is_there session.old.machine.start ≡ false }
-    ensures plays { Plays (take_part on_good loaded.now session.old) (left_by loaded.now session.new) result (H.state host.old) (H.state host.new) }
+    ensures plays { Plays (take_part on_good loaded.now session.old) (left loaded.now session.new) result (H.state host.old) (H.state host.new) }
     ensures quiet { OnOk result (RunsQuietly loaded.now.tree session.new.machine.start) }
     ensures starts { session.new.starts ≡ session.old.starts }
 {
@@ -110,7 +110,7 @@ fn take_set<H: Host>(
 ) -> Result<Progress, HostStop>
     requires held { HoldsKeys loaded.now.tree }
     requires off { is_there session.old.machine.start ≡ false }
-    ensures plays { Plays (take_part on_good loaded.now session.old) (left_by loaded.now session.new) result (H.state host.old) (H.state host.new) }
+    ensures plays { Plays (take_part on_good loaded.now session.old) (left loaded.now session.new) result (H.state host.old) (H.state host.new) }
     ensures quiet { OnOk result (RunsQuietly loaded.now.tree session.new.machine.start) }
     ensures starts { session.new.starts ≡ session.old.starts }
 {
@@ -134,7 +134,7 @@ fn start_loaded<H: Host>(
 ) -> Result<Progress, HostStop>
     requires held { HoldsKeys loaded.now.tree }
     requires off { is_there session.old.machine.start ≡ false }
-    ensures plays { Plays (loaded_part on_good loaded.now session.old) (left_by loaded.now session.new) result (H.state host.old) (H.state host.new) }
+    ensures plays { Plays (loaded_part on_good loaded.now session.old) (left loaded.now session.new) result (H.state host.old) (H.state host.new) }
     ensures quiet { OnOk result (RunsQuietly loaded.now.tree session.new.machine.start) }
     ensures starts { session.new.starts ≡ session.old.starts }
 {
@@ -159,7 +159,7 @@ fn start_chosen<H: Host>(
     requires held { HoldsKeys loaded.now.tree }
     requires there { IsThere inputs.now.ini.entries chosen }
     requires off { is_there session.old.machine.start ≡ false }
-    ensures plays { Plays (chosen_part good inputs.now chosen loaded.now session.old) (left_by loaded.now session.new) result (H.state host.old) (H.state host.new) }
+    ensures plays { Plays (chosen_in good inputs.now chosen loaded.now session.old) (left loaded.now session.new) result (H.state host.old) (H.state host.new) }
     ensures quiet { OnOk result (RunsQuietly loaded.now.tree session.new.machine.start) }
     ensures starts { session.new.starts ≡ session.old.starts }
 {
@@ -215,7 +215,7 @@ pub(crate) fn boot<H: Host>(
     requires held { HoldsKeys loaded.now.tree }
     requires off { is_there session.old.machine.start ≡ false }
     requires few { session.old.starts < 64 }
-    ensures plays { Plays (boot_part inputs.now wanted good loaded.now session.old) (left_by loaded.now session.new) result (H.state host.old) (H.state host.new) }
+    ensures plays { Plays (boot_part inputs.now wanted good loaded.now session.old) (left loaded.now session.new) result (H.state host.old) (H.state host.new) }
     ensures quiet { OnOk result (RunsQuietly loaded.now.tree session.new.machine.start) }
     ensures starts { OnOk result (session.new.starts ≡ session.old.starts + 1) }
 {

@@ -4,9 +4,9 @@ ghost use Rattle.std.specs.Prelude.{◌≡◌, ◌++◌, ◌∷◌, [], ℕ, Boo
 ghost use Rattle.hive_model.specs.State.{HiveState};
 ghost use Rattle.hive_model.specs.Tree.{Tree};
 ghost use Rattle.start_model.specs.Events.{Event as BookEvent};
-ghost use Rattle.start_model.specs.Lines.{Line as BookLine, SetLine};
+ghost use Rattle.start_model.specs.Lines.{Line as BookLine};
 ghost use Rattle.start_model.specs.Sets.{select_numbers_of, taken_number};
-ghost use Rattle.start_model.specs.Run.{Choice, RunState, begin_start, take_set, quiet_run_of};
+ghost use Rattle.start_model.specs.Run.{Choice, RunState, set_line, begin_start, take_set, quiet_run_of};
 ghost use Rattle.ntboot_cli.specs.Built.{said_by, behind, not_built, woken_clean, report_of};
 ghost use Rattle.select_keys.specs.Sets.{usable_set};
 ghost use Rattle.ntboot_cli.specs.Sets.{changes_sets};
@@ -23,8 +23,8 @@ pub fn a_beginning_is_built_where_it_changes_no_set()
     ensures built { (on_good : Bool) (m : RunState) (set : Tree) → usable_set m.live (taken_number (select_numbers_of m.live) on_good) ≡ Some set
         → changes_sets (select_numbers_of m.live) on_good ≡ false
         → said_by (take_set on_good m)
-        ≡ behind (SetLine (taken_number (select_numbers_of m.live) on_good) on_good ∷ []) (said_by (begin_start (taken_number (select_numbers_of m.live) on_good) false (select_numbers_of m.live) m)) }
+        ≡ behind (set_line on_good m ∷ []) (said_by (begin_start (taken_number (select_numbers_of m.live) on_good) false (select_numbers_of m.live) m)) }
     ensures unbuilt { (on_good : Bool) (m : RunState) (set : Tree) → usable_set m.live (taken_number (select_numbers_of m.live) on_good) ≡ Some set
         → changes_sets (select_numbers_of m.live) on_good ≡ true
-        → said_by (take_set on_good m) ≡ behind (SetLine (taken_number (select_numbers_of m.live) on_good) on_good ∷ []) not_built }
+        → said_by (take_set on_good m) ≡ behind (set_line on_good m ∷ []) not_built }
 {}

@@ -14,7 +14,7 @@ ghost use Rattle.ntboot_cli.specs.Built.{is_built, closed};
 ghost use Rattle.ntboot_cli.specs.Leaves.{Leaves};
 ghost use Rattle.ntboot_cli.specs.Loading.{state_in};
 ghost use Rattle.ntboot_cli.specs.Scripts.{IsPlayable};
-ghost use Rattle.ntboot_cli.specs.Plays.{Plays, PlaysAll, run_at, stands, left_by, accepted, turned, off_part, RunsQuietly};
+ghost use Rattle.ntboot_cli.specs.Plays.{Plays, PlaysAll, run_at, stands, left, accepted, turned, off_part, RunsQuietly};
 
 use crate::booting::boot;
 use crate::inputs::Inputs;
@@ -71,7 +71,7 @@ fn act<H: Host>(
     requires accepted { refusal_of session.old.machine (event_in event.now) ≡ None }
     requires few { session.old.starts + starts (Some event.now) ≤ 64 }
     requires quiet { RunsQuietly loaded.now.tree session.old.machine.start }
-    ensures plays { Plays (accepted inputs.now loaded.now session.old event.now) (left_by loaded.now session.new) result (H.state host.old) (H.state host.new) }
+    ensures plays { Plays (accepted inputs.now loaded.now session.old event.now) (left loaded.now session.new) result (H.state host.old) (H.state host.new) }
     ensures quiet { OnOk result (RunsQuietly loaded.now.tree session.new.machine.start) }
     ensures starts { OnOk result (session.new.starts ≤ session.old.starts + starts (Some event.now)) }
 {
@@ -109,7 +109,7 @@ fn turn<H: Host>(
     requires built { is_built (event_in event.now) ≡ true }
     requires few { session.old.starts + starts (Some event.now) ≤ 64 }
     requires quiet { RunsQuietly loaded.now.tree session.old.machine.start }
-    ensures plays { Plays (turned inputs.now loaded.now session.old event.now) (left_by loaded.now session.new) result (H.state host.old) (H.state host.new) }
+    ensures plays { Plays (turned inputs.now loaded.now session.old event.now) (left loaded.now session.new) result (H.state host.old) (H.state host.new) }
     ensures quiet { OnOk result (RunsQuietly loaded.now.tree session.new.machine.start) }
     ensures starts { OnOk result (session.new.starts ≤ session.old.starts + starts (Some event.now)) }
 {

@@ -9,7 +9,7 @@ ghost use Rattle.start_model.specs.Run.{good_is_usable};
 ghost use Rattle.boot_machine.specs.Steps.{is_there, on_start, is_at_end};
 ghost use Rattle.ntboot_cli.specs.Built.{Said, behind};
 ghost use Rattle.select_keys.specs.Sets.{usable_set};
-ghost use Rattle.ntboot_cli.specs.Plays.{Plays, stands, phase_part, steps_part, go_part, RunsQuietly, is_under_way};
+ghost use Rattle.ntboot_cli.specs.Plays.{Plays, stands, phase_part, steps, go_part, RunsQuietly, is_under_way};
 
 use crate::load::Loaded;
 use crate::report_words::{phase_word, try_word, verdict_after};
@@ -74,7 +74,7 @@ fn attempt<H: Host>(
     requires held { HoldsKeys loaded.now.tree }
     requires under_way { is_under_way session.old.machine.start ≡ true }
     requires quiet { RunsQuietly loaded.now.tree session.old.machine.start }
-    ensures plays { (n : ℕ) → Plays (steps_part (suc n) loaded.now session.old) (λ _. steps_part n loaded.now session.new) result (H.state host.old) (H.state host.new) }
+    ensures plays { (n : ℕ) → Plays (steps (suc n) loaded.now session.old) (λ _. steps n loaded.now session.new) result (H.state host.old) (H.state host.new) }
     ensures quiet { OnOk result (RunsQuietly loaded.now.tree session.new.machine.start) }
     ensures starts { session.new.starts ≡ session.old.starts }
 {
@@ -129,7 +129,7 @@ fn step<H: Host>(
     requires usable { usable ≡ good_is_usable loaded.now.tree }
     requires held { HoldsKeys loaded.now.tree }
     requires quiet { RunsQuietly loaded.now.tree session.old.machine.start }
-    ensures plays { (n : ℕ) → Plays (steps_part (suc n) loaded.now session.old) (λ _. steps_part n loaded.now session.new) result (H.state host.old) (H.state host.new) }
+    ensures plays { (n : ℕ) → Plays (steps (suc n) loaded.now session.old) (λ _. steps n loaded.now session.new) result (H.state host.old) (H.state host.new) }
     ensures over { IfOk result (λ more. more ≡ false → is_under_way session.new.machine.start ≡ false) }
     ensures quiet { OnOk result (RunsQuietly loaded.now.tree session.new.machine.start) }
     ensures starts { session.new.starts ≡ session.old.starts }
@@ -158,7 +158,7 @@ fn take_steps<H: Host>(
     requires usable { usable ≡ good_is_usable loaded.now.tree }
     requires held { HoldsKeys loaded.now.tree }
     requires quiet { RunsQuietly loaded.now.tree session.old.machine.start }
-    ensures plays { Plays (steps_part most loaded.now session.old) (stands loaded.now session.new) result (H.state host.old) (H.state host.new) }
+    ensures plays { Plays (steps most loaded.now session.old) (stands loaded.now session.new) result (H.state host.old) (H.state host.new) }
     ensures quiet { OnOk result (RunsQuietly loaded.now.tree session.new.machine.start) }
     ensures starts { session.new.starts ≡ session.old.starts }
 {

@@ -18,9 +18,11 @@ returns-in_err-say-clause-plays g c =
     let m = run_at c.args.loaded.now c.args.session.now in
     let is = c.taken_number-number.ensures ∙ ap (λ (n : SelectNumbers). taken_number n on_good) c.requires.numbers in
     let there = subst
-    (λ (n : SelectNumbers). usable_set tree (taken_number n on_good) ≡ Some c.args.set.now) c.requires.numbers c.requires.set in
+    (λ (n : SelectNumbers). usable_set tree (taken_number n on_good)
+    ≡ Some c.args.set.now) c.requires.numbers c.requires.set in
     let first = first_line on_good m c.args.set.now there in
-    plays_stop (plays_as first.1 (plays_line (ap (λ (k : ℕ). SetLine k on_good) is) (c.in_err-say.ensures.plays first.0))) c.from_residual.ensures.1
+    plays_stop (plays_as first.1
+    (plays_line (ap (λ (k : ℕ). SetLine k on_good) is) (c.in_err-say.ensures.plays first.0))) c.from_residual.ensures.1
 
 pub returns-then-changes_sets-clause-plays : goal.returns-then-changes_sets-clause-plays
 returns-then-changes_sets-clause-plays g c =
@@ -29,12 +31,14 @@ returns-then-changes_sets-clause-plays g c =
     let m = run_at c.args.loaded.now c.args.session.now in
     let is = c.taken_number-number.ensures ∙ ap (λ (n : SelectNumbers). taken_number n on_good) c.requires.numbers in
     let there = subst
-    (λ (n : SelectNumbers). usable_set tree (taken_number n on_good) ≡ Some c.args.set.now) c.requires.numbers c.requires.set in
+    (λ (n : SelectNumbers). usable_set tree (taken_number n on_good)
+    ≡ Some c.args.set.now) c.requires.numbers c.requires.set in
     let changes : changes_sets (select_numbers_of tree) on_good ≡ true = ap
     (λ (n : SelectNumbers). changes_sets n on_good) (sym c.requires.numbers)
     ∙ sym c.changes_sets.ensures ∙ c.if-changes_sets.true in
     plays_to refl
-    (plays_as (taken-changes on_good m c.args.set.now there changes) (plays_line (ap (λ (k : ℕ). SetLine k on_good) is) (c.in_ok-say.ensures.plays not_built)))
+    (plays_as (taken-changes on_good m c.args.set.now there changes)
+    (plays_line (ap (λ (k : ℕ). SetLine k on_good) is) (c.in_ok-say.ensures.plays not_built)))
 
 pub returns-in_err-begin_start-clause-plays : goal.returns-in_err-begin_start-clause-plays
 returns-in_err-begin_start-clause-plays g c =
@@ -43,7 +47,8 @@ returns-in_err-begin_start-clause-plays g c =
     let m = run_at c.args.loaded.now c.args.session.now in
     let is = c.taken_number-number.ensures ∙ ap (λ (n : SelectNumbers). taken_number n on_good) c.requires.numbers in
     let there = subst
-    (λ (n : SelectNumbers). usable_set tree (taken_number n on_good) ≡ Some c.args.set.now) c.requires.numbers c.requires.set in
+    (λ (n : SelectNumbers). usable_set tree (taken_number n on_good)
+    ≡ Some c.args.set.now) c.requires.numbers c.requires.set in
     let changes : changes_sets (select_numbers_of tree) on_good ≡ false = ap
     (λ (n : SelectNumbers). changes_sets n on_good) (sym c.requires.numbers)
     ∙ sym c.changes_sets.ensures ∙ c.if-changes_sets.false in
@@ -52,7 +57,8 @@ returns-in_err-begin_start-clause-plays g c =
     let begins = begins_as m c.taken_number-number.result c.args.numbers on_good is c.requires.numbers in
     plays_stop
     (plays_as (taken-keeps on_good m c.args.set.now there changes)
-    (plays_then (plays_line (ap (λ (k : ℕ). SetLine k on_good) is) (c.in_ok-say.ensures.plays begun)) (plays_as begins c.in_err-begin_start.ensures.plays)))
+    (plays_then (plays_line (ap (λ (k : ℕ). SetLine k on_good) is) (c.in_ok-say.ensures.plays begun))
+    (plays_as begins c.in_err-begin_start.ensures.plays)))
     c.from_residual-in_err-begin_start.ensures.1
 
 pub returns-clause-plays : goal.returns-clause-plays
@@ -62,7 +68,8 @@ returns-clause-plays g c =
     let m = run_at c.args.loaded.now c.args.session.now in
     let is = c.taken_number-number.ensures ∙ ap (λ (n : SelectNumbers). taken_number n on_good) c.requires.numbers in
     let there = subst
-    (λ (n : SelectNumbers). usable_set tree (taken_number n on_good) ≡ Some c.args.set.now) c.requires.numbers c.requires.set in
+    (λ (n : SelectNumbers). usable_set tree (taken_number n on_good)
+    ≡ Some c.args.set.now) c.requires.numbers c.requires.set in
     let changes : changes_sets (select_numbers_of tree) on_good ≡ false = ap
     (λ (n : SelectNumbers). changes_sets n on_good) (sym c.requires.numbers)
     ∙ sym c.changes_sets.ensures ∙ c.if-changes_sets.false in
@@ -71,4 +78,5 @@ returns-clause-plays g c =
     let begins = begins_as m c.taken_number-number.result c.args.numbers on_good is c.requires.numbers in
     plays_to refl
     (plays_as (taken-keeps on_good m c.args.set.now there changes)
-    (plays_then (plays_line (ap (λ (k : ℕ). SetLine k on_good) is) (c.in_ok-say.ensures.plays begun)) (plays_as begins c.in_ok-begin_start.ensures.plays)))
+    (plays_then (plays_line (ap (λ (k : ℕ). SetLine k on_good) is) (c.in_ok-say.ensures.plays begun))
+    (plays_as begins c.in_ok-begin_start.ensures.plays)))

@@ -33,4 +33,5 @@ returns-clause-plays g c =
 pub returns-clause-quiet : goal.returns-clause-quiet
 returns-clause-quiet g c =
     ok_holds c.say-2.result
-    (begin_quiet c.args.loaded.now.tree c.args.set.now c.args.number c.args.session.now.machine c.begin.new.self c.requires.keys c.requires.set c.in-Ok.ensures.ok)
+    (begin_quiet c.args.loaded.now.tree c.args.set.now c.args.number c.args.session.now.machine c.begin.new.self
+    c.requires.keys c.requires.set c.in-Ok.ensures.ok)

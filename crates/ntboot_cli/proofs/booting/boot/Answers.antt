@@ -19,7 +19,8 @@ returns-in_err-say-clause-plays g c =
     let part = boot_as choice c.args.wanted c.args.good placed machine cleared starts machine.fallback_due good
     (choice c.args.wanted) refl refl refl refl in
     plays_stop
-    (plays_as part (c.in_err-say.ensures.plays (said_by (run.chosen good (state_at placed cleared (starts + 1)) (choice c.args.wanted)))))
+    (plays_as part (c.in_err-say.ensures.plays
+    (said_by (run.chosen good (state_at placed cleared (starts + 1)) (choice c.args.wanted)))))
     c.from_residual.ensures.1
 
 pub returns-clause-plays : goal.returns-clause-plays
@@ -36,7 +37,8 @@ returns-clause-plays g c =
     c.take_fallback.ensures.due c.take_fallback.ensures.taken c.either-on_good.ensures
     (ap (choice_in ini) c.in-Ok.ensures.choice) in
     plays_as part
-    (plays_then (c.in_ok-say.ensures.plays (said_by (run.chosen good (state_at placed after (starts + 1)) chosen))) c.start_chosen.ensures.plays)
+    (plays_then (c.in_ok-say.ensures.plays
+    (said_by (run.chosen good (state_at placed after (starts + 1)) chosen))) c.start_chosen.ensures.plays)
 
 pub returns-in_default-clause-plays : goal.returns-in_default-clause-plays
 returns-in_default-clause-plays g c =

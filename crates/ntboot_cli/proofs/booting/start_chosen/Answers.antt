@@ -40,7 +40,8 @@ returns-in_err-end_with-in-OtherLoader-clause-plays g c =
     (chosen.OtherLoader c.in-OtherLoader.number) c.in-OtherLoader.is in
     let ended = said_by (end_with lines.OtherLoader false m) in
     plays_stop
-    (plays_as part (plays_then (c.in_ok-say_entry-in-OtherLoader.ensures.plays ended) (c.in_err-end_with-in-OtherLoader.ensures.plays c.args.loaded.now)))
+    (plays_as part (plays_then (c.in_ok-say_entry-in-OtherLoader.ensures.plays ended)
+    (c.in_err-end_with-in-OtherLoader.ensures.plays c.args.loaded.now)))
     c.from_residual-in_err-end_with-in-OtherLoader.ensures.1
 
 pub returns-in_ok-end_with-in-OtherLoader-clause-plays : goal.returns-in_ok-end_with-in-OtherLoader-clause-plays
@@ -50,7 +51,8 @@ returns-in_ok-end_with-in-OtherLoader-clause-plays g c =
     (chosen.OtherLoader c.in-OtherLoader.number) c.in-OtherLoader.is in
     let ended = said_by (end_with lines.OtherLoader false m) in
     plays_to refl
-    (plays_as part (plays_then (c.in_ok-say_entry-in-OtherLoader.ensures.plays ended) (c.in_ok-end_with-in-OtherLoader.ensures.plays c.args.loaded.now)))
+    (plays_as part (plays_then (c.in_ok-say_entry-in-OtherLoader.ensures.plays ended)
+    (c.in_ok-end_with-in-OtherLoader.ensures.plays c.args.loaded.now)))
 
 pub returns-in_err-say_entry-in-NoSystem-clause-plays : goal.returns-in_err-say_entry-in-NoSystem-clause-plays
 returns-in_err-say_entry-in-NoSystem-clause-plays g c =
@@ -69,7 +71,8 @@ returns-in_err-end_with-in-NoSystem-clause-plays g c =
     (chosen.NoSystem c.in-NoSystem.number) c.in-NoSystem.is in
     let ended = said_by (end_with lines.NoSystem false m) in
     plays_stop
-    (plays_as part (plays_then (c.in_ok-say_entry-in-NoSystem.ensures.plays ended) (c.in_err-end_with-in-NoSystem.ensures.plays c.args.loaded.now)))
+    (plays_as part (plays_then (c.in_ok-say_entry-in-NoSystem.ensures.plays ended)
+    (c.in_err-end_with-in-NoSystem.ensures.plays c.args.loaded.now)))
     c.from_residual-in_err-end_with-in-NoSystem.ensures.1
 
 pub returns-in_ok-end_with-in-NoSystem-clause-plays : goal.returns-in_ok-end_with-in-NoSystem-clause-plays
@@ -79,7 +82,8 @@ returns-in_ok-end_with-in-NoSystem-clause-plays g c =
     (chosen.NoSystem c.in-NoSystem.number) c.in-NoSystem.is in
     let ended = said_by (end_with lines.NoSystem false m) in
     plays_to refl
-    (plays_as part (plays_then (c.in_ok-say_entry-in-NoSystem.ensures.plays ended) (c.in_ok-end_with-in-NoSystem.ensures.plays c.args.loaded.now)))
+    (plays_as part (plays_then (c.in_ok-say_entry-in-NoSystem.ensures.plays ended)
+    (c.in_ok-end_with-in-NoSystem.ensures.plays c.args.loaded.now)))
 
 pub returns-in_err-say_entry-in-Entry-clause-plays : goal.returns-in_err-say_entry-in-Entry-clause-plays
 returns-in_err-say_entry-in-Entry-clause-plays g c =

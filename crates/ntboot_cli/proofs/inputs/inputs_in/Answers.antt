@@ -34,7 +34,8 @@ returns-in_err-script-2-clause-asks g c = λ tells.
     let n = events_asked words old.files asked c.in_ok-system.system c.in_ok-script.script c.in-Some.ensures system
     found in
     let reads = subst
-    (λ (t : List ℕ). Reads (events_in (script_of t)) (Err c.in_err-script-2.field-0.0)) c.as_slice.ensures c.in_err-script-2.ensures.read in
+    (λ (t : List ℕ). Reads (events_in (script_of t))
+    (Err c.in_err-script-2.field-0.0)) c.as_slice.ensures c.in_err-script-2.ensures.read in
     reads_asks (asks_in words old.files) 1 _
     (λ es. by_events asked old.files) c.in_err-script-2.field-0.0 c.from_residual-in_err-script-2.result old.gets _
     n reads c.from_residual-in_err-script-2.ensures.1 c.file_in.ensures.asks
@@ -48,14 +49,16 @@ returns-in_err-text-clause-asks g c = λ tells.
     (λ (p : List ℕ). system_in (arc_of p) ≡ Ok c.in_ok-system.system) c.as_bytes.ensures.value c.in_ok-system.ensures in
     let found = c.in_ok-script.ensures.looks.found tells in
     let events = subst
-    (λ (t : List ℕ). events_in (script_of t) ≡ Ok c.in_ok-script-2.script) c.as_slice.ensures c.in_ok-script-2.ensures.read in
+    (λ (t : List ℕ). events_in (script_of t)
+    ≡ Ok c.in_ok-script-2.script) c.as_slice.ensures c.in_ok-script-2.ensures.read in
     let n = text_asked words old.files asked c.in_ok-system.system c.in_ok-script.script c.in_ok-script-2.script
     c.in-Some.ensures system found events in
     let first = c.in_ok-script.ensures.looks.keeps in
     let named_ini = named asked.boot_ini in
     let asks = c.in_err-text.ensures.asks ∙ ap (more named_ini) c.file_in.ensures.asks
     ∙ more_more named_ini 1 old.gets in
-    let gives = subst (λ (f : Files). Gives (text_in f asked.boot_ini) (Err c.in_err-text.field-0.0)) (first.files tells)
+    let gives = subst (λ (f : Files). Gives (text_in f asked.boot_ini) (Err c.in_err-text.field-0.0))
+    (first.files tells)
     (c.in_err-text.ensures.looks.found (first.tells ∙ tells)) in
     file_asks (asks_in words old.files) (named_ini + 1) _
     (by_text asked) c.in_err-text.field-0.0 c.from_residual-in_err-text.result old.gets _
@@ -70,7 +73,8 @@ returns-in_err-ini-clause-asks g c = λ tells.
     (λ (p : List ℕ). system_in (arc_of p) ≡ Ok c.in_ok-system.system) c.as_bytes.ensures.value c.in_ok-system.ensures in
     let found = c.in_ok-script.ensures.looks.found tells in
     let events = subst
-    (λ (t : List ℕ). events_in (script_of t) ≡ Ok c.in_ok-script-2.script) c.as_slice.ensures c.in_ok-script-2.ensures.read in
+    (λ (t : List ℕ). events_in (script_of t)
+    ≡ Ok c.in_ok-script-2.script) c.as_slice.ensures c.in_ok-script-2.ensures.read in
     let n = text_asked words old.files asked c.in_ok-system.system c.in_ok-script.script c.in_ok-script-2.script
     c.in-Some.ensures system found events in
     let first = c.in_ok-script.ensures.looks.keeps in
@@ -81,7 +85,8 @@ returns-in_err-ini-clause-asks g c = λ tells.
     (c.in_ok-text.ensures.looks.found (first.tells ∙ tells)) in
     let m = ini_asked words old.files asked c.in_ok-text.text n text in
     let reads = subst (λ (t : List ℕ). Reads (ini_in t asked.system) (Err c.in_err-ini.field-0.0)) c.as_slice-2.ensures
-    (subst (λ (p : List ℕ). Reads (ini_in c.as_slice-2.result.now p) (Err c.in_err-ini.field-0.0)) c.as_bytes-2.ensures.value c.in_err-ini.ensures) in
+    (subst (λ (p : List ℕ). Reads (ini_in c.as_slice-2.result.now p)
+    (Err c.in_err-ini.field-0.0)) c.as_bytes-2.ensures.value c.in_err-ini.ensures) in
     reads_asks (asks_in words old.files) (named_ini + 1) _
     (λ i. 1) c.in_err-ini.field-0.0 c.from_residual-in_err-ini.result old.gets _
     m reads c.from_residual-in_err-ini.ensures.1 asks
@@ -95,7 +100,8 @@ returns-in_err-hive-clause-asks g c = λ tells.
     (λ (p : List ℕ). system_in (arc_of p) ≡ Ok c.in_ok-system.system) c.as_bytes.ensures.value c.in_ok-system.ensures in
     let found = c.in_ok-script.ensures.looks.found tells in
     let events = subst
-    (λ (t : List ℕ). events_in (script_of t) ≡ Ok c.in_ok-script-2.script) c.as_slice.ensures c.in_ok-script-2.ensures.read in
+    (λ (t : List ℕ). events_in (script_of t)
+    ≡ Ok c.in_ok-script-2.script) c.as_slice.ensures c.in_ok-script-2.ensures.read in
     let n = text_asked words old.files asked c.in_ok-system.system c.in_ok-script.script c.in_ok-script-2.script
     c.in-Some.ensures system found events in
     let first = c.in_ok-script.ensures.looks.keeps in
@@ -106,7 +112,8 @@ returns-in_err-hive-clause-asks g c = λ tells.
     (c.in_ok-text.ensures.looks.found (first.tells ∙ tells)) in
     let m = ini_asked words old.files asked c.in_ok-text.text n text in
     let ini = subst (λ (t : List ℕ). ini_in t asked.system ≡ Ok c.in_ok-ini.ini) c.as_slice-2.ensures
-    (subst (λ (p : List ℕ). ini_in c.as_slice-2.result.now p ≡ Ok c.in_ok-ini.ini) c.as_bytes-2.ensures.value c.in_ok-ini.ensures) in
+    (subst (λ (p : List ℕ). ini_in c.as_slice-2.result.now p
+    ≡ Ok c.in_ok-ini.ini) c.as_bytes-2.ensures.value c.in_ok-ini.ensures) in
     let all = all_asked words old.files asked c.in_ok-text.text c.in_ok-ini.ini m ini in
     let gets = c.file_in-2.ensures.asks ∙ ap (more 1) asks ∙ more_more 1 (named_ini + 1) old.gets
     ∙ ap (λ (k : ℕ). more k old.gets) (sym all) in
@@ -122,7 +129,8 @@ returns-clause-asks g c = λ tells.
     (λ (p : List ℕ). system_in (arc_of p) ≡ Ok c.in_ok-system.system) c.as_bytes.ensures.value c.in_ok-system.ensures in
     let found = c.in_ok-script.ensures.looks.found tells in
     let events = subst
-    (λ (t : List ℕ). events_in (script_of t) ≡ Ok c.in_ok-script-2.script) c.as_slice.ensures c.in_ok-script-2.ensures.read in
+    (λ (t : List ℕ). events_in (script_of t)
+    ≡ Ok c.in_ok-script-2.script) c.as_slice.ensures c.in_ok-script-2.ensures.read in
     let n = text_asked words old.files asked c.in_ok-system.system c.in_ok-script.script c.in_ok-script-2.script
     c.in-Some.ensures system found events in
     let first = c.in_ok-script.ensures.looks.keeps in
@@ -133,7 +141,8 @@ returns-clause-asks g c = λ tells.
     (c.in_ok-text.ensures.looks.found (first.tells ∙ tells)) in
     let m = ini_asked words old.files asked c.in_ok-text.text n text in
     let ini = subst (λ (t : List ℕ). ini_in t asked.system ≡ Ok c.in_ok-ini.ini) c.as_slice-2.ensures
-    (subst (λ (p : List ℕ). ini_in c.as_slice-2.result.now p ≡ Ok c.in_ok-ini.ini) c.as_bytes-2.ensures.value c.in_ok-ini.ensures) in
+    (subst (λ (p : List ℕ). ini_in c.as_slice-2.result.now p
+    ≡ Ok c.in_ok-ini.ini) c.as_bytes-2.ensures.value c.in_ok-ini.ensures) in
     let all = all_asked words old.files asked c.in_ok-text.text c.in_ok-ini.ini m ini in
     let gets = c.file_in-2.ensures.asks ∙ ap (more 1) asks ∙ more_more 1 (named_ini + 1) old.gets
     ∙ ap (λ (k : ℕ). more k old.gets) (sym all) in

@@ -32,5 +32,6 @@ returns g c = record {
   plays = λ l.
       let m = run_at l c.args.session.now in
       let part = closed-on m (verdict_of c.ending-word.result) c.ending-word.ensures in
-      plays_as part (plays_then (c.in_ok-say.ensures.plays (behind (EndLine ∷ []) (said_by (done m)))) (c.say-3.ensures.plays (said_by (done m))));
+      plays_as part (plays_then (c.in_ok-say.ensures.plays (behind (EndLine ∷ []) (said_by (done m))))
+      (c.say-3.ensures.plays (said_by (done m))));
 }

@@ -6,7 +6,7 @@ use Rattle.ntboot_cli.specs.Built.{is_built, said_from}
 use Rattle.ntboot_cli.specs.Choices.{choices}
 use Rattle.ntboot_cli.specs.Loading.{state_in}
 use Rattle.boot_script.specs.Script.{starts_in}
-use Rattle.ntboot_cli.specs.Plays.{run_at, left_by}
+use Rattle.ntboot_cli.specs.Plays.{run_at, left}
 use Rattle.ntboot_cli.proofs.PartLemmas.{plays_on}
 use Rattle.ntboot_cli.proofs.EventLemmas.{turn_goes, turn_unbuilt, turn_stops, script_ends, close_stops, script_begins, off_quiet, built_parts, starts_parts}
 use Rattle.ntboot_cli.proofs.script.events.Goals as goal
@@ -20,10 +20,13 @@ events-init g c =
     (state_in c.args.loaded.now) session.machine session.starts
     (g.H.Host.state c.args.host.now) c.requires.off c.requires.fresh in
     record {
-      plays = plays_on (λ x. ap (λ (es : List Event). said_from (choices inputs) (map event_in es) (run_at c.args.loaded.now session)) events) begun;
+      plays = plays_on (λ x. ap
+          (λ (es : List Event). said_from (choices inputs) (map event_in es)
+          (run_at c.args.loaded.now session)) events) begun;
       quiet = off_quiet c.args.loaded.now.tree session.machine c.requires.off;
       built = ap (λ (es : List Event). list_all is_built (map event_in es)) events ∙ c.requires.playable.built;
-      few = subst (λ (es : List Event). session.starts + starts_in es ≤ 64) (sym events) (omega (arith, c.requires.fresh, c.requires.playable.few));
+      few = subst (λ (es : List Event). session.starts + starts_in es ≤ 64) (sym events)
+          (omega (arith, c.requires.fresh, c.requires.playable.few));
     }
 
 pub returns-in_err-close : goal.returns-in_err-close
@@ -63,7 +66,7 @@ returns-in-NotBuilt g c =
           turn_unbuilt (choices c.args.inputs.now) c.events.waiting.now c.event-item.result
           (run_at c.args.loaded.now c.events.session)
           c.in-len1-up.len_at_least c.event-item.is c.events.invariant.plays
-          (ap (left_by c.args.loaded.now c.turn.new.session) c.in-NotBuilt.is) c.in_ok-turn.ensures.plays;
+          (ap (left c.args.loaded.now c.turn.new.session) c.in-NotBuilt.is) c.in_ok-turn.ensures.plays;
     }
 
 pub events-preserved : goal.events-preserved
@@ -75,8 +78,9 @@ events-preserved g c =
           (run_at c.args.loaded.now c.events.session)
           (run_at c.args.loaded.now c.turn.new.session) c.in-len1-up.len_at_least c.event-item.is
           c.events.invariant.plays
-          (ap (left_by c.args.loaded.now c.turn.new.session) c.in-Goes.is) c.in_ok-turn.ensures.plays;
+          (ap (left c.args.loaded.now c.turn.new.session) c.in-Goes.is) c.in_ok-turn.ensures.plays;
       quiet = c.in_ok-turn.ensures.quiet;
-      built = (built_parts c.events.waiting.now c.event-item.result c.in-len1-up.len_at_least c.event-item.is c.events.invariant.built).1;
+      built = (built_parts c.events.waiting.now c.event-item.result
+          c.in-len1-up.len_at_least c.event-item.is c.events.invariant.built).1;
       few = omega (arith, parts, c.events.invariant.few, c.in_ok-turn.ensures.starts);
     }

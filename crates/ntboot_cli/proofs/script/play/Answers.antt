@@ -13,7 +13,8 @@ returns-in-Ok-Goes-clause-leaves g c =
     let old = g.H.Host.state c.args.host.now in
     let new = g.H.Host.state c.all_events.new.host in
     leaves_whole c.args.inputs.now placed old new
-    (subst (λ (p : Progress). PlaysAll (run_report c.args.inputs.now placed) (Ok p) old new) c.in-Ok-Goes.field-0-is c.in-Ok-Goes.ensures.plays)
+    (subst (λ (p : Progress). PlaysAll (run_report c.args.inputs.now placed)
+    (Ok p) old new) c.in-Ok-Goes.field-0-is c.in-Ok-Goes.ensures.plays)
 
 pub returns-in-Ok-NotBuilt-clause-leaves : goal.returns-in-Ok-NotBuilt-clause-leaves
 returns-in-Ok-NotBuilt-clause-leaves g c =
@@ -22,7 +23,8 @@ returns-in-Ok-NotBuilt-clause-leaves g c =
     let mid = g.H.Host.state c.all_events.new.host in
     let new = g.H.Host.state c.refuse.new.host in
     let all = subst
-    (λ (p : Progress). PlaysAll (run_report c.args.inputs.now placed) (Ok p) old mid) c.in-Ok-NotBuilt.field-0-is c.in-Ok-NotBuilt.ensures.plays in
+    (λ (p : Progress). PlaysAll (run_report c.args.inputs.now placed)
+    (Ok p) old mid) c.in-Ok-NotBuilt.field-0-is c.in-Ok-NotBuilt.ensures.plays in
     let unread = kept_unread c.refuse.result c.refuse.ensures.kept in
     leaves_unbuilt c.args.inputs.now placed c.refuse.result old mid new unread
     (kept_undone c.refuse.result c.refuse.ensures.kept) all c.refuse.ensures.leaves

@@ -25,6 +25,7 @@ returns-clause-plays g c = λ rest.
     (sym (c.as_slice.ensures ∙ c.in-Ok.ensures.unmet)) in
     let line = phase_line (option_map_or (λ s. s.phase) c.next_phase.new.self.start Done) in
     let phase = ap (λ (ls : List Line). behind ls rest)
-    (phase_said c.args.set.now c.args.session.now.machine c.next_phase.new.self line c.requires.on c.in-Ok.ensures.machine refl) in
+    (phase_said c.args.set.now c.args.session.now.machine c.next_phase.new.self line
+    c.requires.on c.in-Ok.ensures.machine refl) in
     plays_then (plays_as part (c.in_ok-say_unmet.ensures.plays next))
     (plays_as phase (plays_line (c.phase_word-word.ensures ∙ ap phase_line c.phase.ensures) (c.say.ensures.plays rest)))

@@ -9,5 +9,6 @@ pub returns-clause-plays : goal.returns-clause-plays
 returns-clause-plays g c =
     let m = run_at c.args.loaded.now c.args.session.now in
     plays_as
-    (ap said_by (most_act c.args.steps c.most_steps-most.result m c.requires.held c.requires.quiet c.most_steps-most.ensures))
+    (ap said_by (most_act c.args.steps c.most_steps-most.result m
+    c.requires.held c.requires.quiet c.most_steps-most.ensures))
     c.take_steps.ensures.plays

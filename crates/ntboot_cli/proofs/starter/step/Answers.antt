@@ -52,7 +52,8 @@ returns-clause-plays g c = λ n.
     let part = change_of n placed machine after starts set under_way at_end c.requires.quiet
     c.running_set-set.ensures.set refl in
     let same = ap
-    (λ (x : MachineState). said_by (go_steps n (state_at placed x c.change_phase.new.session.starts))) c.in_ok-change_phase.ensures.machine
+    (λ (x : MachineState). said_by
+    (go_steps n (state_at placed x c.change_phase.new.session.starts))) c.in_ok-change_phase.ensures.machine
     ∙ ap (λ (k : ℕ). said_by (go_steps n (state_at placed after k))) c.change_phase.ensures.starts in
     plays_to same
     (plays_as part (c.in_ok-change_phase.ensures.plays (said_by (go_steps n (state_at placed after starts)))))

@@ -8,7 +8,11 @@ use Rattle.ntboot_cli.proofs.StepLemmas.{no_steps}
 use Rattle.ntboot_cli.proofs.starter.take_steps.Goals as goal
 
 pub steps-init : goal.steps-init
-steps-init g c = record { plays = plays_none (g.H.Host.state c.args.host.now) refl; quiet = c.requires.quiet; starts = refl }
+steps-init g c = record {
+  plays = plays_none (g.H.Host.state c.args.host.now) refl;
+  quiet = c.requires.quiet;
+  starts = refl;
+}
 
 pub returns-in_err-step-clause-plays : goal.returns-in_err-step-clause-plays
 returns-in_err-step-clause-plays g c =
@@ -35,7 +39,8 @@ steps-preserved g c =
     let less : suc (c.steps.left - 1) ≡ c.steps.left = omega (arith, c.steps-test.true) in
     let first = ap (λ (k : ℕ). said_by (go_steps k m)) less in
     record {
-      plays = plays_to refl (plays_then (plays_on (λ x. first) c.steps.invariant.plays) (c.in_ok-step.ensures.plays (c.steps.left - 1)));
+      plays = plays_to refl (plays_then (plays_on (λ x. first) c.steps.invariant.plays)
+          (c.in_ok-step.ensures.plays (c.steps.left - 1)));
       quiet = c.in_ok-step.ensures.quiet;
       starts = c.step.ensures.starts ∙ c.steps.invariant.starts;
     }
