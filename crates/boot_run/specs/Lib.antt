@@ -3,3 +3,4 @@ pub mod Views
 pub mod Acts
 pub mod Choices
 pub mod Ends
+pub mod Agrees

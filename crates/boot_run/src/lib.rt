@@ -5,9 +5,15 @@
 //! docs/startup.md, "The order of a start" and "The script"; docs/texts.md, "The report".
 #![tactic(auto)]
 
+mod closing;
+mod committing;
+mod cutting;
+mod editing;
 mod ending;
+mod loading;
 mod paths;
 mod runner;
+mod saving;
 mod saying;
 mod steps;
 mod stop;
