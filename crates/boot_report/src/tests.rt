@@ -13,7 +13,7 @@ fn attempt(rt: &HostRuntime, name: &[u16]) -> Result<Line, Fail> {
 
 #[test]
 fn a_report_is_printed(rt: HostRuntime) -> Result<(), Fail> {
-    let cases: [(Line, &[u8]); 15] = [
+    let cases: [(Line, &[u8]); 16] = [
         (Line::Start { number: 1 }, b"start 1\n"),
         (
             Line::Entry {
@@ -95,6 +95,7 @@ fn a_report_is_printed(rt: HostRuntime) -> Result<(), Fail> {
             attempt(&rt, &[0x7e, 0x7f, 0x20, 0xe9, 0xd83d])?,
             b"try ~\\u007f \\u00e9\\ud83d ok\n",
         ),
+        (attempt(&rt, &[0x4e2d, 0xc9])?, b"try \\u4e2d\\u00c9 ok\n"),
     ];
     for (line, text) in &cases {
         assert_eq!(rt; line_bytes(rt.alloc(), line)?.as_slice(), *text);

@@ -1,5 +1,5 @@
 -- Wakes that may be, as far as they were taken.
-use Rattle.std.proofs.Common.{List, [], ◌∷◌, ◌++◌, length, take}
+use Rattle.std.proofs.Common.{List, [], ◌∷◌, length, take}
 use Rattle.hive_model.specs.Tree.{Tree}
 use Rattle.start_model.specs.Run.{Possible, Woken}
 use Rattle.start_model.specs.Fits.{ArePossible, IsPossible}

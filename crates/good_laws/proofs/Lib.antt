@@ -3,3 +3,5 @@ pub mod GoodLemmas
 pub mod KeepLemmas
 pub mod FitLemmas
 pub mod RunLemmas
+pub mod ReadyLemmas
+pub mod UnguardedLemmas

@@ -4,14 +4,13 @@ use Rattle.std.proofs.Common.{◌≡◌, ℕ, List, [], ◌∷◌, ◌++◌, Opt
 use Rattle.std.specs.Prelude.{IfSome}
 use Rattle.hive_model.specs.Tree.{Tree}
 use Rattle.hive_model.specs.State.{HiveState}
-use Rattle.start_model.specs.Machine.{Start}
 use Rattle.start_model.specs.Events.{Event}
 use Rattle.start_model.specs.Run as run
 use Rattle.start_model.specs.Run.{RunState, Possible, Act, Note, Woke, Held, Saved, Ordered, Cuts, Ended, Woken, Outcome, Choice, RunResult, event_step_of, closing_act, play, then_run, run_from, run_of, first_state}
 use Rattle.start_model.specs.Fits.{woke_in, IsGoodBehind, KeepsGood}
 use Rattle.start_laws.proofs.GoodLemmas.{woke_behind}
 use Rattle.good_laws.proofs.GoodLemmas.{push, IsFine, first_fine, fine_promised}
-use Rattle.good_laws.proofs.KeepLemmas.{DiskFine, OtherFine, Runs, KeepsGoing, HeldFine, MarkFine, Keeps, event_step_of-keeps, closing-keeps}
+use Rattle.good_laws.proofs.KeepLemmas.{DiskFine, OtherFine, KeepsGoing, HeldFine, MarkFine, Keeps, event_step_of-keeps, closing-keeps}
 use Rattle.good_laws.proofs.FitLemmas.{FitsSoFar, EachWake}
 
 abbrev Left : Type 0

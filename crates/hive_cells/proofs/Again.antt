@@ -15,19 +15,19 @@ use Rattle.hive_cells.proofs.Tools.{length_cell, length_cells, length_head, leng
 
 -- ---- one cell
 
-pub head_again : (c : Cell) (rest : List ℕ) → IsCell c → u32_in (cell_bytes c ++ rest) 0 ≡ head_number c.used (cell_size c)
+pub head_again : (c : Cell) (rest : List ℕ) → IsCell c → u32_in (cell_bytes c ++ rest) 0 ≡ head_number c.allocated (cell_size c)
 unfolding cell_bytes
 head_again c rest h =
-    let lt : head_number c.used (cell_size c) < 4294967296 = elim c.used as (λ u. head_number u (cell_size c) < 4294967296) [ true ↦ omega (arith, h.least) | false ↦ omega (arith, h.fits) ] in
-    word_again (head_number c.used (cell_size c)) (c.payload ++ rest) lt
+    let lt : head_number c.allocated (cell_size c) < 4294967296 = elim c.allocated as (λ u. head_number u (cell_size c) < 4294967296) [ true ↦ omega (arith, h.least) | false ↦ omega (arith, h.fits) ] in
+    word_again (head_number c.allocated (cell_size c)) (c.payload ++ rest) lt
 
 magnitude_again : (u : Bool) (s : ℕ) → 8 ≤ s → s < 2147483648 → magnitude (head_number u s) ≡ s
 magnitude_again true s least fits = rw (le-ltb (4294967296 - s) 2147483648 (omega arith)) (omega arith)
 magnitude_again false s least fits = rw (lt-ltb s 2147483648 fits) refl
 
-used_again : (u : Bool) (s : ℕ) → 8 ≤ s → s < 2147483648 → cond (ltb (head_number u s) 2147483648) false true ≡ u
-used_again true s least fits = rw (le-ltb (4294967296 - s) 2147483648 (omega arith)) refl
-used_again false s least fits = rw (lt-ltb s 2147483648 fits) refl
+allocated_again : (u : Bool) (s : ℕ) → 8 ≤ s → s < 2147483648 → cond (ltb (head_number u s) 2147483648) false true ≡ u
+allocated_again true s least fits = rw (le-ltb (4294967296 - s) 2147483648 (omega arith)) refl
+allocated_again false s least fits = rw (lt-ltb s 2147483648 fits) refl
 
 pub payload_again : (c : Cell) (rest : List ℕ) → slice_range (cell_bytes c ++ rest) 4 (cell_size c) ≡ c.payload
 unfolding cell_bytes
@@ -36,11 +36,11 @@ payload_again c rest = let e : 4 + length c.payload - 4 ≡ length c.payload = o
 pub size_again : (room : ℕ) (c : Cell) (rest : List ℕ) → IsCell c → cell_size c ≤ room → size_at room (cell_bytes c ++ rest) ≡ Ok (cell_size c)
 unfolding size_at
 size_again room c rest h le =
-    let m = magnitude_again c.used (cell_size c) h.least h.fits in
+    let m = magnitude_again c.allocated (cell_size c) h.least h.fits in
     rw (head_again c rest h, m, le-ltb (cell_size c) 8 h.least, eq-eqb (cell_size c % 8) 0 h.whole, le-ltb room (cell_size c) le) refl
 
 pub cell_again : (c : Cell) (rest : List ℕ) → IsCell c → cell_in (cell_size c) (cell_bytes c ++ rest) ≡ c
-cell_again c rest h = rw (head_again c rest h, used_again c.used (cell_size c) h.least h.fits, payload_again c rest) refl
+cell_again c rest h = rw (head_again c rest h, allocated_again c.allocated (cell_size c) h.least h.fits, payload_again c rest) refl
 
 -- ---- the cells of a bin
 

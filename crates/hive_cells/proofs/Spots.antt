@@ -223,7 +223,7 @@ none_between text starts at k odd =
 
 -- what is read at a cell
 pub record ReadAt (text : List ℕ) (at : ℕ) (c : Cell) : Type 0 where
-  pub head : u32_in text at ≡ head_number c.used (cell_size c)
+  pub head : u32_in text at ≡ head_number c.allocated (cell_size c)
   pub long : at + cell_size c ≤ length text
   pub payload : slice_range text (at + 4) (at + cell_size c) ≡ c.payload
 
@@ -240,16 +240,16 @@ read_at text at c t =
     moved : (text : List ℕ) (at size : ℕ) → slice_range text (at + 4) (at + size) ≡ slice_range (drop at text) 4 size
     moved text at size = let e : at + size - (at + 4) ≡ size - 4 = omega arith in rw (e, drop-drop 4 at text) refl
 
--- the head of a used cell, and of a free one
-pub used_head : (c : Cell) → IsCell c → 2147483648 ≤ head_number c.used (cell_size c) → (c.used ≡ true) × (4294967296 - head_number c.used (cell_size c) ≡ cell_size c)
-used_head c h le = by_flag c.used (cell_size c) h.fits le
+-- the head of an allocated cell, and of a free one
+pub allocated_head : (c : Cell) → IsCell c → 2147483648 ≤ head_number c.allocated (cell_size c) → (c.allocated ≡ true) × (4294967296 - head_number c.allocated (cell_size c) ≡ cell_size c)
+allocated_head c h le = by_flag c.allocated (cell_size c) h.fits le
   where
     by_flag : (u : Bool) (s : ℕ) → s < 2147483648 → 2147483648 ≤ head_number u s → (u ≡ true) × (4294967296 - head_number u s ≡ s)
     by_flag true s fits le = (refl, omega (arith, fits))
     by_flag false s fits le = absurd (omega (arith, fits, le))
 
-pub free_head : (c : Cell) → IsCell c → head_number c.used (cell_size c) < 2147483648 → (c.used ≡ false) × (head_number c.used (cell_size c) ≡ cell_size c)
-free_head c h lt = by_flag c.used (cell_size c) h.fits lt
+pub free_head : (c : Cell) → IsCell c → head_number c.allocated (cell_size c) < 2147483648 → (c.allocated ≡ false) × (head_number c.allocated (cell_size c) ≡ cell_size c)
+free_head c h lt = by_flag c.allocated (cell_size c) h.fits lt
   where
     by_flag : (u : Bool) (s : ℕ) → s < 2147483648 → head_number u s < 2147483648 → (u ≡ false) × (head_number u s ≡ s)
     by_flag true s fits lt = absurd (omega (arith, fits, lt))
@@ -260,8 +260,8 @@ free_head c h lt = by_flag c.used (cell_size c) h.fits lt
 pair_same : (x y : Bool × ℕ) → Some x ≡ Some y → x ≡ y
 pair_same x y e = cc
 
-pub some_head : (text : List ℕ) (at : ℕ) (c : Cell) (size : ℕ) (used : Bool) → There text at c → c.used ≡ used → cell_size c ≡ size → Some (used, size) ≡ option_map head_of (cell_at (bins_of text) at)
-some_head text at c size used t e k = rw (t.found, e, k) refl
+pub some_head : (text : List ℕ) (at : ℕ) (c : Cell) (size : ℕ) (allocated : Bool) → There text at c → c.allocated ≡ allocated → cell_size c ≡ size → Some (allocated, size) ≡ option_map head_of (cell_at (bins_of text) at)
+some_head text at c size allocated t e k = rw (t.found, e, k) refl
 
 pub payload_there : (text : List ℕ) (starts : List Bool) (at size : ℕ) → IsKept text starts → Some (true, size) ≡ option_map head_of (cell_at (bins_of text) at) → payload_of (cell_at (bins_of text) at) ≡ Ok (slice_range text (at + 4) (at + size))
 payload_there text starts at size k e = by_cell (cell_at (bins_of text) at) refl e
@@ -270,19 +270,19 @@ payload_there text starts at size k e = by_cell (cell_at (bins_of text) at) refl
     by_cell None was e = absurd cc
     by_cell (Some c) was e =
         let p = pair_same (true, size) (head_of c) e in
-        let used : true ≡ c.used = ap (λ (q : Bool × ℕ). q.0) p in
+        let allocated : true ≡ c.allocated = ap (λ (q : Bool × ℕ). q.0) p in
         let sized : size ≡ cell_size c = ap (λ (q : Bool × ℕ). q.1) p in
         let r = read_at text at c (there text starts at c k was) in
-        rw (← used, sized, r.payload) refl
+        rw (← allocated, sized, r.payload) refl
 
 pub payload_placed : (text : List ℕ) (starts : List Bool) (at size : ℕ) → IsKept text starts → Some (true, size) ≡ option_map head_of (cell_at (bins_of text) at) → placed at (payload_of (cell_at (bins_of text) at)) ≡ Ok (slice_range text (at + 4) (at + size))
 payload_placed text starts at size k e =
     let y : Result (List ℕ) HiveKind = Ok (slice_range text (at + 4) (at + size)) in
     ap (placed at) {y = y} (payload_there text starts at size k e)
 
-pub head_payload : (o : Option Cell) (used : Bool) (size : ℕ) → Some (used, size) ≡ option_map head_of o → used ≡ false → payload_of o ≡ Err FreeCell
-head_payload None used size e f = absurd cc
-head_payload (Some c) used size e f = rw (f_used c used size e ∙ f) refl
+pub head_payload : (o : Option Cell) (allocated : Bool) (size : ℕ) → Some (allocated, size) ≡ option_map head_of o → allocated ≡ false → payload_of o ≡ Err FreeCell
+head_payload None allocated size e f = absurd cc
+head_payload (Some c) allocated size e f = rw (its_flag c allocated size e ∙ f) refl
   where
-    f_used : (c : Cell) (used : Bool) (size : ℕ) → Some (used, size) ≡ Some (head_of c) → c.used ≡ used
-    f_used c used size e = ap (λ (q : Bool × ℕ). q.0) (sym (pair_same (used, size) (head_of c) e))
+    its_flag : (c : Cell) (allocated : Bool) (size : ℕ) → Some (allocated, size) ≡ Some (head_of c) → c.allocated ≡ allocated
+    its_flag c allocated size e = ap (λ (q : Bool × ℕ). q.0) (sym (pair_same (allocated, size) (head_of c) e))

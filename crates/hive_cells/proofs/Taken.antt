@@ -37,7 +37,7 @@ number_of n size below is small some =
     ]
 
 spelling : (size n : ℕ) (bytes : List ℕ) → 4 + length (slice_range bytes 4 size) ≡ size → head_number (cond (ltb n 2147483648) false true) size ≡ n
-    → cell_bytes (record { used = cond (ltb n 2147483648) false true; payload = slice_range bytes 4 size }) ++ drop size bytes ≡ to_le_bytes w32 n ++ (slice_range bytes 4 size ++ drop size bytes)
+    → cell_bytes (record { allocated = cond (ltb n 2147483648) false true; payload = slice_range bytes 4 size }) ++ drop size bytes ≡ to_le_bytes w32 n ++ (slice_range bytes 4 size ++ drop size bytes)
 unfolding cell_bytes
 spelling size n bytes sized number = rw (sized, number) refl
 

@@ -10,10 +10,10 @@ use Rattle.hive_model.specs.Bins.{Cell, Bin, cell_size, cells_size, bin_size, bi
 
 -- is the cell allocated, and its size
 abbrev pub head_of : Cell → Bool × ℕ
-head_of c = (c.used, cell_size c)
+head_of c = (c.allocated, cell_size c)
 
 abbrev pub cell_in : ℕ → List ℕ → Cell
-cell_in size bytes = record { used = if nat_lt (u32_in bytes 0) 2147483648 then false else true; payload = slice_range bytes 4 size }
+cell_in size bytes = record { allocated = if nat_lt (u32_in bytes 0) 2147483648 then false else true; payload = slice_range bytes 4 size }
 
 -- the cells that fill the room at the front of bytes, or the first that fails; fuel is at least the room
 unfoldable pub cells_in : ℕ → ℕ → ℕ → List ℕ → Result (List Cell) HiveFault

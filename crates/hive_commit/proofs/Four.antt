@@ -1,22 +1,22 @@
 -- What a cut in each stage of a commit leaves.
-use Rattle.std.proofs.Common.{◌≡◌, ◌⊎◌, ◌<◌, ◌+◌, ◌*◌, ◌/◌, ◌^◌, ℕ, Bool, true, false, List, length, get_or, Some, refl, sym, ◌∙◌, ap, subst, arith, inl, inr, ⊎_elim}
+use Rattle.std.proofs.Common.{◌≡◌, ◌⊎◌, ◌<◌, ◌+◌, ◌*◌, ◌/◌, ◌^◌, ℕ, Bool, true, false, List, length, Some, Ok, refl, sym, ◌∙◌, ap, subst, arith, inl, inr, ⊎_elim}
 use Rattle.std.proofs.lemmas.Bool.{ne_eqb}
-use Rattle.nt_bytes.specs.declared.fault.HiveKind.TheVariants.{NotRegf}
-use Rattle.hive_model.specs.Base.{Base, IsBase, base_of, base_text, is_bins_size, fault_at}
-use Rattle.hive_model.specs.Image.{Address, Image, Bytes, IsCrashImage}
-use Rattle.hive_model.specs.Recovery.{primary_in, sector, bit, and_then, bytes_or}
+use Rattle.hive_model.specs.Base.{Base, IsBase, base_of, base_text, is_bins_size}
+use Rattle.hive_model.specs.Image.{Address, Image, Bytes, Unreadable, IsCrashImage, IsLeftBy}
+use Rattle.hive_model.specs.Recovery.{primary_in, sector, bit, and_then, base_at}
 use Rattle.hive_model.specs.Carries.{HasBase, HasBins, HasLog, Carries, IsRecoveredAs}
-use Rattle.hive_model.specs.Log.{log_of}
+use Rattle.hive_model.specs.Log.{dirty, log_of}
 use Rattle.hive_model.proofs.BaseLemmas.{base_back, IsChecked, base_in_checked}
 use Rattle.nt_edge.specs.Disk.{DiskState}
 use Rattle.nt_edge.specs.Crash.{AgreeOutside}
-use Rattle.hive_log.proofs.Appending.{sized, all_on}
+use Rattle.hive_log.proofs.Appending.{sized}
+use Rattle.hive_log.proofs.Same.{off_same}
 use Rattle.hive_log.proofs.Finding.{carries_recovered}
 use Rattle.hive_log.proofs.Opened.{IsOpened, IsCommitOf, opened_recovered}
 use Rattle.hive_commit.specs.Cuts.{IsChange}
 use Rattle.hive_commit.specs.Stages.{in_log, is_base, is_marked, BlockIsBeforeOr, HasMarked, opened_of, closed_of, IsBeforeOrAfter}
 use Rattle.hive_commit.specs.Fitting.{NumbersFit, TextsFit}
-use Rattle.hive_log.specs.Places.{bin_at, log_at, primary_at}
+use Rattle.hive_model.specs.Asked.{bin_at, log_at, primary_at}
 use Rattle.hive_commit.proofs.Growth.{unmarked_at}
 
 -- what is held may be left
@@ -32,7 +32,7 @@ no_base i = ne_eqb (8 + i) 0 (λ e. absurd (omega arith))
 
 -- a base block in the same sector
 pub same_block : (before after : Image) (base : Base) → primary_in after 0 ≡ primary_in before 0 → HasBase before base → HasBase after base
-same_block before after base same has = ap (λ c. and_then (bytes_or (fault_at NotRegf 0) c) (λ block. base_of block 0)) same ∙ has
+same_block before after base same has = ap base_at same ∙ has
 
 -- facts on an image that hold of one that agrees with it
 module _ (p : Address → Bool) (before after : Image) (agree : AgreeOutside p before after) where
@@ -50,11 +50,11 @@ module _ (p : Address → Bool) (before after : Image) (agree : AgreeOutside p b
 
 -- a base block that was written
 pub written_base : (image : Image) (base : Base) → IsBase base → base.kind ≡ 0 → primary_in image 0 ≡ Some (Bytes (base_text base)) → HasBase image base
-written_base image base fits kind there = ap (λ c. and_then (bytes_or (fault_at NotRegf 0) c) (λ block. base_of block 0)) there ∙ ap (base_of (base_text base)) (sym kind) ∙ base_back base fits
+written_base image base fits kind there = ap base_at there ∙ ap (λ r. and_then r (λ (b : Base). Ok (Some b))) (ap (base_of (base_text base)) (sym kind) ∙ base_back base fits)
 
 -- whole sectors
 whole_data : (image : Image) (base : Base) (bins : List ℕ) → Carries image base bins → 512 * (length bins / 512) ≡ length bins
-whole_data image base bins is = omega (arith, (sized base.size (base_in_checked (primary_in image) base is.block).size_is).pages, is.size)
+whole_data image base bins is = omega (arith, (sized base.size (base_in_checked image base is.block).size_is).pages, is.size)
 
 -- stage 1
 pub in_log_stage : (before cut : Image) (base : Base) (old : List ℕ) → Carries before base old → AgreeOutside in_log before cut → IsRecoveredAs cut base old
@@ -142,9 +142,9 @@ module _ (base : Base) (old new : List ℕ) (root : ℕ) (bits : ℕ → Bool) (
       is1 : Carries h1 base old
       is1 = carries_along in_log h0 h1 agree1 base old refl (λ i. refl) is0
 
-      opened_is : (c : Image) → AgreeOutside is_base h1 c → primary_in c 0 ≡ Some (Bytes (base_text opened)) → IsOpened c opened closed bits new
-      opened_is c agree block = record {
-        block = written_base c opened opened_fits a.kind block;
+      opened_is : (c : Image) → AgreeOutside is_base h1 c → IsLeftBy (primary_at 0, base_text opened) (primary_in c 0) → IsOpened c opened closed bits new
+      opened_is c agree left = record {
+        block = ⊎_elim (λ there. inl (written_base c opened opened_fits a.kind there)) (λ torn. inr torn) left;
         logged = log_along is_base h1 c agree (log_of bits new closed) (λ n. refl) logged;
         unmarked = λ i small off. let old_one = a.same i small off in agree (bin_at i) (no_base i) ∙ is1.bins_there i old_one.0 ∙ ap (λ b. Some (Bytes b)) (sym old_one.1);
       }
@@ -158,16 +158,16 @@ module _ (base : Base) (old new : List ℕ) (root : ℕ) (bits : ℕ → Bool) (
             size = is1.size;
             bins_there = bins_along is_base h1 c agree old no_base is1.bins_there;
           })))
-          (λ is. inr (after c (opened_is c agree is)))
+          (λ left. inr (after c (opened_is c agree left)))
           block
 
       module _ (h2 : Image) (agree2 : AgreeOutside is_base h1 h2) (block2 : primary_in h2 0 ≡ Some (Bytes (base_text opened))) where
         is2 : IsOpened h2 opened closed bits new
-        is2 = opened_is h2 agree2 block2
+        is2 = opened_is h2 agree2 (inl block2)
 
         bins_is : (c : Image) → AgreeOutside (is_marked (length new) bits) h2 c → IsOpened c opened closed bits new
         bins_is c agree = record {
-          block = base_along (is_marked (length new) bits) h2 c agree opened refl is2.block;
+          block = ⊎_elim (λ has. inl (base_along (is_marked (length new) bits) h2 c agree opened refl has)) (λ torn. inr (agree (primary_at 0) refl ∙ torn)) is2.block;
           logged = log_along (is_marked (length new) bits) h2 c agree (log_of bits new closed) (λ n. refl) is2.logged;
           unmarked = λ i small off. agree (bin_at i) (unmarked_at (length new) bits i off) ∙ is2.unmarked i small off;
         }
@@ -191,15 +191,18 @@ module _ (base : Base) (old new : List ℕ) (root : ℕ) (bits : ℕ → Bool) (
             bins_there = bins_along is_base h3 c agree new no_base all_new;
           }
 
+          still_opened : (c : Image) → AgreeOutside is_base h3 c → HasBase c opened ⊎ (primary_in c 0 ≡ Some Unreadable) → IsOpened c opened closed bits new
+          still_opened c agree block = record {
+            block = block;
+            logged = log_along is_base h3 c agree (log_of bits new closed) (λ n. refl) is3.logged;
+            unmarked = λ i small off. agree (bin_at i) (no_base i) ∙ is3.unmarked i small off;
+          }
+
           -- stage 4
           pub closed_stage : (c : Image) → AgreeOutside is_base h3 c → BlockIsBeforeOr h3 closed c → IsRecoveredAs c closed new
           closed_stage c agree block = ⊎_elim
-              (λ is. after c (record {
-                block = same_block h3 c opened is is3.block;
-                logged = log_along is_base h3 c agree (log_of bits new closed) (λ n. refl) is3.logged;
-                unmarked = λ i small off. agree (bin_at i) (no_base i) ∙ is3.unmarked i small off;
-              }))
-              (λ is. closed_after c (closed_carries c agree is))
+              (λ same. after c (still_opened c agree (⊎_elim (λ has. inl (same_block h3 c opened same has)) (λ torn. inr (same ∙ torn)) is3.block)))
+              (⊎_elim (λ there. closed_after c (closed_carries c agree there)) (λ torn. after c (still_opened c agree (inr torn))))
               block
 
           -- the log stays
@@ -225,7 +228,7 @@ is_base_of base numbers texts checked = record {
 
 pub change_asked : (image : Image) (base : Base) (old new : List ℕ) (root : ℕ) (bits : ℕ → Bool) → IsChange image base old new root bits → IsAsked base old new root bits
 change_asked image base old new root bits is =
-    let checked = base_in_checked (primary_in image) base is.carries.block in
+    let checked = base_in_checked image base is.carries.block in
     record {
       fits = is_base_of base is.numbers is.texts checked;
       kind = checked.kind_is;
@@ -236,10 +239,10 @@ change_asked image base old new root bits is =
       same = is.stays;
     }
 
--- with each bit on
+-- with a bit on where a sector differs
 pub asked : (image : Image) (base : Base) (old new : List ℕ) (root : ℕ) (bitmap : List ℕ) → Carries image base old → NumbersFit base → TextsFit base → is_bins_size (length new) ≡ true → root < 2 ^ 32
-    → ((k : ℕ) → k < 4096 → get_or bitmap k 0 ≡ 255) → IsAsked base old new root (bit bitmap)
-asked image base old new root bitmap is numbers texts size root_fits ones =
+    → ((i : ℕ) → i < length new / 512 → bit bitmap i ≡ dirty old new i) → IsAsked base old new root (bit bitmap)
+asked image base old new root bitmap is numbers texts size root_fits marks =
     change_asked image base old new root (bit bitmap)
     (record {
       carries = is;
@@ -247,7 +250,9 @@ asked image base old new root bitmap is numbers texts size root_fits ones =
       texts = texts;
       sized = size;
       root_fits = root_fits;
-      stays = λ i small off. let on : bit bitmap i ≡ true = all_on bitmap ones i (omega (arith, (sized (length new) size).high)) in absurd (cc);
+      stays = λ i small off.
+          let same = off_same old new i (sym (marks i (omega (arith, (sized (length new) size).pages))) ∙ off) in
+          (omega (arith, same.0), sym same.1);
     })
 
 -- what a stage said of a base block that is this one

@@ -8,7 +8,7 @@ use Rattle.hive_model.specs.Carries.{HasLog}
 use Rattle.nt_edge.proofs.Images.{put_here, put_other}
 use Rattle.hive_log.proofs.Ranks.{split}
 use Rattle.hive_commit.specs.Stages.{is_marked}
-use Rattle.hive_log.specs.Places.{log_at, primary_at, bin_at}
+use Rattle.hive_model.specs.Asked.{log_at, primary_at, bin_at}
 use Rattle.hive_commit.specs.Growing.{HasFront, HasMarkedBelow}
 
 pub front_more : (image after : Image) (log bytes : List ℕ) (n : ℕ) → HasFront image log n → bytes ≡ sector log n → after ≡ put image (log_at n, bytes) → HasFront after log (n + 1)

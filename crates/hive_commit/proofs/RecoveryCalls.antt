@@ -4,11 +4,13 @@ use Rattle.std.specs.Result.{IsErrAnd}
 use Rattle.std.proofs.lemmas.List.{append-nil, map-append}
 use Rattle.hive_model.specs.Base.{Base}
 use Rattle.hive_model.specs.Image.{Address, Image}
-use Rattle.hive_model.specs.Recovery.{Recovered, log_in, bit, bitmap_in, recovered_of}
+use Rattle.hive_model.specs.Recovery.{Recovered, bit, bitmap_in, recovered_of}
 use Rattle.nt_edge.specs.Calls.{Made, ReadAt, Makes, MakesFront, reads_of}
 use Rattle.nt_edge.specs.declared.disk.DiskStop.{DiskStop}
 use Rattle.nt_edge.specs.declared.disk.DiskStop.TheVariants as disk
-use Rattle.hive_log.specs.Asked.{asked_of, IsFront, IsAsked}
+use Rattle.nt_bytes.specs.Front.{IsFront}
+use Rattle.hive_model.specs.Asked.{asked_of}
+use Rattle.hive_log.specs.Asked.{IsAsked}
 use Rattle.hive_log.specs.Found.{Found}
 use Rattle.hive_log.specs.Shown.{read_of}
 use Rattle.hive_log.specs.Stops.{ReadsAs, load_stop_of}
@@ -20,16 +22,16 @@ use Rattle.hive_commit.proofs.CallLemmas.{made_as, made_then}
 
 -- what is written where the log was needed
 module _ (image : Image) (view : Recovered) (exact : recovered_of image ≡ Ok view) where
-  restoring_is : (dirty : Bool) → view.dirty ≡ dirty → restoring_as image (recovered_of image) ≡ cond dirty (restoring_by view (bitmap_in (log_in image) view.base.size)) []
-  restoring_is dirty is = ap (restoring_as image) exact ∙ ap (λ d. cond d (restoring_by view (bitmap_in (log_in image) view.base.size)) []) is
+  restoring_is : (dirty : Bool) → view.dirty ≡ dirty → restoring_as image (recovered_of image) ≡ cond dirty (restoring_by view (bitmap_in image view.base.size)) []
+  restoring_is dirty is = ap (restoring_as image) exact ∙ ap (λ d. cond d (restoring_by view (bitmap_in image view.base.size)) []) is
 
   restoring_found : (closed : Base) (bitmap bins found : List ℕ) → view.dirty ≡ true → Found image view.base found view.bins → closed ≡ view.base → bitmap ≡ found → bins ≡ view.bins
       → closing_calls closed (bit bitmap) bins ≡ restoring_as image (recovered_of image)
   restoring_found closed bitmap bins found dirty f closed_is bitmap_is bins_is = sym
       (restoring_is true dirty
-      ∙ ap (λ n. restoring_by view (bitmap_in (log_in image) n)) (ap (λ (b : Base). b.size) f.closed_is)
-      ∙ ap (restoring_by view) f.text_there
-      ∙ ap (λ l. closing_calls view.base (bit l) view.bins) (sym f.bitmap_is ∙ sym bitmap_is)
+      ∙ ap (λ n. restoring_by view (bitmap_in image n)) (ap (λ (b : Base). b.size) f.closed_is)
+      ∙ ap (restoring_by view) f.log.text_there
+      ∙ ap (λ l. closing_calls view.base (bit l) view.bins) (sym f.log.bits_are ∙ sym bitmap_is)
       ∙ ap (λ b. closing_calls b (bit bitmap) view.bins) (sym closed_is)
       ∙ ap (λ l. closing_calls closed (bit bitmap) l) (sym bins_is))
 

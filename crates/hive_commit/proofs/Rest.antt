@@ -8,7 +8,7 @@ use Rattle.hive_model.specs.Carries.{IsRecoveredAs}
 use Rattle.nt_edge.specs.Disk.{DiskState}
 use Rattle.nt_edge.specs.Crash.{AgreeOutside, EachCrash}
 use Rattle.hive_commit.specs.Stages.{in_log, is_base, is_marked}
-use Rattle.hive_log.specs.Places.{primary_at, bin_at}
+use Rattle.hive_model.specs.Asked.{primary_at, bin_at}
 use Rattle.hive_commit.specs.Alone.{KeepsRest}
 use Rattle.hive_commit.proofs.Growth.{unmarked_before, unmarked_behind}
 use Rattle.hive_commit.proofs.Four.{no_base}

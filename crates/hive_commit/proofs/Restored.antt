@@ -1,15 +1,15 @@
 -- What a cut in a recovery leaves.
-use Rattle.std.proofs.Common.{◌≡◌, ◌*◌, ◌/◌, ℕ, true, false, List, length, Some, refl, sym, ◌∙◌, ap, ⊎_elim}
-use Rattle.hive_model.specs.Base.{Base, IsBase, base_text, is_bins_size}
+use Rattle.std.proofs.Common.{◌≡◌, ◌*◌, ◌/◌, ℕ, true, false, List, length, Some, refl, sym, ◌∙◌, ap, inl, inr, ⊎_elim}
+use Rattle.hive_model.specs.Base.{Base, IsBase, base_text, is_bins_size, is_minor}
 use Rattle.hive_model.specs.Image.{Image, Bytes}
-use Rattle.hive_model.specs.Recovery.{primary_in, log_in, bit}
+use Rattle.hive_model.specs.Recovery.{primary_in, bit}
 use Rattle.hive_model.specs.Carries.{HasBins, Carries, IsRecoveredAs}
 use Rattle.hive_model.proofs.BaseLemmas.{logged_in_checked}
 use Rattle.nt_edge.specs.Crash.{AgreeOutside}
 use Rattle.hive_log.specs.Found.{Found}
-use Rattle.hive_log.proofs.Finding.{carries_recovered, found_recovered, found_along}
+use Rattle.hive_log.proofs.Finding.{carries_recovered, found_recovered, one_number, found_along}
 use Rattle.hive_commit.specs.Fitting.{NumbersFit, TextsFit}
-use Rattle.hive_log.specs.Places.{bin_at, log_at, primary_at}
+use Rattle.hive_model.specs.Asked.{bin_at, log_at, primary_at}
 use Rattle.hive_commit.specs.Stages.{is_base, is_marked, BlockIsBeforeOr, HasMarked}
 use Rattle.hive_commit.proofs.Growth.{unmarked_at}
 use Rattle.hive_commit.proofs.Four.{either, no_base, bins_along, written_base, is_base_of}
@@ -19,16 +19,16 @@ module _ (image : Image) (closed : Base) (bitmap bins : List ℕ) (f : Found ima
   kind = ap (λ (b : Base). b.kind) f.closed_is
 
   clean : closed.first ≡ closed.second
-  clean = ap (λ (b : Base). b.first) f.closed_is ∙ sym (ap (λ (b : Base). b.second) f.closed_is)
+  clean = ap (λ (b : Base). b.first) f.closed_is ∙ one_number f.opened f.logged f.log.goes ∙ sym (ap (λ (b : Base). b.second) f.closed_is)
 
   size : closed.size ≡ length bins
   size = ap (λ (b : Base). b.size) f.closed_is ∙ f.size
 
   fits : IsBase closed
   fits =
-      let logged = logged_in_checked (log_in image) f.logged f.log_block in
+      let logged = logged_in_checked image f.logged f.log.log_block in
       is_base_of closed numbers texts (record {
-        minor_is = ap (λ (b : Base). b.minor) f.closed_is ∙ logged.minor_is;
+        minor_is = ap (λ (b : Base). is_minor b.minor) f.closed_is ∙ logged.minor_is;
         kind_is = kind;
         size_is = ap (λ (b : Base). is_bins_size b.size) f.closed_is ∙ logged.size_is;
       })
@@ -37,7 +37,7 @@ module _ (image : Image) (closed : Base) (bitmap bins : List ℕ) (f : Found ima
   recovered c found = record { dirty = true; recovered = found_recovered c closed bitmap bins found }
 
   found_in_bins : (c : Image) → AgreeOutside (is_marked (length bins) (bit bitmap)) image c → Found c closed bitmap bins
-  found_in_bins c agree = found_along image c closed bitmap bins f (λ n. agree (log_at n) refl) (agree (primary_at 0) refl) (λ i off. agree (bin_at i) (unmarked_at (length bins) (bit bitmap) i off))
+  found_in_bins c agree = found_along image c closed bitmap bins f (λ n. agree (log_at n) refl) (λ i off. agree (bin_at i) (unmarked_at (length bins) (bit bitmap) i off)) (inl (agree (primary_at 0) refl))
 
   -- the sectors are being written
   pub kept_in_bins : (c : Image) → AgreeOutside (is_marked (length bins) (bit bitmap)) image c → IsRecoveredAs c closed bins
@@ -56,6 +56,8 @@ module _ (image : Image) (closed : Base) (bitmap bins : List ℕ) (f : Found ima
     -- the base block is being written
     pub kept_in_block : (c : Image) → AgreeOutside is_base h c → BlockIsBeforeOr h closed c → IsRecoveredAs c closed bins
     kept_in_block c agree block = ⊎_elim
-        (λ is. recovered c (found_along h c closed bitmap bins found_h (λ n. agree (log_at n) refl) is (λ i off. agree (bin_at i) (no_base i))))
-        (λ is. record { dirty = false; recovered = carries_recovered c closed bins (closed_again c agree is) whole })
+        (λ same. recovered c (found_along h c closed bitmap bins found_h (λ n. agree (log_at n) refl) (λ i off. agree (bin_at i) (no_base i)) (inl same)))
+        (⊎_elim
+        (λ there. record { dirty = false; recovered = carries_recovered c closed bins (closed_again c agree there) whole })
+        (λ torn. recovered c (found_along h c closed bitmap bins found_h (λ n. agree (log_at n) refl) (λ i off. agree (bin_at i) (no_base i)) (inr torn))))
         block

@@ -1,10 +1,10 @@
 -- The calls of a stage by those of its steps, and those of a change by its stages.
-use Rattle.std.proofs.Common.{◌≡◌, ◌<◌, ◌+◌, ◌*◌, ◌/◌, ◌++◌, ◌∷◌, ℕ, true, List, [], length, get_or, sym, ◌∙◌, ap, arith, append_assoc}
+use Rattle.std.proofs.Common.{◌≡◌, ◌<◌, ◌+◌, ◌*◌, ◌/◌, ◌++◌, ◌∷◌, ℕ, true, List, [], length, sym, ◌∙◌, ap, arith, append_assoc}
 use Rattle.hive_model.specs.Base.{Base, is_bins_size}
 use Rattle.hive_model.specs.Recovery.{bit}
-use Rattle.hive_model.specs.Log.{log_of, logged_bits}
+use Rattle.hive_model.specs.Log.{dirty, log_of}
 use Rattle.nt_edge.specs.Calls.{Made, Synced, Makes, MakesFront, writes_of}
-use Rattle.hive_log.proofs.Appending.{sized, all_on, logged_on, log_same}
+use Rattle.hive_log.proofs.Appending.{sized, log_same}
 use Rattle.hive_commit.specs.Calls.{log_writes, bins_writes, block_calls, change_calls}
 use Rattle.hive_commit.specs.Growing.{log_part}
 use Rattle.hive_commit.specs.Stages.{opened_of, closed_of}
@@ -64,8 +64,8 @@ module _ (bins block : List Made) (a b : List Made → Type 0) where
     pub closing_made : Makes b c block → Makes a c (bins ++ Synced ∷ block)
     closing_made two = made_as a c ((bins ++ Synced ∷ []) ++ block) (bins ++ Synced ∷ block) closing_cut (made_then a b c (bins ++ Synced ∷ []) block one two)
 
--- a change, in four stages: what is written is what is asked, and each bit is on
-module _ (base : Base) (old new : List ℕ) (root : ℕ) (bitmap : List ℕ) (opened closed : Base) (opened_is : opened ≡ opened_of base) (closed_is : closed ≡ closed_of base new root) (size : is_bins_size (length new) ≡ true) (ones : (k : ℕ) → k < 4096 → get_or bitmap k 0 ≡ 255) where
+-- a change, in four stages: what is written is what is asked, and a bit is on where a sector differs
+module _ (base : Base) (old new : List ℕ) (root : ℕ) (bitmap : List ℕ) (opened closed : Base) (opened_is : opened ≡ opened_of base) (closed_is : closed ≡ closed_of base new root) (size : is_bins_size (length new) ≡ true) (marks : (i : ℕ) → i < length new / 512 → bit bitmap i ≡ dirty old new i) where
   abbrev log_stage : List Made
   log_stage = writes_of (log_writes (log_of (bit bitmap) new closed)) ++ Synced ∷ []
 
@@ -75,8 +75,8 @@ module _ (base : Base) (old new : List ℕ) (root : ℕ) (bitmap : List ℕ) (op
   abbrev staged : List Made
   staged = ((log_stage ++ block_calls opened) ++ bins_stage) ++ block_calls closed
 
-  bits_same : (i : ℕ) → 512 * i < length new → bit bitmap i ≡ logged_bits old new i
-  bits_same i small = all_on bitmap ones i (omega (arith, (sized (length new) size).high)) ∙ sym (logged_on old new i)
+  bits_same : (i : ℕ) → 512 * i < length new → bit bitmap i ≡ dirty old new i
+  bits_same i small = marks i (omega (arith, (sized (length new) size).pages))
 
   staged_is : staged ≡ change_calls base old new root
   staged_is =
@@ -88,8 +88,8 @@ module _ (base : Base) (old new : List ℕ) (root : ℕ) (bitmap : List ℕ) (op
       ∙ ap (λ (l : List Made). (log ++ Synced ∷ block_calls opened) ++ l) (append_assoc bins (Synced ∷ []) (block_calls closed))
       ∙ ap (λ (b : Base). whole (writes_of (log_writes (log_of (bit bitmap) new b))) bins opened b) closed_is
       ∙ ap (λ (b : Base). whole (writes_of (log_writes (log_of (bit bitmap) new (closed_of base new root)))) bins b (closed_of base new root)) opened_is
-      ∙ ap (λ (l : List ℕ). whole (writes_of (log_writes l)) bins (opened_of base) (closed_of base new root)) (log_same (bit bitmap) (logged_bits old new) new (closed_of base new root) bits_same)
-      ∙ ap (λ w. whole (writes_of (log_writes (log_of (logged_bits old new) new (closed_of base new root)))) (writes_of w) (opened_of base) (closed_of base new root)) (marked_same (bit bitmap) (logged_bits old new) new (length new / 512) (λ i below. bits_same i (omega arith)))
+      ∙ ap (λ (l : List ℕ). whole (writes_of (log_writes l)) bins (opened_of base) (closed_of base new root)) (log_same (bit bitmap) (dirty old new) new (closed_of base new root) bits_same)
+      ∙ ap (λ w. whole (writes_of (log_writes (log_of (dirty old new) new (closed_of base new root)))) (writes_of w) (opened_of base) (closed_of base new root)) (marked_same (bit bitmap) (dirty old new) new (length new / 512) marks)
 
   module _ (a b : List Made → Type 0) where
     pub in_log_stage : MakesFront a b log_stage → MakesFront a b (change_calls base old new root)

@@ -8,7 +8,7 @@ use Rattle.hive_model.specs.Image.{Write}
 use Rattle.hive_model.specs.Recovery.{sector}
 use Rattle.nt_edge.specs.Calls.{Made, Wrote, Makes, MakesUntil, writes_of}
 use Rattle.hive_commit.specs.Calls.{log_writes}
-use Rattle.hive_log.specs.Places.{log_at, bin_at}
+use Rattle.hive_model.specs.Asked.{log_at, bin_at}
 use Rattle.hive_commit.specs.Growing.{log_part, marked_below}
 use Rattle.hive_commit.proofs.CallLemmas.{stopped, front_made, front_as, made_then}
 

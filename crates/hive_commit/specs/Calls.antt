@@ -3,13 +3,13 @@ use Rattle.std.specs.Prelude.{◌≡◌, ◌/◌, Bool, ℕ, List, [], ◌∷◌
 use Rattle.nt_bytes.specs.declared.fault.HiveFault.{HiveFault}
 use Rattle.hive_model.specs.Base.{Base, base_text}
 use Rattle.hive_model.specs.Image.{Address, Image, Write}
-use Rattle.hive_model.specs.Recovery.{Recovered, log_in, bit, bitmap_in, recovered_of}
-use Rattle.hive_model.specs.Log.{log_of, logged_bits}
+use Rattle.hive_model.specs.Recovery.{Recovered, bit, bitmap_in, recovered_of}
+use Rattle.hive_model.specs.Log.{dirty, log_of}
 use Rattle.nt_edge.specs.Calls.{Made, Synced, Wrote, Makes, reads_of, writes_of}
-use Rattle.hive_log.specs.Asked.{asked_of, IsFront}
+use Rattle.nt_bytes.specs.Front.{IsFront}
+use Rattle.hive_model.specs.Asked.{asked_of, primary_at}
 use Rattle.hive_log.specs.declared.stops.LoadStop.{LoadStop}
 use Rattle.hive_log.specs.declared.stops.LoadStop.TheVariants as load
-use Rattle.hive_log.specs.Places.{primary_at}
 use Rattle.hive_commit.specs.Growing.{log_part, marked_below}
 use Rattle.hive_commit.specs.Stages.{opened_of, closed_of}
 
@@ -29,11 +29,11 @@ block_calls base = Wrote (primary_at 0, base_text base) ∷ Synced ∷ []
 abbrev pub closing_calls : Base → (ℕ → Bool) → List ℕ → List Made
 closing_calls closed bits bins = writes_of (bins_writes bits bins) ++ Synced ∷ block_calls closed
 
--- a change: the log, a sync, the base block opened, a sync, and what closes it
+-- a change: the log of the sectors that differ, a sync, the base block opened, a sync, and what closes it
 abbrev pub change_calls : Base → List ℕ → List ℕ → ℕ → List Made
 change_calls base old new root =
     let closed = closed_of base new root in
-    let bits = logged_bits old new in
+    let bits = dirty old new in
     writes_of (log_writes (log_of bits new closed)) ++ Synced ∷ block_calls (opened_of base) ++ closing_calls closed bits new
 
 -- with the bits that the log has behind their signature
@@ -41,9 +41,9 @@ abbrev pub restoring_by : Recovered → Result (List ℕ) HiveFault → List Mad
 restoring_by found (Ok text) = closing_calls found.base (bit (drop 4 text)) found.bins
 restoring_by found (Err fault) = []
 
--- what a recovery writes: nothing where the primary is clean or there is a fault
+-- what a recovery writes: nothing where the primary is clean, or there is a fault
 abbrev pub restoring_as : Image → Result Recovered HiveFault → List Made
-restoring_as image (Ok found) = if found.dirty then restoring_by found (bitmap_in (log_in image) found.base.size) else []
+restoring_as image (Ok found) = if found.dirty then restoring_by found (bitmap_in image found.base.size) else []
 restoring_as image (Err fault) = []
 
 -- a recovery of an image: it reads what it asks for, and then writes what was found

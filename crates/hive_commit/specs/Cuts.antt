@@ -33,7 +33,7 @@ pub record HasNewBins (before after : Image) (bits : ℕ → Bool) (bins : List 
   pub alone : AgreeOutside (is_marked (length bins) bits) before after
   pub bins_there : HasMarked after bits bins
 
--- a cut while the base block is written: it is the one from before or this one, and all else is as before
+-- a cut while the base block is written: it is the one from before, or this one, or can't be read, and all else is as before
 pub record IsCutInBlock (before cut : Image) (base : Base) : Type 0 where
   pub alone : AgreeOutside is_base before cut
   pub block : BlockIsBeforeOr before base cut

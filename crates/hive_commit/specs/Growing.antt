@@ -4,7 +4,7 @@ use Rattle.std.specs.List.{range_with_len}
 use Rattle.hive_model.specs.Image.{Image, Write, Bytes}
 use Rattle.hive_model.specs.Recovery.{primary_in, log_in, sector, rank, bitmap_sectors, first_dirty}
 use Rattle.hive_model.specs.Log.{bitmap_text}
-use Rattle.hive_log.specs.Places.{log_at, bin_at}
+use Rattle.hive_model.specs.Asked.{log_at, bin_at}
 
 -- behind its base block the log has these bits, for bins data of this size
 abbrev pub HasBitmap : List ℕ → (ℕ → Bool) → ℕ → Type 0

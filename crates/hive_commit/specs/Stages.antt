@@ -1,10 +1,10 @@
 -- What each stage of a commit leaves. (This project's own.)
 use Rattle.std.specs.Prelude.{◌≡◌, ◌⊎◌, ◌<◌, ◌+◌, ◌-◌, ◌*◌, ◌%◌, ◌&&◌, nat_le, nat_lt, Bool, true, ℕ, List, length, Some}
 use Rattle.hive_model.specs.Base.{Base, base_text}
-use Rattle.hive_model.specs.Image.{Primary, Log, Address, Image, Bytes, same_file, same_address}
+use Rattle.hive_model.specs.Image.{Primary, Log, Address, Image, Bytes, Write, IsLeftBy, same_file, same_address}
 use Rattle.hive_model.specs.Recovery.{primary_in, sector}
 use Rattle.hive_model.specs.Carries.{IsRecoveredAs}
-use Rattle.hive_log.specs.Places.{primary_at}
+use Rattle.hive_model.specs.Asked.{primary_at}
 
 -- an address in the log
 abbrev pub in_log : Address → Bool
@@ -18,9 +18,9 @@ is_base a = same_address a (primary_at 0)
 abbrev pub is_marked : ℕ → (ℕ → Bool) → Address → Bool
 is_marked size bits a = same_file a.file Primary && (nat_le 8 a.sector && (nat_lt (512 * (a.sector - 8)) size && bits (a.sector - 8)))
 
--- the primary's base block is the one from before, or this one
+-- the primary's sector 0 is as before, or has this base block, or can't be read
 abbrev pub BlockIsBeforeOr : Image → Base → Image → Type 0
-BlockIsBeforeOr before base after = (primary_in after 0 ≡ primary_in before 0) ⊎ (primary_in after 0 ≡ Some (Bytes (base_text base)))
+BlockIsBeforeOr before base after = (primary_in after 0 ≡ primary_in before 0) ⊎ IsLeftBy (primary_at 0, base_text base) (primary_in after 0)
 
 -- the bins sectors of the primary whose bit is on are those of the data
 abbrev pub HasMarked : Image → (ℕ → Bool) → List ℕ → Type 0

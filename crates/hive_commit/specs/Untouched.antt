@@ -10,7 +10,7 @@ pub record IsUntouched (old new : DiskState) : Type 0 where
   pub held : new.held ≡ old.held
   pub flight : new.flight ≡ old.flight
 
--- a fault has written nothing, and neither has want of memory that is not the disk's
+-- a fault has written nothing, and neither has lack of memory that is not the disk's
 abbrev pub IsUnwritten : {T : Type 0} → DiskState → DiskState → Result T LoadStop → Type 0
 IsUnwritten old new (Ok x) = Unit {0}
 IsUnwritten old new (Err (load.Fault f)) = IsUntouched old new

@@ -3,20 +3,20 @@
 ghost use Rattle.std.specs.Prelude.{◌≡◌, true, [], length, IfOk, OnOk, IsOk};
 ghost use Rattle.hive_model.specs.Base.{is_bins_size};
 ghost use Rattle.hive_model.specs.Carries.{Carries, HasLog};
-ghost use Rattle.hive_model.specs.Log.{log_of, logged_bits};
+ghost use Rattle.hive_model.specs.Log.{dirty, log_of};
 ghost use Rattle.nt_edge.specs.Host.{Rises};
-ghost use Rattle.nt_edge.specs.Disk.{CountsGrow, HasCause, IsOnUnlessLost};
+ghost use Rattle.nt_edge.specs.Frames.{Goes};
 ghost use Rattle.nt_edge.specs.Calls.{MakesUntil};
 ghost use Rattle.nt_edge.specs.Crash.{EachCrash};
 ghost use Rattle.hive_commit.specs.Alone.{KeepsRest};
 ghost use Rattle.hive_commit.specs.Calls.{change_calls};
 ghost use Rattle.hive_commit.specs.Stages.{next_number, opened_of, closed_of, IsBeforeOrAfter};
-ghost use Rattle.hive_commit.specs.Stops.{HasCommitCause, IsOnAfterCommit};
+ghost use Rattle.hive_commit.specs.Stops.{IsCommitOn};
 
 use crate::CommitStop;
 use crate::fitting::{numbers_fit, texts_fit};
 use crate::stages::{write_bins, write_block, write_log};
-use hive_log::mark_all;
+use hive_log::mark_dirty;
 use nt_edge::{Disk, DiskStop};
 use regf_base::BaseBlock;
 
@@ -41,18 +41,15 @@ pub fn commit<D: Disk>(
     ensures answered { IfOk result (λ b. b ≡ closed_of base.now new.now root) }
     ensures still { D.tells ≡ true → OnOk result ((D.state disk.new).flight ≡ []) }
     ensures carries { D.tells ≡ true → OnOk result (Carries (D.state disk.new).held (closed_of base.now new.now root) new.now) }
-    // At every exit a cut leaves what is recovered as before or as after.
+    // At every exit a cut leaves what is recovered as before or as after, be sectors in flight torn or not.
     ensures crash { D.tells ≡ true → EachCrash (D.state disk.new)
         (IsBeforeOrAfter base.now old.now (closed_of base.now new.now root) new.now) }
-    // The log begins with the file that `log_sectors` spells.
+    // The log begins with the file that `log_sectors` spells: it has the sectors that differ, and no other.
     ensures logged { D.tells ≡ true → OnOk result (HasLog (D.state disk.new).held
-        (log_of (logged_bits old.now new.now) new.now (closed_of base.now new.now root))) }
+        (log_of (dirty old.now new.now) new.now (closed_of base.now new.now root))) }
     // At every exit a cut leaves sectors 1 to 7 of the primary, and those behind the new data, as they were.
     ensures rest { D.tells ≡ true → EachCrash (D.state disk.new) (KeepsRest (length new.now) (D.state disk.old).held) }
-    ensures history { (D.state disk.new).history ≡ (D.state disk.old).history }
-    ensures counts { CountsGrow (D.state disk.old) (D.state disk.new) }
-    ensures cause { HasCommitCause (D.state disk.old) (D.state disk.new) result }
-    ensures power { IsOnAfterCommit (D.state disk.new) result }
+    ensures goes { IsCommitOn (D.state disk.old) (D.state disk.new) result }
     // There is no other refusal: where no count rose, the commit is done.
     ensures done { (Rises (D.state disk.old).cuts (D.state disk.new).cuts → ⊥) → (Rises (D.state disk.old).faults (D.state disk.new).faults → ⊥)
         → (Rises (D.state disk.old).lacks (D.state disk.new).lacks → ⊥) → IsOk result }
@@ -79,12 +76,9 @@ fn change<D: Disk>(
     ensures crash { D.tells ≡ true → EachCrash (D.state disk.new)
         (IsBeforeOrAfter base.now old.now (closed_of base.now new.now root) new.now) }
     ensures logged { D.tells ≡ true → OnOk result (HasLog (D.state disk.new).held
-        (log_of (logged_bits old.now new.now) new.now (closed_of base.now new.now root))) }
+        (log_of (dirty old.now new.now) new.now (closed_of base.now new.now root))) }
     ensures rest { D.tells ≡ true → EachCrash (D.state disk.new) (KeepsRest (length new.now) (D.state disk.old).held) }
-    ensures history { (D.state disk.new).history ≡ (D.state disk.old).history }
-    ensures counts { CountsGrow (D.state disk.old) (D.state disk.new) }
-    ensures cause { HasCause (D.state disk.old) (D.state disk.new) result }
-    ensures power { IsOnUnlessLost (D.state disk.new) result }
+    ensures goes { Goes (D.state disk.old) (D.state disk.new) result }
     ensures done { (Rises (D.state disk.old).cuts (D.state disk.new).cuts → ⊥) → (Rises (D.state disk.old).faults (D.state disk.new).faults → ⊥)
         → (Rises (D.state disk.old).lacks (D.state disk.new).lacks → ⊥) → IsOk result }
 {
@@ -92,7 +86,7 @@ fn change<D: Disk>(
     texts_fit(base);
     let closed = closed_block(base, new.len() as u32, root);
     let mut bitmap = [0; 4096];
-    mark_all(&mut bitmap);
+    mark_dirty(old, new, &mut bitmap);
     write_log(disk, &closed, &bitmap, new)?;
     write_block(disk, &opened_block(base))?;
     write_bins(disk, &bitmap, new)?;

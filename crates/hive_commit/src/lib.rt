@@ -1,8 +1,10 @@
 //! A change of a hive on a disk: whole or not at all, whatever the power does.
 //!
-//! `commit` has four stages, one function each, and each is ended by one sync: the log is written, the
-//! base block is opened, the sectors are written, the base block is closed. Rules: docs/format.md,
-//! "Commit and recovery".
+//! `commit` has four stages, one function each, and each is ended by one sync: the log of the sectors that
+//! differ is written, the base block is opened, these sectors are written, the base block is closed. A cut may
+//! leave any sector in flight as it was, as written, or unreadable. In stage 1 these are sectors of the log,
+//! which a clean primary doesn't need; in stages 2 and 4 it is the base block alone, which the log rebuilds;
+//! in stage 3 they are sectors that the log has. Rules: docs/format.md, "Commit and recovery".
 #![tactic(auto)]
 
 mod change;

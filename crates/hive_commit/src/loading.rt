@@ -6,10 +6,10 @@ ghost use Rattle.hive_model.specs.Base.{Base, is_bins_size};
 ghost use Rattle.hive_model.specs.Image.{Image};
 ghost use Rattle.hive_model.specs.Recovery.{recovered_of};
 ghost use Rattle.hive_model.specs.Carries.{Carries, IsRecoveredAs};
-ghost use Rattle.nt_edge.specs.Disk.{CountsGrow};
 ghost use Rattle.nt_edge.specs.Crash.{EachCrash};
-ghost use Rattle.hive_log.specs.Asked.{asked_of, MakesReads, IsAsked};
-ghost use Rattle.hive_log.specs.Stops.{Reads, HasLoadCause, IsOnAfterLoad};
+ghost use Rattle.hive_model.specs.Asked.{asked_of};
+ghost use Rattle.hive_log.specs.Asked.{MakesReads, IsAsked};
+ghost use Rattle.hive_log.specs.Stops.{Reads, IsLookAt, IsLoadOn};
 ghost use Rattle.hive_commit.specs.Calls.{recovery_calls, AreAll, MakesRecovery};
 ghost use Rattle.hive_commit.specs.Alone.{KeepsLog, KeepsRest, KeepsClean};
 ghost use Rattle.hive_commit.specs.Untouched.{IsUntouched, IsUnwritten};
@@ -20,7 +20,7 @@ use nt_edge::Disk;
 use std::alloc::Global;
 
 /// Reads what the disk stands for, and writes nothing. The disk is on and has nothing in flight. `Fault`
-/// is the first check that fails; want of memory alone is free.
+/// is the first check that fails; out of memory alone is free.
 pub fn look<D: Disk>(alloc: Global, disk: &mut D) -> Result<Recovered, LoadStop>
     requires on { (D.state disk.old).on ≡ true }
     requires still { D.tells ≡ true → (D.state disk.old).flight ≡ [] }
@@ -28,13 +28,8 @@ pub fn look<D: Disk>(alloc: Global, disk: &mut D) -> Result<Recovered, LoadStop>
     ensures asked { MakesReads (D.calls disk.old) (D.calls disk.new)
         (λ sectors. D.tells ≡ true → IsAsked (asked_of (D.state disk.old).held) result sectors) }
     ensures exact { D.tells ≡ true → Reads result (recovered_of (D.state disk.old).held) }
-    ensures held { D.tells ≡ true → (D.state disk.new).held ≡ (D.state disk.old).held }
-    ensures flight { D.tells ≡ true → (D.state disk.new).flight ≡ (D.state disk.old).flight }
     ensures sized { IfOk result (λ r. is_bins_size (length r.bins) ≡ true) }
-    ensures history { (D.state disk.new).history ≡ (D.state disk.old).history }
-    ensures counts { CountsGrow (D.state disk.old) (D.state disk.new) }
-    ensures cause { HasLoadCause (D.state disk.old) (D.state disk.new) result }
-    ensures power { IsOnAfterLoad (D.state disk.new) result }
+    ensures look { IsLookAt D.tells (D.state disk.old) (D.state disk.new) result }
 {
     let Reading {
         recovered,
@@ -71,10 +66,7 @@ pub fn recover<D: Disk>(alloc: Global, disk: &mut D) -> Result<Recovered, LoadSt
     ensures faulty { D.tells ≡ true → (fault : HiveFault) → recovered_of (D.state disk.old).held ≡ Err fault
         → IsUntouched (D.state disk.old) (D.state disk.new) }
     ensures unwritten { D.tells ≡ true → IsUnwritten (D.state disk.old) (D.state disk.new) result }
-    ensures history { (D.state disk.new).history ≡ (D.state disk.old).history }
-    ensures counts { CountsGrow (D.state disk.old) (D.state disk.new) }
-    ensures cause { HasLoadCause (D.state disk.old) (D.state disk.new) result }
-    ensures power { IsOnAfterLoad (D.state disk.new) result }
+    ensures goes { IsLoadOn (D.state disk.old) (D.state disk.new) result }
 {
     let Reading { recovered, bitmap } = read_recovered(alloc, disk)?;
     if recovered.dirty {

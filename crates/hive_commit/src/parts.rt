@@ -6,7 +6,8 @@ ghost use Rattle.hive_model.specs.Image as book;
 ghost use Rattle.hive_model.specs.Image.{put};
 ghost use Rattle.hive_model.specs.Recovery.{bit, sector, rank};
 ghost use Rattle.hive_model.specs.Recovery as recovery;
-ghost use Rattle.nt_edge.specs.Disk.{DiskState, CountsGrow, HasCause, IsOnUnlessLost, now_of};
+ghost use Rattle.nt_edge.specs.Disk.{DiskState, now_of};
+ghost use Rattle.nt_edge.specs.Frames.{Goes};
 ghost use Rattle.nt_edge.specs.Calls.{Wrote, Synced, Makes, MakesUntil, writes_of};
 ghost use Rattle.nt_edge.specs.Crash.{EachCrash, AgreeOutside, Writing};
 ghost use Rattle.hive_commit.specs.Calls.{bins_writes};
@@ -24,10 +25,7 @@ pub fn put_sector<D: Disk>(disk: &mut D, at: Address, bytes: &[u8; 512]) -> Resu
     ensures writing { D.tells ≡ true → (p : book.Address → Bool) (first : DiskState) → p at ≡ true
         → Writing p first (D.state disk.old) → Writing p first (D.state disk.new) }
     ensures put { D.tells ≡ true → OnOk result (now_of (D.state disk.new) ≡ put (now_of (D.state disk.old)) (at, bytes.now)) }
-    ensures history { (D.state disk.new).history ≡ (D.state disk.old).history }
-    ensures counts { CountsGrow (D.state disk.old) (D.state disk.new) }
-    ensures cause { HasCause (D.state disk.old) (D.state disk.new) result }
-    ensures power { IsOnUnlessLost (D.state disk.new) result }
+    ensures goes { Goes (D.state disk.old) (D.state disk.new) result }
 {
     disk.write(at, bytes)
 }
@@ -40,10 +38,7 @@ pub fn settle<D: Disk>(disk: &mut D) -> Result<(), DiskStop>
         → Writing p first (D.state disk.old) → EachCrash (D.state disk.new) (AgreeOutside p first.held) }
     ensures still { D.tells ≡ true → OnOk result ((D.state disk.new).flight ≡ []) }
     ensures held { D.tells ≡ true → OnOk result ((D.state disk.new).held ≡ now_of (D.state disk.old)) }
-    ensures history { (D.state disk.new).history ≡ (D.state disk.old).history }
-    ensures counts { CountsGrow (D.state disk.old) (D.state disk.new) }
-    ensures cause { HasCause (D.state disk.old) (D.state disk.new) result }
-    ensures power { IsOnUnlessLost (D.state disk.new) result }
+    ensures goes { Goes (D.state disk.old) (D.state disk.new) result }
 {
     disk.sync()
 }
@@ -58,10 +53,7 @@ pub fn write_log_block<D: Disk>(disk: &mut D, base: &BaseBlock) -> Result<(), Di
     ensures writing { D.tells ≡ true → (first : DiskState) → Writing in_log first (D.state disk.old) → Writing in_log first (D.state disk.new) }
     ensures front { D.tells ≡ true → OnOk result ((log : List ℕ) → sector log 0 ≡ base_text (record base.now { kind = 1 })
         → HasFront (now_of (D.state disk.new)) log 1) }
-    ensures history { (D.state disk.new).history ≡ (D.state disk.old).history }
-    ensures counts { CountsGrow (D.state disk.old) (D.state disk.new) }
-    ensures cause { HasCause (D.state disk.old) (D.state disk.new) result }
-    ensures power { IsOnUnlessLost (D.state disk.new) result }
+    ensures goes { Goes (D.state disk.old) (D.state disk.new) result }
 {
     let mut sector = [0; 512];
     base_bytes(&logged_block(base), &mut sector);
@@ -84,10 +76,7 @@ pub fn write_log_bitmap<D: Disk>(disk: &mut D, bitmap: &[u8], size: usize) -> Re
     ensures front { D.tells ≡ true → OnOk result ((log : List ℕ)
         → HasBitmap log (bit bitmap.now) size
         → HasFront (now_of (D.state disk.old)) log 1 → HasFront (now_of (D.state disk.new)) log (recovery.first_dirty size)) }
-    ensures history { (D.state disk.new).history ≡ (D.state disk.old).history }
-    ensures counts { CountsGrow (D.state disk.old) (D.state disk.new) }
-    ensures cause { HasCause (D.state disk.old) (D.state disk.new) result }
-    ensures power { IsOnUnlessLost (D.state disk.new) result }
+    ensures goes { Goes (D.state disk.old) (D.state disk.new) result }
 {
     let mut sector = [0; 512];
     for k in 0..bitmap_sectors(size) {
@@ -115,10 +104,7 @@ pub fn write_log_run<D: Disk>(disk: &mut D, bitmap: &[u8], new: &[u8]) -> Result
         → HasRun log (bit bitmap.now) new.now
         → HasFront (now_of (D.state disk.old)) log (recovery.first_dirty (length new.now))
         → HasFront (now_of (D.state disk.new)) log (recovery.first_dirty (length new.now) + rank (bit bitmap.now) (length new.now / 512))) }
-    ensures history { (D.state disk.new).history ≡ (D.state disk.old).history }
-    ensures counts { CountsGrow (D.state disk.old) (D.state disk.new) }
-    ensures cause { HasCause (D.state disk.old) (D.state disk.new) result }
-    ensures power { IsOnUnlessLost (D.state disk.new) result }
+    ensures goes { Goes (D.state disk.old) (D.state disk.new) result }
 {
     let mut sector = [0; 512];
     let mut number = first_dirty(new.len());
@@ -146,10 +132,7 @@ pub fn write_marked<D: Disk>(disk: &mut D, bitmap: &[u8], new: &[u8]) -> Result<
     ensures writing { D.tells ≡ true → (first : DiskState) → Writing (is_marked (length new.now) (bit bitmap.now)) first (D.state disk.old)
         → Writing (is_marked (length new.now) (bit bitmap.now)) first (D.state disk.new) }
     ensures written { D.tells ≡ true → OnOk result (HasMarkedBelow (now_of (D.state disk.new)) (bit bitmap.now) new.now (length new.now / 512)) }
-    ensures history { (D.state disk.new).history ≡ (D.state disk.old).history }
-    ensures counts { CountsGrow (D.state disk.old) (D.state disk.new) }
-    ensures cause { HasCause (D.state disk.old) (D.state disk.new) result }
-    ensures power { IsOnUnlessLost (D.state disk.new) result }
+    ensures goes { Goes (D.state disk.old) (D.state disk.new) result }
 {
     let mut sector = [0; 512];
     for i in 0..new.len() / 512 {

@@ -4,7 +4,7 @@ ghost use Rattle.std.specs.Prelude.{◌≡◌, ◌≤◌, ◌*◌, ◌/◌, [], 
 ghost use Rattle.hive_model.specs.Image.{Image};
 ghost use Rattle.hive_model.specs.Recovery.{bit};
 ghost use Rattle.hive_model.specs.Carries.{Carries, IsRecoveredAs};
-ghost use Rattle.nt_edge.specs.Disk.{CountsGrow, HasCause, IsOnUnlessLost};
+ghost use Rattle.nt_edge.specs.Frames.{Goes};
 ghost use Rattle.nt_edge.specs.Calls.{MakesUntil};
 ghost use Rattle.nt_edge.specs.Crash.{EachCrash};
 ghost use Rattle.hive_log.specs.Found.{Found};
@@ -39,10 +39,7 @@ pub fn restore<D: Disk>(
     ensures log { D.tells ≡ true → EachCrash (D.state disk.new) (KeepsLog (D.state disk.old).held) }
     // And sectors 1 to 7 of the primary, and those behind the bins data.
     ensures rest { D.tells ≡ true → EachCrash (D.state disk.new) (KeepsRest (length bins.now) (D.state disk.old).held) }
-    ensures history { (D.state disk.new).history ≡ (D.state disk.old).history }
-    ensures counts { CountsGrow (D.state disk.old) (D.state disk.new) }
-    ensures cause { HasCause (D.state disk.old) (D.state disk.new) result }
-    ensures power { IsOnUnlessLost (D.state disk.new) result }
+    ensures goes { Goes (D.state disk.old) (D.state disk.new) result }
 {
     numbers_fit(closed);
     texts_fit(closed);

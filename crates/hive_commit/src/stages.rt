@@ -6,7 +6,7 @@ ghost use Rattle.hive_model.specs.Image.{Bytes};
 ghost use Rattle.hive_model.specs.Recovery.{primary_in, bit};
 ghost use Rattle.hive_model.specs.Carries.{HasLog};
 ghost use Rattle.hive_model.specs.Log.{log_of};
-ghost use Rattle.nt_edge.specs.Disk.{CountsGrow, HasCause, IsOnUnlessLost};
+ghost use Rattle.nt_edge.specs.Frames.{Goes};
 ghost use Rattle.nt_edge.specs.Calls.{Synced, MakesUntil, writes_of};
 ghost use Rattle.nt_edge.specs.Crash.{EachCrash, AgreeOutside};
 ghost use Rattle.hive_commit.specs.Calls.{log_writes, bins_writes, block_calls};
@@ -35,10 +35,7 @@ pub(crate) fn write_log<D: Disk>(
     ensures crash { D.tells ≡ true → EachCrash (D.state disk.new) (AgreeOutside in_log (D.state disk.old).held) }
     ensures still { D.tells ≡ true → OnOk result ((D.state disk.new).flight ≡ []) }
     ensures logged { D.tells ≡ true → OnOk result (HasLog (D.state disk.new).held (log_of (bit bitmap.now) new.now base.now)) }
-    ensures history { (D.state disk.new).history ≡ (D.state disk.old).history }
-    ensures counts { CountsGrow (D.state disk.old) (D.state disk.new) }
-    ensures cause { HasCause (D.state disk.old) (D.state disk.new) result }
-    ensures power { IsOnUnlessLost (D.state disk.new) result }
+    ensures goes { Goes (D.state disk.old) (D.state disk.new) result }
 {
     write_log_block(disk, base)?;
     write_log_bitmap(disk, bitmap, new.len())?;
@@ -56,10 +53,7 @@ pub(crate) fn write_block<D: Disk>(disk: &mut D, base: &BaseBlock) -> Result<(),
     ensures block { D.tells ≡ true → EachCrash (D.state disk.new) (BlockIsBeforeOr (D.state disk.old).held base.now) }
     ensures still { D.tells ≡ true → OnOk result ((D.state disk.new).flight ≡ []) }
     ensures written { D.tells ≡ true → OnOk result (primary_in (D.state disk.new).held 0 ≡ Some (Bytes (base_text base.now))) }
-    ensures history { (D.state disk.new).history ≡ (D.state disk.old).history }
-    ensures counts { CountsGrow (D.state disk.old) (D.state disk.new) }
-    ensures cause { HasCause (D.state disk.old) (D.state disk.new) result }
-    ensures power { IsOnUnlessLost (D.state disk.new) result }
+    ensures goes { Goes (D.state disk.old) (D.state disk.new) result }
 {
     let mut sector = [0; 512];
     base_bytes(base, &mut sector);
@@ -83,10 +77,7 @@ pub(crate) fn write_bins<D: Disk>(disk: &mut D, bitmap: &[u8], new: &[u8]) -> Re
     ensures crash { D.tells ≡ true → EachCrash (D.state disk.new) (AgreeOutside (is_marked (length new.now) (bit bitmap.now)) (D.state disk.old).held) }
     ensures still { D.tells ≡ true → OnOk result ((D.state disk.new).flight ≡ []) }
     ensures written { D.tells ≡ true → OnOk result (HasMarked (D.state disk.new).held (bit bitmap.now) new.now) }
-    ensures history { (D.state disk.new).history ≡ (D.state disk.old).history }
-    ensures counts { CountsGrow (D.state disk.old) (D.state disk.new) }
-    ensures cause { HasCause (D.state disk.old) (D.state disk.new) result }
-    ensures power { IsOnUnlessLost (D.state disk.new) result }
+    ensures goes { Goes (D.state disk.old) (D.state disk.new) result }
 {
     write_marked(disk, bitmap, new)?;
     settle(disk)

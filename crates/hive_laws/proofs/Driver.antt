@@ -24,7 +24,7 @@ use Rattle.hive_laws.specs.Trees.{one_driver, set_key, services_key, disk_key, s
 -- the cells of these sizes, one behind another at the front of bytes
 abbrev pub cut : List ℕ → List ℕ → List Cell
 cut [] bytes = []
-cut (size ∷ sizes) bytes = record { used = nat_le 0x80 (slice_index bytes 3); payload = slice_range bytes 4 size } ∷ cut sizes (drop size bytes)
+cut (size ∷ sizes) bytes = record { allocated = nat_le 0x80 (slice_index bytes 3); payload = slice_range bytes 4 size } ∷ cut sizes (drop size bytes)
 
 -- the sizes of the cells of the hive of one driver
 abbrev pub driver_sizes : List ℕ

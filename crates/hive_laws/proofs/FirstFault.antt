@@ -26,13 +26,17 @@ ok_same x y o e g = cc
 ok_err : (x : Recovered) (f : HiveFault) (o : Result Recovered HiveFault) → o ≡ Ok x → o ≡ Err f → ⊥
 ok_err x f o e g = cc
 
+-- the first fault of the tree in these bins, where this was recovered
+abbrev first_of : Recovered → List Bin → Option HiveFault
+first_of r bins = first_fault (look_up (version_of r.base.minor) bins) r.base.root
+
 held_one : (r : Recovered) (f g : HiveFault) → length r.bins ≤ 16777216 → HeldFault r f → HeldFault r g → f ≡ g
 held_one r f g small (inl b) (inl c) = one_fault r.bins f g small b c
 held_one r f g small (inl b) (inr w) = absurd (not_both r.bins w.bins f w.cells.0 w.cells.1 b)
 held_one r f g small (inr v) (inl c) = absurd (not_both r.bins v.bins g v.cells.0 v.cells.1 c)
 held_one r f g small (inr v) (inr w) =
     let bins : v.bins ≡ w.bins = one_list v.bins w.bins v.cells.0 w.cells.0 (sym v.cells.1 ∙ w.cells.1) in
-    some_same f g (first_fault (look_up (version_of r.base.minor) w.bins) r.base.root) (sym (ap (λ (bs : List Bin). first_fault (look_up (version_of r.base.minor) bs) r.base.root) bins) ∙ v.first) w.first
+    some_same f g (first_of r w.bins) (sym (ap (first_of r) bins) ∙ v.first) w.first
 
 pub one_first : (image : Image) (f g : HiveFault) → HasWholeSectors image → LoadFault image f → LoadFault image g → f ≡ g
 one_first image f g whole (inl a) (inl b) = err_same f g (recovered_of image) a b
@@ -48,7 +52,7 @@ LoadsOrNot image = ((state : HiveState) × (dirty : Bool) × Loads image state d
 pub loads_or_not : (image : Image) → HasWholeSectors image → HasBytes image → LoadsOrNot image
 loads_or_not image whole small = here (recovered_of image) refl
   where
-    walked : (r : Recovered) → recovered_of image ≡ Ok r → (bins : List Bin) → IsBins r.bins bins → (o : Option HiveFault) → first_fault (look_up (version_of r.base.minor) bins) r.base.root ≡ o → LoadsOrNot image
+    walked : (r : Recovered) → recovered_of image ≡ Ok r → (bins : List Bin) → IsBins r.bins bins → (o : Option HiveFault) → first_of r bins ≡ o → LoadsOrNot image
     walked r e bins is None none =
         let stands = stands-where-none-fails (look_up (version_of r.base.minor) bins) r.base.root none in
         inl (
@@ -59,7 +63,7 @@ loads_or_not image whole small = here (recovered_of image) refl
     walked r e bins is (Some f) fails = inr (f, inr (r, e, inr (record { bins = bins; cells = is; first = fails })))
 
     judged : (r : Recovered) → recovered_of image ≡ Ok r → ((bins : List Bin) × IsBins r.bins bins) ⊎ ((f : HiveFault) × BinsFault r.bins f) → LoadsOrNot image
-    judged r e (inl is) = walked r e is.0 is.1 (first_fault (look_up (version_of r.base.minor) is.0) r.base.root) refl
+    judged r e (inl is) = walked r e is.0 is.1 (first_of r is.0) refl
     judged r e (inr fails) = inr (fails.0, inr (r, e, inl fails.1))
 
     here : (o : Result Recovered HiveFault) → recovered_of image ≡ o → LoadsOrNot image

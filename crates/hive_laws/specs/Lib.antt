@@ -8,3 +8,4 @@ pub mod Whole
 pub mod Opened
 pub mod Rings
 pub mod Rows
+pub mod Both

@@ -5,7 +5,7 @@ use Rattle.nt_bytes.specs.declared.fault.HiveFault.{HiveFault}
 use Rattle.nt_bytes.specs.declared.fault.HiveKind.TheVariants.{OutOfRange}
 use Rattle.hive_model.specs.Bins.{Bin, Cells}
 use Rattle.hive_model.specs.Forms.{KeyNode, key_node_text, KeyValue, SecurityCell, big_data_text, security_text, offsets_text, li_text, lf_text}
-use Rattle.hive_model.specs.Packed.{used_cell}
+use Rattle.hive_model.specs.Packed.{allocated_cell}
 use Rattle.hive_model.specs.Walk.{nowhere, data_checks, first_among}
 
 -- a key node with these flags and this name, with so many children in the list at an offset, and nothing else
@@ -44,11 +44,11 @@ unfoldable pub family : ℕ → ℕ → ℕ → List ℕ → List Bin
 family child_count first second name = record {
   ignored = replicate 20 0;
   cells =
-      used_cell (key_node_text (plain_node 32 (codes "R") child_count 120))
-      ∷ used_cell (lf_text (first ∷ second ∷ []) ((0 ∷ 0 ∷ 0 ∷ 0 ∷ []) ∷ (0 ∷ 0 ∷ 0 ∷ 0 ∷ []) ∷ []))
-      ∷ used_cell (key_node_text (plain_node 32 (codes "A") 0 nowhere))
-      ∷ used_cell (key_node_text (plain_node 32 name 0 nowhere))
-      ∷ record { used = false; payload = replicate 3772 0 }
+      allocated_cell (key_node_text (plain_node 32 (codes "R") child_count 120))
+      ∷ allocated_cell (lf_text (first ∷ second ∷ []) ((0 ∷ 0 ∷ 0 ∷ 0 ∷ []) ∷ (0 ∷ 0 ∷ 0 ∷ 0 ∷ []) ∷ []))
+      ∷ allocated_cell (key_node_text (plain_node 32 (codes "A") 0 nowhere))
+      ∷ allocated_cell (key_node_text (plain_node 32 name 0 nowhere))
+      ∷ record { allocated = false; payload = replicate 3772 0 }
       ∷ [];
 } ∷ []
 
@@ -58,12 +58,12 @@ unfoldable pub kin_used : ℕ → ℕ → ℕ → ℕ → List Bin
 kin_used uses root_security security class = record {
   ignored = replicate 20 0;
   cells =
-      used_cell (key_node_text (record (plain_node 32 (codes "R") 1 120) { security = root_security }))
-      ∷ used_cell (li_text (136 ∷ []))
-      ∷ used_cell (key_node_text (record (plain_node 32 (codes "A") 0 nowhere) { security = security; class = class; class_length = 2 }))
-      ∷ used_cell (security_text (record (plain_security (1 ∷ 2 ∷ [])) { uses = uses }))
-      ∷ used_cell (0x41 ∷ 0 ∷ [])
-      ∷ record { used = false; payload = replicate 3820 0 }
+      allocated_cell (key_node_text (record (plain_node 32 (codes "R") 1 120) { security = root_security }))
+      ∷ allocated_cell (li_text (136 ∷ []))
+      ∷ allocated_cell (key_node_text (record (plain_node 32 (codes "A") 0 nowhere) { security = security; class = class; class_length = 2 }))
+      ∷ allocated_cell (security_text (record (plain_security (1 ∷ 2 ∷ [])) { uses = uses }))
+      ∷ allocated_cell (0x41 ∷ 0 ∷ [])
+      ∷ record { allocated = false; payload = replicate 3820 0 }
       ∷ [];
 } ∷ []
 

@@ -30,9 +30,13 @@ a_key = folder (codes "A") (folder (codes "C") [] ∷ [])
 abbrev pub d_key : Tree
 d_key = folder (codes "D") []
 
--- a root with a value `Tag` and these two keys
+-- a root with a value `Tag` and these keys
+abbrev pub tagged : List Tree → Tree
+tagged keys = root_with (number (codes "Tag") 1 ∷ []) keys
+
+-- such a root with those two
 abbrev pub home : Tree
-home = root_with (number (codes "Tag") 1 ∷ []) (a_key ∷ d_key ∷ [])
+home = tagged (a_key ∷ d_key ∷ [])
 
 -- a new child of that root
 abbrev pub new_in_home : List ℕ → Tree

@@ -25,9 +25,11 @@ pub fn forms_are_read_back()
 /// A list of subkeys of each kind, whatever fills the cell behind it.
 pub fn lists_are_read_back()
     ensures li { (offsets slack : List ℕ) → length offsets < 2 ^ 16 → AreOffsets offsets → list_at (li_text offsets ++ slack) ≡ Ok (record { kind = Li; offsets = offsets }) }
-    ensures lf { (offsets : List ℕ) (hints : List (List ℕ)) (slack : List ℕ) → length offsets ≡ length hints → length offsets < 2 ^ 16 → AreOffsets offsets → AreHints hints
+    ensures lf { (offsets : List ℕ) (hints : List (List ℕ)) (slack : List ℕ) → length offsets ≡ length hints → length offsets < 2 ^ 16
+        → AreOffsets offsets → AreHints hints
         → list_at (lf_text offsets hints ++ slack) ≡ Ok (record { kind = Lf; offsets = offsets }) }
-    ensures lh { (offsets : List ℕ) (hints : List (List ℕ)) (slack : List ℕ) → length offsets ≡ length hints → length offsets < 2 ^ 16 → AreOffsets offsets → AreHints hints
+    ensures lh { (offsets : List ℕ) (hints : List (List ℕ)) (slack : List ℕ) → length offsets ≡ length hints → length offsets < 2 ^ 16
+        → AreOffsets offsets → AreHints hints
         → list_at (lh_text offsets hints ++ slack) ≡ Ok (record { kind = Lh; offsets = offsets }) }
     ensures ri { (offsets slack : List ℕ) → length offsets < 2 ^ 16 → AreOffsets offsets → list_at (ri_text offsets ++ slack) ≡ Ok (record { kind = Ri; offsets = offsets }) }
 {}

@@ -10,32 +10,34 @@ ghost use Rattle.hive_model.specs.Tree.{key, trees};
 ghost use Rattle.hive_model.specs.Walk.{data_checks, first_fault};
 ghost use Rattle.hive_model.specs.Stands.{data_of, Stands};
 ghost use Rattle.hive_model.specs.Footprint.{used_in};
+ghost use Rattle.hive_laws.specs.Both.{FaultIs};
 ghost use Rattle.hive_laws.specs.SmallCells.{family, kin, endless, long_value, segmented, data_fault};
 ghost use Rattle.hive_laws.specs.Trees.{bare, folder};
 
 /// The children are at 144 and 232, as the list says.
 pub fn a_family_stands()
-    ensures sound { (version : Version) → first_fault (look_up version (family 2 144 232 (codes "B"))) 32 ≡ None }
-    ensures tree { (version : Version) → Stands (look_up version (family 2 144 232 (codes "B"))) 32 (folder (codes "R") (folder (codes "A") [] ∷ folder (codes "B") [] ∷ [])) }
+    ensures sound { FaultIs (family 2 144 232 (codes "B")) 32 None }
+    ensures tree { (version : Version) → Stands (look_up version (family 2 144 232 (codes "B"))) 32
+        (folder (codes "R") (folder (codes "A") [] ∷ folder (codes "B") [] ∷ [])) }
 {}
 
 /// A list that names a cell twice, the root, the free cell behind the last key, a place in a cell, or
 /// itself; names that differ by case alone; and a count of three.
 pub fn faults_of_a_family()
-    ensures twice { (version : Version) → first_fault (look_up version (family 2 144 144 (codes "B"))) 32 ≡ Some (fault_at Shared 144) }
-    ensures root { (version : Version) → first_fault (look_up version (family 2 32 232 (codes "B"))) 32 ≡ Some (fault_at Shared 32) }
-    ensures free { (version : Version) → first_fault (look_up version (family 2 144 320 (codes "B"))) 32 ≡ Some (fault_at FreeCell 320) }
-    ensures inside { (version : Version) → first_fault (look_up version (family 2 144 148 (codes "B"))) 32 ≡ Some (fault_at OutOfRange 148) }
-    ensures itself { (version : Version) → first_fault (look_up version (family 2 144 120 (codes "B"))) 32 ≡ Some (fault_at Shared 120) }
-    ensures double { (version : Version) → first_fault (look_up version (family 2 144 232 (codes "a"))) 32 ≡ Some (fault_at DoubleName 232) }
-    ensures count { (version : Version) → first_fault (look_up version (family 3 144 232 (codes "B"))) 32 ≡ Some (fault_at Count 32) }
+    ensures twice { FaultIs (family 2 144 144 (codes "B")) 32 (Some (fault_at Shared 144)) }
+    ensures root { FaultIs (family 2 32 232 (codes "B")) 32 (Some (fault_at Shared 32)) }
+    ensures free { FaultIs (family 2 144 320 (codes "B")) 32 (Some (fault_at FreeCell 320)) }
+    ensures inside { FaultIs (family 2 144 148 (codes "B")) 32 (Some (fault_at OutOfRange 148)) }
+    ensures itself { FaultIs (family 2 144 120 (codes "B")) 32 (Some (fault_at Shared 120)) }
+    ensures double { FaultIs (family 2 144 232 (codes "a")) 32 (Some (fault_at DoubleName 232)) }
+    ensures count { FaultIs (family 3 144 232 (codes "B")) 32 (Some (fault_at Count 32)) }
 {}
 
 /// A cell may serve several keys as security. It is shared where it serves as a class too.
 pub fn a_descriptor_serves_twice()
-    ensures twice { (version : Version) → first_fault (look_up version (kin 224 224 256)) 32 ≡ None }
-    ensures as_class { (version : Version) → first_fault (look_up version (kin 224 224 224)) 32 ≡ Some (fault_at Shared 224) }
-    ensures other_class { (version : Version) → first_fault (look_up version (kin 256 224 224)) 32 ≡ Some (fault_at FormSign 256) }
+    ensures twice { FaultIs (kin 224 224 256) 32 None }
+    ensures as_class { FaultIs (kin 224 224 224) 32 (Some (fault_at Shared 224)) }
+    ensures other_class { FaultIs (kin 256 224 224) 32 (Some (fault_at FormSign 256)) }
 {}
 
 /// A key at level 513 is too deep, before its cell is looked at. The root is at 0.
@@ -45,8 +47,8 @@ pub fn keys_without_end()
 
 /// A root that is nowhere, and one that is a list.
 pub fn roots_that_are_no_keys()
-    ensures nowhere { (version : Version) → first_fault (look_up version (family 2 144 232 (codes "B"))) 0xFFFFFFFF ≡ Some (fault_at OutOfRange 0xFFFFFFFF) }
-    ensures list { (version : Version) → first_fault (look_up version (family 2 144 232 (codes "B"))) 120 ≡ Some (fault_at FormSign 120) }
+    ensures nowhere { FaultIs (family 2 144 232 (codes "B")) 0xFFFFFFFF (Some (fault_at OutOfRange 0xFFFFFFFF)) }
+    ensures list { FaultIs (family 2 144 232 (codes "B")) 120 (Some (fault_at FormSign 120)) }
 {}
 
 /// Data of 16,345 bytes in two segments, of which the second has room to spare. In version 1.3 they are to be in the one cell.

@@ -83,6 +83,10 @@ goes_alone (Some base) logged is =
     let two = both (logged.first == base.first) (logged.second == base.first) is in
     eq-eqb logged.first logged.second (eqb-true logged.first base.first two.0 ∙ sym (eqb-true logged.second base.first two.1))
 
+-- so its two numbers are one
+pub one_number : (opened : Option Base) (logged : Base) → goes_with opened logged ≡ true → logged.first ≡ logged.second
+one_number opened logged is = eqb-true logged.first logged.second (goes_alone opened logged is)
+
 -- What was found stays found in an image that has the same log and the same sectors whose bit is off; its base block is the
 -- same, or can't be read.
 module _ (x y : Image) (closed : Base) (bitmap bins : List ℕ) (f : Found x closed bitmap bins)

@@ -49,5 +49,5 @@ abbrev pub IsLookAt : {T : Type 0} → Bool → DiskState → DiskState → Resu
 IsLookAt tells old new result = LeavesAsRead tells old new (IsErrOf result load.PowerLost) (IsErrOf result load.Device)
 
 -- A load that may also write: where memory was lacking, it was that of the disk or of the caller.
-abbrev pub IsLoadOf : {T : Type 0} → DiskState → DiskState → Result T LoadStop → Type 0
-IsLoadOf old new result = GoesOn old new (IsErrOf result load.PowerLost) (IsErrOf result load.Device) (IsErrOf result load.Memory)
+abbrev pub IsLoadOn : {T : Type 0} → DiskState → DiskState → Result T LoadStop → Type 0
+IsLoadOn old new result = GoesOn old new (IsErrOf result load.PowerLost) (IsErrOf result load.Device) (IsErrOf result load.Memory)

@@ -12,7 +12,7 @@ use Rattle.nt_bytes.specs.declared.fault.HiveFault.{HiveFault}
 
 -- a cell: is it allocated, and its bytes behind the size
 pub record Cell : Type 0 where
-  pub used : Bool
+  pub allocated : Bool
   pub payload : List ℕ
 
 -- a bin: the twenty bytes of its header that nothing reads, and its cells
@@ -42,11 +42,11 @@ bins_size (b ∷ bs) = bin_size b + bins_size bs
 
 -- the number that holds a cell's size: negative where the cell is allocated
 abbrev pub head_number : Bool → ℕ → ℕ
-head_number used size = if used then 4294967296 - size else size
+head_number allocated size = if allocated then 4294967296 - size else size
 
 -- a cell: its size, then its payload
 unfoldable pub cell_bytes : Cell → List ℕ
-cell_bytes c = to_le_bytes w32 (head_number c.used (cell_size c)) ++ c.payload
+cell_bytes c = to_le_bytes w32 (head_number c.allocated (cell_size c)) ++ c.payload
 
 -- the header of a bin: `hbin`, the bin's own offset, its size, and twenty bytes more
 unfoldable pub head_bytes : ℕ → ℕ → List ℕ → List ℕ
@@ -173,7 +173,7 @@ cell_at bins o = in_bins o 0 bins
 -- the payload of an allocated cell, or why there is none
 abbrev pub payload_of : Option Cell → Result (List ℕ) HiveKind
 payload_of None = Err OutOfRange
-payload_of (Some c) = if c.used then Ok c.payload else Err FreeCell
+payload_of (Some c) = if c.allocated then Ok c.payload else Err FreeCell
 
 -- cells that a tree of this version may stand in: at an offset a payload, or why there is none
 pub record Cells : Type 0 where
@@ -202,7 +202,7 @@ Sees view (Err e) answer = answer ≡ Err e
 
 -- a cell as the pair of its flag and its payload, by which the logic tells cells apart
 abbrev pub coded_cell : Coded Cell
-coded_cell = code_by (Bool × List ℕ) (coded× coded_bool (coded_list coded_ℕ)) (λ c. (c.used, c.payload)) (λ p. record { used = p.0; payload = p.1 }) (λ _. refl)
+coded_cell = code_by (Bool × List ℕ) (coded× coded_bool (coded_list coded_ℕ)) (λ c. (c.allocated, c.payload)) (λ p. record { allocated = p.0; payload = p.1 }) (λ _. refl)
 
 -- a bin as the pair of its ignored bytes and its cells, by which the logic tells bins apart
 abbrev pub coded_bin : Coded Bin

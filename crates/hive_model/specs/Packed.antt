@@ -31,12 +31,12 @@ unfoldable pub filled : List ℕ → List ℕ
 filled p = p ++ replicate (cell (length p) - 4 - length p) 0
 
 -- an allocated cell with this payload
-abbrev pub used_cell : List ℕ → Cell
-used_cell p = record { used = true; payload = filled p }
+abbrev pub allocated_cell : List ℕ → Cell
+allocated_cell p = record { allocated = true; payload = filled p }
 
 -- its bytes
 unfoldable pub cell_text : List ℕ → List ℕ
-cell_text p = cell_bytes (used_cell p)
+cell_text p = cell_bytes (allocated_cell p)
 
 -- the bytes of cells in a row
 abbrev pub text : List (List ℕ) → List ℕ
@@ -322,14 +322,14 @@ rounded n = (n + 4095) / 4096 * 4096
 
 -- a free cell of so many bytes, if there are any
 abbrev pub free_cells : ℕ → List Cell
-free_cells n = if n == 0 then [] else record { used = false; payload = replicate (n - 4) 0 } ∷ []
+free_cells n = if n == 0 then [] else record { allocated = false; payload = replicate (n - 4) 0 } ∷ []
 
 -- the one bin: all cells of the tree, and a free cell that fills it
 unfoldable pub packed_bins : HiveVersion → Tree → List Bin
 packed_bins version t =
     record {
       ignored = replicate 20 0;
-      cells = map used_cell (packed_cells version t) ++ free_cells (rounded (whole version t) - whole version t);
+      cells = map allocated_cell (packed_cells version t) ++ free_cells (rounded (whole version t) - whole version t);
     }
     ∷ []
 

@@ -9,7 +9,7 @@ use Rattle.hive_model.specs.Size.{cell}
 use Rattle.hive_model.specs.Bins.{Cell, Cells, cell_size, in_cells, or_else, payload_of, look_up}
 use Rattle.hive_model.specs.Forms.{◌>>=◌}
 use Rattle.hive_model.specs.Walk.{reading}
-use Rattle.hive_model.specs.Packed.{filled, used_cell, packed_cells, whole, rounded, free_cells, packed_bins}
+use Rattle.hive_model.specs.Packed.{filled, allocated_cell, packed_cells, whole, rounded, free_cells, packed_bins}
 use Rattle.hive_pack.proofs.Rows.{space, length_filled}
 
 -- these payloads stand in a row from here on
@@ -46,14 +46,14 @@ abbrev seen : HiveVersion → List Cell → ℕ → Cells
 seen version cs start = record { version = version; payload = λ o. payload_of (or_else (in_cells o start cs) None) }
 
 has_seen : (version : HiveVersion) (start : ℕ) (ps : List (List ℕ)) (more : List Cell)
-    → Has (seen version (map used_cell ps ++ more) start) start ps
+    → Has (seen version (map allocated_cell ps ++ more) start) start ps
 has_seen version start [] more = tt
 has_seen version start (p ∷ ps) more =
-    let cs = map used_cell ps ++ more in
-    let next : start + cell_size (used_cell p) ≡ start + cell (length p) = omega (arith, length_filled p) in
+    let cs = map allocated_cell ps ++ more in
+    let next : start + cell_size (allocated_cell p) ≡ start + cell (length p) = omega (arith, length_filled p) in
     let here : eqb start start ≡ true = eq-eqb start start refl in (
       rw here refl,
-      has_same (seen version cs (start + cell (length p))) (seen version (used_cell p ∷ cs) start) (start + cell (length p)) ps
+      has_same (seen version cs (start + cell (length p))) (seen version (allocated_cell p ∷ cs) start) (start + cell (length p)) ps
           (λ o le.
           let no : eqb start o ≡ false = ne_eqb start o (λ e. omega arith) in
           rw (no, next) refl)

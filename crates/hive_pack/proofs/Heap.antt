@@ -4,18 +4,18 @@ use Rattle.std.specs.List.{AllByRecursion}
 use Rattle.std.proofs.lemmas.Bool.{ne_eqb}
 use Rattle.hive_model.specs.Size.{cell}
 use Rattle.hive_model.specs.Bins.{Cell, IsCell}
-use Rattle.hive_model.specs.Packed.{used_cell, top, ring, packed_cells, whole, rounded, free_cells, packed_bins, packed}
+use Rattle.hive_model.specs.Packed.{allocated_cell, top, ring, packed_cells, whole, rounded, free_cells, packed_bins, packed}
 use Rattle.hive_pack.specs.Numbers.{PackedIsBins}
 use Rattle.hive_pack.proofs.Rows.{space, length_filled, space_tree}
 use Rattle.hive_pack.proofs.Written.{length-zeros}
 use Rattle.hive_pack.proofs.Whole.{eights, bin_is}
 
-used_is_cell : (p : List ℕ) → cell (length p) ≤ 16777216 → IsCell (used_cell p)
+used_is_cell : (p : List ℕ) → cell (length p) ≤ 16777216 → IsCell (allocated_cell p)
 used_is_cell p le =
     record { least = omega (arith, length_filled p); whole = omega (arith, length_filled p); fits = omega (arith, length_filled p) }
 
 all_cells : (ps : List (List ℕ)) (later : List Cell) → space ps ≤ 16777216 → AllByRecursion IsCell later
-    → AllByRecursion IsCell (map used_cell ps ++ later)
+    → AllByRecursion IsCell (map allocated_cell ps ++ later)
 all_cells [] later le f = f
 all_cells (p ∷ ps) later le f = (used_is_cell p (omega arith), all_cells ps later (omega arith) f)
 

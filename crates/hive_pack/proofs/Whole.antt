@@ -11,7 +11,7 @@ use Rattle.nt_bytes.specs.declared.version.HiveVersion.{HiveVersion}
 use Rattle.hive_model.specs.Tree.{Item, Tree, Trees, key, none, more}
 use Rattle.hive_model.specs.Size.{cell, cells_sum, data_sizes, items_sum, items_size, class_size, has_own, part_count, list_size, count, size, size_of_all}
 use Rattle.hive_model.specs.Bins.{Cell, cells_size, cell_bytes, head_bytes}
-use Rattle.hive_model.specs.Packed.{used_cell, cell_text, text, top, ring, cells_of, packed_cells, whole, rounded, free_cells, packed_bins, packed}
+use Rattle.hive_model.specs.Packed.{allocated_cell, cell_text, text, top, ring, cells_of, packed_cells, whole, rounded, free_cells, packed_bins, packed}
 use Rattle.hive_pack.proofs.Rows.{space, length_filled, length_text, space_tree}
 use Rattle.hive_pack.proofs.Written.{zeros, length-zeros, filled_in}
 
@@ -64,14 +64,14 @@ cells_size_append : (a b : List Cell) → cells_size (a ++ b) ≡ cells_size a +
 cells_size_append [] b = omega arith
 cells_size_append (c ∷ cs) b = omega (arith, cells_size_append cs b)
 
-used_size : (ps : List (List ℕ)) → cells_size (map used_cell ps) ≡ space ps
+used_size : (ps : List (List ℕ)) → cells_size (map allocated_cell ps) ≡ space ps
 used_size [] = refl
 used_size (p ∷ ps) = omega (arith, used_size ps, length_filled p)
 
-pub used_text : (ps : List (List ℕ)) → flat_map cell_bytes (map used_cell ps) ≡ text ps
+pub used_text : (ps : List (List ℕ)) → flat_map cell_bytes (map allocated_cell ps) ≡ text ps
 unfolding cell_text
 used_text [] = refl
-used_text (p ∷ ps) = ap (λ (x : List ℕ). cell_bytes (used_cell p) ++ x) (used_text ps)
+used_text (p ∷ ps) = ap (λ (x : List ℕ). cell_bytes (allocated_cell p) ++ x) (used_text ps)
 
 pub free_size : (n : ℕ) → n % 8 ≡ 0 → cells_size (free_cells n) ≡ n
 free_size zero h = refl
@@ -80,13 +80,13 @@ free_size (suc n) h =
     rw some (omega (arith, length-zeros (suc n - 4)))
 
 pub bin_is : (version : HiveVersion) (t : Tree)
-    → 32 + cells_size (map used_cell (packed_cells version t) ++ free_cells (rounded (whole version t) - whole version t))
+    → 32 + cells_size (map allocated_cell (packed_cells version t) ++ free_cells (rounded (whole version t) - whole version t))
     ≡ rounded (whole version t)
 bin_is version t =
     let free = rounded (whole version t) - whole version t in
     omega (
       arith,
-      cells_size_append (map used_cell (packed_cells version t)) (free_cells free),
+      cells_size_append (map allocated_cell (packed_cells version t)) (free_cells free),
       used_size (packed_cells version t),
       space_tree version (top (ring version [] 32 t)) 32 t,
       free_size free (omega (arith, eights version [] t)),
@@ -98,7 +98,7 @@ pub packed_is : (version : HiveVersion) (t : Tree)
     ≡ head_bytes 0 (rounded (whole version t)) (replicate 20 0) ++ (text (packed_cells version t) ++ flat_map cell_bytes (free_cells (rounded (whole version t) - whole version t)))
 unfolding packed packed_bins
 packed_is version t =
-    let used = map used_cell (packed_cells version t) in
+    let used = map allocated_cell (packed_cells version t) in
     let free = free_cells (rounded (whole version t) - whole version t) in
     append-nil (head_bytes 0 (32 + cells_size (used ++ free)) (replicate 20 0) ++ flat_map cell_bytes (used ++ free))
     ∙ (λ j. head_bytes 0 (bin_is version t j) (replicate 20 0) ++ (flat_map-append cell_bytes used free ∙ ap (λ (x : List ℕ). x ++ flat_map cell_bytes free) (used_text (packed_cells version t))) j)

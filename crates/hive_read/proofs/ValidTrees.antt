@@ -185,7 +185,7 @@ pick-else None other c h g e = g e
 
 payload-bytes : (c : Cell) → IsBytes (cell_bytes c) → IsBytes c.payload
 unfolding cell_bytes
-payload-bytes c h = bytes-back (to_le_bytes w32 (head_number c.used (cell_size c))) c.payload h
+payload-bytes c h = bytes-back (to_le_bytes w32 (head_number c.allocated (cell_size c))) c.payload h
 
 cell-in : (o at : ℕ) (cs : List Cell) (c : Cell) → IsBytes (flat_map cell_bytes cs) → in_cells o at cs ≡ some c → IsBytes c.payload
 cell-in o at [] c h e = absurd cc
@@ -209,5 +209,5 @@ cells-bytes version bins h at p e = go (cell_at bins at) refl e
     used c false e = absurd cc
 
     go : (o : Option Cell) → cell_at bins at ≡ o → payload_of o ≡ done p → IsBytes p
-    go (Some c) f e = subst IsBytes (used c c.used e) (bin-in at 0 bins c h f)
+    go (Some c) f e = subst IsBytes (used c c.allocated e) (bin-in at 0 bins c h f)
     go None f e = absurd cc

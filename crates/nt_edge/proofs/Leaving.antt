@@ -1,8 +1,10 @@
 -- Calls of a disk, one after the other.
-use Rattle.std.proofs.Common.{◌≡◌, ◌∙◌, ℕ, Bool, subst, arith}
+use Rattle.std.proofs.Common.{◌≡◌, ◌∙◌, ℕ, Bool, true, Ok, subst, arith}
+use Rattle.std.specs.Prelude.{IsErrOf}
 use Rattle.nt_edge.specs.Disk.{DiskState}
-use Rattle.nt_edge.specs.Frames.{GoesOn, LeavesAsRead}
+use Rattle.nt_edge.specs.Frames.{GoesOn, Goes, LeavesAsRead}
 use Rattle.nt_edge.specs.Host.{Rises}
+use Rattle.nt_edge.specs.declared.disk.DiskStop.{DiskStop}
 
 -- what came first was not refused
 pub goes_then : {lost failed lacked : Type 0} {a b c : DiskState} → GoesOn a b ⊥ ⊥ ⊥ → GoesOn b c lost failed lacked → GoesOn a c lost failed lacked
@@ -31,3 +33,24 @@ leaves_then one two = record {
   flight = λ told. two.flight told ∙ one.flight told;
   goes_on = goes_then one.goes_on two.goes_on;
 }
+
+-- an answer is no refusal
+no_refusal : {T : Type 0} (x : T) (stop : DiskStop) → IsErrOf {E = DiskStop} (Ok x) stop → ⊥
+no_refusal x stop is = absurd (cc)
+
+-- calls that were not refused
+pub goes_ok : {T : Type 0} {x : T} {a b : DiskState} → Goes a b (Ok x) → GoesOn a b ⊥ ⊥ ⊥
+goes_ok is = record {
+  history = is.goes_on.history;
+  counts = is.goes_on.counts;
+  cut = λ none. absurd none;
+  fault = λ none. absurd none;
+  no_cut = λ none. is.goes_on.no_cut (no_refusal _ _);
+  no_fault = λ none also. is.goes_on.no_fault (no_refusal _ _) (no_refusal _ _);
+  no_lack = λ none. is.goes_on.no_lack (no_refusal _ _);
+  off = λ none. absurd none;
+  on = λ none. is.goes_on.on (no_refusal _ _);
+}
+
+pub on_ok : {T : Type 0} {x : T} {a b : DiskState} → Goes a b (Ok x) → b.on ≡ true
+on_ok is = is.goes_on.on (no_refusal _ _)

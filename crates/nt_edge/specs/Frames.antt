@@ -24,10 +24,14 @@ pub record GoesOn (old new : DiskState) (lost failed lacked : Type 0) : Type 0 w
   pub off : lost → new.on ≡ false
   pub on : (lost → ⊥) → new.on ≡ true
 
+-- and `lacks` rose where memory was lacking: it was the disk's
+pub record GoesFor (old new : DiskState) (lost failed lacked : Type 0) : Type 0 where
+  pub goes_on : GoesOn old new lost failed lacked
+  pub lack : lacked → Rises old.lacks new.lacks
+
 -- the same of a caller whose answer is the disk's own: each refusal has its cause
-pub record Goes {T : Type 0} (old new : DiskState) (result : Result T DiskStop) : Type 0 where
-  pub goes_on : GoesOn old new (IsErrOf result PowerLost) (IsErrOf result Failed) (IsErrOf result Memory)
-  pub lack : IsErrOf result Memory → Rises old.lacks new.lacks
+abbrev pub Goes : {T : Type 0} → DiskState → DiskState → Result T DiskStop → Type 0
+Goes old new result = GoesFor old new (IsErrOf result PowerLost) (IsErrOf result Failed) (IsErrOf result Memory)
 
 -- What is held and what is in flight are as they were, where the disk tells them, and it went on. Its memory is not asked for.
 pub record LeavesAsRead (tells : Bool) (old new : DiskState) (lost failed : Type 0) : Type 0 where

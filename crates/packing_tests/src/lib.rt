@@ -1,5 +1,5 @@
-//! The round trip of packing: a tree that is packed and read back is the same tree. And trees large
-//! enough to try it on, and a test of what a tree owes before it can be packed.
+//! The round trip of packing: a tree that is packed and read back in a version is the same tree. And
+//! trees large enough to try it on, and a test of what a tree owes before it can be packed.
 //!
 //! No crate of the program stands on this one: it is for its tests, and for benches.
 #![tactic(auto)]

@@ -2,6 +2,7 @@
 
 ghost use Rattle.std.specs.Prelude.{◌≡◌, ◌≤◌, List, None, IfOk};
 ghost use Rattle.nt_bytes.specs.declared.fault.HiveFault.{HiveFault};
+ghost use Rattle.nt_bytes.specs.declared.version.HiveVersion.{HiveVersion};
 ghost use Rattle.hive_model.specs.Tree.{Tree};
 ghost use Rattle.hive_model.specs.Valid.{IsValid};
 ghost use Rattle.hive_model.specs.Size.{bulk_of};
@@ -9,42 +10,39 @@ ghost use Rattle.hive_model.specs.Bins.{Bin, look_up, IsBins, BinsFault};
 ghost use Rattle.hive_model.specs.Packed.{packed};
 ghost use Rattle.hive_model.specs.Walk.{first_fault};
 ghost use Rattle.hive_model.specs.Stands.{Stands};
-ghost use Rattle.hive_pack.specs.Numbers.{HasNumbers};
+ghost use Rattle.packing_tests.specs.Packing.{IsPackedIn};
 
 use hive_cells::read_cells;
 use hive_pack::pack;
 use hive_read::read_tree;
-use nt_bytes::ReadStop;
+use nt_bytes::{HiveVersion, ReadStop};
 use reg_tree::Key;
 use std::alloc::{AllocError, Global};
 
-/// The packed form of a tree that a hive can hold is read back as this tree and no other: its bytes
-/// are those of some bins and have no fault, and in whichever bins they are, reading at 32 stops at
-/// no fault and the one tree that stands there is this one.
+/// The packed form of a tree that a hive can hold is read back as this tree and no other, in either
+/// version: its bytes are those of some bins and have no fault, and in whichever bins they are,
+/// reading at 32 stops at no fault and the one tree that stands there is this one.
 pub fn a_packed_tree_is_read_back()
-    ensures bins { (t : Tree) → bulk_of t ≤ 16773120 → (bins : List Bin) × IsBins (packed t) bins }
-    ensures no_bad_bin { (t : Tree) (fault : HiveFault) → bulk_of t ≤ 16773120 → BinsFault (packed t) fault → ⊥ }
-    ensures no_fault { (t : Tree) (bins : List Bin) → IsValid t → HasNumbers t → bulk_of t ≤ 16773120 → IsBins (packed t) bins
-        → first_fault (look_up bins) 32 ≡ None }
-    ensures stands { (t : Tree) (bins : List Bin) → IsValid t → HasNumbers t → bulk_of t ≤ 16773120 → IsBins (packed t) bins
-        → Stands (look_up bins) 32 t }
-    ensures no_other { (t u : Tree) (bins : List Bin) → IsValid t → HasNumbers t → bulk_of t ≤ 16773120 → IsBins (packed t) bins
-        → Stands (look_up bins) 32 u → u ≡ t }
+    ensures bins { (version : HiveVersion) (t : Tree) → bulk_of version t ≤ 16773120 → (bins : List Bin) × IsBins (packed version t) bins }
+    ensures no_bad_bin { (version : HiveVersion) (t : Tree) (fault : HiveFault) → bulk_of version t ≤ 16773120 → BinsFault (packed version t) fault → ⊥ }
+    ensures no_fault { (version : HiveVersion) (t : Tree) (bins : List Bin) → IsPackedIn version t bins → first_fault (look_up version bins) 32 ≡ None }
+    ensures stands { (version : HiveVersion) (t : Tree) (bins : List Bin) → IsPackedIn version t bins → Stands (look_up version bins) 32 t }
+    ensures no_other { (version : HiveVersion) (t u : Tree) (bins : List Bin) → IsPackedIn version t bins → Stands (look_up version bins) 32 u → u ≡ t }
 {}
 
 /// The tree again: its packed form, taken for cells, and the tree that is read from these at 32.
-pub fn packed_and_read(alloc: Global, tree: &Key) -> Result<Key, AllocError>
+pub fn packed_and_read(alloc: Global, tree: &Key, version: HiveVersion) -> Result<Key, AllocError>
     requires valid { IsValid tree.now }
-    requires room { bulk_of tree.now ≤ 16773120 }
+    requires room { bulk_of version tree.now ≤ 16773120 }
     ensures { IfOk result (λ u. u ≡ tree.now) }
 {
-    let bins = pack(alloc, tree)?;
+    let bins = pack(alloc, tree, version)?;
     let cells = match read_cells(alloc, bins) {
         Ok(cells) => cells,
         Err(ReadStop::Memory) => return Err(AllocError),
         Err(ReadStop::Fault(_)) => unreachable!(),
     };
-    match read_tree(alloc, &cells, 32) {
+    match read_tree(alloc, &cells, 32, version) {
         Ok(back) => Ok(back),
         Err(ReadStop::Memory) => Err(AllocError),
         Err(ReadStop::Fault(_)) => unreachable!(),

@@ -6,30 +6,57 @@ use super::*;
 use hive_cells::read_cells;
 use hive_pack::pack;
 use hive_read::read_tree;
-use nt_bytes::{Bytes, Names, Row, narrow};
+use nt_bytes::{Bytes, HiveVersion, Names, Row, narrow};
 use reg_tree::{EditStop, Key, Keys, Steps, TreeStep, Value, Values};
 use std::alloc::{AllocError, Global};
 use std::process::Abort;
 use std::test::Fail;
 
 /// The bins data of the tree's packed form, which are read back as the tree.
-fn there_and_back(rt: &impl Abort, alloc: Global, tree: &Key) -> Result<Bytes, Fail> {
+fn there_and_back(
+    rt: &impl Abort,
+    alloc: Global,
+    tree: &Key,
+    version: HiveVersion,
+) -> Result<Bytes, Fail> {
     assert!(rt; is_valid(tree));
-    assert!(rt; tree.bulk() <= 16_773_120);
-    let back = packed_and_read(alloc, tree)?;
+    assert!(rt; tree.bulk(version) <= 16_773_120);
+    let back = packed_and_read(alloc, tree, version)?;
     assert!(rt; back.same(tree));
-    Ok(pack(alloc, tree)?)
+    Ok(pack(alloc, tree, version)?)
 }
 
-/// The cells by hand: 264 bytes for each service with its values, 8,032 for the lists that name a thousand
-/// of them, 560 for the other keys, and the header of 32.
+// How the first list of services begins, which has 500 of them, and the entry of `Svc00000` at 8,376.
+const FIRST_LF: [u8; 16] = [
+    0x58, 0xf0, 0xff, 0xff, 0x6c, 0x66, 0xf4, 0x01, 0xb8, 0x20, 0x00, 0x00, 0x53, 0x76, 0x63, 0x30,
+];
+
+// The same in version 1.5, where the entry has the hash of `SVC00000`, 0x07f4e2ec.
+const FIRST_LH: [u8; 16] = [
+    0x58, 0xf0, 0xff, 0xff, 0x6c, 0x68, 0xf4, 0x01, 0xb8, 0x20, 0x00, 0x00, 0xec, 0xe2, 0xf4, 0x07,
+];
+
+/// A thousand services in a version. The cells by hand: 264 bytes for each service with its values, 8,032 for the lists
+/// that name a thousand of them, 560 for the other keys, and the header of 32. The lists stand at 344, 360 and 4,368.
+fn a_thousand(
+    rt: &impl Abort,
+    alloc: Global,
+    tree: &Key,
+    version: HiveVersion,
+    list: &[u8],
+) -> Result<(), Fail> {
+    assert_eq!(rt; tree.bulk(version), 272_624);
+    let bins = there_and_back(rt, alloc, tree, version)?;
+    assert_eq!(rt; bins.len(), 274_432);
+    assert_eq!(rt; bins.as_slice()[360..376], *list);
+    Ok(())
+}
+
 #[test]
 fn a_thousand_services_are_read_back(rt: HostRuntime) -> Result<(), Fail> {
     let tree = system_tree(rt.alloc(), 1_000)?;
-    assert_eq!(rt; tree.bulk(), 272_624);
-    let bins = there_and_back(&rt, rt.alloc(), &tree)?;
-    assert_eq!(rt; bins.len(), 274_432);
-    Ok(())
+    a_thousand(&rt, rt.alloc(), &tree, HiveVersion::V3, &FIRST_LF)?;
+    a_thousand(&rt, rt.alloc(), &tree, HiveVersion::V5, &FIRST_LH)
 }
 
 fn zeros(alloc: Global, count: usize) -> Result<Bytes, AllocError> {
@@ -62,6 +89,65 @@ fn root_with(alloc: Global, values: Values) -> Result<Key, AllocError> {
         values,
         children: Keys::new(alloc),
     })
+}
+
+/// One value of 16,345 bytes, one more than a segment holds.
+fn big_value(alloc: Global) -> Result<Value, AllocError> {
+    let mut bytes = zeros(alloc, 16_344)?;
+    bytes.push(9)?;
+    Ok(Value {
+        name: narrow(alloc, b"P")?,
+        kind: 3,
+        bytes,
+    })
+}
+
+/// A root with this value.
+fn root_with_big_data(alloc: Global) -> Result<Key, AllocError> {
+    let mut values = Values::new(alloc);
+    values.push(big_value(alloc)?)?;
+    root_with(alloc, values)
+}
+
+/// In version 1.3 its data have one cell of 16,352 bytes at 160, behind the header of 32, 88 for the root, 8 for its value
+/// list and 32 for the value.
+fn one_cell(rt: &impl Abort, alloc: Global, tree: &Key) -> Result<(), Fail> {
+    assert_eq!(rt; tree.bulk(HiveVersion::V3), 16_512);
+    let bins = there_and_back(rt, alloc, tree, HiveVersion::V3)?;
+    let bytes = bins.as_slice();
+    assert!(rt; bytes.len() == 20_480);
+    assert_eq!(rt; bytes[160..168], [0x20, 0xc0, 0xff, 0xff, 0, 0, 0, 0][..]);
+    assert_eq!(rt; bytes[16_508..16_512], [9, 0, 0, 0][..]);
+    Ok(())
+}
+
+// From 160 in version 1.5: `db` with two segments and their list at 176, which names 192 and 16,544, and the size of a
+// full segment's cell.
+const BIG_DATA: [u8; 36] = [
+    0xf0, 0xff, 0xff, 0xff, 0x64, 0x62, 0x02, 0x00, 0xb0, 0x00, 0x00, 0x00, 0x00, 0x00, 0x00, 0x00,
+    0xf0, 0xff, 0xff, 0xff, 0xc0, 0x00, 0x00, 0x00, 0xa0, 0x40, 0x00, 0x00, 0x00, 0x00, 0x00, 0x00,
+    0x20, 0xc0, 0xff, 0xff,
+];
+
+/// In version 1.5 `db` and the list have 16 bytes each, the segments 16,352 and 8.
+fn two_segments(rt: &impl Abort, alloc: Global, tree: &Key) -> Result<(), Fail> {
+    assert_eq!(rt; tree.bulk(HiveVersion::V5), 16_552);
+    let bins = there_and_back(rt, alloc, tree, HiveVersion::V5)?;
+    let bytes = bins.as_slice();
+    assert!(rt; bytes.len() == 20_480);
+    assert_eq!(rt; bytes[160..196], BIG_DATA[..]);
+    assert_eq!(rt;
+        bytes[16_544..16_552],
+        [0xf8, 0xff, 0xff, 0xff, 9, 0, 0, 0][..]
+    );
+    Ok(())
+}
+
+#[test]
+fn data_that_fill_more_than_a_segment_are_read_back(rt: HostRuntime) -> Result<(), Fail> {
+    let tree = root_with_big_data(rt.alloc())?;
+    one_cell(&rt, rt.alloc(), &tree)?;
+    two_segments(&rt, rt.alloc(), &tree)
 }
 
 /// One more value of the root, with so many bytes: zeros, and 1 to 4 at the end.
@@ -120,18 +206,21 @@ fn full_bytes(rt: &impl Abort, bytes: &[u8])
     assert_eq!(rt; bytes[16_773_112..], [0, 0, 0, 0, 1, 2, 3, 4][..]);
 }
 
-/// The greatest bulk is 16 MiB less a page, so a value more can have 1,043,652 bytes and none further.
+/// The greatest bulk is 16 MiB less a page, so in version 1.3 a value more can have 1,043,652 bytes and none further.
 #[test]
 fn a_tree_grows_up_to_the_limit(rt: HostRuntime) -> Result<(), Fail> {
     let mut tree = root_with(rt.alloc(), fifteen_values(rt.alloc())?)?;
-    assert_eq!(rt; tree.bulk(), 15_729_424);
+    assert_eq!(rt; tree.bulk(HiveVersion::V3), 15_729_424);
     let over = one_more(rt.alloc(), 1_043_653)?;
-    assert_eq!(rt; tree.apply(rt.alloc(), over), Err(EditStop::Full));
-    assert_eq!(rt; tree.bulk(), 15_729_424);
+    assert_eq!(rt;
+        tree.apply(rt.alloc(), over, HiveVersion::V3),
+        Err(EditStop::Full)
+    );
+    assert_eq!(rt; tree.bulk(HiveVersion::V3), 15_729_424);
     let up_to = one_more(rt.alloc(), 1_043_652)?;
-    assert_eq!(rt; tree.apply(rt.alloc(), up_to), Ok(()));
-    assert_eq!(rt; tree.bulk(), 16_773_120);
-    let bins = there_and_back(&rt, rt.alloc(), &tree)?;
+    assert_eq!(rt; tree.apply(rt.alloc(), up_to, HiveVersion::V3), Ok(()));
+    assert_eq!(rt; tree.bulk(HiveVersion::V3), 16_773_120);
+    let bins = there_and_back(&rt, rt.alloc(), &tree, HiveVersion::V3)?;
     assert_eq!(rt; bins.len(), 16_773_120);
     full_bytes(&rt, bins.as_slice());
     Ok(())
@@ -185,9 +274,9 @@ fn a_packed_hive_stays_as_it_is(rt: HostRuntime) -> Result<(), Fail> {
     let bins = one_driver(rt.alloc())?;
     assert_eq!(rt; bins.len(), 4096);
     let cells = read_cells(rt.alloc(), bins.copy(rt.alloc())?)?;
-    let tree = read_tree(rt.alloc(), &cells, 32)?;
-    assert_eq!(rt; tree.bulk(), 776);
-    let packed = there_and_back(&rt, rt.alloc(), &tree)?;
+    let tree = read_tree(rt.alloc(), &cells, 32, HiveVersion::V3)?;
+    assert_eq!(rt; tree.bulk(HiveVersion::V3), 776);
+    let packed = there_and_back(&rt, rt.alloc(), &tree, HiveVersion::V3)?;
     assert_eq!(rt; packed.as_slice(), bins.as_slice());
     Ok(())
 }

@@ -1,7 +1,7 @@
 use Rattle.std.proofs.Common.{◌≡◌, false, true, ◌-◌, ap, sym, ◌∙◌, arith}
 use Rattle.std.specs.Option.{option_map}
 use Rattle.hive_model.specs.Bins.{cell_size}
-use Rattle.hive_cells.proofs.Spots.{begins_there, none_there, none_between, read_at, used_head, free_head, some_head}
+use Rattle.hive_cells.proofs.Spots.{begins_there, none_there, none_between, read_at, allocated_head, free_head, some_head}
 use Rattle.hive_cells.proofs.lookup.head.Goals as goal
 use Rattle.hive_cells.specs.Reading.{head_of}
 
@@ -36,7 +36,7 @@ pub returns-else-head-lt2147483648-clause-exact : goal.returns-else-head-lt21474
 returns-else-head-lt2147483648-clause-exact c =
     let t = begins_there c.args.bytes.now c.args.starts.now c.args.at c.requires c.if-at-ne0.false (sym c.if-not-begins.ensures) in
     let is = c.u32_at-head.ensures ∙ (read_at c.args.bytes.now c.args.at t.0 t.1).head in
-    let f = used_head t.0 t.1.sound (omega (arith, is, c.if-head-lt2147483648.false)) in
+    let f = allocated_head t.0 t.1.sound (omega (arith, is, c.if-head-lt2147483648.false)) in
     some_head c.args.bytes.now c.args.at t.0 (4294967296 - c.from.result) true t.1 f.0 (omega (arith, is, f.1, c.from.ensures))
 
 pub returns-else-head-lt2147483648-clause-within : goal.returns-else-head-lt2147483648-clause-within
@@ -44,6 +44,6 @@ returns-else-head-lt2147483648-clause-within c =
     let t = begins_there c.args.bytes.now c.args.starts.now c.args.at c.requires c.if-at-ne0.false (sym c.if-not-begins.ensures) in
     let r = read_at c.args.bytes.now c.args.at t.0 t.1 in
     let is = c.u32_at-head.ensures ∙ r.head in
-    let f = used_head t.0 t.1.sound (omega (arith, is, c.if-head-lt2147483648.false)) in
+    let f = allocated_head t.0 t.1.sound (omega (arith, is, c.if-head-lt2147483648.false)) in
     let e : 4294967296 - c.from.result ≡ cell_size t.0 = omega (arith, is, f.1, c.from.ensures) in
     (omega (arith, e, t.1.sound.least), omega (arith, e, r.long))

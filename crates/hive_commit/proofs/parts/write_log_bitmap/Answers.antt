@@ -1,6 +1,7 @@
 use Rattle.std.proofs.Common.{◌≡◌, ◌<◌, ◌+◌, refl, sym, ◌∙◌, arith}
 use Rattle.hive_model.specs.Recovery.{bitmap_sectors}
 use Rattle.nt_edge.specs.Disk.{now_of}
+use Rattle.nt_edge.proofs.Leaving.{goes_then, goes_ok, on_ok}
 use Rattle.hive_commit.specs.Stages.{in_log}
 use Rattle.hive_commit.proofs.Growth.{front_more, front_along}
 use Rattle.hive_commit.proofs.WriteCalls.{log_more, log_stopped}
@@ -22,7 +23,7 @@ loop-k-preserved g c =
     let s = g.D.Disk.state c.loop-k.disk in
     let t = g.D.Disk.state c.put_sector.new.disk in
     record {
-      on = grind arith;
+      on = on_ok c.in_ok-put_sector.ensures.goes;
       writing = λ tells first so_far. c.put_sector.ensures.writing tells in_log first refl (c.loop-k.invariant.writing tells first so_far);
       made = λ log bits.
           log_more log 1 (g.D.Disk.calls c.args.disk.now) (g.D.Disk.calls c.loop-k.disk) c.loop-k.k (c.loop-k.invariant.made log bits) (g.D.Disk.calls c.put_sector.new.disk) c.bitmap_sector.new.into
@@ -33,6 +34,5 @@ loop-k-preserved g c =
           (front_more (now_of s) (now_of t) log c.bitmap_sector.new.into (1 + c.loop-k.k) (c.loop-k.invariant.front tells log bits so_far)
           (c.bitmap_sector.ensures ∙ sym (bits c.loop-k.k (omega (arith, c.loop-k-test.true, c.bitmap_sectors-k-end.ensures))))
           (c.in_ok-put_sector.ensures.put tells));
-      history = c.put_sector.ensures.history ∙ c.loop-k.invariant.history;
-      counts = grind arith;
+      goes = goes_then c.loop-k.invariant.goes (goes_ok c.in_ok-put_sector.ensures.goes);
     }

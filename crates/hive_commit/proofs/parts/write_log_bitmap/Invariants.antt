@@ -1,6 +1,7 @@
 use Rattle.std.proofs.Common.{◌≡◌, ◌+◌, true, ℕ, List}
 use Rattle.hive_model.specs.Recovery.{bit}
-use Rattle.nt_edge.specs.Disk.{DiskState, CountsGrow, now_of}
+use Rattle.nt_edge.specs.Disk.{DiskState, now_of}
+use Rattle.nt_edge.specs.Frames.{GoesOn}
 use Rattle.nt_edge.specs.Calls.{Makes, writes_of}
 use Rattle.nt_edge.specs.Crash.{Writing}
 use Rattle.hive_commit.specs.Stages.{in_log}
@@ -15,6 +16,5 @@ invariant-loop-k g l = record {
       → Makes (g.D.Disk.calls l.fn.disk) (g.D.Disk.calls l.disk) (writes_of (log_part log 1 l.k));
   front : g.D.Disk.tells ≡ true → (log : List ℕ) → HasBitmap log (bit l.bitmap) l.size
       → HasFront (now_of (g.D.Disk.state l.fn.disk)) log 1 → HasFront (now_of (g.D.Disk.state l.disk)) log (1 + l.k);
-  history : (g.D.Disk.state l.disk).history ≡ (g.D.Disk.state l.fn.disk).history;
-  counts : CountsGrow (g.D.Disk.state l.fn.disk) (g.D.Disk.state l.disk);
+  goes : GoesOn (g.D.Disk.state l.fn.disk) (g.D.Disk.state l.disk) ⊥ ⊥ ⊥;
 }

@@ -2,7 +2,7 @@ use Rattle.std.proofs.Common.{◌≡◌, ◌∷◌, ℕ, List, [], refl, sym, �
 use Rattle.hive_model.specs.Base.{base_text}
 use Rattle.hive_model.specs.Recovery.{sector}
 use Rattle.nt_edge.specs.Calls.{Wrote, Makes}
-use Rattle.hive_log.specs.Places.{log_at}
+use Rattle.hive_model.specs.Asked.{log_at}
 use Rattle.hive_commit.specs.Stages.{in_log}
 use Rattle.hive_commit.proofs.CallLemmas.{all_made}
 use Rattle.hive_commit.proofs.parts.write_log_block.Goals as goal

@@ -4,8 +4,9 @@ use Rattle.hive_model.specs.Recovery.{bit, rank, first_dirty}
 use Rattle.nt_edge.specs.Disk.{now_of}
 use Rattle.nt_edge.specs.Calls.{Wrote, Makes, writes_of}
 use Rattle.hive_log.proofs.Ranks.{rank_on, rank_below}
+use Rattle.nt_edge.proofs.Leaving.{goes_then, goes_ok, on_ok}
 use Rattle.hive_commit.specs.Stages.{in_log}
-use Rattle.hive_log.specs.Places.{log_at}
+use Rattle.hive_model.specs.Asked.{log_at}
 use Rattle.hive_commit.specs.Growing.{log_part}
 use Rattle.hive_commit.proofs.Growth.{front_more, front_along}
 use Rattle.hive_commit.proofs.WriteCalls.{log_more, log_stopped}
@@ -37,7 +38,7 @@ loop-i-preserved g c =
     let on : bits c.loop-i.i ≡ true = search rules in
     let more = rank_on bits c.loop-i.i on in
     record {
-      on = grind arith;
+      on = on_ok c.in_ok-put_sector.ensures.goes;
       place = omega (arith, more, c.loop-i.invariant.place);
       small = omega arith;
       writing = λ tells first so_far. c.put_sector.ensures.writing tells in_log first refl (c.loop-i.invariant.writing tells first so_far);
@@ -54,6 +55,5 @@ loop-i-preserved g c =
           (front_more (now_of s) (now_of t) log c.copy_sector.new.into (first_one + rank bits c.loop-i.i) (c.loop-i.invariant.front tells log marked so_far)
           (c.copy_sector.ensures ∙ sym (marked c.loop-i.i (omega arith) on))
           (c.in_ok-put_sector.ensures.put tells ∙ ap (λ n. put (now_of s) (log_at n, c.copy_sector.new.into)) c.loop-i.invariant.place));
-      history = c.put_sector.ensures.history ∙ c.loop-i.invariant.history;
-      counts = grind arith;
+      goes = goes_then c.loop-i.invariant.goes (goes_ok c.in_ok-put_sector.ensures.goes);
     }

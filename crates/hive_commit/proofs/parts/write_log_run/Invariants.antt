@@ -1,6 +1,7 @@
 use Rattle.std.proofs.Common.{◌≡◌, ◌≤◌, ◌+◌, true, ℕ, List, length}
 use Rattle.hive_model.specs.Recovery.{bit, rank, first_dirty}
-use Rattle.nt_edge.specs.Disk.{DiskState, CountsGrow, now_of}
+use Rattle.nt_edge.specs.Disk.{DiskState, now_of}
+use Rattle.nt_edge.specs.Frames.{GoesOn}
 use Rattle.nt_edge.specs.Calls.{Makes, writes_of}
 use Rattle.nt_edge.specs.Crash.{Writing}
 use Rattle.hive_commit.specs.Stages.{in_log}
@@ -20,6 +21,5 @@ invariant-loop-i g l = record {
       → HasRun log (bit l.bitmap) l.new
       → HasFront (now_of (g.D.Disk.state l.fn.disk)) log (first_dirty (length l.new))
       → HasFront (now_of (g.D.Disk.state l.disk)) log (first_dirty (length l.new) + rank (bit l.bitmap) l.i);
-  history : (g.D.Disk.state l.disk).history ≡ (g.D.Disk.state l.fn.disk).history;
-  counts : CountsGrow (g.D.Disk.state l.fn.disk) (g.D.Disk.state l.disk);
+  goes : GoesOn (g.D.Disk.state l.fn.disk) (g.D.Disk.state l.disk) ⊥ ⊥ ⊥;
 }

@@ -1,6 +1,7 @@
 use Rattle.std.proofs.Common.{◌≡◌, ◌+◌, ◌/◌, false, ◌∙◌, arith, rules, length}
 use Rattle.hive_model.specs.Recovery.{bit}
 use Rattle.nt_edge.specs.Disk.{now_of}
+use Rattle.nt_edge.proofs.Leaving.{goes_then, goes_ok, on_ok}
 use Rattle.hive_commit.specs.Stages.{is_marked}
 use Rattle.hive_commit.proofs.Growth.{marked_more, marked_skip, marked_at}
 use Rattle.hive_commit.proofs.WriteCalls.{marked_stopped}
@@ -26,8 +27,7 @@ loop-i-preserved-then-not-has_bit g c =
       writing = c.loop-i.invariant.writing;
       made = calls.marked_skip bits c.args.new.now (g.D.Disk.calls c.args.disk.now) (g.D.Disk.calls c.loop-i.disk) c.loop-i.i c.loop-i.invariant.made off;
       written = λ tells. marked_skip (now_of (g.D.Disk.state c.loop-i.disk)) bits c.args.new.now c.loop-i.i (c.loop-i.invariant.written tells) off;
-      history = c.loop-i.invariant.history;
-      counts = c.loop-i.invariant.counts;
+      goes = c.loop-i.invariant.goes;
     }
 
 pub returns-in_err-put_sector-clause-writing : goal.returns-in_err-put_sector-clause-writing
@@ -41,10 +41,9 @@ loop-i-preserved g c =
     let t = g.D.Disk.state c.put_sector.new.disk in
     let bits = bit c.args.bitmap.now in
     record {
-      on = grind arith;
+      on = on_ok c.in_ok-put_sector.ensures.goes;
       writing = λ tells first so_far. c.put_sector.ensures.writing tells (is_marked (length c.args.new.now) bits) first (marked_at (length c.args.new.now) bits c.loop-i.i (omega arith) (search rules)) (c.loop-i.invariant.writing tells first so_far);
       made = calls.marked_more bits c.args.new.now (g.D.Disk.calls c.args.disk.now) (g.D.Disk.calls c.loop-i.disk) c.loop-i.i c.loop-i.invariant.made (g.D.Disk.calls c.put_sector.new.disk) c.copy_sector.new.into (search rules) c.copy_sector.ensures c.put_sector.ensures.made;
       written = λ tells. marked_more (now_of s) (now_of t) bits c.args.new.now c.copy_sector.new.into c.loop-i.i (c.loop-i.invariant.written tells) c.copy_sector.ensures (c.in_ok-put_sector.ensures.put tells);
-      history = c.put_sector.ensures.history ∙ c.loop-i.invariant.history;
-      counts = grind arith;
+      goes = goes_then c.loop-i.invariant.goes (goes_ok c.in_ok-put_sector.ensures.goes);
     }

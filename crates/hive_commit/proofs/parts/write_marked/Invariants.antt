@@ -1,6 +1,7 @@
 use Rattle.std.proofs.Common.{◌≡◌, true, length}
 use Rattle.hive_model.specs.Recovery.{bit}
-use Rattle.nt_edge.specs.Disk.{DiskState, CountsGrow, now_of}
+use Rattle.nt_edge.specs.Disk.{DiskState, now_of}
+use Rattle.nt_edge.specs.Frames.{GoesOn}
 use Rattle.nt_edge.specs.Calls.{Makes, writes_of}
 use Rattle.nt_edge.specs.Crash.{Writing}
 use Rattle.hive_commit.specs.Stages.{is_marked}
@@ -13,6 +14,5 @@ invariant-loop-i g l = record {
   writing : g.D.Disk.tells ≡ true → (first : DiskState) → Writing (is_marked (length l.new) (bit l.bitmap)) first (g.D.Disk.state l.fn.disk) → Writing (is_marked (length l.new) (bit l.bitmap)) first (g.D.Disk.state l.disk);
   made : Makes (g.D.Disk.calls l.fn.disk) (g.D.Disk.calls l.disk) (writes_of (marked_below (bit l.bitmap) l.new l.i));
   written : g.D.Disk.tells ≡ true → HasMarkedBelow (now_of (g.D.Disk.state l.disk)) (bit l.bitmap) l.new l.i;
-  history : (g.D.Disk.state l.disk).history ≡ (g.D.Disk.state l.fn.disk).history;
-  counts : CountsGrow (g.D.Disk.state l.fn.disk) (g.D.Disk.state l.disk);
+  goes : GoesOn (g.D.Disk.state l.fn.disk) (g.D.Disk.state l.disk) ⊥ ⊥ ⊥;
 }

@@ -2,7 +2,7 @@ use Rattle.std.proofs.Common.{◌++◌, ◌∷◌, refl, ◌∙◌, length}
 use Rattle.hive_model.specs.Recovery.{bit}
 use Rattle.nt_edge.specs.Calls.{Synced, writes_of}
 use Rattle.hive_commit.specs.Calls.{bins_writes, block_calls}
-use Rattle.hive_log.specs.Places.{log_at}
+use Rattle.hive_model.specs.Asked.{log_at}
 use Rattle.hive_commit.proofs.CallLemmas.{stopped}
 use Rattle.hive_commit.proofs.StageCalls.{in_closing_bins, in_closing_block, closing_made}
 use Rattle.hive_commit.proofs.Four.{held_left}

@@ -2,7 +2,7 @@ use Rattle.std.proofs.Common.{◌∷◌, [], ℕ, List, subst}
 use Rattle.hive_model.specs.Base.{base_text}
 use Rattle.nt_edge.specs.Calls.{Wrote, Synced, Makes}
 use Rattle.hive_commit.specs.Calls.{block_calls}
-use Rattle.hive_log.specs.Places.{primary_at}
+use Rattle.hive_model.specs.Asked.{primary_at}
 use Rattle.hive_commit.proofs.CallLemmas.{all_made, stopped, front_made, made_then}
 use Rattle.hive_commit.proofs.stages.write_block.Goals as goal
 

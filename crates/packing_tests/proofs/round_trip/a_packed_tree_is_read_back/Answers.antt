@@ -8,16 +8,18 @@ use Rattle.packing_tests.proofs.RoundTrip.{well_formed_packed}
 use Rattle.packing_tests.proofs.round_trip.a_packed_tree_is_read_back.Goals as goal
 
 pub returns-clause-bins : goal.returns-clause-bins
-returns-clause-bins c = λ t room. (packed_bins t, packed_is_bins t room)
+returns-clause-bins c = λ version t room. (packed_bins version t, packed_is_bins version t room)
 
 pub returns-clause-no_bad_bin : goal.returns-clause-no_bad_bin
-returns-clause-no_bad_bin c = λ t fault room fails. let is = packed_is_bins t room in not_both (packed t) (packed_bins t) fault is.0 is.1 fails
+returns-clause-no_bad_bin c = λ version t fault room fails.
+    let is = packed_is_bins version t room in
+    not_both (packed version t) (packed_bins version t) fault is.0 is.1 fails
 
 pub returns-clause-no_fault : goal.returns-clause-no_fault
-returns-clause-no_fault c = λ t bins valid numbers room is. well-formed-passes (look_up bins) 32 t (well_formed_packed t bins valid numbers room is)
+returns-clause-no_fault c = λ version t bins is. well-formed-passes (look_up version bins) 32 t (well_formed_packed version t bins is)
 
 pub returns-clause-stands : goal.returns-clause-stands
-returns-clause-stands c = λ t bins valid numbers room is. (well_formed_packed t bins valid numbers room is).stands
+returns-clause-stands c = λ version t bins is. (well_formed_packed version t bins is).stands
 
 pub returns-clause-no_other : goal.returns-clause-no_other
-returns-clause-no_other c = λ t u bins valid numbers room is stands. one_stands (look_up bins) 32 u t stands (well_formed_packed t bins valid numbers room is).stands
+returns-clause-no_other c = λ version t u bins is stands. one_stands (look_up version bins) 32 u t stands (well_formed_packed version t bins is).stands
