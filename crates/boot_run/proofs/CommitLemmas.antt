@@ -1,6 +1,7 @@
 -- What a commit of the session comes to in the book's run.
 use Rattle.std.proofs.Common.{◌≡◌, ◌⊎◌, ◌+◌, ◌%◌, inl, inr, ⊎_elim, ℕ, Bool, true, false, List, [], ◌∷◌, ◌++◌, Option, Some, None, refl, sym, ap, subst, ◌∙◌}
 use Rattle.nt_bytes.specs.declared.version.HiveVersion.{HiveVersion}
+use Rattle.hive_model.specs.Base.{version_of}
 use Rattle.hive_model.specs.Image.{Image}
 use Rattle.hive_model.specs.Tree.{Tree}
 use Rattle.hive_model.specs.State.{HiveState}
@@ -11,7 +12,8 @@ use Rattle.nt_edge.specs.Host.{SaysFront}
 use Rattle.nt_edge.specs.Bench.{turned_off}
 use Rattle.hive_store.specs.Session.{Session}
 use Rattle.hive_store.specs.Commits as store
-use Rattle.hive_store.specs.Commits.{LoadsAsEither, IsCommitted}
+use Rattle.hive_store.specs.Commits.{LoadsAsEither}
+use Rattle.hive_commit.specs.Stages.{next_number}
 use Rattle.start_model.specs.Lines.{CommitLine, VerdictLine, CommitWord, Verdict, line_text}
 use Rattle.start_model.specs.Fits.{outcomes_in, MayLoad}
 use Rattle.start_model.specs.Causes.{HasCause}
@@ -49,19 +51,19 @@ module _ (m : RunState) (next : RunState → Act) (what : CommitWord) (s : Sessi
   commit_memory x = breaks-silent (commit what s.tree m next) x d e commit_still commit_open
 
   -- the commit is done
-  module _ (after : Session) (number : ℕ) (is : IsCommitted s after number) (none : e.flight ≡ []) (loads : Loads e.held (store.committed_state s) false) where
+  module _ (after : Session) (number : ℕ) (is : after ≡ store.committed s) (raised : number ≡ next_number s.base.first) (none : e.flight ≡ []) (loads : Loads e.held (store.committed_state s) false) where
     commit_number : number ≡ (next_state m s.tree).sequence
-    commit_number = is.raised ∙ ap (λ (t : HiveState). t.sequence) (next_is m s d live)
+    commit_number = raised ∙ ap (λ (t : HiveState). t.sequence) (next_is m s d live)
 
     commit_loads : Loads e.held (next_state m s.tree) false
     commit_loads = let P : HiveState → Type 0 = λ t. Loads e.held t false in subst P (next_is m s d live) loads
 
     pub commit_live : IsLive (committed_state m s.tree) after e
     commit_live = record {
-      live = sym is.tree;
-      changed = sym is.unchanged;
-      sequence = sym commit_number ∙ sym is.sequence;
-      version = live.version ∙ sym is.version;
+      live = sym (ap (λ (t : Session). t.tree) is);
+      changed = sym (ap (λ (t : Session). t.changed) is);
+      sequence = sym commit_number ∙ raised ∙ sym (ap (λ (t : Session). t.base.first) is);
+      version = live.version ∙ sym (ap (λ (t : Session). version_of t.base.minor) is);
       settled = refl;
       loads = commit_loads;
     }

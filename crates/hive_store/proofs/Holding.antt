@@ -6,11 +6,11 @@ use Rattle.hive_model.specs.Image.{Image}
 use Rattle.hive_model.specs.Recovery.{Recovered, recovered_of}
 use Rattle.hive_model.specs.Carries.{Carries, IsRecoveredAs}
 use Rattle.hive_model.specs.State.{HiveState}
-use Rattle.hive_model.specs.Load.{Loads, Holds}
+use Rattle.hive_model.specs.Load.{Loads, LoadsAs, Holds}
 use Rattle.hive_model.specs.Tree.{Tree}
 use Rattle.hive_log.proofs.Appending.{sized}
 use Rattle.hive_log.proofs.Finding.{carries_recovered}
-use Rattle.hive_store.specs.Checks.{state_of, LoadsAs}
+use Rattle.hive_store.specs.Checks.{held_state}
 
 abbrev done : Recovered → Result Recovered HiveFault
 done r = Ok r
@@ -24,7 +24,7 @@ clean base bins = record { base = base; bins = bins; dirty = false }
 
 -- what is recovered as what has this tree loads as it
 pub found_loads : (image : Image) (r : Recovered) (tree : Tree) → recovered_of image ≡ Ok r
-    → Holds r (state_of tree r.base.first) → LoadsAs image (state_of tree r.base.first)
+    → Holds r (held_state r tree) → LoadsAs image (held_state r tree)
 found_loads image r tree is holds = (r.dirty, record { recovered = r; read = is; was_dirty = refl; holds = holds })
 
 -- a state is held with or without a log
@@ -35,7 +35,7 @@ held_again r s image holds is = (
     recovered = record { base = r.base; bins = r.bins; dirty = is.dirty };
     read = is.recovered;
     was_dirty = refl;
-    holds = record { bins = holds.bins; cells = holds.cells; tree = holds.tree; sequence = holds.sequence };
+    holds = record { bins = holds.bins; cells = holds.cells; tree = holds.tree; sequence = holds.sequence; version = holds.version };
   },
 )
 

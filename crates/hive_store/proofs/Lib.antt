@@ -3,3 +3,4 @@ pub mod LoadingLemmas
 pub mod EditingLemmas
 pub mod CommittingLemmas
 pub mod LoadingCalls
+pub mod FoundLemmas

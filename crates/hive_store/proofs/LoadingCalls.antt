@@ -9,7 +9,9 @@ use Rattle.hive_model.specs.Recovery.{recovered_of}
 use Rattle.nt_edge.specs.Calls.{Made, ReadAt, reads_of}
 use Rattle.nt_edge.specs.declared.disk.DiskStop.{DiskStop}
 use Rattle.nt_edge.specs.declared.disk.DiskStop.TheVariants as disk
-use Rattle.hive_log.specs.Asked.{asked_of, IsAsked, IsFront}
+use Rattle.nt_bytes.specs.Front.{IsFront}
+use Rattle.hive_model.specs.Asked.{asked_of}
+use Rattle.hive_log.specs.Asked.{IsAsked}
 use Rattle.hive_log.specs.Stops.{load_stop_of}
 use Rattle.hive_log.specs.declared.stops.LoadStop.{LoadStop}
 use Rattle.hive_log.specs.declared.stops.LoadStop.TheVariants as load

@@ -7,13 +7,12 @@ use Rattle.hive_model.specs.Image.{Image}
 use Rattle.hive_model.specs.Recovery.{Recovered, recovered_of}
 use Rattle.hive_model.specs.Carries.{Carries, IsRecoveredAs}
 use Rattle.hive_model.specs.State.{HiveState}
-use Rattle.hive_model.specs.Load.{Loads, LoadFault}
+use Rattle.hive_model.specs.Load.{Loads, LoadsAs, LoadFault}
 use Rattle.nt_edge.specs.Disk.{DiskState}
 use Rattle.nt_edge.specs.Crash.{EachCrash}
 use Rattle.hive_cells.proofs.Again.{one_list, not_both}
 use Rattle.hive_read.proofs.Loading.{load-or-fault}
 use Rattle.hive_commit.proofs.Kept.{only_held}
-use Rattle.hive_store.specs.Checks.{LoadsAs}
 use Rattle.hive_store.proofs.Holding.{held_again, held_by, carried_loads}
 
 -- an image that loads has no fault
@@ -41,4 +40,4 @@ found_again old s dirty r loads is size closed bins closed_is bins_is new carrie
     let holds = held_by old s dirty r loads is in
     let same : Carries new r.base bins = subst (λ (b : Base). Carries new b bins) closed_is carries in
     carried_loads new r.base r.bins s size (subst (λ (l : List ℕ). Carries new r.base l) bins_is same)
-    (record { bins = holds.bins; cells = holds.cells; tree = holds.tree; sequence = holds.sequence })
+    (record { bins = holds.bins; cells = holds.cells; tree = holds.tree; sequence = holds.sequence; version = holds.version })

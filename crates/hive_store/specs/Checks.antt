@@ -1,29 +1,27 @@
--- What is a hive read as: a tree and a sequence number, or its first fault? (This project's own.)
-use Rattle.std.specs.Prelude.{ℕ, Bool, Result, Ok, Err}
+-- What is a hive read as: a tree, a sequence number and a version, or its first fault? (This project's own.)
+use Rattle.std.specs.Prelude.{◌≡◌, ℕ, List, Result, Ok, Err}
+use Rattle.nt_bytes.specs.declared.version.HiveVersion.{HiveVersion}
 use Rattle.nt_bytes.specs.declared.fault.ReadStop.{ReadStop}
 use Rattle.nt_bytes.specs.declared.fault.ReadStop.TheVariants as read
+use Rattle.hive_model.specs.Base.{version_of}
 use Rattle.hive_model.specs.Image.{Image}
 use Rattle.hive_model.specs.Recovery.{Recovered}
 use Rattle.hive_model.specs.Tree.{Tree}
 use Rattle.hive_model.specs.State.{HiveState}
-use Rattle.hive_model.specs.Load.{Loads, LoadFault, Holds, HeldFault}
+use Rattle.hive_model.specs.Load.{LoadsAs, LoadFault, Holds, HeldFault, state_of}
 
--- this tree under this number
-abbrev pub state_of : Tree → ℕ → HiveState
-state_of tree number = record { tree = tree; sequence = number }
+-- the state that what was recovered holds with this tree
+abbrev pub held_state : Recovered → Tree → HiveState
+held_state found tree = state_of tree found.base.first (version_of found.base.minor)
 
--- the image loads as the state, clean or not
-abbrev pub LoadsAs : Image → HiveState → Type 0
-LoadsAs image s = (dirty : Bool) × Loads image s dirty
-
--- of what was recovered: the tree that it holds, or its first fault
-abbrev pub HoldsAs : Recovered → Result Tree ReadStop → Type 0
-HoldsAs found (Ok tree) = Holds found (state_of tree found.base.first)
+-- of what was recovered: the tree that it holds, with its bins data given back, or its first fault
+abbrev pub HoldsAs : Recovered → Result (Tree × List ℕ) ReadStop → Type 0
+HoldsAs found (Ok x) = Holds found (held_state found x.0) × (x.1 ≡ found.bins)
 HoldsAs found (Err (read.Fault f)) = HeldFault found f
 HoldsAs found (Err read.Memory) = Unit {0}
 
--- of an image: the tree and the number of the state that it loads as, or its first fault
-abbrev pub ChecksAs : Image → Result (Tree × ℕ) ReadStop → Type 0
-ChecksAs image (Ok x) = LoadsAs image (state_of x.0 x.1)
+-- of an image: the tree, the number and the version of the state that it loads as, or its first fault
+abbrev pub ChecksAs : Image → Result (Tree × ℕ × HiveVersion) ReadStop → Type 0
+ChecksAs image (Ok x) = LoadsAs image (state_of x.0 x.1 x.2)
 ChecksAs image (Err (read.Fault f)) = LoadFault image f
 ChecksAs image (Err read.Memory) = Unit {0}

@@ -1,35 +1,29 @@
 -- What does a commit of a session make? (This project's own.)
-use Rattle.std.specs.Prelude.{◌≡◌, ◌⊎◌, false, ℕ, List, Result, IfOk}
+use Rattle.std.specs.Prelude.{◌⊎◌, false, ℕ, List}
+use Rattle.hive_model.specs.Base.{Base, version_of}
 use Rattle.hive_model.specs.Image.{Image}
+use Rattle.hive_model.specs.Log.{dirty, log_of}
 use Rattle.hive_model.specs.State.{HiveState}
-use Rattle.nt_edge.specs.Calls.{Made, MakesUntil}
-use Rattle.hive_commit.specs.Calls.{change_calls}
+use Rattle.hive_model.specs.Load.{LoadsAs, state_of}
 use Rattle.hive_commit.specs.Stages.{next_number, closed_of}
-use Rattle.hive_commit.specs.declared.stops.CommitStop.{CommitStop}
-use Rattle.hive_store.specs.Checks.{state_of, LoadsAs}
-use Rattle.hive_store.specs.Session.{Session, HasTree}
+use Rattle.hive_store.specs.Session.{Session, next_bins, next_root}
+
+-- the base block that the session's commit closes with; its minor version is the one from before
+abbrev pub next_base : Session → Base
+next_base s = closed_of s.base (next_bins s) (next_root s)
+
+-- the session after its commit: the tree stays, the disk carries what was written, and nothing is changed any more
+abbrev pub committed : Session → Session
+committed s = record { base = next_base s; bins = next_bins s; tree = s.tree; changed = false }
 
 -- what the session's commit leads to: its tree under the next number
 abbrev pub committed_state : Session → HiveState
-committed_state s = state_of s.tree (next_number s.base.first)
+committed_state s = state_of s.tree (next_number s.base.first) (version_of s.base.minor)
 
--- the session after a commit, and its number: the tree stays, and is not changed any more
-pub record IsCommitted (before after : Session) (number : ℕ) : Type 0 where
-  pub tree : after.tree ≡ before.tree
-  pub raised : number ≡ next_number before.base.first
-  pub sequence : after.base.first ≡ number
-  pub unchanged : after.changed ≡ false
+-- the log of the session's commit: the sectors in which what it writes differs from what the disk carries
+abbrev pub session_log : Session → List ℕ
+session_log s = log_of (dirty s.bins (next_bins s)) (next_bins s) (next_base s)
 
 -- the image loads as the one state or as the other
 abbrev pub LoadsAsEither : HiveState → HiveState → Image → Type 0
 LoadsAsEither before after image = LoadsAs image before ⊎ LoadsAs image after
-
--- the calls are those of one change to bins data in which the session's tree stands; up to a refusal a front of them.
--- The session after it has these data, and the base block that closes the change.
-pub record CommitsBy (before after : List Made → Type 0) (s : Session) (result : Result (Session × ℕ) CommitStop) : Type 0 where
-  pub new : List ℕ
-  pub root : ℕ
-  pub has : HasTree new root s.tree
-  pub made : MakesUntil before after (change_calls s.base s.bins new root) result
-  pub closed : IfOk result (λ x. x.0.base ≡ closed_of s.base new root)
-  pub bins_are : IfOk result (λ x. x.0.bins ≡ new)

@@ -1,4 +1,5 @@
 pub mod Checks
 pub mod Session
+pub mod Found
 pub mod Loading
 pub mod Commits

@@ -3,18 +3,19 @@ use Rattle.std.specs.Prelude.{◌≡◌, Bool, List, Result, Ok, Err}
 use Rattle.nt_bytes.specs.declared.fault.HiveFault.{HiveFault}
 use Rattle.hive_model.specs.Image.{Image}
 use Rattle.hive_model.specs.State.{HiveState}
-use Rattle.hive_model.specs.Load.{Loads, LoadFault}
+use Rattle.hive_model.specs.Base.{version_of}
+use Rattle.hive_model.specs.Load.{Loads, LoadFault, state_of}
 use Rattle.nt_edge.specs.Calls.{Made, reads_of}
-use Rattle.hive_log.specs.Asked.{asked_of, IsFront}
+use Rattle.nt_bytes.specs.Front.{IsFront}
+use Rattle.hive_model.specs.Asked.{asked_of}
 use Rattle.hive_log.specs.declared.stops.LoadStop.{LoadStop}
 use Rattle.hive_log.specs.declared.stops.LoadStop.TheVariants as load
 use Rattle.hive_commit.specs.Calls.{recovery_calls}
-use Rattle.hive_store.specs.Checks.{state_of}
 use Rattle.hive_store.specs.Session.{Session}
 
--- the session's tree under the number of its base block
+-- the session's tree under the number and in the version of its base block
 abbrev pub loaded_state : Session → HiveState
-loaded_state s = state_of s.tree s.base.first
+loaded_state s = state_of s.tree s.base.first (version_of s.base.minor)
 
 -- a fault is the first of the image; nothing is said of the other stops
 abbrev pub StopsFrom : Image → LoadStop → Type 0

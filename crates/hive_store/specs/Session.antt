@@ -1,11 +1,13 @@
 -- What is a session on a hive, and what does it keep? (This project's own.)
-use Rattle.std.specs.Prelude.{◌≡◌, Bool, true, ℕ, List, length, Option, Some, None, unwrap_or, refl}
+use Rattle.std.specs.Prelude.{◌≡◌, Bool, true, ℕ, if◌then◌else◌, List, length, Option, Some, None, is_some, refl}
 use Rattle.std.specs.Coded.{Coded, code_by, coded×, coded_ℕ, coded_bool, coded_list}
-use Rattle.hive_model.specs.Base.{Base, is_bins_size}
+use Rattle.nt_bytes.specs.declared.version.HiveVersion.{HiveVersion}
+use Rattle.hive_model.specs.Base.{Base, is_bins_size, version_of}
 use Rattle.hive_model.specs.Bins.{Bin, IsBins, look_up}
 use Rattle.hive_model.specs.Tree.{Tree, coded_tree}
 use Rattle.hive_model.specs.Valid.{IsValid}
 use Rattle.hive_model.specs.Stands.{IsWellFormed}
+use Rattle.hive_model.specs.Packed.{packed}
 
 -- the base block and the bins data as the disk carries them, the tree with the edits since, and whether one
 -- of them gave another tree, also where a later one undid it
@@ -15,28 +17,33 @@ pub record Session : Type 0 where
   pub tree : Tree
   pub changed : Bool
 
--- bins data of a size that a commit takes, in whose cells the tree stands at the root
-pub record HasTree (bins : List ℕ) (root : ℕ) (tree : Tree) : Type 0 where
+-- bins data of a size that a commit takes, in whose cells the tree stands at the root in this version
+pub record HasTree (version : HiveVersion) (bins : List ℕ) (root : ℕ) (tree : Tree) : Type 0 where
   pub sized : is_bins_size (length bins) ≡ true
   pub heap : List Bin
   pub cells : IsBins bins heap
-  pub stands : IsWellFormed (look_up heap) root tree
+  pub stands : IsWellFormed (look_up version heap) root tree
 
--- where the root is of what the next commit writes: at 32 where that was packed, or where it stands now
-abbrev pub next_root : Base → Option (List ℕ) → ℕ
-next_root base None = base.root
-next_root base (Some packed) = 32
+-- what the next commit writes: the packed tree where an edit gave another one, else what the disk carries
+abbrev pub next_bins : Session → List ℕ
+next_bins s = if s.changed then packed (version_of s.base.minor) s.tree else s.bins
 
--- the next commit writes the tree: packed, or as it stands where no edit gave another
-abbrev pub IsReady : Base → List ℕ → Option (List ℕ) → Tree → Type 0
-IsReady base bins next tree = HasTree (unwrap_or next bins) (next_root base next) tree
+-- where the root is of what the next commit writes: the packed tree's is at 32
+abbrev pub next_root : Session → ℕ
+next_root s = if s.changed then 32 else s.base.root
 
--- a hive can hold the tree, what the disk carries has a tree too, and the next commit writes this one
+-- the session of these fields, in which the next commit's data are kept where an edit gave another tree
+abbrev pub session_of : Base → List ℕ → Tree → Option (List ℕ) → Session
+session_of base bins tree next = record { base = base; bins = bins; tree = tree; changed = is_some next }
+
+-- a hive can hold the tree, what the disk carries has a tree too, and the next commit writes this one: the data that
+-- are kept for it are the packed tree
 pub record IsSession (base : Base) (bins : List ℕ) (tree : Tree) (next : Option (List ℕ)) : Type 0 where
   pub valid : IsValid tree
   pub committed : Tree
-  pub carried : HasTree bins base.root committed
-  pub ready : IsReady base bins next tree
+  pub carried : HasTree (version_of base.minor) bins base.root committed
+  pub kept : (new : List ℕ) → next ≡ Some new → new ≡ packed (version_of base.minor) tree
+  pub ready : HasTree (version_of base.minor) (next_bins (session_of base bins tree next)) (next_root (session_of base bins tree next)) tree
 
 -- a base block and a session as the logic codes them
 abbrev pub coded_base : Coded Base

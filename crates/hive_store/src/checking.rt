@@ -9,29 +9,35 @@ ghost use Rattle.hive_store.specs.Checks.{HoldsAs, ChecksAs};
 use hive_cells::read_cells;
 use hive_log::{Recovered, recovered};
 use hive_read::read_tree;
-use nt_bytes::ReadStop;
+use nt_bytes::{Bytes, HiveVersion, ReadStop};
 use reg_tree::Key;
 use std::alloc::Global;
 
-/// The tree of what was recovered, or the first fault of its bins, and then of the tree in them.
-pub(crate) fn tree_in(alloc: Global, found: Recovered) -> Result<Key, ReadStop>
+/// The tree of what was recovered, with the bins data given back, or the first fault of its bins, and then
+/// of the tree in them. The bins data are not copied.
+pub(crate) fn tree_in(alloc: Global, found: Recovered) -> Result<(Key, Bytes), ReadStop>
     requires sized { is_bins_size (length found.bins) ≡ true }
     ensures exact { HoldsAs found result }
-    ensures valid { IfOk result (λ t. IsValid t) }
+    ensures valid { IfOk result (λ x. IsValid x.0) }
 {
-    let root = found.base.root;
+    let base = found.base;
     let cells = read_cells(alloc, found.bins)?;
-    read_tree(alloc, &cells, root)
+    let tree = read_tree(alloc, &cells, base.root, base.version())?;
+    Ok((tree, cells.into_bytes()))
 }
 
-/// The tree and the sequence number of two files, or the first fault. An empty log is an absent one.
-/// Want of memory alone is free.
-pub fn check_images(alloc: Global, primary: &[u8], log: &[u8]) -> Result<(Key, u32), ReadStop>
+/// The tree, the sequence number and the version of two files, or the first fault. An empty log is an absent
+/// one. Out of memory alone is free.
+pub fn check_images(
+    alloc: Global,
+    primary: &[u8],
+    log: &[u8],
+) -> Result<(Key, u32, HiveVersion), ReadStop>
     ensures exact { ChecksAs (image_of primary.now log.now) result }
     ensures valid { IfOk result (λ x. IsValid x.0) }
 {
     let found = recovered(alloc, primary, log)?;
     let base = found.base;
-    let tree = tree_in(alloc, found)?;
-    Ok((tree, base.first))
+    let (tree, _bins) = tree_in(alloc, found)?;
+    Ok((tree, base.first, base.version()))
 }

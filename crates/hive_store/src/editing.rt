@@ -2,6 +2,7 @@
 
 ghost use Rattle.std.specs.Prelude.{◌≡◌, ◌⊎◌, ◌↔◌, true, map, OnOk, OnErr};
 ghost use Rattle.std.specs.List.{All};
+ghost use Rattle.hive_model.specs.Base.{version_of};
 ghost use Rattle.hive_model.specs.Edit.{edited};
 ghost use Rattle.reg_tree.specs.Fitting.{Fits};
 ghost use Rattle.reg_tree.specs.Makes.{Makes, step_of};
@@ -17,7 +18,7 @@ impl Hive {
     pub fn apply(&mut self, alloc: Global, steps: Steps) -> Result<(), EditStop>
         requires fits { All Fits (map step_of steps) }
         // The tree is the book's edit of it; the refusals are the book's, and want of memory.
-        ensures made { Makes self.old.tree self.new.tree result (edited self.old.tree (map step_of steps)) }
+        ensures made { Makes self.old.tree self.new.tree result (edited (version_of self.old.base.minor) self.old.tree (map step_of steps)) }
         ensures refused { OnErr result (self.new ≡ self.old) }
         ensures base { self.new.base ≡ self.old.base }
         ensures bins { self.new.bins ≡ self.old.bins }
@@ -25,12 +26,13 @@ impl Hive {
         ensures changed { OnOk result (self.new.changed ≡ true
             ↔ (self.old.changed ≡ true) ⊎ (self.new.tree ≡ self.old.tree → ⊥)) }
     {
+        let version = self.base.version();
         let mut work = self.tree.copy(alloc)?;
-        work.apply(alloc, steps)?;
+        work.apply(alloc, steps, version)?;
         if work.same(&self.tree) {
             return Ok(());
         }
-        let packed = pack(alloc, &work)?;
+        let packed = pack(alloc, &work, version)?;
         self.tree = work;
         self.next = Some(packed);
         Ok(())

@@ -7,16 +7,15 @@ ghost use Rattle.hive_model.specs.Image.{Image};
 ghost use Rattle.hive_model.specs.Recovery.{recovered_of};
 ghost use Rattle.hive_model.specs.Carries.{Carries};
 ghost use Rattle.hive_model.specs.State.{HiveState};
-ghost use Rattle.hive_model.specs.Load.{Loads, LoadFault};
-ghost use Rattle.nt_edge.specs.Disk.{CountsGrow};
+ghost use Rattle.hive_model.specs.Load.{Loads, LoadsAs, LoadFault};
 ghost use Rattle.nt_edge.specs.Crash.{EachCrash};
-ghost use Rattle.hive_log.specs.Asked.{asked_of, MakesReads, IsAsked};
+ghost use Rattle.hive_model.specs.Asked.{asked_of};
+ghost use Rattle.hive_log.specs.Asked.{MakesReads, IsAsked};
 ghost use Rattle.hive_log.specs.Found.{Found};
-ghost use Rattle.hive_log.specs.Stops.{HasLoadCause, IsOnAfterLoad};
+ghost use Rattle.hive_log.specs.Stops.{IsLookAt, IsLoadOn};
 ghost use Rattle.hive_commit.specs.Alone.{KeepsClean};
 ghost use Rattle.hive_commit.specs.Calls.{MakesRecovery};
 ghost use Rattle.hive_commit.specs.Untouched.{IsUntouched, IsUnwritten};
-ghost use Rattle.hive_store.specs.Checks.{LoadsAs};
 ghost use Rattle.hive_store.specs.Loading.{loaded_state, LoadsFrom, StopsFrom, AreOfLoad};
 
 use crate::Hive;
@@ -52,18 +51,12 @@ fn look<D: Disk>(alloc: Global, disk: &mut D) -> Result<Looked, LoadStop>
         → Found (D.state disk.old).held x.hive.base x.bitmap x.hive.bins) }
     ensures sized { IfOk result (λ x. is_bins_size (length x.hive.bins) ≡ true) }
     ensures unchanged { IfOk result (λ x. x.hive.changed ≡ false) }
-    ensures held { D.tells ≡ true → (D.state disk.new).held ≡ (D.state disk.old).held }
-    ensures flight { D.tells ≡ true → (D.state disk.new).flight ≡ (D.state disk.old).flight }
-    ensures history { (D.state disk.new).history ≡ (D.state disk.old).history }
-    ensures counts { CountsGrow (D.state disk.old) (D.state disk.new) }
-    ensures cause { HasLoadCause (D.state disk.old) (D.state disk.new) result }
-    ensures power { IsOnAfterLoad (D.state disk.new) result }
+    ensures look { IsLookAt D.tells (D.state disk.old) (D.state disk.new) result }
 {
     let Reading { recovered, bitmap } = read_recovered(alloc, disk)?;
     let (base, dirty) = (recovered.base, recovered.dirty);
-    let bins = recovered.bins.copy(alloc)?;
     match tree_in(alloc, recovered) {
-        Ok(tree) => Ok(Looked {
+        Ok((tree, bins)) => Ok(Looked {
             hive: Hive {
                 base,
                 bins,
@@ -80,7 +73,7 @@ fn look<D: Disk>(alloc: Global, disk: &mut D) -> Result<Looked, LoadStop>
 
 impl Hive {
     /// The session, and whether the primary was dirty. The disk is on and has nothing in flight. The whole
-    /// hive is checked before a dirty primary is recovered, so a `Fault` has written nothing. Want of memory
+    /// hive is checked before a dirty primary is recovered, so a `Fault` has written nothing. Out of memory
     /// alone is free.
     pub fn load<D: Disk>(alloc: Global, disk: &mut D) -> Result<(Hive, bool), LoadStop>
         requires on { (D.state disk.old).on ≡ true }
@@ -106,10 +99,7 @@ impl Hive {
         ensures faulty { D.tells ≡ true → (fault : HiveFaultModel) → LoadFault (D.state disk.old).held fault
             → IsUntouched (D.state disk.old) (D.state disk.new) }
         ensures unwritten { D.tells ≡ true → IsUnwritten (D.state disk.old) (D.state disk.new) result }
-        ensures history { (D.state disk.new).history ≡ (D.state disk.old).history }
-        ensures counts { CountsGrow (D.state disk.old) (D.state disk.new) }
-        ensures cause { HasLoadCause (D.state disk.old) (D.state disk.new) result }
-        ensures power { IsOnAfterLoad (D.state disk.new) result }
+        ensures goes { IsLoadOn (D.state disk.old) (D.state disk.new) result }
     {
         let Looked {
             hive,

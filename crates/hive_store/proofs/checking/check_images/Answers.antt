@@ -1,5 +1,5 @@
 use Rattle.std.proofs.Common.{◌∙◌, ap}
-use Rattle.hive_model.specs.Base.{Base}
+use Rattle.hive_model.specs.Base.{Base, version_of}
 use Rattle.hive_model.specs.Image.{image_of}
 use Rattle.hive_model.specs.Recovery.{Recovered}
 use Rattle.hive_store.proofs.Holding.{found_loads}
@@ -8,5 +8,6 @@ use Rattle.hive_store.proofs.checking.check_images.Goals as goal
 pub returns-clause-exact : goal.returns-clause-exact
 returns-clause-exact c =
     let number = ap (λ (b : Base). b.first) c.base.view_is ∙ ap (λ (r : Recovered). r.base.first) c.found.view_is in
-    rw number
-    (found_loads (image_of c.args.primary.now c.args.log.now) c.in_ok-found.found c.in_ok-tree.tree c.in_ok-found.ensures.exact c.in_ok-tree.ensures.exact)
+    let version = c.version.ensures ∙ ap (λ (r : Recovered). version_of r.base.minor) c.found.view_is in
+    rw (number, version)
+    (found_loads (image_of c.args.primary.now c.args.log.now) c.in_ok-found.found c.in_ok-tree.tree c.in_ok-found.ensures.exact c.in_ok-tree.ensures.exact.0)
