@@ -42,6 +42,7 @@ no_front p (x ∷ xs) = by_test (p x) refl (no_front p xs)
   where
     one : 1 + prefix_len p xs ≡ suc (prefix_len p xs)
     one = omega arith
+
     by_test : (b : Bool) → p x ≡ b → prefix_len p (drop (prefix_len p xs) xs) ≡ 0 → prefix_len p (drop (cond b (1 + prefix_len p xs) 0) (x ∷ xs)) ≡ 0
     by_test true is rest = rw one rest
     by_test false is rest = rw is refl

@@ -21,7 +21,7 @@ use Rattle.arc_path.specs.Spelling.{IsNumeral, IsItem, word_of, IsBehindBackslas
 
 -- ---- what a reader that succeeded has found
 
-bind_ok : {A B : Type 0} (r : Result A Early) (f : A → Result B Early) (y : B) → (r >>= f) ≡ Ok y → (x : A) × (r ≡ Ok x) × (f x ≡ Ok y)
+pub bind_ok : {A B : Type 0} (r : Result A Early) (f : A → Result B Early) (y : B) → (r >>= f) ≡ Ok y → (x : A) × (r ≡ Ok x) × (f x ≡ Ok y)
 bind_ok (Ok x) f y e = (x, refl, e)
 bind_ok (Err d) f y e = absurd cc
 
@@ -33,19 +33,19 @@ test_ok : {A : Type 0} (b : Bool) (d : Early) (x y : A) → cond b (Ok x) (Err d
 test_ok true d x y e = (refl, cc)
 test_ok false d x y e = absurd cc
 
-passed : {A : Type 0} (b : Bool) (d : Early) (r : Result A Early) (y : A) → cond b (Err d) r ≡ Ok y → (b ≡ false) × (r ≡ Ok y)
+pub passed : {A : Type 0} (b : Bool) (d : Early) (r : Result A Early) (y : A) → cond b (Err d) r ≡ Ok y → (b ≡ false) × (r ≡ Ok y)
 passed true d r y e = absurd cc
 passed false d r y e = (refl, e)
 
-done : {A : Type 0} → A → Result A Early
+unfoldable pub done : {A : Type 0} → A → Result A Early
 done x = Ok x
 
-ok_is : {A : Type 0} (x y : A) → done x ≡ done y → x ≡ y
+pub ok_is : {A : Type 0} (x y : A) → done x ≡ done y → x ≡ y
 unfolding done
 ok_is x y e = cc
 
 -- the front of a text, of which P holds, and the rest
-abbrev Front : (List ℕ → Type 0) → List ℕ → List ℕ → Type 0
+abbrev pub Front : (List ℕ → Type 0) → List ℕ → List ℕ → Type 0
 Front P text rest = (shown : List ℕ) × (text ≡ shown ++ rest) × P shown
 
 abbrev pub IsNamed : List ℕ → List ℕ → Type 0
@@ -54,7 +54,7 @@ IsNamed word name = str_eq_ignore_ascii_case name word ≡ true
 front_at : (P : List ℕ → Type 0) (k : ℕ) (text rest : List ℕ) → drop k text ≡ rest → P (take k text) → Front P text rest
 front_at P k text rest e p = (take k text, sym (take-append-drop k text) ∙ ap (λ (t : List ℕ). take k text ++ t) e, p)
 
-word_front : (word text rest : List ℕ) → word_at word text ≡ Ok rest → Front (IsNamed word) text rest
+pub word_front : (word text rest : List ℕ) → word_at word text ≡ Ok rest → Front (IsNamed word) text rest
 unfolding word_at
 word_front word text rest e =
     let g = test_ok (str_eq_ignore_ascii_case (take (length word) text) word) _ (drop (length word) text) rest e in
@@ -63,10 +63,10 @@ word_front word text rest e =
 -- ---- numbers
 
 -- how many digits the text begins with
-abbrev digit_count : ℕ → List ℕ → ℕ
+abbrev pub digit_count : ℕ → List ℕ → ℕ
 digit_count radix text = prefix_len (λ c. is_digit c radix) text
 
-digits_front : (radix : ℕ) (text : List ℕ) → AllDigits radix (take (digit_count radix text) text)
+pub digits_front : (radix : ℕ) (text : List ℕ) → AllDigits radix (take (digit_count radix text) text)
 digits_front radix [] = tt
 digits_front radix (c ∷ text) = by_test (is_digit c radix) refl (digits_front radix text)
   where
@@ -89,7 +89,7 @@ right_false false b e = e
 not_zero : (n : ℕ) → eqb n 0 ≡ false → 0 < n
 not_zero n e = omega (arith, eqb-false n 0 e)
 
-number_front : (radix most : ℕ) (text : List ℕ) (x : ℕ × List ℕ) → number_at radix most text ≡ Ok x → Front (IsNumeral radix most x.0) text x.1
+pub number_front : (radix most : ℕ) (text : List ℕ) (x : ℕ × List ℕ) → number_at radix most text ≡ Ok x → Front (IsNumeral radix most x.0) text x.1
 unfolding number_at
 number_front radix most text x e =
     let n : ℕ = digit_count radix text in
@@ -115,7 +115,7 @@ only_closing (c ∷ []) e = ap (λ (d : ℕ). d ∷ []) (lower_closing c (eqb-tr
 only_closing (c ∷ d ∷ name) e = absurd (false≢true (both (eqb (to_ascii_lowercase c) 41) false e).1)
 
 -- what stands behind a number: `)`, and the rest
-closing_behind : (text rest : List ℕ) → word_at (codes ")") text ≡ Ok rest → text ≡ codes ")" ++ rest
+pub closing_behind : (text rest : List ℕ) → word_at (codes ")") text ≡ Ok rest → text ≡ codes ")" ++ rest
 closing_behind text rest e =
     let w = word_front (codes ")") text rest e in w.1 ∙ ap (λ (t : List ℕ). t ++ rest) (only_closing w.0 w.2)
 
@@ -161,7 +161,7 @@ kind_is true kind k text other x is more e =
     subst (λ (y : ArcKind × List ℕ). Front (IsNamed (word_of y.0)) text y.1) (ok_is (kind, drop k text) x e) (front_at (IsNamed (word_of kind)) k text (drop k text) refl is)
 kind_is false kind k text other x is more e = more e
 
-kind_front : (text : List ℕ) (x : ArcKind × List ℕ) → kind_at text ≡ Ok x → Front (IsNamed (word_of x.0)) text x.1
+pub kind_front : (text : List ℕ) (x : ArcKind × List ℕ) → kind_at text ≡ Ok x → Front (IsNamed (word_of x.0)) text x.1
 unfolding kind_at
 kind_front text x e =
     kind_is _ Multi 6 text _ x refl

@@ -21,7 +21,7 @@ use Rattle.arc_path.proofs.Found.{IsNamed, no_backslashes}
 
 -- ---- words
 
-same_length : (name word : List ℕ) → IsNamed word name → length name ≡ length word
+pub same_length : (name word : List ℕ) → IsNamed word name → length name ≡ length word
 same_length [] [] e = refl
 same_length [] (d ∷ word) e = absurd (false≢true e)
 same_length (c ∷ name) [] e = absurd (false≢true e)

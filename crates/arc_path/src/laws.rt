@@ -1,8 +1,10 @@
 //! What holds of reading and writing a path.
 
-ghost use Rattle.std.specs.Prelude.{◌≡◌, Ok, List, ℕ};
+ghost use Rattle.std.specs.Prelude.{◌≡◌, Ok, Err, List, ℕ};
+ghost use Rattle.arc_path.specs.Faults.{IsFirstFault};
 ghost use Rattle.arc_path.specs.Reading.{arc_of};
 ghost use Rattle.arc_path.specs.declared.arc.Arc.{Arc};
+ghost use Rattle.arc_path.specs.declared.arc.ArcFault.{ArcFault};
 ghost use Rattle.arc_path.specs.Spelling.{IsPath, IsSpelled, text_of};
 
 /// A text is read as a path exactly where it spells it: words in either case, leading zeros and any
@@ -11,6 +13,12 @@ pub fn a_path_reads_as_what_it_spells()
     ensures reads { (text : List ℕ) (arc : Arc) → IsSpelled text arc → arc_of text ≡ Ok arc }
     ensures spelled { (text : List ℕ) (arc : Arc) → arc_of text ≡ Ok arc → IsSpelled text arc }
     ensures written { (arc : Arc) → IsPath arc → IsSpelled (text_of arc) arc }
+{}
+
+/// The fault that is named is the first from the left: each piece before its place stands there, and
+/// the next one does not.
+pub fn the_first_fault_from_the_left_is_named()
+    ensures { (text : List ℕ) (fault : ArcFault) → arc_of text ≡ Err fault → IsFirstFault fault text }
 {}
 
 /// What was read, written and read again is the same path.

@@ -10,7 +10,9 @@ mod reading;
 mod writing;
 
 pub use arc::{Arc, ArcFault, ArcFaultKind, ArcKind, ArcStop};
-pub use laws::{a_path_is_read_again, a_path_reads_as_what_it_spells};
+pub use laws::{
+    a_path_is_read_again, a_path_reads_as_what_it_spells, the_first_fault_from_the_left_is_named,
+};
 pub use reading::read_arc;
 pub use writing::{arc_text, same_arc};
 

@@ -1,69 +1,77 @@
 -- Images that agree where recovery looks recover alike.
-use Rattle.std.specs.Prelude.{nat_eq, codes, IsSome, if◌then◌else◌}
+use Rattle.std.specs.Prelude.{nat_eq, codes, IsOk, if◌then◌else◌}
 use Rattle.std.specs.List.{starts_with}
-use Rattle.std.proofs.Common.{◌≡◌, ◌⊎◌, ◌<◌, ◌≤◌, ◌+◌, ◌-◌, ◌/◌, ◌==◌, ◌&&◌, ℕ, zero, suc, Bool, true, false, List, drop, Option, Some, None, Result, Ok, Err, refl, sym, ◌∙◌, ap, subst, ⊎_elim, arith}
+use Rattle.std.proofs.Common.{◌≡◌, ◌⊎◌, ◌<◌, ◌≤◌, ◌+◌, ◌-◌, ◌*◌, ◌==◌, ℕ, zero, suc, Bool, true, false, List, drop, Option, Some, None, Result, Ok, Err, refl, sym, ◌∙◌, ap, subst, ⊎_elim, arith}
 use Rattle.std.proofs.lemmas.Bool.{eqb-true, eqb-false}
 use Rattle.nt_bytes.specs.declared.fault.HiveFault.{HiveFault}
-use Rattle.nt_bytes.specs.declared.fault.HiveKind.TheVariants.{NotRegf, LogAbsent, LogDirt, LogSequence}
+use Rattle.nt_bytes.specs.declared.fault.HiveKind.TheVariants as kinds
+use Rattle.hive_model.specs.Asked.{primary_at, log_at, bin_at}
 use Rattle.hive_model.specs.Base.{Base, base_of, fault_at}
-use Rattle.hive_model.specs.Image.{Image, Address, Content, Bytes}
+use Rattle.hive_model.specs.Image.{Image, Address}
 use Rattle.hive_model.specs.Carries.{HasBase}
-use Rattle.hive_model.specs.Recovery.{Recovered, Sectors, primary_in, log_in, and_then, bytes_or, joined, gathered, bins_short, log_short, recovered_with, by_primary, bit, one_if, rank, bitmap_sectors, first_dirty, by_bits, bitmap_behind, bitmap_in, closed_by, by_logged, as_log_base, logged_in, base_in, by_base, recovered_of}
-use Rattle.hive_laws.specs.Looking.{in_primary, in_log, AreThere, IsOpen, HasLogBase, HasBits, bits_of, bins_sectors, marks, marked_in, bins_by, LooksAt}
+use Rattle.hive_model.specs.Recovery.{Recovered, Sectors, and_then, bytes_or, read_bin, read_log, joined, gathered, recovered_with, by_primary, bit, one_if, rank, bitmap_sectors, first_dirty, by_bits, front_in, bitmap_in, closed_by, goes_with, by_logged, as_log_base, logged_in, by_log, base_at, base_in, by_base, recovered_of}
+use Rattle.hive_laws.specs.Looking.{AreRead, IsOpen, HasLogBase, HasBits, bits_of, bins_sectors, marks, marked_in, bins_by, LooksAt}
 use Rattle.hive_laws.specs.Looking.LooksAt.{at_the_block, at_a_clean_one, at_the_log, at_the_sign, at_more_bits, at_a_marked_one, at_another_one}
 
 -- ---- runs of sectors
 
--- a sector, and the run behind it where the sector is there
-run : (a b : Sectors) (fault : ℕ → HiveFault) (from n : ℕ) (o : Option Content) → a from ≡ o → a from ≡ b from
-    → (IsSome o → gathered a fault (suc from) n ≡ gathered b fault (suc from) n) → gathered a fault from (suc n) ≡ gathered b fault from (suc n)
-run a b fault from n None e here more =
-    ap (λ s. joined (bytes_or (fault from) s) (gathered a fault (suc from) n)) e
-    ∙ sym (ap (λ s. joined (bytes_or (fault from) s) (gathered b fault (suc from) n)) (sym here ∙ e))
-run a b fault from n (Some c) e here more =
-    ap (λ s. joined (bytes_or (fault from) s) (gathered a fault (suc from) n)) here
-    ∙ ap (joined (bytes_or (fault from) (b from))) (more refl)
+-- a sector, and the run behind it where the sector is read
+run : (a b : Sectors) (from n : ℕ) (r : Result (List ℕ) HiveFault) → a from ≡ r → a from ≡ b from
+    → (IsOk r → gathered a (suc from) n ≡ gathered b (suc from) n) → gathered a from (suc n) ≡ gathered b from (suc n)
+run a b from n (Err f) e here more =
+    ap (λ s. joined s (gathered a (suc from) n)) e ∙ sym (ap (λ s. joined s (gathered b (suc from) n)) (sym here ∙ e))
+run a b from n (Ok c) e here more = ap (λ s. joined s (gathered a (suc from) n)) here ∙ ap (joined (b from)) (more refl)
 
 first_or_later : (from k : ℕ) → from ≤ k → (from ≡ k) ⊎ (suc from ≤ k)
 first_or_later from k low = grind arith
 
--- a sector counts only where each before it in the run is there
-alike : (a b : Sectors) (fault : ℕ → HiveFault) (from n : ℕ)
-    → ((j : ℕ) → from ≤ j → j < from + n → ((k : ℕ) → from ≤ k → k < j → IsSome (a k)) → a j ≡ b j) → gathered a fault from n ≡ gathered b fault from n
-alike a b fault from zero same = refl
-alike a b fault from (suc n) same =
-    run a b fault from n (a from) refl (same from (omega arith) (omega arith) (λ k low high. absurd (omega arith)))
-    (λ some. alike a b fault (suc from) n
+-- a sector counts only where each before it in the run is read
+alike : (a b : Sectors) (from n : ℕ)
+    → ((j : ℕ) → from ≤ j → j < from + n → ((k : ℕ) → from ≤ k → k < j → IsOk (a k)) → a j ≡ b j) → gathered a from n ≡ gathered b from n
+alike a b from zero same = refl
+alike a b from (suc n) same =
+    run a b from n (a from) refl (same from (omega arith) (omega arith) (λ k low high. absurd (omega arith)))
+    (λ some. alike a b (suc from) n
     (λ j low high there. same j (omega arith) (omega arith)
-    (λ k below above. ⊎_elim (λ is. subst (λ q. IsSome (a q)) is some) (λ later. there k later above) (first_or_later from k below))))
+    (λ k below above. ⊎_elim (λ is. subst (λ q. IsOk (a q)) is some) (λ later. there k later above) (first_or_later from k below))))
 
 -- of the first n
-alike_all : (a b : Sectors) (fault : ℕ → HiveFault) (n : ℕ) → ((j : ℕ) → j < n → AreThere a j → a j ≡ b j) → gathered a fault 0 n ≡ gathered b fault 0 n
-alike_all a b fault n same = alike a b fault 0 n (λ j low high there. same j (omega arith) (λ k below. there k (omega arith) below))
+alike_all : (a b : Sectors) (n : ℕ) → ((j : ℕ) → j < n → AreRead a j → a j ≡ b j) → gathered a 0 n ≡ gathered b 0 n
+alike_all a b n same = alike a b 0 n (λ j low high there. same j (omega arith) (λ k below. there k (omega arith) below))
 
--- what was gathered was there
+-- of n from this one on
+alike_run : (a b : Sectors) (from n : ℕ) → ((j : ℕ) → j < n → AreRead (λ k. a (from + k)) j → a (from + j) ≡ b (from + j)) → gathered a from n ≡ gathered b from n
+alike_run a b from n same = alike a b from n (λ j low high there.
+    let back : from + (j - from) ≡ j = omega arith in
+    subst (λ q. a q ≡ b q) back (same (j - from) (omega arith) (λ k below. there (from + k) (omega arith) (omega arith))))
+
+-- what was gathered was read
 pub rest_there : (s r : Result (List ℕ) HiveFault) (bytes : List ℕ) → joined s r ≡ Ok bytes → (more : List ℕ) × (r ≡ Ok more)
 rest_there (Err f) r bytes e = absurd cc
 rest_there (Ok one) (Err f) bytes e = absurd cc
 rest_there (Ok one) (Ok more) bytes e = (more, refl)
 
-first_there : (f : HiveFault) (o : Option Content) (r : Result (List ℕ) HiveFault) (bytes : List ℕ) → joined (bytes_or f o) r ≡ Ok bytes → IsSome o
-first_there f None r bytes e = absurd cc
-first_there f (Some c) r bytes e = refl
+pub first_there : (s r : Result (List ℕ) HiveFault) (bytes : List ℕ) → joined s r ≡ Ok bytes → (one : List ℕ) × (s ≡ Ok one)
+first_there (Err f) r bytes e = absurd cc
+first_there (Ok one) r bytes e = (one, refl)
 
-pub there : (at : Sectors) (fault : ℕ → HiveFault) (from n : ℕ) (bytes : List ℕ) → gathered at fault from n ≡ Ok bytes → (j : ℕ) → from ≤ j → j < from + n → IsSome (at j)
-there at fault from zero bytes e j low high = absurd (omega arith)
-there at fault from (suc n) bytes e j low high = ⊎_elim
-    (λ is. subst (λ q. IsSome (at q)) is (first_there (fault from) (at from) (gathered at fault (suc from) n) bytes e))
+pub is_ok_by : (s : Result (List ℕ) HiveFault) (one : List ℕ) → s ≡ Ok one → IsOk s
+is_ok_by s one e = subst (λ (r : Result (List ℕ) HiveFault). IsOk r) (sym e) refl
+
+pub there : (at : Sectors) (from n : ℕ) (bytes : List ℕ) → gathered at from n ≡ Ok bytes → (j : ℕ) → from ≤ j → j < from + n → IsOk (at j)
+there at from zero bytes e j low high = absurd (omega arith)
+there at from (suc n) bytes e j low high = ⊎_elim
+    (λ is.
+    let first = first_there (at from) (gathered at (suc from) n) bytes e in
+    subst (λ q. IsOk (at q)) is (is_ok_by (at from) first.0 first.1))
     (λ later.
-    let rest = rest_there (bytes_or (fault from) (at from)) (gathered at fault (suc from) n) bytes e in
-    there at fault (suc from) n rest.0 rest.1 j later (omega arith))
+    let rest = rest_there (at from) (gathered at (suc from) n) bytes e in
+    there at (suc from) n rest.0 rest.1 j later (omega arith))
     (first_or_later from j low)
 
--- two tests that hold together
-both : (b c : Bool) → (b && c) ≡ true → (b ≡ true) × (c ≡ true)
-both true c e = (refl, e)
-both false c e = absurd cc
+-- the first sector of the bits has the signature
+abbrev pub signed : List ℕ → Result (List ℕ) HiveFault
+signed front = if starts_with nat_eq front (codes "DIRT") then Ok front else Err (fault_at kinds.LogDirt 512)
 
 -- ---- how many bits are on
 
@@ -83,141 +91,144 @@ rank_below bits (suc i) j below on = ⊎_elim
 -- ---- the steps of recovery, of two images that agree where the first one's recovery looks
 
 module _ (x y : Image) (same : (a : Address) → LooksAt x a → x a ≡ y a) where
-  base_same : base_in (primary_in x) ≡ base_in (primary_in y)
-  base_same = ap (λ s. and_then (bytes_or (fault_at NotRegf 0) s) (λ block. base_of block 0)) (same (in_primary 0) at_the_block)
+  base_same : base_in x ≡ base_in y
+  base_same = ap base_at (same (primary_at 0) at_the_block)
 
-  clean_same : (base : Base) → HasBase x base → base.first ≡ base.second → by_primary (primary_in x) base ≡ by_primary (primary_in y) base
+  -- a sector at which it looks is read alike
+  bin_same : (i : ℕ) → LooksAt x (bin_at i) → read_bin x i ≡ read_bin y i
+  bin_same i looks = ap (bytes_or (fault_at kinds.Size 40) (fault_at kinds.Unreadable (512 * (8 + i)))) (same (bin_at i) looks)
+
+  log_same : (n : ℕ) → LooksAt x (log_at n) → read_log x n ≡ read_log y n
+  log_same n looks = ap (bytes_or (fault_at kinds.LogShort (512 * n)) (fault_at kinds.LogUnreadable (512 * n))) (same (log_at n) looks)
+
+  clean_same : (base : Base) → HasBase x base → base.first ≡ base.second → by_primary x base ≡ by_primary y base
   clean_same base has even =
       ap (recovered_with false base)
-      (alike_all (λ i. primary_in x (8 + i)) (λ i. primary_in y (8 + i)) bins_short (base.size / 512)
-      (λ i below before. same (in_primary (8 + i)) (at_a_clean_one base i has even below before)))
+      (alike_all (read_bin x) (read_bin y) (bins_sectors base) (λ i below before. bin_same i (at_a_clean_one base i has even below before)))
 
-  logged_same : (opened : Base) → IsOpen x opened → logged_in (log_in x) ≡ logged_in (log_in y)
+  logged_same : (opened : Option Base) → IsOpen x opened → logged_in x ≡ logged_in y
   logged_same opened is =
-      ap (λ s. and_then (bytes_or (fault_at LogAbsent 0) s) (λ block. as_log_base (base_of block 1))) (same (in_log 0) (at_the_log opened is))
+      ap (λ s. and_then (bytes_or (fault_at kinds.LogAbsent 0) (fault_at kinds.LogUnreadable 0) s) (λ block. as_log_base (base_of block 1))) (same (log_at 0) (at_the_log opened is))
 
-  module _ (opened logged : Base) (has : HasLogBase x opened logged) where
-    -- behind the first sector of bits, which begins with the signature or not
-    behind_same : (front : List ℕ) → log_in x 1 ≡ Some (Bytes front) → (b : Bool) → starts_with nat_eq front (codes "DIRT") ≡ b
-        → bitmap_behind (log_in x) logged.size front ≡ bitmap_behind (log_in y) logged.size front
-    behind_same front is false other =
-        ap (λ b. if b then joined (Ok front) (gathered (λ k. log_in x (2 + k)) (λ k. log_short (2 + k)) 0 (bitmap_sectors logged.size - 1)) else Err (fault_at LogDirt 512)) other
-        ∙ sym (ap (λ b. if b then joined (Ok front) (gathered (λ k. log_in y (2 + k)) (λ k. log_short (2 + k)) 0 (bitmap_sectors logged.size - 1)) else Err (fault_at LogDirt 512)) other)
-    behind_same front is true dirt =
-        ap (λ r. if starts_with nat_eq front (codes "DIRT") then joined (Ok front) r else Err (fault_at LogDirt 512))
-        (alike_all (λ k. log_in x (2 + k)) (λ k. log_in y (2 + k)) (λ k. log_short (2 + k)) (bitmap_sectors logged.size - 1)
-        (λ k below before. same (in_log (2 + k)) (at_more_bits opened logged k (record { base = has; front = front; there = is; sign = dirt }) below before)))
+  module _ (opened : Option Base) (logged : Base) (has : HasLogBase x opened logged) where
+    front_same : front_in x ≡ front_in y
+    front_same = ap (λ s. and_then s signed) (log_same 1 (at_the_sign opened logged has))
 
-    front_same : (o : Option Content) → log_in x 1 ≡ o → log_in x 1 ≡ log_in y 1
-        → bitmap_in (log_in x) logged.size ≡ bitmap_in (log_in y) logged.size
-    front_same None is here =
-        ap (λ s. and_then (bytes_or (log_short 1) s) (bitmap_behind (log_in x) logged.size)) is
-        ∙ sym (ap (λ s. and_then (bytes_or (log_short 1) s) (bitmap_behind (log_in y) logged.size)) (sym here ∙ is))
-    front_same (Some (Bytes front)) is here =
-        ap (λ s. and_then (bytes_or (log_short 1) s) (bitmap_behind (log_in x) logged.size)) is
-        ∙ behind_same front is (starts_with nat_eq front (codes "DIRT")) refl
-        ∙ sym (ap (λ s. and_then (bytes_or (log_short 1) s) (bitmap_behind (log_in y) logged.size)) (sym here ∙ is))
+    further : Image → Result (List ℕ) HiveFault
+    further image = gathered (read_log image) 2 (bitmap_sectors logged.size - 1)
 
-    bits_same : bitmap_in (log_in x) logged.size ≡ bitmap_in (log_in y) logged.size
-    bits_same = front_same (log_in x 1) refl (same (in_log 1) (at_the_sign opened logged has))
+    -- behind the first sector of bits, which is read with its signature or not
+    behind_same : (r : Result (List ℕ) HiveFault) → front_in x ≡ r → bitmap_in x logged.size ≡ bitmap_in y logged.size
+    unfolding further
+    behind_same (Err f) e = ap (λ s. joined s (further x)) e ∙ sym (ap (λ s. joined s (further y)) (sym front_same ∙ e))
+    behind_same (Ok front) e =
+        ap (λ s. joined s (further x)) front_same
+        ∙ ap (joined (front_in y)) (alike_run (read_log x) (read_log y) 2 (bitmap_sectors logged.size - 1)
+        (λ k below before. log_same (2 + k) (at_more_bits opened logged k (record { base = has; front = front; there = e }) below before)))
 
-    module _ (text : List ℕ) (read : bitmap_in (log_in x) logged.size ≡ Ok text) where
+    bits_same : bitmap_in x logged.size ≡ bitmap_in y logged.size
+    bits_same = behind_same (front_in x) refl
+
+    module _ (text : List ℕ) (read : bitmap_in x logged.size ≡ Ok text) where
       with_bits : HasBits x opened logged text
       with_bits = record { base = has; read = read }
 
-      marked_same : gathered (marked_in x logged) (λ k. log_short (first_dirty logged.size + k)) 0 (marks logged text)
-          ≡ gathered (marked_in y logged) (λ k. log_short (first_dirty logged.size + k)) 0 (marks logged text)
-      marked_same =
-          alike_all (marked_in x logged) (marked_in y logged) (λ k. log_short (first_dirty logged.size + k)) (marks logged text)
-          (λ k below before. same (in_log (first_dirty logged.size + k)) (at_a_marked_one opened logged text k with_bits below before))
+      marked : Image → Result (List ℕ) HiveFault
+      marked image = gathered (read_log image) (first_dirty logged.size) (marks logged text)
 
-      picked_same : AreThere (marked_in x logged) (marks logged text) → (i : ℕ) → i < bins_sectors logged → AreThere (bins_by x logged text) i
+      marked_same : marked x ≡ marked y
+      unfolding marked
+      marked_same =
+          alike_run (read_log x) (read_log y) (first_dirty logged.size) (marks logged text)
+          (λ k below before. log_same (first_dirty logged.size + k) (at_a_marked_one opened logged text k with_bits below before))
+
+      pick : Image → ℕ → Bool → Result (List ℕ) HiveFault
+      pick image i b = if b then marked_in image logged (rank (bits_of text) i) else read_bin image i
+
+      picked_same : AreRead (marked_in x logged) (marks logged text) → (i : ℕ) → i < bins_sectors logged → AreRead (bins_by x logged text) i
           → (b : Bool) → bits_of text i ≡ b → bins_by x logged text i ≡ bins_by y logged text i
+      unfolding pick
       picked_same all i below before false off =
-          ap (λ b. if b then log_in x (first_dirty logged.size + rank (bits_of text) i) else primary_in x (8 + i)) off
-          ∙ same (in_primary (8 + i)) (at_another_one opened logged text i with_bits all below off before)
-          ∙ sym (ap (λ b. if b then log_in y (first_dirty logged.size + rank (bits_of text) i) else primary_in y (8 + i)) off)
+          ap (pick x i) off
+          ∙ bin_same i (at_another_one opened logged text i with_bits all below off before)
+          ∙ sym (ap (pick y i) off)
       picked_same all i below before true on =
           let few : rank (bits_of text) i < marks logged text = rank_below (bits_of text) (bins_sectors logged) i below on in
-          ap (λ b. if b then log_in x (first_dirty logged.size + rank (bits_of text) i) else primary_in x (8 + i)) on
-          ∙ same (in_log (first_dirty logged.size + rank (bits_of text) i))
+          ap (pick x i) on
+          ∙ log_same (first_dirty logged.size + rank (bits_of text) i)
           (at_a_marked_one opened logged text (rank (bits_of text) i) with_bits few (λ k lower. all k (omega arith)))
-          ∙ sym (ap (λ b. if b then log_in y (first_dirty logged.size + rank (bits_of text) i) else primary_in y (8 + i)) on)
+          ∙ sym (ap (pick y i) on)
 
       behind_marked : Image → List ℕ → Result Recovered HiveFault
-      behind_marked image dirty = recovered_with true (closed_by opened logged) (gathered (bins_by image logged text) bins_short 0 (bins_sectors logged))
+      behind_marked image _ = recovered_with true (closed_by logged) (gathered (bins_by image logged text) 0 (bins_sectors logged))
 
-      with_marked : (r : Result (List ℕ) HiveFault) → gathered (marked_in x logged) (λ k. log_short (first_dirty logged.size + k)) 0 (marks logged text) ≡ r
-          → and_then r (behind_marked x) ≡ and_then r (behind_marked y)
-      unfolding behind_marked
+      with_marked : (r : Result (List ℕ) HiveFault) → marked x ≡ r → and_then r (behind_marked x) ≡ and_then r (behind_marked y)
+      unfolding marked behind_marked
       with_marked (Err f) e = refl
       with_marked (Ok dirty) e =
-          let all : AreThere (marked_in x logged) (marks logged text) = λ k below. there (marked_in x logged) (λ k. log_short (first_dirty logged.size + k)) 0 (marks logged text) dirty e k (omega arith) (omega arith) in
-          ap (recovered_with true (closed_by opened logged))
-          (alike_all (bins_by x logged text) (bins_by y logged text) bins_short (bins_sectors logged)
+          let all : AreRead (marked_in x logged) (marks logged text) =
+          λ k below. there (read_log x) (first_dirty logged.size) (marks logged text) dirty e (first_dirty logged.size + k) (omega arith) (omega arith) in
+          ap (recovered_with true (closed_by logged))
+          (alike_all (bins_by x logged text) (bins_by y logged text) (bins_sectors logged)
           (λ i below before. picked_same all i below before (bits_of text i) refl))
 
-      by_bits_same : by_bits (primary_in x) (log_in x) (closed_by opened logged) (bits_of text) ≡ by_bits (primary_in y) (log_in y) (closed_by opened logged) (bits_of text)
-      unfolding behind_marked
-      by_bits_same =
-          with_marked (gathered (marked_in x logged) (λ k. log_short (first_dirty logged.size + k)) 0 (marks logged text)) refl
-          ∙ ap (λ r. and_then r (behind_marked y)) marked_same
+      by_bits_same : by_bits x (closed_by logged) (bits_of text) ≡ by_bits y (closed_by logged) (bits_of text)
+      unfolding marked behind_marked
+      by_bits_same = with_marked (marked x) refl ∙ ap (λ r. and_then r (behind_marked y)) marked_same
 
     -- what follows the bits
     by_text : Image → List ℕ → Result Recovered HiveFault
-    by_text image text = by_bits (primary_in image) (log_in image) (closed_by opened logged) (bit (drop 4 text))
+    by_text image text = by_bits image (closed_by logged) (bits_of text)
 
-    with_text : (r : Result (List ℕ) HiveFault) → bitmap_in (log_in x) logged.size ≡ r → and_then r (by_text x) ≡ and_then r (by_text y)
+    with_text : (r : Result (List ℕ) HiveFault) → bitmap_in x logged.size ≡ r → and_then r (by_text x) ≡ and_then r (by_text y)
     unfolding by_text
     with_text (Err f) e = refl
     with_text (Ok text) e = by_bits_same text e
 
-    text_same : and_then (bitmap_in (log_in x) logged.size) (by_text x) ≡ and_then (bitmap_in (log_in y) logged.size) (by_text y)
-    text_same = with_text (bitmap_in (log_in x) logged.size) refl ∙ ap (λ r. and_then r (by_text y)) bits_same
+    text_same : and_then (bitmap_in x logged.size) (by_text x) ≡ and_then (bitmap_in y logged.size) (by_text y)
+    text_same = with_text (bitmap_in x logged.size) refl ∙ ap (λ r. and_then r (by_text y)) bits_same
 
-  -- the numbers of the log's base block are the primary's, or not
-  numbered : (opened logged : Base) → IsOpen x opened → logged_in (log_in x) ≡ Ok logged
-      → (b : Bool) → ((logged.first == opened.first) && (logged.second == opened.first)) ≡ b
-      → by_logged (primary_in x) (log_in x) opened logged ≡ by_logged (primary_in y) (log_in y) opened logged
-  unfolding by_text
-  numbered opened logged is read false other =
-      ap (λ b. if b then and_then (bitmap_in (log_in x) logged.size) (λ text. by_bits (primary_in x) (log_in x) (closed_by opened logged) (bit (drop 4 text))) else Err (fault_at LogSequence 4)) other
-      ∙ sym (ap (λ b. if b then and_then (bitmap_in (log_in y) logged.size) (λ text. by_bits (primary_in y) (log_in y) (closed_by opened logged) (bit (drop 4 text))) else Err (fault_at LogSequence 4)) other)
+  -- the log's base block goes with the primary's, or not
+  if_goes : Image → Base → Bool → Result Recovered HiveFault
+  if_goes image logged b =
+      if b then and_then (bitmap_in image logged.size) (λ text. by_bits image (closed_by logged) (bit (drop 4 text))) else Err (fault_at kinds.LogSequence 4)
+
+  numbered : (opened : Option Base) (logged : Base) → IsOpen x opened → logged_in x ≡ Ok logged
+      → (b : Bool) → goes_with opened logged ≡ b → by_logged x opened logged ≡ by_logged y opened logged
+  unfolding by_text if_goes
+  numbered opened logged is read false other = ap (if_goes x logged) other ∙ sym (ap (if_goes y logged) other)
   numbered opened logged is read true ours =
-      let two = both (logged.first == opened.first) (logged.second == opened.first) ours in
-      let has : HasLogBase x opened logged = record { primary = is; block = read; first = eqb-true logged.first opened.first two.0; second = eqb-true logged.second opened.first two.1 } in
-      ap (λ b. if b then and_then (bitmap_in (log_in x) logged.size) (λ text. by_bits (primary_in x) (log_in x) (closed_by opened logged) (bit (drop 4 text))) else Err (fault_at LogSequence 4)) ours
-      ∙ text_same opened logged has
-      ∙ sym (ap (λ b. if b then and_then (bitmap_in (log_in y) logged.size) (λ text. by_bits (primary_in y) (log_in y) (closed_by opened logged) (bit (drop 4 text))) else Err (fault_at LogSequence 4)) ours)
+      ap (if_goes x logged) ours
+      ∙ text_same opened logged (record { primary = is; block = read; goes = ours })
+      ∙ sym (ap (if_goes y logged) ours)
 
-  with_logged : (opened : Base) → IsOpen x opened → (r : Result Base HiveFault) → logged_in (log_in x) ≡ r
-      → and_then r (by_logged (primary_in x) (log_in x) opened) ≡ and_then r (by_logged (primary_in y) (log_in y) opened)
+  with_logged : (opened : Option Base) → IsOpen x opened → (r : Result Base HiveFault) → logged_in x ≡ r
+      → and_then r (by_logged x opened) ≡ and_then r (by_logged y opened)
   with_logged opened is (Err f) e = refl
-  with_logged opened is (Ok logged) e = numbered opened logged is e ((logged.first == opened.first) && (logged.second == opened.first)) refl
+  with_logged opened is (Ok logged) e = numbered opened logged is e (goes_with opened logged) refl
 
-  open_same : (opened : Base) → IsOpen x opened
-      → and_then (logged_in (log_in x)) (by_logged (primary_in x) (log_in x) opened) ≡ and_then (logged_in (log_in y)) (by_logged (primary_in y) (log_in y) opened)
+  open_same : (opened : Option Base) → IsOpen x opened → by_log x opened ≡ by_log y opened
   open_same opened is =
-      with_logged opened is (logged_in (log_in x)) refl
-      ∙ ap (λ r. and_then r (by_logged (primary_in y) (log_in y) opened)) (logged_same opened is)
+      with_logged opened is (logged_in x) refl ∙ ap (λ r. and_then r (by_logged y opened)) (logged_same opened is)
 
   -- a primary is clean, or not
-  by_numbers : (base : Base) → HasBase x base → (b : Bool) → (base.first == base.second) ≡ b
-      → by_base (primary_in x) (log_in x) base ≡ by_base (primary_in y) (log_in y) base
-  by_numbers base has true even =
-      ap (λ b. if b then by_primary (primary_in x) base else and_then (logged_in (log_in x)) (by_logged (primary_in x) (log_in x) base)) even
-      ∙ clean_same base has (eqb-true base.first base.second even)
-      ∙ sym (ap (λ b. if b then by_primary (primary_in y) base else and_then (logged_in (log_in y)) (by_logged (primary_in y) (log_in y) base)) even)
-  by_numbers base has false odd =
-      ap (λ b. if b then by_primary (primary_in x) base else and_then (logged_in (log_in x)) (by_logged (primary_in x) (log_in x) base)) odd
-      ∙ open_same base (record { block = has; odd = eqb-false base.first base.second odd })
-      ∙ sym (ap (λ b. if b then by_primary (primary_in y) base else and_then (logged_in (log_in y)) (by_logged (primary_in y) (log_in y) base)) odd)
+  if_clean : Image → Base → Bool → Result Recovered HiveFault
+  if_clean image base b = if b then by_primary image base else by_log image (Some base)
 
-  with_base : (r : Result Base HiveFault) → base_in (primary_in x) ≡ r
-      → and_then r (by_base (primary_in x) (log_in x)) ≡ and_then r (by_base (primary_in y) (log_in y))
+  by_numbers : (base : Base) → HasBase x base → (b : Bool) → (base.first == base.second) ≡ b → by_base x (Some base) ≡ by_base y (Some base)
+  unfolding if_clean
+  by_numbers base has true even =
+      ap (if_clean x base) even ∙ clean_same base has (eqb-true base.first base.second even) ∙ sym (ap (if_clean y base) even)
+  by_numbers base has false odd =
+      ap (if_clean x base) odd
+      ∙ open_same (Some base) (record { block = has; odd = eqb-false base.first base.second odd })
+      ∙ sym (ap (if_clean y base) odd)
+
+  with_base : (r : Result (Option Base) HiveFault) → base_in x ≡ r → and_then r (by_base x) ≡ and_then r (by_base y)
   with_base (Err f) e = refl
-  with_base (Ok base) e = by_numbers base e (base.first == base.second) refl
+  with_base (Ok None) e = open_same None (record { block = e; odd = tt })
+  with_base (Ok (Some base)) e = by_numbers base e (base.first == base.second) refl
 
   pub recovered_alike : recovered_of x ≡ recovered_of y
   unfolding recovered_of
-  recovered_alike = with_base (base_in (primary_in x)) refl ∙ ap (λ r. and_then r (by_base (primary_in y) (log_in y))) base_same
+  recovered_alike = with_base (base_in x) refl ∙ ap (λ r. and_then r (by_base y)) base_same

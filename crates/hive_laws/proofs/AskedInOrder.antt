@@ -1,16 +1,15 @@
 -- Recovery asks for the log's sectors from 0 on, and then for some of the primary's by rising number.
 use Rattle.std.specs.Prelude.{All, AllPairs, if◌then◌else◌}
 use Rattle.std.specs.List.{range_with_len}
-use Rattle.std.proofs.Common.{◌≡◌, ◌<◌, ◌≤◌, ◌+◌, ◌-◌, ◌/◌, ◌==◌, ◌&&◌, ℕ, zero, suc, Bool, true, false, not, cond, is_some, List, [], ◌∷◌, ◌++◌, map, filter, Result, Ok, Err, refl, ap, subst, arith}
+use Rattle.std.proofs.Common.{◌≡◌, ◌<◌, ◌≤◌, ◌+◌, ◌-◌, ◌/◌, ◌==◌, ℕ, zero, suc, Bool, true, false, not, cond, List, [], ◌∷◌, ◌++◌, map, filter, Option, Some, None, Result, Ok, Err, refl, ap, subst, arith}
 use Rattle.std.proofs.lemmas.List.Elements.{All-nil, All-cons, All-weaker}
 use Rattle.std.proofs.lemmas.List.Kept.{AllPairs-cons}
 use Rattle.nt_bytes.specs.declared.fault.HiveFault.{HiveFault}
 use Rattle.hive_model.specs.Base.{Base}
 use Rattle.hive_model.specs.Image.{Image, Address, Log}
-use Rattle.hive_model.specs.Recovery.{primary_in, log_in, rank, bitmap_sectors, first_dirty, bitmap_in, logged_in, base_in}
-use Rattle.hive_log.specs.Mixing.{front_in}
-use Rattle.hive_log.specs.Asked.{run_at, one_by_one, unless_fault, asked_bins, asked_behind_sign, asked_bits, asked_behind_log, asked_log, asked_behind_base, asked_of}
-use Rattle.hive_laws.specs.Looking.{in_primary, in_log, bits_of, bins_sectors, IsInOrder}
+use Rattle.hive_model.specs.Recovery.{rank, bitmap_sectors, first_dirty, front_in, bitmap_in, goes_with, logged_in, base_in}
+use Rattle.hive_model.specs.Asked.{primary_at, log_at, bin_at, is_readable, run_at, one_by_one, unless_fault, asked_bins, asked_behind_sign, asked_bits, asked_behind_log, asked_log, asked_behind_base, asked_of}
+use Rattle.hive_laws.specs.Looking.{bits_of, bins_sectors, IsInOrder}
 use Rattle.hive_laws.proofs.Asked.{clean_part, past_log, past_sign, past_bits, unmarked_part}
 use Rattle.hive_laws.proofs.OneByOne.{no_pairs, every_number}
 
@@ -19,7 +18,7 @@ use Rattle.hive_laws.proofs.OneByOne.{no_pairs, every_number}
 -- from this one on
 record AreRising (from : ℕ) (sectors : List Address) : Type 0 where
   others : List ℕ
-  are : sectors ≡ map in_primary others
+  are : sectors ≡ map primary_at others
   behind : All (λ n. from ≤ n) others
   rising : AllPairs (λ m n. m < n) others
 
@@ -37,13 +36,13 @@ later_ones from m sectors low r =
     }
 
 one_and_later : (from m : ℕ) (sectors : List Address) → from < m → AreRising m sectors
-    → AreRising from (in_primary from ∷ sectors)
+    → AreRising from (primary_at from ∷ sectors)
 one_and_later from m sectors low r =
     let first = All-weaker (λ n. m ≤ n) (λ n. from < n) (λ n h. omega arith) r.others r.behind in
     let last = All-weaker (λ n. m ≤ n) (λ n. from ≤ n) (λ n h. omega arith) r.others r.behind in
     record {
       others = from ∷ r.others;
-      are = ap (λ xs. in_primary from ∷ xs) r.are;
+      are = ap (λ xs. primary_at from ∷ xs) r.are;
       behind = All-cons (λ n. from ≤ n) from r.others (omega arith) last;
       rising = AllPairs-cons (λ m n. m < n) from r.others first r.rising;
     }
@@ -51,16 +50,16 @@ one_and_later from m sectors low r =
 module _ (x : Image) (test : ℕ → Bool) where
   -- those of the primary with these numbers in the bins data
   abbrev numbered : List ℕ → List Address
-  numbered numbers = one_by_one x (map (λ i. in_primary (8 + i)) numbers) []
+  numbered numbers = one_by_one x (map bin_at numbers) []
 
   if_there : (from : ℕ) (rest : List Address) (b : Bool) → AreRising (8 + (from + 1)) rest
-      → AreRising (8 + from) (in_primary (8 + from) ∷ (if b then rest else []))
+      → AreRising (8 + from) (primary_at (8 + from) ∷ (if b then rest else []))
   if_there from rest true r = one_and_later (8 + from) (8 + (from + 1)) rest (omega arith) r
   if_there from rest false r = one_and_later (8 + from) (8 + (from + 1)) [] (omega arith) (no_others (8 + (from + 1)))
 
   if_passing : (from : ℕ) (rest : List ℕ) (b : Bool) → AreRising (8 + (from + 1)) (numbered rest)
       → AreRising (8 + from) (numbered (cond b (from ∷ rest) rest))
-  if_passing from rest true r = if_there from (numbered rest) (is_some (x (in_primary (8 + from)))) r
+  if_passing from rest true r = if_there from (numbered rest) (is_readable (x (primary_at (8 + from)))) r
   if_passing from rest false r = later_ones (8 + from) (8 + (from + 1)) (numbered rest) (omega arith) r
 
   those_rising : (from n : ℕ) → AreRising (8 + from) (numbered (filter test (range_with_len from n)))
@@ -73,7 +72,7 @@ module _ (x : Image) (test : ℕ → Bool) where
 record AreInTurn (from : ℕ) (sectors : List Address) : Type 0 where
   logged : ℕ
   others : List ℕ
-  are : sectors ≡ map in_log (range_with_len from logged) ++ map in_primary others
+  are : sectors ≡ map log_at (range_with_len from logged) ++ map primary_at others
   behind : All (λ n. 8 ≤ n) others
   rising : AllPairs (λ m n. m < n) others
 
@@ -85,12 +84,12 @@ nothing : (from : ℕ) → AreInTurn from []
 nothing from = none_logged from [] (no_others 8)
 
 one_logged : (from : ℕ) (sectors : List Address) → AreInTurn (from + 1) sectors
-    → AreInTurn from (in_log from ∷ sectors)
+    → AreInTurn from (log_at from ∷ sectors)
 one_logged from sectors t =
     record {
       logged = suc t.logged;
       others = t.others;
-      are = ap (λ xs. in_log from ∷ xs) t.are;
+      are = ap (λ xs. log_at from ∷ xs) t.are;
       behind = t.behind;
       rising = t.rising;
     }
@@ -101,10 +100,10 @@ from_there m n sectors e t = subst (λ k. AreInTurn k sectors) e t
 module _ (x : Image) (first : ℕ) (more : List Address) where
   -- those of the log with these numbers behind the first one, and then more
   abbrev behind_first : List ℕ → List Address
-  behind_first numbers = one_by_one x (map (λ k. in_log (first + k)) numbers) more
+  behind_first numbers = one_by_one x (map (λ k. log_at (first + k)) numbers) more
 
   if_logged : (j : ℕ) (rest : List Address) (b : Bool) → AreInTurn (first + (j + 1)) rest
-      → AreInTurn (first + j) (in_log (first + j) ∷ (if b then rest else []))
+      → AreInTurn (first + j) (log_at (first + j) ∷ (if b then rest else []))
   if_logged j rest true t =
       one_logged (first + j) rest (from_there (first + (j + 1)) (first + j + 1) rest (omega arith) t)
   if_logged j rest false t = one_logged (first + j) [] (nothing (first + j + 1))
@@ -113,7 +112,7 @@ module _ (x : Image) (first : ℕ) (more : List Address) where
       → AreInTurn (first + j) (behind_first (range_with_len j n))
   run_from j zero t = from_there (first + (j + 0)) (first + j) more (omega arith) t
   run_from j (suc n) t =
-      if_logged j (behind_first (range_with_len (j + 1) n)) (is_some (x (in_log (first + j))))
+      if_logged j (behind_first (range_with_len (j + 1) n)) (is_readable (x (log_at (first + j))))
       (run_from (j + 1) n (from_there (first + (j + suc n)) (first + (j + 1 + n)) more (omega arith) t))
 
   run_in_turn : (n : ℕ) → AreInTurn (first + n) more → AreInTurn first (one_by_one x (run_at Log first n) more)
@@ -143,7 +142,7 @@ module _ (x : Image) where
       let rest = bitmap_sectors size - 1 in
       run_in_turn x 2 (past_bits x size) rest
       (from_there (first_dirty size) (2 + rest) (past_bits x size) (omega arith)
-      (text_in_turn size (bitmap_in (log_in x) size)))
+      (text_in_turn size (bitmap_in x size)))
 
   front_in_turn : (size : ℕ) (r : Result (List ℕ) HiveFault)
       → AreInTurn 2 (unless_fault r (λ front. asked_behind_sign x size))
@@ -151,20 +150,20 @@ module _ (x : Image) where
   front_in_turn size (Ok front) = sign_in_turn size
 
   bits_in_turn : (size : ℕ) → AreInTurn 1 (asked_bits x size)
-  bits_in_turn size = one_logged 1 (past_sign x size) (front_in_turn size (front_in (log_in x)))
+  bits_in_turn size = one_logged 1 (past_sign x size) (front_in_turn size (front_in x))
 
   numbers_in_turn : (size : ℕ) (b : Bool) → AreInTurn 1 (if b then asked_bits x size else [])
   numbers_in_turn size true = bits_in_turn size
   numbers_in_turn size false = nothing 1
 
-  logged_in_turn : (opened : Base) (r : Result Base HiveFault)
+  logged_in_turn : (opened : Option Base) (r : Result Base HiveFault)
       → AreInTurn 1 (unless_fault r (asked_behind_log x opened))
   logged_in_turn opened (Err f) = nothing 1
   logged_in_turn opened (Ok logged) =
-      numbers_in_turn logged.size ((logged.first == opened.first) && (logged.second == opened.first))
+      numbers_in_turn logged.size (goes_with opened logged)
 
-  log_in_turn : (opened : Base) → AreInTurn 0 (asked_log x opened)
-  log_in_turn opened = one_logged 0 (past_log x opened) (logged_in_turn opened (logged_in (log_in x)))
+  log_in_turn : (opened : Option Base) → AreInTurn 0 (asked_log x opened)
+  log_in_turn opened = one_logged 0 (past_log x opened) (logged_in_turn opened (logged_in x))
 
   clean_in_turn : (count : ℕ) → AreInTurn 0 (clean_part x count)
   clean_in_turn count =
@@ -173,22 +172,23 @@ module _ (x : Image) where
       (those_rising x (λ k. true) 0 count))
 
   one_in_turn : (base : Base) (b : Bool)
-      → AreInTurn 0 (if b then clean_part x (bins_sectors base) else asked_log x base)
+      → AreInTurn 0 (if b then clean_part x (bins_sectors base) else asked_log x (Some base))
   one_in_turn base true = clean_in_turn (bins_sectors base)
-  one_in_turn base false = log_in_turn base
+  one_in_turn base false = log_in_turn (Some base)
 
-  base_in_turn : (r : Result Base HiveFault) → AreInTurn 0 (unless_fault r (asked_behind_base x))
+  base_in_turn : (r : Result (Option Base) HiveFault) → AreInTurn 0 (unless_fault r (asked_behind_base x))
   base_in_turn (Err f) = nothing 0
-  base_in_turn (Ok base) = one_in_turn base (base.first == base.second)
+  base_in_turn (Ok None) = log_in_turn None
+  base_in_turn (Ok (Some base)) = one_in_turn base (base.first == base.second)
 
   pub asked_in_order : IsInOrder (asked_of x)
   unfolding asked_of
   asked_in_order =
-      let t = base_in_turn (base_in (primary_in x)) in
+      let t = base_in_turn (base_in x) in
       record {
         logged = t.logged;
         others = t.others;
-        are = ap (λ xs. in_primary 0 ∷ xs) t.are;
+        are = ap (λ xs. primary_at 0 ∷ xs) t.are;
         behind = t.behind;
         rising = t.rising;
       }

@@ -1,16 +1,15 @@
 -- Recovery asks for no sector twice.
 use Rattle.std.specs.Prelude.{All, AllPairs, if◌then◌else◌}
-use Rattle.std.proofs.Common.{◌≡◌, ◌≤◌, ◌+◌, ◌-◌, ◌/◌, ◌==◌, ◌&&◌, ℕ, Bool, true, false, not, List, [], Result, Ok, Err, refl, arith}
+use Rattle.std.proofs.Common.{◌≡◌, ◌≤◌, ◌+◌, ◌-◌, ◌/◌, ◌==◌, ℕ, Bool, true, false, not, List, [], Option, Some, None, Result, Ok, Err, refl, arith}
 use Rattle.std.proofs.lemmas.Bool.{ne_eqb}
 use Rattle.std.proofs.lemmas.List.Elements.{All-nil, All-cons, All-weaker}
 use Rattle.std.proofs.lemmas.List.Kept.{AllPairs-cons}
 use Rattle.nt_bytes.specs.declared.fault.HiveFault.{HiveFault}
 use Rattle.hive_model.specs.Base.{Base}
 use Rattle.hive_model.specs.Image.{Image, Address, File, Primary, Log, of_file, same_address}
-use Rattle.hive_model.specs.Recovery.{primary_in, log_in, rank, bitmap_sectors, first_dirty, bitmap_in, logged_in, base_in}
-use Rattle.hive_log.specs.Mixing.{front_in}
-use Rattle.hive_log.specs.Asked.{unless_fault, asked_bins, asked_behind_sign, asked_bits, asked_behind_log, asked_log, asked_behind_base, asked_of}
-use Rattle.hive_laws.specs.Looking.{in_primary, in_log, bits_of, bins_sectors}
+use Rattle.hive_model.specs.Recovery.{rank, bitmap_sectors, first_dirty, front_in, bitmap_in, goes_with, logged_in, base_in}
+use Rattle.hive_model.specs.Asked.{primary_at, log_at, bin_at, unless_fault, asked_bins, asked_behind_sign, asked_bits, asked_behind_log, asked_log, asked_behind_base, asked_of}
+use Rattle.hive_laws.specs.Looking.{bits_of, bins_sectors}
 use Rattle.hive_laws.proofs.Asked.{past_block, clean_part, past_log, past_sign, past_bits, unmarked_part}
 use Rattle.hive_laws.proofs.OneByOne.{no_pairs, all_those, pairs_of_those, all_run, pairs_of_run}
 
@@ -26,11 +25,11 @@ differ Log m n other = ne_eqb m n other
 abbrev IsPast : ℕ → Address → Type 0
 IsPast n a = of_file 8 n a.file ≤ a.sector
 
-base_before : (f : File) (n m : ℕ) → of_file 8 m f ≤ n → Differ (in_primary 0) (record { file = f; sector = n })
+base_before : (f : File) (n m : ℕ) → of_file 8 m f ≤ n → Differ (primary_at 0) (record { file = f; sector = n })
 base_before Primary n m past = ne_eqb 0 n (λ e. omega arith)
 base_before Log n m past = refl
 
-log_before : (f : File) (m n : ℕ) → of_file 8 (m + 1) f ≤ n → Differ (in_log m) (record { file = f; sector = n })
+log_before : (f : File) (m n : ℕ) → of_file 8 (m + 1) f ≤ n → Differ (log_at m) (record { file = f; sector = n })
 log_before Primary m n past = refl
 log_before Log m n past = ne_eqb m n (λ e. omega arith)
 
@@ -42,7 +41,7 @@ module _ (x : Image) where
 
   unmarked_past : (size m : ℕ) (text : List ℕ) → All (IsPast m) (unmarked_part x size text)
   unmarked_past size m text =
-      all_those x (λ i. in_primary (8 + i)) (λ i. not (bits_of text i)) (IsPast m) 0 (size / 512) []
+      all_those x bin_at (λ i. not (bits_of text i)) (IsPast m) 0 (size / 512) []
       (λ i low high off before. omega arith) (λ before. All-nil (IsPast m))
 
   bins_past : (size m : ℕ) (text : List ℕ) → m ≤ first_dirty size → All (IsPast m) (asked_bins x size text)
@@ -62,7 +61,7 @@ module _ (x : Image) where
       let least = two_first size in
       all_run x Log 2 (bitmap_sectors size - 1) (past_bits x size) (IsPast m)
       (λ k below before. omega arith)
-      (λ all. text_past size m (omega arith) (bitmap_in (log_in x) size))
+      (λ all. text_past size m (omega arith) (bitmap_in x size))
 
   front_past : (size m : ℕ) → m ≤ 2 → (r : Result (List ℕ) HiveFault)
       → All (IsPast m) (unless_fault r (λ front. asked_behind_sign x size))
@@ -71,43 +70,44 @@ module _ (x : Image) where
 
   bits_past : (size m : ℕ) → m ≤ 1 → All (IsPast m) (asked_bits x size)
   bits_past size m low =
-      All-cons (IsPast m) (in_log 1) (past_sign x size) low
-      (front_past size m (omega arith) (front_in (log_in x)))
+      All-cons (IsPast m) (log_at 1) (past_sign x size) low
+      (front_past size m (omega arith) (front_in x))
 
   numbers_past : (size m : ℕ) → m ≤ 1 → (b : Bool) → All (IsPast m) (if b then asked_bits x size else [])
   numbers_past size m low true = bits_past size m low
   numbers_past size m low false = All-nil (IsPast m)
 
-  logged_past : (opened : Base) (m : ℕ) → m ≤ 1 → (r : Result Base HiveFault)
+  logged_past : (opened : Option Base) (m : ℕ) → m ≤ 1 → (r : Result Base HiveFault)
       → All (IsPast m) (unless_fault r (asked_behind_log x opened))
   logged_past opened m low (Err f) = All-nil (IsPast m)
   logged_past opened m low (Ok logged) =
-      numbers_past logged.size m low ((logged.first == opened.first) && (logged.second == opened.first))
+      numbers_past logged.size m low (goes_with opened logged)
 
-  log_past : (opened : Base) → All (IsPast 0) (asked_log x opened)
+  log_past : (opened : Option Base) → All (IsPast 0) (asked_log x opened)
   log_past opened =
-      All-cons (IsPast 0) (in_log 0) (past_log x opened) (omega arith)
-      (logged_past opened 0 (omega arith) (logged_in (log_in x)))
+      All-cons (IsPast 0) (log_at 0) (past_log x opened) (omega arith)
+      (logged_past opened 0 (omega arith) (logged_in x))
 
   clean_past : (count : ℕ) → All (IsPast 0) (clean_part x count)
   clean_past count =
       all_run x Primary 8 count [] (IsPast 0) (λ i below before. omega arith) (λ all. All-nil (IsPast 0))
 
   one_past : (base : Base) (b : Bool)
-      → All (IsPast 0) (if b then clean_part x (bins_sectors base) else asked_log x base)
+      → All (IsPast 0) (if b then clean_part x (bins_sectors base) else asked_log x (Some base))
   one_past base true = clean_past (bins_sectors base)
-  one_past base false = log_past base
+  one_past base false = log_past (Some base)
 
-  base_past : (r : Result Base HiveFault) → All (IsPast 0) (unless_fault r (asked_behind_base x))
+  base_past : (r : Result (Option Base) HiveFault) → All (IsPast 0) (unless_fault r (asked_behind_base x))
   base_past (Err f) = All-nil (IsPast 0)
-  base_past (Ok base) = one_past base (base.first == base.second)
+  base_past (Ok None) = log_past None
+  base_past (Ok (Some base)) = one_past base (base.first == base.second)
 
   -- ---- no two of them are one
 
   -- behind sector m of the log no sector up to that one is asked for
-  behind_log : (m : ℕ) (rest : List Address) → All (IsPast (m + 1)) rest → All (Differ (in_log m)) rest
+  behind_log : (m : ℕ) (rest : List Address) → All (IsPast (m + 1)) rest → All (Differ (log_at m)) rest
   behind_log m rest past =
-      All-weaker (IsPast (m + 1)) (Differ (in_log m)) (λ a is. log_before a.file m a.sector is) rest past
+      All-weaker (IsPast (m + 1)) (Differ (log_at m)) (λ a is. log_before a.file m a.sector is) rest past
 
   bins_once : (size : ℕ) (text : List ℕ) → AllPairs Differ (asked_bins x size text)
   bins_once size text =
@@ -116,9 +116,9 @@ module _ (x : Image) where
       pairs_of_run x Log first (rank (bits_of text) (size / 512)) behind Differ
       (λ j k above high. differ Log (first + j) (first + k) (λ e. omega arith))
       (λ j below. behind_log (first + j) behind (unmarked_past size (first + j + 1) text))
-      (pairs_of_those x (λ i. in_primary (8 + i)) (λ i. not (bits_of text i)) Differ 0 (size / 512) []
+      (pairs_of_those x bin_at (λ i. not (bits_of text i)) Differ 0 (size / 512) []
       (λ j k low above high. differ Primary (8 + j) (8 + k) (λ e. omega arith))
-      (λ j low high. All-nil (Differ (in_primary (8 + j)))) (no_pairs Differ))
+      (λ j low high. All-nil (Differ (primary_at (8 + j)))) (no_pairs Differ))
 
   text_once : (size : ℕ) (r : Result (List ℕ) HiveFault) → AllPairs Differ (unless_fault r (asked_bins x size))
   text_once size (Err f) = no_pairs Differ
@@ -129,8 +129,8 @@ module _ (x : Image) where
       let more = past_bits x size in
       pairs_of_run x Log 2 (bitmap_sectors size - 1) more Differ
       (λ j k above high. differ Log (2 + j) (2 + k) (λ e. omega arith))
-      (λ j below. behind_log (2 + j) more (text_past size (2 + j + 1) (omega arith) (bitmap_in (log_in x) size)))
-      (text_once size (bitmap_in (log_in x) size))
+      (λ j below. behind_log (2 + j) more (text_past size (2 + j + 1) (omega arith) (bitmap_in x size)))
+      (text_once size (bitmap_in x size))
 
   front_once : (size : ℕ) (r : Result (List ℕ) HiveFault)
       → AllPairs Differ (unless_fault r (λ front. asked_behind_sign x size))
@@ -140,47 +140,48 @@ module _ (x : Image) where
   bits_once : (size : ℕ) → AllPairs Differ (asked_bits x size)
   bits_once size =
       let more = past_sign x size in
-      AllPairs-cons Differ (in_log 1) more
-      (behind_log 1 more (front_past size 2 (omega arith) (front_in (log_in x))))
-      (front_once size (front_in (log_in x)))
+      AllPairs-cons Differ (log_at 1) more
+      (behind_log 1 more (front_past size 2 (omega arith) (front_in x)))
+      (front_once size (front_in x))
 
   numbers_once : (size : ℕ) (b : Bool) → AllPairs Differ (if b then asked_bits x size else [])
   numbers_once size true = bits_once size
   numbers_once size false = no_pairs Differ
 
-  logged_once : (opened : Base) (r : Result Base HiveFault)
+  logged_once : (opened : Option Base) (r : Result Base HiveFault)
       → AllPairs Differ (unless_fault r (asked_behind_log x opened))
   logged_once opened (Err f) = no_pairs Differ
   logged_once opened (Ok logged) =
-      numbers_once logged.size ((logged.first == opened.first) && (logged.second == opened.first))
+      numbers_once logged.size (goes_with opened logged)
 
-  log_once : (opened : Base) → AllPairs Differ (asked_log x opened)
+  log_once : (opened : Option Base) → AllPairs Differ (asked_log x opened)
   log_once opened =
       let more = past_log x opened in
-      AllPairs-cons Differ (in_log 0) more
-      (behind_log 0 more (logged_past opened 1 (omega arith) (logged_in (log_in x))))
-      (logged_once opened (logged_in (log_in x)))
+      AllPairs-cons Differ (log_at 0) more
+      (behind_log 0 more (logged_past opened 1 (omega arith) (logged_in x)))
+      (logged_once opened (logged_in x))
 
   clean_once : (count : ℕ) → AllPairs Differ (clean_part x count)
   clean_once count =
       pairs_of_run x Primary 8 count [] Differ
       (λ j k above high. differ Primary (8 + j) (8 + k) (λ e. omega arith))
-      (λ j below. All-nil (Differ (in_primary (8 + j)))) (no_pairs Differ)
+      (λ j below. All-nil (Differ (primary_at (8 + j)))) (no_pairs Differ)
 
   one_once : (base : Base) (b : Bool)
-      → AllPairs Differ (if b then clean_part x (bins_sectors base) else asked_log x base)
+      → AllPairs Differ (if b then clean_part x (bins_sectors base) else asked_log x (Some base))
   one_once base true = clean_once (bins_sectors base)
-  one_once base false = log_once base
+  one_once base false = log_once (Some base)
 
-  base_once : (r : Result Base HiveFault) → AllPairs Differ (unless_fault r (asked_behind_base x))
+  base_once : (r : Result (Option Base) HiveFault) → AllPairs Differ (unless_fault r (asked_behind_base x))
   base_once (Err f) = no_pairs Differ
-  base_once (Ok base) = one_once base (base.first == base.second)
+  base_once (Ok None) = log_once None
+  base_once (Ok (Some base)) = one_once base (base.first == base.second)
 
   pub asked_once : AllPairs Differ (asked_of x)
   unfolding asked_of
   asked_once =
       let more = past_block x in
-      AllPairs-cons Differ (in_primary 0) more
-      (All-weaker (IsPast 0) (Differ (in_primary 0)) (λ a is. base_before a.file a.sector 0 is) more
-      (base_past (base_in (primary_in x))))
-      (base_once (base_in (primary_in x)))
+      AllPairs-cons Differ (primary_at 0) more
+      (All-weaker (IsPast 0) (Differ (primary_at 0)) (λ a is. base_before a.file a.sector 0 is) more
+      (base_past (base_in x)))
+      (base_once (base_in x))

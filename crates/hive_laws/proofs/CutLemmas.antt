@@ -16,7 +16,7 @@ loads_as image base bins state holds is =
       recovered = record { base = base; bins = bins; dirty = is.dirty };
       read = is.recovered;
       was_dirty = refl;
-      holds = record { bins = holds.bins; cells = holds.cells; tree = holds.tree; sequence = holds.sequence };
+      holds = record { bins = holds.bins; cells = holds.cells; tree = holds.tree; sequence = holds.sequence; version = holds.version };
     }
 
 pub reads_as_either : (reading : Base → List ℕ → Option HiveState) (base closed : Base) (old new : List ℕ) (image : Image)

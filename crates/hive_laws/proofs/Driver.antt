@@ -14,8 +14,9 @@ use Rattle.hive_model.specs.Forms.{KeyNode, key_node_in, key_name_at, key_node_a
 use Rattle.hive_model.specs.Bins.{Cell, Bin, Cells, IsCell, IsBins, cell_size, cells_size, bins_size, spelled, payload_at, look_up, or_else}
 use Rattle.hive_model.specs.Tree.{Item, Tree, head, children}
 use Rattle.hive_model.specs.Valid.{KeysDiffer, ItemsDiffer}
-use Rattle.hive_model.specs.Walk.{Check, uses, tests, found, at_place, failing, clash, node_at, entries_at, first_among, first_fault, AreUsedOnce, all_checks, key_checks, class_checks, security_checks, data_checks, value_checks, values_checks, entries_checks, children_checks}
+use Rattle.hive_model.specs.Walk.{Check, uses, tests, found, at_place, failing, clash, node_at, entries_at, first_among, first_fault, all_checks, key_checks, class_checks, security_checks, data_checks, value_checks, values_checks, entries_checks, children_checks}
 use Rattle.hive_model.specs.Stands.{KeyStands, Stands, HasApartNames, IsWellFormed, class_of, security_of, data_of, item_at, values_of}
+use Rattle.hive_model.proofs.UsedOnce.{OnceBehind, used_once}
 use Rattle.hive_laws.specs.OneDriver.{driver_words, driver_bin}
 use Rattle.hive_laws.specs.Trees.{one_driver, set_key, services_key, disk_key, select_key}
 
@@ -56,7 +57,7 @@ all_tested (c ∷ cs) e = let h = both (is_cell c) (list_all is_cell cs) e in (t
 -- ---- no cell is shared
 
 -- where no check fails each cell is used once, or each time as security
-once : (cells : Cells) (before cs : List Check) → first_among cells before cs ≡ None → AreUsedOnce before cs
+once : (cells : Cells) (before cs : List Check) → first_among cells before cs ≡ None → OnceBehind before cs
 once cells before [] e = tt
 once cells before (tests at None ∷ cs) e = once cells (before ++ tests at None ∷ []) cs e
 once cells before (tests at (Some k) ∷ cs) e = absurd cc
@@ -167,9 +168,9 @@ names = (
 )
 
 pub well_formed : IsWellFormed (look_up V3 (cells_in driver_bin)) 32 one_driver
-well_formed = record {
+well_formed = let checks = all_checks (look_up V3 (cells_in driver_bin)) 32 in record {
   stands = stands;
   levels = lit≤ tt;
   names = names;
-  once = once (look_up V3 (cells_in driver_bin)) [] (all_checks (look_up V3 (cells_in driver_bin)) 32) no_fault;
+  once = used_once checks (once (look_up V3 (cells_in driver_bin)) [] checks no_fault);
 }

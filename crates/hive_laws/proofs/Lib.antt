@@ -12,6 +12,7 @@ pub mod CutLemmas
 pub mod Sized
 pub mod FirstFault
 pub mod FileSectors
+pub mod Saved
 pub mod ReadBack
 pub mod FullHives
 pub mod WrittenLists

@@ -1,13 +1,12 @@
 -- What holds of sectors that are asked for one by one: of each of them, of any two, and which they are.
-use Rattle.std.specs.Prelude.{IsSome, All, AllPairs, Contains, if◌then◌else◌}
+use Rattle.std.specs.Prelude.{All, AllPairs, Contains, if◌then◌else◌}
 use Rattle.std.specs.List.{range_with_len}
-use Rattle.std.proofs.Common.{◌≡◌, ◌⊎◌, ◌<◌, ◌≤◌, ◌+◌, ℕ, zero, suc, Bool, true, false, cond, is_some, List, [], ◌∷◌, map, filter, refl, sym, ◌∙◌, ap, subst, ⊎_elim, arith}
+use Rattle.std.proofs.Common.{◌≡◌, ◌⊎◌, ◌<◌, ◌≤◌, ◌+◌, ℕ, zero, suc, Bool, true, false, cond, List, [], ◌∷◌, map, filter, refl, sym, ◌∙◌, ap, subst, ⊎_elim, arith}
 use Rattle.std.proofs.lemmas.Bool.{both_ways}
 use Rattle.std.proofs.lemmas.List.Elements.{All-nil, All-cons, Contains-push, Contains-append_left, Contains-append_right}
 use Rattle.std.proofs.lemmas.List.Kept.{AllPairs-cons}
 use Rattle.hive_model.specs.Image.{Image, Address, File}
-use Rattle.hive_log.specs.Asked.{run_at, one_by_one}
-use Rattle.hive_laws.specs.Looking.{AreThere}
+use Rattle.hive_model.specs.Asked.{run_at, is_readable, one_by_one}
 
 -- ---- lists that begin with an element
 
@@ -37,31 +36,31 @@ module _ (image : Image) (at : ℕ → Address) (test : ℕ → Bool) where
   abbrev pub those : ℕ → ℕ → List Address → List Address
   those from n more = one_by_one image (map at (filter test (range_with_len from n))) more
 
-  -- those before this number are there
+  -- those before this number can be read
   abbrev pub Before : ℕ → ℕ → Type 0
-  Before from j = (k : ℕ) → from ≤ k → k < j → test k ≡ true → IsSome (image (at k))
+  Before from j = (k : ℕ) → from ≤ k → k < j → test k ≡ true → is_readable (image (at k)) ≡ true
 
-  also : (from j : ℕ) → (test from ≡ true → IsSome (image (at from))) → Before (from + 1) j → Before from j
+  also : (from j : ℕ) → (test from ≡ true → is_readable (image (at from)) ≡ true) → Before (from + 1) j → Before from j
   also from j here before k low high on = ⊎_elim
-      (λ is. subst (λ q. test q ≡ true → IsSome (image (at q))) is here on)
+      (λ is. subst (λ q. test q ≡ true → is_readable (image (at q)) ≡ true) is here on)
       (λ later. before k later high on)
       (first_or_later from k low)
 
-  all_first : (Q : Address → Type 0) (a : Address) (rest : List Address) (b : Bool) → is_some (image a) ≡ b
-      → Q a → (IsSome (image a) → All Q rest) → All Q (a ∷ (if b then rest else []))
+  all_first : (Q : Address → Type 0) (a : Address) (rest : List Address) (b : Bool) → is_readable (image a) ≡ b
+      → Q a → (is_readable (image a) ≡ true → All Q rest) → All Q (a ∷ (if b then rest else []))
   all_first Q a rest false e first more = All-cons Q a [] first (All-nil Q)
   all_first Q a rest true e first more = All-cons Q a rest first (more e)
 
   all_next : (Q : Address → Type 0) (from : ℕ) (rest : List ℕ) (more : List Address) (b : Bool) → test from ≡ b
       → (test from ≡ true → Q (at from))
-      → ((test from ≡ true → IsSome (image (at from))) → All Q (listed rest more))
+      → ((test from ≡ true → is_readable (image (at from)) ≡ true) → All Q (listed rest more))
       → All Q (listed (cond b (from ∷ rest) rest) more)
   all_next Q from rest more false off first behind = behind (λ on. absurd (both_ways (test from) off on))
   all_next Q from rest more true on first behind =
-      let there = is_some (image (at from)) in
+      let there = is_readable (image (at from)) in
       all_first Q (at from) (listed rest more) there refl (first on) (λ some. behind (λ _. some))
 
-  -- what holds of each of them, where those before it are there, and behind them
+  -- what holds of each of them, where those before it can be read, and behind them
   pub all_those : (Q : Address → Type 0) (from n : ℕ) (more : List Address)
       → ((j : ℕ) → from ≤ j → j < from + n → test j ≡ true → Before from j → Q (at j))
       → (Before from (from + n) → All Q more) → All Q (those from n more)
@@ -77,17 +76,17 @@ module _ (image : Image) (at : ℕ → Address) (test : ℕ → Bool) where
       → Contains (listed (cond b (from ∷ rest) rest) more) (at from)
   next_contains from rest more false on = absurd cc
   next_contains from rest more true on =
-      contains_first (at from) (if is_some (image (at from)) then listed rest more else [])
+      contains_first (at from) (if is_readable (image (at from)) then listed rest more else [])
 
   later_contains : (from : ℕ) (rest : List ℕ) (more : List Address) (a : Address) (b : Bool) → test from ≡ b
-      → (test from ≡ true → IsSome (image (at from))) → Contains (listed rest more) a
+      → (test from ≡ true → is_readable (image (at from)) ≡ true) → Contains (listed rest more) a
       → Contains (listed (cond b (from ∷ rest) rest) more) a
   later_contains from rest more a false off here c = c
   later_contains from rest more a true on here c =
       subst (λ b. Contains (at from ∷ (if b then listed rest more else [])) a) (sym (here on))
       (contains_later (at from) (listed rest more) a c)
 
-  -- each of them before which all are there is asked for,
+  -- each of them before which all can be read is asked for,
   pub those_contain : (from n : ℕ) (more : List Address) (j : ℕ) → from ≤ j → j < from + n → test j ≡ true
       → Before from j → Contains (those from n more) (at j)
   those_contain from zero more j low high on before = absurd (omega arith)
@@ -100,7 +99,7 @@ module _ (image : Image) (at : ℕ → Address) (test : ℕ → Bool) where
       (λ k below above passes. before k (omega arith) above passes)))
       (first_or_later from j low)
 
-  -- and what is behind them, where all are there
+  -- and what is behind them, where all can be read
   pub behind_contains : (from n : ℕ) (more : List Address) (a : Address) → Before from (from + n)
       → Contains more a → Contains (those from n more) a
   behind_contains from zero more a all c = c
@@ -119,7 +118,7 @@ module _ (image : Image) (at : ℕ → Address) (test : ℕ → Bool) where
       → AllPairs R (listed (cond b (from ∷ rest) rest) more)
   once_next R from rest more false first behind = behind
   once_next R from rest more true first behind =
-      once_first R (at from) (listed rest more) (is_some (image (at from))) first behind
+      once_first R (at from) (listed rest more) (is_readable (image (at from))) first behind
 
   -- what holds of any two of them, of each of them with those behind, and of any two behind
   pub pairs_of_those : (R : Address → Address → Type 0) (from n : ℕ) (more : List Address)
@@ -150,9 +149,9 @@ module _ (image : Image) (file : File) (first n : ℕ) (more : List Address) whe
   abbrev of_these : List ℕ → List Address
   of_these numbers = one_by_one image (map nth numbers) more
 
-  -- those before this one are there
+  -- those before this one can be read
   abbrev pub Front : ℕ → Type 0
-  Front = AreThere (λ k. image (nth k))
+  Front j = (k : ℕ) → k < j → is_readable (image (nth k)) ≡ true
 
   abbrev pub run : List Address
   run = one_by_one image (run_at file first n) more

@@ -1,10 +1,9 @@
 //! Laws and worked examples of the book of hives: of definitions alone, whatever code there is. A few of them stand
-//! above the book: the sectors that recovery asks for (`asked_of` of `hive_log`), and what a cut within a commit leaves
-//! (of `hive_commit` and `nt_edge`).
+//! above the book: what a cut within a commit leaves (of `hive_commit` and `nt_edge`).
 //!
-//! Each example is a definition at one input, with the value that it computes to: one of the book, of `nt_bytes` for
-//! names and strings, or `asked_of`. The values are those of the format's tables, worked out by hand, or of files that
-//! other programs wrote.
+//! Each example is a definition at one input, with the value that it computes to: one of the book, or of `nt_bytes` for
+//! names and strings. The values are those of the format's tables, worked out by hand, or of files that other programs
+//! wrote.
 #![tactic(auto)]
 
 mod base;
@@ -43,16 +42,13 @@ pub use forms::{
     other_signatures,
 };
 pub use heaps::bins_data_are_bins_or_have_a_fault;
-pub use images::{
-    a_longer_flight_allows_more, a_write_is_kept_or_lost_by_itself,
-    nothing_in_flight_leaves_what_is_held,
-};
+pub use images::a_write_is_kept_or_lost_by_itself;
 pub use in_place::{a_count_goes_up_and_down, cells_keep_themselves, keys_are_counted};
 pub use loads::{
     bins_of_one_driver, forms_of_one_driver, one_driver_loads, uses_of_one_driver,
     values_of_one_driver,
 };
-pub use logs::{a_commit_logs_every_sector, a_log_of_longer_data, a_log_of_one_sector};
+pub use logs::{a_log_leaves_out_what_is_there, a_log_of_longer_data, a_log_of_one_sector};
 pub use looking::{
     a_clean_hive_needs_no_log, recovery_asks_for_each_sector_once, recovery_asks_in_order,
     recovery_asks_where_it_looks, recovery_looks_nowhere_else, sectors_that_recovery_asks_for,
@@ -64,8 +60,9 @@ pub use packing::{
     packed_lists_are_written_lists, two_descriptors_are_packed, two_segments_are_packed,
 };
 pub use recovery::{
-    a_clean_hive, a_hive_with_its_log, a_log_is_read_back, faults_of_a_base_block, faults_of_a_log,
-    faults_of_a_primary, what_is_carried_is_recovered,
+    a_clean_hive, a_hive_with_its_log, a_hive_with_unreadable_sectors, a_log_is_read_back,
+    faults_of_a_base_block, faults_of_a_log, faults_of_a_primary, faults_of_unreadable_sectors,
+    saved_files_are_recovered_alike, what_is_carried_is_recovered,
 };
 pub use sizes::{a_value_of_two_segments, cells_of_data, lists_of_501_children, sizes_add_up};
 pub use spelling::{a_base_block_is_read_back, forms_are_read_back, lists_are_read_back};

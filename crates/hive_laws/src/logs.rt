@@ -1,8 +1,9 @@
-//! The log of a change of one byte.
+//! The log of a change of one byte, and what it leaves out.
 
-ghost use Rattle.std.specs.Prelude.{◌≡◌, ◌+◌, ◌*◌, [], ◌∷◌, ◌++◌, codes, replicate, length, take, slice_range};
+ghost use Rattle.std.specs.Prelude.{◌≡◌, ◌↔◌, ◌≤◌, ◌+◌, ◌*◌, ℕ, List, false, [], ◌∷◌, ◌++◌, codes, replicate, length, take, slice_range};
 ghost use Rattle.hive_model.specs.Base.{base_text};
-ghost use Rattle.hive_model.specs.Log.{dirty, bytes_of_bits, logged_bits, log_of};
+ghost use Rattle.hive_model.specs.Log.{dirty, bytes_of_bits, log_of};
+ghost use Rattle.hive_model.specs.Recovery.{sector};
 ghost use Rattle.hive_laws.specs.Samples.{block, before, after, longer};
 
 /// Two lists of 4096 bytes differ at byte 600 alone: only sector 1 has to be logged. The log is a base
@@ -24,8 +25,7 @@ pub fn a_log_of_longer_data()
     ensures sectors { length (log_of (dirty before longer) longer (block 6 6 0)) ≡ 512 * (2 + 9) }
 {}
 
-/// A commit logs every sector.
-pub fn a_commit_logs_every_sector()
-    ensures front { slice_range (log_of (logged_bits before after) after (block 6 6 0)) 512 518 ≡ codes "DIRT" ++ 0xFF ∷ 0 ∷ [] }
-    ensures sectors { length (log_of (logged_bits before after) after (block 6 6 0)) ≡ 512 * (2 + 8) }
+/// A sector is left out of the log exactly where all its bytes are there in the old data, and equal.
+pub fn a_log_leaves_out_what_is_there()
+    ensures { (old new : List ℕ) (i : ℕ) → (dirty old new i ≡ false) ↔ ((512 * i + 512 ≤ length old) × (sector old i ≡ sector new i)) }
 {}

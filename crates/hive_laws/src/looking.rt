@@ -1,15 +1,16 @@
 //! Where recovery looks, that nothing else counts, and which sectors it asks for.
 
-ghost use Rattle.std.specs.Prelude.{◌≡◌, ◌<◌, ℕ, List, [], ◌∷◌, false, IsSome, Ok, AllPairs, Contains};
+ghost use Rattle.std.specs.Prelude.{◌≡◌, ◌<◌, ℕ, List, [], ◌∷◌, true, false, IsSome, Ok, AllPairs, Contains};
 ghost use Rattle.hive_model.specs.Base.{Base};
 ghost use Rattle.hive_model.specs.Image.{Image, Address, Log, image_of, same_address, with_file};
 ghost use Rattle.hive_model.specs.Carries.{HasBase};
 ghost use Rattle.hive_model.specs.Log.{dirty, log_of};
 ghost use Rattle.hive_model.specs.Recovery.{Recovered, recovered_of};
-ghost use Rattle.hive_log.specs.Asked.{asked_of};
-ghost use Rattle.hive_laws.specs.Looking.{LooksAt, IsInOrder, in_primary, in_log};
+ghost use Rattle.hive_model.specs.Asked.{primary_at, log_at, is_readable, asked_of};
+ghost use Rattle.hive_laws.specs.Looking.{LooksAt, IsInOrder};
 ghost use Rattle.hive_laws.specs.OneDriver.{driver_with};
 ghost use Rattle.hive_laws.specs.Samples.{block, before, after, file_of};
+ghost use Rattle.hive_laws.specs.Torn.{unreadable_at};
 
 /// Images that agree at each sector at which recovery of the first looks recover alike: as the same base
 /// block and bins data, or with the same fault.
@@ -17,24 +18,26 @@ pub fn recovery_looks_nowhere_else()
     ensures { (image other : Image) → ((a : Address) → LooksAt image a → image a ≡ other a) → recovered_of image ≡ recovered_of other }
 {}
 
-/// Where recovery has no fault, each sector at which it looks is there.
+/// Where recovery has no fault, each sector at which it looks is there, and can be read but perhaps the primary's sector 0.
 pub fn what_recovery_looks_at_is_there()
-    ensures { (image : Image) (recovered : Recovered) (a : Address) → recovered_of image ≡ Ok recovered → LooksAt image a → IsSome (image a) }
+    ensures there { (image : Image) (recovered : Recovered) (a : Address) → recovered_of image ≡ Ok recovered → LooksAt image a → IsSome (image a) }
+    ensures readable { (image : Image) (recovered : Recovered) (a : Address) → recovered_of image ≡ Ok recovered → LooksAt image a
+        → (a ≡ primary_at 0 → ⊥) → is_readable (image a) ≡ true }
 {}
 
 /// Of the primary, recovery looks at sector 0 and at the bins data behind sector 7.
 pub fn seven_sectors_are_left_alone()
-    ensures { (image : Image) (n : ℕ) → 0 < n → n < 8 → LooksAt image (in_primary n) → ⊥ }
+    ensures { (image : Image) (n : ℕ) → 0 < n → n < 8 → LooksAt image (primary_at n) → ⊥ }
 {}
 
 /// Of a clean hive, recovery looks at no sector of the log, so any log does.
 pub fn a_clean_hive_needs_no_log()
-    ensures unread { (image : Image) (base : Base) (n : ℕ) → HasBase image base → base.first ≡ base.second → LooksAt image (in_log n) → ⊥ }
+    ensures unread { (image : Image) (base : Base) (n : ℕ) → HasBase image base → base.first ≡ base.second → LooksAt image (log_at n) → ⊥ }
     ensures any { (image : Image) (base : Base) (log : List ℕ) → HasBase image base → base.first ≡ base.second
         → recovered_of (with_file Log log image) ≡ recovered_of image }
 {}
 
-/// What recovery asks for is `asked_of`, of `hive_log`: just the sectors that it looks at,
+/// What recovery asks for is `asked_of`: just the sectors that it looks at,
 pub fn recovery_asks_where_it_looks()
     ensures only { (image : Image) (at : Address) → Contains (asked_of image) at → LooksAt image at }
     ensures each { (image : Image) (at : Address) → LooksAt image at → Contains (asked_of image) at }
@@ -52,13 +55,18 @@ pub fn recovery_asks_in_order()
 {}
 
 /// What recovery asks for, in its order: of the clean hive of one driver, of no files, and of a hive with the
-/// numbers 6 and 5 without a log, and with one that has its sector 1.
+/// numbers 6 and 5 without a log, and with one that has its sector 1. It asks for the same where the base block can't be
+/// read, and for no more behind a sector of the log that can't.
 pub fn sectors_that_recovery_asks_for()
-    ensures clean { asked_of (driver_with []) ≡ in_primary 0 ∷ in_primary 8 ∷ in_primary 9 ∷ in_primary 10 ∷ in_primary 11
-        ∷ in_primary 12 ∷ in_primary 13 ∷ in_primary 14 ∷ in_primary 15 ∷ [] }
-    ensures no_primary { asked_of (image_of [] []) ≡ in_primary 0 ∷ [] }
-    ensures no_log { asked_of (image_of (file_of 6 5 before) []) ≡ in_primary 0 ∷ in_log 0 ∷ [] }
+    ensures clean { asked_of (driver_with []) ≡ primary_at 0 ∷ primary_at 8 ∷ primary_at 9 ∷ primary_at 10 ∷ primary_at 11
+        ∷ primary_at 12 ∷ primary_at 13 ∷ primary_at 14 ∷ primary_at 15 ∷ [] }
+    ensures no_primary { asked_of (image_of [] []) ≡ primary_at 0 ∷ [] }
+    ensures no_log { asked_of (image_of (file_of 6 5 before) []) ≡ primary_at 0 ∷ log_at 0 ∷ [] }
     ensures logged { asked_of (image_of (file_of 6 5 before) (log_of (dirty before after) after (block 6 6 0)))
-        ≡ in_primary 0 ∷ in_log 0 ∷ in_log 1 ∷ in_log 2 ∷ in_primary 8 ∷ in_primary 10 ∷ in_primary 11
-        ∷ in_primary 12 ∷ in_primary 13 ∷ in_primary 14 ∷ in_primary 15 ∷ [] }
+        ≡ primary_at 0 ∷ log_at 0 ∷ log_at 1 ∷ log_at 2 ∷ primary_at 8 ∷ primary_at 10 ∷ primary_at 11
+        ∷ primary_at 12 ∷ primary_at 13 ∷ primary_at 14 ∷ primary_at 15 ∷ [] }
+    ensures unreadable_block { asked_of (unreadable_at (primary_at 0) (image_of (file_of 6 5 before) (log_of (dirty before after) after (block 6 6 0))))
+        ≡ asked_of (image_of (file_of 6 5 before) (log_of (dirty before after) after (block 6 6 0))) }
+    ensures unreadable_log { asked_of (unreadable_at (log_at 2) (image_of (file_of 6 5 before) (log_of (dirty before after) after (block 6 6 0))))
+        ≡ primary_at 0 ∷ log_at 0 ∷ log_at 1 ∷ log_at 2 ∷ [] }
 {}

@@ -1,25 +1,44 @@
-//! What a hive is recovered as: one that is clean, one whose log is read back, and the two files of a small one.
+//! What a hive is recovered as: one that is clean, one whose log is read back, one that was saved as files, and the two
+//! files of a small one, with sectors that can't be read among them.
 
-ghost use Rattle.std.specs.Prelude.{◌≡◌, ℕ, Bool, List, [], ◌∷◌, ◌++◌, codes, take, slice_set, Ok, Err, true, false};
-ghost use Rattle.nt_bytes.specs.declared.fault.HiveKind.TheVariants.{NotRegf, Checksum, Version, FileType, Size, LogAbsent, LogBase, LogSequence, LogShort, LogDirt};
+ghost use Rattle.std.specs.Prelude.{◌≡◌, ℕ, Bool, List, [], ◌∷◌, ◌++◌, codes, take, slice_set, Option, Some, Ok, Err, true, false};
+ghost use Rattle.nt_bytes.specs.declared.fault.HiveKind.TheVariants.{NotRegf, Checksum, Version, FileType, Size, Unreadable, LogAbsent, LogBase, LogSequence, LogShort, LogDirt, LogUnreadable};
 ghost use Rattle.hive_model.specs.Base.{Base, fault_at, base_text};
-ghost use Rattle.hive_model.specs.Image.{Image, image_of};
+ghost use Rattle.hive_model.specs.Image.{Image, Bytes, image_of};
+ghost use Rattle.hive_model.specs.Asked.{primary_at, log_at};
 ghost use Rattle.hive_model.specs.Carries.{Carries};
-ghost use Rattle.hive_model.specs.Recovery.{recovered_of};
-ghost use Rattle.hive_model.specs.Log.{dirty, logged_bits, log_of};
+ghost use Rattle.hive_model.specs.Recovery.{Recovered, primary_in, recovered_of};
+ghost use Rattle.hive_model.specs.Log.{dirty, log_of};
+ghost use Rattle.hive_model.specs.Load.{Loads};
+ghost use Rattle.hive_model.specs.State.{HiveState};
 ghost use Rattle.hive_laws.specs.Samples.{block, before, after, file_of, changed};
 ghost use Rattle.hive_laws.specs.Opened.{IsClosing, IsUnderWay};
+ghost use Rattle.hive_laws.specs.Torn.{unreadable_at};
+ghost use Rattle.hive_laws.specs.Whole.{AreSaved};
 
 /// An image that carries a base block and bins data is recovered as these, without its log.
 pub fn what_is_carried_is_recovered()
     ensures { (image : Image) (base : Base) (bins : List ℕ) → Carries image base bins → recovered_of image ≡ Ok (record { base = base; bins = bins; dirty = false }) }
 {}
 
-/// What is spelled as a log, with any bits, is read back: where the primary is open, and its sectors whose bit is off are those of the
-/// new bins data, the image is recovered as the new base block and the new bins data.
+/// What is spelled as a log, with any bits, is read back: where the primary's base block is that of an unfinished commit or can't be
+/// read, and its sectors whose bit is off are those of the new bins data, the image is recovered as the new base block and the new
+/// bins data.
 pub fn a_log_is_read_back()
-    ensures { (image : Image) (opened closed : Base) (bits : ℕ → Bool) (bins : List ℕ) → IsClosing opened closed bins → IsUnderWay image opened closed bits bins
+    ensures { (image : Image) (opened : Option Base) (closed : Base) (bits : ℕ → Bool) (bins : List ℕ) → IsClosing opened closed bins → IsUnderWay image opened closed bits bins
         → recovered_of image ≡ Ok (record { base = closed; bins = bins; dirty = true }) }
+{}
+
+/// An image that is recovered is recovered alike, and loads alike, when its two files are saved and read again. In a saved file a sector
+/// that is absent or can't be read is zeros, so the primary's sector 0 has to be one that can be read; others may be any that are not
+/// looked at.
+pub fn saved_files_are_recovered_alike()
+    ensures recovered { (image : Image) (primary log block : List ℕ) (recovered : Recovered)
+        → AreSaved image primary log → primary_in image 0 ≡ Some (Bytes block)
+        → recovered_of image ≡ Ok recovered → recovered_of (image_of primary log) ≡ Ok recovered }
+    ensures loads { (image : Image) (primary log block : List ℕ) (state : HiveState) (dirty : Bool)
+        → AreSaved image primary log → primary_in image 0 ≡ Some (Bytes block)
+        → Loads image state dirty → Loads (image_of primary log) state dirty }
 {}
 
 /// Equal sequence numbers: the primary stands by itself, whatever the log is.
@@ -33,6 +52,29 @@ pub fn a_clean_hive()
 pub fn a_hive_with_its_log()
     ensures { recovered_of (image_of (file_of 6 5 before) (log_of (dirty before after) after (block 6 6 0)))
         ≡ Ok (record { base = block 6 6 0; bins = after; dirty = true }) }
+{}
+
+/// The same where the base block can't be read, and where the sector that stands in the log can't. Of a clean hive nobody reads sectors
+/// 1 to 7.
+pub fn a_hive_with_unreadable_sectors()
+    ensures block { recovered_of (unreadable_at (primary_at 0) (image_of (file_of 6 5 before) (log_of (dirty before after) after (block 6 6 0))))
+        ≡ Ok (record { base = block 6 6 0; bins = after; dirty = true }) }
+    ensures logged { recovered_of (unreadable_at (primary_at 9) (image_of (file_of 6 5 before) (log_of (dirty before after) after (block 6 6 0))))
+        ≡ Ok (record { base = block 6 6 0; bins = after; dirty = true }) }
+    ensures left_alone { recovered_of (unreadable_at (primary_at 7) (image_of (file_of 5 5 before) [])) ≡ Ok (record { base = block 5 5 0; bins = before; dirty = false }) }
+{}
+
+/// Faults of sectors that can't be read: of a clean primary; of a log that is needed, its base block, its bits and a sector whose bit is
+/// on; and of a sector whose bit is off, behind all of the log's. A log alone needs numbers that are equal.
+pub fn faults_of_unreadable_sectors()
+    ensures bins { recovered_of (unreadable_at (primary_at 10) (image_of (file_of 5 5 before) [])) ≡ Err (fault_at Unreadable 5120) }
+    ensures base { recovered_of (unreadable_at (log_at 0) (image_of (file_of 6 5 before) (log_of (dirty before after) after (block 6 6 0)))) ≡ Err (fault_at LogUnreadable 0) }
+    ensures bits { recovered_of (unreadable_at (log_at 1) (image_of (file_of 6 5 before) (log_of (dirty before after) after (block 6 6 0)))) ≡ Err (fault_at LogUnreadable 512) }
+    ensures marked { recovered_of (unreadable_at (log_at 2) (unreadable_at (primary_at 8) (image_of (file_of 6 5 before) (log_of (dirty before after) after (block 6 6 0)))))
+        ≡ Err (fault_at LogUnreadable 1024) }
+    ensures unmarked { recovered_of (unreadable_at (primary_at 8) (image_of (file_of 6 5 before) (log_of (dirty before after) after (block 6 6 0)))) ≡ Err (fault_at Unreadable 4096) }
+    ensures no_log { recovered_of (unreadable_at (primary_at 0) (image_of (file_of 6 5 before) [])) ≡ Err (fault_at LogAbsent 0) }
+    ensures numbers { recovered_of (unreadable_at (primary_at 0) (image_of (file_of 6 5 before) (log_of (dirty before after) after (block 6 5 0)))) ≡ Err (fault_at LogSequence 4) }
 {}
 
 /// Faults of the primary.
@@ -62,5 +104,5 @@ pub fn faults_of_a_log()
     ensures no_bits { recovered_of (image_of (file_of 6 5 before) (base_text (block 6 6 1))) ≡ Err (fault_at LogShort 512) }
     ensures dirt { recovered_of (image_of (file_of 6 5 before) (base_text (block 6 6 1) ++ codes "DIRt")) ≡ Err (fault_at LogDirt 512) }
     ensures short { recovered_of (image_of (file_of 6 5 before) (take 1024 (log_of (dirty before after) after (block 6 6 0)))) ≡ Err (fault_at LogShort 1024) }
-    ensures last { recovered_of (image_of (file_of 6 5 before) (take 4608 (log_of (logged_bits before after) after (block 6 6 0)))) ≡ Err (fault_at LogShort 4608) }
+    ensures last { recovered_of (image_of (file_of 6 5 before) (take 4608 (log_of (λ _. true) after (block 6 6 0)))) ≡ Err (fault_at LogShort 4608) }
 {}

@@ -1,3 +1,4 @@
 pub mod BaseLemmas
 pub mod Spelling
 pub mod HeldLemmas
+pub mod UsedOnce

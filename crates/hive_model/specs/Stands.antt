@@ -113,4 +113,4 @@ pub record IsWellFormed (cells : Cells) (root : ℕ) (t : Tree) : Type 0 where
   pub stands : Stands cells root t
   pub levels : levels t ≤ deepest_level
   pub names : HasApartNames t
-  pub once : AreUsedOnce [] (all_checks cells root)
+  pub once : AreUsedOnce (all_checks cells root)

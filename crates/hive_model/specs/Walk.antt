@@ -12,7 +12,7 @@
 --     that the lists have as many entries as the node says
 --     each child in order, with all below it
 use Rattle.std.specs.Prelude.{◌≡◌, ℕ, zero, suc, ◌-◌, Bool, true, false, ◌&&◌, not, ◌==◌, is_some, if◌then◌else◌, List, [], ◌∷◌, ◌++◌, length, Option, Some, None, Result, Ok, Err}
-use Rattle.std.specs.List.{list_any}
+use Rattle.std.specs.List.{AllPairs, list_any}
 use Rattle.nt_bytes.specs.Folding.{folds_same}
 use Rattle.nt_bytes.specs.declared.fault.HiveKind.{HiveKind}
 use Rattle.nt_bytes.specs.declared.fault.HiveKind.TheVariants.{Shared, FormLength, FormName, FormKind, DoubleName, Count, TooDeep}
@@ -213,8 +213,11 @@ first_among cells before (c ∷ cs) = or_else (fault_of cells before c) (first_a
 abbrev pub first_fault : Cells → ℕ → Option HiveFault
 first_fault cells root = first_among cells [] (all_checks cells root)
 
+-- the later of two checks uses the cell that the earlier uses, and not both as security
+abbrev pub clashes : Check → Check → Bool
+clashes earlier (uses at security) = clash at security earlier
+clashes earlier (tests at kind) = false
+
 -- each cell is used once, or each time as security
-abbrev pub AreUsedOnce : List Check → List Check → Type 0
-AreUsedOnce before [] = Unit {0}
-AreUsedOnce before (uses at security ∷ cs) = (list_any (clash at security) before ≡ false) × AreUsedOnce (before ++ uses at security ∷ []) cs
-AreUsedOnce before (tests at kind ∷ cs) = AreUsedOnce (before ++ tests at kind ∷ []) cs
+abbrev pub AreUsedOnce : List Check → Type 0
+AreUsedOnce checks = AllPairs (λ earlier later. clashes earlier later ≡ false) checks

@@ -7,7 +7,8 @@ use Rattle.std.proofs.lemmas.List.{append-nil}
 use Rattle.nt_bytes.specs.declared.fault.HiveKind.{HiveKind}
 use Rattle.hive_model.specs.Bins.{Cells}
 use Rattle.std.proofs.Common.{Option, None}
-use Rattle.hive_model.specs.Walk.{reading, found, below_of, use_as, Check, uses, tests, clash, AreUsedOnce}
+use Rattle.hive_model.specs.Walk.{reading, found, below_of, use_as, Check, uses, tests, clash}
+use Rattle.hive_model.proofs.UsedOnce.{OnceBehind}
 
 eq_of : (a b : ℕ) → eqb a b ≡ true → a ≡ b
 eq_of a b e = eqb-true a b e
@@ -94,12 +95,12 @@ shared n s [] c = refl
 shared n s (tests a k ∷ cs) c = shared n s cs c.1
 shared n s (uses a b ∷ cs) c = one s a b c.0.1 cs (shared n s cs c.1)
 
-pub once_append : (before a b : List Check) → AreUsedOnce before a → AreUsedOnce (before ++ a) b → AreUsedOnce before (a ++ b)
-once_append before [] b p q = subst (λ (l : List Check). AreUsedOnce l b) (append-nil before) q
+pub once_append : (before a b : List Check) → OnceBehind before a → OnceBehind (before ++ a) b → OnceBehind before (a ++ b)
+once_append before [] b p q = subst (λ (l : List Check). OnceBehind l b) (append-nil before) q
 once_append before (tests at k ∷ cs) b p q =
-    once_append (before ++ tests at k ∷ []) cs b p (subst (λ (l : List Check). AreUsedOnce l b) (sym (append_assoc before (tests at k ∷ []) cs)) q)
+    once_append (before ++ tests at k ∷ []) cs b p (subst (λ (l : List Check). OnceBehind l b) (sym (append_assoc before (tests at k ∷ []) cs)) q)
 once_append before (uses at k ∷ cs) b p q =
-    (p.0, once_append (before ++ uses at k ∷ []) cs b p.1 (subst (λ (l : List Check). AreUsedOnce l b) (sym (append_assoc before (uses at k ∷ []) cs)) q))
+    (p.0, once_append (before ++ uses at k ∷ []) cs b p.1 (subst (λ (l : List Check). OnceBehind l b) (sym (append_assoc before (uses at k ∷ []) cs)) q))
 
 -- ---- a stretch of checks
 
@@ -109,7 +110,7 @@ Outside s lo hi = (s < lo) ⊎ (hi ≤ s)
 -- Checks whose uses lie in a range, or are of the descriptor before it, and which clash with nothing before the range.
 pub record Good (lo hi s : ℕ) (cs : List Check) : Type 0 where
   pub within : Within lo hi s cs
-  pub once : (before : List Check) → Clean lo s before → AreUsedOnce before cs
+  pub once : (before : List Check) → Clean lo s before → OnceBehind before cs
 
 narrower : (s lo hi lo' hi' : ℕ) → lo ≤ lo' → hi' ≤ hi → Outside s lo hi → Outside s lo' hi'
 narrower s lo hi lo' hi' l h (inl p) = inl (omega arith)

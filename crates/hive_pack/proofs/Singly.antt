@@ -13,6 +13,7 @@ use Rattle.hive_model.specs.Forms.{KeyNode, IsKeyNode, KeyValue, key_node_text, 
 use Rattle.hive_model.specs.Walk.{reading, nowhere, big_data_of, segments_checks, big_checks, is_list_of_lists, node_at, leaf_at, entries_at, Check, names_of, name_check, class_checks, security_checks, data_checks, value_checks, values_in_turn, values_checks, leaves_checks, use_as, entries_checks, keys_in_turn, children_checks, below_node, key_checks, all_checks, AreUsedOnce}
 use Rattle.hive_model.specs.Packed.{data_place, item_form, segment_places, big_cells, data_cells, item_cells, cells_of_items, item_places, items_cells, descriptor_place, sharers_of_all, Above, below, security_place_of, values_place, list_place, children_place, place_of_some, node_of, head_cells, part_places, list_cells, places, hint, cells_of, cells_of_all}
 use Rattle.hive_model.proofs.Spelling.{key_node_again}
+use Rattle.hive_model.proofs.UsedOnce.{used_once}
 use Rattle.hive_pack.specs.Numbers.{ItemNumbers, HasNumbers, AllHaveNumbers}
 use Rattle.hive_pack.proofs.Rows.{segments_room, space_value, space_head, space_lists, space_tree, length_places, same_hints, hints_of, many_lists}
 use Rattle.reg_tree.proofs.Trees.{trees_listed}
@@ -351,7 +352,8 @@ mutual
 -- all checks of a packed tree's cells use each cell once, or each time as security
 pub checks_once : (cells : Cells) (up : Above) (t : Tree) → 32 + size cells.version up.security t ≤ 16777216
     → up.security_place ≡ nowhere → AboveStands cells up → Has cells 32 (cells_of cells.version up 32 t) → HoldsKeys t
-    → HasNumbers t → levels t ≤ 512 → AreUsedOnce [] (all_checks cells 32)
+    → HasNumbers t → levels t ≤ 512 → AreUsedOnce (all_checks cells 32)
 unfolding all_checks
 checks_once cells up t le is a has f n lv =
-    (key_good cells 512 true [] up 32 (32 + size cells.version up.security t) t refl le a (inr is) has f n (inl refl) lv).once [] tt
+    let good = key_good cells 512 true [] up 32 (32 + size cells.version up.security t) t refl le a (inr is) has f n (inl refl) lv in
+    used_once (key_checks 512 cells true [] 32) (good.once [] tt)

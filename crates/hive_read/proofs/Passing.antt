@@ -6,7 +6,8 @@ use Rattle.nt_bytes.specs.declared.fault.HiveKind.TheVariants.{Shared}
 use Rattle.nt_bytes.specs.declared.fault.HiveFault.{HiveFault}
 use Rattle.hive_model.specs.Forms.{◌>>=◌}
 use Rattle.hive_model.specs.Bins.{Cells, or_else}
-use Rattle.hive_model.specs.Walk.{Check, uses, tests, reading, found, below_of, use_as, failing, clash, at_place, first_among, AreUsedOnce}
+use Rattle.hive_model.specs.Walk.{Check, uses, tests, reading, found, below_of, use_as, failing, clash, at_place, first_among}
+use Rattle.hive_model.proofs.UsedOnce.{OnceBehind}
 
 -- a check passes but for earlier uses of its cell
 abbrev pub Passes : Cells → Check → Type 0
@@ -26,7 +27,7 @@ pass-split cells [] b p = (tt, p)
 pass-split cells (c ∷ cs) b p = let h = pass-split cells cs b p.1 in ((p.0, h.0), h.1)
 
 -- no check fails: each passes, and no cell is shared
-pub passing : (cells : Cells) (before cs : List Check) → first_among cells before cs ≡ None → AllPass cells cs × AreUsedOnce before cs
+pub passing : (cells : Cells) (before cs : List Check) → first_among cells before cs ≡ None → AllPass cells cs × OnceBehind before cs
 passing cells before [] e = (tt, tt)
 passing cells before (tests at None ∷ cs) e = let h = passing cells (before ++ tests at None ∷ []) cs e in ((refl, h.0), h.1)
 passing cells before (tests at (Some k) ∷ cs) e = absurd cc
@@ -41,7 +42,7 @@ passing cells before (uses at s ∷ cs) e =
     parts (Ok p) true rest e = absurd cc
     parts (Ok p) false rest e = ((p, refl), refl, e)
 
-pub none-fails : (cells : Cells) (before cs : List Check) → AllPass cells cs → AreUsedOnce before cs → first_among cells before cs ≡ None
+pub none-fails : (cells : Cells) (before cs : List Check) → AllPass cells cs → OnceBehind before cs → first_among cells before cs ≡ None
 none-fails cells before [] p o = refl
 none-fails cells before (uses at s ∷ cs) p o = rw (p.0.1, o.0) (none-fails cells (before ++ uses at s ∷ []) cs p.1 o.1)
 none-fails cells before (tests at None ∷ cs) p o = none-fails cells (before ++ tests at None ∷ []) cs p.1 o

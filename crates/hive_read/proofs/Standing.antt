@@ -12,6 +12,7 @@ use Rattle.hive_model.specs.Valid.{IsValid}
 use Rattle.hive_model.specs.Stands.{Stands, IsWellFormed}
 use Rattle.hive_read.specs.Walked.{Seen, walk, Steps, Reads, KeyRead}
 use Rattle.hive_read.proofs.Passing.{passing}
+use Rattle.hive_model.proofs.UsedOnce.{used_once}
 use Rattle.hive_read.proofs.Firsts.{Agrees, remembers-none, walk-first}
 use Rattle.hive_read.proofs.Making.{key-made}
 use Rattle.hive_read.proofs.One.{one_stands}
@@ -23,7 +24,7 @@ unfolding all_checks
 stands-where-none-fails cells root e =
     let p = passing cells [] (key_checks 512 cells true [] root) e in
     let m = key-made 512 cells true [] root p.0 in
-    (m.tree, record { stands = m.read.0; levels = m.levels; names = m.apart; once = p.1 })
+    (m.tree, record { stands = m.read.0; levels = m.levels; names = m.apart; once = used_once (key_checks 512 cells true [] root) p.1 })
 
 pub well_formed : (cells : Cells) (root : ℕ) (t : Tree) → Stands cells root t → first_fault cells root ≡ None → IsWellFormed cells root t
 well_formed cells root t s e =

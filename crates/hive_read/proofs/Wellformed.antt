@@ -13,6 +13,7 @@ use Rattle.hive_model.specs.Walk.{Check, tests, reading, nowhere, node_at, leaf_
 use Rattle.hive_model.specs.Valid.{levels, most_levels}
 use Rattle.hive_model.specs.Stands.{class_of, security_of, data_or, joined_segments, big_bytes_at, data_of, item_at, items_at, values_of, ListsChildren, Stands, AllStand, HasApartNames, HaveApartNames, IsWellFormed}
 use Rattle.hive_model.specs.Size.{segment_bytes, is_big, segment_part}
+use Rattle.hive_model.proofs.UsedOnce.{once_from_pairs}
 use Rattle.hive_read.specs.Celled.{celled_checks, celled_bytes}
 use Rattle.hive_read.proofs.BigWalks.{listed_segments}
 use Rattle.hive_read.proofs.Apart.{Apart, differ-apart}
@@ -220,4 +221,7 @@ mutual
 -- well-formed cells have no first fault
 pub well-formed-passes : (cells : Cells) (root : ℕ) (t : Tree) → IsWellFormed cells root t → first_fault cells root ≡ None
 unfolding all_checks
-well-formed-passes cells root t w = none-fails cells [] (key_checks 512 cells true [] root) (key-passes 512 cells true [] root t w.stands w.levels w.names refl (λ e. absurd cc)) w.once
+well-formed-passes cells root t w =
+    let checks = key_checks 512 cells true [] root in
+    none-fails cells [] checks (key-passes 512 cells true [] root t w.stands w.levels w.names refl (λ e. absurd cc))
+    (once_from_pairs [] checks w.once)

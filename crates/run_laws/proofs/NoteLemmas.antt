@@ -1,8 +1,9 @@
 -- What notes tell, one list behind another.
 use Rattle.std.proofs.Common.{◌≡◌, List, [], ◌∷◌, ◌++◌, refl, ap}
+use Rattle.hive_model.specs.Image.{Image}
 use Rattle.hive_model.specs.Tree.{Tree}
-use Rattle.start_model.specs.Run.{Possible, Outcome, Note, Woke, Held, Saved, Ordered, Cuts, Ended}
-use Rattle.start_model.specs.Fits.{woke_in, held_in, saved_in}
+use Rattle.start_model.specs.Run.{Possible, Woken, Outcome, Note, Woke, Held, Saved, Ordered, Cuts, Ended}
+use Rattle.start_model.specs.Fits.{ArePossible, Fits, woke_in, held_in, saved_in}
 use Rattle.run_laws.specs.Told.{ended_in}
 
 pub woke_in-append : (a b : List Note) → woke_in (a ++ b) ≡ woke_in a ++ woke_in b
@@ -40,3 +41,12 @@ ended_in-append (Saved t ∷ a) b = ended_in-append a b
 ended_in-append (Ordered x ∷ a) b = ended_in-append a b
 ended_in-append (Cuts ∷ a) b = ended_in-append a b
 ended_in-append (Ended o ∷ a) b = ap (λ (os : List Outcome). o ∷ os) (ended_in-append a b)
+
+-- what fits could be
+pub fits_possible : (images : List Image) (wakes : List Woken) (ps : List Possible) → Fits images wakes ps → ArePossible wakes ps
+fits_possible [] [] [] f = tt
+fits_possible [] [] (p ∷ ps) f = absurd f
+fits_possible [] (w ∷ wakes) ps f = absurd f
+fits_possible (i ∷ images) [] ps f = absurd f
+fits_possible (i ∷ images) (w ∷ wakes) [] f = absurd f
+fits_possible (i ∷ images) (w ∷ wakes) (p ∷ ps) f = (f.1, fits_possible images wakes ps f.2)

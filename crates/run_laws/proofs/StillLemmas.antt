@@ -10,7 +10,7 @@ use Rattle.start_model.specs.Run.{RunState, Possible, Act, Note, Woke, Held, Sav
 use Rattle.start_model.specs.Fits.{IsPossible, MayLoad}
 use Rattle.run_laws.specs.Open.{IsClosed}
 use Rattle.run_laws.specs.Told.{IsStill}
-use Rattle.run_laws.proofs.KeptLemmas.{Law, AtRest, IsMark, Keeps, push, with_wake, event_step_of-keeps, closing-keeps}
+use Rattle.run_laws.proofs.KeptLemmas.{Law, AtRest, IsMark, Keeps, Next, push, with_wake, event_step_of-keeps, closing-keeps}
 use Rattle.run_laws.proofs.AlongLemmas.{Along, Waits, wake_split, play-along, run_from-along}
 use Rattle.run_laws.proofs.PartLemmas.{play-disk}
 
@@ -146,6 +146,10 @@ act-may c act k = by_rest (play act [] []).rest refl
     by_rest (Some (m, ws, os)) e =
         let P : Possible → Type 0 = λ p. MayLoad p c in
         subst P (sym (play-disk act [] [] m ws os e)) (rest_may c (play act [] []).notes m m.machine.start s (a.rest m ws os e)).1
+
+-- whatever is done next from a state in which nothing is open
+pub next-may : (c : Image) (next : RunState → Act) → Next (may_load c) next → (m : RunState) → m.disk.other ≡ None → MayLoad m.disk c → MayLoad (play (next m) [] []).disk c
+next-may c next f m none may = act-may c (next m) (f [] m (record { closed = none; may = λ s. may }))
 
 abbrev Stays : Image → (RunState → List Woken → List Outcome → RunResult) → Type 0
 Stays c go = (m : RunState) → IsClosed m → MayLoad m.disk c → MayLoad (go m [] []).disk c

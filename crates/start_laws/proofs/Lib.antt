@@ -17,3 +17,4 @@ pub mod SaveLemmas
 pub mod MadeLemmas
 pub mod DemandLemmas
 pub mod RepeatLemmas
+pub mod ReportLemmas

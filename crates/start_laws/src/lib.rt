@@ -6,6 +6,7 @@ mod fronts;
 mod judging;
 mod numbers;
 mod order;
+mod report;
 mod saving;
 mod waiting;
 
@@ -24,6 +25,7 @@ pub use order::{
     a_plan_has_each_taken_entry_once, groups_listed_again_change_no_order,
     tags_follow_the_group_order_list, the_order_of_a_phase_is_one, unlisted_groups_come_last,
 };
+pub use report::a_report_tells_its_run;
 pub use saving::the_clone_is_saved;
 pub use waiting::{
     a_cycle_is_unmet, an_empty_group_is_not_met, at_most_one_entry_is_next,

@@ -1,5 +1,7 @@
 use Rattle.start_model.specs.Run.{run_of}
-use Rattle.start_model.specs.Fits.{woke_in}
+use Rattle.hive_model.specs.Image.{IsCrashImage}
+use Rattle.start_model.specs.Fits.{woke_in, outcomes_of}
+use Rattle.start_laws.proofs.ReportLemmas.{report-possible}
 use Rattle.good_laws.proofs.FitLemmas.{fits_taken, fits_whole}
 use Rattle.good_laws.proofs.RunLemmas.{run_of-keeps_good}
 use Rattle.good_laws.proofs.good.last_known_good_names_a_good_set.Goals as goal
@@ -11,3 +13,8 @@ returns-clause-taken c = λ choice script placed wakes outcomes fits.
 pub returns-clause-whole : goal.returns-clause-whole
 returns-clause-whole c = λ choice script placed wakes outcomes fits.
     run_of-keeps_good choice script placed wakes outcomes (fits_whole wakes (woke_in (run_of choice script placed wakes outcomes).notes) fits)
+
+pub returns-clause-report : goal.returns-clause-report
+returns-clause-report c = λ choice script placed images held flight text r.
+    run_of-keeps_good choice script placed r.woken (outcomes_of text)
+    (fits_whole r.woken (woke_in (run_of choice script placed r.woken (outcomes_of text)).notes) (report-possible choice script placed images (IsCrashImage held flight) text r))

@@ -1,13 +1,14 @@
 use Rattle.std.proofs.Common.{◌≡◌, ℕ, List, refl, sym, arith}
 use Rattle.std.proofs.lemmas.Grind.{common_steps}
+use Rattle.hive_model.specs.Asked.{log_at}
 use Rattle.hive_model.specs.Base.{Base}
 use Rattle.hive_model.specs.Image.{Image, File, Primary, Log, with_file}
 use Rattle.hive_model.specs.Carries.{HasBase}
-use Rattle.hive_laws.specs.Looking.{LooksAt, in_log}
+use Rattle.hive_laws.specs.Looking.{LooksAt}
 use Rattle.hive_laws.proofs.Alike.{recovered_alike}
 use Rattle.hive_laws.proofs.looking.a_clean_hive_needs_no_log.Goals as goal
 
-unread : (image : Image) (base : Base) (n : ℕ) → HasBase image base → base.first ≡ base.second → LooksAt image (in_log n) → ⊥
+unread : (image : Image) (base : Base) (n : ℕ) → HasBase image base → base.first ≡ base.second → LooksAt image (log_at n) → ⊥
 unread image base n has even looks = grind (arith, common_steps)
 
 -- the primary stays, and the log is not looked at

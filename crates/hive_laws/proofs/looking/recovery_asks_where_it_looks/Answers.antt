@@ -1,5 +1,5 @@
 use Rattle.std.proofs.lemmas.List.Elements.{All-contains}
-use Rattle.hive_log.specs.Asked.{asked_of}
+use Rattle.hive_model.specs.Asked.{asked_of}
 use Rattle.hive_laws.specs.Looking.{LooksAt}
 use Rattle.hive_laws.proofs.Asked.{all_looked_at, looked_at_asked}
 use Rattle.hive_laws.proofs.looking.recovery_asks_where_it_looks.Goals as goal

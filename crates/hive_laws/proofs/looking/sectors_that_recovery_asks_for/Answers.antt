@@ -2,7 +2,7 @@ use Rattle.std.proofs.Common.{refl}
 use Rattle.hive_model.specs.Base.{mixed_words, head_text, summed_text, base_text, base_of, fields_of}
 use Rattle.hive_model.specs.Log.{bitmap_text, log_of}
 use Rattle.hive_model.specs.Recovery.{sector, bit}
-use Rattle.hive_log.specs.Asked.{asked_of}
+use Rattle.hive_model.specs.Asked.{asked_of}
 use Rattle.hive_laws.specs.Samples.{before, after, file_of}
 use Rattle.hive_laws.specs.OneDriver.{driver_words, driver_bin, driver_with}
 use Rattle.hive_laws.proofs.looking.sectors_that_recovery_asks_for.Goals as goal
@@ -22,3 +22,11 @@ returns-clause-no_log c = refl
 pub returns-clause-logged : goal.returns-clause-logged
 unfolding mixed_words head_text summed_text base_text base_of fields_of bitmap_text log_of sector bit asked_of before after file_of
 returns-clause-logged c = refl
+
+pub returns-clause-unreadable_block : goal.returns-clause-unreadable_block
+unfolding mixed_words head_text summed_text base_text base_of fields_of bitmap_text log_of sector bit asked_of before after file_of
+returns-clause-unreadable_block c = refl
+
+pub returns-clause-unreadable_log : goal.returns-clause-unreadable_log
+unfolding mixed_words head_text summed_text base_text base_of fields_of bitmap_text log_of sector bit asked_of before after file_of
+returns-clause-unreadable_log c = refl
