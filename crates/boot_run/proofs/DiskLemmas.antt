@@ -5,12 +5,13 @@ use Rattle.hive_model.specs.State.{HiveState}
 use Rattle.hive_model.specs.Load.{Loads, LoadsAs}
 use Rattle.nt_edge.specs.Disk.{DiskState, CountsGrow, History, Wake}
 use Rattle.nt_edge.specs.Crash.{EachCrash}
+use Rattle.nt_edge.specs.Host.{Rises}
 use Rattle.nt_edge.specs.Bench.{turned_off, woken}
-use Rattle.start_model.specs.Causes.{Tally}
+use Rattle.start_model.specs.Causes.{Tally, HasCause}
 use Rattle.start_model.specs.Fits.{MayLoad}
-use Rattle.start_model.specs.Run.{Possible, settled_at, open_between}
+use Rattle.start_model.specs.Run.{Possible, PowerCut, DeviceFault, settled_at, open_between}
 use Rattle.run_parts.specs.Parts.{Later, IsMarked, NoLess, since_wake, tally_now, tallies, tally_at}
-use Rattle.run_parts.proofs.CountLemmas.{Still, still, later-then, later-same, no_less-then, no_less-bounded, since-grown}
+use Rattle.run_parts.proofs.CountLemmas.{Still, still, later-then, later-same, no_less-then, no_less-bounded, rises-since, since-grown}
 
 -- with nothing in flight a cut leaves what is held
 pub still_leaves : (d : DiskState) (P : Image → Type 0) → d.flight ≡ [] → P d.held → EachCrash d P
@@ -70,3 +71,10 @@ marked-woken i d e is =
     let since : since_wake (woken i d) ≡ tally_at one = since-grown d (woken i d) (one ∷ []) refl in
     let Q : Tally → Type 0 = λ t. Later t [] (tally_now (woken i d)) in
     subst P (sym is) (subst Q (sym since) (later-same (tally_now d)))
+
+-- a stop that the disk answered has its cause since the disk's last wake
+pub cut-cause : (d e : DiskState) → IsMarked d → Rises d.cuts e.cuts → HasCause PowerCut (since_wake d) (tally_now e)
+cut-cause d e m r = rises-since (since_wake d).cuts d.cuts e.cuts m.cuts r
+
+pub fault-cause : (d e : DiskState) → IsMarked d → Rises d.faults e.faults → HasCause DeviceFault (since_wake d) (tally_now e)
+fault-cause d e m r = rises-since (since_wake d).faults d.faults e.faults m.faults r

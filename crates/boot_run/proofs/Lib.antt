@@ -4,3 +4,6 @@ pub mod UnmetLemmas
 pub mod DiskLemmas
 pub mod CommitLemmas
 pub mod LoadLemmas
+pub mod PlayLemmas
+pub mod CloseLemmas
+pub mod CutLemmas
