@@ -61,6 +61,13 @@ pub record Counts (m : RunState) (r : Runner) : Type 0 where
   pub machine : m.machine ≡ r.machine
   pub starts : m.starts ≡ r.starts
 
+-- what the disk carries stands for the state; the live tree is not told
+pub record IsStored (m : RunState) (hive : Session) (disk : DiskState) : Type 0 where
+  pub sequence : m.sequence ≡ hive.base.first
+  pub version : m.version ≡ version_of hive.base.minor
+  pub settled : m.disk ≡ settled_at m.disk.settled
+  pub loads : Loads disk.held m.disk.settled false
+
 -- the session and its disk stand for the state
 pub record IsLive (m : RunState) (hive : Session) (disk : DiskState) : Type 0 where
   pub live : m.live ≡ hive.tree
