@@ -4,3 +4,4 @@ pub mod Acts
 pub mod Choices
 pub mod Ends
 pub mod Agrees
+pub mod Begins

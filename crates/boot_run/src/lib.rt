@@ -5,6 +5,7 @@
 //! docs/startup.md, "The order of a start" and "The script"; docs/texts.md, "The report".
 #![tactic(auto)]
 
+mod beginning;
 mod closing;
 mod committing;
 mod cutting;
