@@ -18,7 +18,8 @@ use Rattle.run_parts.proofs.CountLemmas.{Still, still, no_less-same, no_less-bou
 use Rattle.run_parts.proofs.GoesLemmas.{tells-nothing, goes-told}
 use Rattle.run_parts.proofs.BreakLemmas.{breaks-silent, breaks-told}
 use Rattle.boot_run.specs.declared.runner.Runner.{Runner}
-use Rattle.boot_run.specs.Agrees.{IsUp, IsLive, Counts, OffLeft}
+use Rattle.boot_run.specs.Agrees.{IsUp, IsDown, LoadsAny, IsLive, Counts, OffLeft}
+use Rattle.boot_run.proofs.DiskLemmas.{still_leaves}
 use Rattle.boot_run.proofs.PlayLemmas.{plays-then, live_left, here_turn}
 
 next_rises : (n : ℕ) → n ≤ 18446744073709551615 → Rises n (next n)
@@ -107,3 +108,8 @@ pub armed_breaks : (arming : Arming) (m : RunState) (x : Told) (d e : DiskState)
 armed_breaks arming m x d e is left =
     let P : DiskState → Type 0 = λ t. Breaks (arm_act arming m) x x.said d t in
     subst P (sym is) (breaks-silent (arm_act arming m) x d d (still d) left)
+
+pub cut_down : (s : Session) (d e f : DiskState) → IsUp s d → e ≡ cut_off d → f ≡ turned_off e → IsDown f
+cut_down s d e f up is off =
+    let P : DiskState → Type 0 = λ t. IsDown t in
+    subst P (sym (off ∙ ap turned_off is)) (record { off = refl; loads = still_leaves d LoadsAny up.still up.loads })
