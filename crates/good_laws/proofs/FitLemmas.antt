@@ -1,5 +1,5 @@
 -- Wakes that may be, as far as they were taken.
-use Rattle.std.proofs.Common.{List, [], ◌∷◌, length, take}
+use Rattle.std.proofs.Common.{List, [], ◌∷◌, ◌++◌, length, take}
 use Rattle.hive_model.specs.Tree.{Tree}
 use Rattle.start_model.specs.Run.{Possible, Woken}
 use Rattle.start_model.specs.Fits.{ArePossible, IsPossible}
@@ -19,6 +19,11 @@ pub fits_whole : (wakes : List Woken) (ps : List Possible) → ArePossible wakes
 fits_whole wakes [] f = tt
 fits_whole [] (p ∷ ps) f = f
 fits_whole (w ∷ wakes) (p ∷ ps) f = (f.0, fits_whole wakes ps f.1)
+
+pub fits_front : (wakes : List Woken) (ps more : List Possible) → ArePossible wakes (ps ++ more) → FitsSoFar wakes ps
+fits_front wakes [] more f = tt
+fits_front [] (p ∷ ps) more f = f
+fits_front (w ∷ wakes) (p ∷ ps) more f = (f.0, fits_front wakes ps more f.1)
 
 -- what each wake loads as is such a tree
 abbrev pub EachWake : (Tree → Type 0) → List Woken → Type 0

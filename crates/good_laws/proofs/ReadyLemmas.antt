@@ -11,9 +11,10 @@ use Rattle.start_model.specs.Sets.{SetPlan, set_name, set_of, select_numbers_of,
 use Rattle.start_model.specs.Machine.{Start}
 use Rattle.start_model.specs.Events.{Event}
 use Rattle.start_model.specs.Run.{Note, RunState, Possible, Woken, Outcome, Choice, run_of}
-use Rattle.start_model.specs.Fits.{Fits, ArePossible, woke_in}
+use Rattle.start_model.specs.Fits.{Fits, woke_in}
 use Rattle.start_laws.proofs.StepLemmas.{select_key, set_found}
 use Rattle.start_laws.proofs.MadeLemmas.{save_only_full}
+use Rattle.start_laws.proofs.ReportLemmas.{possible_by}
 use Rattle.good_laws.specs.Ready.{CanBeSaved}
 use Rattle.good_laws.proofs.KeepLemmas.{Runs, StartRuns, IsCloneOf}
 use Rattle.good_laws.proofs.FitLemmas.{EachWake, fits_whole}
@@ -48,14 +49,6 @@ clone_lower clone c = omega (arith, c.1.1.0, set_lower c.0 c.1.0 clone c.1.1.1)
 pub loaded_shallow : (image : Image) (w : Woken) → Loads image w.state w.dirty → levels w.state.tree ≤ 512
 loaded_shallow image w l = l.holds.tree.levels
 
-fits_possible : (images : List Image) (wakes : List Woken) (ps : List Possible) → Fits images wakes ps → ArePossible wakes ps
-fits_possible [] [] [] f = tt
-fits_possible [] [] (p ∷ ps) f = absurd f
-fits_possible [] (w ∷ wakes) ps f = absurd f
-fits_possible (i ∷ images) [] ps f = absurd f
-fits_possible (i ∷ images) (w ∷ wakes) [] f = absurd f
-fits_possible (i ∷ images) (w ∷ wakes) (p ∷ ps) f = (f.1, fits_possible images wakes ps f.2)
-
 fits_shallow : (images : List Image) (wakes : List Woken) (ps : List Possible) → Fits images wakes ps → EachWake Shallow wakes
 fits_shallow [] [] ps f = tt
 fits_shallow [] (w ∷ wakes) ps f = absurd f
@@ -77,7 +70,7 @@ pub run_ready : (choice : Option ℕ → Choice) (script : List Event) (placed :
     → Fits images wakes (woke_in (run_of choice script placed wakes outcomes).notes) → (run_of choice script placed wakes outcomes).rest ≡ Some (last, left, over) → last.machine.start ≡ Some s → s.clone ≡ Some clone → CanBeSaved last.live clone
 run_ready choice script placed images wakes outcomes last left over s clone fits is runs has =
     let ps : List Possible = woke_in (run_of choice script placed wakes outcomes).notes in
-    let g = run_of-fine Shallow choice script placed wakes outcomes (fits_whole wakes ps (fits_possible images wakes ps fits)) (fits_shallow images wakes ps fits) in
+    let g = run_of-fine Shallow choice script placed wakes outcomes (fits_whole wakes ps (possible_by images wakes ps fits)) (fits_shallow images wakes ps fits) in
     start_ready last.live last.machine.start s clone runs has _ (g.rest last left over is).0.runs
 
 pub ready_refused : (version : HiveVersion) (live clone : Tree) (plan : SetPlan) (why : Refusal) → CanBeSaved live clone → save_plan_of (select_numbers_of live) (usable_numbers_of live) clone ≡ Ok plan

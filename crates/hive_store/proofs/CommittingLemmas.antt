@@ -1,16 +1,19 @@
 -- What a commit of a session leaves.
-use Rattle.std.proofs.Common.{◌≡◌, inl, inr, ⊎_elim, ℕ, Bool, true, false, List, length, Option, Some, None, Result, Ok, Err, refl, sym, ap, subst}
-use Rattle.std.specs.Prelude.{IsErrOf, unwrap_or, is_some, if◌then◌else◌}
-use Rattle.nt_bytes.specs.declared.version.HiveVersion.{HiveVersion}
+use Rattle.std.proofs.Common.{◌≡◌, inl, inr, ⊎_elim, ℕ, Bool, true, false, List, length, Option, Some, None, Err, refl, sym, ap, subst, ◌∙◌}
+use Rattle.std.specs.Prelude.{IsErrOf, unwrap_or}
 use Rattle.hive_model.specs.Base.{Base, is_bins_size, version_of}
 use Rattle.hive_model.specs.Image.{Image}
-use Rattle.hive_model.specs.Carries.{Carries, IsRecoveredAs}
+use Rattle.hive_model.specs.Carries.{Carries}
 use Rattle.hive_model.specs.State.{HiveState}
 use Rattle.hive_model.specs.Load.{Loads, Holds, state_of}
 use Rattle.hive_model.specs.Tree.{Tree}
+use Rattle.hive_model.specs.Valid.{IsValid}
 use Rattle.nt_edge.specs.Disk.{DiskState}
 use Rattle.nt_edge.specs.Crash.{EachCrash}
-use Rattle.hive_commit.specs.Stages.{next_number, closed_of, IsBeforeOrAfter}
+use Rattle.hive_commit.specs.Stages.{closed_of, IsBeforeOrAfter}
+use Rattle.hive_commit.specs.Stops.{IsCommitOn}
+use Rattle.hive_commit.specs.declared.stops.CommitStop.{CommitStop}
+use Rattle.hive_commit.specs.declared.stops.CommitStop.TheVariants as commit
 use Rattle.hive_store.specs.Session.{Session, HasTree, IsSession, session_of, next_bins, next_root}
 use Rattle.hive_store.specs.Commits.{next_base, committed, committed_state, LoadsAsEither}
 use Rattle.hive_store.proofs.Holding.{clean, held_again, held_by, carried, carried_loads}
@@ -29,7 +32,7 @@ stood s tree has held carries =
     (was, carried_loads held s.base s.bins was has.sized carries (record { bins = has.heap; cells = has.cells; tree = has.stands; sequence = refl; version = refl }))
 
 -- the next commit writes data in which the session's tree stands
-abbrev IsReady : Session → Type 0
+abbrev pub IsReady : Session → Type 0
 IsReady s = HasTree (version_of s.base.minor) (next_bins s) (next_root s) s.tree
 
 -- the base block that closes the commit, with these data, holds the tree under the next number
@@ -49,3 +52,54 @@ commit_crash s has size held state carries each before dirty loads c crash =
     (λ is. inl (held_again was before c holds is))
     (λ is. inr (held_again (clean (next_base s) (next_bins s)) (committed_state s) c (closed_holds s has) is))
     (each c crash)
+
+-- ---- the session that was opened, and the one after the commit
+
+-- the next session keeps the tree, which stands in what was written
+pub next_session : (s : Session) → IsValid s.tree → IsReady s → (closed : Base) (bins new : List ℕ) (root : ℕ) → closed ≡ closed_of s.base new root → bins ≡ new
+    → new ≡ next_bins s → root ≡ next_root s → IsSession closed bins s.tree None
+next_session s valid has closed bins new root closed_is bins_are written at =
+    let same : closed ≡ next_base s = closed_is ∙ ap (λ (b : List ℕ). closed_of s.base b root) written ∙ ap (λ (n : ℕ). closed_of s.base (next_bins s) n) at in
+    let whole : bins ≡ next_bins s = bins_are ∙ written in
+    subst (λ (b : Base). IsSession b bins s.tree None) (sym same)
+    (subst (λ (b : List ℕ). IsSession (next_base s) b s.tree None) (sym whole)
+    (record { valid = valid; committed = s.tree; carried = has; kept = λ new e. absurd cc; ready = has }))
+
+-- it is the session that the book of hives says
+pub next_is : (s : Session) (closed : Base) (bins new : List ℕ) (root : ℕ) → closed ≡ closed_of s.base new root → bins ≡ new → new ≡ next_bins s → root ≡ next_root s
+    → session_of closed bins s.tree None ≡ committed s
+next_is s closed bins new root closed_is bins_are written at =
+    ap (λ (b : Base). session_of b bins s.tree None) (closed_is ∙ ap (λ (b : List ℕ). closed_of s.base b root) written ∙ ap (λ (n : ℕ). closed_of s.base (next_bins s) n) at)
+    ∙ ap (λ (b : List ℕ). session_of (next_base s) b s.tree None) (bins_are ∙ written)
+
+-- what is said of the data that were written is said of those of the session
+pub as_written : (s : Session) (P : List ℕ → List ℕ → ℕ → Type 0) (old new : List ℕ) (root : ℕ) → old ≡ s.bins → new ≡ next_bins s → root ≡ next_root s
+    → P old new root → P s.bins (next_bins s) (next_root s)
+as_written s P old new root old_is written at is =
+    subst (λ (n : ℕ). P s.bins (next_bins s) n) at (subst (λ (b : List ℕ). P s.bins b root) written (subst (λ (b : List ℕ). P b new root) old_is is))
+
+-- ---- refusals
+
+same_stop : (T U : Type 0) (stop other : CommitStop) → IsErrOf {T = U} (Err stop) other → IsErrOf {T = T} (Err stop) other
+same_stop T U stop other e = let same : stop ≡ other = cc in ap Err same
+
+-- a refusal leaves the disk the same whatever the answer would have been
+pub goes_again : (T U : Type 0) (old new : DiskState) (stop : CommitStop) → IsCommitOn {T = T} old new (Err stop) → IsCommitOn {T = U} old new (Err stop)
+goes_again T U old new stop was =
+    let to : (other : CommitStop) → IsErrOf {T = T} (Err stop) other → IsErrOf {T = U} (Err stop) other = λ other. same_stop U T stop other in
+    let back : (other : CommitStop) → IsErrOf {T = U} (Err stop) other → IsErrOf {T = T} (Err stop) other = λ other. same_stop T U stop other in
+    let on = was.goes_on in
+    record {
+      goes_on = record {
+        history = on.history;
+        counts = on.counts;
+        cut = λ e. on.cut (back commit.PowerLost e);
+        fault = λ e. on.fault (back commit.Device e);
+        no_cut = λ other. on.no_cut (λ e. other (to commit.PowerLost e));
+        no_fault = λ other more. on.no_fault (λ e. other (to commit.PowerLost e)) (λ e. more (to commit.Device e));
+        no_lack = λ other. on.no_lack (λ e. other (to commit.Memory e));
+        off = λ e. on.off (back commit.PowerLost e);
+        on = λ other. on.on (λ e. other (to commit.PowerLost e));
+      };
+      lack = λ e. was.lack (back commit.Memory e);
+    }

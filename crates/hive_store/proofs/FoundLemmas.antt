@@ -1,9 +1,9 @@
 -- A key that is found in a tree fits below its path.
-use Rattle.std.proofs.Common.{◌≡◌, ℕ, ◌+◌, ◌≤◌, Bool, true, false, cond, List, [], ◌∷◌, length, Option, Some, None, refl, sym, ap, subst, ◌∙◌, arith}
+use Rattle.std.proofs.Common.{◌≡◌, ℕ, ◌+◌, ◌≤◌, Bool, true, false, cond, List, [], ◌∷◌, length, Option, Some, None, refl, subst, arith}
 use Rattle.std.specs.Option.{option_and_then}
 use Rattle.std.specs.List.{find}
-use Rattle.hive_model.specs.Tree.{Tree, Trees, key, none, more, listed, children, is_named, find_key}
-use Rattle.hive_model.specs.Valid.{deepest_level, HoldsKeys, AllHoldKeys, levels, most_levels, IsValid}
+use Rattle.hive_model.specs.Tree.{Tree, Trees, key, none, more, listed, is_named, find_key}
+use Rattle.hive_model.specs.Valid.{HoldsKeys, AllHoldKeys, levels, most_levels, IsValid}
 use Rattle.hive_store.specs.Found.{FitsBelow}
 
 abbrev some : Tree → Option Tree

@@ -1,5 +1,5 @@
 -- What is found in a session's tree. (This project's own.)
-use Rattle.std.specs.Prelude.{ℕ, ◌+◌, ◌≤◌, List, [], map, length, Option, Some, None}
+use Rattle.std.specs.Prelude.{ℕ, ◌+◌, ◌≤◌, List, [], map, length, Option}
 use Rattle.std.specs.Option.{option_and_then, option_map_or}
 use Rattle.hive_model.specs.Tree.{Tree, head, children, find_key, find_dword}
 use Rattle.hive_model.specs.Valid.{deepest_level, HoldsKeys, levels}

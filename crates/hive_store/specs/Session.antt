@@ -1,5 +1,5 @@
 -- What is a session on a hive, and what does it keep? (This project's own.)
-use Rattle.std.specs.Prelude.{◌≡◌, Bool, true, ℕ, if◌then◌else◌, List, length, Option, Some, None, is_some, refl}
+use Rattle.std.specs.Prelude.{◌≡◌, Bool, true, ℕ, if◌then◌else◌, List, length, Option, Some, is_some, refl}
 use Rattle.std.specs.Coded.{Coded, code_by, coded×, coded_ℕ, coded_bool, coded_list}
 use Rattle.nt_bytes.specs.declared.version.HiveVersion.{HiveVersion}
 use Rattle.hive_model.specs.Base.{Base, is_bins_size, version_of}

@@ -43,7 +43,8 @@ impl Hive {
         requires carries { D.tells ≡ true → Carries (D.state disk.old).held self.base self.bins }
         // It makes the calls of one change and no other, after a refusal a front of them: to the packed tree where an
         // edit gave another one, else to what the disk carries.
-        ensures made { MakesUntil (D.calls disk.old) (D.calls disk.new) (change_calls self.base self.bins (next_bins self) (next_root self)) result }
+        ensures made { MakesUntil (D.calls disk.old) (D.calls disk.new)
+            (change_calls self.base self.bins (next_bins self) (next_root self)) result }
         // At Ok the tree and the version stay, the number is one more modulo 2^32, and nothing is changed any more.
         ensures answered { IfOk result (λ x. x.0 ≡ committed self) }
         ensures number { IfOk result (λ x. x.1 ≡ next_number self.base.first) }

@@ -17,8 +17,9 @@ impl Hive {
     /// A hive can hold each key that a step brings along. After an `Err` the session is as before.
     pub fn apply(&mut self, alloc: Global, steps: Steps) -> Result<(), EditStop>
         requires fits { All Fits (map step_of steps) }
-        // The tree is the book's edit of it; the refusals are the book's, and want of memory.
-        ensures made { Makes self.old.tree self.new.tree result (edited (version_of self.old.base.minor) self.old.tree (map step_of steps)) }
+        // The tree is the book's edit of it; the refusals are the book's, and out of memory.
+        ensures made { Makes self.old.tree self.new.tree result
+            (edited (version_of self.old.base.minor) self.old.tree (map step_of steps)) }
         ensures refused { OnErr result (self.new ≡ self.old) }
         ensures base { self.new.base ≡ self.old.base }
         ensures bins { self.new.bins ≡ self.old.bins }

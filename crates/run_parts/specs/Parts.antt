@@ -3,7 +3,7 @@
 -- What happened beside the lines are the notes of the book. They tell what was done to the disk from outside: its wakes, the
 -- stops that were ordered and the cuts of the script; and each stop that the part tells of has its cause, a count of the disk
 -- that rose since the start's own wake.
-use Rattle.std.specs.Prelude.{◌≡◌, ◌≤◌, ◌==◌, not, true, ℕ, List, [], ◌∷◌, ◌++◌, map, Result, Ok, Err}
+use Rattle.std.specs.Prelude.{◌≡◌, ◌≤◌, ◌==◌, not, true, ℕ, List, [], ◌∷◌, ◌++◌, map, None, Result, Ok, Err}
 use Rattle.std.specs.List.{list_all}
 use Rattle.nt_bytes.specs.Front.{IsFront}
 use Rattle.hive_model.specs.Image.{Image}
@@ -143,6 +143,6 @@ abbrev pub TellsOr : {T E : Type 0} → Line → Told → Told → Result T E �
 TellsOr line old new (Ok x) = Tells old new (line ∷ [])
 TellsOr line old new (Err e) = SaysFront old.said new.said (line_text line)
 
--- whatever the disk may load as in a state, it may behind the first words of what follows too
+-- whatever the disk may load as in a state in which nothing is open, it may behind the first words of what follows too
 abbrev pub Stays : (RunState → Act) → Type 0
-Stays next = (m : RunState) (c : Image) → MayLoad m.disk c → MayLoad (play (next m) [] []).disk c
+Stays next = (m : RunState) (c : Image) → m.disk.other ≡ None → MayLoad m.disk c → MayLoad (play (next m) [] []).disk c

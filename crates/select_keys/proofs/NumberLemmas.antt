@@ -1,14 +1,15 @@
 -- The numbers from 1 to 999 that pass a test: which they are, and the least one that fails.
-use Rattle.std.proofs.Common.{◌≡◌, ℕ, zero, suc, ◌+◌, ◌<◌, ◌≤◌, Bool, true, false, cond, List, [], ◌∷◌, ◌++◌, length, take, get_or, set, Option, Some, None, ◌⊎◌, inl, inr, refl, sym, ap, subst, ◌∙◌, arith}
+use Rattle.std.proofs.Common.{◌≡◌, ℕ, zero, suc, ◌+◌, ◌<◌, ◌≤◌, Bool, true, false, cond, List, [], ◌∷◌, ◌++◌, length, map, take, get_or, set, Option, Some, None, ◌⊎◌, inl, inr, refl, sym, ap, subst, ◌∙◌, arith}
 use Rattle.std.specs.Prelude.{◌==◌, ◌||◌, ◌&&◌, not, nat_le, filter, find, option_and_then}
 use Rattle.std.specs.Option.{is_some}
 use Rattle.std.specs.List.{range_with_len}
 use Rattle.std.proofs.lemmas.Bool.{true≢false, eq-eqb, ne_eqb, le-leb, or_from, or_left, and_from, and_right, cases_eq, cases_lt}
-use Rattle.std.proofs.lemmas.List.{take_more, get_or-set_other}
+use Rattle.std.proofs.lemmas.List.{take_more, get_or-set_other, map-append}
 use Rattle.std.proofs.lemmas.Grind.{get_or-set_at}
 use lib.ListN.{replicate}
 use Rattle.start_model.specs.Sets.{has_number, free_number_of, is_usable, usable_numbers_of, set_of, set_name}
-use Rattle.hive_model.specs.Tree.{Tree, head, children, find_key, is_named}
+use Rattle.hive_model.specs.Tree as tree
+use Rattle.hive_model.specs.Tree.{Tree, key, head, children, find_key, is_named}
 use Rattle.select_keys.specs.Numbers.{with_number, numbers_where, numbers_marked}
 use Rattle.select_keys.specs.Names.{IsNumberOf}
 
@@ -221,3 +222,44 @@ pub among_children : (t : Tree) → numbers_among (children t) ≡ usable_number
 among_children t = numbers_where-same _ _ (λ n low high.
     sym (one_name (find (is_named (set_name n)) (children t))) ∙ ap (λ b. b && is_some (set_of t n)) (sym (and_from (nat_le 1 n) (nat_le n 999) (le-leb 1 n low) (le-leb n 999 high))))
     ∙ sym (usable_numbers_of-where t)
+
+-- ---- the same by the names of the root's children
+
+-- a key of this name, with nothing in it
+abbrev key_named : List ℕ → Tree
+key_named name = key (record { name = name; flags = 0; stamp = 0; class = []; security = []; values = [] }) tree.none
+
+-- the numbers of the sets of these names
+abbrev pub numbers_named : List (List ℕ) → List ℕ
+numbers_named names = numbers_among (map key_named names)
+
+named_more : (names : List (List ℕ)) (i : ℕ) (name : List ℕ) → i < length names → name ≡ get_or names i name → map key_named (take i names) ++ key_named name ∷ [] ≡ map key_named (take (i + 1) names)
+named_more names i name lt is =
+    sym (map-append key_named (take i names) (name ∷ []))
+    ∙ ap (λ n. map key_named (take i names ++ n ∷ [])) is ∙ ap (map key_named) (sym (take_more names i name lt))
+
+pub named_next_set : (names : List (List ℕ)) (i : ℕ) (name read : List ℕ) (n : ℕ) → i < length names → name ≡ get_or names i name → read ≡ name → IsNumberOf read (Some n)
+    → with_number n (numbers_named (take i names)) ≡ numbers_named (take (i + 1) names)
+named_next_set names i name read n lt is same number =
+    let P : List ℕ → Type 0 = λ u. IsNumberOf u (Some n) in
+    among_named (map key_named (take i names)) (key_named name) n (subst P same number) ∙ ap numbers_among (named_more names i name lt is)
+
+pub named_next_other : (names : List (List ℕ)) (i : ℕ) (name read : List ℕ) → i < length names → name ≡ get_or names i name → read ≡ name → IsNumberOf read None
+    → numbers_named (take i names) ≡ numbers_named (take (i + 1) names)
+named_next_other names i name read lt is same number =
+    let P : List ℕ → Type 0 = λ u. IsNumberOf u None in
+    among_unnamed (map key_named (take i names)) (key_named name) (subst P same number) ∙ ap numbers_among (named_more names i name lt is)
+
+found_named : (name : List ℕ) (keys : List Tree) → is_some (find (is_named name) (map key_named (map (λ t. (head t).name) keys))) ≡ is_some (find (is_named name) keys)
+found_named name [] = refl
+found_named name (k ∷ ks) = by_first (is_named name k) (found_named name ks)
+  where
+    by_first : (b : Bool) → is_some (find (is_named name) (map key_named (map (λ t. (head t).name) ks))) ≡ is_some (find (is_named name) ks)
+        → is_some (cond b (Some (key_named (head k).name)) (find (is_named name) (map key_named (map (λ t. (head t).name) ks)))) ≡ is_some (cond b (Some k) (find (is_named name) ks))
+    by_first true later = refl
+    by_first false later = later
+
+-- the names of the root's children tell the sets
+pub named_children : (t : Tree) (names : List (List ℕ)) → names ≡ map (λ key. (head key).name) (children t) → numbers_named names ≡ usable_numbers_of t
+named_children t names is =
+    ap numbers_named is ∙ numbers_where-same _ _ (λ n low high. found_named (set_name n) (children t)) ∙ among_children t

@@ -20,5 +20,6 @@ pub use name::{set_name, set_path};
 pub use numbers::{SelectNumbers, read_select};
 pub use plan::{SetPlan, plan_begin, plan_save};
 pub use sets::{select_numbers, set_of};
+pub use steps::select_path;
 pub use stop::SelectStop;
-pub use taken::{Taken, sets_in};
+pub use taken::{Taken, sets_in, sets_named};

@@ -53,8 +53,8 @@ fn write_number(
     })
 }
 
-/// The path to `Select`.
-fn select_path(alloc: Global) -> Result<Names, AllocError>
+/// The path from the root to `Select`.
+pub fn select_path(alloc: Global) -> Result<Names, AllocError>
     ensures { IfOk result (λ p. p ≡ codes "Select" ∷ []) }
 {
     let mut path = Names::new(alloc);

@@ -1,12 +1,14 @@
 //! Which numbers name sets.
 
 ghost use Rattle.std.specs.Prelude.{◌≡◌, ◌≤◌, ◌∷◌, [], ◌++◌, ℕ, map, IfSome, OnOk, IsTrue};
+ghost use Rattle.hive_model.specs.Tree.{Tree, head, children};
 ghost use Rattle.reg_tree.specs.Makes.{step_of};
 ghost use Rattle.start_model.specs.Sets.{has_number, free_number_of, usable_numbers_of, deletions_of};
 ghost use Rattle.select_keys.specs.Numbers.{with_number};
 
 use crate::name::{set_number, set_path};
 use crate::numbers::SelectNumbers;
+use nt_bytes::Units;
 use reg_tree::{Key, Steps, TreeStep};
 use std::alloc::{AllocError, Global};
 use std::marker::Model;
@@ -104,6 +106,19 @@ pub fn sets_in(root: &Key) -> Taken
     let mut taken = Taken::new();
     for child in root.subkeys() {
         if let Some(number) = set_number(child.name()) {
+            taken.add(number);
+        }
+    }
+    taken
+}
+
+/// The numbers of the sets of a tree whose root's children have these names, in order.
+pub fn sets_named(names: &[Units]) -> Taken
+    ensures { (t : Tree) → names.now ≡ map (λ key. (head key).name) (children t) → result ≡ usable_numbers_of t }
+{
+    let mut taken = Taken::new();
+    for name in names {
+        if let Some(number) = set_number(name.as_slice()) {
             taken.add(number);
         }
     }

@@ -18,3 +18,4 @@ pub mod MadeLemmas
 pub mod DemandLemmas
 pub mod RepeatLemmas
 pub mod ReportLemmas
+pub mod NumbersLemmas

@@ -1,5 +1,5 @@
 -- A run takes the first of its wakes and outcomes, and leaves the others over.
-use Rattle.std.proofs.Common.{◌≡◌, ℕ, suc, List, [], ◌∷◌, ◌++◌, length, Option, Some, None, refl, sym, ap, ◌∙◌, append_assoc, arith}
+use Rattle.std.proofs.Common.{◌≡◌, ◌≤◌, ℕ, suc, List, [], ◌∷◌, ◌++◌, length, Option, Some, None, refl, sym, ap, ◌∙◌, append_assoc, arith}
 use Rattle.std.proofs.lemmas.List.{length-append}
 use Rattle.start_model.specs.Events.{Event}
 use Rattle.start_model.specs.Run as run
@@ -165,3 +165,49 @@ pub run_of-more : (choice : Option ℕ → Choice) (script : List Event) (placed
     → (run_of choice script placed wakes outcomes).rest ≡ Some (m, ws, os) → run_of choice script placed (wakes ++ w) (outcomes ++ o) ≡ record (run_of choice script placed wakes outcomes) { rest = Some (m, ws ++ w, os ++ o) }
 unfolding run_of More
 run_of-more choice script placed wakes outcomes m ws os w o e = run_from-more choice script (first_state placed) wakes outcomes m ws os w o e
+
+-- ---- no more wakes are noted than there are
+
+with_mark : (n : Note) → IsMark n → (ns : List Note) → woke_in (n ∷ ns) ≡ woke_in ns
+with_mark (Woke p) mark ns = absurd mark
+with_mark (Held u) mark ns = refl
+with_mark (Saved u) mark ns = refl
+with_mark (Ordered arming) mark ns = refl
+with_mark Cuts mark ns = refl
+with_mark (Ended o) mark ns = absurd mark
+
+play-few : (act : Act) (h : List Note) → Keeps nothing h act → (wakes : List Woken) (outcomes : List Outcome) → length (woke_in (play act wakes outcomes).notes) ≤ length wakes
+play-few (run.done n) h k wakes outcomes = omega arith
+play-few (run.say l act) h k wakes outcomes = play-few act h k wakes outcomes
+play-few (run.ask disk next) h k wakes [] = omega arith
+play-few (run.ask disk next) h k wakes (x ∷ outcomes) = play-few (next x) (push h (Ended x)) (k.1 x) wakes outcomes
+play-few (run.wake disk next) h k [] outcomes = omega arith
+play-few (run.wake disk next) h k (x ∷ wakes) outcomes = omega (arith, play-few (next x) (push h (Woke disk)) (k.1 x) wakes outcomes)
+play-few (run.mark note act) h k wakes outcomes =
+    let same : length (woke_in (note ∷ (play act wakes outcomes).notes)) ≡ length (woke_in (play act wakes outcomes).notes) = ap length (with_mark note k.0 (play act wakes outcomes).notes) in
+    omega (arith, same, play-few act (push h note) k.1 wakes outcomes)
+
+Few : (Option ℕ → Choice) → List Event → Type 0
+Few choice es = (n : RunState) (wakes : List Woken) (outcomes : List Outcome) → length (woke_in (run_from choice es n wakes outcomes).notes) ≤ length wakes
+
+event-few : (choice : Option ℕ → Choice) (es : List Event) → Few choice es → (act : Act) → Keeps nothing [] act → (wakes : List Woken) (outcomes : List Outcome)
+    → (rest : Option (RunState × List Woken × List Outcome)) → (play act wakes outcomes).rest ≡ rest → length (woke_in (then_run (run_from choice es) (play act wakes outcomes) rest).notes) ≤ length wakes
+unfolding Few
+event-few choice es more act k wakes outcomes None e = play-few act [] k wakes outcomes
+event-few choice es more act k wakes outcomes (Some (m, ws, os)) e =
+    let first : RunResult = play act wakes outcomes in
+    let later : RunResult = run_from choice es m ws os in
+    let t = play-takes act [] k wakes outcomes m ws os e in
+    let split : length (woke_in (first.notes ++ later.notes)) ≡ length (woke_in first.notes ++ woke_in later.notes) = ap length (woke_in-append first.notes later.notes) in
+    let parts : length wakes ≡ length (t.used ++ ws) = ap length t.wakes_are in
+    omega (arith, split, parts, length-append (woke_in first.notes) (woke_in later.notes), length-append t.used ws, t.as_many, more m ws os)
+
+run_from-few : (choice : Option ℕ → Choice) (es : List Event) → Few choice es
+unfolding Few
+run_from-few choice [] n wakes outcomes = play-few (closing_act n) [] (closing-marks n) wakes outcomes
+run_from-few choice (x ∷ es) n wakes outcomes =
+    event-few choice es (run_from-few choice es) (event_step_of choice x n) (event_step_of-marks choice x n) wakes outcomes (play (event_step_of choice x n) wakes outcomes).rest refl
+
+pub run_of-few : (choice : Option ℕ → Choice) (script : List Event) (placed : Woken) (wakes : List Woken) (outcomes : List Outcome) → length (woke_in (run_of choice script placed wakes outcomes).notes) ≤ length wakes
+unfolding run_of Few
+run_of-few choice script placed wakes outcomes = run_from-few choice script (first_state placed) wakes outcomes

@@ -1,6 +1,6 @@
 //! What the plans of a beginning and of a save make of the tree that they are planned for.
 
-ghost use Rattle.std.specs.Prelude.{◌≡◌, ◌≤◌, Bool, true, [], ◌∷◌, length, Ok, Err, codes};
+ghost use Rattle.std.specs.Prelude.{◌≡◌, ◌≤◌, ◌<◌, ◌^◌, Bool, true, [], ◌∷◌, length, Ok, Err, codes};
 ghost use Rattle.std.specs.Option.{is_some};
 ghost use Rattle.nt_bytes.specs.declared.version.HiveVersion.{HiveVersion};
 ghost use Rattle.hive_model.specs.Tree.{Tree, find_key};
@@ -37,4 +37,13 @@ pub fn a_beginning_keeps_last_known_good()
 /// is gone, and all else is as it was.
 pub fn a_save_adds_the_clone()
     ensures { (version : HiveVersion) (t : Tree) (clone : Tree) (change : SetChange) → save_of version t clone ≡ Ok change → Saves t clone change.chosen change.tree }
+{}
+
+/// The numbers that the line `select` says are those of `Select` in the tree that was made. A beginning asks that Default
+/// was below 2^32, as each number is that is read from four bytes.
+pub fn the_select_line_says_what_select_is()
+    ensures begin { (version : HiveVersion) (t : Tree) (on_good : Bool) (change : SetChange) → begin_of version t on_good ≡ Ok change
+        → (select_numbers_of t).default < 2 ^ 32 → change.numbers ≡ select_numbers_of change.tree }
+    ensures save { (version : HiveVersion) (t : Tree) (clone : Tree) (change : SetChange) → save_of version t clone ≡ Ok change
+        → change.numbers ≡ select_numbers_of change.tree }
 {}

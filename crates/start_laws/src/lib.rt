@@ -12,7 +12,7 @@ mod waiting;
 
 pub use changes::{
     a_beginning_keeps_last_known_good, a_plan_is_refused_only_for_size,
-    a_plan_with_steps_changes_the_tree, a_save_adds_the_clone,
+    a_plan_with_steps_changes_the_tree, a_save_adds_the_clone, the_select_line_says_what_select_is,
 };
 pub use fronts::{good_sets_only_grow, more_events_go_on, wakes_and_outcomes_are_taken_in_order};
 pub use judging::{

@@ -62,7 +62,7 @@ returns-clause-made g c =
 
 pub returns-in_err-hive-clause-crash : goal.returns-in_err-hive-clause-crash
 returns-in_err-hive-clause-crash g c = λ tells.
-    kept_loads (g.D.Disk.state c.args.disk.now) (g.D.Disk.state c.look.new.disk) (c.look.ensures.held tells) (c.look.ensures.flight tells ∙ c.requires.still tells)
+    kept_loads (g.D.Disk.state c.args.disk.now) (g.D.Disk.state c.look.new.disk) (c.look.ensures.look.held tells) (c.look.ensures.look.flight tells ∙ c.requires.still tells)
 
 pub returns-in_err-restore-clause-crash : goal.returns-in_err-restore-clause-crash
 returns-in_err-restore-clause-crash g c = λ tells.
@@ -80,7 +80,7 @@ returns-clause-crash g c = λ tells.
           (restored_loads s0.held (record { base = looked.hive.base; bins = looked.hive.bins; dirty = looked.dirty }) (c.in_ok-hive.ensures.recovered tells)
           c.hive.inside.base w.as_slice-then-dirty.result.now (ap (λ (s : Session). s.base) c.hive.view_is) (w.as_slice-then-dirty.ensures ∙ ap (λ (s : Session). s.bins) c.hive.view_is)
           (g.D.Disk.state w.restore.new.disk) (w.restore.ensures.crash tells))
-      | else-dirty w ↦ rw w.disk-is (kept_loads s0 (g.D.Disk.state c.look.new.disk) (c.look.ensures.held tells) (c.look.ensures.flight tells ∙ c.requires.still tells))
+      | else-dirty w ↦ rw w.disk-is (kept_loads s0 (g.D.Disk.state c.look.new.disk) (c.look.ensures.look.held tells) (c.look.ensures.look.flight tells ∙ c.requires.still tells))
     ]
 
 pub returns-clause-loads : goal.returns-clause-loads
@@ -93,7 +93,7 @@ returns-clause-loads g c = λ tells.
       | then-dirty+in_ok-restore w ↦ rw w.disk-is
           (found c.hive.inside.base w.as_slice-then-dirty.result.now (ap (λ (s : Session). s.base) c.hive.view_is) (w.as_slice-then-dirty.ensures ∙ ap (λ (s : Session). s.bins) c.hive.view_is)
           (g.D.Disk.state w.restore.new.disk).held (w.in_ok-restore.ensures.carries tells))
-      | else-dirty w ↦ rw (w.disk-is, c.look.ensures.held tells)
+      | else-dirty w ↦ rw (w.disk-is, c.look.ensures.look.held tells)
           (found looked.hive.base looked.hive.bins refl refl s0.held (c.in_ok-hive.ensures.carries tells w.if-dirty.false))
     ]
 
