@@ -83,7 +83,7 @@ module _ (m : RunState) (next : RunState → Act) (what : CommitWord) (s : Sessi
         let P : ℕ → Type 0 = λ n. SaysFront x.said y (line_text (CommitLine what n)) in
         breaks-told (open_between m.disk.settled (next_state m s.tree)) (committed what s.tree m next) (CommitLine what (next_state m s.tree).sequence) Finished r x y d e
         commit_still tt refl refl (subst P commit_number f) commit_open
-        (λ image crash. stays (committed_state m s.tree) image
+        (λ image crash. stays (committed_state m s.tree) image refl
         (still_leaves e (MayLoad (settled_at (next_state m s.tree))) none (settled_loads e.held (next_state m s.tree) commit_loads) image crash))
 
   -- a stop, and its verdict: the start is over

@@ -121,7 +121,7 @@ module _ (m : RunState) (next : RunState → Act) (i : Image) (d d1 e : DiskStat
         breaks-then (load m next) (ask (woken_at may.woken) (loaded m next may.woken)) x x y d d1 e (load_begins x)
         (breaks-told (woken_at may.woken) (loaded m next may.woken) (LoadLine may.woken.state.sequence may.woken.dirty) Finished (next (loaded_state m may.woken)) x y d1 e
         load_still tt refl refl (subst P (load_line number is) f) load_may
-        (λ image crash. stays (loaded_state m may.woken) image
+        (λ image crash. stays (loaded_state m may.woken) image refl
         (still_leaves e (MayLoad (settled_at may.woken.state)) none (settled_loads e.held may.woken.state load_loads) image crash)))
 
   -- a stop, and its verdict
