@@ -47,10 +47,10 @@ agrees_left m r d None sound by = by
 agrees_left m r d (Some s) sound by = live_left m s d sound.0 by
 
 pub stays_done : Stays done
-stays_done m c h = h
+stays_done m c none h = h
 
 pub stays_end : (word : Verdict) (falls : Bool) → Stays (end_with word falls)
-stays_end word falls m c h = h
+stays_end word falls m c none h = h
 
 -- an act at its end
 pub here_turn : (m : RunState) (r : Runner) (d : DiskState) (hive : Option Session) → Counts m r → AgreesBy m d hive → TurnLeft r d hive (done m)
