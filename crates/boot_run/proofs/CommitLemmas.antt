@@ -23,12 +23,12 @@ use Rattle.run_parts.specs.Parts.{Told, Tells, Goes, Breaks, Stays, since_wake, 
 use Rattle.run_parts.proofs.CountLemmas.{Still, still-by}
 use Rattle.run_parts.proofs.GoesLemmas.{goes-then, goes-told, goes-held}
 use Rattle.run_parts.proofs.BreakLemmas.{breaks-silent, breaks-told}
-use Rattle.boot_run.specs.Agrees.{IsUp, IsDown, LoadsAny, IsLive, Counts}
+use Rattle.boot_run.specs.Agrees.{IsUp, IsDown, LoadsAny, IsStored, IsLive, Counts}
 use Rattle.boot_run.specs.declared.runner.Runner.{Runner}
 use Rattle.boot_run.proofs.DiskLemmas.{still_leaves, settled_loads, open_loads, still-off, left-off}
 
 -- the state that the session commits is the book's
-pub next_is : (m : RunState) (s : Session) (d : DiskState) → IsLive m s d → store.committed_state s ≡ next_state m s.tree
+pub next_is : (m : RunState) (s : Session) (d : DiskState) → IsStored m s d → store.committed_state s ≡ next_state m s.tree
 next_is m s d live = λ i. record { tree = s.tree; sequence = (sym live.sequence i + 1) % 4294967296; version = sym live.version i }
 
 -- what the session's commit says, whatever its answer
@@ -37,7 +37,7 @@ pub record Committed (s : Session) (d e : DiskState) : Type 0 where
   pub history : e.history ≡ d.history
   pub counts : CountsGrow d e
 
-module _ (m : RunState) (next : RunState → Act) (what : CommitWord) (s : Session) (d e : DiskState) (live : IsLive m s d) (c : Committed s d e) where
+module _ (m : RunState) (next : RunState → Act) (what : CommitWord) (s : Session) (d e : DiskState) (live : IsStored m s d) (c : Committed s d e) where
   pub commit_open : EachCrash e (MayLoad (open_between m.disk.settled (next_state m s.tree)))
   commit_open image crash =
       let P : HiveState → Type 0 = λ t. LoadsAsEither m.disk.settled t image in

@@ -13,7 +13,7 @@ use Rattle.run_parts.proofs.CountLemmas.{Still}
 use Rattle.run_parts.proofs.GoesLemmas.{goes-then, goes-line}
 use Rattle.run_parts.proofs.BreakLemmas.{breaks-then, breaks-line}
 use Rattle.boot_run.specs.declared.runner.Runner.{Runner}
-use Rattle.boot_run.specs.Agrees.{IsUp, IsLive, IsSound, Counts, AgreesBy, TurnLeft}
+use Rattle.boot_run.specs.Agrees.{IsUp, IsStored, IsLive, IsSound, Counts, AgreesBy, TurnLeft}
 use Rattle.boot_run.proofs.DiskLemmas.{still_leaves, settled_loads}
 
 -- the same act, of whose rest as much is known
@@ -35,6 +35,9 @@ pub plays-line : {T E : Type 0} → (r : Result T E) (Left : T → Act → Type 
     → PlaysOr (say l rest) x y d e r Left
 plays-line (Ok v) Left l rest x y d e s none said left f = (rest, (goes-line l rest x y d e s none said, f v))
 plays-line (Err v) Left l rest x y d e s none said left f = breaks-line l rest x y.said d e s none said left
+
+pub stored : (m : RunState) (s : Session) (d : DiskState) → IsLive m s d → IsStored m s d
+stored m s d live = record { sequence = live.sequence; version = live.version; settled = live.settled; loads = live.loads }
 
 -- what the disk of a session may load as
 pub live_left : (m : RunState) (s : Session) (d : DiskState) → IsUp s d → IsLive m s d → EachCrash d (MayLoad m.disk)

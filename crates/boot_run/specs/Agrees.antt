@@ -10,7 +10,7 @@ use Rattle.nt_edge.specs.Disk.{DiskState}
 use Rattle.nt_edge.specs.Crash.{EachCrash}
 use Rattle.hive_store.specs.Session.{Session}
 use Rattle.start_model.specs.Lines.{Verdict, VerdictLine}
-use Rattle.start_model.specs.Sets.{is_usable}
+use Rattle.start_model.specs.Sets.{is_usable, select_numbers_of}
 use Rattle.start_model.specs.Machine.{Start}
 use Rattle.start_model.specs.Fits.{MayLoad, outcomes_in}
 use Rattle.start_model.specs.Run.{RunState, Act, Woken, done, settled_at, woken_at, committed_state, opened_state, woken_state, loaded_state, start_over}
@@ -39,9 +39,11 @@ pub record IsUp (hive : Session) (disk : DiskState) : Type 0 where
 
 -- ---- a runner
 
--- the start took a set that is there, no more entries wait than a key has children, and a hive could hold its clone
+-- the start took a set that is there and is the current one, no more entries wait than a key has children, and a hive could
+-- hold its clone
 pub record IsOnSet (start : Start) (tree : Tree) : Type 0 where
   pub there : is_usable tree start.number ≡ true
+  pub current : (select_numbers_of tree).current ≡ start.number
   pub few : length start.waiting < 2 ^ 32
   pub clone : IfSome start.clone HoldsKeys
 
@@ -60,6 +62,13 @@ IsSound r disk (Some hive) = IsUp hive disk × IsRunningBy r.machine.start hive.
 pub record Counts (m : RunState) (r : Runner) : Type 0 where
   pub machine : m.machine ≡ r.machine
   pub starts : m.starts ≡ r.starts
+
+-- what the disk carries stands for the state; the live tree is not told
+pub record IsStored (m : RunState) (hive : Session) (disk : DiskState) : Type 0 where
+  pub sequence : m.sequence ≡ hive.base.first
+  pub version : m.version ≡ version_of hive.base.minor
+  pub settled : m.disk ≡ settled_at m.disk.settled
+  pub loads : Loads disk.held m.disk.settled false
 
 -- the session and its disk stand for the state
 pub record IsLive (m : RunState) (hive : Session) (disk : DiskState) : Type 0 where

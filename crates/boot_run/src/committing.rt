@@ -5,7 +5,7 @@ ghost use Rattle.boot_report.specs.Report.{commit_of};
 ghost use Rattle.start_model.specs.Run.{RunState, Act};
 ghost use Rattle.start_model.specs.Run as book;
 ghost use Rattle.run_parts.specs.Parts.{Stays};
-ghost use Rattle.boot_run.specs.Agrees.{IsUp, IsLive, Counts, LeavesUp, CommitLeft};
+ghost use Rattle.boot_run.specs.Agrees.{IsUp, IsStored, Counts, LeavesUp, CommitLeft};
 ghost use Rattle.boot_run.specs.Hosts.{LeavesHost};
 ghost use Rattle.boot_run.specs.Views.{moment, RunsTo};
 
@@ -29,7 +29,7 @@ pub(crate) fn commit<H: Host, B: Bench>(
 ) -> Result<Option<Hive>, RunStop>
     requires up { IsUp hive (B.state bench.old) }
     ensures sound { IfOk result (LeavesUp hive runner.old runner.new (B.state bench.new)) }
-    ensures plays { (m : RunState) (next : RunState → Act) → (H.state host.old).tells ≡ true → Counts m runner.old → IsLive m hive (B.state bench.old)
+    ensures plays { (m : RunState) (next : RunState → Act) → (H.state host.old).tells ≡ true → Counts m runner.old → IsStored m hive (B.state bench.old)
         → Stays next
         → RunsTo (book.commit (commit_of what) hive.tree m next) (moment (H.state host.old) runner.old (B.state bench.old))
         (moment (H.state host.new) runner.new (B.state bench.new)) result (CommitLeft m hive.tree next runner.new (B.state bench.new)) }
