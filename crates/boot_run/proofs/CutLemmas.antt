@@ -1,5 +1,6 @@
 -- What a cut and an order come to.
-use Rattle.std.proofs.Common.{◌≡◌, ◌⊎◌, ◌≤◌, ◌<◌, ◌+◌, inl, inr, ℕ, Bool, true, false, List, [], ◌∷◌, ◌++◌, Option, Some, None, refl, sym, ap, subst, ◌∙◌, append-nil, arith}
+use Rattle.std.proofs.Common.{◌≡◌, ◌⊎◌, ◌≤◌, ◌<◌, ◌+◌, inl, inr, ⊎_elim, ℕ, Bool, true, false, List, [], ◌∷◌, ◌++◌, Option, Some, None, refl, sym, ap, subst, ◌∙◌, append-nil, arith}
+use Rattle.std.proofs.Math.Nat.{eq-or-lt_of_le}
 use Rattle.std.specs.Prelude.{Result, Ok, Err, min}
 use Rattle.hive_model.specs.Image.{Image, Arming}
 use Rattle.nt_edge.specs.Disk.{DiskState, IsBounded, next}
@@ -23,7 +24,7 @@ use Rattle.boot_run.proofs.DiskLemmas.{still_leaves}
 use Rattle.boot_run.proofs.PlayLemmas.{plays-then, live_left, here_turn}
 
 next_rises : (n : ℕ) → n ≤ 18446744073709551615 → Rises n (next n)
-next_rises n h = ?
+next_rises n h = ⊎_elim (λ e. inr (omega arith)) (λ l. inl (omega arith)) (eq-or-lt_of_le h)
 
 next_no_less : (n : ℕ) → n ≤ 18446744073709551615 → NoLess n (next n)
 next_no_less n h = no_less-bounded n (next n) (omega arith) (omega arith)

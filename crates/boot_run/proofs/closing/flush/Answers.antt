@@ -5,7 +5,7 @@ use Rattle.run_parts.proofs.CountLemmas.{still}
 use Rattle.run_parts.proofs.BreakLemmas.{breaks-line, or-breaks}
 use Rattle.boot_run.specs.Agrees.{CommitLeft, TurnLeft}
 use Rattle.boot_run.specs.Views.{told_in, told_by}
-use Rattle.boot_run.proofs.PlayLemmas.{plays-as, live_left, stays_done}
+use Rattle.boot_run.proofs.PlayLemmas.{plays-as, live_left, stored, stays_done}
 use Rattle.boot_run.proofs.CloseLemmas.{commit_turn, flush_changed, flush_same, flush_none}
 use Rattle.boot_run.proofs.closing.flush.Goals as goal
 
@@ -17,7 +17,7 @@ returns-then-changed-clause-plays g c = λ m tells counts live.
     let e = g.B.Disk.state c.commit.new.bench in
     let changed : m.changed ≡ true = live.changed ∙ sym c.changed.ensures ∙ c.if-changed.true in
     plays-as c.commit.result (CommitLeft m c.args.hive.tree done c.commit.new.runner e) (TurnLeft c.commit.new.runner e) (commit book.FlushCommit c.args.hive.tree m done) (flush_act m) x y d e
-    (flush_changed m c.args.hive.tree live.live changed) (commit_turn m c.args.hive.tree c.commit.new.runner e) (c.commit.ensures.plays m done tells counts live stays_done)
+    (flush_changed m c.args.hive.tree live.live changed) (commit_turn m c.args.hive.tree c.commit.new.runner e) (c.commit.ensures.plays m done tells counts (stored m c.args.hive d live) stays_done)
 
 pub returns-in_err-say-clause-plays : goal.returns-in_err-say-clause-plays
 returns-in_err-say-clause-plays g c = λ m tells counts live.
@@ -25,7 +25,7 @@ returns-in_err-say-clause-plays g c = λ m tells counts live.
     let y = told_by (g.H.Host.state c.say.new.host) c.say.new.summary in
     let d = g.B.Disk.state c.args.bench.now in
     let changed : m.changed ≡ false = live.changed ∙ sym c.changed.ensures ∙ c.if-changed.false in
-    let Left = TurnLeft c.args.runner.now d in
+    let Left = TurnLeft (record c.args.runner.now { summary = c.say.new.summary }) d in
     plays-as c.from_residual.result Left Left (say book.FlushNothingLine (done m)) (flush_act m) x y d d
     (flush_same m changed) (λ v rest h. h)
     (or-breaks Left c.from_residual.result c.from_residual.ensures.0 (say book.FlushNothingLine (done m)) x y d d

@@ -9,7 +9,7 @@ use Rattle.start_model.specs.Run.{done, commit, end_with, off_act}
 use Rattle.run_parts.proofs.BreakLemmas.{or-breaks}
 use Rattle.boot_run.specs.Agrees.{CommitLeft, OffLeft, IsEnding}
 use Rattle.boot_run.specs.Views.{told_in}
-use Rattle.boot_run.proofs.PlayLemmas.{plays-as, plays-then, live_left, stays_end}
+use Rattle.boot_run.proofs.PlayLemmas.{plays-as, plays-then, live_left, stored, stays_end}
 use Rattle.boot_run.proofs.CloseLemmas.{runs_there, end_plays, ending, off_changed, off_same}
 use Rattle.boot_run.proofs.closing.off.Goals as goal
 
@@ -47,7 +47,7 @@ returns-in_err-left-clause-plays g c = λ m tells counts live.
     plays-as c.from_residual.result Left Left whole (option_map_or (λ s. off_act s m) m.machine.start (done m)) x y d e
     (off_changed m c.args.hive.tree m.machine.start word there is live.live changed) (λ v rest h. h)
     (or-breaks Left c.from_residual.result c.from_residual.ensures.0 whole x y d e
-    (c.in_err-left.ensures.plays m (end_with word false) tells counts live (stays_end word false)))
+    (c.in_err-left.ensures.plays m (end_with word false) tells counts (stored m c.args.hive d live) (stays_end word false)))
 
 pub returns-clause-plays : goal.returns-clause-plays
 returns-clause-plays g c = λ m tells counts live.
@@ -64,7 +64,7 @@ returns-clause-plays g c = λ m tells counts live.
     let changed : m.changed ≡ true = live.changed ∙ sym c.changed.ensures ∙ c.if-not-changed.false in
     let Left = OffLeft c.end_behind.new.runner f in
     let whole = commit book.OffCommit c.args.hive.tree m (end_with word false) in
-    let p = c.in_ok-left.ensures.plays m (end_with word false) tells counts live (stays_end word false) in
+    let p = c.in_ok-left.ensures.plays m (end_with word false) tells counts (stored m c.args.hive d live) (stays_end word false) in
     plays-as c.end_behind.result Left Left whole (option_map_or (λ s. off_act s m) m.machine.start (done m)) x z d f
     (off_changed m c.args.hive.tree m.machine.start word there is live.live changed) (λ v rest h. h)
     (plays-then c.end_behind.result Left whole p.0 x y z d e f p.1.0
