@@ -10,7 +10,7 @@ use Rattle.run_parts.proofs.BreakLemmas.{or-breaks}
 use Rattle.boot_run.specs.Agrees.{CommitLeft, OffLeft, IsEnding}
 use Rattle.boot_run.specs.Views.{told_in}
 use Rattle.boot_run.proofs.PlayLemmas.{plays-as, plays-then, live_left, stored, stays_end}
-use Rattle.boot_run.proofs.CloseLemmas.{runs_there, end_plays, ending, off_changed, off_same}
+use Rattle.boot_run.proofs.CloseLemmas.{runs_there, end_plays, end_sound, ending, off_changed, off_same}
 use Rattle.boot_run.proofs.closing.off.Goals as goal
 
 pub returns-then-not-changed-clause-plays : goal.returns-then-not-changed-clause-plays
@@ -69,3 +69,8 @@ returns-clause-plays g c = λ m tells counts live.
     (off_changed m c.args.hive.tree m.machine.start word there is live.live changed) (λ v rest h. h)
     (plays-then c.end_behind.result Left whole p.0 x y z d e f p.1.0
     (c.end_behind.ensures.plays m c.args.hive.tree p.0 (c.in_ok-left.ensures.host.keeps.tells ∙ tells) (ending m.machine.start word there is) p.1.1))
+
+pub returns-then-not-changed-clause-sound : goal.returns-then-not-changed-clause-sound
+returns-then-not-changed-clause-sound g c =
+    end_sound c.end_with.result c.args.hive c.end_with.new.runner (g.B.Disk.state c.args.bench.now) (g.B.Disk.state c.end_with.new.bench) c.requires.sound.0 c.end_with.ensures.off
+    (ap (λ (k : MachineState). k.start) c.end_with.ensures.machine)
