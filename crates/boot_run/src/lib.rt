@@ -15,6 +15,7 @@ mod paths;
 mod runner;
 mod saving;
 mod saying;
+mod sets;
 mod steps;
 mod stop;
 mod summary;
