@@ -4,3 +4,5 @@ pub mod Acts
 pub mod Choices
 pub mod Ends
 pub mod Agrees
+pub mod Saves
+pub mod Starts
