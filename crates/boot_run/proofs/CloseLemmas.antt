@@ -1,6 +1,6 @@
 -- What a flush and the end of a start come to.
 use Rattle.std.proofs.Common.{◌≡◌, ℕ, Bool, true, false, cond, List, [], ◌∷◌, ◌++◌, Option, Some, None, refl, sym, ap, subst, ◌∙◌}
-use Rattle.std.specs.Prelude.{Result, Ok, Err, option_map}
+use Rattle.std.specs.Prelude.{Result, Ok, Err, OnOk, option_map}
 use Rattle.std.specs.Option.{option_map_or}
 use Rattle.hive_model.specs.Tree.{Tree}
 use Rattle.nt_edge.specs.Disk.{DiskState}
@@ -17,8 +17,9 @@ use Rattle.run_parts.specs.Parts.{Told, Tells, Goes, PlaysOr, TellsOr}
 use Rattle.run_parts.proofs.CountLemmas.{Still, still}
 use Rattle.run_parts.proofs.GoesLemmas.{goes-nothing, goes-line}
 use Rattle.boot_run.specs.declared.runner.Runner.{Runner}
-use Rattle.boot_run.specs.Agrees.{IsUp, IsLive, IsOnSet, IsRunningBy, Counts, CommitLeft, TurnLeft, OffLeft, IsEnding}
+use Rattle.boot_run.specs.Agrees.{IsUp, IsLive, IsSound, IsOnSet, IsRunningBy, Counts, CommitLeft, TurnLeft, OffLeft, IsEnding}
 use Rattle.boot_run.proofs.DiskLemmas.{still-off, left-off}
+use Rattle.boot_run.proofs.CommitLemmas.{loads_down}
 use Rattle.boot_run.proofs.PlayLemmas.{plays-as, plays-line, live_left, here_turn}
 
 -- a start runs where a session is sound
@@ -110,3 +111,8 @@ pub end_stopped : (word : Verdict) (m : RunState) (tree : Tree) (r : Runner) (x 
     → CommitLeft m tree (end_with word false) r d None rest → (a : Act) × (Goes (play rest) (play a) x x d d × OffLeft r d tt a)
 end_stopped word m tree r x d rest h =
     (rest, (goes-nothing (play rest) x d d (still d), record { after = start_over false (opened_state m tree); is = h.0; agrees = record { counts = h.1.0; by = h.1.1 } }))
+
+-- a start that ends by itself leaves the disk down
+pub end_sound : {T E : Type 0} → (result : Result T E) (s : Session) (r' : Runner) (d e : DiskState) → IsUp s d → e ≡ turned_off d → r'.machine.start ≡ None → OnOk result (IsSound r' e None)
+end_sound (Ok v) s r' d e up off none = (loads_down d e up.still up.loads off, none)
+end_sound (Err v) s r' d e up off none = tt

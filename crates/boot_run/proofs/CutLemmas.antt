@@ -1,5 +1,6 @@
 -- What a cut and an order come to.
-use Rattle.std.proofs.Common.{◌≡◌, ◌⊎◌, ◌≤◌, ◌<◌, ◌+◌, inl, inr, ℕ, Bool, true, false, List, [], ◌∷◌, ◌++◌, Option, Some, None, refl, sym, ap, subst, ◌∙◌, append-nil, arith}
+use Rattle.std.proofs.Common.{◌≡◌, ◌⊎◌, ◌≤◌, ◌<◌, ◌+◌, inl, inr, ⊎_elim, ℕ, Bool, true, false, List, [], ◌∷◌, ◌++◌, Option, Some, None, refl, sym, ap, subst, ◌∙◌, append-nil, arith}
+use Rattle.std.proofs.Math.Nat.{eq-or-lt_of_le}
 use Rattle.std.specs.Prelude.{Result, Ok, Err, min}
 use Rattle.hive_model.specs.Image.{Image, Arming}
 use Rattle.nt_edge.specs.Disk.{DiskState, IsBounded, next}
@@ -18,11 +19,12 @@ use Rattle.run_parts.proofs.CountLemmas.{Still, still, no_less-same, no_less-bou
 use Rattle.run_parts.proofs.GoesLemmas.{tells-nothing, goes-told}
 use Rattle.run_parts.proofs.BreakLemmas.{breaks-silent, breaks-told}
 use Rattle.boot_run.specs.declared.runner.Runner.{Runner}
-use Rattle.boot_run.specs.Agrees.{IsUp, IsLive, Counts, OffLeft}
+use Rattle.boot_run.specs.Agrees.{IsUp, IsDown, LoadsAny, IsLive, Counts, OffLeft}
+use Rattle.boot_run.proofs.DiskLemmas.{still_leaves}
 use Rattle.boot_run.proofs.PlayLemmas.{plays-then, live_left, here_turn}
 
 next_rises : (n : ℕ) → n ≤ 18446744073709551615 → Rises n (next n)
-next_rises n h = ?
+next_rises n h = ⊎_elim (λ e. inr (omega arith)) (λ l. inl (omega arith)) (eq-or-lt_of_le h)
 
 next_no_less : (n : ℕ) → n ≤ 18446744073709551615 → NoLess n (next n)
 next_no_less n h = no_less-bounded n (next n) (omega arith) (omega arith)
@@ -107,3 +109,8 @@ pub armed_breaks : (arming : Arming) (m : RunState) (x : Told) (d e : DiskState)
 armed_breaks arming m x d e is left =
     let P : DiskState → Type 0 = λ t. Breaks (arm_act arming m) x x.said d t in
     subst P (sym is) (breaks-silent (arm_act arming m) x d d (still d) left)
+
+pub cut_down : (s : Session) (d e f : DiskState) → IsUp s d → e ≡ cut_off d → f ≡ turned_off e → IsDown f
+cut_down s d e f up is off =
+    let P : DiskState → Type 0 = λ t. IsDown t in
+    subst P (sym (off ∙ ap turned_off is)) (record { off = refl; loads = still_leaves d LoadsAny up.still up.loads })

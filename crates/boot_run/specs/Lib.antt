@@ -5,3 +5,5 @@ pub mod Choices
 pub mod Ends
 pub mod Agrees
 pub mod Begins
+pub mod Saves
+pub mod Starts

@@ -1,6 +1,6 @@
 //! What leaves the live tree on the disk: a flush, and a switch off.
 
-ghost use Rattle.std.specs.Prelude.{◌≡◌, true, None, Some, IfOk, OnOk};
+ghost use Rattle.std.specs.Prelude.{◌≡◌, true, false, None, Some, IfOk, OnOk};
 ghost use Rattle.std.specs.Option.{option_map_or};
 ghost use Rattle.hive_model.specs.Tree.{Tree};
 ghost use Rattle.boot_report.specs.Report.{verdict_of};

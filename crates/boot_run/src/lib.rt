@@ -17,6 +17,7 @@ mod runner;
 mod saving;
 mod saying;
 mod sets;
+mod starter;
 mod steps;
 mod stop;
 mod summary;
