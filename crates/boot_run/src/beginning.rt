@@ -21,7 +21,7 @@ ghost use Rattle.boot_run.specs.Begins.{Planned, begin_planned, SetLeft, IsTaken
 ghost use Rattle.boot_run.specs.Views.{moment, told_by, told_in, RunsTo};
 
 use crate::committing::commit;
-use crate::ending::end_with;
+use crate::ending::end_start;
 use crate::runner::Runner;
 use crate::saying::say;
 use crate::sets::{live_numbers, live_set, live_sets, taken_number};
@@ -168,10 +168,7 @@ fn begin_stepped<H: Host, B: Bench>(
     match hive.apply(alloc, steps) {
         Ok(()) => begin_committed(alloc, chosen, on_good, numbers, hive, runner, host, bench),
         Err(EditStop::Memory) => Err(RunStop::Memory),
-        Err(_) => {
-            end_with(alloc, Verdict::Full, runner, host, bench)?;
-            Ok(None)
-        }
+        Err(_) => end_start(alloc, Verdict::Full, runner, host, bench),
     }
 }
 
@@ -279,10 +276,7 @@ pub(crate) fn take_set<H: Host, B: Bench>(
 {
     match say_set(alloc, on_good, &hive, &mut runner.summary, host) {
         Ok(Ok(plan)) => begin_by(alloc, plan, on_good, hive, runner, host, bench),
-        Ok(Err(word)) => {
-            end_with(alloc, word, runner, host, bench)?;
-            Ok(None)
-        }
+        Ok(Err(word)) => end_start(alloc, word, runner, host, bench),
         Err(stop) => Err(stop),
     }
 }

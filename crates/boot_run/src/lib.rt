@@ -6,6 +6,7 @@
 #![tactic(auto)]
 
 mod beginning;
+mod booting;
 mod closing;
 mod committing;
 mod cutting;
@@ -21,9 +22,12 @@ mod starter;
 mod steps;
 mod stop;
 mod summary;
+mod turning;
 mod unmet;
+mod whole;
 mod words;
 
 pub use runner::Runner;
 pub use stop::RunStop;
 pub use summary::Summary;
+pub use whole::run;
