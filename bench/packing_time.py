@@ -1,6 +1,6 @@
 #!/usr/bin/env python3
-"""Times packing a tree of many services and reading it back: bench/packing_time.py. Prints milliseconds for each count of services.
-No gate runs it."""
+"""Times packing a tree of many services and reading it back: bench/packing_time.py. Prints milliseconds for each count of services,
+in version 1.3 and in 1.5. No gate runs it."""
 import os
 import sys
 
@@ -19,16 +19,22 @@ use anyhow::{Result, bail};
 use hive_cells::read_cells;
 use hive_pack::pack;
 use hive_read::read_tree;
+use nt_bytes::HiveVersion;
 use packing_tests::{is_valid, system_tree};
 use reg_tree::Key;
 use std::time::Instant;
 
-fn there_and_back(rt: &HostRuntime, count: u32, tree: &Key) -> Result<()>
+fn there_and_back(
+    rt: &HostRuntime,
+    count: u32,
+    tree: &Key,
+    version: HiveVersion,
+) -> Result<()>
     requires valid { IsValid tree.now }
-    requires room { bulk_of tree.now ≤ 16773120 }
+    requires room { bulk_of version tree.now ≤ 16773120 }
 {
     let start = Instant::now(rt)?;
-    let bins = pack(rt.alloc(), tree)?;
+    let bins = pack(rt.alloc(), tree, version)?;
     let packed = start.elapsed(rt)?.as_millis();
     let size = bins.len();
     if size > 16_777_216 {
@@ -38,7 +44,7 @@ fn there_and_back(rt: &HostRuntime, count: u32, tree: &Key) -> Result<()>
     let Ok(cells) = read_cells(rt.alloc(), bins) else {
         bail!("the cells are refused");
     };
-    let Ok(back) = read_tree(rt.alloc(), &cells, 32) else {
+    let Ok(back) = read_tree(rt.alloc(), &cells, 32, version) else {
         bail!("the tree is refused");
     };
     let read = start.elapsed(rt)?.as_millis();
@@ -50,10 +56,12 @@ fn there_and_back(rt: &HostRuntime, count: u32, tree: &Key) -> Result<()>
 fn main(rt: HostRuntime) -> Result<()> {
     for count in [1_000, 5_000, 10_000, 20_000, 40_000] {
         let tree = system_tree(rt.alloc(), count)?;
-        if !is_valid(&tree) || tree.bulk() > 16_773_120 {
-            bail!("no hive");
+        for version in [HiveVersion::V3, HiveVersion::V5] {
+            if !is_valid(&tree) || tree.bulk(version) > 16_773_120 {
+                bail!("no hive");
+            }
+            there_and_back(&rt, count, &tree, version)?;
         }
-        there_and_back(&rt, count, &tree)?;
     }
     Ok(())
 }

@@ -18,7 +18,8 @@ all_from p [] each = refl
 all_from p (x ∷ xs) each = rw (each 0 (omega arith), all_from p xs (λ i lt. each (suc i) (omega arith))) refl
 
 -- the front that passes, before a list
-pub prefix_whole : (p : ℕ → Bool) (front rest : List ℕ) → list_all p front ≡ true → prefix_len p (front ++ rest) ≡ length front + prefix_len p rest
+pub prefix_whole : (p : ℕ → Bool) (front rest : List ℕ) → list_all p front ≡ true
+    → prefix_len p (front ++ rest) ≡ length front + prefix_len p rest
 prefix_whole p [] rest e = omega arith
 prefix_whole p (c ∷ front) rest e = let q = both (p c) (list_all p front) e in rw (q.0, prefix_whole p front rest q.1) (omega arith)
 
@@ -43,7 +44,8 @@ no_front p (x ∷ xs) = by_test (p x) refl (no_front p xs)
     one : 1 + prefix_len p xs ≡ suc (prefix_len p xs)
     one = omega arith
 
-    by_test : (b : Bool) → p x ≡ b → prefix_len p (drop (prefix_len p xs) xs) ≡ 0 → prefix_len p (drop (cond b (1 + prefix_len p xs) 0) (x ∷ xs)) ≡ 0
+    by_test : (b : Bool) → p x ≡ b → prefix_len p (drop (prefix_len p xs) xs) ≡ 0
+        → prefix_len p (drop (cond b (1 + prefix_len p xs) 0) (x ∷ xs)) ≡ 0
     by_test true is rest = rw one rest
     by_test false is rest = rw is refl
 
@@ -57,7 +59,8 @@ first_fails p c xs none = by_test (p c) refl
 
 -- ---- the end
 
-before_stop : (p : ℕ → Bool) (text : List ℕ) → 0 < length text - suffix_len p text → p (get_or text (length text - suffix_len p text - 1) 0) ≡ false
+before_stop : (p : ℕ → Bool) (text : List ℕ) → 0 < length text - suffix_len p text
+    → p (get_or text (length text - suffix_len p text - 1) 0) ≡ false
 before_stop p text some =
     let r : length (reverse text) ≡ length text = length-reverse text in
     let inside : prefix_len p (reverse text) < length (reverse text) = omega arith in
@@ -100,12 +103,14 @@ last_fails p text front c none is = by_test (p c) refl
     by_test false e = refl
 
 -- and the other way
-pub no_end : (p : ℕ → Bool) (text : List ℕ) → ((front : List ℕ) (c : ℕ) → text ≡ front ++ c ∷ [] → p c ≡ false) → suffix_len p text ≡ 0
+pub no_end : (p : ℕ → Bool) (text : List ℕ) → ((front : List ℕ) (c : ℕ) → text ≡ front ++ c ∷ [] → p c ≡ false)
+    → suffix_len p text ≡ 0
 no_end p [] ends = refl
 no_end p (c ∷ text) ends =
     let all : take (length text + 1) (c ∷ text) ≡ c ∷ text = take_all (length text + 1) (c ∷ text) (omega arith) in
     let last : length text + 1 - 1 ≡ length text = omega arith in
-    let cut : c ∷ text ≡ take (length text) (c ∷ text) ++ get_or (c ∷ text) (length text) 0 ∷ [] = sym all ∙ take_more (c ∷ text) (length text) 0 (omega arith) in
+    let cut : c ∷ text ≡ take (length text) (c ∷ text) ++ get_or (c ∷ text) (length text) 0 ∷ [] =
+    sym all ∙ take_more (c ∷ text) (length text) 0 (omega arith) in
     ap (suffix_len p) (sym all)
     ∙ suffix_len-take_no p (c ∷ text) (length text + 1) 0 (omega arith) (omega arith) (rw last (ends (take (length text) (c ∷ text)) (get_or (c ∷ text) (length text) 0) cut))
 
@@ -116,8 +121,11 @@ all_back p (x ∷ xs) e =
     ap (list_all p) (reverse_onto xs x []) ∙ list_all-append p (reverse xs) (x ∷ []) ∙ rw (all_back p xs q.1, q.0) refl
 
 -- an end that passes is dropped, and no more
-pub end_dropped : (p : ℕ → Bool) (text more : List ℕ) → list_all p more ≡ true → suffix_len p text ≡ 0 → take (length (text ++ more) - suffix_len p (text ++ more)) (text ++ more) ≡ text
+pub end_dropped : (p : ℕ → Bool) (text more : List ℕ) → list_all p more ≡ true → suffix_len p text ≡ 0
+    → take (length (text ++ more) - suffix_len p (text ++ more)) (text ++ more) ≡ text
 end_dropped p text more all none =
-    let back : suffix_len p (text ++ more) ≡ length (reverse more) + suffix_len p text = ap (prefix_len p) (reverse-append text more) ∙ prefix_whole p (reverse more) (reverse text) (all_back p more all) in
-    let keep : length (text ++ more) - suffix_len p (text ++ more) ≡ length text = omega (arith, length-append text more, length-reverse more) in
+    let back : suffix_len p (text ++ more) ≡ length (reverse more) + suffix_len p text =
+    ap (prefix_len p) (reverse-append text more) ∙ prefix_whole p (reverse more) (reverse text) (all_back p more all) in
+    let keep : length (text ++ more) - suffix_len p (text ++ more) ≡ length text =
+    omega (arith, length-append text more, length-reverse more) in
     ap (λ (k : ℕ). take k (text ++ more)) keep ∙ take_at text more (length text) refl

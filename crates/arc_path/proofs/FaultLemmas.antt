@@ -27,10 +27,12 @@ record Faulty (pieces : List Piece) (e : Early) (text : List ℕ) : Type 0 where
   is : IsFaultIn pieces e.kind place text
   left : place + e.left ≡ length text
 
-here : (piece : Piece) (pieces : List Piece) (e : Early) (text : List ℕ) → Lacks piece e.kind text → e.left ≡ length text → Faulty (piece ∷ pieces) e text
+here : (piece : Piece) (pieces : List Piece) (e : Early) (text : List ℕ) → Lacks piece e.kind text → e.left ≡ length text
+    → Faulty (piece ∷ pieces) e text
 here piece pieces e text lacks left = record { place = 0; is = inl (lacks, refl); left = omega arith }
 
-there : (piece : Piece) (pieces : List Piece) (e : Early) (text shown rest : List ℕ) → text ≡ shown ++ rest → Stands piece shown rest → Faulty pieces e rest → Faulty (piece ∷ pieces) e text
+there : (piece : Piece) (pieces : List Piece) (e : Early) (text shown rest : List ℕ) → text ≡ shown ++ rest
+    → Stands piece shown rest → Faulty pieces e rest → Faulty (piece ∷ pieces) e text
 there piece pieces e text shown rest is stands behind =
     let sum : behind.place + e.left ≡ length rest = behind.left in
     record {
@@ -40,16 +42,19 @@ there piece pieces e text shown rest is stands behind =
     }
 
 -- a reader that failed, or one behind it
-after : {A B : Type 0} (r : Result A Early) (f : A → Result B Early) (e : Early) (P : Type 0) → (r ≡ Err e → P) → ((x : A) → r ≡ Ok x → f x ≡ Err e → P) → (r >>= f) ≡ Err e → P
+after : {A B : Type 0} (r : Result A Early) (f : A → Result B Early) (e : Early) (P : Type 0) → (r ≡ Err e → P)
+    → ((x : A) → r ≡ Ok x → f x ≡ Err e → P) → (r >>= f) ≡ Err e → P
 after (Ok x) f e P bad good h = good x refl h
 after (Err d) f e P bad good h = let same : d ≡ e = cc in bad (ap (λ (x : Early). Err x) same)
 
-fails_by : {A : Type 0} (b : Bool) (x : A) (what : ArcFaultKind) (text : List ℕ) (e : Early) → cond b (Ok x) (fault_at what text) ≡ Err e → (b ≡ false) × (e.kind ≡ what) × (e.left ≡ length text)
+fails_by : {A : Type 0} (b : Bool) (x : A) (what : ArcFaultKind) (text : List ℕ) (e : Early)
+    → cond b (Ok x) (fault_at what text) ≡ Err e → (b ≡ false) × (e.kind ≡ what) × (e.left ≡ length text)
 fails_by true x what text e h = absurd cc
 fails_by false x what text e h =
     let same : e ≡ record { kind = what; left = length text } = cc in (refl, ap (λ (x : Early). x.kind) same, ap (λ (x : Early). x.left) same)
 
-guards_by : {A : Type 0} (b : Bool) (x : A) (what : ArcFaultKind) (text : List ℕ) (e : Early) → cond b (fault_at what text) (Ok x) ≡ Err e → (b ≡ true) × (e.kind ≡ what) × (e.left ≡ length text)
+guards_by : {A : Type 0} (b : Bool) (x : A) (what : ArcFaultKind) (text : List ℕ) (e : Early)
+    → cond b (fault_at what text) (Ok x) ≡ Err e → (b ≡ true) × (e.kind ≡ what) × (e.left ≡ length text)
 guards_by false x what text e h = absurd cc
 guards_by true x what text e h =
     let same : e ≡ record { kind = what; left = length text } = cc in (refl, ap (λ (x : Early). x.kind) same, ap (λ (x : Early). x.left) same)
@@ -58,7 +63,8 @@ guards_by true x what text e h =
 
 no_beginning : (word text : List ℕ) → str_eq_ignore_ascii_case (take (length word) text) word ≡ false → BeginsNot word text
 no_beginning word text other name rest is named =
-    let front : take (length word) text ≡ name = ap (take (length word)) is ∙ take_at name rest (length word) (same_length name word named) in
+    let front : take (length word) text ≡ name =
+    ap (take (length word)) is ∙ take_at name rest (length word) (same_length name word named) in
     false≢true (sym other ∙ ap (λ (t : List ℕ). str_eq_ignore_ascii_case t word) front ∙ named)
 
 word_lacks : (word text : List ℕ) (pieces : List Piece) (e : Early) → word_at word text ≡ Err e → Faulty (Name word ∷ pieces) e text
@@ -67,7 +73,8 @@ word_lacks word text pieces e h =
     let f = fails_by (str_eq_ignore_ascii_case (take (length word) text) word) (drop (length word) text) Word text e h in
     here (Name word) pieces e text (f.1, no_beginning word text f.0) f.2
 
-word_stands : (word text rest : List ℕ) (pieces : List Piece) (e : Early) → word_at word text ≡ Ok rest → Faulty pieces e rest → Faulty (Name word ∷ pieces) e text
+word_stands : (word text rest : List ℕ) (pieces : List Piece) (e : Early) → word_at word text ≡ Ok rest → Faulty pieces e rest
+    → Faulty (Name word ∷ pieces) e text
 word_stands word text rest pieces e h behind =
     let w = word_front word text rest h in there (Name word) pieces e text w.0 rest w.1 w.2 behind
 
@@ -121,21 +128,24 @@ number_behind radix most text x h =
     let same : made ≡ x = cc in
     subst (StartsNoDigit radix) (ap (λ (y : ℕ × List ℕ). y.1) same) (behind_digits radix text)
 
-digits_lack : (radix most : ℕ) (text : List ℕ) (pieces : List Piece) (e : Early) → number_at radix most text ≡ Err e → Faulty (Digits radix most ∷ pieces) e text
+digits_lack : (radix most : ℕ) (text : List ℕ) (pieces : List Piece) (e : Early) → number_at radix most text ≡ Err e
+    → Faulty (Digits radix most ∷ pieces) e text
 digits_lack radix most text pieces e h =
     let l = number_lacks radix most text e h in here (Digits radix most) pieces e text (l.kind_is, l.none) l.left_is
 
-digits_stand : (radix most : ℕ) (text : List ℕ) (x : ℕ × List ℕ) (pieces : List Piece) (e : Early) → number_at radix most text ≡ Ok x → Faulty pieces e x.1 → Faulty (Digits radix most ∷ pieces) e text
+digits_stand : (radix most : ℕ) (text : List ℕ) (x : ℕ × List ℕ) (pieces : List Piece) (e : Early)
+    → number_at radix most text ≡ Ok x → Faulty pieces e x.1 → Faulty (Digits radix most ∷ pieces) e text
 digits_stand radix most text x pieces e h behind =
     let n = number_front radix most text x h in
     there (Digits radix most) pieces e text n.0 x.1 n.1 (x.0, n.2, number_behind radix most text x h) behind
 
 -- ---- a word, a number and `)`
 
-abbrev item_pieces : List ℕ → List Piece → List Piece
+abbrev pub item_pieces : List ℕ → List Piece → List Piece
 item_pieces word pieces = Name word ∷ Digits 10 9 ∷ Name (codes ")") ∷ pieces
 
-item_lacks : (word text : List ℕ) (pieces : List Piece) (e : Early) → item_at word text ≡ Err e → Faulty (item_pieces word pieces) e text
+item_lacks : (word text : List ℕ) (pieces : List Piece) (e : Early) → item_at word text ≡ Err e
+    → Faulty (item_pieces word pieces) e text
 unfolding item_at
 item_lacks word text pieces e h =
     let P : Type 0 = Faulty (item_pieces word pieces) e text in
@@ -147,7 +157,8 @@ item_lacks word text pieces e h =
     digits_stand 10 9 inside number _ e ok
     (after (word_at (codes ")") number.1) _ e (Faulty (Name (codes ")") ∷ pieces) e number.1) (λ bad. word_lacks (codes ")") number.1 _ e bad) (λ rest ok rest_h. absurd cc) rest_h)) rest_h)) h
 
-item_stands : (word text : List ℕ) (x : ℕ × List ℕ) (pieces : List Piece) (e : Early) → item_at word text ≡ Ok x → Faulty pieces e x.1 → Faulty (item_pieces word pieces) e text
+item_stands : (word text : List ℕ) (x : ℕ × List ℕ) (pieces : List Piece) (e : Early) → item_at word text ≡ Ok x
+    → Faulty pieces e x.1 → Faulty (item_pieces word pieces) e text
 unfolding item_at
 item_stands word text x pieces e h behind =
     let a = bind_ok (word_at word text) _ x h in
@@ -160,27 +171,31 @@ item_stands word text x pieces e h behind =
 
 -- ---- the partition
 
-abbrev partition_pieces : List Piece → List Piece
+abbrev pub partition_pieces : List Piece → List Piece
 partition_pieces pieces = Name (codes "partition(") ∷ Counted ∷ Name (codes ")") ∷ pieces
 
 -- a number that was read, which is zero, or a fault behind it
-counted_lacks : (text : List ℕ) (x : ℕ × List ℕ) (pieces : List Piece) (e : Early) → number_at 10 9 text ≡ Ok x → cond (eqb x.0 0) (fault_at Partition text) (word_at (codes ")") x.1) ≡ Err e
+counted_lacks : (text : List ℕ) (x : ℕ × List ℕ) (pieces : List Piece) (e : Early) → number_at 10 9 text ≡ Ok x
+    → cond (eqb x.0 0) (fault_at Partition text) (word_at (codes ")") x.1) ≡ Err e
     → Faulty (Counted ∷ Name (codes ")") ∷ pieces) e text
 counted_lacks text x pieces e ok h = by_test (eqb x.0 0) refl h
   where
-    by_test : (b : Bool) → eqb x.0 0 ≡ b → cond b (fault_at Partition text) (word_at (codes ")") x.1) ≡ Err e → Faulty (Counted ∷ Name (codes ")") ∷ pieces) e text
+    by_test : (b : Bool) → eqb x.0 0 ≡ b → cond b (fault_at Partition text) (word_at (codes ")") x.1) ≡ Err e
+        → Faulty (Counted ∷ Name (codes ")") ∷ pieces) e text
     by_test true zero f =
         let n = number_front 10 9 text x ok in
         let same : e ≡ record { kind = Partition; left = length text } = cc in
         let numeral : IsNumeral 10 9 0 n.0 = subst (λ (v : ℕ). IsNumeral 10 9 v n.0) (eqb-true x.0 0 zero) n.2 in
-        let none : HasZero text = record { digits = n.0; rest = x.1; spelled = n.1; numeral = numeral; whole = number_behind 10 9 text x ok } in
+        let none : HasZero text =
+        record { digits = n.0; rest = x.1; spelled = n.1; numeral = numeral; whole = number_behind 10 9 text x ok } in
         here Counted _ e text (inr (ap (λ (x : Early). x.kind) same, none)) (ap (λ (x : Early). x.left) same)
     by_test false some f =
         let n = number_front 10 9 text x ok in
         let one : 0 < x.0 = omega (arith, eqb-false x.0 0 some) in
         there Counted _ e text n.0 x.1 n.1 (x.0, n.2, one, number_behind 10 9 text x ok) (word_lacks (codes ")") x.1 pieces e f)
 
-partition_lacks : (text : List ℕ) (pieces : List Piece) (e : Early) → partition_at text ≡ Err e → Faulty (partition_pieces pieces) e text
+partition_lacks : (text : List ℕ) (pieces : List Piece) (e : Early) → partition_at text ≡ Err e
+    → Faulty (partition_pieces pieces) e text
 unfolding partition_at
 partition_lacks text pieces e h =
     after (word_at (codes "partition(") text) _ e (Faulty (partition_pieces pieces) e text) (λ bad. word_lacks (codes "partition(") text _ e bad)
@@ -191,7 +206,8 @@ partition_lacks text pieces e h =
     after (cond (eqb number.0 0) (fault_at Partition inside) (word_at (codes ")") number.1)) (λ rest. Ok (number.0, rest)) e (Faulty (Counted ∷ Name (codes ")") ∷ pieces) e inside)
     (λ bad. counted_lacks inside number pieces e ok bad) (λ rest ok rest_h. absurd cc) rest_h) rest_h)) h
 
-partition_stands : (text : List ℕ) (x : ℕ × List ℕ) (pieces : List Piece) (e : Early) → partition_at text ≡ Ok x → Faulty pieces e x.1 → Faulty (partition_pieces pieces) e text
+partition_stands : (text : List ℕ) (x : ℕ × List ℕ) (pieces : List Piece) (e : Early) → partition_at text ≡ Ok x
+    → Faulty pieces e x.1 → Faulty (partition_pieces pieces) e text
 unfolding partition_at
 partition_stands text x pieces e h behind =
     let a = bind_ok (word_at (codes "partition(") text) _ x h in
@@ -209,13 +225,16 @@ partition_stands text x pieces e h behind =
 -- ---- the directory
 
 -- behind a `\`, the first byte that can't be printed
-unprintable : (c : ℕ) (text rest : List ℕ) (d n : ℕ) (e : Early) → c ≡ 92 → n ≡ prefix_len is_printable text → drop n text ≡ d ∷ rest → e.kind ≡ Tail → e.left ≡ length (drop n text) → Faulty [] e (c ∷ text)
+unprintable : (c : ℕ) (text rest : List ℕ) (d n : ℕ) (e : Early) → c ≡ 92 → n ≡ prefix_len is_printable text
+    → drop n text ≡ d ∷ rest → e.kind ≡ Tail → e.left ≡ length (drop n text) → Faulty [] e (c ∷ text)
 unprintable c text rest d n e slash count behind tail left =
     let front : List ℕ = take n text in
     let few : length front ≡ n = ap (λ (k : ℕ). length (take k text)) count ∙ length-prefix_len is_printable text ∙ sym count in
     let parts : text ≡ front ++ d ∷ rest = sym (take-append-drop n text) ∙ ap (λ (t : List ℕ). front ++ t) behind in
-    let printable : list_all is_printable front ≡ true = ap (λ (k : ℕ). list_all is_printable (take k text)) count ∙ front_passes is_printable text in
-    let none : prefix_len is_printable (d ∷ rest) ≡ 0 = ap (prefix_len is_printable) (sym behind ∙ ap (λ (k : ℕ). drop k text) count) ∙ no_front is_printable text in
+    let printable : list_all is_printable front ≡ true =
+    ap (λ (k : ℕ). list_all is_printable (take k text)) count ∙ front_passes is_printable text in
+    let none : prefix_len is_printable (d ∷ rest) ≡ 0 =
+    ap (prefix_len is_printable) (sym behind ∙ ap (λ (k : ℕ). drop k text) count) ∙ no_front is_printable text in
     let whole : length text ≡ length front + length (d ∷ rest) = ap length parts ∙ length-append front (d ∷ rest) in
     let more : length (drop n text) ≡ length (d ∷ rest) = ap length behind in
     record {
@@ -232,11 +251,13 @@ tail_lacks (c ∷ text) e h = by_test (is_backslash c) refl h
     n : ℕ
     n = prefix_len is_printable text
 
-    by_rest : (t : List ℕ) → drop n text ≡ t → c ≡ 92 → n < length text → e.kind ≡ Tail → e.left ≡ length (drop n text) → Faulty [] e (c ∷ text)
+    by_rest : (t : List ℕ) → drop n text ≡ t → c ≡ 92 → n < length text → e.kind ≡ Tail → e.left ≡ length (drop n text)
+        → Faulty [] e (c ∷ text)
     by_rest [] none slash lt tail left = let empty : length (drop n text) ≡ 0 = ap length none in absurd (omega (arith, length-drop n text))
     by_rest (d ∷ rest) behind slash lt tail left = unprintable c text rest d n e slash refl behind tail left
 
-    by_test : (b : Bool) → is_backslash c ≡ b → cond (not b) (fault_at Tail (c ∷ text)) (cond (ltb n (length text)) (fault_at Tail (drop n text)) (Ok (without_last_backslashes text))) ≡ Err e → Faulty [] e (c ∷ text)
+    by_test : (b : Bool) → is_backslash c ≡ b
+        → cond (not b) (fault_at Tail (c ∷ text)) (cond (ltb n (length text)) (fault_at Tail (drop n text)) (Ok (without_last_backslashes text))) ≡ Err e → Faulty [] e (c ∷ text)
     by_test true slash f =
         let g = guards_by (ltb n (length text)) (without_last_backslashes text) Tail (drop n text) e f in
         by_rest (drop n text) refl (eqb-true c 92 slash) (ltb-true _ _ g.0) g.1 g.2
@@ -254,12 +275,14 @@ other_kind : {A : Type 0} (b : Bool) (x : A) (r : Result A Early) (e : Early) �
 other_kind true x r e h = absurd cc
 other_kind false x r e h = (refl, h)
 
-kind_lacks : (text : List ℕ) (e : Early) → kind_at text ≡ Err e → (e.kind ≡ Kind) × ((k : ArcKind) → BeginsNot (word_of k) text) × (e.left ≡ length text)
+kind_lacks : (text : List ℕ) (e : Early) → kind_at text ≡ Err e
+    → (e.kind ≡ Kind) × ((k : ArcKind) → BeginsNot (word_of k) text) × (e.left ≡ length text)
 unfolding kind_at
 kind_lacks text e h =
     let multi = other_kind (str_eq_ignore_ascii_case (take 6 text) (codes "multi(")) (Multi, drop 6 text) _ e h in
     let scsi = other_kind (str_eq_ignore_ascii_case (take 5 text) (codes "scsi(")) (Scsi, drop 5 text) _ e multi.1 in
-    let signature = fails_by (str_eq_ignore_ascii_case (take 10 text) (codes "signature(")) (Signature, drop 10 text) Kind text e scsi.1 in
+    let signature =
+    fails_by (str_eq_ignore_ascii_case (take 10 text) (codes "signature(")) (Signature, drop 10 text) Kind text e scsi.1 in
     let none : (k : ArcKind) → BeginsNot (word_of k) text =
     λ k. elim k as (λ k. BeginsNot (word_of k) text) [
       | Multi ↦ no_beginning (codes "multi(") text multi.0
@@ -273,7 +296,8 @@ record FirstFault (text : List ℕ) (e : Early) : Type 0 where
   is : IsFaultAt e.kind place text
   left : place + e.left ≡ length text
 
-behind_kind : (text : List ℕ) (x : ArcKind × List ℕ) (e : Early) → kind_at text ≡ Ok x → Faulty (pieces_of x.0) e x.1 → FirstFault text e
+behind_kind : (text : List ℕ) (x : ArcKind × List ℕ) (e : Early) → kind_at text ≡ Ok x → Faulty (pieces_of x.0) e x.1
+    → FirstFault text e
 behind_kind text x e h behind =
     let k = kind_front text x h in
     let sum : behind.place + e.left ≡ length x.1 = behind.left in
@@ -317,7 +341,8 @@ numbers_stand text x e h tail =
     let d = bind_ok (item_at (codes "disk(") c.0) _ x c.2 in
     let f = bind_ok (item_at (codes "rdisk(") d.0.1) _ x d.2 in
     let g = bind_ok (partition_at f.0.1) _ x f.2 in
-    let made : Numbers × List ℕ = (record { kind = a.0.0; controller = b.0.0; disk = d.0.0; rdisk = f.0.0; partition = g.0.0 }, g.0.1) in
+    let made : Numbers × List ℕ =
+    (record { kind = a.0.0; controller = b.0.0; disk = d.0.0; rdisk = f.0.0; partition = g.0.0 }, g.0.1) in
     let same : made ≡ x = ok_is made x g.2 in
     let rest : Faulty [] e g.0.1 = subst (Faulty [] e) (sym (ap (λ (y : Numbers × List ℕ). y.1) same)) tail in
     let partition = partition_stands f.0.1 g.0 [] e g.1 rest in

@@ -21,7 +21,8 @@ use Rattle.arc_path.specs.Spelling.{IsNumeral, IsItem, word_of, IsBehindBackslas
 
 -- ---- what a reader that succeeded has found
 
-pub bind_ok : {A B : Type 0} (r : Result A Early) (f : A → Result B Early) (y : B) → (r >>= f) ≡ Ok y → (x : A) × (r ≡ Ok x) × (f x ≡ Ok y)
+pub bind_ok : {A B : Type 0} (r : Result A Early) (f : A → Result B Early) (y : B) → (r >>= f) ≡ Ok y
+    → (x : A) × (r ≡ Ok x) × (f x ≡ Ok y)
 bind_ok (Ok x) f y e = (x, refl, e)
 bind_ok (Err d) f y e = absurd cc
 
@@ -89,7 +90,8 @@ right_false false b e = e
 not_zero : (n : ℕ) → eqb n 0 ≡ false → 0 < n
 not_zero n e = omega (arith, eqb-false n 0 e)
 
-pub number_front : (radix most : ℕ) (text : List ℕ) (x : ℕ × List ℕ) → number_at radix most text ≡ Ok x → Front (IsNumeral radix most x.0) text x.1
+pub number_front : (radix most : ℕ) (text : List ℕ) (x : ℕ × List ℕ) → number_at radix most text ≡ Ok x
+    → Front (IsNumeral radix most x.0) text x.1
 unfolding number_at
 number_front radix most text x e =
     let n : ℕ = digit_count radix text in
@@ -120,7 +122,8 @@ closing_behind text rest e =
     let w = word_front (codes ")") text rest e in w.1 ∙ ap (λ (t : List ℕ). t ++ rest) (only_closing w.0 w.2)
 
 -- a word, a number and `)` one after the other
-item_of : (word : List ℕ) (radix most : ℕ) (text inside : List ℕ) (x : ℕ × List ℕ) (rest : List ℕ) → Front (IsNamed word) text inside
+item_of : (word : List ℕ) (radix most : ℕ) (text inside : List ℕ) (x : ℕ × List ℕ) (rest : List ℕ)
+    → Front (IsNamed word) text inside
     → Front (IsNumeral radix most x.0) inside x.1
     → x.1 ≡ codes ")" ++ rest → Front (IsItem word radix most x.0) text rest
 item_of word radix most text inside x rest name number closing =
@@ -140,7 +143,8 @@ item_front word text x e =
     subst (λ (y : ℕ × List ℕ). Front (IsItem word 10 9 y.0) text y.1) {x = made} (ok_is made x c.2)
     (item_of word 10 9 text a.0 b.0 c.0 (word_front word text a.0 a.1) (number_front 10 9 a.0 b.0 b.1) (closing_behind b.0.1 c.0 c.1))
 
-partition_front : (text : List ℕ) (x : ℕ × List ℕ) → partition_at text ≡ Ok x → Front (IsItem (codes "partition(") 10 9 x.0) text x.1 × (0 < x.0)
+partition_front : (text : List ℕ) (x : ℕ × List ℕ) → partition_at text ≡ Ok x
+    → Front (IsItem (codes "partition(") 10 9 x.0) text x.1 × (0 < x.0)
 unfolding partition_at done
 partition_front text x e =
     let a = bind_ok (word_at (codes "partition(") text) _ x e in
@@ -154,7 +158,8 @@ partition_front text x e =
 -- ---- the first word
 
 kind_is : (b : Bool) (kind : ArcKind) (k : ℕ) (text : List ℕ) (other : Result (ArcKind × List ℕ) Early) (x : ArcKind × List ℕ)
-    → str_eq_ignore_ascii_case (take k text) (word_of kind) ≡ b → (other ≡ Ok x → Front (IsNamed (word_of x.0)) text x.1) → cond b (Ok (kind, drop k text)) other ≡ Ok x
+    → str_eq_ignore_ascii_case (take k text) (word_of kind) ≡ b → (other ≡ Ok x → Front (IsNamed (word_of x.0)) text x.1)
+    → cond b (Ok (kind, drop k text)) other ≡ Ok x
     → Front (IsNamed (word_of x.0)) text x.1
 unfolding done
 kind_is true kind k text other x is more e =
@@ -198,8 +203,10 @@ numbers_front text x e =
     let disk = item_front (codes "disk(") c.0 d.0 d.1 in
     let rdisk = item_front (codes "rdisk(") d.0.1 f.0 f.1 in
     let partition = partition_front f.0.1 g.0 g.1 in
-    let made : Numbers × List ℕ = (record { kind = a.0.0; controller = b.0.0; disk = d.0.0; rdisk = f.0.0; partition = g.0.0 }, g.0.1) in
-    let before : (front text rest : List ℕ) → text ≡ rest → front ++ text ≡ front ++ rest = λ front text rest same. ap (λ (t : List ℕ). front ++ t) same in
+    let made : Numbers × List ℕ =
+    (record { kind = a.0.0; controller = b.0.0; disk = d.0.0; rdisk = f.0.0; partition = g.0.0 }, g.0.1) in
+    let before : (front text rest : List ℕ) → text ≡ rest → front ++ text ≡ front ++ rest =
+    λ front text rest same. ap (λ (t : List ℕ). front ++ t) same in
     subst (λ (y : Numbers × List ℕ). Items y.0 text y.1) {x = made} (ok_is made x g.2) (record {
       controller = controller.0;
       disk = disk.0;
@@ -223,7 +230,8 @@ is_92 c e = by_test (is_backslash c) refl e
     by_test false is e = absurd (false≢true (sym e))
 
 -- a directory that was found, with what was dropped behind it
-found_dir : (text dir : List ℕ) (k : ℕ) → k ≡ length text - suffix_len is_backslash text → take k text ≡ dir → list_all is_printable text ≡ true → IsBehindBackslash dir (92 ∷ text)
+found_dir : (text dir : List ℕ) (k : ℕ) → k ≡ length text - suffix_len is_backslash text → take k text ≡ dir
+    → list_all is_printable text ≡ true → IsBehindBackslash dir (92 ∷ text)
 found_dir text dir k at is all =
     let parts : text ≡ take k text ++ drop k text = sym (take-append-drop k text) in
     let none : suffix_len is_backslash dir ≡ 0 = ap (suffix_len is_backslash) (sym is) ∙ no_suffix is_backslash text k at in
@@ -245,13 +253,15 @@ directory_front (c ∷ text) dir e =
     let first = passed (not (is_backslash c)) _ (cond (ltb n (length text)) _ (Ok (without_last_backslashes text))) dir e in
     let g = guard_ok (ltb n (length text)) _ (without_last_backslashes text) dir first.1 in
     let le : length text ≤ n = ltb-false _ _ g.0 in
-    let all : list_all is_printable text ≡ true = all_from is_printable text (λ i lt. prefix_len_passes is_printable text i 0 (omega arith)) in
+    let all : list_all is_printable text ≡ true =
+    all_from is_printable text (λ i lt. prefix_len_passes is_printable text i 0 (omega arith)) in
     let P : ℕ → Type 0 = λ d. IsBehindBackslash dir (d ∷ text) in
     inr (subst P (sym (is_92 c first.0)) (found_dir text dir (length text - suffix_len is_backslash text) refl g.1 all))
 
 -- ---- the whole text
 
-placed_ok : (text : List ℕ) (r : Result (Numbers × List ℕ) Early) (a : Arc) → placed text r ≡ Ok a → (x : Numbers × List ℕ) × (r ≡ Ok x) × (arc_from x.0 x.1 ≡ a)
+placed_ok : (text : List ℕ) (r : Result (Numbers × List ℕ) Early) (a : Arc) → placed text r ≡ Ok a
+    → (x : Numbers × List ℕ) × (r ≡ Ok x) × (arc_from x.0 x.1 ≡ a)
 placed_ok text (Ok x) a e = (x, refl, cc)
 placed_ok text (Err f) a e = absurd cc
 
@@ -330,7 +340,8 @@ pub read_is_path : (text : List ℕ) (a : Arc) → arc_of text ≡ Ok a → IsPa
 read_is_path text a e = spelled_is_path text a (read_is_spelled text a e)
 
 -- what the parts of a text make is a path
-pub parts_are_path : (text : List ℕ) (n : Numbers) (dir made : List ℕ) → parts_at text ≡ Ok (n, dir) → made ≡ dir → IsPath (arc_from n made)
+pub parts_are_path : (text : List ℕ) (n : Numbers) (dir made : List ℕ) → parts_at text ≡ Ok (n, dir) → made ≡ dir
+    → IsPath (arc_from n made)
 unfolding arc_of
 parts_are_path text n dir made e same =
     let read : arc_of text ≡ Ok (arc_from n dir) = ap (placed text) e in

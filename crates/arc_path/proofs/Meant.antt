@@ -27,7 +27,7 @@ same_length [] (d ∷ word) e = absurd (false≢true e)
 same_length (c ∷ name) [] e = absurd (false≢true e)
 same_length (c ∷ name) (d ∷ word) e = let same : length name ≡ length word = same_length name word (both (eqb (to_ascii_lowercase c) (to_ascii_lowercase d)) _ e).1 in omega arith
 
-word_found : (word name rest : List ℕ) → IsNamed word name → word_at word (name ++ rest) ≡ Ok rest
+pub word_found : (word name rest : List ℕ) → IsNamed word name → word_at word (name ++ rest) ≡ Ok rest
 unfolding word_at
 word_found word name rest e =
     let n = same_length name word e in
@@ -38,13 +38,15 @@ unfolding word_at
 closing_found rest = refl
 
 -- a text that begins with another letter is another word
-other_word : (d e k : ℕ) (ds es name rest : List ℕ) → eqb (to_ascii_lowercase d) (to_ascii_lowercase e) ≡ false → IsNamed (d ∷ ds) name
+other_word : (d e k : ℕ) (ds es name rest : List ℕ) → eqb (to_ascii_lowercase d) (to_ascii_lowercase e) ≡ false
+    → IsNamed (d ∷ ds) name
     → str_eq_ignore_ascii_case (take (suc k) (name ++ rest)) (e ∷ es) ≡ false
 other_word d e k ds es [] rest differ is = absurd (false≢true is)
 other_word d e k ds es (c ∷ name) rest differ is = rw (eqb-true (to_ascii_lowercase c) (to_ascii_lowercase d) (both _ _ is).0, differ) refl
 
 -- so much of the text as another word has is the word's own beginning
-same_front : (k : ℕ) (name rest word other : List ℕ) → IsNamed word name → k ≤ length word → str_eq_ignore_ascii_case (take k (name ++ rest)) other ≡ str_eq_ignore_ascii_case (take k word) other
+same_front : (k : ℕ) (name rest word other : List ℕ) → IsNamed word name → k ≤ length word
+    → str_eq_ignore_ascii_case (take k (name ++ rest)) other ≡ str_eq_ignore_ascii_case (take k word) other
 same_front zero name rest word other is le = refl
 same_front (suc k) [] rest [] other is le = absurd (omega arith)
 same_front (suc k) [] rest (d ∷ word) other is le = absurd (false≢true is)
@@ -54,7 +56,7 @@ same_front (suc k) (c ∷ name) rest (d ∷ word) (o ∷ other) is le =
     let q = both (eqb (to_ascii_lowercase c) (to_ascii_lowercase d)) _ is in
     rw (eqb-true (to_ascii_lowercase c) (to_ascii_lowercase d) q.0, same_front k name rest word other q.1 (omega arith)) refl
 
-kind_found : (k : ArcKind) (name rest : List ℕ) → IsNamed (word_of k) name → kind_at (name ++ rest) ≡ Ok (k, rest)
+pub kind_found : (k : ArcKind) (name rest : List ℕ) → IsNamed (word_of k) name → kind_at (name ++ rest) ≡ Ok (k, rest)
 unfolding kind_at
 kind_found Multi name rest e =
     let n = same_length name (codes "multi(") e in rw (take_at name rest 6 n, e, drop_at name rest 6 n) refl
@@ -69,11 +71,13 @@ kind_found Signature name rest e =
 
 -- ---- numbers
 
-digits_counted : (radix : ℕ) (ds rest : List ℕ) → AllDigits radix ds → is_digit 41 radix ≡ false → prefix_len (λ c. is_digit c radix) (ds ++ 41 ∷ rest) ≡ length ds
+digits_counted : (radix : ℕ) (ds rest : List ℕ) → AllDigits radix ds → is_digit 41 radix ≡ false
+    → prefix_len (λ c. is_digit c radix) (ds ++ 41 ∷ rest) ≡ length ds
 digits_counted radix [] rest all none = rw none refl
 digits_counted radix (d ∷ ds) rest all none = rw (lt-ltb _ _ all.0, digits_counted radix ds rest all.1 none) (omega arith)
 
-numeral_found : (radix most value : ℕ) (shown rest : List ℕ) → is_digit 41 radix ≡ false → IsNumeral radix most value shown → number_at radix most (shown ++ (codes ")" ++ rest)) ≡ Ok (value, codes ")" ++ rest)
+numeral_found : (radix most value : ℕ) (shown rest : List ℕ) → is_digit 41 radix ≡ false → IsNumeral radix most value shown
+    → number_at radix most (shown ++ (codes ")" ++ rest)) ≡ Ok (value, codes ")" ++ rest)
 unfolding number_at
 numeral_found radix most value shown rest none is =
     let n = digits_counted radix shown rest is.digits none in
@@ -82,16 +86,19 @@ numeral_found radix most value shown rest none is =
     rw (n, ne, le-ltb most (length shown) is.few, take_at shown (41 ∷ rest), drop_at shown (41 ∷ rest), is.writes) refl
 
 -- a word, its number and `)`
-item_parts : (word : List ℕ) (radix most value : ℕ) (shown rest : List ℕ) (is : IsItem word radix most value shown) → shown ++ rest ≡ is.name ++ (is.number ++ (codes ")" ++ rest))
+item_parts : (word : List ℕ) (radix most value : ℕ) (shown rest : List ℕ) (is : IsItem word radix most value shown)
+    → shown ++ rest ≡ is.name ++ (is.number ++ (codes ")" ++ rest))
 item_parts word radix most value shown rest is = ap (λ (t : List ℕ). t ++ rest) is.spelled ∙ simp append_assoc
 
-item_found : (word : List ℕ) (value : ℕ) (shown rest : List ℕ) → IsItem word 10 9 value shown → item_at word (shown ++ rest) ≡ Ok (value, rest)
+item_found : (word : List ℕ) (value : ℕ) (shown rest : List ℕ) → IsItem word 10 9 value shown
+    → item_at word (shown ++ rest) ≡ Ok (value, rest)
 unfolding item_at
 item_found word value shown rest is =
     ap (item_at word) (item_parts word 10 9 value shown rest is)
     ∙ rw (word_found word is.name _ is.named, numeral_found 10 9 value is.number rest refl is.numeral, closing_found rest) refl
 
-partition_found : (value : ℕ) (shown rest : List ℕ) → IsItem (codes "partition(") 10 9 value shown → 0 < value → partition_at (shown ++ rest) ≡ Ok (value, rest)
+partition_found : (value : ℕ) (shown rest : List ℕ) → IsItem (codes "partition(") 10 9 value shown → 0 < value
+    → partition_at (shown ++ rest) ≡ Ok (value, rest)
 unfolding partition_at
 partition_found value shown rest is some =
     let ne : eqb value 0 ≡ false = ne_eqb _ 0 (λ z. absurd (omega arith)) in
@@ -109,10 +116,12 @@ backslashes_print : (more : List ℕ) → list_all is_backslash more ≡ true �
 backslashes_print [] e = refl
 backslashes_print (c ∷ more) e = let q = both (is_backslash c) (list_all is_backslash more) e in rw (eqb-true c 92 q.0, backslashes_print more q.1) refl
 
-directory_behind : (dir more : List ℕ) → list_all is_backslash more ≡ true → list_all is_printable dir ≡ true → suffix_len is_backslash dir ≡ 0 → directory_at (92 ∷ (dir ++ more)) ≡ Ok dir
+directory_behind : (dir more : List ℕ) → list_all is_backslash more ≡ true → list_all is_printable dir ≡ true
+    → suffix_len is_backslash dir ≡ 0 → directory_at (92 ∷ (dir ++ more)) ≡ Ok dir
 unfolding directory_at
 directory_behind dir more dropped printable none =
-    let all : list_all is_printable (dir ++ more) ≡ true = list_all-append is_printable dir more ∙ rw (printable, backslashes_print more dropped) refl in
+    let all : list_all is_printable (dir ++ more) ≡ true =
+    list_all-append is_printable dir more ∙ rw (printable, backslashes_print more dropped) refl in
     rw (whole_front is_printable (dir ++ more) all, le-ltb (length (dir ++ more)) (length (dir ++ more)) (omega arith), end_dropped is_backslash dir more dropped none) refl
 
 no_directory : directory_at [] ≡ Ok []
@@ -126,7 +135,8 @@ directory_found dir shown (inr is) =
 
 -- ---- the whole text
 
-numbers_found : (text : List ℕ) (a : Arc) (is : IsSpelled text a) → numbers_at text ≡ Ok (record { kind = a.kind; controller = a.controller; disk = a.disk; rdisk = a.rdisk; partition = a.partition }, is.directory)
+numbers_found : (text : List ℕ) (a : Arc) (is : IsSpelled text a)
+    → numbers_at text ≡ Ok (record { kind = a.kind; controller = a.controller; disk = a.disk; rdisk = a.rdisk; partition = a.partition }, is.directory)
 unfolding numbers_at
 numbers_found text a is =
     let radix : ℕ = radix_of a.kind in
@@ -192,7 +202,8 @@ same_word Multi = refl
 same_word Scsi = refl
 same_word Signature = refl
 
-item_text : (word : List ℕ) (radix most value : ℕ) (digits : List ℕ) → IsNamed word word → IsNumeral radix most value digits → IsItem word radix most value (word ++ (digits ++ codes ")"))
+item_text : (word : List ℕ) (radix most value : ℕ) (digits : List ℕ) → IsNamed word word → IsNumeral radix most value digits
+    → IsItem word radix most value (word ++ (digits ++ codes ")"))
 item_text word radix most value digits named is = record { name = word; number = digits; spelled = refl; named = named; numeral = is }
 
 parts_text : (k : ArcKind) (c d r n : ℕ) (dir : List ℕ) → first_text k c ++ numbers_text d r n ++ directory_text dir
@@ -204,10 +215,12 @@ ends_so dir front trimmed is =
     let same : length (without_last_backslashes dir) ≡ length dir = ap length trimmed in
     let short : length (front ++ codes "\\") ≡ length front + 1 = length-append front (codes "\\") in
     let long : length dir ≡ length (front ++ codes "\\") = ap length is in
-    let none : suffix_len is_backslash dir ≡ 0 = omega (arith, length-take (length dir - suffix_len is_backslash dir) dir, suffix_len-le-length is_backslash dir) in
+    let none : suffix_len is_backslash dir ≡ 0 =
+    omega (arith, length-take (length dir - suffix_len is_backslash dir) dir, suffix_len-le-length is_backslash dir) in
     false≢true (sym (last_fails is_backslash dir front 92 none is))
 
-directory_is : (dir : List ℕ) → prefix_len is_printable dir ≡ length dir → without_last_backslashes dir ≡ dir → IsDirectory dir (directory_text dir)
+directory_is : (dir : List ℕ) → prefix_len is_printable dir ≡ length dir → without_last_backslashes dir ≡ dir
+    → IsDirectory dir (directory_text dir)
 directory_is [] all trimmed = inl (refl, refl)
 directory_is (c ∷ dir) all trimmed = inr (record {
   more = [];

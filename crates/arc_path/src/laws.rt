@@ -16,9 +16,10 @@ pub fn a_path_reads_as_what_it_spells()
 {}
 
 /// The fault that is named is the first from the left: each piece before its place stands there, and
-/// the next one does not.
+/// the next one does not. And where that is so, it is named.
 pub fn the_first_fault_from_the_left_is_named()
-    ensures { (text : List ℕ) (fault : ArcFault) → arc_of text ≡ Err fault → IsFirstFault fault text }
+    ensures named { (text : List ℕ) (fault : ArcFault) → IsFirstFault fault text → arc_of text ≡ Err fault }
+    ensures first { (text : List ℕ) (fault : ArcFault) → arc_of text ≡ Err fault → IsFirstFault fault text }
 {}
 
 /// What was read, written and read again is the same path.

@@ -40,7 +40,8 @@ no_front p (x ∷ xs) = by_test (p x) refl (no_front p xs)
     one : 1 + prefix_len p xs ≡ suc (prefix_len p xs)
     one = omega arith
 
-    by_test : (b : Bool) → p x ≡ b → prefix_len p (drop (prefix_len p xs) xs) ≡ 0 → prefix_len p (drop (cond b (1 + prefix_len p xs) 0) (x ∷ xs)) ≡ 0
+    by_test : (b : Bool) → p x ≡ b → prefix_len p (drop (prefix_len p xs) xs) ≡ 0
+        → prefix_len p (drop (cond b (1 + prefix_len p xs) 0) (x ∷ xs)) ≡ 0
     by_test true is rest = rw one rest
     by_test false is rest = rw is refl
 
@@ -56,7 +57,8 @@ same_words line some =
 
 -- ---- what a line was found to ask for
 
-event_found : (words : List (List ℕ)) (event : Option Event) (line : List ℕ) → event_of words ≡ Ok event → IsLineOf words line → AsksFor event line
+event_found : (words : List (List ℕ)) (event : Option Event) (line : List ℕ) → event_of words ≡ Ok event → IsLineOf words line
+    → AsksFor event line
 unfolding event_of
 event_found [] None line e is = inl is
 event_found [] (Some event) line e is = absurd cc
@@ -75,7 +77,8 @@ comment_found c text line e is =
     let k : ℕ = prefix_len is_space line in
     inr (take k line, text, front_passes is_space line, split_spaces line (c ∷ text) e ∙ ap (λ (n : ℕ). take k line ++ n ∷ text) (eqb-true c 35 is))
 
-trimmed_found : (text line : List ℕ) (event : Option Event) → without_spaces line ≡ text → trimmed_event text ≡ Ok event → AsksFor event line
+trimmed_found : (text line : List ℕ) (event : Option Event) → without_spaces line ≡ text → trimmed_event text ≡ Ok event
+    → AsksFor event line
 unfolding trimmed_event
 trimmed_found [] line event e f = let none : event ≡ None = cc in silent_is event line none (inl (all_pass is_space line (ap length e)))
 trimmed_found (c ∷ text) line event e f = by_test (eqb c 35) refl f
@@ -118,7 +121,8 @@ spells_command (ArmCut call n keep) words h = rw h.2 refl
 spells_command (ArmFault call n) words h = rw h.2 refl
 
 -- a line that begins with a word, but with no `#`, is read by its words
-read_by_words : (word shown rest : List ℕ) (words : List (List ℕ)) → IsBare word shown ⊎ IsQuoted word shown → is_comment (word ∷ words) ≡ false → trimmed_event (shown ++ rest) ≡ (words_of (shown ++ rest) >>= event_of)
+read_by_words : (word shown rest : List ℕ) (words : List (List ℕ)) → IsBare word shown ⊎ IsQuoted word shown
+    → is_comment (word ∷ words) ≡ false → trimmed_event (shown ++ rest) ≡ (words_of (shown ++ rest) >>= event_of)
 unfolding trimmed_event is_comment
 read_by_words [] shown rest words (inl bare) named = absurd (false≢true (sym named))
 read_by_words (c ∷ word) shown rest words (inl bare) named =
@@ -138,18 +142,21 @@ shown_some : (word shown : List ℕ) → IsBare word shown ⊎ IsQuoted word sho
 shown_some word shown (inl bare) = let some : 0 < length word = bare.1 in omega (arith, ap length bare.0)
 shown_some word shown (inr quoted) = omega (arith, ap length quoted.0)
 
-words_read : (words : List (List ℕ)) (line : List ℕ) (event : Event) → IsLineOf words line → IsSpelledBy event words → line_event line ≡ Ok (Some event)
+words_read : (words : List (List ℕ)) (line : List ℕ) (event : Event) → IsLineOf words line → IsSpelledBy event words
+    → line_event line ≡ Ok (Some event)
 words_read [] line event is spelled = absurd (no_event event spelled)
 words_read (word ∷ words) line event is spelled =
     let rest : List ℕ = is.0 in
     let o : Opens word line rest = is.1 in
     let text : List ℕ = o.shown ++ rest in
-    let behind : without_spaces line ≡ text = ap without_spaces o.spelled ∙ spaces_dropped o.gap text o.spaces (word_starts word o.shown rest o.is_shown) in
+    let behind : without_spaces line ≡ text =
+    ap without_spaces o.spelled ∙ spaces_dropped o.gap text o.spaces (word_starts word o.shown rest o.is_shown) in
     let shown : 0 < length o.shown = shown_some word o.shown o.is_shown in
     let some : 0 < length (without_spaces line) = rw behind (omega (arith, length-append o.shown rest)) in
     let here : words_of text ≡ Ok (word ∷ words) = ap words_of (sym behind) ∙ same_words line some ∙ reads (word ∷ words) line is in
     let by_words = read_by_words word o.shown rest words o.is_shown (spells_command event (word ∷ words) spelled) in
-    ap trimmed_event behind ∙ by_words ∙ ap (λ (r : Result (List (List ℕ)) ScriptFaultKind). r >>= event_of) here ∙ event_read event (word ∷ words) spelled
+    ap trimmed_event behind ∙ by_words ∙ ap (λ (r : Result (List (List ℕ)) ScriptFaultKind). r >>= event_of) here
+    ∙ event_read event (word ∷ words) spelled
 
 silent_read : (line : List ℕ) → IsSilent line → line_event line ≡ Ok None
 unfolding trimmed_event
@@ -162,7 +169,8 @@ line_read (Some event) line is = words_read is.0 line event is.1 is.2
 
 -- ---- the whole text
 
-starts-append : (event : Option Event) (events : List Event) → starts_in (option_to_list event ++ events) ≡ starts event + starts_in events
+starts-append : (event : Option Event) (events : List Event)
+    → starts_in (option_to_list event ++ events) ≡ starts event + starts_in events
 starts-append None events = omega arith
 starts-append (Some event) events = refl
 
@@ -172,7 +180,8 @@ record AfterLine (events : List Event) (boots : ℕ) (event : Option Event) (res
   read : rest ≡ Ok others
   whole : events ≡ option_to_list event ++ others
 
-put_found : (front events : List Event) (r : Result (List Event) ScriptFault) → put_before front r ≡ Ok events → (others : List Event) × (r ≡ Ok others) × (events ≡ front ++ others)
+put_found : (front events : List Event) (r : Result (List Event) ScriptFault) → put_before front r ≡ Ok events
+    → (others : List Event) × (r ≡ Ok others) × (events ≡ front ++ others)
 put_found front events (Ok others) e = (others, refl, cc)
 put_found front events (Err f) e = absurd cc
 
@@ -180,7 +189,8 @@ after_found : (n boots : ℕ) (r : Result (Option Event) ScriptFaultKind) (next 
     → (event : Option Event) × (r ≡ Ok event) × AfterLine events boots event (next (boots + starts event))
 after_found n boots (Ok event) next events e = (event, refl, by_test (ltb 64 (boots + starts event)) refl e)
   where
-    by_test : (b : Bool) → ltb 64 (boots + starts event) ≡ b → cond b (at_line n TooManyStarts) (put_before (option_to_list event) (next (boots + starts event))) ≡ Ok events
+    by_test : (b : Bool) → ltb 64 (boots + starts event) ≡ b
+        → cond b (at_line n TooManyStarts) (put_before (option_to_list event) (next (boots + starts event))) ≡ Ok events
         → AfterLine events boots event (next (boots + starts event))
     by_test true is f = absurd cc
     by_test false is f =
@@ -192,7 +202,8 @@ record Found (boots : ℕ) (events : List Event) (ls : List (List ℕ)) : Type 0
   few : boots + starts_in events ≤ 64
   asked : AskFor events ls
 
-events_found : (n boots : ℕ) (ls : List (List ℕ)) (events : List Event) → boots ≤ 64 → events_from n boots ls ≡ Ok events → Found boots events ls
+events_found : (n boots : ℕ) (ls : List (List ℕ)) (events : List Event) → boots ≤ 64 → events_from n boots ls ≡ Ok events
+    → Found boots events ls
 unfolding events_from
 events_found n boots [] events le e =
     let none : events ≡ [] = cc in
@@ -200,12 +211,14 @@ events_found n boots [] events le e =
 events_found n boots (line ∷ ls) events le e =
     let a = after_found n boots (line_event line) (λ boots. events_from (n + 1) boots ls) events e in
     let more : AfterLine events boots a.0 (events_from (n + 1) (boots + starts a.0) ls) = a.2 in
-    let rest : Found (boots + starts a.0) more.others ls = events_found (n + 1) (boots + starts a.0) ls more.others more.few more.read in
+    let rest : Found (boots + starts a.0) more.others ls =
+    events_found (n + 1) (boots + starts a.0) ls more.others more.few more.read in
     let sum : starts_in events ≡ starts a.0 + starts_in more.others = ap starts_in more.whole ∙ starts-append a.0 more.others in
     let few : boots + starts a.0 + starts_in more.others ≤ 64 = rest.few in
     record { few = omega arith; asked = (a.0, more.others, line_found line a.0 a.1, more.whole, rest.asked) }
 
-events_read : (n boots : ℕ) (ls : List (List ℕ)) (events : List Event) → boots + starts_in events ≤ 64 → AskFor events ls → events_from n boots ls ≡ Ok events
+events_read : (n boots : ℕ) (ls : List (List ℕ)) (events : List Event) → boots + starts_in events ≤ 64 → AskFor events ls
+    → events_from n boots ls ≡ Ok events
 unfolding events_from
 events_read n boots [] events few none = ap (λ (es : List Event). Ok es) (sym none)
 events_read n boots (line ∷ ls) events few h =
@@ -213,14 +226,16 @@ events_read n boots (line ∷ ls) events few h =
     let others : List Event = h.1 in
     let sum : starts_in events ≡ starts event + starts_in others = ap starts_in h.3 ∙ starts-append event others in
     let here : ltb 64 (boots + starts event) ≡ false = le-ltb 64 (boots + starts event) (omega arith) in
-    let rest : events_from (n + 1) (boots + starts event) ls ≡ Ok others = events_read (n + 1) (boots + starts event) ls others (omega arith) h.4 in
+    let rest : events_from (n + 1) (boots + starts event) ls ≡ Ok others =
+    events_read (n + 1) (boots + starts event) ls others (omega arith) h.4 in
     rw (line_read event line h.2, here, rest) (ap (λ (es : List Event). Ok es) (sym h.3))
 
 pub script_found : (text : List ℕ) (events : List Event) → script_of text ≡ Ok events → IsScript text events
 unfolding script_of
 script_found text events e = by_test (ltb 65536 (length text)) refl e
   where
-    by_test : (b : Bool) → ltb 65536 (length text) ≡ b → cond b (at_line 0 TooLong) (events_from 1 0 (lines text)) ≡ Ok events → IsScript text events
+    by_test : (b : Bool) → ltb 65536 (length text) ≡ b → cond b (at_line 0 TooLong) (events_from 1 0 (lines text)) ≡ Ok events
+        → IsScript text events
     by_test true is f = absurd cc
     by_test false is f =
         let all : Found 0 events (lines text) = events_found 1 0 (lines text) events (omega arith) f in
@@ -256,7 +271,8 @@ record Few (events : List Event) (ls : List (List ℕ)) : Type 0 where
   counts : All HasCounts events
   few : length events ≤ length ls
 
-one_more : (event : Option Event) (line : List ℕ) (others : List Event) (ls : List (List ℕ)) → AsksFor event line → Few others ls → Few (option_to_list event ++ others) (line ∷ ls)
+one_more : (event : Option Event) (line : List ℕ) (others : List Event) (ls : List (List ℕ)) → AsksFor event line → Few others ls
+    → Few (option_to_list event ++ others) (line ∷ ls)
 one_more None line others ls asks rest = let few : length others ≤ length ls = rest.few in record { counts = rest.counts; few = omega arith }
 one_more (Some event) line others ls asks rest =
     let few : length others ≤ length ls = rest.few in
@@ -268,7 +284,8 @@ few_events events (line ∷ ls) h =
     subst (λ (es : List Event). Few es (line ∷ ls)) (sym h.3) (one_more h.0 line h.1 ls h.2 (few_events h.1 ls h.4))
 
 -- one more byte makes at most one more line
-line_more : (c n : ℕ) (parts : List (List ℕ)) (b : Bool) → 0 < length parts → length (lines_of_parts parts) ≤ n → length (lines_of_parts (cond b ([] ∷ parts) (onto_first c parts))) ≤ n + 1
+line_more : (c n : ℕ) (parts : List (List ℕ)) (b : Bool) → 0 < length parts → length (lines_of_parts parts) ≤ n
+    → length (lines_of_parts (cond b ([] ∷ parts) (onto_first c parts))) ≤ n + 1
 line_more c n [] b some few = absurd (omega arith)
 line_more c n (p ∷ parts) true some few = omega arith
 line_more c n (p ∷ []) false some few = rw (ne_eqb (length (c ∷ p)) 0 (λ z. absurd (omega arith))) (omega arith)
@@ -278,7 +295,8 @@ few_lines : (text : List ℕ) → length (lines text) ≤ length text
 few_lines [] = omega arith
 few_lines (c ∷ text) =
     let some : 0 < length (slice_split is_lf text) = omega (arith, length-slice_split is_lf text) in
-    let more : length (lines (c ∷ text)) ≤ length text + 1 = line_more c (length text) (slice_split is_lf text) (is_lf c) some (few_lines text) in
+    let more : length (lines (c ∷ text)) ≤ length text + 1 =
+    line_more c (length text) (slice_split is_lf text) (is_lf c) some (few_lines text) in
     omega arith
 
 bounded : (text : List ℕ) (events : List Event) → IsScript text events → IsBounded events
@@ -289,7 +307,8 @@ bounded text events is =
     record { counts = all.counts; few_starts = is.few; few_events = omega (arith, few_lines text) }
 
 -- a script that was read has the bounds
-pub read_is_bounded : (r : Result (List Event) ScriptStop) (text : List ℕ) → length text ≤ 65536 → GivesScript r (events_from 1 0 (lines text)) → IfOk r IsBounded
+pub read_is_bounded : (r : Result (List Event) ScriptStop) (text : List ℕ) → length text ≤ 65536
+    → GivesScript r (events_from 1 0 (lines text)) → IfOk r IsBounded
 unfolding script_of
 read_is_bounded (Ok events) text short e = bounded text events (script_found text events (rw (le-ltb 65536 (length text) short) e))
 read_is_bounded (Err stop) text short e = tt

@@ -28,20 +28,24 @@ use Rattle.boot_script.proofs.WordLemmas.{done, ok_is}
 
 -- ---- what a reader that succeeded has found
 
-pub bind_ok : {A B : Type 0} (r : Result A ScriptFaultKind) (f : A → Result B ScriptFaultKind) (y : B) → (r >>= f) ≡ Ok y → (x : A) × (r ≡ Ok x) × (f x ≡ Ok y)
+pub bind_ok : {A B : Type 0} (r : Result A ScriptFaultKind) (f : A → Result B ScriptFaultKind) (y : B) → (r >>= f) ≡ Ok y
+    → (x : A) × (r ≡ Ok x) × (f x ≡ Ok y)
 bind_ok (Ok x) f y e = (x, refl, e)
 bind_ok (Err k) f y e = absurd cc
 
-passed : {A : Type 0} (b : Bool) (k : ScriptFaultKind) (r : Result A ScriptFaultKind) (y : A) → cond b (Err k) r ≡ Ok y → (b ≡ false) × (r ≡ Ok y)
+passed : {A : Type 0} (b : Bool) (k : ScriptFaultKind) (r : Result A ScriptFaultKind) (y : A) → cond b (Err k) r ≡ Ok y
+    → (b ≡ false) × (r ≡ Ok y)
 passed true k r y e = absurd cc
 passed false k r y e = (refl, e)
 
-holds : {A : Type 0} (b : Bool) (k : ScriptFaultKind) (r : Result A ScriptFaultKind) (y : A) → cond b r (Err k) ≡ Ok y → (b ≡ true) × (r ≡ Ok y)
+holds : {A : Type 0} (b : Bool) (k : ScriptFaultKind) (r : Result A ScriptFaultKind) (y : A) → cond b r (Err k) ≡ Ok y
+    → (b ≡ true) × (r ≡ Ok y)
 holds true k r y e = (refl, e)
 holds false k r y e = absurd cc
 
 -- by one test, or by what follows it
-either : {A : Type 0} (b : Bool) (r s : Result A ScriptFaultKind) (y : A) (P : Type 0) → (b ≡ true → r ≡ Ok y → P) → (s ≡ Ok y → P) → cond b r s ≡ Ok y → P
+either : {A : Type 0} (b : Bool) (r s : Result A ScriptFaultKind) (y : A) (P : Type 0) → (b ≡ true → r ≡ Ok y → P) → (s ≡ Ok y → P)
+    → cond b r s ≡ Ok y → P
 either true r s y P f g e = f refl e
 either false r s y P f g e = g e
 
@@ -89,7 +93,8 @@ number_read low n word is =
 
 -- ---- paths
 
-plain_onto : (c : ℕ) (parts : List (List ℕ)) → is_in_name c ≡ true → list_all is_name parts ≡ true → list_all is_name (onto_first c parts) ≡ true
+plain_onto : (c : ℕ) (parts : List (List ℕ)) → is_in_name c ≡ true → list_all is_name parts ≡ true
+    → list_all is_name (onto_first c parts) ≡ true
 plain_onto c [] e all = joined _ _ (joined _ _ e refl) refl
 plain_onto c (part ∷ parts) e all = let q = both (is_name part) (list_all is_name parts) all in joined _ _ (joined _ _ e q.0) q.1
 
@@ -97,7 +102,8 @@ parts_plain : (word : List ℕ) → list_all is_name (path_of word) ≡ true
 parts_plain [] = refl
 parts_plain (c ∷ word) = by_test (is_backslash c) refl (parts_plain word)
   where
-    by_test : (b : Bool) → is_backslash c ≡ b → list_all is_name (path_of word) ≡ true → list_all is_name (cond b ([] ∷ path_of word) (onto_first c (path_of word))) ≡ true
+    by_test : (b : Bool) → is_backslash c ≡ b → list_all is_name (path_of word) ≡ true
+        → list_all is_name (cond b ([] ∷ path_of word) (onto_first c (path_of word))) ≡ true
     by_test true is all = all
     by_test false is all = plain_onto c (path_of word) (rw is refl) all
 
@@ -155,7 +161,8 @@ record ReadsHex (bytes word : List ℕ) : Type 0 where
   all : list_all is_ascii_hexdigit word ≡ true
   same : hex_bytes word ≡ bytes
 
-pair_before : (byte high low : ℕ) (bytes rest : List ℕ) → IsPair byte high low → ReadsHex bytes rest → ReadsHex (byte ∷ bytes) (high ∷ low ∷ rest)
+pair_before : (byte high low : ℕ) (bytes rest : List ℕ) → IsPair byte high low → ReadsHex bytes rest
+    → ReadsHex (byte ∷ bytes) (high ∷ low ∷ rest)
 pair_before byte high low bytes rest pair reads =
     let h : is_ascii_hexdigit high ≡ true = small_hex high pair.high_digit in
     let l : is_ascii_hexdigit low ≡ true = small_hex low pair.low_digit in
@@ -199,7 +206,8 @@ string_found (a ∷ []) d e =
     record { text = a; spelled = refl; kind_is = sym (ap (λ (x : ℕ × List ℕ). x.0) same); bytes_are = sym (ap (λ (x : ℕ × List ℕ). x.1) same) }
 string_found (a ∷ b ∷ more) d e = absurd cc
 
-strings_found : (words : List (List ℕ)) (d : ℕ × List ℕ) → done (7, texts_bytes words) ≡ Ok d → IsStrings d.0 d.1 (codes "multi" ∷ words)
+strings_found : (words : List (List ℕ)) (d : ℕ × List ℕ) → done (7, texts_bytes words) ≡ Ok d
+    → IsStrings d.0 d.1 (codes "multi" ∷ words)
 strings_found words d e =
     let made : ℕ × List ℕ = (7, texts_bytes words) in
     let same : made ≡ d = ok_is made d e in
@@ -319,7 +327,8 @@ remove_found [] event e = absurd cc
 remove_found (a ∷ []) event e = yields (Remove (path_of a)) event _ e (a, path_found a, refl)
 remove_found (a ∷ b ∷ more) event e = absurd cc
 
-alone_found : (made event : Event) (name : List ℕ) (words : List (List ℕ)) → alone_of made words ≡ Ok event → IsSpelledBy made (name ∷ []) → IsSpelledBy event (name ∷ words)
+alone_found : (made event : Event) (name : List ℕ) (words : List (List ℕ)) → alone_of made words ≡ Ok event
+    → IsSpelledBy made (name ∷ []) → IsSpelledBy event (name ∷ words)
 alone_found made event name [] e is = yields made event _ e is
 alone_found made event name (a ∷ more) e is = absurd cc
 
@@ -352,7 +361,9 @@ cut_found (a ∷ b ∷ c ∷ []) event e =
     let k = bind_ok (call_of a) (λ call. keep_of c >>= λ keep. number_from 1 b >>= λ n. Ok (ArmCut call n keep)) event e in
     let p = bind_ok (keep_of c) (λ keep. number_from 1 b >>= λ n. Ok (ArmCut k.0 n keep)) event k.2 in
     let n = bind_ok (number_from 1 b) (λ n. Ok (ArmCut k.0 n p.0)) event p.2 in
-    let spelled = ap (λ (w : List ℕ). codes "cut" ∷ w ∷ b ∷ c ∷ []) (call_found a k.0 k.1) ∙ ap (λ (w : List ℕ). codes "cut" ∷ call_word k.0 ∷ b ∷ w ∷ []) (keep_found c p.0 p.1) in
+    let spelled =
+    ap (λ (w : List ℕ). codes "cut" ∷ w ∷ b ∷ c ∷ []) (call_found a k.0 k.1)
+    ∙ ap (λ (w : List ℕ). codes "cut" ∷ call_word k.0 ∷ b ∷ w ∷ []) (keep_found c p.0 p.1) in
     yields (ArmCut k.0 n.0 p.0) event _ n.2 (b, number_found 1 b n.0 n.1, spelled)
 cut_found (a ∷ b ∷ c ∷ d ∷ more) event e = absurd cc
 
@@ -367,10 +378,12 @@ fault_found (a ∷ b ∷ []) event e =
 fault_found (a ∷ b ∷ c ∷ more) event e = absurd cc
 
 -- the command is the one of this name
-as_named : (event : Event) (words : List (List ℕ)) (name wanted : List ℕ) → bytes_eq name wanted ≡ true → IsSpelledBy event (wanted ∷ words) → IsSpelledBy event (name ∷ words)
+as_named : (event : Event) (words : List (List ℕ)) (name wanted : List ℕ) → bytes_eq name wanted ≡ true
+    → IsSpelledBy event (wanted ∷ words) → IsSpelledBy event (name ∷ words)
 as_named event words name wanted is spelled = subst (λ (n : List ℕ). IsSpelledBy event (n ∷ words)) (sym (same_text name wanted is)) spelled
 
-edit_found : (name : List ℕ) (words : List (List ℕ)) (event : Event) → edit_of name words ≡ Ok event → IsSpelledBy event (name ∷ words)
+edit_found : (name : List ℕ) (words : List (List ℕ)) (event : Event) → edit_of name words ≡ Ok event
+    → IsSpelledBy event (name ∷ words)
 unfolding edit_of
 edit_found name words event e =
     let P : Type 0 = IsSpelledBy event (name ∷ words) in
@@ -379,7 +392,8 @@ edit_found name words event e =
     (either _ _ _ event P (λ is f. as_named event words name (codes "make") is (make_found words event f))
     (λ f. let h = holds _ Word _ event f in as_named event words name (codes "remove") h.0 (remove_found words event h.1)))) e
 
-pub command_found : (name : List ℕ) (words : List (List ℕ)) (event : Event) → command_of name words ≡ Ok event → IsSpelledBy event (name ∷ words)
+pub command_found : (name : List ℕ) (words : List (List ℕ)) (event : Event) → command_of name words ≡ Ok event
+    → IsSpelledBy event (name ∷ words)
 unfolding command_of
 command_found name words event e =
     let P : Type 0 = IsSpelledBy event (name ∷ words) in
@@ -404,7 +418,8 @@ not_lkg : (word : List ℕ) → 0 < length word → list_all is_ascii_digit word
 not_lkg [] some digits = absurd (omega arith)
 not_lkg (c ∷ word) some digits = rw (ne_eqb c 108 (λ is. let P : ℕ → Type 0 = λ n. is_ascii_digit n ≡ true in false≢true (subst P is (both (is_ascii_digit c) _ digits).0))) refl
 
-boot_entry : (n : ℕ) (word : List ℕ) (good : Bool) → IsNumber 1 n word → event_of (codes "boot" ∷ word ∷ good_words good) ≡ Ok (Some (Boot (Some n) good))
+boot_entry : (n : ℕ) (word : List ℕ) (good : Bool) → IsNumber 1 n word
+    → event_of (codes "boot" ∷ word ∷ good_words good) ≡ Ok (Some (Boot (Some n) good))
 unfolding event_of command_of boot_of
 boot_entry n word true is = rw (digits_are 1 n word is, number_read 1 n word is) refl
 boot_entry n word false is = rw (not_lkg word is.some is.digits, digits_are 1 n word is, number_read 1 n word is) refl
@@ -417,18 +432,21 @@ go_steps : (n : ℕ) (word : List ℕ) → IsNumber 1 n word → event_of (codes
 unfolding event_of command_of go_of
 go_steps n word is = rw (number_read 1 n word is) refl
 
-fail_read : (name : List ℕ) (n : ℕ) (word : List ℕ) → IsNumber 0 n word → event_of (codes "fail" ∷ name ∷ word ∷ []) ≡ Ok (Some (Fail name n))
+fail_read : (name : List ℕ) (n : ℕ) (word : List ℕ) → IsNumber 0 n word
+    → event_of (codes "fail" ∷ name ∷ word ∷ []) ≡ Ok (Some (Fail name n))
 unfolding event_of command_of fail_of
 fail_read name n word is = rw (number_read 0 n word is) refl
 
-set_read : (path : List (List ℕ)) (key name : List ℕ) (kind : ℕ) (bytes : List ℕ) (value : List (List ℕ)) → IsPath path key → IsData kind bytes value
+set_read : (path : List (List ℕ)) (key name : List ℕ) (kind : ℕ) (bytes : List ℕ) (value : List (List ℕ)) → IsPath path key
+    → IsData kind bytes value
     → event_of (codes "set" ∷ key ∷ name ∷ value) ≡ Ok (Some (Set path name kind bytes))
 unfolding event_of command_of edit_of set_of
 set_read path key name kind bytes value is written =
     let d : ReadsData kind bytes value = data_read kind bytes value written in
     rw (d.spelled, d.read, path_read path key is) refl
 
-delete_read : (path : List (List ℕ)) (key name : List ℕ) → IsPath path key → event_of (codes "delete" ∷ key ∷ name ∷ []) ≡ Ok (Some (Delete path name))
+delete_read : (path : List (List ℕ)) (key name : List ℕ) → IsPath path key
+    → event_of (codes "delete" ∷ key ∷ name ∷ []) ≡ Ok (Some (Delete path name))
 unfolding event_of command_of edit_of delete_of
 delete_read path key name is = rw (path_read path key is) refl
 
@@ -436,7 +454,8 @@ make_read : (path : List (List ℕ)) (key : List ℕ) → IsPath path key → ev
 unfolding event_of command_of edit_of make_of
 make_read path key is = rw (path_read path key is) refl
 
-remove_read : (path : List (List ℕ)) (key : List ℕ) → IsPath path key → event_of (codes "remove" ∷ key ∷ []) ≡ Ok (Some (Remove path))
+remove_read : (path : List (List ℕ)) (key : List ℕ) → IsPath path key
+    → event_of (codes "remove" ∷ key ∷ []) ≡ Ok (Some (Remove path))
 unfolding event_of command_of edit_of remove_of
 remove_read path key is = rw (path_read path key is) refl
 
@@ -469,11 +488,13 @@ now_read : (keep : Keep) → event_of (codes "cut" ∷ codes "now" ∷ keep_word
 unfolding event_of command_of cut_of
 now_read keep = rw (keep_read keep) refl
 
-cut_read : (call : DiskCall) (n : ℕ) (word : List ℕ) (keep : Keep) → IsNumber 1 n word → event_of (codes "cut" ∷ call_word call ∷ word ∷ keep_word keep ∷ []) ≡ Ok (Some (ArmCut call n keep))
+cut_read : (call : DiskCall) (n : ℕ) (word : List ℕ) (keep : Keep) → IsNumber 1 n word
+    → event_of (codes "cut" ∷ call_word call ∷ word ∷ keep_word keep ∷ []) ≡ Ok (Some (ArmCut call n keep))
 unfolding event_of command_of cut_of
 cut_read call n word keep is = rw (call_read call, keep_read keep, number_read 1 n word is) refl
 
-fault_read : (call : DiskCall) (n : ℕ) (word : List ℕ) → IsNumber 1 n word → event_of (codes "fault" ∷ call_word call ∷ word ∷ []) ≡ Ok (Some (ArmFault call n))
+fault_read : (call : DiskCall) (n : ℕ) (word : List ℕ) → IsNumber 1 n word
+    → event_of (codes "fault" ∷ call_word call ∷ word ∷ []) ≡ Ok (Some (ArmFault call n))
 unfolding event_of command_of fault_of
 fault_read call n word is = rw (call_read call, number_read 1 n word is) refl
 
@@ -481,7 +502,8 @@ pub event_read : (event : Event) (words : List (List ℕ)) → IsSpelledBy event
 event_read (Boot None good) words h = ap event_of (h.2 ∙ ap (λ (number : List (List ℕ)). codes "boot" ∷ (number ++ good_words good)) h.1) ∙ boot_alone good
 event_read (Boot (Some n) good) words h =
     let number = h.1 in
-    ap event_of (h.2 ∙ ap (λ (number : List (List ℕ)). codes "boot" ∷ (number ++ good_words good)) number.1) ∙ boot_entry n number.0 good number.2
+    ap event_of (h.2 ∙ ap (λ (number : List (List ℕ)). codes "boot" ∷ (number ++ good_words good)) number.1)
+    ∙ boot_entry n number.0 good number.2
 event_read (Go None) words h = ap event_of (h.2 ∙ ap (λ (number : List (List ℕ)). codes "go" ∷ number) h.1) ∙ go_alone
 event_read (Go (Some n)) words h =
     let number = h.1 in

@@ -3,7 +3,6 @@ pub mod OneDriver
 pub mod SmallCells
 pub mod Trees
 pub mod Looking
-pub mod Torn
 pub mod Cuts
 pub mod Whole
 pub mod Opened

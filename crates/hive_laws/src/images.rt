@@ -2,7 +2,7 @@
 
 ghost use Rattle.std.specs.Prelude.{List, [], ◌∷◌, ◌++◌};
 ghost use Rattle.hive_model.specs.Image.{Image, Write, put, IsCrashImage};
-ghost use Rattle.hive_laws.specs.Torn.{unreadable_at};
+ghost use Rattle.nt_edge.specs.Crash.{unreadable_at};
 
 /// A write that is last in flight is kept, is lost or leaves its sector unreadable by itself, whatever became of those
 /// before it.

@@ -10,7 +10,7 @@ ghost use Rattle.hive_model.specs.Asked.{primary_at, log_at, is_readable, asked_
 ghost use Rattle.hive_laws.specs.Looking.{LooksAt, IsInOrder};
 ghost use Rattle.hive_laws.specs.OneDriver.{driver_with};
 ghost use Rattle.hive_laws.specs.Samples.{block, before, after, file_of};
-ghost use Rattle.hive_laws.specs.Torn.{unreadable_at};
+ghost use Rattle.nt_edge.specs.Crash.{unreadable_at};
 
 /// Images that agree at each sector at which recovery of the first looks recover alike: as the same base
 /// block and bins data, or with the same fault.

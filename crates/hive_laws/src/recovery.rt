@@ -13,7 +13,7 @@ ghost use Rattle.hive_model.specs.Load.{Loads};
 ghost use Rattle.hive_model.specs.State.{HiveState};
 ghost use Rattle.hive_laws.specs.Samples.{block, before, after, file_of, changed};
 ghost use Rattle.hive_laws.specs.Opened.{IsClosing, IsUnderWay};
-ghost use Rattle.hive_laws.specs.Torn.{unreadable_at};
+ghost use Rattle.nt_edge.specs.Crash.{unreadable_at};
 ghost use Rattle.hive_laws.specs.Whole.{AreSaved};
 
 /// An image that carries a base block and bins data is recovered as these, without its log.

@@ -10,7 +10,7 @@ use Rattle.nt_bytes.specs.declared.fault.ReadStop.TheVariants as stops
 use Rattle.hive_model.specs.Forms.{◌>>=◌, KeyNode}
 use Rattle.hive_model.specs.Bins.{Cells, placed}
 use Rattle.hive_model.specs.Tree.{Tree, trees, head}
-use Rattle.hive_model.specs.Walk.{Check, uses, tests, reading, node_at, names_of, first_fault}
+use Rattle.hive_model.specs.Walk.{Check, uses, tests, reading, use_as, node_at, names_of, first_fault}
 use Rattle.hive_model.specs.Stands.{Stands, AllStand, ListsChildren, IsWellFormed}
 
 -- the cells that were used, and whether as security
@@ -49,6 +49,10 @@ Stops outcome (stops.Fault f) = outcome ≡ Err f
 abbrev pub Steps : {X : Type 0} → (X → Type 0) → Result Seen HiveFault → Seen → Result X ReadStop → Type 0
 Steps Means outcome new (Ok x) = (outcome ≡ Ok new) × Means x
 Steps Means outcome new (Err e) = Stops outcome e
+
+-- it used the cell at an offset, perhaps as security, and answered the form that stands there, seen by view
+abbrev pub Uses : {X F : Type 0} → Bool → (List ℕ → Result F HiveKind) → (X → F) → Cells → ℕ → Seen → Seen → Result X ReadStop → Type 0
+Uses security form view cells at old new result = Steps (λ x. reading form cells at ≡ Ok (view x)) (walk cells old (use_as security form cells at)) new result
 
 -- what reading the tree at a root answers: the tree that stands there in well-formed cells, or the first fault
 abbrev pub Reads : Cells → ℕ → Result Tree ReadStop → Type 0

@@ -17,8 +17,8 @@ use cell_forms::{VkForm, data_inside};
 use nt_bytes::{Bytes, HiveVersion, ReadStop};
 use std::alloc::Global;
 
-// How many bytes a full segment of big data holds.
-const SEGMENT: u32 = 16_344;
+/// How many bytes a full segment of big data holds.
+pub(crate) const SEGMENT: u32 = 16_344;
 
 // Data of more bytes than a segment holds are big in version 1.5.
 fn is_big(version: HiveVersion, size: u32) -> bool
@@ -38,7 +38,8 @@ fn read_segments(
     size: u32,
     offsets: &[u32],
 ) -> Result<Bytes, ReadStop>
-    ensures { Steps (λ b. joined_segments (cells_of cells.now) size offsets.now ≡ Ok b) (walk (cells_of cells.now) used.old (segments_checks (cells_of cells.now) size offsets.now)) used.new result }
+    ensures { Steps (λ b. joined_segments (cells_of cells.now) size offsets.now ≡ Ok b)
+        (walk (cells_of cells.now) used.old (segments_checks (cells_of cells.now) size offsets.now)) used.new result }
 {
     let mut bytes = Bytes::new(alloc);
     let mut left = size;
@@ -62,7 +63,8 @@ fn read_big(
     size: u32,
     at: u32,
 ) -> Result<Bytes, ReadStop>
-    ensures { Steps (λ b. big_bytes_at (cells_of cells.now) size at ≡ Ok b) (walk (cells_of cells.now) used.old (big_checks (cells_of cells.now) size at)) used.new result }
+    ensures { Steps (λ b. big_bytes_at (cells_of cells.now) size at ≡ Ok b)
+        (walk (cells_of cells.now) used.old (big_checks (cells_of cells.now) size at)) used.new result }
 {
     let big = use_big_data(cells, used, size, at)?;
     let offsets = use_offsets(alloc, cells, used, u32::from(big.segments), big.list)?;
@@ -77,7 +79,8 @@ fn read_celled(
     size: u32,
     at: u32,
 ) -> Result<Bytes, ReadStop>
-    ensures { Steps (λ b. celled_bytes (cells_of cells.now) size at ≡ Ok b) (walk (cells_of cells.now) used.old (celled_checks (cells_of cells.now) size at)) used.new result }
+    ensures { Steps (λ b. celled_bytes (cells_of cells.now) size at ≡ Ok b)
+        (walk (cells_of cells.now) used.old (celled_checks (cells_of cells.now) size at)) used.new result }
 {
     if is_big(cells.version, size) {
         return read_big(alloc, cells, used, size, at);
@@ -93,7 +96,8 @@ pub(crate) fn read_data(
     used: &mut Used,
     value: &VkForm,
 ) -> Result<Bytes, ReadStop>
-    ensures { Steps (λ b. data_of (cells_of cells.now) (key_value_of value.now) ≡ Ok b) (walk (cells_of cells.now) used.old (data_checks (cells_of cells.now) (key_value_of value.now))) used.new result }
+    ensures { Steps (λ b. data_of (cells_of cells.now) (key_value_of value.now) ≡ Ok b)
+        (walk (cells_of cells.now) used.old (data_checks (cells_of cells.now) (key_value_of value.now))) used.new result }
 {
     let held = data_inside(alloc, value)?;
     match held {

@@ -32,7 +32,8 @@ fn read_class(
     used: &mut Used,
     node: &NkForm,
 ) -> Result<Bytes, ReadStop>
-    ensures { Steps (λ b. class_of (cells_of cells.now) (key_node_of node.now) ≡ Ok b) (walk (cells_of cells.now) used.old (class_checks (cells_of cells.now) (key_node_of node.now))) used.new result }
+    ensures { Steps (λ b. class_of (cells_of cells.now) (key_node_of node.now) ≡ Ok b)
+        (walk (cells_of cells.now) used.old (class_checks (cells_of cells.now) (key_node_of node.now))) used.new result }
 {
     if node.class_length == 0 {
         return Ok(Bytes::new(alloc));
@@ -47,7 +48,8 @@ fn read_descriptor(
     used: &mut Used,
     node: &NkForm,
 ) -> Result<Bytes, ReadStop>
-    ensures { Steps (λ b. security_of (cells_of cells.now) (key_node_of node.now) ≡ Ok b) (walk (cells_of cells.now) used.old (security_checks (cells_of cells.now) (key_node_of node.now))) used.new result }
+    ensures { Steps (λ b. security_of (cells_of cells.now) (key_node_of node.now) ≡ Ok b)
+        (walk (cells_of cells.now) used.old (security_checks (cells_of cells.now) (key_node_of node.now))) used.new result }
 {
     if node.security == 0xffff_ffff {
         return Ok(Bytes::new(alloc));
@@ -78,7 +80,8 @@ fn read_key(
     at: u32,
 ) -> Result<Key, ReadStop>
     ensures walked { (names : List (List ℕ)) → Knows taken.old names →
-        Steps (KeyRead (cells_of cells.now) root at) (walk (cells_of cells.now) used.old (key_checks left (cells_of cells.now) root names at)) used.new result }
+        Steps (KeyRead (cells_of cells.now) root at)
+        (walk (cells_of cells.now) used.old (key_checks left (cells_of cells.now) root names at)) used.new result }
     ensures known { IfOk result (λ t. (n : List ℕ) → has_name taken.new n ≡ (has_name taken.old n || folds_same n (head t).name)) }
 {
     if left == 0 {
@@ -99,7 +102,8 @@ fn read_below(
     node: NkForm,
     at: u32,
 ) -> Result<Key, ReadStop>
-    ensures walked { Steps (λ t. reading key_node_at (cells_of cells.now) at ≡ Ok (key_node_of node) → Stands (cells_of cells.now) at t) (walk (cells_of cells.now) used.old (below_node (key_checks left (cells_of cells.now) false) (cells_of cells.now) (key_node_of node) at)) used.new result }
+    ensures walked { Steps (λ t. reading key_node_at (cells_of cells.now) at ≡ Ok (key_node_of node) → Stands (cells_of cells.now) at t)
+        (walk (cells_of cells.now) used.old (below_node (key_checks left (cells_of cells.now) false) (cells_of cells.now) (key_node_of node) at)) used.new result }
     ensures named { IfOk result (λ t. (head t).name ≡ node.name) }
 {
     let class = read_class(alloc, cells, used, &node)?;
@@ -127,7 +131,8 @@ fn read_children(
     node: &NkForm,
     at: u32,
 ) -> Result<Keys, ReadStop>
-    ensures { Steps (ChildrenRead (cells_of cells.now) (key_node_of node.now)) (walk (cells_of cells.now) used.old (children_checks (key_checks left (cells_of cells.now) false) (cells_of cells.now) (key_node_of node.now) at)) used.new result }
+    ensures { Steps (ChildrenRead (cells_of cells.now) (key_node_of node.now))
+        (walk (cells_of cells.now) used.old (children_checks (key_checks left (cells_of cells.now) false) (cells_of cells.now) (key_node_of node.now) at)) used.new result }
 {
     if node.child_count == 0 {
         return Ok(Keys::new(alloc));
@@ -149,7 +154,8 @@ fn read_in_turn(
     left: u32,
     offsets: &[u32],
 ) -> Result<Keys, ReadStop>
-    ensures { Steps (λ ts. AllStand (cells_of cells.now) offsets.now (trees ts)) (walk (cells_of cells.now) used.old (keys_in_turn (key_checks left (cells_of cells.now) false) (cells_of cells.now) [] offsets.now)) used.new result }
+    ensures { Steps (λ ts. AllStand (cells_of cells.now) offsets.now (trees ts))
+        (walk (cells_of cells.now) used.old (keys_in_turn (key_checks left (cells_of cells.now) false) (cells_of cells.now) [] offsets.now)) used.new result }
 {
     let mut taken = Taken::new(alloc);
     let mut children = Keys::new(alloc);

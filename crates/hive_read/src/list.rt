@@ -31,7 +31,8 @@ fn read_leaves(
     used: &mut Used,
     lists: &[u32],
 ) -> Result<Offsets, ReadStop>
-    ensures { Steps (λ o. joined_at (cells_of cells.now) lists.now ≡ Ok o) (walk (cells_of cells.now) used.old (leaves_checks (cells_of cells.now) lists.now)) used.new result }
+    ensures { Steps (λ o. joined_at (cells_of cells.now) lists.now ≡ Ok o)
+        (walk (cells_of cells.now) used.old (leaves_checks (cells_of cells.now) lists.now)) used.new result }
 {
     let mut all = Vec::new(alloc);
     let mut rest = lists;
@@ -52,7 +53,8 @@ pub(crate) fn read_entries(
     used: &mut Used,
     at: u32,
 ) -> Result<Offsets, ReadStop>
-    ensures { Steps (λ o. entries_at (cells_of cells.now) at ≡ Ok o) (walk (cells_of cells.now) used.old (entries_checks (cells_of cells.now) at)) used.new result }
+    ensures { Steps (λ o. entries_at (cells_of cells.now) at ≡ Ok o)
+        (walk (cells_of cells.now) used.old (entries_checks (cells_of cells.now) at)) used.new result }
 {
     let list = use_list(alloc, cells, used, at)?;
     if lists_lists(list.kind) {

@@ -10,8 +10,9 @@ ghost use Rattle.hive_model.specs.Size.{segment_count as segments_of};
 ghost use Rattle.hive_model.specs.Walk.{uses, use_as, reading, node_at, big_data_of, leaf_at, name_check};
 ghost use Rattle.cell_forms.specs.Views.{key_node_of, key_value_of, big_data_of as form_of, security_of, subkey_list_of};
 ghost use Rattle.hive_read.specs.Taken.{has_name, Knows};
-ghost use Rattle.hive_read.specs.Walked.{Seen, check, walk, Steps};
+ghost use Rattle.hive_read.specs.Walked.{Seen, check, walk, Steps, Uses};
 
+use crate::data::SEGMENT;
 use crate::source::Source;
 use crate::taken::Taken;
 use crate::used::Used;
@@ -68,7 +69,8 @@ pub(crate) fn take_name(
 fn segment_count(size: u32) -> u64
     ensures { result ≡ segments_of size }
 {
-    (u64::from(size) + 16_343) / 16_344
+    let full = u64::from(SEGMENT);
+    (u64::from(size) + full - 1) / full
 }
 
 // A key node. The root's name may be empty.
@@ -126,7 +128,7 @@ pub(crate) fn use_node(
     root: bool,
     at: u32,
 ) -> Result<NkForm, ReadStop>
-    ensures { Steps (λ x. reading (node_at root) (cells_of cells.now) at ≡ Ok (key_node_of x)) (walk (cells_of cells.now) used.old (use_as false (node_at root) (cells_of cells.now) at)) used.new result }
+    ensures { Uses false (node_at root) key_node_of (cells_of cells.now) at used.old used.new result }
 {
     let payload = use_cell(cells, used, at, false)?;
     node_form(alloc, payload, root, at)
@@ -138,7 +140,7 @@ pub(crate) fn use_value(
     used: &mut Used,
     at: u32,
 ) -> Result<VkForm, ReadStop>
-    ensures { Steps (λ x. reading key_value_at (cells_of cells.now) at ≡ Ok (key_value_of x)) (walk (cells_of cells.now) used.old (use_as false key_value_at (cells_of cells.now) at)) used.new result }
+    ensures { Uses false key_value_at key_value_of (cells_of cells.now) at used.old used.new result }
 {
     let payload = use_cell(cells, used, at, false)?;
     read_vk(alloc, payload, at)
@@ -150,7 +152,7 @@ pub(crate) fn use_security(
     used: &mut Used,
     at: u32,
 ) -> Result<SkForm, ReadStop>
-    ensures { Steps (λ x. reading security_at (cells_of cells.now) at ≡ Ok (security_of x)) (walk (cells_of cells.now) used.old (use_as true security_at (cells_of cells.now) at)) used.new result }
+    ensures { Uses true security_at security_of (cells_of cells.now) at used.old used.new result }
 {
     let payload = use_cell(cells, used, at, true)?;
     read_sk(alloc, payload, at)
@@ -162,7 +164,7 @@ pub(crate) fn use_list(
     used: &mut Used,
     at: u32,
 ) -> Result<ListForm, ReadStop>
-    ensures { Steps (λ x. reading list_at (cells_of cells.now) at ≡ Ok (subkey_list_of x)) (walk (cells_of cells.now) used.old (use_as false list_at (cells_of cells.now) at)) used.new result }
+    ensures { Uses false list_at subkey_list_of (cells_of cells.now) at used.old used.new result }
 {
     let payload = use_cell(cells, used, at, false)?;
     read_list(alloc, payload, at)
@@ -175,7 +177,7 @@ pub(crate) fn use_leaf(
     used: &mut Used,
     at: u32,
 ) -> Result<Offsets, ReadStop>
-    ensures { Steps (λ x. reading leaf_at (cells_of cells.now) at ≡ Ok x) (walk (cells_of cells.now) used.old (use_as false leaf_at (cells_of cells.now) at)) used.new result }
+    ensures { Uses false leaf_at (λ x. x) (cells_of cells.now) at used.old used.new result }
 {
     let payload = use_cell(cells, used, at, false)?;
     leaf_form(alloc, payload, at)
@@ -189,7 +191,7 @@ pub(crate) fn use_offsets(
     count: u32,
     at: u32,
 ) -> Result<Offsets, ReadStop>
-    ensures { Steps (λ x. reading (offsets_in count) (cells_of cells.now) at ≡ Ok x) (walk (cells_of cells.now) used.old (use_as false (offsets_in count) (cells_of cells.now) at)) used.new result }
+    ensures { Uses false (offsets_in count) (λ x. x) (cells_of cells.now) at used.old used.new result }
 {
     let payload = use_cell(cells, used, at, false)?;
     read_offsets(alloc, payload, count, at)
@@ -203,7 +205,7 @@ pub(crate) fn use_bytes(
     count: u32,
     at: u32,
 ) -> Result<Bytes, ReadStop>
-    ensures { Steps (λ x. reading (bytes_in count) (cells_of cells.now) at ≡ Ok x) (walk (cells_of cells.now) used.old (use_as false (bytes_in count) (cells_of cells.now) at)) used.new result }
+    ensures { Uses false (bytes_in count) (λ x. x) (cells_of cells.now) at used.old used.new result }
 {
     let payload = use_cell(cells, used, at, false)?;
     read_bytes(alloc, payload, count, at)
@@ -216,7 +218,7 @@ pub(crate) fn use_front<'a>(
     count: u32,
     at: u32,
 ) -> Result<&'a [u8], ReadStop>
-    ensures { Steps (λ p. reading (bytes_in count) (cells_of cells.now) at ≡ Ok p.now) (walk (cells_of cells.now) used.old (use_as false (bytes_in count) (cells_of cells.now) at)) used.new result }
+    ensures { Uses false (bytes_in count) (λ p. p.now) (cells_of cells.now) at used.old used.new result }
 {
     let payload = use_cell(cells, used, at, false)?;
     front(payload, count, at)
@@ -229,7 +231,7 @@ pub(crate) fn use_big_data(
     size: u32,
     at: u32,
 ) -> Result<DbForm, ReadStop>
-    ensures { Steps (λ x. reading (big_data_of size) (cells_of cells.now) at ≡ Ok (form_of x)) (walk (cells_of cells.now) used.old (use_as false (big_data_of size) (cells_of cells.now) at)) used.new result }
+    ensures { Uses false (big_data_of size) form_of (cells_of cells.now) at used.old used.new result }
 {
     let payload = use_cell(cells, used, at, false)?;
     big_data_form(payload, size, at)

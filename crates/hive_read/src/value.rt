@@ -27,7 +27,8 @@ fn read_value(
     at: u32,
 ) -> Result<Value, ReadStop>
     ensures walked { (names : List (List ℕ)) → Knows taken.old names →
-        Steps (λ v. item_at (cells_of cells.now) at ≡ Ok v) (walk (cells_of cells.now) used.old (value_checks (cells_of cells.now) names at)) used.new result }
+        Steps (λ v. item_at (cells_of cells.now) at ≡ Ok v)
+        (walk (cells_of cells.now) used.old (value_checks (cells_of cells.now) names at)) used.new result }
     ensures known { IfOk result (λ v. (n : List ℕ) → has_name taken.new n ≡ (has_name taken.old n || folds_same n v.name)) }
 {
     let form = use_value(alloc, cells, used, at)?;
@@ -46,7 +47,8 @@ fn read_in_turn(
     used: &mut Used,
     offsets: &[u32],
 ) -> Result<Values, ReadStop>
-    ensures { Steps (λ vs. items_at (cells_of cells.now) offsets.now ≡ Ok vs) (walk (cells_of cells.now) used.old (values_in_turn (cells_of cells.now) [] offsets.now)) used.new result }
+    ensures { Steps (λ vs. items_at (cells_of cells.now) offsets.now ≡ Ok vs)
+        (walk (cells_of cells.now) used.old (values_in_turn (cells_of cells.now) [] offsets.now)) used.new result }
 {
     let mut taken = Taken::new(alloc);
     let mut values = Values::new(alloc);
@@ -69,7 +71,8 @@ pub(crate) fn read_values(
     used: &mut Used,
     node: &NkForm,
 ) -> Result<Values, ReadStop>
-    ensures { Steps (λ vs. values_of (cells_of cells.now) (key_node_of node.now) ≡ Ok vs) (walk (cells_of cells.now) used.old (values_checks (cells_of cells.now) (key_node_of node.now))) used.new result }
+    ensures { Steps (λ vs. values_of (cells_of cells.now) (key_node_of node.now) ≡ Ok vs)
+        (walk (cells_of cells.now) used.old (values_checks (cells_of cells.now) (key_node_of node.now))) used.new result }
 {
     if node.value_count == 0 {
         return Ok(Values::new(alloc));

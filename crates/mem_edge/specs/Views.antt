@@ -1,8 +1,9 @@
 -- What vectors of sectors, maps of sectors and lists of writes stand for. (This project's own.)
-use Rattle.std.specs.Prelude.{◌<◌, ℕ, List, [], ◌∷◌, map, length, Option, Some, None, slice_index_or, if◌then◌else◌}
+use Rattle.std.specs.Prelude.{◌<◌, ℕ, List, [], ◌∷◌, map, length, Option, Some, None, slice_index_or}
 use Rattle.std.specs.Ordering.{nat_cmp}
 use Rattle.std.specs.BTreeMap as tree
-use Rattle.hive_model.specs.Image.{Content, Bytes, Unreadable, Image, Write, of_file, overlaid, same_address}
+use Rattle.hive_model.specs.Image.{Content, Bytes, Unreadable, Image, Write, of_file, overlaid}
+use Rattle.nt_edge.specs.Crash.{torn}
 use Rattle.nt_edge.specs.declared.disk.Keep.{Keep}
 use Rattle.nt_edge.specs.declared.disk.Keep.TheVariants.{Nothing, Everything, OddOnes, Torn}
 use Rattle.mem_edge.specs.declared.image.MemImage.{MemImage}
@@ -51,15 +52,6 @@ abbrev pub odd_ones : {A : Type 0} → List A → List A
 odd_ones [] = []
 odd_ones (x ∷ []) = x ∷ []
 odd_ones (x ∷ y ∷ rest) = x ∷ odd_ones rest
-
--- the sector of the write can't be read
-abbrev pub tear : Image → Write → Image
-tear image w = λ a. if same_address w.0 a then Some Unreadable else image a
-
--- none of the sectors of these writes can be read
-abbrev pub torn : Image → List Write → Image
-torn image [] = image
-torn image (w ∷ ws) = torn (tear image w) ws
 
 -- what a cut leaves of what is held and of the writes in flight
 abbrev pub left : Keep → Image → List Write → Image

@@ -43,9 +43,6 @@ impl Bench for MemDisk {
         requires few { length bytes.now ≤ 33554432 }
         ensures does { OnOk result (seen_of self.new ≡ doing (placed (file_of file) bytes.now) (seen_of self.old)) }
         ensures same { OnErr result (seen_of self.new ≡ seen_of self.old) }
-        ensures placed { OnOk result
-            (state_of self.new ≡ placed (file_of file) bytes.now (state_of self.old)) }
-        ensures before { OnErr result (state_of self.new ≡ state_of self.old) }
         ensures quiet { MakesNone (counts_calls self.old) (counts_calls self.new) }
         ensures memory { IfErr result (λ stop. stop ≡ Memory) }
     {
@@ -68,7 +65,6 @@ impl Bench for MemDisk {
             × IsCrashImage (state_of self.old).held (state_of self.old).flight image
             × (state_of self.new ≡ taken image (state_of self.old))
             × IsFileOf image (file_of file) bytes) }
-        ensures before { OnErr result (state_of self.new ≡ state_of self.old) }
         ensures quiet { MakesNone (counts_calls self.old) (counts_calls self.new) }
         ensures memory { IfErr result (λ stop. stop ≡ Memory) }
     {
@@ -91,7 +87,6 @@ impl Bench for MemDisk {
         ensures woken { OnOk result ((image : Image)
             × IsCrashImage (state_of self.old).held (state_of self.old).flight image
             × (state_of self.new ≡ woken image (state_of self.old))) }
-        ensures before { OnErr result (state_of self.new ≡ state_of self.old) }
         ensures quiet { MakesNone (counts_calls self.old) (counts_calls self.new) }
         ensures memory { IfErr result (λ stop. stop ≡ Memory) }
     {
@@ -120,7 +115,6 @@ impl Bench for MemDisk {
         ensures does { seen_of self.new ≡ doing turned_off (seen_of self.old) }
         ensures keeps_all { (state_of self.old).on ≡ true
             → settled (seen_of self.new) ≡ now_of (state_of self.old) }
-        ensures off { state_of self.new ≡ turned_off (state_of self.old) }
         ensures quiet { MakesNone (counts_calls self.old) (counts_calls self.new) }
     {
         self.on = false;
@@ -129,7 +123,6 @@ impl Bench for MemDisk {
     fn cut(&mut self, keep: Keep)
         requires on { (state_of self.old).on ≡ true }
         ensures does { seen_of self.new ≡ cut_with keep (seen_of self.old) }
-        ensures cut { state_of self.new ≡ cut_off (state_of self.old) }
         ensures quiet { MakesNone (counts_calls self.old) (counts_calls self.new) }
     {
         self.on = false;
@@ -142,9 +135,6 @@ impl Bench for MemDisk {
         requires { 1 ≤ n }
         ensures does { OnOk result (seen_of self.new ≡ cut_armed call n keep (seen_of self.old)) }
         ensures same { OnErr result (seen_of self.new ≡ seen_of self.old) }
-        ensures armed { OnOk result (state_of self.new
-            ≡ armed (ArmedCut (call_of call) n (keep_of keep)) (state_of self.old)) }
-        ensures before { OnErr result (state_of self.new ≡ state_of self.old) }
         ensures quiet { MakesNone (counts_calls self.old) (counts_calls self.new) }
         ensures memory { IfErr result (λ stop. stop ≡ Memory) }
     {
@@ -163,9 +153,6 @@ impl Bench for MemDisk {
         requires { 1 ≤ n }
         ensures does { OnOk result (seen_of self.new ≡ fault_armed call n (seen_of self.old)) }
         ensures same { OnErr result (seen_of self.new ≡ seen_of self.old) }
-        ensures armed { OnOk result (state_of self.new
-            ≡ armed (ArmedFault (call_of call) n) (state_of self.old)) }
-        ensures before { OnErr result (state_of self.new ≡ state_of self.old) }
         ensures quiet { MakesNone (counts_calls self.old) (counts_calls self.new) }
         ensures memory { IfErr result (λ stop. stop ≡ Memory) }
     {

@@ -150,9 +150,9 @@ fn stop_at(cut: bool, fault: bool) -> Option<DiskStop>
 }
 
 impl Disk for MemDisk {
-    ghost use Rattle.std.specs.Prelude.{◌≡◌, ◌⊎◌, true, Some, None, Ok, ◌++◌, [], ◌∷◌, OnOk, OnErr, IsErrOf};
+    ghost use Rattle.std.specs.Prelude.{◌≡◌, true, Some, None, Ok, [], ◌∷◌, IsErrOf};
     ghost use Rattle.nt_edge.specs.Calls.{ReadAt, Wrote, Synced, Makes};
-    ghost use Rattle.nt_edge.specs.Disk.{CountsGrow, HasCause, IsOnUnlessLost};
+    ghost use Rattle.nt_edge.specs.Disk.{HasCause};
     ghost use Rattle.nt_edge.specs.declared.disk.DiskStop.TheVariants.{Memory};
     ghost use Rattle.mem_edge.specs.Seen.{Does, nothing, written, synced};
 
@@ -166,18 +166,11 @@ impl Disk for MemDisk {
         requires on { (state_of self.old).on ≡ true }
         ensures does { Does DiskCall.Read nothing (seen_of self.old) (seen_of self.new) result }
         ensures made { Makes (counts_calls self.old) (counts_calls self.new) (ReadAt at ∷ []) }
-        ensures whole { true ≡ true → result ≡ Ok Presence.Whole
-            → now_of (state_of self.old) at ≡ Some (Bytes into.new) }
-        ensures absent { true ≡ true → result ≡ Ok Presence.Absent → now_of (state_of self.old) at ≡ None }
-        ensures unreadable { true ≡ true → result ≡ Ok Presence.Unreadable
-            → now_of (state_of self.old) at ≡ Some Unreadable }
-        ensures held { true ≡ true → (state_of self.new).held ≡ (state_of self.old).held }
-        ensures flight { true ≡ true → (state_of self.new).flight ≡ (state_of self.old).flight }
-        ensures history { (state_of self.new).history ≡ (state_of self.old).history }
-        ensures counts { CountsGrow (state_of self.old) (state_of self.new) }
+        ensures whole { result ≡ Ok Presence.Whole → now_of (state_of self.old) at ≡ Some (Bytes into.new) }
+        ensures absent { result ≡ Ok Presence.Absent → now_of (state_of self.old) at ≡ None }
+        ensures unreadable { result ≡ Ok Presence.Unreadable → now_of (state_of self.old) at ≡ Some Unreadable }
         ensures cause { HasCause (state_of self.old) (state_of self.new) result }
         ensures never_memory { IsErrOf result Memory → ⊥ }
-        ensures power { IsOnUnlessLost (state_of self.new) result }
     {
         if let Some(stop) = self.stop(DiskCall::Read) {
             return Err(stop);
@@ -189,18 +182,7 @@ impl Disk for MemDisk {
         requires on { (state_of self.old).on ≡ true }
         ensures does { Does DiskCall.Write (written (at, bytes.now)) (seen_of self.old) (seen_of self.new) result }
         ensures made { Makes (counts_calls self.old) (counts_calls self.new) (Wrote (at, bytes.now) ∷ []) }
-        ensures written { true ≡ true → OnOk result
-            ((state_of self.new).flight ≡ (state_of self.old).flight ++ (at, bytes.now) ∷ []) }
-        ensures perhaps { true ≡ true → OnErr result
-            (((state_of self.new).flight ≡ (state_of self.old).flight)
-            ⊎ ((state_of self.new).flight ≡ (state_of self.old).flight ++ (at, bytes.now) ∷ [])) }
-        ensures unwritten { true ≡ true → IsErrOf result Memory
-            → (state_of self.new).flight ≡ (state_of self.old).flight }
-        ensures held { true ≡ true → (state_of self.new).held ≡ (state_of self.old).held }
-        ensures history { (state_of self.new).history ≡ (state_of self.old).history }
-        ensures counts { CountsGrow (state_of self.old) (state_of self.new) }
         ensures cause { HasCause (state_of self.old) (state_of self.new) result }
-        ensures power { IsOnUnlessLost (state_of self.new) result }
     {
         if let Some(stop) = self.stop(DiskCall::Write) {
             return Err(stop);
@@ -216,16 +198,7 @@ impl Disk for MemDisk {
         requires on { (state_of self.old).on ≡ true }
         ensures does { Does DiskCall.Sync synced (seen_of self.old) (seen_of self.new) result }
         ensures made { Makes (counts_calls self.old) (counts_calls self.new) (Synced ∷ []) }
-        ensures held { true ≡ true → OnOk result ((state_of self.new).held ≡ now_of (state_of self.old)) }
-        ensures flight { true ≡ true → OnOk result ((state_of self.new).flight ≡ []) }
-        ensures held_before { true ≡ true → OnErr result
-            ((state_of self.new).held ≡ (state_of self.old).held) }
-        ensures flight_before { true ≡ true → OnErr result
-            ((state_of self.new).flight ≡ (state_of self.old).flight) }
-        ensures history { (state_of self.new).history ≡ (state_of self.old).history }
-        ensures counts { CountsGrow (state_of self.old) (state_of self.new) }
         ensures cause { HasCause (state_of self.old) (state_of self.new) result }
-        ensures power { IsOnUnlessLost (state_of self.new) result }
     {
         if let Some(stop) = self.stop(DiskCall::Sync) {
             return Err(stop);

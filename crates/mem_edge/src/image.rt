@@ -3,7 +3,8 @@
 ghost use Rattle.std.specs.Prelude.{◌≡◌, ◌<◌, ◌≤◌, ℕ, length, drop, None, IfOk, OnOk};
 ghost use Rattle.hive_model.specs.Image.{put, overlaid, of_file, Address};
 ghost use Rattle.nt_edge.specs.Book.{file_of};
-ghost use Rattle.mem_edge.specs.Views.{content_of, held_in, held_of, writes_of, write_of, tear, torn, left, odd_ones, Holds};
+ghost use Rattle.nt_edge.specs.Crash.{unreadable_at, torn};
+ghost use Rattle.mem_edge.specs.Views.{content_of, held_in, held_of, writes_of, write_of, left, odd_ones, Holds};
 
 use crate::writes::{InFlight, Sector};
 use nt_edge::{Address, HiveFile, Keep};
@@ -135,7 +136,7 @@ impl MemImage {
     fn tear(&mut self, w: &InFlight)
         requires { w.now.at.sector
             < of_file (length self.old.primary.items) (length self.old.log.items) w.now.at.file }
-        ensures torn { held_of self.new ≡ tear (held_of self.old) (write_of w.now) }
+        ensures torn { held_of self.new ≡ unreadable_at w.now.at (held_of self.old) }
         ensures primary { length self.new.primary.items ≡ length self.old.primary.items }
         ensures log { length self.new.log.items ≡ length self.old.log.items }
     {

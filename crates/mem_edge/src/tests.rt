@@ -5,6 +5,8 @@ ghost use Rattle.std.specs.Prelude.{◌≡◌, ◌≤◌, [], true, false, OnOk}
 use crate::{MemDisk, MemHost, QuietHost};
 use nt_bytes::Bytes;
 use nt_edge::{Address, Bench, DiskCall, DiskStop, HiveFile, Host, HostStop, Keep, Presence};
+use std::alloc::Global;
+use std::process::Abort;
 use std::test::Fail;
 
 /// A stop ordered at the n-th call of a kind: a cut, a fault or both.
@@ -97,90 +99,73 @@ fn run<B: Bench>(
     Ok((answer, left))
 }
 
-#[test]
-fn each_stop_comes_at_its_call_and_keeps_what_it_should(rt: HostRuntime) -> Result<(), Fail> {
-    let cases = [
-        (DiskCall::Read, 1, Keep::Nothing, firsts(7, 7, 9)),
-        (DiskCall::Read, 1, Keep::Everything, firsts(1, 3, 2)),
-        (DiskCall::Read, 1, Keep::OddOnes, firsts(1, 3, 9)),
-        (DiskCall::Write, 3, Keep::Nothing, firsts(7, 7, 9)),
-        (DiskCall::Write, 3, Keep::Everything, firsts(1, 7, 2)),
-        (DiskCall::Write, 3, Keep::OddOnes, firsts(1, 7, 9)),
-        (DiskCall::Sync, 1, Keep::Nothing, firsts(7, 7, 9)),
-        (DiskCall::Sync, 1, Keep::Everything, firsts(1, 3, 2)),
-        (DiskCall::Sync, 1, Keep::OddOnes, firsts(1, 3, 9)),
+/// The stop that was ordered comes, once, and leaves these bytes.
+fn stops(
+    rt: &impl Abort,
+    alloc: Global,
+    order: Order,
+    stop: DiskStop,
+    left: Firsts,
+) -> Result<(), Fail>
+    requires { 1 ≤ order.n }
+{
+    let mut disk = MemDisk::new(alloc);
+    assert_eq!(rt; run(&mut disk, order)?, (Err(stop), left), "{order:?}");
+    assert_eq!(rt;
+        (disk.cuts, disk.faults, disk.wakes.len()),
+        (u64::from(order.cut), u64::from(order.fault), 1),
+        "{order:?}"
+    );
+    Ok(())
+}
+
+/// A cut with each way of keeping, alone and with a fault in the same call, and the fault alone.
+fn stops_each_way(
+    rt: &impl Abort,
+    alloc: Global,
+    call: DiskCall,
+    n: u32,
+    left: [Firsts; 3],
+) -> Result<(), Fail>
+    requires { 1 ≤ n }
+{
+    let [all, odd, torn] = left;
+    let keeps = [
+        (Keep::Nothing, firsts(7, 7, 9)),
+        (Keep::Everything, all),
+        (Keep::OddOnes, odd),
+        (Keep::Torn, torn),
     ];
-    for (call, n, keep, left) in cases {
+    for (keep, left) in keeps {
         for fault in [false, true] {
-            let order = Order {
+            let cut = Order {
                 cut: true,
                 fault,
                 call,
                 n,
                 keep,
             };
-            let mut disk = MemDisk::new(rt.alloc());
-            assert_eq!(rt;
-                run(&mut disk, order)?,
-                (Err(DiskStop::PowerLost), left),
-                "{order:?}"
-            );
-            assert_eq!(rt;
-                (disk.cuts, disk.faults),
-                (1, u64::from(fault)),
-                "{order:?}"
-            );
-            assert_eq!(rt; disk.wakes.len(), 1, "{order:?}");
+            stops(rt, alloc, cut, DiskStop::PowerLost, left)?;
         }
     }
-    let cases = [
-        (DiskCall::Read, 1, firsts(1, 3, 2)),
-        (DiskCall::Write, 3, firsts(1, 7, 2)),
-        (DiskCall::Sync, 1, firsts(1, 3, 2)),
-    ];
-    for (call, n, left) in cases {
-        let order = Order {
-            cut: false,
-            fault: true,
-            call,
-            n,
-            keep: Keep::Nothing,
-        };
-        let mut disk = MemDisk::new(rt.alloc());
-        assert_eq!(rt;
-            run(&mut disk, order)?,
-            (Err(DiskStop::Failed), left),
-            "{order:?}"
-        );
-        assert_eq!(rt; (disk.cuts, disk.faults), (0, 1), "{order:?}");
-    }
-    Ok(())
+    let fault = Order {
+        cut: false,
+        fault: true,
+        call,
+        n,
+        keep: Keep::Nothing,
+    };
+    stops(rt, alloc, fault, DiskStop::Failed, all)
 }
 
-/// A file is taken with zeros where a sector can't be read.
+/// A sector that can't be read is taken as zeros.
 #[test]
-fn a_cut_may_tear_what_is_in_flight(rt: HostRuntime) -> Result<(), Fail> {
-    let cases = [
-        (DiskCall::Read, 1, firsts(0, 0, 0)),
-        (DiskCall::Write, 3, firsts(0, 7, 0)),
-        (DiskCall::Sync, 1, firsts(0, 0, 0)),
-    ];
-    for (call, n, left) in cases {
-        let order = Order {
-            cut: true,
-            fault: false,
-            call,
-            n,
-            keep: Keep::Torn,
-        };
-        let mut disk = MemDisk::new(rt.alloc());
-        assert_eq!(rt;
-            run(&mut disk, order)?,
-            (Err(DiskStop::PowerLost), left),
-            "{order:?}"
-        );
-    }
-    Ok(())
+fn each_stop_comes_at_its_call_and_keeps_what_it_should(rt: HostRuntime) -> Result<(), Fail> {
+    let early = [firsts(1, 7, 2), firsts(1, 7, 9), firsts(0, 7, 0)];
+    let late = [firsts(1, 3, 2), firsts(1, 3, 9), firsts(0, 0, 0)];
+    stops_each_way(&rt, rt.alloc(), DiskCall::Write, 3, early)?;
+    stops_each_way(&rt, rt.alloc(), DiskCall::Read, 1, late)?;
+    stops_each_way(&rt, rt.alloc(), DiskCall::Sync, 1, late)
 }
 
 #[test]

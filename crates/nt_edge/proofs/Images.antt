@@ -1,8 +1,8 @@
 -- What a crash image has, by the addresses of the writes in flight.
 use Rattle.std.proofs.Common.{◌≡◌, ◌⊎◌, ◌&&◌, ◌==◌, ℕ, Bool, true, false, cond, List, [], ◌∷◌, ◌++◌, Option, Some, refl, sym, ◌∙◌, ap, inl, inr, ⊎_elim}
 use Rattle.std.proofs.lemmas.Bool.{eqb-true, eq-eqb}
-use Rattle.hive_model.specs.Image.{File, Primary, Log, Address, Content, Bytes, Image, Write, same_file, same_address, put, overlaid, IsInFlight, IsCrashImage}
-use Rattle.nt_edge.specs.Crash.{EachWrite, AgreeOutside}
+use Rattle.hive_model.specs.Image.{File, Primary, Log, Address, Content, Bytes, Unreadable, Image, Write, same_file, same_address, put, overlaid, IsInFlight, IsCrashImage}
+use Rattle.nt_edge.specs.Crash.{EachWrite, AgreeOutside, unreadable_at, torn}
 
 same_file_true : (a b : File) → same_file a b ≡ true → a ≡ b
 same_file_true Primary Primary h = refl
@@ -88,6 +88,19 @@ overlaid_crash held (w ∷ ws) a = ⊎_elim
     (λ same. put_crash held w ws a (overlaid (put held w) ws a) (same_address w.0 a) refl same)
     (λ flying. inr (inr flying))
     (overlaid_crash (put held w) ws a)
+
+tear_crash : (held : Image) (w : Write) (ws : List Write) (a : Address) (x : Option Content) (b : Bool) → same_address w.0 a ≡ b → x ≡ cond b (Some Unreadable) (held a)
+    → (x ≡ held a) ⊎ IsInFlight (w ∷ ws) a x
+tear_crash held w ws a x true test is = inr (inl (test, inr is))
+tear_crash held w ws a x false test is = inl is
+
+-- each sector with a write in flight may be left unreadable
+pub torn_crash : (held : Image) (ws : List Write) → IsCrashImage held ws (torn held ws)
+torn_crash held [] a = inl refl
+torn_crash held (w ∷ ws) a = ⊎_elim
+    (λ same. tear_crash held w ws a (torn (unreadable_at w.0 held) ws a) (same_address w.0 a) refl same)
+    (λ flying. inr (inr flying))
+    (torn_crash (unreadable_at w.0 held) ws a)
 
 -- what is held may itself be left
 pub held_crash : (held : Image) (ws : List Write) → IsCrashImage held ws held

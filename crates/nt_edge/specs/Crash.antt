@@ -1,6 +1,6 @@
--- Words on what a cut may leave, for the crates that write to a disk.
-use Rattle.std.specs.Prelude.{◌≡◌, Bool, true, false, List, [], ◌∷◌}
-use Rattle.hive_model.specs.Image.{Address, Image, Write, IsCrashImage}
+-- Words on what a cut may leave, for the crates that write to a disk or keep one. (This project's own.)
+use Rattle.std.specs.Prelude.{◌≡◌, Bool, true, false, List, [], ◌∷◌, Some, if◌then◌else◌}
+use Rattle.hive_model.specs.Image.{Address, Image, Write, Unreadable, same_address, IsCrashImage}
 use Rattle.nt_edge.specs.Disk.{DiskState}
 
 -- each write goes to an address of this kind
@@ -21,3 +21,12 @@ EachCrash s P = (c : Image) → IsCrashImage s.held s.flight c → P c
 pub record Writing (p : Address → Bool) (first s : DiskState) : Type 0 where
   pub held : s.held ≡ first.held
   pub only : EachWrite p s.flight
+
+-- the image, but that the sector at this address can't be read
+abbrev pub unreadable_at : Address → Image → Image
+unreadable_at at image = λ a. if same_address at a then Some Unreadable else image a
+
+-- the image, but that none of the sectors that these writes go to can be read
+abbrev pub torn : Image → List Write → Image
+torn image [] = image
+torn image (w ∷ ws) = torn (unreadable_at w.0 image) ws

@@ -2,7 +2,7 @@
 
 ghost use Rattle.std.specs.Prelude.{◌≡◌, ◌++◌, Bool, List, []};
 ghost use Rattle.hive_model.specs.Image.{Address, Image, Write, overlaid, IsCrashImage};
-ghost use Rattle.nt_edge.specs.Crash.{EachWrite, AgreeOutside};
+ghost use Rattle.nt_edge.specs.Crash.{EachWrite, AgreeOutside, torn};
 
 /// With nothing in flight a loss of power leaves what is held, and nothing else.
 pub fn nothing_in_flight_leaves_what_is_held()
@@ -10,11 +10,12 @@ pub fn nothing_in_flight_leaves_what_is_held()
     ensures alone { (held left : Image) → IsCrashImage held [] left → left ≡ held }
 {}
 
-/// Of the writes in flight a loss of power may lose all or keep all.
+/// Of the writes in flight a loss of power may lose all or keep all, or leave the sector of each unreadable.
 pub fn all_may_be_lost_or_kept()
     ensures lost { (held : Image) (flight : List Write) → IsCrashImage held flight held }
     ensures kept { (held : Image) (flight : List Write)
         → IsCrashImage held flight (overlaid held flight) }
+    ensures torn { (held : Image) (flight : List Write) → IsCrashImage held flight (torn held flight) }
 {}
 
 /// A longer flight allows every crash image that a shorter one allows.

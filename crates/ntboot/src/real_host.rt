@@ -2,7 +2,6 @@
 //!
 //! It tells no content, since no contract can say what a file holds. It counts each error.
 
-ghost use Rattle.std.specs.Prelude.{◌≡◌, false, None, []};
 ghost use Rattle.nt_edge.specs.Host.{IsWithinEnds};
 
 use nt_bytes::Bytes;
@@ -20,6 +19,7 @@ const MOST: usize = 268_435_456;
 #[derive(Drop)]
 pub struct RealHost<'a> {
     rt: &'a HostRuntime,
+    gets: u64,
     reads: u64,
     writes: u64,
     ghost ends: { IsWithinEnds reads writes },
@@ -35,6 +35,7 @@ impl<'a> RealHost<'a> {
     pub fn new(rt: &'a HostRuntime) -> RealHost<'a> {
         RealHost {
             rt,
+            gets: 0,
             reads: 0,
             writes: 0,
         }
@@ -63,20 +64,23 @@ fn read_all(alloc: Global, file: &mut File) -> Result<Vec<u8>, Unread> {
 }
 
 impl Host for RealHost<'_> {
-    ghost tells = { false };
+    ghost use Rattle.std.specs.Prelude.{false, None, []};
 
-    ghost files = { λ h q. None };
-
-    ghost said = { λ h. [] };
-
-    ghost reads = { λ h. h.reads };
-
-    ghost writes = { λ h. h.writes };
+    ghost state = { λ h. record {
+      tells = false;
+      quiet = false;
+      files = λ q. None;
+      said = [];
+      gets = h.gets;
+      reads = h.reads;
+      writes = h.writes;
+    } };
 
     ghost bounded = { λ h. h.ends };
 
     fn get(&mut self, name: &str) -> Result<Option<Bytes>, HostStop> {
         let (_reads, _writes) = (self.reads, self.writes);
+        self.gets = self.gets.saturating_add(1);
         let read = match File::open(self.rt, name) {
             Ok(mut file) => read_all(self.rt.alloc(), &mut file),
             Err(e) if e.kind() == ErrorKind::NotFound => return Ok(None),

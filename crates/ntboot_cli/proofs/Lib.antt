@@ -1,7 +1,9 @@
 pub mod WordLemmas
-pub mod AnswerLemmas
 pub mod LoadLemmas
 pub mod SayLemmas
+pub mod PartLemmas
+pub mod AskLemmas
+pub mod NameLemmas
 pub mod SetLemmas
 pub mod RunLemmas
 pub mod StartLemmas
@@ -9,3 +11,4 @@ pub mod TakeLemmas
 pub mod StepLemmas
 pub mod EventLemmas
 pub mod PlayLemmas
+pub mod TopLemmas

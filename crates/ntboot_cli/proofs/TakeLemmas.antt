@@ -13,74 +13,49 @@ use Rattle.boot_ini.specs.declared.choosing.Chosen.{Chosen}
 use Rattle.boot_machine.specs.Steps.{falls_back}
 use Rattle.ntboot_cli.specs.Built.{Said, said_by, behind, not_built, is_change_refused}
 use Rattle.ntboot_cli.specs.Choices.{choice_in}
-use Rattle.ntboot_cli.specs.Sets.{usable_set, changes_sets, missing}
-use Rattle.ntboot_cli.specs.Says.{Says, state_at}
-use Rattle.ntboot_cli.proofs.SayLemmas.{says_as, front_as, one_line, line_then, line_front, line_as, front_line}
+use Rattle.select_keys.specs.Sets.{usable_set}
+use Rattle.ntboot_cli.specs.Sets.{changes_sets, missing}
+use Rattle.ntboot_cli.specs.Plays.{state_at}
 use Rattle.ntboot_cli.proofs.SetLemmas.{taken-none, taken-changes, taken-keeps}
-
-pub chosen_number : (t : Tree) (numbers : SelectNumbers) (on_good : Bool) (n : ℕ) → numbers ≡ select_numbers_of t → n ≡ taken_number numbers on_good → n ≡ taken_number (select_numbers_of t) on_good
-chosen_number t numbers on_good n e is = is ∙ ap (λ (x : SelectNumbers). taken_number x on_good) e
 
 abbrev Number : RunState → Bool → ℕ
 Number m on_good = taken_number (select_numbers_of m.live) on_good
 
-same_line : (on_good : Bool) (m : RunState) (k : ℕ) (o n : List ℕ) → k ≡ Number m on_good → n ≡ o ++ line_text (SetLine k on_good) → n ≡ o ++ line_text (SetLine (Number m on_good) on_good)
-same_line on_good m k o n e is = line_as (SetLine k on_good) (SetLine (Number m on_good) on_good) o n (ap (λ (x : ℕ). SetLine x on_good) e) is
-
--- either way the line of the set comes first
-first_line : (on_good : Bool) (m : RunState) (set : Tree) → usable_set m.live (Number m on_good) ≡ Some set → (rest : Said) × (said_by (take_set on_good m) ≡ behind (SetLine (Number m on_good) on_good ∷ []) rest)
+-- the number names a set: either way its line comes first
+pub first_line : (on_good : Bool) (m : RunState) (set : Tree)
+    → usable_set m.live (taken_number (select_numbers_of m.live) on_good) ≡ Some set
+    → (rest : Said) ×
+    (said_by (take_set on_good m) ≡ behind (SetLine (taken_number (select_numbers_of m.live) on_good) on_good ∷ []) rest)
 first_line on_good m set there = by_change (changes_sets (select_numbers_of m.live) on_good) refl
   where
-    by_change : (b : Bool) → changes_sets (select_numbers_of m.live) on_good ≡ b → (rest : Said) × (said_by (take_set on_good m) ≡ behind (SetLine (Number m on_good) on_good ∷ []) rest)
+    by_change : (b : Bool) → changes_sets (select_numbers_of m.live) on_good ≡ b
+        → (rest : Said) × (said_by (take_set on_good m) ≡ behind (SetLine (Number m on_good) on_good ∷ []) rest)
     by_change true e = (not_built, taken-changes on_good m set there e)
-    by_change false e = (said_by (begin_start (Number m on_good) false (select_numbers_of m.live) m), taken-keeps on_good m set there e)
+    by_change false e =
+        (said_by (begin_start (Number m on_good) false (select_numbers_of m.live) m), taken-keeps on_good m set there e)
 
-pub take_front : (on_good : Bool) (m : RunState) (set : Tree) (k : ℕ) (o n : List ℕ) → usable_set m.live (taken_number (select_numbers_of m.live) on_good) ≡ Some set → k ≡ taken_number (select_numbers_of m.live) on_good
-    → SaysFront o n (line_text (SetLine k on_good)) → SaysFront o n (text_of (said_by (take_set on_good m)).lines)
-take_front on_good m set k o n there is f =
-    let first : (rest : Said) × (said_by (take_set on_good m) ≡ behind (SetLine (Number m on_good) on_good ∷ []) rest) = first_line on_good m set there in
-    front_as _ (said_by (take_set on_good m)) o n first.1 (front_line (SetLine (Number m on_good) on_good) first.0 o n (subst (λ (x : ℕ). SaysFront o n (line_text (SetLine x on_good))) is f))
-
-pub take_unbuilt : (on_good : Bool) (m : RunState) (set : Tree) (k : ℕ) (o n : List ℕ) → usable_set m.live (taken_number (select_numbers_of m.live) on_good) ≡ Some set → k ≡ taken_number (select_numbers_of m.live) on_good
-    → changes_sets (select_numbers_of m.live) on_good ≡ true → n ≡ o ++ line_text (SetLine k on_good) → Says (said_by (take_set on_good m)) o n not_built
-take_unbuilt on_good m set k o n there is changes said =
-    says_as _ (said_by (take_set on_good m)) not_built not_built o n (taken-changes on_good m set there changes) refl (one_line (SetLine (Number m on_good) on_good) not_built o n (same_line on_good m k o n is said))
-
-begun_as : (m : RunState) (k : ℕ) (numbers : SelectNumbers) (on_good : Bool) → k ≡ Number m on_good → numbers ≡ select_numbers_of m.live
-    → said_by (begin_start k false numbers m) ≡ said_by (begin_start (Number m on_good) false (select_numbers_of m.live) m)
-begun_as m k numbers on_good is same = ap (λ (x : ℕ). said_by (begin_start x false numbers m)) is ∙ ap (λ (x : SelectNumbers). said_by (begin_start (Number m on_good) false x m)) same
-
-pub take_starts : (on_good : Bool) (m after : RunState) (set : Tree) (k : ℕ) (numbers : SelectNumbers) (o mid n : List ℕ) → usable_set m.live (taken_number (select_numbers_of m.live) on_good) ≡ Some set → k ≡ taken_number (select_numbers_of m.live) on_good
-    → numbers ≡ select_numbers_of m.live → changes_sets (select_numbers_of m.live) on_good ≡ false → mid ≡ o ++ line_text (SetLine k on_good) → Says (said_by (begin_start k false numbers m)) mid n (said_by (run.done after))
-    → Says (said_by (take_set on_good m)) o n (said_by (run.done after))
-take_starts on_good m after set k numbers o mid n there is same keeps said more =
-    let rest : Said = said_by (begin_start (Number m on_good) false (select_numbers_of m.live) m) in
-    let then : Says rest mid n (said_by (run.done after)) = subst (λ (r : Said). Says r mid n (said_by (run.done after))) (begun_as m k numbers on_good is same) more in
-    says_as _ (said_by (take_set on_good m)) _ _ o n (taken-keeps on_good m set there keeps) refl (line_then (SetLine (Number m on_good) on_good) rest (said_by (run.done after)) o mid n (same_line on_good m k o mid is said) then)
-
-pub start_front : (on_good : Bool) (m : RunState) (set : Tree) (k : ℕ) (numbers : SelectNumbers) (o mid n : List ℕ) → usable_set m.live (taken_number (select_numbers_of m.live) on_good) ≡ Some set → k ≡ taken_number (select_numbers_of m.live) on_good
-    → numbers ≡ select_numbers_of m.live → changes_sets (select_numbers_of m.live) on_good ≡ false → mid ≡ o ++ line_text (SetLine k on_good) → SaysFront mid n (text_of (said_by (begin_start k false numbers m)).lines)
-    → SaysFront o n (text_of (said_by (take_set on_good m)).lines)
-start_front on_good m set k numbers o mid n there is same keeps said f =
-    let rest : Said = said_by (begin_start (Number m on_good) false (select_numbers_of m.live) m) in
-    let then : SaysFront mid n (text_of rest.lines) = subst (λ (r : Said). SaysFront mid n (text_of r.lines)) (begun_as m k numbers on_good is same) f in
-    front_as _ (said_by (take_set on_good m)) o n (taken-keeps on_good m set there keeps) (line_front (SetLine (Number m on_good) on_good) rest o mid n (same_line on_good m k o mid is said) then)
+pub begins_as : (m : RunState) (k : ℕ) (numbers : SelectNumbers) (on_good : Bool)
+    → k ≡ taken_number (select_numbers_of m.live) on_good → numbers ≡ select_numbers_of m.live
+    → said_by (begin_start (taken_number (select_numbers_of m.live) on_good) false (select_numbers_of m.live) m)
+    ≡ said_by (begin_start k false numbers m)
+begins_as m k numbers on_good is same =
+    sym (ap (λ (x : ℕ). said_by (begin_start x false numbers m)) is ∙ ap (λ (x : SelectNumbers). said_by (begin_start (Number m on_good) false x m)) same)
 
 -- the number names no set
 missing_stays : (on_good : Bool) → falls_back (missing on_good) ≡ false
 missing_stays true = refl
 missing_stays false = refl
 
-missing_end : (on_good : Bool) (v : Verdict) (m : RunState) → v ≡ missing on_good → said_by (end_with v (falls_back v) m) ≡ said_by (end_with (missing on_good) false m)
-missing_end on_good v m e = ap (λ (x : Verdict). said_by (end_with x (falls_back x) m)) e ∙ ap (λ (b : Bool). said_by (end_with (missing on_good) b m)) (missing_stays on_good)
+missing_end : (on_good : Bool) (v : Verdict) (m : RunState) → v ≡ missing on_good
+    → said_by (end_with v (falls_back v) m) ≡ said_by (end_with (missing on_good) false m)
+missing_end on_good v m e =
+    ap (λ (x : Verdict). said_by (end_with x (falls_back x) m)) e
+    ∙ ap (λ (b : Bool). said_by (end_with (missing on_good) b m)) (missing_stays on_good)
 
-pub none_says : (on_good : Bool) (v : Verdict) (m after : RunState) (o n : List ℕ) → usable_set m.live (taken_number (select_numbers_of m.live) on_good) ≡ None → v ≡ missing on_good
-    → Says (said_by (end_with v (falls_back v) m)) o n (said_by (run.done after)) → Says (said_by (take_set on_good m)) o n (said_by (run.done after))
-none_says on_good v m after o n none is said = says_as _ (said_by (take_set on_good m)) _ _ o n (ap said_by (taken-none on_good m none) ∙ sym (missing_end on_good v m is)) refl said
-
-pub none_front : (on_good : Bool) (v : Verdict) (m : RunState) (o n : List ℕ) → usable_set m.live (taken_number (select_numbers_of m.live) on_good) ≡ None → v ≡ missing on_good
-    → SaysFront o n (text_of (said_by (end_with v (falls_back v) m)).lines) → SaysFront o n (text_of (said_by (take_set on_good m)).lines)
-none_front on_good v m o n none is f = front_as _ (said_by (take_set on_good m)) o n (ap said_by (taken-none on_good m none) ∙ sym (missing_end on_good v m is)) f
+pub none_as : (on_good : Bool) (v : Verdict) (m : RunState)
+    → usable_set m.live (taken_number (select_numbers_of m.live) on_good) ≡ None → v ≡ missing on_good
+    → said_by (take_set on_good m) ≡ said_by (end_with v (falls_back v) m)
+none_as on_good v m none is = ap said_by (taken-none on_good m none) ∙ sym (missing_end on_good v m is)
 
 pub missing_built : (on_good : Bool) (v : Verdict) → v ≡ missing on_good → is_change_refused v ≡ false
 missing_built true v e = ap is_change_refused e
@@ -88,12 +63,16 @@ missing_built false v e = ap is_change_refused e
 
 -- ---- the boot event
 
-pub boot_as : (choice : Option ℕ → Choice) (wanted : Option ℕ) (last_known_good : Bool) (placed : HiveState) (machine after : MachineState) (starts : ℕ) (due on_good : Bool) (chosen : Choice)
-    → due ≡ machine.fallback_due → after ≡ record machine { fallback_due = false } → on_good ≡ (due || last_known_good) → chosen ≡ choice wanted
-    → said_by (boot_act choice wanted last_known_good (state_at placed machine starts)) ≡ behind (StartLine (starts + 1) ∷ []) (said_by (run.chosen on_good (state_at placed after (starts + 1)) chosen))
+pub boot_as : (choice : Option ℕ → Choice) (wanted : Option ℕ) (last_known_good : Bool) (placed : HiveState)
+    (machine after : MachineState) (starts : ℕ) (due on_good : Bool) (chosen : Choice)
+    → due ≡ machine.fallback_due → after ≡ record machine { fallback_due = false } → on_good ≡ (due || last_known_good)
+    → chosen ≡ choice wanted
+    → said_by (boot_act choice wanted last_known_good (state_at placed machine starts)) ≡ behind
+    (StartLine (starts + 1) ∷ []) (said_by (run.chosen on_good (state_at placed after (starts + 1)) chosen))
 boot_as choice wanted last_known_good placed machine after starts due on_good chosen is_due is_after is_good is_chosen =
     let m : RunState = state_at placed (record machine { fallback_due = false }) (starts + 1) in
-    let good : on_good ≡ (machine.fallback_due || last_known_good) = is_good ∙ ap (λ (b : Bool). b || last_known_good) is_due in
+    let good : on_good ≡ (machine.fallback_due || last_known_good) = is_good
+    ∙ ap (λ (b : Bool). b || last_known_good) is_due in
     ap (behind (StartLine (starts + 1) ∷ []))
     (ap (λ (b : Bool). said_by (run.chosen b m (choice wanted))) (sym good)
     ∙ ap (λ (x : MachineState). said_by (run.chosen on_good (state_at placed x (starts + 1)) (choice wanted))) (sym is_after)
@@ -101,8 +80,12 @@ boot_as choice wanted last_known_good placed machine after starts due on_good ch
 
 -- ---- what boot.ini has for the start
 
-pub chosen_as : (ini : BootIni) (on_good : Bool) (m : RunState) (c d : Chosen) → c ≡ d → said_by (run.chosen on_good m (choice_in ini c)) ≡ said_by (run.chosen on_good m (choice_in ini d))
+pub chosen_as : (ini : BootIni) (on_good : Bool) (m : RunState) (c d : Chosen) → c ≡ d
+    → said_by (run.chosen on_good m (choice_in ini c)) ≡ said_by (run.chosen on_good m (choice_in ini d))
 chosen_as ini on_good m c d e = ap (λ (x : Chosen). said_by (run.chosen on_good m (choice_in ini x))) e
 
-pub good_as : (m : RunState) (w : Woken) (on_good by_entry by_ini either : Bool) → either ≡ (on_good || by_entry) → by_entry ≡ by_ini → said_by (run.loaded (on_good || by_ini) m w Finished) ≡ said_by (run.loaded either m w Finished)
-good_as m w on_good by_entry by_ini either e is = ap (λ (b : Bool). said_by (run.loaded b m w Finished)) (ap (λ (b : Bool). on_good || b) (sym is) ∙ sym e)
+pub good_as : (m : RunState) (w : Woken) (on_good by_entry by_ini either : Bool) → either ≡ (on_good || by_entry)
+    → by_entry ≡ by_ini
+    → said_by (run.loaded (on_good || by_ini) m w Finished) ≡ said_by (run.loaded either m w Finished)
+good_as m w on_good by_entry by_ini either e is =
+    ap (λ (b : Bool). said_by (run.loaded b m w Finished)) (ap (λ (b : Bool). on_good || b) (sym is) ∙ sym e)

@@ -9,7 +9,7 @@ use Rattle.hive_model.specs.Load.{Loads, LoadFault, Holds, HeldFault}
 use Rattle.ntboot_cli.specs.declared.load.Loaded.{Loaded}
 
 abbrev pub state_in : Loaded → HiveState
-state_in l = record { tree = l.tree; sequence = l.sequence }
+state_in l = record { tree = l.tree; sequence = l.sequence; version = l.version }
 
 -- of what was recovered: the state that it holds, or its first fault
 abbrev pub HoldsAs : Recovered → Result Loaded ReadStop → Type 0

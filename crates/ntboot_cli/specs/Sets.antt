@@ -1,12 +1,7 @@
--- The set of a number that names one, and whether a start on it changes the sets. This project's own.
-use Rattle.std.specs.Prelude.{ℕ, Bool, ◌||◌, ◌==◌, not, Option, None, if◌then◌else◌}
-use Rattle.hive_model.specs.Tree.{Tree}
+-- Whether a start on a set changes the sets. This project's own.
+use Rattle.std.specs.Prelude.{Bool, ◌||◌, ◌==◌, not, if◌then◌else◌}
 use Rattle.start_model.specs.Lines.{Verdict, NoControlSet, NoLastKnownGood}
-use Rattle.start_model.specs.Sets.{SelectNumbers, set_of, is_usable}
-
--- the set of a number from 1 to 999 that names one
-abbrev pub usable_set : Tree → ℕ → Option Tree
-usable_set t n = if is_usable t n then set_of t n else None
+use Rattle.start_model.specs.Sets.{SelectNumbers}
 
 -- a start on LastKnownGood changes the sets, and one on Default where Current is another set or LastKnownGood the same
 abbrev pub changes_sets : SelectNumbers → Bool → Bool

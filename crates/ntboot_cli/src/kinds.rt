@@ -48,5 +48,7 @@ pub(crate) fn hive_kind(kind: HiveKind) -> &'static str
         HiveKind::LogSequence => "log-sequence",
         HiveKind::LogDirt => "log-dirt",
         HiveKind::LogShort => "log-short",
+        HiveKind::Unreadable => "unreadable",
+        HiveKind::LogUnreadable => "log-unreadable",
     }
 }

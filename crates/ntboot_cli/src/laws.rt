@@ -7,13 +7,14 @@ ghost use Rattle.start_model.specs.Events.{Event as BookEvent};
 ghost use Rattle.start_model.specs.Lines.{Line as BookLine, SetLine};
 ghost use Rattle.start_model.specs.Sets.{select_numbers_of, taken_number};
 ghost use Rattle.start_model.specs.Run.{Choice, RunState, begin_start, take_set, quiet_run_of};
-ghost use Rattle.ntboot_cli.specs.Built.{said_by, behind, not_built, report_of};
-ghost use Rattle.ntboot_cli.specs.Sets.{usable_set, changes_sets};
+ghost use Rattle.ntboot_cli.specs.Built.{said_by, behind, not_built, woken_clean, report_of};
+ghost use Rattle.select_keys.specs.Sets.{usable_set};
+ghost use Rattle.ntboot_cli.specs.Sets.{changes_sets};
 
 /// Of each script it is a front of what the quiet run says.
 pub fn a_report_is_a_front_of_the_quiet_run()
     ensures { (choice : Option ℕ → Choice) (script : List BookEvent) (placed : HiveState)
-        → (tail : List BookLine) × (quiet_run_of choice script placed false ≡ (report_of choice script placed).lines ++ tail) }
+        → (tail : List BookLine) × ((quiet_run_of choice script (woken_clean placed)).lines ≡ (report_of choice script placed).lines ++ tail) }
 {}
 
 /// Where the number that a start takes names a set, a beginning that changes no set is said to its end; another one is not

@@ -1,60 +1,12 @@
-//! The control sets of a tree.
+//! Which number a start takes, and whether that changes the sets.
 
-ghost use Rattle.std.specs.Prelude.{◌≡◌, ◌+◌, ◌/◌, ◌%◌, ◌≤◌, IfSome};
-ghost use Rattle.std.specs.Option.{option_copied};
-ghost use Rattle.hive_model.specs.Valid.{HoldsKeys};
+ghost use Rattle.std.specs.Prelude.{◌≡◌};
 ghost use Rattle.start_model.specs.Sets.{select_numbers_of, taken_number};
 ghost use Rattle.start_model.specs.Run.{good_is_usable};
-ghost use Rattle.ntboot_cli.specs.Sets.{usable_set, changes_sets};
+ghost use Rattle.ntboot_cli.specs.Sets.{changes_sets};
 
 use reg_tree::Key;
-use select_keys::{SelectNumbers, read_select, sets_in};
-
-/// `Select`.
-const SELECT: [u16; 6] = [0x53, 0x65, 0x6c, 0x65, 0x63, 0x74];
-
-/// The numbers of the tree's `Select`.
-pub(crate) fn select_numbers(tree: &Key) -> SelectNumbers
-    ensures { result ≡ select_numbers_of tree.now }
-{
-    read_select(tree.child(&SELECT))
-}
-
-/// The digit of a number at this power of ten.
-fn digit(number: u32, power: u32) -> u16
-    requires { 1 ≤ power }
-    ensures { result ≡ 48 + number / power % 10 }
-{
-    48 + (number / power % 10) as u16
-}
-
-/// The set of a number, where the number is from 1 to 999 and the root has the set.
-#[tactic(auto, using(hive_model::proofs::HeldLemmas::held_child))]
-pub(crate) fn set_of(tree: &Key, number: u32) -> Option<&Key>
-    requires { HoldsKeys tree.now }
-    ensures exact { option_copied result ≡ usable_set tree.now number }
-    ensures held { IfSome result (λ set. HoldsKeys set.now) }
-{
-    if number < 1 || 999 < number {
-        return None;
-    }
-    let name: [u16; 13] = [
-        0x43,
-        0x6f,
-        0x6e,
-        0x74,
-        0x72,
-        0x6f,
-        0x6c,
-        0x53,
-        0x65,
-        0x74,
-        digit(number, 100),
-        digit(number, 10),
-        digit(number, 1),
-    ];
-    tree.child(&name)
-}
+use select_keys::{SelectNumbers, select_numbers, sets_in};
 
 /// The number that a start takes: LastKnownGood or Default.
 pub(crate) fn taken_number(numbers: SelectNumbers, on_good: bool) -> u32

@@ -1,36 +1,31 @@
 //! The starter: attempts and changes of phase.
 
-ghost use Rattle.std.specs.Prelude.{◌≡◌, ◌∷◌, [], ℕ, suc, true, false, map, Some, option_map, IfOk, OnOk, OnErr};
-ghost use Rattle.std.specs.Option.{option_map_or, unwrap_or};
-ghost use Rattle.nt_edge.specs.Host.{SaysFront};
+ghost use Rattle.std.specs.Prelude.{◌≡◌, ◌∷◌, [], ℕ, suc, true, false, map, Some, option_map, IfOk, OnOk};
+ghost use Rattle.std.specs.Option.{unwrap_or};
 ghost use Rattle.hive_model.specs.Valid.{HoldsKeys};
-ghost use Rattle.start_model.specs.Lines.{UnmetLine, text_of};
-ghost use Rattle.start_model.specs.Machine.{phase_after, unmet_in, after_phase};
-ghost use Rattle.start_model.specs.Run.{go_steps, go_act, phase_line, good_is_usable, done};
+ghost use Rattle.start_model.specs.Lines.{UnmetLine};
+ghost use Rattle.start_model.specs.Machine.{after_phase};
+ghost use Rattle.start_model.specs.Run.{good_is_usable};
 ghost use Rattle.boot_machine.specs.Steps.{is_there, on_start, is_at_end};
-ghost use Rattle.ntboot_cli.specs.Keeps.{KeepsHost};
-ghost use Rattle.ntboot_cli.specs.Built.{Said, said_by, behind};
-ghost use Rattle.ntboot_cli.specs.Loading.{state_in};
-ghost use Rattle.ntboot_cli.specs.Sets.{usable_set};
-ghost use Rattle.ntboot_cli.specs.Says.{Says, state_of, RunsQuietly, is_under_way};
+ghost use Rattle.ntboot_cli.specs.Built.{Said, behind};
+ghost use Rattle.select_keys.specs.Sets.{usable_set};
+ghost use Rattle.ntboot_cli.specs.Plays.{Plays, stands, phase_part, steps_part, go_part, RunsQuietly, is_under_way};
 
-use crate::load::{Loaded, set_in};
+use crate::load::Loaded;
 use crate::report_words::{phase_word, try_word, verdict_after};
 use crate::session::{Session, end_with, say};
 use crate::sets::good_is_usable;
-use crate::status::Status;
 use boot_machine::{Machine, Phase};
 use boot_report::Line;
 use nt_bytes::Units;
-use nt_edge::Host;
+use nt_edge::{Host, HostStop};
 use reg_tree::Key;
+use select_keys::set_of;
 use std::alloc::Global;
 
 /// Says which entries are unmet.
-fn say_unmet<H: Host>(alloc: Global, names: &[Units], host: &mut H) -> Result<(), Status>
-    ensures says { (rest : Said) → H.tells ≡ true → OnOk result (Says (behind (map UnmetLine names.now) rest) (H.said host.old) (H.said host.new) (rest)) }
-    ensures front { (rest : Said) → H.tells ≡ true → OnErr result (SaysFront (H.said host.old) (H.said host.new) (text_of (behind (map UnmetLine names.now) rest).lines)) }
-    ensures host { KeepsHost H.tells (H.files host.old) (H.files host.new) (H.reads host.old) (H.writes host.old) (H.reads host.new) (H.writes host.new) result }
+fn say_unmet<H: Host>(alloc: Global, names: &[Units], host: &mut H) -> Result<(), HostStop>
+    ensures plays { (rest : Said) → Plays (behind (map UnmetLine names.now) rest) (λ _. rest) result (H.state host.old) (H.state host.new) }
 {
     let mut waiting = names;
     'names: loop {
@@ -38,7 +33,7 @@ fn say_unmet<H: Host>(alloc: Global, names: &[Units], host: &mut H) -> Result<()
             return Ok(());
         };
         let Ok(name) = name.copy(alloc) else {
-            return Err(Status::Memory);
+            return Err(HostStop::Memory);
         };
         say(alloc, host, Line::Unmet { name })?;
         waiting = more;
@@ -51,17 +46,15 @@ fn change_phase<H: Host>(
     set: &Key,
     session: &mut Session,
     host: &mut H,
-) -> Result<(), Status>
+) -> Result<(), HostStop>
     requires held { HoldsKeys set.now }
     requires on { is_there session.old.machine.start ≡ true }
     ensures machine { OnOk result (session.new.machine ≡ on_start (after_phase set.now) session.old.machine) }
-    ensures says { (rest : Said) → H.tells ≡ true → OnOk result (Says (behind (map UnmetLine (option_map_or unmet_in session.old.machine.start [])) (behind (option_map_or (λ s. phase_line (phase_after s.phase) ∷ []) session.old.machine.start []) rest)) (H.said host.old) (H.said host.new) (rest)) }
-    ensures front { (rest : Said) → H.tells ≡ true → OnErr result (SaysFront (H.said host.old) (H.said host.new) (text_of (behind (map UnmetLine (option_map_or unmet_in session.old.machine.start [])) (behind (option_map_or (λ s. phase_line (phase_after s.phase) ∷ []) session.old.machine.start []) rest)).lines)) }
+    ensures plays { (rest : Said) → Plays (phase_part session.old.machine.start rest) (λ _. rest) result (H.state host.old) (H.state host.new) }
     ensures starts { session.new.starts ≡ session.old.starts }
-    ensures host { KeepsHost H.tells (H.files host.old) (H.files host.new) (H.reads host.old) (H.writes host.old) (H.reads host.new) (H.writes host.new) result }
 {
     let Ok(unmet) = session.machine.next_phase(alloc, set) else {
-        return Err(Status::Memory);
+        return Err(HostStop::Memory);
     };
     say_unmet(alloc, unmet.as_slice(), host)?;
     let word = phase_word(session.machine.phase());
@@ -75,20 +68,18 @@ fn attempt<H: Host>(
     session: &mut Session,
     usable: bool,
     host: &mut H,
-) -> Result<(), Status>
+) -> Result<(), HostStop>
     requires waits { is_at_end session.old.machine.start ≡ false }
     requires usable { usable ≡ good_is_usable loaded.now.tree }
     requires held { HoldsKeys loaded.now.tree }
     requires under_way { is_under_way session.old.machine.start ≡ true }
     requires quiet { RunsQuietly loaded.now.tree session.old.machine.start }
-    ensures says { (n : ℕ) → H.tells ≡ true → OnOk result (Says (said_by (go_steps (suc n) (state_of (state_in loaded.now) session.old))) (H.said host.old) (H.said host.new) (said_by (go_steps n (state_of (state_in loaded.now) session.new)))) }
-    ensures front { (n : ℕ) → H.tells ≡ true → OnErr result (SaysFront (H.said host.old) (H.said host.new) (text_of (said_by (go_steps (suc n) (state_of (state_in loaded.now) session.old))).lines)) }
+    ensures plays { (n : ℕ) → Plays (steps_part (suc n) loaded.now session.old) (λ _. steps_part n loaded.now session.new) result (H.state host.old) (H.state host.new) }
     ensures quiet { OnOk result (RunsQuietly loaded.now.tree session.new.machine.start) }
     ensures starts { session.new.starts ≡ session.old.starts }
-    ensures host { KeepsHost H.tells (H.files host.old) (H.files host.new) (H.reads host.old) (H.writes host.old) (H.reads host.new) (H.writes host.new) result }
 {
     let Ok(tried) = session.machine.attempt(alloc, usable) else {
-        return Err(Status::Memory);
+        return Err(HostStop::Memory);
     };
     let outcome = try_word(&tried);
     let verdict = verdict_after(&tried);
@@ -121,7 +112,7 @@ fn running_set<'a>(loaded: &'a Loaded, machine: &Machine) -> &'a Key
     let Some((number, _)) = machine.running() else {
         unreachable!()
     };
-    let Some(set) = set_in(loaded, number) else {
+    let Some(set) = set_of(&loaded.tree, number) else {
         unreachable!()
     };
     set
@@ -134,16 +125,14 @@ fn step<H: Host>(
     session: &mut Session,
     usable: bool,
     host: &mut H,
-) -> Result<bool, Status>
+) -> Result<bool, HostStop>
     requires usable { usable ≡ good_is_usable loaded.now.tree }
     requires held { HoldsKeys loaded.now.tree }
     requires quiet { RunsQuietly loaded.now.tree session.old.machine.start }
-    ensures says { (n : ℕ) → H.tells ≡ true → OnOk result (Says (said_by (go_steps (suc n) (state_of (state_in loaded.now) session.old))) (H.said host.old) (H.said host.new) (said_by (go_steps n (state_of (state_in loaded.now) session.new)))) }
-    ensures front { (n : ℕ) → H.tells ≡ true → OnErr result (SaysFront (H.said host.old) (H.said host.new) (text_of (said_by (go_steps (suc n) (state_of (state_in loaded.now) session.old))).lines)) }
+    ensures plays { (n : ℕ) → Plays (steps_part (suc n) loaded.now session.old) (λ _. steps_part n loaded.now session.new) result (H.state host.old) (H.state host.new) }
     ensures over { IfOk result (λ more. more ≡ false → is_under_way session.new.machine.start ≡ false) }
     ensures quiet { OnOk result (RunsQuietly loaded.now.tree session.new.machine.start) }
     ensures starts { session.new.starts ≡ session.old.starts }
-    ensures host { KeepsHost H.tells (H.files host.old) (H.files host.new) (H.reads host.old) (H.writes host.old) (H.reads host.new) (H.writes host.new) result }
 {
     if !is_under_way(&session.machine) {
         return Ok(false);
@@ -165,15 +154,13 @@ fn take_steps<H: Host>(
     most: u64,
     usable: bool,
     host: &mut H,
-) -> Result<(), Status>
+) -> Result<(), HostStop>
     requires usable { usable ≡ good_is_usable loaded.now.tree }
     requires held { HoldsKeys loaded.now.tree }
     requires quiet { RunsQuietly loaded.now.tree session.old.machine.start }
-    ensures says { H.tells ≡ true → OnOk result (Says (said_by (go_steps most (state_of (state_in loaded.now) session.old))) (H.said host.old) (H.said host.new) (said_by (done (state_of (state_in loaded.now) session.new)))) }
-    ensures front { H.tells ≡ true → OnErr result (SaysFront (H.said host.old) (H.said host.new) (text_of (said_by (go_steps most (state_of (state_in loaded.now) session.old))).lines)) }
+    ensures plays { Plays (steps_part most loaded.now session.old) (stands loaded.now session.new) result (H.state host.old) (H.state host.new) }
     ensures quiet { OnOk result (RunsQuietly loaded.now.tree session.new.machine.start) }
     ensures starts { session.new.starts ≡ session.old.starts }
-    ensures host { KeepsHost H.tells (H.files host.old) (H.files host.new) (H.reads host.old) (H.writes host.old) (H.reads host.new) (H.writes host.new) result }
 {
     let mut left = most;
     'steps: while left != 0 {
@@ -202,14 +189,12 @@ pub(crate) fn go<H: Host>(
     session: &mut Session,
     steps: Option<u32>,
     host: &mut H,
-) -> Result<(), Status>
+) -> Result<(), HostStop>
     requires held { HoldsKeys loaded.now.tree }
     requires quiet { RunsQuietly loaded.now.tree session.old.machine.start }
-    ensures says { H.tells ≡ true → OnOk result (Says (said_by (go_act steps (state_of (state_in loaded.now) session.old))) (H.said host.old) (H.said host.new) (said_by (done (state_of (state_in loaded.now) session.new)))) }
-    ensures front { H.tells ≡ true → OnErr result (SaysFront (H.said host.old) (H.said host.new) (text_of (said_by (go_act steps (state_of (state_in loaded.now) session.old))).lines)) }
+    ensures plays { Plays (go_part steps loaded.now session.old) (stands loaded.now session.new) result (H.state host.old) (H.state host.new) }
     ensures quiet { OnOk result (RunsQuietly loaded.now.tree session.new.machine.start) }
     ensures starts { session.new.starts ≡ session.old.starts }
-    ensures host { KeepsHost H.tells (H.files host.old) (H.files host.new) (H.reads host.old) (H.writes host.old) (H.reads host.new) (H.writes host.new) result }
 {
     let most = most_steps(steps);
     let usable = good_is_usable(&loaded.tree);

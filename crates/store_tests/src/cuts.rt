@@ -1,32 +1,35 @@
 //! A commit is cut, and a load finishes it.
 
-ghost use Rattle.std.specs.Prelude.{◌≡◌, ◌≤◌, false, [], length};
+ghost use Rattle.std.specs.Prelude.{◌≡◌, ◌<◌, ◌≤◌, false, [], length};
 
 use super::*;
 use crate::sessions::edited;
 use hive_store::{CommitStop, Hive};
 use mem_edge::MemDisk;
+use nt_bytes::HiveVersion;
 use nt_edge::{Bench, DiskCall, Keep};
 use std::alloc::Global;
 use std::process::Abort;
 use std::test::Fail;
 
-/// Commits the edit with a cut at the third sync, which keeps none of the sectors in flight: the log is whole
-/// then, and the base block open.
+/// Commits the edit with a cut at this sync, which keeps the sectors in flight in this way.
 pub fn cut<B: Bench>(
     rt: &impl Abort,
     alloc: Global,
     bench: &mut B,
     edit: &Edited,
+    sync: u32,
+    keep: Keep,
 ) -> Result<(), Fail>
     requires off { (B.state bench.old).on ≡ false }
     requires still { (B.state bench.old).flight ≡ [] }
     requires few { length edit.now.file ≤ 33554432 }
+    requires some { 0 < sync }
 {
     start(bench, edit.file.as_slice())?;
     let (mut hive, _) = Hive::load(alloc, bench)?;
     hive.apply(alloc, set_start(alloc, b"Disk", 2)?)?;
-    bench.arm_cut(DiskCall::Sync, 3, Keep::Nothing)?;
+    bench.arm_cut(DiskCall::Sync, sync, keep)?;
     let stop = hive.commit(bench).err();
     assert_eq!(rt; stop, Some(CommitStop::PowerLost));
     Ok(())
@@ -36,20 +39,29 @@ pub fn cut<B: Bench>(
 fn loads<B: Bench>(alloc: Global, bench: &mut B, edit: &Edited) -> Result<[(Seen, bool); 2], Fail> {
     let (first, dirty) = reload(alloc, bench)?;
     let (second, dirty_again) = Hive::load(alloc, bench)?;
-    Ok([(edit.see(&first), dirty), (edit.see(&second), dirty_again)])
+    Ok([
+        (edit.see(alloc, &first)?, dirty),
+        (edit.see(alloc, &second)?, dirty_again),
+    ])
 }
 
-fn loaded(rt: &impl Abort, alloc: Global) -> Result<[(Seen, bool); 2], Fail> {
-    let edit = edited(rt, alloc)?;
+fn loaded(rt: &impl Abort, alloc: Global, sync: u32, keep: Keep) -> Result<[(Seen, bool); 2], Fail>
+    requires { 0 < sync }
+{
+    let edit = edited(rt, alloc, HiveVersion::V3)?;
     let mut disk = MemDisk::new(alloc);
-    cut(rt, alloc, &mut disk, &edit)?;
+    cut(rt, alloc, &mut disk, &edit, sync, keep)?;
     loads(alloc, &mut disk, &edit)
 }
 
+/// At the third sync the log is whole, the base block open and no bins sector kept; at the second the base block that
+/// was in flight cannot be read.
 #[test]
 fn a_load_finishes_a_commit_that_was_cut(rt: HostRuntime) -> Result<(), Fail> {
     let new = (6, Which::New, false);
-    let seen = loaded(&rt, rt.alloc())?;
+    let seen = loaded(&rt, rt.alloc(), 3, Keep::Nothing)?;
     assert_eq!(rt; seen, [(new, true), (new, false)]);
+    let torn = loaded(&rt, rt.alloc(), 2, Keep::Torn)?;
+    assert_eq!(rt; torn, [(new, true), (new, false)]);
     Ok(())
 }

@@ -9,7 +9,7 @@ ghost use Rattle.reg_tree.specs.Makes.{step_of};
 
 use hive_pack::pack;
 use hive_store::Hive;
-use nt_bytes::{Bytes, Names, Row, Units, narrow};
+use nt_bytes::{Bytes, HiveVersion, Names, Row, Units, narrow};
 use reg_tree::{Key, Keys, Steps, TreeStep, Value, Values};
 use regf_base::{BaseBlock, base_bytes};
 use std::alloc::{AllocError, Global};
@@ -45,9 +45,13 @@ impl Edited {
         }
     }
 
-    /// What a session shows.
-    pub fn see(&self, hive: &Hive) -> Seen {
-        (hive.sequence(), self.which(hive.tree()), hive.changed())
+    /// What a session shows: its whole tree is what the empty path leads to.
+    pub fn see(&self, alloc: Global, hive: &Hive) -> Result<Seen, AllocError> {
+        let which = match hive.subtree(alloc, &Names::new(alloc))? {
+            Some(tree) => self.which(&tree),
+            None => Which::Other,
+        };
+        Ok((hive.sequence(), which, hive.changed()))
     }
 }
 
@@ -95,13 +99,16 @@ pub fn tree(alloc: Global, start: u32) -> Result<Key, AllocError> {
     key(alloc, b"ROOT", 0x000c, Values::new(alloc), children)
 }
 
-/// A clean base block with sequence number 5 and no name, of one page of bins data.
-fn block() -> BaseBlock {
+/// A clean base block of this version with sequence number 5 and no name, of one page of bins data.
+fn block(version: HiveVersion) -> BaseBlock {
     BaseBlock {
         first: 5,
         second: 5,
         stamp: 0,
-        minor: 3,
+        minor: match version {
+            HiveVersion::V3 => 3,
+            HiveVersion::V5 => 5,
+        },
         kind: 0,
         root: 32,
         size: 4096,
@@ -111,14 +118,14 @@ fn block() -> BaseBlock {
     }
 }
 
-/// A primary file with this tree, which is packed into one page.
-pub fn primary(alloc: Global, tree: &Key) -> Result<Bytes, AllocError>
+/// A primary file of this version with this tree, which is packed into one page.
+pub fn primary(alloc: Global, tree: &Key, version: HiveVersion) -> Result<Bytes, AllocError>
     requires valid { IsValid tree.now }
-    requires room { bulk_of tree.now ≤ 16773120 }
+    requires room { bulk_of version tree.now ≤ 16773120 }
 {
-    let bins = pack(alloc, tree)?;
+    let bins = pack(alloc, tree, version)?;
     let mut sector = [0; 512];
-    base_bytes(&block(), &mut sector);
+    base_bytes(&block(version), &mut sector);
     let mut bytes = Bytes::from_slice(alloc, &sector)?;
     bytes.append_zeros(3584)?;
     bytes.append(bins.as_slice())?;

@@ -5,18 +5,18 @@ use crate::cuts::cut;
 use crate::sessions::edited;
 use hive_store::check_images;
 use mem_edge::MemDisk;
-use nt_bytes::{Bytes, HiveFault, HiveKind, ReadStop};
-use nt_edge::{Bench, HiveFile};
+use nt_bytes::{Bytes, HiveFault, HiveKind, HiveVersion, ReadStop};
+use nt_edge::{Bench, HiveFile, Keep};
 use std::alloc::{AllocError, Global};
 use std::process::Abort;
 use std::test::Fail;
 
-/// What two files stand for: the tree and the sequence number.
-type Held = Result<(Which, u32), ReadStop>;
+/// What two files stand for: the tree, the sequence number and the version.
+type Held = Result<(Which, u32, HiveVersion), ReadStop>;
 
 fn held(alloc: Global, edit: &Edited, primary: &[u8], log: &[u8]) -> Held {
-    let (tree, number) = check_images(alloc, primary, log)?;
-    Ok((edit.which(&tree), number))
+    let (tree, number, version) = check_images(alloc, primary, log)?;
+    Ok((edit.which(&tree), number, version))
 }
 
 /// The signature of a base block, and zeros: 100 bytes.
@@ -27,7 +27,7 @@ fn stub(alloc: Global) -> Result<Bytes, AllocError> {
 }
 
 fn clean_and_short(rt: &impl Abort, alloc: Global) -> Result<[Held; 2], Fail> {
-    let edit = edited(rt, alloc)?;
+    let edit = edited(rt, alloc, HiveVersion::V5)?;
     let clean = held(alloc, &edit, edit.file.as_slice(), &[]);
     let short = held(alloc, &edit, stub(alloc)?.as_slice(), &[]);
     Ok([clean, short])
@@ -35,9 +35,9 @@ fn clean_and_short(rt: &impl Abort, alloc: Global) -> Result<[Held; 2], Fail> {
 
 /// The files that a cut commit leaves.
 fn left(rt: &impl Abort, alloc: Global) -> Result<Held, Fail> {
-    let edit = edited(rt, alloc)?;
+    let edit = edited(rt, alloc, HiveVersion::V3)?;
     let mut disk = MemDisk::new(alloc);
-    cut(rt, alloc, &mut disk, &edit)?;
+    cut(rt, alloc, &mut disk, &edit, 3, Keep::Nothing)?;
     disk.power_off();
     let primary = disk.take(HiveFile::Primary)?;
     let log = disk.take(HiveFile::Log)?;
@@ -52,13 +52,19 @@ fn a_clean_file_holds_its_tree_and_a_short_one_none(rt: HostRuntime) -> Result<(
         at: 508,
     };
     let seen = clean_and_short(&rt, rt.alloc())?;
-    assert_eq!(rt; seen, [Ok((Which::Old, 5)), Err(ReadStop::Fault(fault))]);
+    assert_eq!(rt;
+        seen,
+        [
+            Ok((Which::Old, 5, HiveVersion::V5)),
+            Err(ReadStop::Fault(fault))
+        ]
+    );
     Ok(())
 }
 
 #[test]
 fn the_files_of_a_cut_commit_hold_the_new_tree(rt: HostRuntime) -> Result<(), Fail> {
     let seen = left(&rt, rt.alloc())?;
-    assert_eq!(rt; seen, Ok((Which::New, 6)));
+    assert_eq!(rt; seen, Ok((Which::New, 6, HiveVersion::V3)));
     Ok(())
 }

@@ -1,17 +1,36 @@
-use Rattle.std.proofs.Common.{◌≡◌, false, arith}
+use Rattle.std.proofs.Common.{◌≡◌, false, [], ◌∷◌, arith}
+use Rattle.start_model.specs.Lines.{EndLine}
+use Rattle.start_model.specs.Run.{done}
 use Rattle.boot_machine.specs.Steps.{is_there}
-use Rattle.ntboot_cli.specs.Says.{state_of}
-use Rattle.ntboot_cli.proofs.SayLemmas.{on_ok}
-use Rattle.ntboot_cli.proofs.RunLemmas.{close_off, close_with}
+use Rattle.boot_report.specs.Report.{verdict_of}
+use Rattle.ntboot_cli.specs.Built.{said_by, behind}
+use Rattle.ntboot_cli.specs.Plays.{run_at}
+use Rattle.ntboot_cli.proofs.PartLemmas.{plays_then, plays_stop, plays_as}
+use Rattle.ntboot_cli.proofs.RunLemmas.{closed-off, closed-on}
 use Rattle.ntboot_cli.proofs.script.close.Goals as goal
 
-pub returns-then-not-is_on-clause-says : goal.returns-then-not-is_on-clause-says
-returns-then-not-is_on-clause-says g c = λ placed tells.
-    let off : is_there c.args.session.now.machine.start ≡ false = grind (arith, c.is_on.ensures, c.if-not-is_on.true) in
-    on_ok c.say.result (close_off (state_of placed c.args.session.now) (g.H.Host.said c.args.host.now) (g.H.Host.said c.say.new.host) off) (c.say.ensures.said tells)
+pub returns-then-not-is_on : goal.returns-then-not-is_on
+returns-then-not-is_on g c = record {
+  plays = λ l.
+      let m = run_at l c.args.session.now in
+      let off : is_there c.args.session.now.machine.start ≡ false = grind
+      (arith, c.is_on.ensures, c.if-not-is_on.true) in
+      plays_as (closed-off m off) (c.say.ensures.plays (said_by (done m)));
+}
 
-pub returns-clause-says : goal.returns-clause-says
-returns-clause-says g c = λ placed tells.
-    on_ok c.say-2.result
-    (close_with (state_of placed c.args.session.now) _ (g.H.Host.said c.args.host.now) (g.H.Host.said c.say_verdict.new.host) (g.H.Host.said c.say-2.new.host) c.ending-word.ensures (c.in_ok-say_verdict.ensures.said tells))
-    (c.say-2.ensures.said tells)
+pub returns-in_err-say : goal.returns-in_err-say
+returns-in_err-say g c = record {
+  plays = λ l.
+      let m = run_at l c.args.session.now in
+      let part = closed-on m (verdict_of c.ending-word.result) c.ending-word.ensures in
+      plays_stop (plays_as part (c.in_err-say.ensures.plays (behind (EndLine ∷ []) (said_by (done m)))))
+      c.from_residual.ensures.1;
+}
+
+pub returns : goal.returns
+returns g c = record {
+  plays = λ l.
+      let m = run_at l c.args.session.now in
+      let part = closed-on m (verdict_of c.ending-word.result) c.ending-word.ensures in
+      plays_as part (plays_then (c.in_ok-say.ensures.plays (behind (EndLine ∷ []) (said_by (done m)))) (c.say-3.ensures.plays (said_by (done m))));
+}

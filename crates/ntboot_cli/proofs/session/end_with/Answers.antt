@@ -1,14 +1,19 @@
 use Rattle.std.proofs.Common.{ap}
+use Rattle.start_model.specs.Machine.{MachineState}
+use Rattle.start_model.specs.Run.{done, start_over}
 use Rattle.boot_report.specs.Report.{verdict_of}
 use Rattle.boot_machine.specs.Steps.{falls_back}
-use Rattle.ntboot_cli.specs.Says.{state_at, state_of}
-use Rattle.ntboot_cli.proofs.SayLemmas.{on_ok}
-use Rattle.ntboot_cli.proofs.RunLemmas.{end_says}
+use Rattle.ntboot_cli.specs.Built.{said_by}
+use Rattle.ntboot_cli.specs.Loading.{state_in}
+use Rattle.ntboot_cli.specs.Plays.{run_at, state_at}
+use Rattle.ntboot_cli.proofs.PartLemmas.{plays_as, plays_on}
+use Rattle.ntboot_cli.proofs.RunLemmas.{said-end}
 use Rattle.ntboot_cli.proofs.session.end_with.Goals as goal
 
-pub returns-clause-says : goal.returns-clause-says
-returns-clause-says g c = λ placed tells.
-    let starts = c.args.session.now.starts in
-    on_ok c.say_verdict.result
-    (end_says (verdict_of c.args.word) (falls_back (verdict_of c.args.word)) (state_of placed c.args.session.now) _ (g.H.Host.said c.args.host.now) (g.H.Host.said c.say_verdict.new.host) c.requires (ap (λ m. state_at placed m starts) c.end.ensures))
-    (c.say_verdict.ensures.said tells)
+pub returns-clause-plays : goal.returns-clause-plays
+returns-clause-plays g c = λ l.
+    let word = verdict_of c.args.word in
+    let m = run_at l c.args.session.now in
+    let ended = said_by (done (start_over (falls_back word) m)) in
+    let same = ap (λ (x : MachineState). said_by (done (state_at (state_in l) x m.starts))) c.end.ensures in
+    plays_as (said-end word (falls_back word) m c.requires) (plays_on (λ x. same) (c.say.ensures.plays ended))

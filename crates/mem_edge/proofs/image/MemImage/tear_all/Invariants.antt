@@ -1,5 +1,6 @@
 use Rattle.std.proofs.Common.{◌≡◌, length}
-use Rattle.mem_edge.specs.Views.{held_of, writes_of, torn, Holds}
+use Rattle.nt_edge.specs.Crash.{torn}
+use Rattle.mem_edge.specs.Views.{held_of, writes_of, Holds}
 use Rattle.mem_edge.proofs.image.MemImage.tear_all.Given as goal
 
 abbrev pub invariant-loop-rest : goal.invariant-loop-rest

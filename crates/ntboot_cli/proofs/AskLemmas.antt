@@ -1,0 +1,152 @@
+-- How many files were asked for.
+use Rattle.std.proofs.Common.{◌≡◌, ◌≤◌, inl, inr, ℕ, zero, suc, ◌+◌, Some, None, refl, sym, ap, subst, ◌∙◌, arith}
+use Rattle.std.specs.Prelude.{List, Option, Result, Ok, Err, min}
+use Rattle.std.specs.Result.{IsErrAnd}
+use Rattle.nt_edge.specs.Host.{Files, HostState, AsksNone}
+use Rattle.nt_edge.specs.declared.host.HostStop.{HostStop}
+use Rattle.nt_edge.specs.declared.host.HostStop.TheVariants.{Read, Write, Memory}
+use Rattle.arc_path.specs.declared.arc.Arc.{Arc}
+use Rattle.arc_path.specs.Reading.{arc_of}
+use Rattle.boot_ini.specs.declared.ini.BootIni.{BootIni}
+use Rattle.boot_script.specs.declared.event.Event.{Event}
+use Rattle.boot_script.specs.Script.{script_of}
+use Rattle.ntboot_cli.specs.declared.refusal.Refusal.{Refusal}
+use Rattle.ntboot_cli.specs.declared.refusal.Obstacle.{Obstacle}
+use Rattle.ntboot_cli.specs.declared.refusal.Obstacle.TheVariants.{Refused, Stopped}
+use Rattle.ntboot_cli.specs.declared.inputs.Inputs.{Inputs}
+use Rattle.ntboot_cli.specs.declared.status.Status.{Status}
+use Rattle.ntboot_cli.specs.Words.{Asked, words_of}
+use Rattle.ntboot_cli.specs.Inputs.{asked_in, system_in, file_in, events_in, text_in, ini_in, named, behind_step, asks_in}
+use Rattle.ntboot_cli.specs.Leaves.{more, AsksSome, AsksStopped, AsksUntil, AsksBy, Gives, Reads, stop_in, stopped_as}
+
+pub more_more : (a b n : ℕ) → more a (more b n) ≡ more (a + b) n
+more_more zero b n = (let same : b ≡ 0 + b = omega arith in ap (λ (k : ℕ). more k n) same)
+more_more (suc a) b n =
+    let same : suc (a + b) ≡ suc a + b = omega arith in
+    ap (λ (k : ℕ). min (k + 1) 18446744073709551615) (more_more a b n) ∙ ap (λ (k : ℕ). more k n) same
+
+-- ---- a step that ends the search
+
+none_more : (p : ℕ) → p + 0 ≡ p
+none_more p = omega arith
+
+-- it asked for nothing, behind p files
+pub reads_asks : {A B : Type 0} (n p : ℕ) (s : Result A Refusal) (k : A → ℕ) (e : Obstacle) (q : Result B Obstacle)
+    (g h : ℕ)
+    → n ≡ p + behind_step s k → Reads s (Err e) → IsErrAnd q (λ x. x ≡ e) → h ≡ more p g → AsksUntil n q g h
+reads_asks n p s k e (Ok x) g h whole reads is asked = absurd is
+reads_asks {A} {B} n p s k e (Err x) g h whole reads is asked =
+    subst (λ (y : Obstacle). AsksUntil {A = B} n (Err y) g h) (sym is) (by_kind e reads)
+  where
+    by_kind : (y : Obstacle) → Reads s (Err y) → AsksUntil {A = B} n (Err y) g h
+    by_kind (Refused r) reads =
+        let all : n ≡ p = whole ∙ ap (λ (t : Result A Refusal). p + behind_step t k) reads ∙ none_more p in
+        asked ∙ ap (λ (m : ℕ). more m g) (sym all)
+    by_kind (Stopped stop) reads =
+        subst (λ (t : HostStop). AsksStopped t n g h) (sym reads) (record { asked = p; not_less = omega arith; not_more = omega (arith, whole); gets = asked })
+
+-- it asked for the last of p files
+pub file_asks : {A B : Type 0} (n p : ℕ) (s : Result A Refusal) (k : A → ℕ) (e : Obstacle) (q : Result B Obstacle)
+    (g h : ℕ)
+    → n ≡ p + behind_step s k → Gives s (Err e) → (e ≡ Stopped Write → ⊥) → IsErrAnd q (λ x. x ≡ e) → 1 ≤ p
+    → h ≡ more p g → AsksUntil n q g h
+file_asks n p s k e (Ok x) g h whole gives unwritten is some asked = absurd is
+file_asks {A} {B} n p s k e (Err x) g h whole gives unwritten is some asked =
+    subst (λ (y : Obstacle). AsksUntil {A = B} n (Err y) g h) (sym is) (by_kind e gives unwritten)
+  where
+    by_kind : (y : Obstacle) → Gives s (Err y) → (y ≡ Stopped Write → ⊥) → AsksUntil {A = B} n (Err y) g h
+    by_kind (Refused r) gives unwritten =
+        let all : n ≡ p = whole ∙ ap (λ (t : Result A Refusal). p + behind_step t k) gives ∙ none_more p in
+        asked ∙ ap (λ (m : ℕ). more m g) (sym all)
+    by_kind (Stopped Read) gives unwritten = record { asked = p; not_less = some; not_more = omega (arith, whole); gets = asked }
+    by_kind (Stopped Write) gives unwritten = absurd (unwritten refl)
+    by_kind (Stopped Memory) gives unwritten = record { asked = p; not_less = omega arith; not_more = omega (arith, whole); gets = asked }
+
+-- it asked for the last of all n files
+pub last_asks : {B : Type 0} (n : ℕ) (e : Obstacle) (q : Result B Obstacle) (g h : ℕ)
+    → (e ≡ Stopped Write → ⊥) → IsErrAnd q (λ x. x ≡ e) → 1 ≤ n → h ≡ more n g → AsksUntil n q g h
+last_asks n e (Ok x) g h unwritten is some asked = absurd is
+last_asks {B} n e (Err x) g h unwritten is some asked =
+    subst (λ (y : Obstacle). AsksUntil {A = B} n (Err y) g h) (sym is) (by_kind e unwritten)
+  where
+    by_kind : (y : Obstacle) → (y ≡ Stopped Write → ⊥) → AsksUntil {A = B} n (Err y) g h
+    by_kind (Refused r) unwritten = asked
+    by_kind (Stopped Read) unwritten = record { asked = n; not_less = some; not_more = omega arith; gets = asked }
+    by_kind (Stopped Write) unwritten = absurd (unwritten refl)
+    by_kind (Stopped Memory) unwritten = record { asked = n; not_less = omega arith; not_more = omega arith; gets = asked }
+
+-- ---- the files that are asked for, step by step
+
+abbrev pub by_text : Asked → List ℕ → ℕ
+by_text asked text = behind_step (ini_in text asked.system) (λ ini. 1)
+
+abbrev pub by_events : Asked → Files → ℕ
+by_events asked files = named asked.boot_ini + behind_step (text_in files asked.boot_ini) (by_text asked)
+
+abbrev pub by_script : Asked → Files → List ℕ → ℕ
+by_script asked files script = behind_step (events_in (script_of script)) (λ events. by_events asked files)
+
+abbrev pub by_system : Asked → Files → ℕ
+by_system asked files = 1 + behind_step (file_in asked.script (files asked.script)) (by_script asked files)
+
+abbrev by_words : Option Asked → Files → ℕ
+by_words words files =
+    behind_step (asked_in words)
+    (λ asked. behind_step (system_in (arc_of asked.system)) (λ system. by_system asked files))
+
+pub script_asked : (words : List (List ℕ)) (files : Files) (asked : Asked) (system : Arc) → Some asked ≡ words_of words
+    → system_in (arc_of asked.system) ≡ Ok system
+    → asks_in words files ≡ 1 + behind_step (file_in asked.script (files asked.script)) (by_script asked files)
+script_asked words files asked system read is =
+    ap (λ (o : Option Asked). by_words o files) (sym read) ∙ ap (λ (r : Result Arc Refusal). behind_step r (λ (s : Arc). by_system asked files)) is
+
+pub events_asked : (words : List (List ℕ)) (files : Files) (asked : Asked) (system : Arc) (script : List ℕ)
+    → Some asked ≡ words_of words
+    → system_in (arc_of asked.system) ≡ Ok system → file_in asked.script (files asked.script) ≡ Ok script
+    → asks_in words files ≡ 1 + behind_step (events_in (script_of script)) (λ events. by_events asked files)
+events_asked words files asked system script read is found =
+    script_asked words files asked system read is ∙ ap (λ (r : Result (List ℕ) Refusal). 1 + behind_step r (by_script asked files))
+    found
+
+pub text_asked : (words : List (List ℕ)) (files : Files) (asked : Asked) (system : Arc) (script : List ℕ)
+    (events : List Event)
+    → Some asked ≡ words_of words
+    → system_in (arc_of asked.system) ≡ Ok system → file_in asked.script (files asked.script) ≡ Ok script
+    → events_in (script_of script) ≡ Ok events
+    → asks_in words files ≡ named asked.boot_ini + 1 + behind_step (text_in files asked.boot_ini) (by_text asked)
+text_asked words files asked system script events read is found are =
+    let before : asks_in words files ≡ 1 + by_events asked files =
+    events_asked words files asked system script read is found ∙ ap
+    (λ (r : Result (List Event) Refusal). 1 + behind_step r (λ (es : List Event). by_events asked files)) are in
+    omega (arith, before)
+
+pub ini_asked : (words : List (List ℕ)) (files : Files) (asked : Asked) (text : List ℕ)
+    → asks_in words files ≡ named asked.boot_ini + 1 + behind_step (text_in files asked.boot_ini) (by_text asked)
+    → text_in files asked.boot_ini ≡ Ok text
+    → asks_in words files ≡ named asked.boot_ini + 1 + behind_step (ini_in text asked.system) (λ ini. 1)
+ini_asked words files asked text before found =
+    before ∙ ap (λ (r : Result (List ℕ) Refusal). named asked.boot_ini + 1 + behind_step r (by_text asked)) found
+
+pub all_asked : (words : List (List ℕ)) (files : Files) (asked : Asked) (text : List ℕ) (ini : BootIni)
+    → asks_in words files ≡ named asked.boot_ini + 1 + behind_step (ini_in text asked.system) (λ ini. 1)
+    → ini_in text asked.system ≡ Ok ini
+    → asks_in words files ≡ 1 + (named asked.boot_ini + 1)
+all_asked words files asked text ini before is =
+    let all : asks_in words files ≡ named asked.boot_ini + 1 + 1 = before
+    ∙ ap (λ (r : Result BootIni Refusal). named asked.boot_ini + 1 + behind_step r (λ (i : BootIni). 1)) is in
+    omega (arith, all)
+
+-- ---- what the call came to
+
+pub asks_on : (n : ℕ) (stop : Option HostStop) (old mid new : ℕ) → (stop ≡ Some Read → ⊥) → mid ≡ more n old → new ≡ mid
+    → AsksBy n stop old new
+asks_on n None old mid new unread asked same = same ∙ asked
+asks_on n (Some Read) old mid new unread asked same = absurd (unread refl)
+asks_on n (Some Write) old mid new unread asked same = same ∙ asked
+asks_on n (Some Memory) old mid new unread asked same = record { asked = n; not_less = omega arith; not_more = omega arith; gets = same ∙ asked }
+
+pub asks_stop : (n : ℕ) (stop : HostStop) (old new : ℕ) → AsksStopped stop n old new
+    → AsksBy n (stop_in (stopped_as stop)) old new
+asks_stop n Read old new a = a
+asks_stop n Write old new a = a
+asks_stop n Memory old new a = a

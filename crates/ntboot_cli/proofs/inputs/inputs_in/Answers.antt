@@ -1,0 +1,140 @@
+use Rattle.std.proofs.Common.{◌≡◌, ◌∙◌, ◌+◌, ℕ, List, map, ap, sym, subst, string_bytes, arith}
+use Rattle.std.specs.Prelude.{Ok, Err}
+use Rattle.nt_edge.specs.Host.{Files}
+use Rattle.arc_path.specs.Reading.{arc_of}
+use Rattle.boot_script.specs.Script.{script_of}
+use Rattle.ntboot_cli.specs.Inputs.{asks_in, system_in, events_in, text_in, ini_in, named}
+use Rattle.ntboot_cli.specs.Leaves.{Gives, Reads, more}
+use Rattle.ntboot_cli.specs.Views.{asked_seen}
+use Rattle.ntboot_cli.proofs.AskLemmas.{more_more, reads_asks, file_asks, last_asks, by_script, by_events, by_text, script_asked, events_asked, text_asked, ini_asked, all_asked}
+use Rattle.ntboot_cli.proofs.inputs.inputs_in.Goals as goal
+
+pub returns-in_err-script-clause-asks : goal.returns-in_err-script-clause-asks
+returns-in_err-script-clause-asks g c = λ tells.
+    let words = map string_bytes c.args.words.now in
+    let old = g.H.Host.state c.args.host.now in
+    let asked = asked_seen c.in-Some.asked in
+    let system = subst
+    (λ (p : List ℕ). system_in (arc_of p) ≡ Ok c.in_ok-system.system) c.as_bytes.ensures.value c.in_ok-system.ensures in
+    let n = script_asked words old.files asked c.in_ok-system.system c.in-Some.ensures system in
+    file_asks (asks_in words old.files) 1 _
+    (by_script asked old.files) c.in_err-script.field-0.0 c.from_residual-in_err-script.result old.gets _
+    n (c.in_err-script.ensures.looks.found tells) c.in_err-script.ensures.looks.unwritten
+    c.from_residual-in_err-script.ensures.1
+    (omega arith) c.file_in.ensures.asks
+
+pub returns-in_err-script-2-clause-asks : goal.returns-in_err-script-2-clause-asks
+returns-in_err-script-2-clause-asks g c = λ tells.
+    let words = map string_bytes c.args.words.now in
+    let old = g.H.Host.state c.args.host.now in
+    let asked = asked_seen c.in-Some.asked in
+    let system = subst
+    (λ (p : List ℕ). system_in (arc_of p) ≡ Ok c.in_ok-system.system) c.as_bytes.ensures.value c.in_ok-system.ensures in
+    let found = c.in_ok-script.ensures.looks.found tells in
+    let n = events_asked words old.files asked c.in_ok-system.system c.in_ok-script.script c.in-Some.ensures system
+    found in
+    let reads = subst
+    (λ (t : List ℕ). Reads (events_in (script_of t)) (Err c.in_err-script-2.field-0.0)) c.as_slice.ensures c.in_err-script-2.ensures.read in
+    reads_asks (asks_in words old.files) 1 _
+    (λ es. by_events asked old.files) c.in_err-script-2.field-0.0 c.from_residual-in_err-script-2.result old.gets _
+    n reads c.from_residual-in_err-script-2.ensures.1 c.file_in.ensures.asks
+
+pub returns-in_err-text-clause-asks : goal.returns-in_err-text-clause-asks
+returns-in_err-text-clause-asks g c = λ tells.
+    let words = map string_bytes c.args.words.now in
+    let old = g.H.Host.state c.args.host.now in
+    let asked = asked_seen c.in-Some.asked in
+    let system = subst
+    (λ (p : List ℕ). system_in (arc_of p) ≡ Ok c.in_ok-system.system) c.as_bytes.ensures.value c.in_ok-system.ensures in
+    let found = c.in_ok-script.ensures.looks.found tells in
+    let events = subst
+    (λ (t : List ℕ). events_in (script_of t) ≡ Ok c.in_ok-script-2.script) c.as_slice.ensures c.in_ok-script-2.ensures.read in
+    let n = text_asked words old.files asked c.in_ok-system.system c.in_ok-script.script c.in_ok-script-2.script
+    c.in-Some.ensures system found events in
+    let first = c.in_ok-script.ensures.looks.keeps in
+    let named_ini = named asked.boot_ini in
+    let asks = c.in_err-text.ensures.asks ∙ ap (more named_ini) c.file_in.ensures.asks
+    ∙ more_more named_ini 1 old.gets in
+    let gives = subst (λ (f : Files). Gives (text_in f asked.boot_ini) (Err c.in_err-text.field-0.0)) (first.files tells)
+    (c.in_err-text.ensures.looks.found (first.tells ∙ tells)) in
+    file_asks (asks_in words old.files) (named_ini + 1) _
+    (by_text asked) c.in_err-text.field-0.0 c.from_residual-in_err-text.result old.gets _
+    n gives c.in_err-text.ensures.looks.unwritten c.from_residual-in_err-text.ensures.1 (omega arith) asks
+
+pub returns-in_err-ini-clause-asks : goal.returns-in_err-ini-clause-asks
+returns-in_err-ini-clause-asks g c = λ tells.
+    let words = map string_bytes c.args.words.now in
+    let old = g.H.Host.state c.args.host.now in
+    let asked = asked_seen c.in-Some.asked in
+    let system = subst
+    (λ (p : List ℕ). system_in (arc_of p) ≡ Ok c.in_ok-system.system) c.as_bytes.ensures.value c.in_ok-system.ensures in
+    let found = c.in_ok-script.ensures.looks.found tells in
+    let events = subst
+    (λ (t : List ℕ). events_in (script_of t) ≡ Ok c.in_ok-script-2.script) c.as_slice.ensures c.in_ok-script-2.ensures.read in
+    let n = text_asked words old.files asked c.in_ok-system.system c.in_ok-script.script c.in_ok-script-2.script
+    c.in-Some.ensures system found events in
+    let first = c.in_ok-script.ensures.looks.keeps in
+    let named_ini = named asked.boot_ini in
+    let asks = c.in_ok-text.ensures.asks ∙ ap (more named_ini) c.file_in.ensures.asks
+    ∙ more_more named_ini 1 old.gets in
+    let text = subst (λ (f : Files). text_in f asked.boot_ini ≡ Ok c.in_ok-text.text) (first.files tells)
+    (c.in_ok-text.ensures.looks.found (first.tells ∙ tells)) in
+    let m = ini_asked words old.files asked c.in_ok-text.text n text in
+    let reads = subst (λ (t : List ℕ). Reads (ini_in t asked.system) (Err c.in_err-ini.field-0.0)) c.as_slice-2.ensures
+    (subst (λ (p : List ℕ). Reads (ini_in c.as_slice-2.result.now p) (Err c.in_err-ini.field-0.0)) c.as_bytes-2.ensures.value c.in_err-ini.ensures) in
+    reads_asks (asks_in words old.files) (named_ini + 1) _
+    (λ i. 1) c.in_err-ini.field-0.0 c.from_residual-in_err-ini.result old.gets _
+    m reads c.from_residual-in_err-ini.ensures.1 asks
+
+pub returns-in_err-hive-clause-asks : goal.returns-in_err-hive-clause-asks
+returns-in_err-hive-clause-asks g c = λ tells.
+    let words = map string_bytes c.args.words.now in
+    let old = g.H.Host.state c.args.host.now in
+    let asked = asked_seen c.in-Some.asked in
+    let system = subst
+    (λ (p : List ℕ). system_in (arc_of p) ≡ Ok c.in_ok-system.system) c.as_bytes.ensures.value c.in_ok-system.ensures in
+    let found = c.in_ok-script.ensures.looks.found tells in
+    let events = subst
+    (λ (t : List ℕ). events_in (script_of t) ≡ Ok c.in_ok-script-2.script) c.as_slice.ensures c.in_ok-script-2.ensures.read in
+    let n = text_asked words old.files asked c.in_ok-system.system c.in_ok-script.script c.in_ok-script-2.script
+    c.in-Some.ensures system found events in
+    let first = c.in_ok-script.ensures.looks.keeps in
+    let named_ini = named asked.boot_ini in
+    let asks = c.in_ok-text.ensures.asks ∙ ap (more named_ini) c.file_in.ensures.asks
+    ∙ more_more named_ini 1 old.gets in
+    let text = subst (λ (f : Files). text_in f asked.boot_ini ≡ Ok c.in_ok-text.text) (first.files tells)
+    (c.in_ok-text.ensures.looks.found (first.tells ∙ tells)) in
+    let m = ini_asked words old.files asked c.in_ok-text.text n text in
+    let ini = subst (λ (t : List ℕ). ini_in t asked.system ≡ Ok c.in_ok-ini.ini) c.as_slice-2.ensures
+    (subst (λ (p : List ℕ). ini_in c.as_slice-2.result.now p ≡ Ok c.in_ok-ini.ini) c.as_bytes-2.ensures.value c.in_ok-ini.ensures) in
+    let all = all_asked words old.files asked c.in_ok-text.text c.in_ok-ini.ini m ini in
+    let gets = c.file_in-2.ensures.asks ∙ ap (more 1) asks ∙ more_more 1 (named_ini + 1) old.gets
+    ∙ ap (λ (k : ℕ). more k old.gets) (sym all) in
+    last_asks (asks_in words old.files) c.in_err-hive.field-0.0 c.from_residual-in_err-hive.result old.gets _
+    c.in_err-hive.ensures.looks.unwritten c.from_residual-in_err-hive.ensures.1 (omega (arith, all)) gets
+
+pub returns-clause-asks : goal.returns-clause-asks
+returns-clause-asks g c = λ tells.
+    let words = map string_bytes c.args.words.now in
+    let old = g.H.Host.state c.args.host.now in
+    let asked = asked_seen c.in-Some.asked in
+    let system = subst
+    (λ (p : List ℕ). system_in (arc_of p) ≡ Ok c.in_ok-system.system) c.as_bytes.ensures.value c.in_ok-system.ensures in
+    let found = c.in_ok-script.ensures.looks.found tells in
+    let events = subst
+    (λ (t : List ℕ). events_in (script_of t) ≡ Ok c.in_ok-script-2.script) c.as_slice.ensures c.in_ok-script-2.ensures.read in
+    let n = text_asked words old.files asked c.in_ok-system.system c.in_ok-script.script c.in_ok-script-2.script
+    c.in-Some.ensures system found events in
+    let first = c.in_ok-script.ensures.looks.keeps in
+    let named_ini = named asked.boot_ini in
+    let asks = c.in_ok-text.ensures.asks ∙ ap (more named_ini) c.file_in.ensures.asks
+    ∙ more_more named_ini 1 old.gets in
+    let text = subst (λ (f : Files). text_in f asked.boot_ini ≡ Ok c.in_ok-text.text) (first.files tells)
+    (c.in_ok-text.ensures.looks.found (first.tells ∙ tells)) in
+    let m = ini_asked words old.files asked c.in_ok-text.text n text in
+    let ini = subst (λ (t : List ℕ). ini_in t asked.system ≡ Ok c.in_ok-ini.ini) c.as_slice-2.ensures
+    (subst (λ (p : List ℕ). ini_in c.as_slice-2.result.now p ≡ Ok c.in_ok-ini.ini) c.as_bytes-2.ensures.value c.in_ok-ini.ensures) in
+    let all = all_asked words old.files asked c.in_ok-text.text c.in_ok-ini.ini m ini in
+    let gets = c.file_in-2.ensures.asks ∙ ap (more 1) asks ∙ more_more 1 (named_ini + 1) old.gets
+    ∙ ap (λ (k : ℕ). more k old.gets) (sym all) in
+    gets
