@@ -7,3 +7,5 @@ pub mod LoadLemmas
 pub mod PlayLemmas
 pub mod CloseLemmas
 pub mod CutLemmas
+pub mod RunLemmas
+pub mod BeginLemmas

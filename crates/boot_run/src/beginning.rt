@@ -273,9 +273,9 @@ pub(crate) fn take_set<H: Host, B: Bench>(
         (moment (H.state host.new) runner.new (B.state bench.new)) result (TurnLeft runner.new (B.state bench.new)) }
     ensures host { LeavesHost result (H.state host.old) (H.state host.new) }
 {
-    match say_set(alloc, on_good, &hive, &mut runner.summary, host) {
-        Ok(Ok(plan)) => begin_by(alloc, plan, on_good, hive, runner, host, bench),
-        Ok(Err(word)) => end_start(alloc, word, runner, host, bench),
-        Err(stop) => Err(stop),
+    let found = say_set(alloc, on_good, &hive, &mut runner.summary, host)?;
+    match found {
+        Ok(plan) => begin_by(alloc, plan, on_good, hive, runner, host, bench),
+        Err(word) => end_start(alloc, word, runner, host, bench),
     }
 }
