@@ -7,3 +7,4 @@ pub mod LoadLemmas
 pub mod PlayLemmas
 pub mod CloseLemmas
 pub mod CutLemmas
+pub mod SaveLemmas
