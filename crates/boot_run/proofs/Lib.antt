@@ -8,3 +8,4 @@ pub mod PlayLemmas
 pub mod CloseLemmas
 pub mod CutLemmas
 pub mod SaveLemmas
+pub mod DueLemmas

@@ -26,11 +26,11 @@ use crate::runner::Runner;
 use crate::saying::say;
 use crate::sets::{live_numbers, live_sets};
 use crate::stop::RunStop;
-use crate::words::select_line;
+use crate::words::{edit_word, select_line};
 use boot_report::{CommitWord, Line};
 use hive_store::Hive;
 use nt_edge::{Bench, Host};
-use reg_tree::{EditStop, Key};
+use reg_tree::Key;
 use select_keys::{SelectNumbers, SelectStop, SetPlan, plan_save};
 use std::alloc::Global;
 
@@ -136,8 +136,10 @@ fn save_by<H: Host, B: Bench>(
     let mut hive = hive;
     match hive.apply(alloc, plan.steps) {
         Ok(()) => commit_save(alloc, plan.numbers, hive, runner, host, bench),
-        Err(EditStop::Memory) => Err(RunStop::Memory),
-        Err(_) => refuse(alloc, true, hive, runner, host),
+        Err(stop) => match edit_word(stop) {
+            Some(_) => refuse(alloc, true, hive, runner, host),
+            None => Err(RunStop::Memory),
+        },
     }
 }
 

@@ -1,10 +1,20 @@
+use Rattle.start_model.specs.Run.{saved_by}
+use Rattle.start_model.specs.Sets.{save_of}
+use Rattle.run_parts.proofs.CountLemmas.{still}
+use Rattle.run_parts.proofs.BreakLemmas.{breaks-silent, or-breaks}
+use Rattle.boot_run.specs.Views.{told_in}
+use Rattle.boot_run.proofs.PlayLemmas.{live_left}
+use Rattle.boot_run.proofs.SaveLemmas.{live_closed, saved_may}
 use Rattle.boot_run.proofs.saving.save.Goals as goal
 
 pub returns-in_err-plan-clause-plays : goal.returns-in_err-plan-clause-plays
-returns-in_err-plan-clause-plays g c = ?
+returns-in_err-plan-clause-plays g c = λ m s next tells out counts live stays.
+    let x = told_in (g.H.Host.state c.args.host.now) c.args.runner.now in
+    let d = g.B.Disk.state c.args.bench.now in
+    let act = saved_by s c.args.clone m next (save_of m.version m.live c.args.clone) in
+    or-breaks _ c.from_residual.result c.from_residual.ensures.0 act x x d d
+    (breaks-silent act x d d (still d)
+    (λ image crash. saved_may s c.args.clone m next image (save_of m.version m.live c.args.clone) (live_closed m c.args.hive d live) stays (live_left m c.args.hive d c.requires.sound.0 live image crash)))
 
 pub returns-in-Some-clause-plays : goal.returns-in-Some-clause-plays
-returns-in-Some-clause-plays g c = ?
-
-pub returns-in-None-clause-plays : goal.returns-in-None-clause-plays
-returns-in-None-clause-plays g c = ?
+returns-in-Some-clause-plays g c = λ m s next tells out counts live stays. c.save_by.ensures.plays m s c.args.clone next tells out counts live c.in-Some.ensures.plan stays
