@@ -9,3 +9,4 @@ pub mod CloseLemmas
 pub mod CutLemmas
 pub mod SaveLemmas
 pub mod DueLemmas
+pub mod EditLemmas

@@ -56,11 +56,16 @@ pub noted_left : (ok : Bool) (s : Start) (m : RunState) (next : RunState → Act
 noted_left ok s m next h r r' d out counts live machine starts =
     let note : Start → Start = λ t. record t { saved = Some ok } in
     let here : (noted_saved ok s m).machine ≡ r'.machine =
-        ap (λ (o : Option Start). record m.machine { start = option_map note o }) (sym out) ∙ ap (on_start note) counts.machine ∙ sym machine in
-    (noted_saved ok s m, (refl, record {
-      counts = record { machine = here; starts = counts.starts ∙ sym starts };
-      by = live_machine (noted_saved ok s m).machine m h d live;
-    }))
+    ap (λ (o : Option Start). record m.machine { start = option_map note o }) (sym out) ∙ ap (on_start note) counts.machine ∙ sym machine in (
+      noted_saved ok s m,
+      (
+        refl,
+        record {
+          counts = record { machine = here; starts = counts.starts ∙ sym starts };
+          by = live_machine (noted_saved ok s m).machine m h d live;
+        },
+      ),
+    )
 
 -- a start that was stopped is over
 pub stopped_left : (m : RunState) (tree : Tree) (next more : RunState → Act) (r : Runner) (x : Told) (d : DiskState) (rest : Act) → CommitLeft m tree more r d None rest
@@ -152,7 +157,7 @@ save_keeps_by t clone u s n made h =
     let low = usable_parts t s.number h.there in
     let other : s.number ≡ n → ⊥ = λ e. false≢true (ap is_some (sym made.lowest.free) ∙ ap (λ m. is_some (set_of t m)) (sym e) ∙ low.there) in
     let kept : set_of u s.number ≡ set_of t s.number =
-        made.sets s.number low.most (or_first ((select_numbers_of t).current == s.number) _ (eq-eqb _ _ h.current)) other in
+    made.sets s.number low.most (or_first ((select_numbers_of t).current == s.number) _ (eq-eqb _ _ h.current)) other in
     record { there = usable_from u s.number low.least low.most (ap is_some kept ∙ low.there); current = made.current ∙ h.current; few = h.few; clone = h.clone }
 
 pub save_keeps : (version : HiveVersion) (t clone u : Tree) (plan : SetPlan) (o : Option Start) → IsSavePlan t clone plan → edited version t plan.steps ≡ Ok u → IsRunningBy o t → IsRunningBy o u

@@ -47,7 +47,12 @@ fn say_edit<H: Host>(
         return Err(RunStop::Memory);
     };
     let event = event_word(event);
-    say(alloc, host, &mut runner.summary, Line::Refused { event, why })
+    say(
+        alloc,
+        host,
+        &mut runner.summary,
+        Line::Refused { event, why },
+    )
 }
 
 /// The step alone.

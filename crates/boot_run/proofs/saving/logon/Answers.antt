@@ -46,7 +46,7 @@ returns-clause-plays g c = λ m tells counts live.
     let more = save_where_due n.machine.start n done in
     let r = c.save_where_due.new.runner in
     let now : Counts n (record c.args.runner.now { machine = c.log_on.new.self; summary = c.say.new.summary }) =
-        record { machine = ap (on_start logged) counts.machine ∙ sym c.log_on.ensures; starts = counts.starts } in
+    record { machine = ap (on_start logged) counts.machine ∙ sym c.log_on.ensures; starts = counts.starts } in
     let on : IsRunningBy m.machine.start c.args.hive.tree = subst (λ (k : MachineState). IsRunningBy k.start c.args.hive.tree) (sym counts.machine) c.requires.sound.1 in
     plays-as c.save_where_due.result (OnLeft done r e) (TurnLeft r e) (say LogonLine more) (option_map_or (λ s. logon_act s m) m.machine.start (done m)) x z d e
     (logon_is m.machine.start c.args.hive.tree m refl on) (λ v a k. done_left r e v a k)

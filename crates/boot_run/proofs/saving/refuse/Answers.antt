@@ -22,6 +22,10 @@ returns-clause-sound g c = λ d sound. noted_sound false c.args.runner.now c.not
 pub returns-clause-plays : goal.returns-clause-plays
 returns-clause-plays g c = λ m s next d tells out counts sound live stays.
     let x = told_in (g.H.Host.state c.args.host.now) c.args.runner.now in
-    let y = told_in (g.H.Host.state c.note.new.host) c.note.new.runner in
-    (next (noted_saved false s m), (goes-line (SaveRefusedLine c.args.full) (next (noted_saved false s m)) x y d d (still d) refl (c.in_ok-note.ensures.tells tells),
-    noted_left false s m next c.args.hive c.args.runner.now c.note.new.runner d out counts live c.in_ok-note.ensures.machine c.note.ensures.starts))
+    let y = told_in (g.H.Host.state c.note.new.host) c.note.new.runner in (
+      next (noted_saved false s m),
+      (
+        goes-line (SaveRefusedLine c.args.full) (next (noted_saved false s m)) x y d d (still d) refl (c.in_ok-note.ensures.tells tells),
+        noted_left false s m next c.args.hive c.args.runner.now c.note.new.runner d out counts live c.in_ok-note.ensures.machine c.note.ensures.starts,
+      ),
+    )

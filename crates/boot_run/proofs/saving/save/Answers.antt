@@ -1,5 +1,7 @@
 use Rattle.start_model.specs.Run.{saved_by}
-use Rattle.start_model.specs.Sets.{save_of}
+use Rattle.start_model.specs.Sets.{SetPlan, save_of, save_plan_of, select_numbers_of, usable_numbers_of}
+use Rattle.std.proofs.Common.{Option, subst}
+use Rattle.boot_run.specs.Saves.{PlansOr}
 use Rattle.run_parts.proofs.CountLemmas.{still}
 use Rattle.run_parts.proofs.BreakLemmas.{breaks-silent, or-breaks}
 use Rattle.boot_run.specs.Views.{told_in}
@@ -17,4 +19,7 @@ returns-in_err-plan-clause-plays g c = λ m s next tells out counts live stays.
     (λ image crash. saved_may s c.args.clone m next image (save_of m.version m.live c.args.clone) (live_closed m c.args.hive d live) stays (live_left m c.args.hive d c.requires.sound.0 live image crash)))
 
 pub returns-in-Some-clause-plays : goal.returns-in-Some-clause-plays
-returns-in-Some-clause-plays g c = λ m s next tells out counts live stays. c.save_by.ensures.plays m s c.args.clone next tells out counts live c.in-Some.ensures.plan stays
+returns-in-Some-clause-plays g c = λ m s next tells out counts live stays.
+    let t = c.args.hive.tree in
+    let P : Option SetPlan → Type 0 = λ o. PlansOr o (save_plan_of (select_numbers_of t) (usable_numbers_of t) c.args.clone) in
+    c.save_by.ensures.plays m s c.args.clone next tells out counts live (subst P c.in-Some.is c.in_ok-plan.ensures.plan) stays

@@ -28,8 +28,12 @@ commit_save-requires g c =
     let v = version_of c.args.hive.base.minor in
     let t = c.args.hive.tree in
     let made = ap (λ (ss : List Step). edited v t ss) (sym steps) ∙ c.in-Ok.ensures.made in
-    record { sound = (up_by c.args.hive c.apply.new.self d c.in-Ok.ensures.base c.in-Ok.ensures.bins s.0,
-    save_keeps v t c.requires.plan.0 c.apply.new.self.tree c.args.plan c.args.runner.now.machine.start c.requires.plan.1 made s.1) }
+    record {
+      sound = (
+        up_by c.args.hive c.apply.new.self d c.in-Ok.ensures.base c.in-Ok.ensures.bins s.0,
+        save_keeps v t c.requires.plan.0 c.apply.new.self.tree c.args.plan c.args.runner.now.machine.start c.requires.plan.1 made s.1,
+      );
+    }
 
 pub returns-in-Ok-clause-plays : goal.returns-in-Ok-clause-plays
 returns-in-Ok-clause-plays g c = λ m s clone next tells out counts live is stays.

@@ -32,11 +32,11 @@ returns-in-Some-clause-plays g c = λ m next tells counts live stays.
     let e = g.B.Disk.state c.save.new.bench in
     let is : option_map_or save_due m.machine.start false ≡ true = ap (λ (k : MachineState). option_map_or save_due k.start false) counts.machine ∙ sym c.save_due.ensures ∙ c.if-not-save_due.false in
     let has : option_and_then (λ (s : Start). s.clone) m.machine.start ≡ Some c.in-Some.clone =
-        ap (λ (k : MachineState). option_and_then (λ (s : Start). s.clone) k.start) counts.machine ∙ sym c.take_clone.ensures.clone ∙ c.in-Some.is in
+    ap (λ (k : MachineState). option_and_then (λ (s : Start). s.clone) k.start) counts.machine ∙ sym c.take_clone.ensures.clone ∙ c.in-Some.is in
     let q = due m.machine.start m next c.in-Some.clone refl is has in
     let n = taken m in
     let now : Counts n (record c.args.runner.now { machine = c.take_clone.new.self }) =
-        record { machine = ap (on_start without_clone) counts.machine ∙ sym c.take_clone.ensures.taken; starts = counts.starts } in
+    record { machine = ap (on_start without_clone) counts.machine ∙ sym c.take_clone.ensures.taken; starts = counts.starts } in
     plays-as c.save.result (OnLeft next c.save.new.runner e) (OnLeft next c.save.new.runner e) (saved_by q.start c.in-Some.clone n next (save_of n.version n.live c.in-Some.clone))
     (save_where_due m.machine.start m next) x y d e q.act (λ v a k. k)
     (c.save.ensures.plays n q.start next tells q.out now (live_machine n.machine m c.args.hive d live) stays)
