@@ -9,3 +9,6 @@ pub mod CloseLemmas
 pub mod CutLemmas
 pub mod RunLemmas
 pub mod BeginLemmas
+pub mod SaveLemmas
+pub mod DueLemmas
+pub mod EditLemmas

@@ -193,7 +193,15 @@ fn begin_by<H: Host, B: Bench>(
     if !plan.steps.is_empty() {
         return begin_stepped(alloc, plan, on_good, hive, runner, host, bench);
     }
-    match begin_start(alloc, plan.chosen, on_good, plan.numbers, &hive, runner, host) {
+    match begin_start(
+        alloc,
+        plan.chosen,
+        on_good,
+        plan.numbers,
+        &hive,
+        runner,
+        host,
+    ) {
         Ok(()) => Ok(Some(hive)),
         Err(stop) => Err(stop),
     }

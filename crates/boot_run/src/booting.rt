@@ -150,5 +150,13 @@ pub(crate) fn boot<H: Host, B: Bench>(
     let Ok(chosen) = choose(alloc, ini, entry, system) else {
         return Err(RunStop::Memory);
     };
-    boot_by(alloc, ini, chosen, due || last_known_good, runner, host, bench)
+    boot_by(
+        alloc,
+        ini,
+        chosen,
+        due || last_known_good,
+        runner,
+        host,
+        bench,
+    )
 }

@@ -41,7 +41,12 @@ pub(crate) fn cut<H: Host, B: Bench>(
 }
 
 /// Orders a cut in the n-th call from now on.
-pub(crate) fn arm_cut<B: Bench>(call: DiskCall, n: u32, keep: Keep, bench: &mut B) -> Result<(), RunStop>
+pub(crate) fn arm_cut<B: Bench>(
+    call: DiskCall,
+    n: u32,
+    keep: Keep,
+    bench: &mut B,
+) -> Result<(), RunStop>
     requires { 1 ≤ n }
     ensures plays { (m : RunState) (told : Told) → EachCrash (B.state bench.old) (MayLoad m.disk)
         → PlaysOr (arm_act (ArmedCut (call_of call) n (keep_of keep)) m) told told (B.state bench.old) (B.state bench.new) result (λ u a. a ≡ done m) }

@@ -51,7 +51,12 @@ fn attempt<H: Host>(
     let outcome = try_word(&tried);
     let verdict = verdict_after(&tried);
     let name = tried.name;
-    say(alloc, host, &mut runner.summary, Line::Try { name, outcome })?;
+    say(
+        alloc,
+        host,
+        &mut runner.summary,
+        Line::Try { name, outcome },
+    )?;
     Ok(verdict)
 }
 
