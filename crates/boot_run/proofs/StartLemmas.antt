@@ -2,7 +2,7 @@
 use Rattle.std.proofs.Common.{◌≡◌, ℕ, zero, suc, ◌+◌, ◌<◌, ◌≤◌, ◌^◌, Bool, true, false, not, cond, List, [], ◌∷◌, ◌++◌, length, map, Option, Some, None, refl, sym, ap, subst, ◌∙◌, arith, append-nil, append_assoc}
 use Rattle.std.proofs.lemmas.Bool.{false≢true}
 use Rattle.std.proofs.lemmas.List.Edits.{length-remove}
-use Rattle.std.specs.Prelude.{Result, Ok, Err, slice_get, remove, option_map, option_and_then, codes}
+use Rattle.std.specs.Prelude.{Result, Ok, Err, is_err, slice_get, remove, option_map, option_and_then, codes}
 use Rattle.std.specs.Option.{option_map_or, unwrap_or}
 use Rattle.hive_model.specs.Image.{Image}
 use Rattle.hive_model.specs.Tree.{Tree, key, listed, children, find_key}
@@ -239,3 +239,14 @@ all_may s m next c h =
     let P : Possible → Type 0 = λ p. MayLoad p c in
     let more : Act = save_where_due (Some (after_phase (live_set m s.number) s)) (with_machine (with_start (after_phase (live_set m s.number) s) m.machine) m) next in
     subst P (sym (all_disk (phase_lines s) more) ∙ ap (λ (a : Act). (play a [] []).disk) (phase_act s m next)) h
+
+-- ---- answers
+
+-- a call that was refused told a part
+pub says_err : {T : Type 0} → (r : Result T RunStop) → is_err r ≡ true → (ls : List Line) (x y : Told) → SaysPart ls x y.said → SaysAll ls x y r
+says_err (Ok v) h ls x y p = absurd (false≢true h)
+says_err (Err e) h ls x y p = p
+
+-- the line in other words
+pub tells_line : {T : Type 0} → (r : Result T RunStop) (l k : Line) (x y : Told) → l ≡ k → TellsOr l x y r → TellsOr k x y r
+tells_line r l k x y is h = let P : Line → Type 0 = λ q. TellsOr q x y r in subst P is h

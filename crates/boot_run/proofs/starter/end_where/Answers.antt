@@ -22,10 +22,10 @@ returns-in_err-end_with-in-Some-clause-plays g c = λ m next j tells counts live
     let y = told_in (g.H.Host.state c.end_with.new.host) c.end_with.new.runner in
     let d = g.B.Disk.state c.args.bench.now in
     let e = g.B.Disk.state c.end_with.new.bench in
-    let stopped : Result (Unit {0}) RunStop = Err c.in_err-end_with.field-0.0 in
+    let stopped : Result (Unit {0}) RunStop = Err c.in_err-end_with-in-Some.field-0.0 in
     or-breaks _ c.from_residual.result c.from_residual.ensures.0 (judged j m next) x y d e
     (judged_plays stopped c.in-Some.word j m next c.args.runner.now c.end_with.new.runner x y d e (ends_some c.args.verdict c.in-Some.word j c.in-Some.is ends) counts
-    c.end_with.ensures.machine c.end_with.ensures.starts c.end_with.ensures.off (live_left m c.args.hive d c.requires.sound.0 live) (c.in_err-end_with.ensures.tells tells))
+    c.end_with.ensures.machine c.end_with.ensures.starts c.end_with.ensures.off (live_left m c.args.hive d c.requires.sound.0 live) (c.in_err-end_with-in-Some.ensures.tells tells))
 
 pub returns-in_ok-end_with-in-Some-clause-sound : goal.returns-in_ok-end_with-in-Some-clause-sound
 returns-in_ok-end_with-in-Some-clause-sound g c =
@@ -41,4 +41,4 @@ returns-in_ok-end_with-in-Some-clause-plays g c = λ m next j tells counts live 
     let e = g.B.Disk.state c.end_with.new.bench in
     let said : Result (Unit {0}) RunStop = Ok tt in
     judged_plays said c.in-Some.word j m next c.args.runner.now c.end_with.new.runner x y d e (ends_some c.args.verdict c.in-Some.word j c.in-Some.is ends) counts
-    c.end_with.ensures.machine c.end_with.ensures.starts c.end_with.ensures.off (live_left m c.args.hive d c.requires.sound.0 live) (c.in_ok-end_with.ensures.tells tells)
+    c.end_with.ensures.machine c.end_with.ensures.starts c.end_with.ensures.off (live_left m c.args.hive d c.requires.sound.0 live) (c.in_ok-end_with-in-Some.ensures.tells tells)
