@@ -13,3 +13,5 @@ pub mod BeginLemmas
 pub mod SaveLemmas
 pub mod DueLemmas
 pub mod EditLemmas
+pub mod StartLemmas
+pub mod StepLemmas
