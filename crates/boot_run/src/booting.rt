@@ -157,13 +157,6 @@ pub(crate) fn boot<H: Host, B: Bench>(
     let Ok(chosen) = choose(alloc, ini, entry, system) else {
         return Err(RunStop::Memory);
     };
-    boot_by(
-        alloc,
-        ini,
-        chosen,
-        due || last_known_good,
-        runner,
-        host,
-        bench,
-    )
+    let on_good = either(due, last_known_good);
+    boot_by(alloc, ini, chosen, on_good, runner, host, bench)
 }

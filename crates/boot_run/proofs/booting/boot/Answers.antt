@@ -1,4 +1,4 @@
-use Rattle.std.proofs.Common.{◌≡◌, ◌+◌, ◌∷◌, [], ◌∙◌, ℕ, Bool, false, refl, sym, ap, subst}
+use Rattle.std.proofs.Common.{rules, ◌≡◌, ◌+◌, ◌∷◌, [], ◌∙◌, ℕ, Bool, false, refl, sym, ap, subst}
 use Rattle.std.specs.Prelude.{◌||◌}
 use Rattle.nt_edge.specs.Host.{SaysFront}
 use Rattle.boot_ini.specs.declared.choosing.Chosen.{Chosen}
@@ -32,7 +32,7 @@ returns-in_err-say-clause-plays g c = λ m tells counts left.
     let y = told_by (g.H.Host.state c.say.new.host) c.say.new.summary in
     let rest : Act = chosen (m.machine.fallback_due || c.args.last_known_good) (accepted_state m) (choice c.args.entry) in
     let P : ℕ → Type 0 = λ n. SaysFront x.said y.said (line_text (StartLine n)) in
-    let number = number_is m c.args.runner.now c.in-Some.number counts ? in
+    let number = number_is m c.args.runner.now c.in-Some.number counts (search rules) in
     said_front c.from_residual.result _ c.from_residual.ensures.0 (boot_act choice c.args.entry c.args.last_known_good m) (StartLine (m.starts + 1)) rest x y d refl refl
     (subst P number (c.in_err-say.ensures.tells tells)) (chosen_left (m.machine.fallback_due || c.args.last_known_good) (accepted_state m) (choice c.args.entry) d left)
 
@@ -44,7 +44,7 @@ returns-in_default-choose-clause-plays g c = λ m tells counts left.
     let y = told_by (g.H.Host.state c.say.new.host) c.say.new.summary in
     let rest : Act = chosen (m.machine.fallback_due || c.args.last_known_good) (accepted_state m) (choice c.args.entry) in
     let P : ℕ → Type 0 = λ n. Tells x y (StartLine n ∷ []) in
-    let number = number_is m c.args.runner.now c.in-Some.number counts ? in
+    let number = number_is m c.args.runner.now c.in-Some.number counts (search rules) in
     breaks-then (boot_act choice c.args.entry c.args.last_known_good m) rest x y y.said d d d
     (goes-line (StartLine (m.starts + 1)) rest x y d d (still d) refl (subst P number (c.in_ok-say.ensures.tells tells)))
     (breaks-silent rest y d d (still d) (chosen_left (m.machine.fallback_due || c.args.last_known_good) (accepted_state m) (choice c.args.entry) d left))
@@ -59,7 +59,7 @@ returns-clause-plays g c = λ m tells counts left.
     let z = told_in (g.H.Host.state c.boot_by.new.host) c.boot_by.new.runner in
     let rest : Act = chosen (m.machine.fallback_due || c.args.last_known_good) (accepted_state m) (choice c.args.entry) in
     let P : ℕ → Type 0 = λ n. Tells x y (StartLine n ∷ []) in
-    let number = number_is m c.args.runner.now c.in-Some.number counts ? in
+    let number = number_is m c.args.runner.now c.in-Some.number counts (search rules) in
     let due : c.either-on_good.result ≡ (m.machine.fallback_due || c.args.last_known_good) =
         c.either-on_good.ensures ∙ ap (λ (b : Bool). b || c.args.last_known_good) (c.take_fallback-due.ensures.due ∙ ap (λ (k : MachineState). k.fallback_due) (sym counts.machine)) in
     said_then c.boot_by.result (TurnLeft c.boot_by.new.runner f) (boot_act choice c.args.entry c.args.last_known_good m) (StartLine (m.starts + 1)) rest
