@@ -15,3 +15,4 @@ pub mod DueLemmas
 pub mod EditLemmas
 pub mod StartLemmas
 pub mod StepLemmas
+pub mod GoLemmas
