@@ -34,9 +34,14 @@ returns-in-Ok-say-clause-plays g c = λ m d tells up live.
     let rest : Act = begin_planned c.args.on_good m plan (stepped m.version m.live plan.steps) in
     let P : Line → Type 0 = λ l. Tells x y (l ∷ []) in
     let Q : Act → Type 0 = λ a. Goes (play a) (play rest) x y d d in
-    let line = set_line_is m c.args.hive.now.tree c.args.on_good c.taken_number.result c.in-Ok.numbers live.live c.in-Ok.ensures c.taken_number.ensures in
-    (rest, (subst Q (take_planned m c.args.hive.now.tree c.args.on_good plan live.live c.in-Ok-planned.ensures.plans)
-    (goes-line (set_line c.args.on_good m) rest x y d d (still d) refl (subst P line (c.in-Ok-say.ensures.tells tells))), refl))
+    let line = set_line_is m c.args.hive.now.tree c.args.on_good c.taken_number.result c.in-Ok.numbers live.live c.in-Ok.ensures c.taken_number.ensures in (
+      rest,
+      (
+        subst Q (take_planned m c.args.hive.now.tree c.args.on_good plan live.live c.in-Ok-planned.ensures.plans)
+            (goes-line (set_line c.args.on_good m) rest x y d d (still d) refl (subst P line (c.in-Ok-say.ensures.tells tells))),
+        refl,
+      ),
+    )
 
 pub returns-in-Err-clause-plays : goal.returns-in-Err-clause-plays
 returns-in-Err-clause-plays g c = λ m d tells up live.
@@ -59,9 +64,14 @@ returns-in-Ok-say-2-clause-plays g c = λ m d tells up live.
     let P : Line → Type 0 = λ l. Tells x y (l ∷ []) in
     let Q : Act → Type 0 = λ a. Goes (play a) (play rest) x y d d in
     let line = set_line_is m c.args.hive.now.tree c.args.on_good c.taken_number.result c.in-Ok.numbers live.live c.in-Ok.ensures c.taken_number.ensures in
-    let R : SelectStop → Type 0 = λ stop. Planned (Err stop) (begin_plan_of (select_numbers_of c.args.hive.now.tree) (usable_numbers_of c.args.hive.now.tree) c.args.on_good) in
-    (rest, (subst Q (take_stopped m c.args.hive.now.tree c.args.on_good NoFreeNumber live.live (subst R c.in-Err-NoFreeNumber.field-0-is c.in-Err-NoFreeNumber.ensures.plans))
-    (goes-line (set_line c.args.on_good m) rest x y d d (still d) refl (subst P line (c.in-Ok-say-2.ensures.tells tells))), (refl, record { falls = refl; none = refl })))
+    let R : SelectStop → Type 0 = λ stop. Planned (Err stop) (begin_plan_of (select_numbers_of c.args.hive.now.tree) (usable_numbers_of c.args.hive.now.tree) c.args.on_good) in (
+      rest,
+      (
+        subst Q (take_stopped m c.args.hive.now.tree c.args.on_good NoFreeNumber live.live (subst R c.in-Err-NoFreeNumber.field-0-is c.in-Err-NoFreeNumber.ensures.plans))
+            (goes-line (set_line c.args.on_good m) rest x y d d (still d) refl (subst P line (c.in-Ok-say-2.ensures.tells tells))),
+        (refl, record { falls = refl; none = refl }),
+      ),
+    )
 
 pub returns-in-Err-say-clause-plays : goal.returns-in-Err-say-clause-plays
 returns-in-Err-say-clause-plays g c = λ m d tells up live.
@@ -80,15 +90,25 @@ returns-in-Err-NoControlSet-clause-plays g c = λ m d tells up live.
     let x = told_by (g.H.Host.state c.args.host.now) c.args.summary.now in
     let rest : Act = end_with book.NoControlSet false m in
     let Q : Act → Type 0 = λ a. Goes (play a) (play rest) x x d d in
-    let R : SelectStop → Type 0 = λ stop. Planned (Err stop) (begin_plan_of (select_numbers_of c.args.hive.now.tree) (usable_numbers_of c.args.hive.now.tree) c.args.on_good) in
-    (rest, (subst Q (take_stopped m c.args.hive.now.tree c.args.on_good NoControlSet live.live (subst R c.in-Err-NoControlSet.field-0-is c.in-Err-NoControlSet.ensures.plans))
-    (goes-nothing (play rest) x d d (still d)), (refl, record { falls = refl; none = refl })))
+    let R : SelectStop → Type 0 = λ stop. Planned (Err stop) (begin_plan_of (select_numbers_of c.args.hive.now.tree) (usable_numbers_of c.args.hive.now.tree) c.args.on_good) in (
+      rest,
+      (
+        subst Q (take_stopped m c.args.hive.now.tree c.args.on_good NoControlSet live.live (subst R c.in-Err-NoControlSet.field-0-is c.in-Err-NoControlSet.ensures.plans))
+            (goes-nothing (play rest) x d d (still d)),
+        (refl, record { falls = refl; none = refl }),
+      ),
+    )
 
 pub returns-in-Err-NoLastKnownGood-clause-plays : goal.returns-in-Err-NoLastKnownGood-clause-plays
 returns-in-Err-NoLastKnownGood-clause-plays g c = λ m d tells up live.
     let x = told_by (g.H.Host.state c.args.host.now) c.args.summary.now in
     let rest : Act = end_with book.NoLastKnownGood false m in
     let Q : Act → Type 0 = λ a. Goes (play a) (play rest) x x d d in
-    let R : SelectStop → Type 0 = λ stop. Planned (Err stop) (begin_plan_of (select_numbers_of c.args.hive.now.tree) (usable_numbers_of c.args.hive.now.tree) c.args.on_good) in
-    (rest, (subst Q (take_stopped m c.args.hive.now.tree c.args.on_good NoLastKnownGood live.live (subst R c.in-Err-NoLastKnownGood.field-0-is c.in-Err-NoLastKnownGood.ensures.plans))
-    (goes-nothing (play rest) x d d (still d)), (refl, record { falls = refl; none = refl })))
+    let R : SelectStop → Type 0 = λ stop. Planned (Err stop) (begin_plan_of (select_numbers_of c.args.hive.now.tree) (usable_numbers_of c.args.hive.now.tree) c.args.on_good) in (
+      rest,
+      (
+        subst Q (take_stopped m c.args.hive.now.tree c.args.on_good NoLastKnownGood live.live (subst R c.in-Err-NoLastKnownGood.field-0-is c.in-Err-NoLastKnownGood.ensures.plans))
+            (goes-nothing (play rest) x d d (still d)),
+        (refl, record { falls = refl; none = refl }),
+      ),
+    )

@@ -61,7 +61,7 @@ returns-clause-plays g c = λ m tells counts left.
     let P : ℕ → Type 0 = λ n. Tells x y (StartLine n ∷ []) in
     let number = number_is m c.args.runner.now c.in-Some.number counts (search rules) in
     let due : c.either-on_good.result ≡ (m.machine.fallback_due || c.args.last_known_good) =
-        c.either-on_good.ensures ∙ ap (λ (b : Bool). b || c.args.last_known_good) (c.take_fallback-due.ensures.due ∙ ap (λ (k : MachineState). k.fallback_due) (sym counts.machine)) in
+    c.either-on_good.ensures ∙ ap (λ (b : Bool). b || c.args.last_known_good) (c.take_fallback-due.ensures.due ∙ ap (λ (k : MachineState). k.fallback_due) (sym counts.machine)) in
     said_then c.boot_by.result (TurnLeft c.boot_by.new.runner f) (boot_act choice c.args.entry c.args.last_known_good m) (StartLine (m.starts + 1)) rest
     (chosen c.either-on_good.result (accepted_state m) (choice_in c.args.ini.now c.in-Ok.chosen)) x y z d f refl
     (ap (λ (b : Bool). chosen b (accepted_state m) (choice_in c.args.ini.now c.in-Ok.chosen)) due
