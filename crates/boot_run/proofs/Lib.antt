@@ -16,3 +16,4 @@ pub mod EditLemmas
 pub mod StartLemmas
 pub mod StepLemmas
 pub mod GoLemmas
+pub mod TurnLemmas
