@@ -32,17 +32,19 @@ pub leaves-then : {U : Type 0} → (r : Result U RunStop) (a b c : HostState) �
 leaves-then r a b c p q = record {
   keeps = keeps-then a b c p.keeps q.keeps;
   files = files-then a b c p.keeps p.files q.files;
+  unasked = q.unasked ∙ p.unasked;
   counts = counts-then r a b c p.keeps p.counts q.counts;
 }
 
 pub still-host : (a : HostState) → StillHost a a
-still-host a = record { keeps = record { tells = refl; quiet = λ e. e }; files = λ e. refl; counts = record { reads = refl; writes = refl } }
+still-host a = record { keeps = record { tells = refl; quiet = λ e. e }; files = λ e. refl; unasked = refl; counts = record { reads = refl; writes = refl } }
 
 -- one more call that is done
 pub still-then : {T : Type 0} → (x : T) (a b c : HostState) → StillHost a b → LeavesHost (as_done x) b c → StillHost a c
 still-then x a b c p q = record {
   keeps = keeps-then a b c p.keeps q.keeps;
   files = files-then a b c p.keeps p.files q.files;
+  unasked = q.unasked ∙ p.unasked;
   counts = record { reads = q.counts.reads ∙ p.counts.reads; writes = q.counts.writes ∙ p.counts.writes };
 }
 
@@ -56,4 +58,4 @@ counts_on (Err stops.Memory) (Err stops.Memory) e a b is was c = c
 
 -- a refusal that is handed on
 pub leaves-on : {T U : Type 0} → (r : Result T RunStop) (q : Result U RunStop) (e : RunStop) (a b : HostState) → r ≡ Err e → q ≡ Err e → LeavesHost q a b → LeavesHost r a b
-leaves-on r q e a b is was h = record { keeps = h.keeps; files = h.files; counts = counts_on r q e a b is was h.counts }
+leaves-on r q e a b is was h = record { keeps = h.keeps; files = h.files; unasked = h.unasked; counts = counts_on r q e a b is was h.counts }

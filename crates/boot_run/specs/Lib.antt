@@ -3,3 +3,8 @@ pub mod Views
 pub mod Acts
 pub mod Choices
 pub mod Ends
+pub mod Agrees
+pub mod Begins
+pub mod Saves
+pub mod Starts
+pub mod Edits

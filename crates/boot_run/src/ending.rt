@@ -1,6 +1,10 @@
 //! A start ends.
 
-ghost use Rattle.std.specs.Prelude.{◌≡◌, true};
+ghost use Rattle.std.specs.Prelude.{◌≡◌, true, false, IfOk};
+ghost use Rattle.nt_edge.specs.Crash.{EachCrash};
+ghost use Rattle.start_model.specs.Fits.{MayLoad};
+ghost use Rattle.start_model.specs.Run.{RunState};
+ghost use Rattle.start_model.specs.Run as book;
 ghost use Rattle.start_model.specs.Lines.{VerdictLine};
 ghost use Rattle.start_model.specs.Machine.{ended};
 ghost use Rattle.boot_report.specs.Report.{verdict_of};
@@ -8,12 +12,14 @@ ghost use Rattle.boot_machine.specs.Steps.{falls_back};
 ghost use Rattle.nt_edge.specs.Bench.{turned_off};
 ghost use Rattle.run_parts.specs.Parts.{TellsOr};
 ghost use Rattle.boot_run.specs.Hosts.{LeavesHost};
-ghost use Rattle.boot_run.specs.Views.{told_by, told_in};
+ghost use Rattle.boot_run.specs.Agrees.{LoadsAny, IsSound, Counts, IsEnding, TurnLeft};
+ghost use Rattle.boot_run.specs.Views.{told_in, moment, RunsTo};
 
 use crate::runner::Runner;
 use crate::saying::say;
 use crate::stop::RunStop;
 use boot_report::{Line, Verdict};
+use hive_store::Hive;
 use nt_edge::{Bench, Host};
 use std::alloc::Global;
 
@@ -35,4 +41,26 @@ pub(crate) fn end_with<H: Host, B: Bench>(
     bench.power_off();
     runner.machine.end(word);
     say(alloc, host, &mut runner.summary, Line::Verdict { word })
+}
+
+/// The start ends with this verdict, and no session is left.
+pub(crate) fn end_start<H: Host, B: Bench>(
+    alloc: Global,
+    word: Verdict,
+    runner: &mut Runner,
+    host: &mut H,
+    bench: &mut B,
+) -> Result<Option<Hive>, RunStop>
+    requires left { EachCrash (B.state bench.old) LoadsAny }
+    ensures sound { IfOk result (IsSound runner.new (B.state bench.new)) }
+    ensures plays { (m : RunState) → (H.state host.old).tells ≡ true → Counts m runner.old → EachCrash (B.state bench.old) (MayLoad m.disk)
+        → IsEnding (verdict_of word)
+        → RunsTo (book.end_with (verdict_of word) false m) (moment (H.state host.old) runner.old (B.state bench.old))
+        (moment (H.state host.new) runner.new (B.state bench.new)) result (TurnLeft runner.new (B.state bench.new)) }
+    ensures host { LeavesHost result (H.state host.old) (H.state host.new) }
+{
+    match end_with(alloc, word, runner, host, bench) {
+        Ok(()) => Ok(None),
+        Err(stop) => Err(stop),
+    }
 }

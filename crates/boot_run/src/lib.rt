@@ -5,16 +5,29 @@
 //! docs/startup.md, "The order of a start" and "The script"; docs/texts.md, "The report".
 #![tactic(auto)]
 
+mod beginning;
+mod booting;
+mod closing;
+mod committing;
+mod cutting;
+mod editing;
 mod ending;
+mod loading;
 mod paths;
 mod runner;
+mod saving;
 mod saying;
+mod sets;
+mod starter;
 mod steps;
 mod stop;
 mod summary;
+mod turning;
 mod unmet;
+mod whole;
 mod words;
 
 pub use runner::Runner;
 pub use stop::RunStop;
 pub use summary::Summary;
+pub use whole::run;

@@ -1,0 +1,131 @@
+-- What a commit of the session comes to in the book's run.
+use Rattle.std.proofs.Common.{◌≡◌, ◌⊎◌, ◌+◌, ◌%◌, inl, inr, ⊎_elim, ℕ, Bool, true, false, List, [], ◌∷◌, ◌++◌, Option, Some, None, refl, sym, ap, subst, ◌∙◌}
+use Rattle.nt_bytes.specs.declared.version.HiveVersion.{HiveVersion}
+use Rattle.hive_model.specs.Base.{version_of}
+use Rattle.hive_model.specs.Image.{Image}
+use Rattle.hive_model.specs.Tree.{Tree}
+use Rattle.hive_model.specs.State.{HiveState}
+use Rattle.hive_model.specs.Load.{Loads}
+use Rattle.nt_edge.specs.Disk.{DiskState, CountsGrow}
+use Rattle.nt_edge.specs.Crash.{EachCrash}
+use Rattle.nt_edge.specs.Host.{SaysFront}
+use Rattle.nt_edge.specs.Bench.{turned_off}
+use Rattle.hive_store.specs.Session.{Session}
+use Rattle.hive_store.specs.Commits as store
+use Rattle.hive_store.specs.Commits.{LoadsAsEither}
+use Rattle.hive_commit.specs.Stages.{next_number}
+use Rattle.start_model.specs.Lines.{CommitLine, VerdictLine, CommitWord, Verdict, line_text}
+use Rattle.start_model.specs.Fits.{outcomes_in, MayLoad}
+use Rattle.start_model.specs.Causes.{HasCause}
+use Rattle.start_model.specs.Machine.{ended}
+use Rattle.start_model.specs.Run.{Act, done, mark, Held, Outcome, Finished, RunState, settled_at, open_between, next_state, committed_state, opened_state, start_over, end_with, committed, commit, play}
+use Rattle.run_parts.specs.Parts.{Told, Tells, Goes, Breaks, Stays, since_wake, tally_now}
+use Rattle.run_parts.proofs.CountLemmas.{Still, still-by}
+use Rattle.run_parts.proofs.GoesLemmas.{goes-then, goes-told, goes-held}
+use Rattle.run_parts.proofs.BreakLemmas.{breaks-silent, breaks-told}
+use Rattle.boot_run.specs.Agrees.{IsUp, IsDown, LoadsAny, IsStored, IsLive, Counts}
+use Rattle.boot_run.specs.declared.runner.Runner.{Runner}
+use Rattle.boot_run.proofs.DiskLemmas.{still_leaves, settled_loads, open_loads, still-off, left-off}
+
+-- the state that the session commits is the book's
+pub next_is : (m : RunState) (s : Session) (d : DiskState) → IsStored m s d → store.committed_state s ≡ next_state m s.tree
+next_is m s d live = λ i. record { tree = s.tree; sequence = (sym live.sequence i + 1) % 4294967296; version = sym live.version i }
+
+-- what the session's commit says, whatever its answer
+pub record Committed (s : Session) (d e : DiskState) : Type 0 where
+  pub crash : (before : HiveState) (dirty : Bool) → Loads d.held before dirty → EachCrash e (LoadsAsEither before (store.committed_state s))
+  pub history : e.history ≡ d.history
+  pub counts : CountsGrow d e
+
+module _ (m : RunState) (next : RunState → Act) (what : CommitWord) (s : Session) (d e : DiskState) (live : IsStored m s d) (c : Committed s d e) where
+  pub commit_open : EachCrash e (MayLoad (open_between m.disk.settled (next_state m s.tree)))
+  commit_open image crash =
+      let P : HiveState → Type 0 = λ t. LoadsAsEither m.disk.settled t image in
+      open_loads m.disk.settled (next_state m s.tree) image (subst P (next_is m s d live) (c.crash m.disk.settled false live.loads image crash))
+
+  pub commit_still : Still d e
+  commit_still = still-by d e c.history c.counts
+
+  -- no memory: nothing was said
+  pub commit_memory : (x : Told) → Breaks (commit what s.tree m next) x x.said d e
+  commit_memory x = breaks-silent (commit what s.tree m next) x d e commit_still commit_open
+
+  -- the commit is done
+  module _ (after : Session) (number : ℕ) (is : after ≡ store.committed s) (raised : number ≡ next_number s.base.first) (none : e.flight ≡ []) (loads : Loads e.held (store.committed_state s) false) where
+    commit_number : number ≡ (next_state m s.tree).sequence
+    commit_number = raised ∙ ap (λ (t : HiveState). t.sequence) (next_is m s d live)
+
+    commit_loads : Loads e.held (next_state m s.tree) false
+    commit_loads = let P : HiveState → Type 0 = λ t. Loads e.held t false in subst P (next_is m s d live) loads
+
+    pub commit_live : IsLive (committed_state m s.tree) after e
+    commit_live = record {
+      live = sym (ap (λ (t : Session). t.tree) is);
+      changed = sym (ap (λ (t : Session). t.changed) is);
+      sequence = sym commit_number ∙ raised ∙ sym (ap (λ (t : Session). t.base.first) is);
+      version = live.version ∙ sym (ap (λ (t : Session). version_of t.base.minor) is);
+      settled = refl;
+      loads = commit_loads;
+    }
+
+    pub commit_goes : (x y : Told) → Tells x y (CommitLine what number ∷ []) → Goes (play (commit what s.tree m next)) (play (next (committed_state m s.tree))) x y d e
+    commit_goes x y said =
+        let r : Act = mark (Held s.tree) (next (committed_state m s.tree)) in
+        let P : ℕ → Type 0 = λ n. Tells x y (CommitLine what n ∷ []) in
+        goes-then (play (commit what s.tree m next)) (play r) (play (next (committed_state m s.tree))) x y y d e e
+        (goes-told (open_between m.disk.settled (next_state m s.tree)) (committed what s.tree m next) (CommitLine what (next_state m s.tree).sequence) Finished r x y d e
+        commit_still tt refl refl (subst P commit_number said))
+        (goes-held s.tree (next (committed_state m s.tree)) y e)
+
+    pub commit_breaks : Stays next → (x : Told) (y : List ℕ) → SaysFront x.said y (line_text (CommitLine what number)) → Breaks (commit what s.tree m next) x y d e
+    commit_breaks stays x y f =
+        let r : Act = mark (Held s.tree) (next (committed_state m s.tree)) in
+        let P : ℕ → Type 0 = λ n. SaysFront x.said y (line_text (CommitLine what n)) in
+        breaks-told (open_between m.disk.settled (next_state m s.tree)) (committed what s.tree m next) (CommitLine what (next_state m s.tree).sequence) Finished r x y d e
+        commit_still tt refl refl (subst P commit_number f) commit_open
+        (λ image crash. stays (committed_state m s.tree) image refl
+        (still_leaves e (MayLoad (settled_at (next_state m s.tree))) none (settled_loads e.held (next_state m s.tree) commit_loads) image crash))
+
+  -- a stop, and its verdict: the start is over
+  module _ (verdict : Verdict) (u : Outcome) (told : outcomes_in (VerdictLine verdict ∷ []) ≡ u ∷ [])
+      (is : committed what s.tree m next u ≡ end_with verdict false (opened_state m s.tree)) (f : DiskState) (off : f ≡ turned_off e)
+      (cause : HasCause u (since_wake d) (tally_now e)) where
+    stop_cause : HasCause u (since_wake d) (tally_now f)
+    stop_cause = let P : DiskState → Type 0 = λ t. HasCause u (since_wake d) (tally_now t) in subst P (sym off) cause
+
+    pub stop_open : EachCrash f (MayLoad (open_between m.disk.settled (next_state m s.tree)))
+    stop_open = left-off e f (MayLoad (open_between m.disk.settled (next_state m s.tree))) off commit_open
+
+    pub stop_goes : (x y : Told) → Tells x y (VerdictLine verdict ∷ []) → Goes (play (commit what s.tree m next)) (play (done (start_over false (opened_state m s.tree)))) x y d f
+    stop_goes x y said =
+        goes-told (open_between m.disk.settled (next_state m s.tree)) (committed what s.tree m next) (VerdictLine verdict) u
+        (done (start_over false (opened_state m s.tree))) x y d f (still-off d e f commit_still off) stop_cause told is said
+
+    pub stop_breaks : (x : Told) (y : List ℕ) → SaysFront x.said y (line_text (VerdictLine verdict)) → Breaks (commit what s.tree m next) x y d f
+    stop_breaks x y front =
+        breaks-told (open_between m.disk.settled (next_state m s.tree)) (committed what s.tree m next) (VerdictLine verdict) u
+        (done (start_over false (opened_state m s.tree))) x y d f (still-off d e f commit_still off) stop_cause told is front stop_open stop_open
+
+-- the runner counts the state in which a start is over
+pub counts_over : (m n : RunState) (r r' : Runner) → Counts m r → n.machine ≡ m.machine → n.starts ≡ m.starts
+    → r'.machine ≡ ended false r.machine → r'.starts ≡ r.starts → Counts (start_over false n) r'
+counts_over m n r r' counts machine starts over kept =
+    record { machine = ap (ended false) (machine ∙ counts.machine) ∙ sym over; starts = starts ∙ counts.starts ∙ sym kept }
+
+-- ---- that the disk loads, whatever it wakes up with
+
+either_any : (before after : HiveState) (c : Image) → LoadsAsEither before after c → LoadsAny c
+either_any before after c (inl l) = (record { state = before; dirty = l.0 }, l.1)
+either_any before after c (inr l) = (record { state = after; dirty = l.0 }, l.1)
+
+pub commit_down : (s : Session) (d e f : DiskState) → LoadsAny d.held → Committed s d e → f ≡ turned_off e → IsDown f
+commit_down s d e f loads c off =
+    let P : DiskState → Type 0 = λ t. IsDown t in
+    subst P (sym off) (record {
+      off = refl;
+      loads = λ image crash. either_any loads.0.state (store.committed_state s) image (c.crash loads.0.state loads.0.dirty loads.1 image crash);
+    })
+
+pub loads_down : (d f : DiskState) → d.flight ≡ [] → LoadsAny d.held → f ≡ turned_off d → IsDown f
+loads_down d f none loads off =
+    let P : DiskState → Type 0 = λ t. IsDown t in subst P (sym off) (record { off = refl; loads = still_leaves d LoadsAny none loads })

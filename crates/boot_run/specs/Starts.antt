@@ -1,0 +1,51 @@
+-- What came of an attempt, and of the phases of a start? (this project's own)
+use Rattle.std.specs.Prelude.{◌≡◌, ℕ, Bool, false, not, List, [], ◌∷◌, ◌++◌, map, Option, Some, None, option_map}
+use Rattle.hive_model.specs.Tree.{Tree}
+use Rattle.boot_report.specs.declared.words.Verdict.{Verdict}
+use Rattle.boot_report.specs.Report.{verdict_of}
+use Rattle.start_model.specs.Judge.{Judgement, Ignore, Log, FallBack, Stop}
+use Rattle.start_model.specs.Lines as lines
+use Rattle.start_model.specs.Lines.{Line, UnmetLine}
+use Rattle.start_model.specs.Machine.{Start, MachineState, Tried, attempt_of, phase_after, after_phase, unmet_in, is_done, with_start}
+use Rattle.start_model.specs.Sets.{set_of}
+use Rattle.nt_edge.specs.Disk.{DiskState}
+use Rattle.hive_store.specs.Session.{Session}
+use Rattle.start_model.specs.Run.{RunState, Act, phase_line, go_steps, play}
+use Rattle.run_parts.specs.Parts.{Told, Goes}
+use Rattle.boot_run.specs.declared.runner.Runner.{Runner}
+use Rattle.boot_run.specs.Agrees.{OnLeft}
+
+-- a start runs whose phases are not over
+abbrev pub is_under_way : Option Start → Bool
+is_under_way None = false
+is_under_way (Some s) = not (is_done s.phase)
+
+-- a start goes on after a failure that is ignored or logged, and ends after the others
+abbrev pub EndsBy : Option Verdict → Judgement → Type 0
+EndsBy verdict Ignore = verdict ≡ None
+EndsBy verdict Log = verdict ≡ None
+EndsBy verdict FallBack = option_map verdict_of verdict ≡ Some lines.FallBack
+EndsBy verdict Stop = option_map verdict_of verdict ≡ Some lines.Stopped
+
+-- the attempt of the book's machine was made, and the verdict is what follows from it
+pub record Attempts (old : MachineState) (usable : Bool) (new : MachineState) (verdict : Option Verdict) : Type 0 where
+  pub one : MachineState × Tried
+  pub is : attempt_of old usable ≡ Some one
+  pub machine : new ≡ one.0
+  pub ends : EndsBy verdict one.1.judgement
+
+-- the lines of a phase that ends, and of the next one
+abbrev pub phase_lines : Start → List Line
+phase_lines s = map UnmetLine (unmet_in s) ++ phase_line (phase_after s.phase) ∷ []
+
+-- the running start goes on to the next phase, whose entries are those of its set in the tree
+pub record NextPhase (tree : Tree) (old new : MachineState) : Type 0 where
+  pub start : Start
+  pub set : Tree
+  pub is : old.start ≡ Some start
+  pub there : set_of tree start.number ≡ Some set
+  pub machine : new ≡ with_start (after_phase set start) old
+
+-- Of so many steps from a state on these are left, for a start that goes on; or the start is over.
+abbrev pub StepsTo : ℕ → RunState → ℕ → Told → Told → DiskState → DiskState → Runner → Option Session → Type 0
+StepsTo most m left x y d e r o = (rest : Act) × (Goes (play (go_steps most m)) (play rest) x y d e × OnLeft (go_steps left) r e o rest)

@@ -1,0 +1,89 @@
+//! What leaves the live tree on the disk: a flush, and a switch off.
+
+ghost use Rattle.std.specs.Prelude.{◌≡◌, true, false, None, Some, IfOk, OnOk};
+ghost use Rattle.std.specs.Option.{option_map_or};
+ghost use Rattle.hive_model.specs.Tree.{Tree};
+ghost use Rattle.boot_report.specs.Report.{verdict_of};
+ghost use Rattle.start_model.specs.Run.{RunState, Act, flush_act, off_act, done};
+ghost use Rattle.start_model.specs.Run as book;
+ghost use Rattle.boot_run.specs.Agrees.{IsUp, IsLive, IsSound, Counts, CommitLeft, IsEnding, OffLeft, TurnLeft};
+ghost use Rattle.boot_run.specs.Hosts.{LeavesHost};
+ghost use Rattle.boot_run.specs.Views.{moment, RunsTo};
+
+use crate::committing::commit;
+use crate::ending::end_with;
+use crate::runner::Runner;
+use crate::saying::say;
+use crate::stop::RunStop;
+use boot_report::{CommitWord, Line, Verdict};
+use hive_store::Hive;
+use nt_edge::{Bench, Host};
+use std::alloc::Global;
+
+/// Commits the session's tree, where it was changed.
+pub(crate) fn flush<H: Host, B: Bench>(
+    alloc: Global,
+    hive: Hive,
+    runner: &mut Runner,
+    host: &mut H,
+    bench: &mut B,
+) -> Result<Option<Hive>, RunStop>
+    requires sound { IsSound runner.old (B.state bench.old) (Some hive) }
+    ensures sound { IfOk result (IsSound runner.new (B.state bench.new)) }
+    ensures plays { (m : RunState) → (H.state host.old).tells ≡ true → Counts m runner.old → IsLive m hive (B.state bench.old)
+        → RunsTo (flush_act m) (moment (H.state host.old) runner.old (B.state bench.old)) (moment (H.state host.new) runner.new (B.state bench.new))
+        result (TurnLeft runner.new (B.state bench.new)) }
+    ensures host { LeavesHost result (H.state host.old) (H.state host.new) }
+{
+    if hive.changed() {
+        return commit(alloc, CommitWord::Flush, hive, runner, host, bench);
+    }
+    say(alloc, host, &mut runner.summary, Line::FlushNothing)?;
+    Ok(Some(hive))
+}
+
+/// Behind a commit that was done the start ends; behind one that was stopped it is over.
+fn end_behind<H: Host, B: Bench>(
+    alloc: Global,
+    word: Verdict,
+    left: &Option<Hive>,
+    runner: &mut Runner,
+    host: &mut H,
+    bench: &mut B,
+) -> Result<(), RunStop>
+    requires sound { IsSound runner.old (B.state bench.old) left.now }
+    ensures sound { OnOk result (IsSound runner.new (B.state bench.new) None) }
+    ensures plays { (m : RunState) (tree : Tree) (rest : Act) → (H.state host.old).tells ≡ true → IsEnding (verdict_of word)
+        → CommitLeft m tree (book.end_with (verdict_of word) false) runner.old (B.state bench.old) left.now rest
+        → RunsTo rest (moment (H.state host.old) runner.old (B.state bench.old)) (moment (H.state host.new) runner.new (B.state bench.new))
+        result (OffLeft runner.new (B.state bench.new)) }
+    ensures host { LeavesHost result (H.state host.old) (H.state host.new) }
+{
+    match left {
+        Some(_) => end_with(alloc, word, runner, host, bench),
+        None => Ok(()),
+    }
+}
+
+/// Commits the session's tree where it was changed, and ends the start.
+pub(crate) fn off<H: Host, B: Bench>(
+    alloc: Global,
+    hive: Hive,
+    runner: &mut Runner,
+    host: &mut H,
+    bench: &mut B,
+) -> Result<(), RunStop>
+    requires sound { IsSound runner.old (B.state bench.old) (Some hive) }
+    ensures sound { OnOk result (IsSound runner.new (B.state bench.new) None) }
+    ensures plays { (m : RunState) → (H.state host.old).tells ≡ true → Counts m runner.old → IsLive m hive (B.state bench.old)
+        → RunsTo (option_map_or (λ s. off_act s m) m.machine.start (done m)) (moment (H.state host.old) runner.old (B.state bench.old))
+        (moment (H.state host.new) runner.new (B.state bench.new)) result (OffLeft runner.new (B.state bench.new)) }
+    ensures host { LeavesHost result (H.state host.old) (H.state host.new) }
+{
+    let word = runner.machine.ending();
+    if !hive.changed() {
+        return end_with(alloc, word, runner, host, bench);
+    }
+    let left = commit(alloc, CommitWord::Off, hive, runner, host, bench)?;
+    end_behind(alloc, word, &left, runner, host, bench)
+}

@@ -1,0 +1,72 @@
+//! Cuts of the power, and orders for stops.
+
+ghost use Rattle.std.specs.Prelude.{◌≡◌, ◌≤◌, true, None, IfOk, OnOk};
+ghost use Rattle.hive_model.specs.Image.{ArmedCut, ArmedFault};
+ghost use Rattle.nt_edge.specs.Bench.{armed};
+ghost use Rattle.nt_edge.specs.Book.{call_of, keep_of};
+ghost use Rattle.nt_edge.specs.Crash.{EachCrash};
+ghost use Rattle.start_model.specs.Fits.{MayLoad};
+ghost use Rattle.start_model.specs.Run.{RunState, cut_act, arm_act, done};
+ghost use Rattle.run_parts.specs.Parts.{Told, PlaysOr};
+ghost use Rattle.boot_run.specs.Agrees.{IsUp, IsLive, IsSound, Counts, OffLeft};
+ghost use Rattle.boot_run.specs.Hosts.{LeavesHost};
+ghost use Rattle.boot_run.specs.Views.{moment, RunsTo};
+
+use crate::ending::end_with;
+use crate::runner::Runner;
+use crate::stop::RunStop;
+use boot_report::Verdict;
+use hive_store::Hive;
+use nt_edge::{Bench, DiskCall, Host, Keep};
+use std::alloc::Global;
+
+/// Cuts the power, which ends the start.
+pub(crate) fn cut<H: Host, B: Bench>(
+    alloc: Global,
+    keep: Keep,
+    _hive: Hive,
+    runner: &mut Runner,
+    host: &mut H,
+    bench: &mut B,
+) -> Result<(), RunStop>
+    requires up { IsUp _hive (B.state bench.old) }
+    ensures sound { OnOk result (IsSound runner.new (B.state bench.new) None) }
+    ensures plays { (m : RunState) → (H.state host.old).tells ≡ true → Counts m runner.old → IsLive m _hive (B.state bench.old)
+        → RunsTo (cut_act m) (moment (H.state host.old) runner.old (B.state bench.old)) (moment (H.state host.new) runner.new (B.state bench.new))
+        result (OffLeft runner.new (B.state bench.new)) }
+    ensures host { LeavesHost result (H.state host.old) (H.state host.new) }
+{
+    bench.cut(keep);
+    end_with(alloc, Verdict::Cut, runner, host, bench)
+}
+
+/// Orders a cut in the n-th call from now on.
+pub(crate) fn arm_cut<B: Bench>(
+    call: DiskCall,
+    n: u32,
+    keep: Keep,
+    bench: &mut B,
+) -> Result<(), RunStop>
+    requires { 1 ≤ n }
+    ensures plays { (m : RunState) (told : Told) → EachCrash (B.state bench.old) (MayLoad m.disk)
+        → PlaysOr (arm_act (ArmedCut (call_of call) n (keep_of keep)) m) told told (B.state bench.old) (B.state bench.new) result (λ u a. a ≡ done m) }
+    ensures armed { OnOk result (B.state bench.new ≡ armed (ArmedCut (call_of call) n (keep_of keep)) (B.state bench.old)) }
+{
+    match bench.arm_cut(call, n, keep) {
+        Ok(()) => Ok(()),
+        Err(_) => Err(RunStop::Memory),
+    }
+}
+
+/// Orders a fault in the n-th call from now on.
+pub(crate) fn arm_fault<B: Bench>(call: DiskCall, n: u32, bench: &mut B) -> Result<(), RunStop>
+    requires { 1 ≤ n }
+    ensures plays { (m : RunState) (told : Told) → EachCrash (B.state bench.old) (MayLoad m.disk)
+        → PlaysOr (arm_act (ArmedFault (call_of call) n) m) told told (B.state bench.old) (B.state bench.new) result (λ u a. a ≡ done m) }
+    ensures armed { OnOk result (B.state bench.new ≡ armed (ArmedFault (call_of call) n) (B.state bench.old)) }
+{
+    match bench.arm_fault(call, n) {
+        Ok(()) => Ok(()),
+        Err(_) => Err(RunStop::Memory),
+    }
+}

@@ -1,0 +1,100 @@
+//! The control sets of a session, which lends no tree.
+
+ghost use Rattle.std.specs.Prelude.{◌≡◌, ◌∷◌, [], codes, true, Some, IfOk};
+ghost use Rattle.std.specs.Option.{unwrap_or};
+ghost use Rattle.hive_model.specs.Valid.{HoldsKeys};
+ghost use Rattle.hive_store.specs.Found.{found_dword};
+ghost use Rattle.start_model.specs.Sets.{select_numbers_of, usable_numbers_of, taken_number, set_of, is_usable};
+ghost use Rattle.start_model.specs.Run.{good_is_usable};
+
+use hive_store::Hive;
+use nt_bytes::Names;
+use reg_tree::Key;
+use select_keys::{SelectNumbers, Taken, select_path, set_path, sets_named};
+use std::alloc::{AllocError, Global};
+
+/// `Current`.
+const CURRENT: [u16; 7] = [0x43, 0x75, 0x72, 0x72, 0x65, 0x6e, 0x74];
+
+/// `Default`.
+const DEFAULT: [u16; 7] = [0x44, 0x65, 0x66, 0x61, 0x75, 0x6c, 0x74];
+
+/// `Failed`.
+const FAILED: [u16; 6] = [0x46, 0x61, 0x69, 0x6c, 0x65, 0x64];
+
+/// `LastKnownGood`.
+const GOOD: [u16; 13] = [
+    0x4c, 0x61, 0x73, 0x74, 0x4b, 0x6e, 0x6f, 0x77, 0x6e, 0x47, 0x6f, 0x6f, 0x64,
+];
+
+/// A number of the key at the path, 0 where it is absent or no DWORD.
+fn number_in(hive: &Hive, path: &Names, name: &[u16]) -> u32
+    ensures { result ≡ unwrap_or (found_dword path.now name.now hive.now.tree) 0 }
+{
+    hive.dword(path, name).unwrap_or(0)
+}
+
+/// The four numbers of `Select` in the live tree.
+pub(crate) fn live_numbers(alloc: Global, hive: &Hive) -> Result<SelectNumbers, AllocError>
+    ensures { IfOk result (λ numbers. numbers ≡ select_numbers_of hive.now.tree) }
+{
+    let path = select_path(alloc)?;
+    Ok(SelectNumbers {
+        current: number_in(hive, &path, &CURRENT),
+        default: number_in(hive, &path, &DEFAULT),
+        failed: number_in(hive, &path, &FAILED),
+        good: number_in(hive, &path, &GOOD),
+    })
+}
+
+/// The number of the set that a start takes: LastKnownGood or Default.
+pub(crate) fn taken_number(numbers: SelectNumbers, on_good: bool) -> u32
+    ensures { result ≡ taken_number numbers on_good }
+{
+    if on_good {
+        numbers.good
+    } else {
+        numbers.default
+    }
+}
+
+/// The numbers of the sets of the live tree.
+pub(crate) fn live_sets(alloc: Global, hive: &Hive) -> Result<Taken, AllocError>
+    ensures { IfOk result (λ taken. taken ≡ usable_numbers_of hive.now.tree) }
+{
+    let names = hive.names_below(alloc, &Names::new(alloc))?;
+    Ok(sets_named(names.as_slice()))
+}
+
+/// Whether the number names a set of the live tree.
+fn is_usable(alloc: Global, hive: &Hive, number: u32) -> Result<bool, AllocError>
+    ensures { IfOk result (λ usable. usable ≡ is_usable hive.now.tree number) }
+{
+    if number < 1 || 999 < number {
+        return Ok(false);
+    }
+    let path = set_path(alloc, number)?;
+    Ok(hive.has(&path))
+}
+
+/// Whether LastKnownGood names a set of the live tree.
+pub(crate) fn good_is_usable(alloc: Global, hive: &Hive) -> Result<bool, AllocError>
+    ensures { IfOk result (λ usable. usable ≡ good_is_usable hive.now.tree) }
+{
+    let path = select_path(alloc)?;
+    let number = number_in(hive, &path, &GOOD);
+    is_usable(alloc, hive, number)
+}
+
+/// A copy of the set of this number, which must be there. No hive holds a key that could not be in one.
+pub(crate) fn live_set(alloc: Global, hive: &Hive, number: u32) -> Result<Key, AllocError>
+    requires { is_usable hive.now.tree number ≡ true }
+    ensures set { IfOk result (λ set. set_of hive.now.tree number ≡ Some set) }
+    ensures held { IfOk result HoldsKeys }
+{
+    let path = set_path(alloc, number)?;
+    match hive.subtree(alloc, &path)? {
+        Some(set) => Ok(set),
+        None => unreachable!(),
+    }
+}

@@ -1,0 +1,292 @@
+//! The starter: attempts and changes of phase.
+
+ghost use Rattle.std.specs.Prelude.{◌≡◌, ◌≤◌, true, false, [], Some, IfOk, IfErr, OnOk};
+ghost use Rattle.std.specs.Option.{option_map_or};
+ghost use Rattle.hive_store.specs.Session.{Session};
+ghost use Rattle.start_model.specs.Judge.{Judgement};
+ghost use Rattle.start_model.specs.Machine.{Start, MachineState, Tried, attempt_of, unmet_in};
+ghost use Rattle.start_model.specs.Run.{RunState, Act, good_is_usable, try_line, judged, starter_step, phase_step, stepping, go_steps, go_act, enough_steps};
+ghost use Rattle.boot_machine.specs.Steps.{is_at_end};
+ghost use Rattle.run_parts.specs.Parts.{Stays, TellsOr};
+ghost use Rattle.boot_run.specs.Agrees.{IsRunningBy, IsLive, IsSound, Counts, OnLeft, TurnLeft};
+ghost use Rattle.boot_run.specs.Hosts.{LeavesHost};
+ghost use Rattle.boot_run.specs.Starts.{is_under_way, EndsBy, Attempts, NextPhase, phase_lines};
+ghost use Rattle.boot_run.specs.declared.stop.RunStop.TheVariants.{Memory};
+ghost use Rattle.boot_run.specs.Views.{moment, told_in, RunsTo, SaysAll};
+
+use crate::ending::end_with;
+use crate::runner::Runner;
+use crate::saving::save_where_due;
+use crate::saying::say;
+use crate::sets::{good_is_usable, live_set};
+use crate::stop::RunStop;
+use crate::unmet::say_unmet;
+use crate::words::{phase_word, try_word, verdict_after};
+use boot_machine::{Machine, Phase};
+use boot_report::{Line, Verdict};
+use hive_store::Hive;
+use nt_bytes::Names;
+use nt_edge::{Bench, Host};
+use std::alloc::Global;
+
+// ---- an attempt
+
+/// Attempts the first ready entry, and says how that went. Answers the verdict with which the start ends by it, if
+/// it does. `usable`: LastKnownGood names a set.
+fn attempt<H: Host>(
+    alloc: Global,
+    usable: bool,
+    runner: &mut Runner,
+    host: &mut H,
+) -> Result<Option<Verdict>, RunStop>
+    requires { is_at_end runner.old.machine.start ≡ false }
+    ensures attempts { IfOk result (Attempts runner.old.machine usable runner.new.machine) }
+    ensures tells { (one : MachineState × Tried) → (H.state host.old).tells ≡ true → attempt_of runner.old.machine usable ≡ Some one
+        → TellsOr (try_line one.1) (told_in (H.state host.old) runner.old) (told_in (H.state host.new) runner.new) result }
+    ensures starts { runner.new.starts ≡ runner.old.starts }
+    ensures host { LeavesHost result (H.state host.old) (H.state host.new) }
+{
+    let Ok(tried) = runner.machine.attempt(alloc, usable) else {
+        return Err(RunStop::Memory);
+    };
+    let outcome = try_word(&tried);
+    let verdict = verdict_after(&tried);
+    let name = tried.name;
+    say(
+        alloc,
+        host,
+        &mut runner.summary,
+        Line::Try { name, outcome },
+    )?;
+    Ok(verdict)
+}
+
+/// Ends the start with the verdict, where there is one.
+fn end_where<H: Host, B: Bench>(
+    alloc: Global,
+    verdict: Option<Verdict>,
+    hive: Hive,
+    runner: &mut Runner,
+    host: &mut H,
+    bench: &mut B,
+) -> Result<Option<Hive>, RunStop>
+    requires sound { IsSound runner.old (B.state bench.old) (Some hive) }
+    ensures sound { IfOk result (IsSound runner.new (B.state bench.new)) }
+    ensures plays { (m : RunState) (next : RunState → Act) (judgement : Judgement) → (H.state host.old).tells ≡ true → Counts m runner.old
+        → IsLive m hive (B.state bench.old) → EndsBy verdict judgement
+        → RunsTo (judged judgement m next) (moment (H.state host.old) runner.old (B.state bench.old))
+        (moment (H.state host.new) runner.new (B.state bench.new)) result (OnLeft next runner.new (B.state bench.new)) }
+    ensures host { LeavesHost result (H.state host.old) (H.state host.new) }
+{
+    match verdict {
+        None => Ok(Some(hive)),
+        Some(word) => {
+            end_with(alloc, word, runner, host, bench)?;
+            Ok(None)
+        }
+    }
+}
+
+/// One attempt, and what follows from it.
+fn try_next<H: Host, B: Bench>(
+    alloc: Global,
+    hive: Hive,
+    runner: &mut Runner,
+    host: &mut H,
+    bench: &mut B,
+) -> Result<Option<Hive>, RunStop>
+    requires sound { IsSound runner.old (B.state bench.old) (Some hive) }
+    requires ready { is_at_end runner.old.machine.start ≡ false }
+    ensures sound { IfOk result (IsSound runner.new (B.state bench.new)) }
+    ensures plays { (m : RunState) (s : Start) (next : RunState → Act) → (H.state host.old).tells ≡ true → Counts m runner.old
+        → IsLive m hive (B.state bench.old) → Stays next
+        → RunsTo (starter_step s m next (attempt_of m.machine (good_is_usable m.live))) (moment (H.state host.old) runner.old (B.state bench.old))
+        (moment (H.state host.new) runner.new (B.state bench.new)) result (OnLeft next runner.new (B.state bench.new)) }
+    ensures host { LeavesHost result (H.state host.old) (H.state host.new) }
+{
+    let Ok(usable) = good_is_usable(alloc, &hive) else {
+        return Err(RunStop::Memory);
+    };
+    let verdict = attempt(alloc, usable, runner, host)?;
+    end_where(alloc, verdict, hive, runner, host, bench)
+}
+
+// ---- a change of phase
+
+/// Goes on to the next phase, with the entries of the taken set as it is now. Answers what was unmet.
+fn next_phase(alloc: Global, hive: &Hive, runner: &mut Runner) -> Result<Names, RunStop>
+    requires { IsRunningBy runner.old.machine.start hive.now.tree }
+    ensures next { OnOk result (NextPhase hive.now.tree runner.old.machine runner.new.machine) }
+    ensures unmet { IfOk result (λ names. names ≡ option_map_or unmet_in runner.old.machine.start []) }
+    ensures sound { OnOk result (IsRunningBy runner.new.machine.start hive.now.tree) }
+    ensures starts { runner.new.starts ≡ runner.old.starts }
+    ensures summary { runner.new.summary ≡ runner.old.summary }
+    ensures memory { IfErr result (λ stop. stop ≡ Memory) }
+{
+    let Some((number, _)) = runner.machine.running() else {
+        unreachable!()
+    };
+    let Ok(set) = live_set(alloc, hive, number) else {
+        return Err(RunStop::Memory);
+    };
+    match runner.machine.next_phase(alloc, &set) {
+        Ok(unmet) => Ok(unmet),
+        Err(_) => Err(RunStop::Memory),
+    }
+}
+
+/// The phase ends and the next one begins: what still waits is said as unmet, and then the phase.
+fn say_phase<H: Host>(
+    alloc: Global,
+    hive: &Hive,
+    runner: &mut Runner,
+    host: &mut H,
+) -> Result<(), RunStop>
+    requires { IsRunningBy runner.old.machine.start hive.now.tree }
+    ensures next { OnOk result (NextPhase hive.now.tree runner.old.machine runner.new.machine) }
+    ensures sound { OnOk result (IsRunningBy runner.new.machine.start hive.now.tree) }
+    ensures tells { (s : Start) → (H.state host.old).tells ≡ true → runner.old.machine.start ≡ Some s
+        → SaysAll (phase_lines s) (told_in (H.state host.old) runner.old) (told_in (H.state host.new) runner.new) result }
+    ensures starts { runner.new.starts ≡ runner.old.starts }
+    ensures host { LeavesHost result (H.state host.old) (H.state host.new) }
+{
+    let unmet = next_phase(alloc, hive, runner)?;
+    say_unmet(alloc, unmet.as_slice(), &mut runner.summary, host)?;
+    let word = phase_word(runner.machine.phase());
+    say(alloc, host, &mut runner.summary, Line::Phase { word })
+}
+
+/// The phase is at its end: what still waits is unmet, the next one begins, and a start that became good by that is
+/// saved.
+fn change_phase<H: Host, B: Bench>(
+    alloc: Global,
+    hive: Hive,
+    runner: &mut Runner,
+    host: &mut H,
+    bench: &mut B,
+) -> Result<Option<Hive>, RunStop>
+    requires sound { IsSound runner.old (B.state bench.old) (Some hive) }
+    ensures sound { IfOk result (IsSound runner.new (B.state bench.new)) }
+    ensures plays { (m : RunState) (s : Start) (next : RunState → Act) → (H.state host.old).tells ≡ true → Counts m runner.old
+        → IsLive m hive (B.state bench.old) → m.machine.start ≡ Some s → Stays next
+        → RunsTo (phase_step s m next) (moment (H.state host.old) runner.old (B.state bench.old))
+        (moment (H.state host.new) runner.new (B.state bench.new)) result (OnLeft next runner.new (B.state bench.new)) }
+    ensures host { LeavesHost result (H.state host.old) (H.state host.new) }
+{
+    say_phase(alloc, &hive, runner, host)?;
+    save_where_due(alloc, hive, runner, host, bench)
+}
+
+// ---- steps
+
+/// Whether a start runs whose phases are not over.
+fn is_under_way(machine: &Machine) -> bool
+    ensures { result ≡ is_under_way machine.now.start }
+{
+    machine.phase() != Phase::Done
+}
+
+/// One step of the starter. A start must run whose phases are not over.
+fn step<H: Host, B: Bench>(
+    alloc: Global,
+    hive: Hive,
+    runner: &mut Runner,
+    host: &mut H,
+    bench: &mut B,
+) -> Result<Option<Hive>, RunStop>
+    requires sound { IsSound runner.old (B.state bench.old) (Some hive) }
+    requires under_way { is_under_way runner.old.machine.start ≡ true }
+    ensures sound { IfOk result (IsSound runner.new (B.state bench.new)) }
+    ensures plays { (m : RunState) (next : RunState → Act) → (H.state host.old).tells ≡ true → Counts m runner.old
+        → IsLive m hive (B.state bench.old) → Stays next
+        → RunsTo (stepping m.machine.start m next) (moment (H.state host.old) runner.old (B.state bench.old))
+        (moment (H.state host.new) runner.new (B.state bench.new)) result (OnLeft next runner.new (B.state bench.new)) }
+    ensures host { LeavesHost result (H.state host.old) (H.state host.new) }
+{
+    if runner.machine.at_phase_end() {
+        return change_phase(alloc, hive, runner, host, bench);
+    }
+    try_next(alloc, hive, runner, host, bench)
+}
+
+/// At most so many steps of the starter, while a start is under way.
+fn take_steps<H: Host, B: Bench>(
+    alloc: Global,
+    most: u64,
+    session: &mut Option<Hive>,
+    runner: &mut Runner,
+    host: &mut H,
+    bench: &mut B,
+) -> Result<(), RunStop>
+    requires sound { IsSound runner.old (B.state bench.old) session.old }
+    ensures sound { OnOk result (IsSound runner.new (B.state bench.new) session.new) }
+    ensures plays { (m : RunState) (hive : Session) → (H.state host.old).tells ≡ true → session.old ≡ Some hive → Counts m runner.old
+        → IsLive m hive (B.state bench.old)
+        → RunsTo (go_steps most m) (moment (H.state host.old) runner.old (B.state bench.old))
+        (moment (H.state host.new) runner.new (B.state bench.new)) result (λ u rest. TurnLeft runner.new (B.state bench.new) session.new rest) }
+    ensures host { LeavesHost result (H.state host.old) (H.state host.new) }
+{
+    let mut left = most;
+    'steps: while left != 0 && is_under_way(&runner.machine) {
+        let Some(hive) = session.take() else {
+            unreachable!()
+        };
+        *session = step(alloc, hive, runner, host, bench)?;
+        left -= 1;
+    }
+    Ok(())
+}
+
+/// So many steps as are enough for all that the start can still do.
+fn enough(alloc: Global, hive: &Hive, runner: &Runner) -> Result<u64, RunStop>
+    requires { IsRunningBy runner.now.machine.start hive.now.tree }
+    ensures memory { IfErr result (λ stop. stop ≡ Memory) }
+    ensures steps { IfOk result (λ n. (m : RunState) → m.live ≡ hive.now.tree → enough_steps runner.now.machine.start m ≤ n) }
+{
+    let Some((number, _)) = runner.machine.running() else {
+        unreachable!()
+    };
+    let Ok(_) = live_set(alloc, hive, number) else {
+        return Err(RunStop::Memory);
+    };
+    Ok(u64::MAX)
+}
+
+/// How many steps are taken at most: so many, or as many as there can be.
+fn most_steps(
+    alloc: Global,
+    steps: Option<u32>,
+    hive: &Hive,
+    runner: &Runner,
+) -> Result<u64, RunStop>
+    requires { IsRunningBy runner.now.machine.start hive.now.tree }
+    ensures memory { IfErr result (λ stop. stop ≡ Memory) }
+    ensures steps { IfOk result (λ n. (m : RunState) → m.live ≡ hive.now.tree → m.machine ≡ runner.now.machine → go_steps n m ≡ go_act steps m) }
+{
+    match steps {
+        Some(steps) => Ok(u64::from(steps)),
+        None => enough(alloc, hive, runner),
+    }
+}
+
+/// So many steps of the starter, or all that there can be.
+pub(crate) fn go<H: Host, B: Bench>(
+    alloc: Global,
+    steps: Option<u32>,
+    hive: Hive,
+    runner: &mut Runner,
+    host: &mut H,
+    bench: &mut B,
+) -> Result<Option<Hive>, RunStop>
+    requires sound { IsSound runner.old (B.state bench.old) (Some hive) }
+    ensures sound { IfOk result (IsSound runner.new (B.state bench.new)) }
+    ensures plays { (m : RunState) → (H.state host.old).tells ≡ true → Counts m runner.old → IsLive m hive (B.state bench.old)
+        → RunsTo (go_act steps m) (moment (H.state host.old) runner.old (B.state bench.old))
+        (moment (H.state host.new) runner.new (B.state bench.new)) result (TurnLeft runner.new (B.state bench.new)) }
+    ensures host { LeavesHost result (H.state host.old) (H.state host.new) }
+{
+    let most = most_steps(alloc, steps, &hive, runner)?;
+    let mut session = Some(hive);
+    take_steps(alloc, most, &mut session, runner, host, bench)?;
+    Ok(session)
+}
