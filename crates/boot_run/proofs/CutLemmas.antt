@@ -56,9 +56,13 @@ told_plays : {E : Type 0} → (result : Result (Unit {0}) E) (m : RunState) (r' 
     → Counts (start_over false m) r' → EachCrash f (MayLoad m.disk) → TellsOr (VerdictLine book.Cut) x y result
     → PlaysOr (ask m.disk (λ outcome. end_with book.Cut false m)) x y f f result (OffLeft r' f)
 told_plays (Ok v) m r' x y f cause counts left said =
-    let act : Outcome → Act = λ outcome. end_with book.Cut false m in
-    (done (start_over false m), (goes-told m.disk act (VerdictLine book.Cut) PowerCut (done (start_over false m)) x y f f (still f) cause refl refl said,
-    here_turn (start_over false m) r' f None counts left))
+    let act : Outcome → Act = λ outcome. end_with book.Cut false m in (
+      done (start_over false m),
+      (
+        goes-told m.disk act (VerdictLine book.Cut) PowerCut (done (start_over false m)) x y f f (still f) cause refl refl said,
+        here_turn (start_over false m) r' f None counts left,
+      ),
+    )
 told_plays (Err e) m r' x y f cause counts left said =
     let act : Outcome → Act = λ outcome. end_with book.Cut false m in
     breaks-told m.disk act (VerdictLine book.Cut) PowerCut (done (start_over false m)) x y.said f f (still f) cause refl refl said left left
@@ -85,25 +89,30 @@ cut_plays result m s r r' x y d e f bounded up live counts is off machine starts
 
 pub armed_goes : (arming : Arming) (m : RunState) (x : Told) (d e : DiskState) → e ≡ armed arming d → (a : Act) × (Goes (play (arm_act arming m)) (play a) x x d e × (a ≡ done m))
 armed_goes arming m x d e is =
-    let P : DiskState → Type 0 = λ t. Goes (play (arm_act arming m)) (play (done m)) x x d t in
-    (done m, (subst P (sym is) (record {
-      lines = [];
-      notes = Ordered arming ∷ [];
-      added = [];
-      woken = [];
-      tells = tells-nothing x;
-      grew = record {
-        wakes = sym (append-nil d.history.wakes);
-        armings = refl;
-        cut_calls = refl;
-        placings = refl;
-        takings = refl;
-        later = record { cuts = no_less-same d.cuts; faults = no_less-same d.faults };
-        caused = tt;
-      };
-      fits = tt;
-      goes = λ w o. refl;
-    }), refl))
+    let P : DiskState → Type 0 = λ t. Goes (play (arm_act arming m)) (play (done m)) x x d t in (
+      done m,
+      (
+        subst P (sym is) (record {
+          lines = [];
+          notes = Ordered arming ∷ [];
+          added = [];
+          woken = [];
+          tells = tells-nothing x;
+          grew = record {
+            wakes = sym (append-nil d.history.wakes);
+            armings = refl;
+            cut_calls = refl;
+            placings = refl;
+            takings = refl;
+            later = record { cuts = no_less-same d.cuts; faults = no_less-same d.faults };
+            caused = tt;
+          };
+          fits = tt;
+          goes = λ w o. refl;
+        }),
+        refl,
+      ),
+    )
 
 pub armed_breaks : (arming : Arming) (m : RunState) (x : Told) (d e : DiskState) → e ≡ d → EachCrash d (MayLoad m.disk) → Breaks (arm_act arming m) x x.said d e
 armed_breaks arming m x d e is left =

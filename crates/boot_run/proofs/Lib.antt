@@ -7,3 +7,10 @@ pub mod LoadLemmas
 pub mod PlayLemmas
 pub mod CloseLemmas
 pub mod CutLemmas
+pub mod RunLemmas
+pub mod BeginLemmas
+pub mod SaveLemmas
+pub mod DueLemmas
+pub mod EditLemmas
+pub mod StartLemmas
+pub mod StepLemmas

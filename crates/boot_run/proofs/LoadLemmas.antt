@@ -153,5 +153,5 @@ pub load_down : (i : Image) (d d1 e f : DiskState) → Loaded i d d1 e → Loads
 load_down i d d1 e f c any off =
     let P : DiskState → Type 0 = λ t. IsDown t in
     let each : EachCrash e LoadsAny = λ image crash.
-        let l = c.crash any.0.state any.0.dirty any.1 image crash in (record { state = any.0.state; dirty = l.0 }, l.1) in
+    let l = c.crash any.0.state any.0.dirty any.1 image crash in (record { state = any.0.state; dirty = l.0 }, l.1) in
     subst P (sym off) (record { off = refl; loads = each })

@@ -7,3 +7,4 @@ pub mod Agrees
 pub mod Begins
 pub mod Saves
 pub mod Starts
+pub mod Edits

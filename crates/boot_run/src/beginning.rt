@@ -27,14 +27,13 @@ use crate::saying::say;
 use crate::sets::{live_numbers, live_set, live_sets, taken_number};
 use crate::stop::RunStop;
 use crate::summary::Summary;
-use crate::words::{missing, select_line};
+use crate::words::{edit_word, select_line};
 use boot_machine::Machine;
 use boot_report::{CommitWord, Line, PhaseWord, Verdict};
 use hive_store::Hive;
 use nt_edge::{Bench, Host};
-use reg_tree::{EditStop, Steps};
 use select_keys::{SelectNumbers, SelectStop, SetPlan, plan_begin};
-use std::alloc::Global;
+use std::alloc::{AllocError, Global};
 
 // ---- a set that stays as it is
 
@@ -45,19 +44,14 @@ fn begin_on(
     on_good: bool,
     hive: &Hive,
     machine: &mut Machine,
-) -> Result<(), RunStop>
+) -> Result<(), AllocError>
     requires off { machine.old.start ≡ None }
     requires taken { IsTaken hive.now.tree number }
     ensures begun { OnOk result (machine.new ≡ with_start (begun_with (unwrap_or (set_of hive.now.tree number) no_set) number on_good) machine.old) }
     ensures held { OnOk result (HoldsKeys (unwrap_or (set_of hive.now.tree number) no_set)) }
 {
-    let Ok(set) = live_set(alloc, hive, number) else {
-        return Err(RunStop::Memory);
-    };
-    match machine.begin(alloc, &set, number, on_good) {
-        Ok(()) => Ok(()),
-        Err(_) => Err(RunStop::Memory),
-    }
+    let set = live_set(alloc, hive, number)?;
+    machine.begin(alloc, &set, number, on_good)
 }
 
 /// Begins the boot phase on the set of this number.
@@ -78,7 +72,9 @@ fn begin_start<H: Host>(
         d d result (λ u rest. TurnLeft runner.new d (Some hive.now) rest) }
     ensures host { LeavesHost result (H.state host.old) (H.state host.new) }
 {
-    begin_on(alloc, number, on_good, hive, &mut runner.machine)?;
+    let Ok(()) = begin_on(alloc, number, on_good, hive, &mut runner.machine) else {
+        return Err(RunStop::Memory);
+    };
     say(alloc, host, &mut runner.summary, select_line(numbers))?;
     let word = PhaseWord::Boot;
     say(alloc, host, &mut runner.summary, Line::Phase { word })
@@ -167,8 +163,10 @@ fn begin_stepped<H: Host, B: Bench>(
     let mut hive = hive;
     match hive.apply(alloc, steps) {
         Ok(()) => begin_committed(alloc, chosen, on_good, numbers, hive, runner, host, bench),
-        Err(EditStop::Memory) => Err(RunStop::Memory),
-        Err(_) => end_start(alloc, Verdict::Full, runner, host, bench),
+        Err(stop) => match edit_word(stop) {
+            None => Err(RunStop::Memory),
+            Some(_) => end_start(alloc, Verdict::Full, runner, host, bench),
+        },
     }
 }
 
@@ -195,7 +193,15 @@ fn begin_by<H: Host, B: Bench>(
     if !plan.steps.is_empty() {
         return begin_stepped(alloc, plan, on_good, hive, runner, host, bench);
     }
-    match begin_start(alloc, plan.chosen, on_good, plan.numbers, &hive, runner, host) {
+    match begin_start(
+        alloc,
+        plan.chosen,
+        on_good,
+        plan.numbers,
+        &hive,
+        runner,
+        host,
+    ) {
         Ok(()) => Ok(Some(hive)),
         Err(stop) => Err(stop),
     }
@@ -252,8 +258,9 @@ fn say_set<H: Host>(
             Ok(()) => Ok(Err(Verdict::NoNumber)),
             Err(stop) => Err(stop),
         },
+        Err(SelectStop::NoControlSet) => Ok(Err(Verdict::NoControlSet)),
+        Err(SelectStop::NoLastKnownGood) => Ok(Err(Verdict::NoLastKnownGood)),
         Err(SelectStop::Memory) => Err(RunStop::Memory),
-        Err(_) => Ok(Err(missing(on_good))),
     }
 }
 
@@ -274,9 +281,9 @@ pub(crate) fn take_set<H: Host, B: Bench>(
         (moment (H.state host.new) runner.new (B.state bench.new)) result (TurnLeft runner.new (B.state bench.new)) }
     ensures host { LeavesHost result (H.state host.old) (H.state host.new) }
 {
-    match say_set(alloc, on_good, &hive, &mut runner.summary, host) {
-        Ok(Ok(plan)) => begin_by(alloc, plan, on_good, hive, runner, host, bench),
-        Ok(Err(word)) => end_start(alloc, word, runner, host, bench),
-        Err(stop) => Err(stop),
+    let found = say_set(alloc, on_good, &hive, &mut runner.summary, host)?;
+    match found {
+        Ok(plan) => begin_by(alloc, plan, on_good, hive, runner, host, bench),
+        Err(word) => end_start(alloc, word, runner, host, bench),
     }
 }

@@ -77,10 +77,10 @@ fn load_and_take<H: Host, B: Bench>(
         (moment (H.state host.new) runner.new (B.state bench.new)) result (TurnLeft runner.new (B.state bench.new)) }
     ensures host { LeavesHost result (H.state host.old) (H.state host.new) }
 {
-    match load(alloc, runner, host, bench) {
-        Ok(Some(hive)) => take_set(alloc, on_good, hive, runner, host, bench),
-        Ok(None) => Ok(None),
-        Err(stop) => Err(stop),
+    let left = load(alloc, runner, host, bench)?;
+    match left {
+        Some(hive) => take_set(alloc, on_good, hive, runner, host, bench),
+        None => Ok(None),
     }
 }
 
@@ -150,5 +150,13 @@ pub(crate) fn boot<H: Host, B: Bench>(
     let Ok(chosen) = choose(alloc, ini, entry, system) else {
         return Err(RunStop::Memory);
     };
-    boot_by(alloc, ini, chosen, due || last_known_good, runner, host, bench)
+    boot_by(
+        alloc,
+        ini,
+        chosen,
+        due || last_known_good,
+        runner,
+        host,
+        bench,
+    )
 }

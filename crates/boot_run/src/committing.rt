@@ -37,7 +37,12 @@ pub(crate) fn commit<H: Host, B: Bench>(
 {
     match hive.commit(bench) {
         Ok((hive, sequence)) => {
-            say(alloc, host, &mut runner.summary, Line::Commit { what, sequence })?;
+            say(
+                alloc,
+                host,
+                &mut runner.summary,
+                Line::Commit { what, sequence },
+            )?;
             Ok(Some(hive))
         }
         Err(CommitStop::PowerLost) => {

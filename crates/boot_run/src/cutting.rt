@@ -2,6 +2,7 @@
 
 ghost use Rattle.std.specs.Prelude.{◌≡◌, ◌≤◌, true, None, IfOk, OnOk};
 ghost use Rattle.hive_model.specs.Image.{ArmedCut, ArmedFault};
+ghost use Rattle.nt_edge.specs.Bench.{armed};
 ghost use Rattle.nt_edge.specs.Book.{call_of, keep_of};
 ghost use Rattle.nt_edge.specs.Crash.{EachCrash};
 ghost use Rattle.start_model.specs.Fits.{MayLoad};
@@ -40,10 +41,16 @@ pub(crate) fn cut<H: Host, B: Bench>(
 }
 
 /// Orders a cut in the n-th call from now on.
-pub(crate) fn arm_cut<B: Bench>(call: DiskCall, n: u32, keep: Keep, bench: &mut B) -> Result<(), RunStop>
+pub(crate) fn arm_cut<B: Bench>(
+    call: DiskCall,
+    n: u32,
+    keep: Keep,
+    bench: &mut B,
+) -> Result<(), RunStop>
     requires { 1 ≤ n }
     ensures plays { (m : RunState) (told : Told) → EachCrash (B.state bench.old) (MayLoad m.disk)
         → PlaysOr (arm_act (ArmedCut (call_of call) n (keep_of keep)) m) told told (B.state bench.old) (B.state bench.new) result (λ u a. a ≡ done m) }
+    ensures armed { OnOk result (B.state bench.new ≡ armed (ArmedCut (call_of call) n (keep_of keep)) (B.state bench.old)) }
 {
     match bench.arm_cut(call, n, keep) {
         Ok(()) => Ok(()),
@@ -56,6 +63,7 @@ pub(crate) fn arm_fault<B: Bench>(call: DiskCall, n: u32, bench: &mut B) -> Resu
     requires { 1 ≤ n }
     ensures plays { (m : RunState) (told : Told) → EachCrash (B.state bench.old) (MayLoad m.disk)
         → PlaysOr (arm_act (ArmedFault (call_of call) n) m) told told (B.state bench.old) (B.state bench.new) result (λ u a. a ≡ done m) }
+    ensures armed { OnOk result (B.state bench.new ≡ armed (ArmedFault (call_of call) n) (B.state bench.old)) }
 {
     match bench.arm_fault(call, n) {
         Ok(()) => Ok(()),

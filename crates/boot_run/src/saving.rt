@@ -1,6 +1,6 @@
 //! The logon, and the save of a start that is good.
 
-ghost use Rattle.std.specs.Prelude.{◌≡◌, true, Some, IfOk, OnOk, IfSome};
+ghost use Rattle.std.specs.Prelude.{◌≡◌, true, Some, IfOk, IfErr, OnOk, IfSome};
 ghost use Rattle.std.specs.Option.{option_map_or};
 ghost use Rattle.std.specs.List.{All};
 ghost use Rattle.hive_model.specs.Tree.{Tree};
@@ -18,6 +18,7 @@ ghost use Rattle.run_parts.specs.Parts.{Stays, TellsOr, PlaysOr};
 ghost use Rattle.boot_run.specs.Agrees.{IsStored, IsLive, IsSound, Counts, CommitLeft, OnLeft, TurnLeft};
 ghost use Rattle.boot_run.specs.Hosts.{LeavesHost};
 ghost use Rattle.boot_run.specs.Saves.{HandedOut, IsSavePlan, PlansOr, noting};
+ghost use Rattle.boot_run.specs.declared.stop.RunStop.TheVariants.{Memory};
 ghost use Rattle.boot_run.specs.Views.{moment, told_in, RunsTo};
 
 use crate::committing::commit;
@@ -25,11 +26,11 @@ use crate::runner::Runner;
 use crate::saying::say;
 use crate::sets::{live_numbers, live_sets};
 use crate::stop::RunStop;
-use crate::words::select_line;
+use crate::words::{edit_word, select_line};
 use boot_report::{CommitWord, Line};
 use hive_store::Hive;
 use nt_edge::{Bench, Host};
-use reg_tree::{EditStop, Key};
+use reg_tree::Key;
 use select_keys::{SelectNumbers, SelectStop, SetPlan, plan_save};
 use std::alloc::Global;
 
@@ -135,8 +136,10 @@ fn save_by<H: Host, B: Bench>(
     let mut hive = hive;
     match hive.apply(alloc, plan.steps) {
         Ok(()) => commit_save(alloc, plan.numbers, hive, runner, host, bench),
-        Err(EditStop::Memory) => Err(RunStop::Memory),
-        Err(_) => refuse(alloc, true, hive, runner, host),
+        Err(stop) => match edit_word(stop) {
+            Some(_) => refuse(alloc, true, hive, runner, host),
+            None => Err(RunStop::Memory),
+        },
     }
 }
 
@@ -145,6 +148,7 @@ fn plan_of(alloc: Global, clone: Key, hive: &Hive) -> Result<Option<SetPlan>, Ru
     requires { HoldsKeys clone }
     ensures plan { IfOk result (λ o. PlansOr o (save_plan_of (select_numbers_of hive.now.tree) (usable_numbers_of hive.now.tree) clone)) }
     ensures fits { IfOk result (λ o. IfSome o (λ plan. All Fits plan.steps)) }
+    ensures memory { IfErr result (λ stop. stop ≡ Memory) }
 {
     let Ok(numbers) = live_numbers(alloc, hive) else {
         return Err(RunStop::Memory);

@@ -1,6 +1,6 @@
 //! The starter: attempts and changes of phase.
 
-ghost use Rattle.std.specs.Prelude.{◌≡◌, ◌≤◌, true, false, [], Some, IfOk, OnOk};
+ghost use Rattle.std.specs.Prelude.{◌≡◌, ◌≤◌, true, false, [], Some, IfOk, IfErr, OnOk};
 ghost use Rattle.std.specs.Option.{option_map_or};
 ghost use Rattle.hive_store.specs.Session.{Session};
 ghost use Rattle.start_model.specs.Judge.{Judgement};
@@ -11,6 +11,7 @@ ghost use Rattle.run_parts.specs.Parts.{Stays, TellsOr};
 ghost use Rattle.boot_run.specs.Agrees.{IsRunningBy, IsLive, IsSound, Counts, OnLeft, TurnLeft};
 ghost use Rattle.boot_run.specs.Hosts.{LeavesHost};
 ghost use Rattle.boot_run.specs.Starts.{is_under_way, EndsBy, Attempts, NextPhase, phase_lines};
+ghost use Rattle.boot_run.specs.declared.stop.RunStop.TheVariants.{Memory};
 ghost use Rattle.boot_run.specs.Views.{moment, told_in, RunsTo, SaysAll};
 
 use crate::ending::end_with;
@@ -51,7 +52,12 @@ fn attempt<H: Host>(
     let outcome = try_word(&tried);
     let verdict = verdict_after(&tried);
     let name = tried.name;
-    say(alloc, host, &mut runner.summary, Line::Try { name, outcome })?;
+    say(
+        alloc,
+        host,
+        &mut runner.summary,
+        Line::Try { name, outcome },
+    )?;
     Ok(verdict)
 }
 
@@ -115,6 +121,7 @@ fn next_phase(alloc: Global, hive: &Hive, runner: &mut Runner) -> Result<Names, 
     ensures sound { OnOk result (IsRunningBy runner.new.machine.start hive.now.tree) }
     ensures starts { runner.new.starts ≡ runner.old.starts }
     ensures summary { runner.new.summary ≡ runner.old.summary }
+    ensures memory { IfErr result (λ stop. stop ≡ Memory) }
 {
     let Some((number, _)) = runner.machine.running() else {
         unreachable!()
@@ -238,10 +245,10 @@ fn enough(alloc: Global, hive: &Hive, runner: &Runner) -> Result<u64, RunStop>
     let Some((number, _)) = runner.machine.running() else {
         unreachable!()
     };
-    match live_set(alloc, hive, number) {
-        Ok(_) => Ok(u64::MAX),
-        Err(_) => Err(RunStop::Memory),
-    }
+    let Ok(_) = live_set(alloc, hive, number) else {
+        return Err(RunStop::Memory);
+    };
+    Ok(u64::MAX)
 }
 
 /// How many steps are taken at most: so many, or as many as there can be.

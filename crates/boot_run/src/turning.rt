@@ -2,6 +2,7 @@
 
 ghost use Rattle.std.specs.Prelude.{◌≡◌, ◌≤◌, true, ℕ, None, Some, Option, IfOk, IfSome, OnOk};
 ghost use Rattle.nt_edge.specs.Crash.{EachCrash};
+ghost use Rattle.nt_edge.specs.Host.{HostState};
 ghost use Rattle.boot_machine.specs.Steps.{is_there};
 ghost use Rattle.boot_machine.specs.Views.{event_in, refusal_in};
 ghost use Rattle.boot_script.specs.Script.{HasCounts};
@@ -44,16 +45,11 @@ use std::alloc::{AllocError, Global};
 // ---- events that leave the session alone
 
 /// Notes failures to come.
-fn fail(alloc: Global, name: &Units, count: u32, machine: &mut Machine) -> Result<(), RunStop>
+fn fail(alloc: Global, name: &Units, count: u32, machine: &mut Machine) -> Result<(), AllocError>
     ensures { OnOk result (machine.new ≡ failing name.now count machine.old) }
 {
-    let Ok(name) = name.copy(alloc) else {
-        return Err(RunStop::Memory);
-    };
-    match machine.fail(alloc, name, count) {
-        Ok(()) => Ok(()),
-        Err(_) => Err(RunStop::Memory),
-    }
+    let name = name.copy(alloc)?;
+    machine.fail(alloc, name, count)
 }
 
 /// Notes failures and orders stops; other events do nothing.
@@ -71,7 +67,10 @@ fn aside<B: Bench>(
         (λ u a. a ≡ done (record m { machine = aside_machine (event_in event.now) m.machine })) }
 {
     match event {
-        Event::Fail { name, count } => fail(alloc, name, *count, machine),
+        Event::Fail { name, count } => match fail(alloc, name, *count, machine) {
+            Ok(()) => Ok(()),
+            Err(_) => Err(RunStop::Memory),
+        },
         Event::ArmCut { call, n, keep } => arm_cut(*call, *n, *keep, bench),
         Event::ArmFault { call, n } => arm_fault(*call, *n, bench),
         _ => Ok(()),
@@ -92,10 +91,11 @@ fn beside<B: Bench>(
     ensures plays { (m : RunState) (told : Told) → Agrees m runner.old (B.state bench.old) hive
         → PlaysOr (aside_act (event_in event.now) m) told told (B.state bench.old) (B.state bench.new) result (TurnLeft runner.new (B.state bench.new)) }
     ensures summary { runner.new.summary ≡ runner.old.summary }
+    ensures host { (h : HostState) → LeavesHost result h h }
 {
     match aside(alloc, event, &mut runner.machine, bench) {
         Ok(()) => Ok(hive),
-        Err(stop) => Err(stop),
+        Err(_) => Err(RunStop::Memory),
     }
 }
 
@@ -123,7 +123,7 @@ fn step_in(alloc: Global, event: &Event, number: u32) -> Result<TreeStep, AllocE
 }
 
 /// The step of an edit, by the set that the running start took.
-fn next_step(alloc: Global, event: &Event, machine: &Machine) -> Result<TreeStep, RunStop>
+fn next_step(alloc: Global, event: &Event, machine: &Machine) -> Result<TreeStep, AllocError>
     requires edit { IsEdit (event_in event.now) }
     requires number { IfSome machine.now.start (λ (s : Start). s.number ≤ 999) }
     requires on { is_there machine.now.start ≡ true }
@@ -133,10 +133,7 @@ fn next_step(alloc: Global, event: &Event, machine: &Machine) -> Result<TreeStep
     let Some((number, _)) = machine.running() else {
         unreachable!()
     };
-    match step_in(alloc, event, number) {
-        Ok(step) => Ok(step),
-        Err(_) => Err(RunStop::Memory),
-    }
+    step_in(alloc, event, number)
 }
 
 /// Makes the edit of the event, or says why it is refused.
@@ -157,7 +154,9 @@ fn edit_by<H: Host, B: Bench>(
         (moment (H.state host.new) runner.new (B.state bench.now)) result (TurnLeft runner.new (B.state bench.now)) }
     ensures host { LeavesHost result (H.state host.old) (H.state host.new) }
 {
-    let step = next_step(alloc, event, &runner.machine)?;
+    let Ok(step) = next_step(alloc, event, &runner.machine) else {
+        return Err(RunStop::Memory);
+    };
     match edit(alloc, event, step, hive, runner, host) {
         Ok(hive) => Ok(Some(hive)),
         Err(stop) => Err(stop),

@@ -57,13 +57,24 @@ returns-in_ok-say-in-Ok-load-clause-plays g c = λ m next tells counts left stay
     let may : MayLoad m.disk w.0 = left w.0 w.1 in
     let x = told_in (g.H.Host.state c.args.host.now) c.args.runner.now in
     let exact : Loads w.0 (store.loaded_state c.in-Ok-load.hive) c.in-Ok-load.recovered =
-        (let P : Image → Type 0 = λ i. Loads i (store.loaded_state c.in-Ok-load.hive) c.in-Ok-load.recovered in subst P held (c.in-Ok-load.ensures.exact told)) in
-    let y = told_by (g.H.Host.state c.say.new.host) c.say.new.summary in
-    (next (loaded_state m may.woken),
-    (load_goes m next w.0 d d1 e may all c.in-Ok-load.hive c.in-Ok-load.recovered exact c.in-Ok-load.ensures.unchanged (c.in-Ok-load.ensures.still told) (c.in-Ok-load.ensures.loads told)
-    c.sequence-sequence.result c.sequence-sequence.ensures x y (c.in_ok-say-in-Ok-load.ensures.tells tells),
-    (may.woken, (refl, (record { machine = counts.machine; starts = counts.starts },
-    load_live m next w.0 d d1 e may all c.in-Ok-load.hive c.in-Ok-load.recovered exact c.in-Ok-load.ensures.unchanged (c.in-Ok-load.ensures.still told) (c.in-Ok-load.ensures.loads told))))))
+    (let P : Image → Type 0 = λ i. Loads i (store.loaded_state c.in-Ok-load.hive) c.in-Ok-load.recovered in subst P held (c.in-Ok-load.ensures.exact told)) in
+    let y = told_by (g.H.Host.state c.say.new.host) c.say.new.summary in (
+      next (loaded_state m may.woken),
+      (
+        load_goes m next w.0 d d1 e may all c.in-Ok-load.hive c.in-Ok-load.recovered exact c.in-Ok-load.ensures.unchanged (c.in-Ok-load.ensures.still told) (c.in-Ok-load.ensures.loads told)
+            c.sequence-sequence.result c.sequence-sequence.ensures x y (c.in_ok-say-in-Ok-load.ensures.tells tells),
+        (
+          may.woken,
+          (
+            refl,
+            (
+              record { machine = counts.machine; starts = counts.starts },
+              load_live m next w.0 d d1 e may all c.in-Ok-load.hive c.in-Ok-load.recovered exact c.in-Ok-load.ensures.unchanged (c.in-Ok-load.ensures.still told) (c.in-Ok-load.ensures.loads told),
+            ),
+          ),
+        ),
+      ),
+    )
 
 pub returns-in_err-say-in-Ok-load-clause-plays : goal.returns-in_err-say-in-Ok-load-clause-plays
 returns-in_err-say-in-Ok-load-clause-plays g c = λ m next tells counts left stays.
@@ -82,7 +93,7 @@ returns-in_err-say-in-Ok-load-clause-plays g c = λ m next tells counts left sta
     let may : MayLoad m.disk w.0 = left w.0 w.1 in
     let x = told_in (g.H.Host.state c.args.host.now) c.args.runner.now in
     let exact : Loads w.0 (store.loaded_state c.in-Ok-load.hive) c.in-Ok-load.recovered =
-        (let P : Image → Type 0 = λ i. Loads i (store.loaded_state c.in-Ok-load.hive) c.in-Ok-load.recovered in subst P held (c.in-Ok-load.ensures.exact told)) in
+    (let P : Image → Type 0 = λ i. Loads i (store.loaded_state c.in-Ok-load.hive) c.in-Ok-load.recovered in subst P held (c.in-Ok-load.ensures.exact told)) in
     let y = told_by (g.H.Host.state c.say.new.host) c.say.new.summary in
     or-breaks _ c.from_residual.result c.from_residual.ensures.0 (load m next) x y d e
     (load_breaks m next w.0 d d1 e may all c.in-Ok-load.hive c.in-Ok-load.recovered exact c.in-Ok-load.ensures.unchanged (c.in-Ok-load.ensures.still told) (c.in-Ok-load.ensures.loads told)
@@ -111,15 +122,16 @@ returns-in_ok-say-in-Ok-load-clause-sound g c =
     let d = g.B.Disk.state c.args.bench.now in
     let d1 = g.B.Disk.state c.power_on.new.self in
     let e = g.B.Disk.state c.load.new.disk in
-    let w = c.in-Ok.ensures.woken in
-    (record {
-      on = search rules;
-      still = c.in-Ok-load.ensures.still told;
-      carries = c.in-Ok-load.ensures.carries told;
-      loads = (record { state = store.loaded_state c.in-Ok-load.hive; dirty = false }, c.in-Ok-load.ensures.loads told);
-      marked = marked-by d1 e c.load.ensures.goes.history c.load.ensures.goes.counts (marked-woken w.0 d d1 w.2);
-    },
-    (c.in-Ok-load.ensures.unchanged, record { machine = refl; starts = refl }))
+    let w = c.in-Ok.ensures.woken in (
+      record {
+        on = search rules;
+        still = c.in-Ok-load.ensures.still told;
+        carries = c.in-Ok-load.ensures.carries told;
+        loads = (record { state = store.loaded_state c.in-Ok-load.hive; dirty = false }, c.in-Ok-load.ensures.loads told);
+        marked = marked-by d1 e c.load.ensures.goes.history c.load.ensures.goes.counts (marked-woken w.0 d d1 w.2);
+      },
+      (c.in-Ok-load.ensures.unchanged, record { machine = refl; starts = refl }),
+    )
 
 pub returns-in_err-end_with-in-Err-PowerLost-clause-plays : goal.returns-in_err-end_with-in-Err-PowerLost-clause-plays
 returns-in_err-end_with-in-Err-PowerLost-clause-plays g c = λ m next tells counts left stays.
@@ -163,11 +175,22 @@ returns-in_ok-end_with-in-Err-PowerLost-clause-plays g c = λ m next tells count
     let y = told_in (g.H.Host.state c.end_with.new.host) c.end_with.new.runner in
     let f = g.B.Disk.state c.end_with.new.bench in
     let stopped : IsErrOf c.load.result stops.PowerLost = search rules in
-    let cause = cut-cause d1 e (marked-woken w.0 d d1 w.2) (c.load.ensures.goes.cut stopped) in
-    (done (start_over false (woken_state m may.woken)),
-    (stopped_goes m next w.0 d d1 e may all book.Cut PowerCut refl refl f c.end_with.ensures.off cause x y (c.in_ok-end_with-in-Err-PowerLost.ensures.tells tells),
-    (may.woken, (refl, (counts_over m (woken_state m may.woken) c.args.runner.now c.end_with.new.runner counts refl refl c.end_with.ensures.machine c.end_with.ensures.starts,
-    stopped_may m next w.0 d d1 e may all book.Cut PowerCut refl refl f c.end_with.ensures.off cause)))))
+    let cause = cut-cause d1 e (marked-woken w.0 d d1 w.2) (c.load.ensures.goes.cut stopped) in (
+      done (start_over false (woken_state m may.woken)),
+      (
+        stopped_goes m next w.0 d d1 e may all book.Cut PowerCut refl refl f c.end_with.ensures.off cause x y (c.in_ok-end_with-in-Err-PowerLost.ensures.tells tells),
+        (
+          may.woken,
+          (
+            refl,
+            (
+              counts_over m (woken_state m may.woken) c.args.runner.now c.end_with.new.runner counts refl refl c.end_with.ensures.machine c.end_with.ensures.starts,
+              stopped_may m next w.0 d d1 e may all book.Cut PowerCut refl refl f c.end_with.ensures.off cause,
+            ),
+          ),
+        ),
+      ),
+    )
 
 pub returns-in_ok-end_with-in-Err-PowerLost-clause-sound : goal.returns-in_ok-end_with-in-Err-PowerLost-clause-sound
 returns-in_ok-end_with-in-Err-PowerLost-clause-sound g c =
@@ -227,11 +250,22 @@ returns-in_ok-end_with-in-Err-Device-clause-plays g c = λ m next tells counts l
     let y = told_in (g.H.Host.state c.end_with-in-Err-Device.new.host) c.end_with-in-Err-Device.new.runner in
     let f = g.B.Disk.state c.end_with-in-Err-Device.new.bench in
     let stopped : IsErrOf c.load.result stops.Device = search rules in
-    let cause = fault-cause d1 e (marked-woken w.0 d d1 w.2) (c.load.ensures.goes.fault stopped) in
-    (done (start_over false (woken_state m may.woken)),
-    (stopped_goes m next w.0 d d1 e may all book.Device DeviceFault refl refl f c.end_with-in-Err-Device.ensures.off cause x y (c.in_ok-end_with-in-Err-Device.ensures.tells tells),
-    (may.woken, (refl, (counts_over m (woken_state m may.woken) c.args.runner.now c.end_with-in-Err-Device.new.runner counts refl refl c.end_with-in-Err-Device.ensures.machine c.end_with-in-Err-Device.ensures.starts,
-    stopped_may m next w.0 d d1 e may all book.Device DeviceFault refl refl f c.end_with-in-Err-Device.ensures.off cause)))))
+    let cause = fault-cause d1 e (marked-woken w.0 d d1 w.2) (c.load.ensures.goes.fault stopped) in (
+      done (start_over false (woken_state m may.woken)),
+      (
+        stopped_goes m next w.0 d d1 e may all book.Device DeviceFault refl refl f c.end_with-in-Err-Device.ensures.off cause x y (c.in_ok-end_with-in-Err-Device.ensures.tells tells),
+        (
+          may.woken,
+          (
+            refl,
+            (
+              counts_over m (woken_state m may.woken) c.args.runner.now c.end_with-in-Err-Device.new.runner counts refl refl c.end_with-in-Err-Device.ensures.machine c.end_with-in-Err-Device.ensures.starts,
+              stopped_may m next w.0 d d1 e may all book.Device DeviceFault refl refl f c.end_with-in-Err-Device.ensures.off cause,
+            ),
+          ),
+        ),
+      ),
+    )
 
 pub returns-in_ok-end_with-in-Err-Device-clause-sound : goal.returns-in_ok-end_with-in-Err-Device-clause-sound
 returns-in_ok-end_with-in-Err-Device-clause-sound g c =
@@ -248,4 +282,3 @@ returns-in_ok-end_with-in-Err-Device-clause-sound g c =
       counts = c.load.ensures.goes.counts;
     } in
     (load_down w.0 d d1 e (g.B.Disk.state c.end_with-in-Err-Device.new.bench) all (c.requires.down.loads w.0 w.1) c.end_with-in-Err-Device.ensures.off, search rules)
-
