@@ -1,6 +1,8 @@
 -- What does a disk that keeps its calls say of them? They are those that it kept, in order, or more than those.
 -- (This project's own.)
-use Rattle.std.specs.Prelude.{◌≡◌, ◌<◌, ◌++◌, true, false, List, length, map}
+use Rattle.std.specs.Prelude.{◌≡◌, ◌<◌, ◌++◌, Bool, true, false, List, [], ◌∷◌, length, map}
+use Rattle.std.proofs.Common.{refl, arith, length-append}
+use Rattle.std.proofs.lemmas.Bool.{both_ways}
 use Rattle.nt_edge.specs.Calls.{Made, ReadAt, Wrote, Synced}
 use Rattle.nt_edge.specs.Disk.{DiskState, IsBounded}
 use Rattle.mem_edge.specs.State.{state_of}
@@ -38,3 +40,20 @@ pub record KeepsMore (old new : Traced) (calls : List Made) : Type 0 where
 -- no count is past its end
 pub bounded_law : (traced : Traced) → IsBounded (traced_state traced)
 bounded_law traced = memory.bounded_law traced.disk
+
+-- of its calls some list is said
+pub said_law : (traced : Traced) → (made : List Made) × HasKept traced made
+said_law traced =
+    let kept = calls_of traced in
+    let here : (whole : Bool) → traced.whole ≡ whole → (made : List Made) × HasKept traced made =
+    elim [
+      | true ↦ λ is. (kept, record { all = λ w. refl; fewer = λ lacks. absurd (both_ways traced.whole lacks is) })
+      | false ↦ λ is. (
+        kept ++ Synced ∷ [],
+        record {
+          all = λ w. absurd (both_ways traced.whole is w);
+          fewer = λ lacks. omega (arith, length-append kept (Synced ∷ []));
+        },
+      )
+    ] in
+    here traced.whole refl

@@ -13,9 +13,9 @@ use std::alloc::{AllocError, Global};
 use std::process::Abort;
 use std::test::Fail;
 
-/// The calls of a commit of one bin over one bin: the log, the base block opened, the sectors, the block closed.
-const COMMIT: &str = "wL0 wL1 wL2 wL3 wL4 wL5 wL6 wL7 wL8 wL9 s wP0 s \
-    wP8 wP9 wP10 wP11 wP12 wP13 wP14 wP15 s wP0 s";
+/// The calls of a commit of one bin over one bin whose second sector differs: the log, the base block opened, the
+/// sector, the block closed.
+const COMMIT: &str = "wL0 wL1 wL2 s wP0 s wP9 s wP0 s";
 
 /// The calls, a word each: `r` for a read and `w` for a write, with the file and the sector, and `s` for a
 /// sync.
@@ -271,12 +271,14 @@ fn a_commit_writes_in_order(rt: HostRuntime) -> Result<(), Fail> {
     let change = Change::new(rt.alloc(), 1, 1)?;
     let (stop, disk) = committed(&rt, rt.alloc(), &change, DiskCall::Sync, 5)?;
     assert_eq!(rt; stop, None);
+    assert!(rt; change.new.len() == 4096);
     assert_eq!(rt; words(rt.alloc(), &disk.calls)?.as_str(), COMMIT);
-    let mut expected = log(rt.alloc(), &block(6, 6, 1, 4096), b"DIRT\xff", 0)?;
-    expected.append(change.new.as_slice())?;
+    let sector = &change.new.as_slice()[512..1024];
+    let mut expected = log(rt.alloc(), &block(6, 6, 1, 4096), b"DIRT\x02", 0)?;
+    expected.append(sector)?;
     let opened = file(rt.alloc(), &block(6, 5, 0, 4096))?;
     expected.append(opened.as_slice())?;
-    expected.append(change.new.as_slice())?;
+    expected.append(sector)?;
     let closed = file(rt.alloc(), &block(6, 6, 0, 4096))?;
     expected.append(closed.as_slice())?;
     let bytes = written(rt.alloc(), &disk.calls)?;
@@ -284,13 +286,13 @@ fn a_commit_writes_in_order(rt: HostRuntime) -> Result<(), Fail> {
     for (call, n, count) in [
         (DiskCall::Write, 1, 1),
         (DiskCall::Write, 3, 3),
-        (DiskCall::Sync, 1, 11),
-        (DiskCall::Write, 11, 12),
-        (DiskCall::Sync, 2, 13),
-        (DiskCall::Write, 13, 15),
-        (DiskCall::Sync, 3, 22),
-        (DiskCall::Write, 20, 23),
-        (DiskCall::Sync, 4, 24),
+        (DiskCall::Sync, 1, 4),
+        (DiskCall::Write, 4, 5),
+        (DiskCall::Sync, 2, 6),
+        (DiskCall::Write, 5, 7),
+        (DiskCall::Sync, 3, 8),
+        (DiskCall::Write, 6, 9),
+        (DiskCall::Sync, 4, 10),
     ] {
         let (stop, disk) = committed(&rt, rt.alloc(), &change, call, n)?;
         assert_eq!(rt; stop, Some(CommitStop::Device), "{call:?} {n}");

@@ -1,4 +1,5 @@
-//! A cut at each sync of a commit, and at each of its writes, with each way of keeping what is in flight.
+//! A cut at each call of a commit, with each way of leaving what is in flight, and a second one at each call of
+//! the recovery behind it.
 
 use super::*;
 use hive_commit::{CommitStop, LoadStop};
@@ -8,7 +9,10 @@ use std::alloc::Global;
 use std::process::Abort;
 use std::test::Fail;
 
-/// Plays a change on a disk that was just made.
+/// The ways of leaving what is in flight.
+const KEEPS: [Keep; 4] = [Keep::Nothing, Keep::Everything, Keep::OddOnes, Keep::Torn];
+
+/// Plays a change on a disk that was just made, with a cut ordered.
 fn cut_at(
     rt: &impl Abort,
     alloc: Global,
@@ -38,58 +42,135 @@ fn found(number: u32, dirty: bool) -> Found {
 
 /// The log is whole at the first sync, the base block is opened at the second, the sectors are whole at the
 /// third, and the block is closed at the fourth. The one write in flight at the second and at the fourth is
-/// kept with all and with the odd ones.
+/// kept with all and with the odd ones; where it is torn, the log says what the hive is.
 #[test]
 fn a_cut_at_a_sync_leaves_the_old_or_the_new(rt: HostRuntime) -> Result<(), Fail> {
+    let old = found(5, false);
+    let open = found(6, true);
+    let new = found(6, false);
     let rows = [
-        (1, Keep::Nothing, found(5, false)),
-        (1, Keep::Everything, found(5, false)),
-        (1, Keep::OddOnes, found(5, false)),
-        (2, Keep::Nothing, found(5, false)),
-        (2, Keep::Everything, found(6, true)),
-        (2, Keep::OddOnes, found(6, true)),
-        (3, Keep::Nothing, found(6, true)),
-        (3, Keep::Everything, found(6, true)),
-        (3, Keep::OddOnes, found(6, true)),
-        (4, Keep::Nothing, found(6, true)),
-        (4, Keep::Everything, found(6, false)),
-        (4, Keep::OddOnes, found(6, false)),
+        (1, [old, old, old, old]),
+        (2, [old, open, open, open]),
+        (3, [open, open, open, open]),
+        (4, [open, new, new, open]),
     ];
     for (from, to) in [(2, 2), (1, 2), (2, 1)] {
         let change = Change::new(rt.alloc(), from, to)?;
-        for (n, keep, left) in rows {
-            let ends = cut_at(&rt, rt.alloc(), &change, DiskCall::Sync, n, keep)?;
-            assert_eq!(rt;
-                ends,
-                (Err(CommitStop::PowerLost), Ok(left)),
-                "{n} {keep:?} {from} {to}"
-            );
+        for (n, left) in rows {
+            for (keep, left) in KEEPS.into_iter().zip(left) {
+                let ends = cut_at(&rt, rt.alloc(), &change, DiskCall::Sync, n, keep)?;
+                let expected = (Err(CommitStop::PowerLost), Ok(left));
+                assert_eq!(rt; ends, expected, "{n} {keep:?} {from} {to}");
+            }
         }
     }
     Ok(())
 }
 
-/// Of a write that is cut nothing is kept. The log takes the first 18 writes, the base block opened the 19th,
-/// the 16 sectors the next ones, and the base block closed the 36th.
+/// Of a write that is cut nothing is left. From one page to two, nine sectors differ: the log takes the first 11
+/// writes, the base block opened the 12th, the sectors the next nine, and the base block closed the 22nd.
 #[test]
 fn a_cut_at_a_write_leaves_the_old_or_the_new(rt: HostRuntime) -> Result<(), Fail> {
     let change = Change::new(rt.alloc(), 1, 2)?;
-    for n in 1..37 {
-        let left = if n < 20 {
+    for n in 1..23 {
+        let left = if n < 13 {
             found(5, false)
         } else {
             found(6, true)
         };
-        for keep in [Keep::Nothing, Keep::Everything, Keep::OddOnes] {
+        for keep in KEEPS {
             let ends = cut_at(&rt, rt.alloc(), &change, DiskCall::Write, n, keep)?;
-            assert_eq!(rt;
-                ends,
-                (Err(CommitStop::PowerLost), Ok(left)),
-                "{n} {keep:?}"
-            );
+            let expected = (Err(CommitStop::PowerLost), Ok(left));
+            assert_eq!(rt; ends, expected, "{n} {keep:?}");
         }
     }
-    let ends = cut_at(&rt, rt.alloc(), &change, DiskCall::Write, 37, Keep::Nothing)?;
+    let ends = cut_at(&rt, rt.alloc(), &change, DiskCall::Write, 23, Keep::Torn)?;
     assert_eq!(rt; ends, (Ok(6), Ok(found(6, false))));
+    Ok(())
+}
+
+/// Tears what is in flight at this sync of a commit, and then cuts the recovery. Answers what the start behind it
+/// finds.
+fn cut_again(
+    rt: &impl Abort,
+    alloc: Global,
+    change: &Change,
+    sync: u32,
+    order: Order,
+) -> Result<(Option<LoadStop>, Found), LoadStop> {
+    assert!(rt; change.file.len() <= 33_554_432 && is_size(change.new.len()));
+    assert!(rt; 1 <= sync && 1 <= order.n);
+    let mut disk = MemDisk::new(alloc);
+    let first = Order {
+        call: DiskCall::Sync,
+        n: sync,
+        keep: Some(Keep::Torn),
+    };
+    let ends = play(alloc, &mut disk, change, first)?;
+    assert_eq!(rt; ends, (Err(CommitStop::PowerLost), Ok(found(6, true))));
+    let (stop, left) = recover_with(alloc, &mut disk, order)?;
+    Ok((stop, change.found(&left)))
+}
+
+/// Cuts the recovery at this call, in each way.
+fn cut_again_at(
+    rt: &impl Abort,
+    alloc: Global,
+    change: &Change,
+    sync: u32,
+    call: DiskCall,
+    n: u32,
+) -> Result<(), LoadStop> {
+    for keep in KEEPS {
+        let order = Order {
+            call,
+            n,
+            keep: Some(keep),
+        };
+        let closed = call == DiskCall::Sync && n == 2;
+        let kept = keep == Keep::Everything || keep == Keep::OddOnes;
+        let (stop, left) = cut_again(rt, alloc, change, sync, order)?;
+        let expected = found(6, !(closed && kept));
+        assert_eq!(rt;
+            (stop, left),
+            (Some(LoadStop::PowerLost), expected),
+            "{sync} {order:?}"
+        );
+    }
+    Ok(())
+}
+
+/// A recovery makes 19 reads, writes the nine sectors of the log, syncs, writes the base block and syncs, be that
+/// block, its sectors or the block again torn before. It is done only where the last sync's write is kept.
+#[test]
+fn a_second_cut_leaves_the_new(rt: HostRuntime) -> Result<(), Fail> {
+    let change = Change::new(rt.alloc(), 1, 2)?;
+    for sync in [2, 3, 4] {
+        for (call, past) in [
+            (DiskCall::Read, 20),
+            (DiskCall::Write, 11),
+            (DiskCall::Sync, 3),
+        ] {
+            for n in 1..past {
+                cut_again_at(&rt, rt.alloc(), &change, sync, call, n)?;
+            }
+        }
+    }
+    Ok(())
+}
+
+/// It makes no other call: a cut that is ordered for the next write or sync does not come.
+#[test]
+fn a_recovery_makes_no_other_call(rt: HostRuntime) -> Result<(), Fail> {
+    let change = Change::new(rt.alloc(), 1, 2)?;
+    for (call, n) in [(DiskCall::Write, 11), (DiskCall::Sync, 3)] {
+        let order = Order {
+            call,
+            n,
+            keep: Some(Keep::Torn),
+        };
+        let ends = cut_again(&rt, rt.alloc(), &change, 2, order)?;
+        assert_eq!(rt; ends, (None, found(6, false)), "{call:?}");
+    }
     Ok(())
 }

@@ -36,8 +36,8 @@ fn done(found: Result<Found, LoadStop>) -> Ends {
     (Ok(6), found)
 }
 
-/// The log takes 18 writes: its base block, the bits, and 16 sectors. The base block opened is the 19th,
-/// the sectors follow, and the block closed is the 36th. A sync that fails leaves its writes in flight, and
+/// The log takes 11 writes: its base block, the bits, and nine sectors. The base block opened is the 12th,
+/// the sectors follow, and the block closed is the 22nd. A sync that fails leaves its writes in flight, and
 /// where the power is turned off without a cut they are kept. A commit reads nothing.
 #[test]
 fn a_fault_leaves_the_old_or_the_new(rt: HostRuntime) -> Result<(), Fail> {
@@ -50,10 +50,10 @@ fn a_fault_leaves_the_old_or_the_new(rt: HostRuntime) -> Result<(), Fail> {
         (DiskCall::Read, 1, done(Err(LoadStop::Device))),
         (DiskCall::Write, 1, failed(5, false)),
         (DiskCall::Write, 3, failed(5, false)),
-        (DiskCall::Write, 19, failed(5, false)),
-        (DiskCall::Write, 20, failed(6, true)),
-        (DiskCall::Write, 36, failed(6, true)),
-        (DiskCall::Write, 37, done(whole)),
+        (DiskCall::Write, 12, failed(5, false)),
+        (DiskCall::Write, 13, failed(6, true)),
+        (DiskCall::Write, 22, failed(6, true)),
+        (DiskCall::Write, 23, done(whole)),
         (DiskCall::Sync, 1, failed(5, false)),
         (DiskCall::Sync, 2, failed(6, true)),
         (DiskCall::Sync, 3, failed(6, true)),

@@ -5,7 +5,7 @@ ghost use Rattle.std.specs.Prelude.{◌≡◌, true, [], length, OnOk};
 ghost use Rattle.hive_model.specs.Base.{is_bins_size};
 ghost use Rattle.hive_model.specs.Carries.{Carries};
 ghost use Rattle.nt_edge.specs.Calls.{reads_of};
-ghost use Rattle.hive_log.specs.Asked.{asked_of};
+ghost use Rattle.hive_model.specs.Asked.{asked_of};
 ghost use Rattle.hive_commit.specs.Calls.{recovery_calls, change_calls};
 ghost use Rattle.commit_tests.specs.Traced.{traced_state, KeepsMore};
 
@@ -32,7 +32,8 @@ pub fn recover_kept(alloc: Global, disk: &mut Traced) -> Result<Recovered, LoadS
     recover(alloc, disk)
 }
 
-/// A commit writes the log, the base block opened, the sectors and the base block closed, each with a sync.
+/// A commit writes the log, the base block opened, the sectors that differ and the base block closed, each with
+/// a sync.
 pub fn commit_kept(
     disk: &mut Traced,
     base: &BaseBlock,

@@ -7,23 +7,21 @@ use nt_bytes::{HiveFault, HiveKind, ReadStop};
 use regf_base::BaseBlock;
 use std::test::Fail;
 
-/// Each sector of the new bins data is logged, whether it differs or not.
+/// One page, or two, over one page whose byte 600 differs: that sector is logged, and those past the old end.
 #[test]
-fn a_log_is_spelled(rt: HostRuntime) -> Result<(), Fail> {
-    let change = Change::new(rt.alloc(), 1, 1)?;
-    let new = change.new.as_slice();
-    assert!(rt; is_size(new.len()));
-    let log = log_sectors(
-        rt.alloc(),
-        change.old.as_slice(),
-        new,
-        &block(6, 6, 0, 4096),
-    )?;
-    assert_eq!(rt; log.len(), 5120);
-    let bytes = log.as_slice();
-    assert_eq!(rt; bytes[28..32], [1, 0, 0, 0][..]);
-    assert_eq!(rt; bytes[512..518], [0x44, 0x49, 0x52, 0x54, 0xff, 0][..]);
-    assert_eq!(rt; bytes[1024..], *new);
+fn a_log_has_the_sectors_that_differ(rt: HostRuntime) -> Result<(), Fail> {
+    let rows: [(u32, &[u8]); 2] = [(1, b"DIRT\x02"), (2, b"DIRT\x02\xff")];
+    for (to, front) in rows {
+        let change = Change::new(rt.alloc(), 1, to)?;
+        let new = change.new.as_slice();
+        assert!(rt; is_size(new.len()) && 4096 <= new.len());
+        let base = block(6, 6, 0, 8192);
+        let found = log_sectors(rt.alloc(), change.old.as_slice(), new, &base)?;
+        let mut expected = log(rt.alloc(), &block(6, 6, 1, 8192), front, 0)?;
+        expected.append(&new[512..1024])?;
+        expected.append(&new[4096..])?;
+        assert_eq!(rt; found.as_slice(), expected.as_slice(), "{to}");
+    }
     Ok(())
 }
 

@@ -2,7 +2,7 @@
 
 ghost use Rattle.std.specs.Prelude.{◌≡◌, ◌⊎◌, ◌↔◌, true, [], ◌∷◌, ◌++◌};
 ghost use Rattle.mem_edge.specs.State.{state_of};
-ghost use Rattle.commit_tests.specs.Traced.{traced_state, calls_of, HasKept, bounded_law};
+ghost use Rattle.commit_tests.specs.Traced.{traced_state, calls_of, HasKept, bounded_law, said_law};
 
 use mem_edge::MemDisk;
 use nt_edge::{Address, Disk, DiskStop, Presence};
@@ -76,4 +76,6 @@ impl Disk for Traced {
     }
 
     ghost bounded = { bounded_law };
+
+    ghost some = { said_law };
 }

@@ -43,7 +43,8 @@ reads_asks {A} {B} n p s k e (Err x) g h whole reads is asked =
         let all : n ≡ p = whole ∙ ap (λ (t : Result A Refusal). p + behind_step t k) reads ∙ none_more p in
         asked ∙ ap (λ (m : ℕ). more m g) (sym all)
     by_kind (Stopped stop) reads =
-        subst (λ (t : HostStop). AsksStopped t n g h) (sym reads) (record { asked = p; not_less = omega arith; not_more = omega (arith, whole); gets = asked })
+        subst (λ (t : HostStop). AsksStopped t n g h) (sym reads)
+        (record { asked = p; not_less = omega arith; not_more = omega (arith, whole); gets = asked })
 
 -- it asked for the last of p files
 pub file_asks : {A B : Type 0} (n p : ℕ) (s : Result A Refusal) (k : A → ℕ) (e : Obstacle) (q : Result B Obstacle)
@@ -58,9 +59,19 @@ file_asks {A} {B} n p s k e (Err x) g h whole gives unwritten is some asked =
     by_kind (Refused r) gives unwritten =
         let all : n ≡ p = whole ∙ ap (λ (t : Result A Refusal). p + behind_step t k) gives ∙ none_more p in
         asked ∙ ap (λ (m : ℕ). more m g) (sym all)
-    by_kind (Stopped Read) gives unwritten = record { asked = p; not_less = some; not_more = omega (arith, whole); gets = asked }
+    by_kind (Stopped Read) gives unwritten = record {
+      asked = p;
+      not_less = some;
+      not_more = omega (arith, whole);
+      gets = asked;
+    }
     by_kind (Stopped Write) gives unwritten = absurd (unwritten refl)
-    by_kind (Stopped Memory) gives unwritten = record { asked = p; not_less = omega arith; not_more = omega (arith, whole); gets = asked }
+    by_kind (Stopped Memory) gives unwritten = record {
+      asked = p;
+      not_less = omega arith;
+      not_more = omega (arith, whole);
+      gets = asked;
+    }
 
 -- it asked for the last of all n files
 pub last_asks : {B : Type 0} (n : ℕ) (e : Obstacle) (q : Result B Obstacle) (g h : ℕ)
@@ -73,7 +84,12 @@ last_asks {B} n e (Err x) g h unwritten is some asked =
     by_kind (Refused r) unwritten = asked
     by_kind (Stopped Read) unwritten = record { asked = n; not_less = some; not_more = omega arith; gets = asked }
     by_kind (Stopped Write) unwritten = absurd (unwritten refl)
-    by_kind (Stopped Memory) unwritten = record { asked = n; not_less = omega arith; not_more = omega arith; gets = asked }
+    by_kind (Stopped Memory) unwritten = record {
+      asked = n;
+      not_less = omega arith;
+      not_more = omega arith;
+      gets = asked;
+    }
 
 -- so many files behind p others
 pub more_behind : (n p k : ℕ) (g m h : ℕ) → n ≡ p + k → m ≡ more p g → h ≡ more k m → h ≡ more n g
@@ -136,14 +152,16 @@ pub script_asked : (words : List (List ℕ)) (files : Files) (asked : Asked) (sy
     → system_in (arc_of asked.system) ≡ Ok system
     → asks_in words files ≡ 1 + behind_step (file_in asked.script (files asked.script)) (by_script asked files)
 script_asked words files asked system read is =
-    ap (λ (o : Option Asked). by_words o files) (sym read) ∙ ap (λ (r : Result Arc Refusal). behind_step r (λ (s : Arc). by_system asked files)) is
+    ap (λ (o : Option Asked). by_words o files) (sym read) ∙ ap
+    (λ (r : Result Arc Refusal). behind_step r (λ (s : Arc). by_system asked files)) is
 
 pub events_asked : (words : List (List ℕ)) (files : Files) (asked : Asked) (system : Arc) (script : List ℕ)
     → Some asked ≡ words_of words
     → system_in (arc_of asked.system) ≡ Ok system → file_in asked.script (files asked.script) ≡ Ok script
     → asks_in words files ≡ 1 + behind_step (events_in (script_of script)) (λ events. by_events asked files)
 events_asked words files asked system script read is found =
-    script_asked words files asked system read is ∙ ap (λ (r : Result (List ℕ) Refusal). 1 + behind_step r (by_script asked files))
+    script_asked words files asked system read is ∙ ap
+    (λ (r : Result (List ℕ) Refusal). 1 + behind_step r (by_script asked files))
     found
 
 pub text_asked : (words : List (List ℕ)) (files : Files) (asked : Asked) (system : Arc) (script : List ℕ)
@@ -180,7 +198,12 @@ pub asks_on : (n : ℕ) (stop : Option HostStop) (old mid new : ℕ) → (stop �
 asks_on n None old mid new unread asked same = same ∙ asked
 asks_on n (Some Read) old mid new unread asked same = absurd (unread refl)
 asks_on n (Some Write) old mid new unread asked same = same ∙ asked
-asks_on n (Some Memory) old mid new unread asked same = record { asked = n; not_less = omega arith; not_more = omega arith; gets = same ∙ asked }
+asks_on n (Some Memory) old mid new unread asked same = record {
+  asked = n;
+  not_less = omega arith;
+  not_more = omega arith;
+  gets = same ∙ asked;
+}
 
 pub asks_stop : (n : ℕ) (stop : HostStop) (old new : ℕ) → AsksStopped stop n old new
     → AsksBy n (stop_in (stopped_as stop)) old new

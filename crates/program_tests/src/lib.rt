@@ -1,0 +1,10 @@
+//! The top call over a host in memory: what it says and answers, and where the host fails.
+//!
+//! No crate of the program stands on this one: it is for its tests.
+#![tactic(auto)]
+
+mod hive;
+#[cfg(test)]
+mod runs;
+
+pub use hive::one_driver;
