@@ -109,12 +109,16 @@ returns-in_err-hive-clause-asks g c = λ tells.
     let ini = subst (λ (t : List ℕ). ini_in t asked.system ≡ Ok c.in_ok-ini.ini) c.as_slice-2.ensures
     (subst (λ (p : List ℕ). ini_in c.as_slice-2.result.now p ≡ Ok c.in_ok-ini.ini) c.as_bytes-2.ensures.value c.in_ok-ini.ensures) in
     let all = hive_asked words old.files asked c.in_ok-text.text c.in_ok-ini.ini m ini in
-    let keeps = keeps_then old (g.H.Host.state c.file_in.new.host) (g.H.Host.state c.bytes_in.new.host) first c.in_ok-text.ensures.looks.keeps in
+    let mid = g.H.Host.state c.bytes_in.new.host in
+    let new = g.H.Host.state c.hive_in.new.host in
+    let keeps = keeps_then old (g.H.Host.state c.file_in.new.host) mid first c.in_ok-text.ensures.looks.keeps in
     let told = keeps.tells ∙ tells in
-    let here = subst (λ (f : Files). AsksUntil {A = List ℕ × List ℕ} (by_hive asked f) (Err c.in_err-hive.field-0.0) _ _) (keeps.files tells)
+    let here = subst (λ (f : Files). AsksUntil {A = List ℕ × List ℕ} (by_hive asked f) (Err c.in_err-hive.field-0.0) mid.gets new.gets)
+    (keeps.files tells)
     (c.in_err-hive.ensures.asks told) in
     behind_asks (List ℕ × List ℕ) (asks_in words old.files) (named_ini + 1) (by_hive asked old.files) c.in_err-hive.field-0.0
-    c.from_residual-in_err-hive.result old.gets _ _ all asks here c.from_residual-in_err-hive.ensures.1
+    c.from_residual-in_err-hive.result old.gets mid.gets new.gets all asks here
+    c.from_residual-in_err-hive.ensures.1
 
 pub returns-clause-asks : goal.returns-clause-asks
 returns-clause-asks g c = λ tells.
@@ -138,7 +142,9 @@ returns-clause-asks g c = λ tells.
     let ini = subst (λ (t : List ℕ). ini_in t asked.system ≡ Ok c.in_ok-ini.ini) c.as_slice-2.ensures
     (subst (λ (p : List ℕ). ini_in c.as_slice-2.result.now p ≡ Ok c.in_ok-ini.ini) c.as_bytes-2.ensures.value c.in_ok-ini.ensures) in
     let all = hive_asked words old.files asked c.in_ok-text.text c.in_ok-ini.ini m ini in
-    let keeps = keeps_then old (g.H.Host.state c.file_in.new.host) (g.H.Host.state c.bytes_in.new.host) first c.in_ok-text.ensures.looks.keeps in
+    let mid = g.H.Host.state c.bytes_in.new.host in
+    let new = g.H.Host.state c.hive_in.new.host in
+    let keeps = keeps_then old (g.H.Host.state c.file_in.new.host) mid first c.in_ok-text.ensures.looks.keeps in
     let told = keeps.tells ∙ tells in
-    let here = subst (λ (f : Files). _ ≡ more (by_hive asked f) _) (keeps.files tells) (c.in_ok-hive.ensures.asks told) in
-    more_behind (asks_in words old.files) (named_ini + 1) (by_hive asked old.files) old.gets _ _ all asks here
+    let here = subst (λ (f : Files). new.gets ≡ more (by_hive asked f) mid.gets) (keeps.files tells) (c.in_ok-hive.ensures.asks told) in
+    more_behind (asks_in words old.files) (named_ini + 1) (by_hive asked old.files) old.gets mid.gets new.gets all asks here
