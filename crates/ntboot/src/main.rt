@@ -1,10 +1,11 @@
 //! What a Windows NT machine starts, from its SYSTEM hive.
 //!
-//! The program is the top call of `ntboot_cli` over real files and standard output.
+//! The program is the top call of `ntboot_cli` over real files, standard output and a disk in memory.
 #![tactic(auto)]
 
 mod real_host;
 
+use mem_edge::MemDisk;
 use ntboot_cli::{Status, ntboot};
 use real_host::RealHost;
 use std::env;
@@ -38,10 +39,11 @@ fn words(rt: &HostRuntime) -> Result<Vec<String>, NoWords> {
 fn main(rt: HostRuntime) -> ExitCode {
     let alloc = rt.alloc();
     let mut host = RealHost::new(&rt);
+    let mut disk = MemDisk::new(alloc);
     let status = match words(&rt) {
-        Ok(words) => ntboot(alloc, &words, &mut host),
+        Ok(words) => ntboot(alloc, &words, &mut host, &mut disk),
         // They have no reading, as no words have none.
-        Err(NoWords::Unread) => ntboot(alloc, &[], &mut host),
+        Err(NoWords::Unread) => ntboot(alloc, &[], &mut host, &mut disk),
         Err(NoWords::Memory) => Status::Memory,
     };
     ExitCode::from(status.code())

@@ -16,7 +16,7 @@ use Rattle.ntboot_cli.specs.declared.refusal.Obstacle.TheVariants.{Refused, Stop
 use Rattle.ntboot_cli.specs.declared.inputs.Inputs.{Inputs}
 use Rattle.ntboot_cli.specs.declared.status.Status.{Status}
 use Rattle.ntboot_cli.specs.Words.{Asked, words_of}
-use Rattle.ntboot_cli.specs.Inputs.{asked_in, system_in, file_in, events_in, text_in, ini_in, named, behind_step, asks_in}
+use Rattle.ntboot_cli.specs.Inputs.{asked_in, system_in, file_in, events_in, bytes_in, ini_in, named, behind_step, asks_hive, asks_in}
 use Rattle.ntboot_cli.specs.Leaves.{more, AsksSome, AsksStopped, AsksUntil, AsksBy, Gives, Reads, stop_in, stopped_as}
 
 pub more_more : (a b n : ℕ) → more a (more b n) ≡ more (a + b) n
@@ -91,13 +91,51 @@ last_asks {B} n e (Err x) g h unwritten is some asked =
       gets = asked;
     }
 
+-- so many files behind p others
+pub more_behind : (n p k : ℕ) (g m h : ℕ) → n ≡ p + k → m ≡ more p g → h ≡ more k m → h ≡ more n g
+more_behind n p k g m h whole before asked =
+    let all : k + p ≡ n = omega (arith, whole) in
+    asked ∙ ap (λ (i : ℕ). more k i) before ∙ more_more k p g ∙ ap (λ (i : ℕ). more i g) all
+
+some_behind : (least n p k : ℕ) (g m h : ℕ) → n ≡ p + k → m ≡ more p g → AsksSome least k m h → AsksSome least n g h
+some_behind least n p k g m h whole before some =
+    record {
+      asked = p + some.asked;
+      not_less = omega (arith, some.not_less);
+      not_more = omega (arith, whole, some.not_more);
+      gets = more_behind (p + some.asked) p some.asked g m h refl before some.gets;
+    }
+
+-- the last step asked for some of k files, behind p files
+pub behind_asks : (A : Type 0) {B : Type 0} (n p k : ℕ) (e : Obstacle) (q : Result B Obstacle) (g m h : ℕ) → n ≡ p + k
+    → m ≡ more p g → AsksUntil {A = A} k (Err e) m h → IsErrAnd q (λ x. x ≡ e) → AsksUntil n q g h
+behind_asks A n p k e (Ok x) g m h whole before asks is = absurd is
+behind_asks A {B} n p k e (Err x) g m h whole before asks is =
+    subst (λ (y : Obstacle). AsksUntil {A = B} n (Err y) g h) (sym is) (by_kind e asks)
+  where
+    by_kind : (y : Obstacle) → AsksUntil {A = A} k (Err y) m h → AsksUntil {A = B} n (Err y) g h
+    by_kind (Refused r) asks = more_behind n p k g m h whole before asks
+    by_kind (Stopped Read) asks = some_behind 1 n p k g m h whole before asks
+    by_kind (Stopped Write) asks = more_behind n p k g m h whole before asks
+    by_kind (Stopped Memory) asks = some_behind 0 n p k g m h whole before asks
+
 -- ---- the files that are asked for, step by step
 
-abbrev pub by_text : Asked → List ℕ → ℕ
-by_text asked text = behind_step (ini_in text asked.system) (λ ini. 1)
+pub log_asked : (files : Files) (hive : List ℕ) (log : Option (List ℕ)) (primary : List ℕ)
+    → file_in hive (files hive) ≡ Ok primary → asks_hive files hive log ≡ named log + 1
+log_asked files hive log primary found =
+    let all : asks_hive files hive log ≡ 1 + named log =
+    ap (λ (r : Result (List ℕ) Refusal). 1 + behind_step r (λ (p : List ℕ). named log)) found in
+    omega (arith, all)
+
+abbrev pub by_hive : Asked → Files → ℕ
+by_hive asked files = asks_hive files asked.hive asked.log
+
+abbrev pub by_text : Asked → Files → List ℕ → ℕ
+by_text asked files text = behind_step (ini_in text asked.system) (λ ini. by_hive asked files)
 
 abbrev pub by_events : Asked → Files → ℕ
-by_events asked files = named asked.boot_ini + behind_step (text_in files asked.boot_ini) (by_text asked)
+by_events asked files = named asked.boot_ini + behind_step (bytes_in files asked.boot_ini) (by_text asked files)
 
 abbrev pub by_script : Asked → Files → List ℕ → ℕ
 by_script asked files script = behind_step (events_in (script_of script)) (λ events. by_events asked files)
@@ -131,7 +169,7 @@ pub text_asked : (words : List (List ℕ)) (files : Files) (asked : Asked) (syst
     → Some asked ≡ words_of words
     → system_in (arc_of asked.system) ≡ Ok system → file_in asked.script (files asked.script) ≡ Ok script
     → events_in (script_of script) ≡ Ok events
-    → asks_in words files ≡ named asked.boot_ini + 1 + behind_step (text_in files asked.boot_ini) (by_text asked)
+    → asks_in words files ≡ named asked.boot_ini + 1 + behind_step (bytes_in files asked.boot_ini) (by_text asked files)
 text_asked words files asked system script events read is found are =
     let before : asks_in words files ≡ 1 + by_events asked files =
     events_asked words files asked system script read is found ∙ ap
@@ -139,20 +177,19 @@ text_asked words files asked system script events read is found are =
     omega (arith, before)
 
 pub ini_asked : (words : List (List ℕ)) (files : Files) (asked : Asked) (text : List ℕ)
-    → asks_in words files ≡ named asked.boot_ini + 1 + behind_step (text_in files asked.boot_ini) (by_text asked)
-    → text_in files asked.boot_ini ≡ Ok text
-    → asks_in words files ≡ named asked.boot_ini + 1 + behind_step (ini_in text asked.system) (λ ini. 1)
+    → asks_in words files ≡ named asked.boot_ini + 1 + behind_step (bytes_in files asked.boot_ini) (by_text asked files)
+    → bytes_in files asked.boot_ini ≡ Ok text
+    → asks_in words files ≡ named asked.boot_ini + 1 + behind_step (ini_in text asked.system) (λ ini. by_hive asked files)
 ini_asked words files asked text before found =
-    before ∙ ap (λ (r : Result (List ℕ) Refusal). named asked.boot_ini + 1 + behind_step r (by_text asked)) found
+    before ∙ ap (λ (r : Result (List ℕ) Refusal). named asked.boot_ini + 1 + behind_step r (by_text asked files)) found
 
-pub all_asked : (words : List (List ℕ)) (files : Files) (asked : Asked) (text : List ℕ) (ini : BootIni)
-    → asks_in words files ≡ named asked.boot_ini + 1 + behind_step (ini_in text asked.system) (λ ini. 1)
+pub hive_asked : (words : List (List ℕ)) (files : Files) (asked : Asked) (text : List ℕ) (ini : BootIni)
+    → asks_in words files ≡ named asked.boot_ini + 1 + behind_step (ini_in text asked.system) (λ ini. by_hive asked files)
     → ini_in text asked.system ≡ Ok ini
-    → asks_in words files ≡ 1 + (named asked.boot_ini + 1)
-all_asked words files asked text ini before is =
-    let all : asks_in words files ≡ named asked.boot_ini + 1 + 1 = before
-    ∙ ap (λ (r : Result BootIni Refusal). named asked.boot_ini + 1 + behind_step r (λ (i : BootIni). 1)) is in
-    omega (arith, all)
+    → asks_in words files ≡ named asked.boot_ini + 1 + by_hive asked files
+hive_asked words files asked text ini before is =
+    before
+    ∙ ap (λ (r : Result BootIni Refusal). named asked.boot_ini + 1 + behind_step r (λ (i : BootIni). by_hive asked files)) is
 
 -- ---- what the call came to
 

@@ -1,14 +1,5 @@
 pub mod WordLemmas
-pub mod LoadLemmas
-pub mod SayLemmas
-pub mod PartLemmas
+pub mod LeaveLemmas
 pub mod AskLemmas
-pub mod NameLemmas
-pub mod SetLemmas
-pub mod RunLemmas
-pub mod StartLemmas
-pub mod TakeLemmas
-pub mod StepLemmas
-pub mod EventLemmas
-pub mod PlayLemmas
+pub mod PlacedLemmas
 pub mod TopLemmas

@@ -1,10 +1,8 @@
 -- What a run reads, or the first obstacle. This project's own.
 --
--- The order is this: the words; the system's path, without a reading; the script, absent or without a reading, or with an
--- event that is not built yet; boot.ini, absent, too long or with too many entries; the hive, absent. What is in the hive
--- is judged after all of them.
-use Rattle.std.specs.Prelude.{◌≡◌, ◌+◌, ℕ, Bool, true, false, nat_lt, List, [], length, map, Option, Some, None, Result, Ok, Err, if◌then◌else◌}
-use Rattle.std.specs.List.{list_all}
+-- The order is this: the words; the system's path, without a reading; the script, absent or without a reading; boot.ini, absent,
+-- too long or with too many entries; the hive, absent; its log, absent. What is in hive and log is judged after all of them.
+use Rattle.std.specs.Prelude.{◌≡◌, ◌+◌, ℕ, true, nat_lt, List, [], length, Option, Some, None, Result, Ok, Err, if◌then◌else◌}
 use Rattle.nt_edge.specs.Host.{Files, HostState}
 use Rattle.arc_path.specs.declared.arc.Arc.{Arc}
 use Rattle.arc_path.specs.declared.arc.ArcFault.{ArcFault}
@@ -14,11 +12,9 @@ use Rattle.boot_ini.specs.Ini.{ini_of, entries_in}
 use Rattle.boot_script.specs.declared.event.Event.{Event}
 use Rattle.boot_script.specs.declared.stop.ScriptFault.{ScriptFault}
 use Rattle.boot_script.specs.Script.{script_of}
-use Rattle.boot_machine.specs.Views.{event_in}
-use Rattle.ntboot_cli.specs.Built.{is_built}
 use Rattle.ntboot_cli.specs.Words.{Asked, words_of}
 use Rattle.ntboot_cli.specs.declared.refusal.Refusal.{Refusal}
-use Rattle.ntboot_cli.specs.declared.refusal.Refusal.TheVariants.{Usage, NoFile, ScriptFault as BadScript, NotBuilt, IniTooLong, IniTooManyEntries}
+use Rattle.ntboot_cli.specs.declared.refusal.Refusal.TheVariants.{Usage, NoFile, ScriptFault as BadScript, IniTooLong, IniTooManyEntries}
 use Rattle.ntboot_cli.specs.declared.refusal.Obstacle.{Obstacle}
 use Rattle.ntboot_cli.specs.declared.inputs.Inputs.{Inputs}
 use Rattle.ntboot_cli.specs.declared.status.Status.{Status}
@@ -43,20 +39,27 @@ abbrev pub file_in : List ℕ → Option (List ℕ) → Result (List ℕ) Refusa
 file_in name None = Err (NoFile name)
 file_in name (Some bytes) = Ok bytes
 
+-- a file that the words may leave out is empty where they do
+abbrev pub bytes_in : Files → Option (List ℕ) → Result (List ℕ) Refusal
+bytes_in files None = Ok []
+bytes_in files (Some name) = file_in name (files name)
+
 abbrev pub events_in : Result (List Event) ScriptFault → Result (List Event) Refusal
 events_in (Err fault) = Err (BadScript fault)
-events_in (Ok events) = if list_all is_built (map event_in events) then Ok events else Err NotBuilt
-
--- without a name of boot.ini its text is empty
-abbrev pub text_in : Files → Option (List ℕ) → Result (List ℕ) Refusal
-text_in files None = Ok []
-text_in files (Some name) = file_in name (files name)
+events_in (Ok events) = Ok events
 
 abbrev pub ini_in : List ℕ → List ℕ → Result BootIni Refusal
 ini_in text system =
     if nat_lt 65536 (length text) then Err IniTooLong
     else if nat_lt 64 (length (entries_in text)) then Err IniTooManyEntries
     else Ok (ini_of text system)
+
+-- the hive and its log, an absent one empty
+abbrev pub hive_in : Files → List ℕ → Option (List ℕ) → Result (List ℕ × List ℕ) Refusal
+hive_in files hive log = do
+  primary ← file_in hive (files hive)
+  written ← bytes_in files log
+  Ok (primary, written)
 
 -- ---- in their order
 
@@ -73,10 +76,10 @@ inputs_in words files = do
   system ← system_in (arc_of asked.system)
   script ← file_in asked.script (files asked.script)
   events ← events_in (script_of script)
-  text ← text_in files asked.boot_ini
+  text ← bytes_in files asked.boot_ini
   ini ← ini_in text asked.system
-  hive ← file_in asked.hive (files asked.hive)
-  Ok (record { system = system; ini = ini; script = events; hive = hive })
+  hive ← hive_in files asked.hive asked.log
+  Ok (record { system = system; ini = ini; script = events; hive = hive.0; log = hive.1 })
 
 -- ---- how many files are asked for, up to the first obstacle
 
@@ -88,14 +91,23 @@ abbrev pub named : Option (List ℕ) → ℕ
 named None = 0
 named (Some name) = 1
 
+-- for the hive and its log
+abbrev pub asks_hive : Files → List ℕ → Option (List ℕ) → ℕ
+asks_hive files hive log = 1 + behind_step (file_in hive (files hive)) (λ primary. named log)
+
 abbrev pub asks_in : List (List ℕ) → Files → ℕ
 asks_in words files =
     behind_step (asked_in (words_of words)) (λ asked.
     behind_step (system_in (arc_of asked.system)) (λ system.
     1 + behind_step (file_in asked.script (files asked.script)) (λ script.
     behind_step (events_in (script_of script)) (λ events.
-    named asked.boot_ini + behind_step (text_in files asked.boot_ini) (λ text.
-    behind_step (ini_in text asked.system) (λ ini. 1))))))
+    named asked.boot_ini + behind_step (bytes_in files asked.boot_ini) (λ text.
+    behind_step (ini_in text asked.system) (λ ini.
+    asks_hive files asked.hive asked.log))))))
+
+-- a search for the hive and its log asked for these files, each once and in their order, up to the first obstacle or stop
+abbrev pub AsksHive : {A : Type 0} → List ℕ → Option (List ℕ) → Result A Obstacle → HostState → HostState → Type 0
+AsksHive hive log result old new = old.tells ≡ true → AsksUntil (asks_hive old.files hive log) result old.gets new.gets
 
 -- a search for the inputs asked for these files, each once and in their order, up to the first obstacle or stop
 abbrev pub AsksInputs : {A : Type 0} → List (List ℕ) → Result A Obstacle → HostState → HostState → Type 0

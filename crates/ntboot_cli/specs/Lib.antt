@@ -2,13 +2,8 @@ pub mod Words
 pub mod Views
 pub mod Kinds
 pub mod Exits
-pub mod Loading
-pub mod Built
-pub mod Scripts
 pub mod Inputs
-pub mod Choices
 pub mod Leaves
+pub mod Refusals
+pub mod Placed
 pub mod Answer
-pub mod Sets
-pub mod Ends
-pub mod Plays

@@ -1,32 +1,30 @@
 //! What a run reads: one step after the other, up to the first obstacle.
 
 ghost use Rattle.std.specs.Prelude.{◌≡◌, None, Err, map, string_bytes, option_map, IfOk};
-ghost use Rattle.std.specs.List.{list_all};
+ghost use Rattle.std.specs.List.{All};
 ghost use Rattle.arc_path.specs.Reading.{arc_of};
-ghost use Rattle.boot_script.specs.Script.{script_of};
-ghost use Rattle.boot_machine.specs.Views.{event_in};
+ghost use Rattle.boot_script.specs.Script.{script_of, HasCounts};
 ghost use Rattle.nt_edge.specs.Host.{Asks};
-ghost use Rattle.ntboot_cli.specs.Built.{is_built};
-ghost use Rattle.ntboot_cli.specs.Inputs.{arguments_in, inputs_in, system_in, events_in, file_in, text_in, ini_in, named, AsksInputs};
+ghost use Rattle.ntboot_cli.specs.Inputs.{arguments_in, inputs_in, system_in, events_in, file_in, bytes_in, hive_in, ini_in, named, AsksHive, AsksInputs};
 ghost use Rattle.ntboot_cli.specs.Leaves.{Looks, Reads, IsBadUsage, more};
-ghost use Rattle.ntboot_cli.specs.Scripts.{IsPlayable};
 
 use crate::refusal::{Obstacle, Refusal};
 use crate::words::read_words;
 use arc_path::{Arc, ArcStop, read_arc};
 use boot_ini::{BootIni, IniStop, read_boot_ini};
-use boot_script::{Event, Script, ScriptStop, read_script};
+use boot_script::{Script, ScriptStop, read_script};
 use nt_bytes::Bytes;
 use nt_edge::{Host, HostStop};
 use std::alloc::Global;
 
-/// All that a run reads.
+/// All that a run reads. An empty log is an absent one.
 #[derive(Drop)]
 pub struct Inputs {
     pub system: Arc,
     pub ini: BootIni,
     pub script: Script,
     pub hive: Bytes,
+    pub log: Bytes,
 }
 
 /// There was no memory.
@@ -70,58 +68,27 @@ fn file_in<H: Host>(alloc: Global, host: &mut H, name: &str) -> Result<Bytes, Ob
     }
 }
 
-/// Whether the event is built.
-fn is_built(event: &Event) -> bool
-    ensures { result ≡ is_built (event_in event.now) }
-{
-    match event {
-        Event::Boot { .. } | Event::Go { .. } | Event::Fail { .. } | Event::Off => true,
-        _ => false,
-    }
-}
-
-fn are_built(script: &[Event]) -> bool
-    ensures { result ≡ list_all is_built (map event_in script.now) }
-{
-    let mut rest = script;
-    'events: loop {
-        let [event, more @ ..] = rest else {
-            return true;
-        };
-        if !is_built(event) {
-            return false;
-        }
-        rest = more;
-    }
-}
-
-/// The events of a script's text.
-fn events_in(alloc: Global, text: &[u8]) -> Result<Script, Obstacle>
-    ensures read { Reads (events_in (script_of text.now)) result }
-    ensures playable { IfOk result (λ script. IsPlayable script) }
-{
-    match read_script(alloc, text) {
-        Ok(script) => {
-            if are_built(script.as_slice()) {
-                Ok(script)
-            } else {
-                Err(Obstacle::Refused(Refusal::NotBuilt))
-            }
-        }
-        Err(ScriptStop::Fault(fault)) => Err(Obstacle::Refused(Refusal::ScriptFault(fault))),
-        Err(ScriptStop::Memory) => Err(no_memory()),
-    }
-}
-
-/// The text of boot.ini, which is empty where the words name none.
-fn text_in<H: Host>(alloc: Global, host: &mut H, name: Option<&str>) -> Result<Bytes, Obstacle>
-    ensures looks { Looks (text_in (H.state host.old).files (option_map (λ v. v.now) name.entry)) result (H.state host.old) (H.state host.new) }
+/// The bytes of a file that the words may leave out: it is empty where they do.
+fn bytes_in<H: Host>(alloc: Global, host: &mut H, name: Option<&str>) -> Result<Bytes, Obstacle>
+    ensures looks { Looks (bytes_in (H.state host.old).files (option_map (λ v. v.now) name.entry)) result (H.state host.old) (H.state host.new) }
     ensures asks { (H.state host.new).gets ≡ more (named (option_map (λ v. v.now) name.entry)) (H.state host.old).gets }
     ensures kept { result ≡ Err (Obstacle.Refused Refusal.Usage) → ⊥ }
 {
     match name {
         Some(name) => file_in(alloc, host, name),
         None => Ok(Bytes::new(alloc)),
+    }
+}
+
+/// The events of a script's text.
+fn events_in(alloc: Global, text: &[u8]) -> Result<Script, Obstacle>
+    ensures read { Reads (events_in (script_of text.now)) result }
+    ensures counts { IfOk result (λ script. All HasCounts script) }
+{
+    match read_script(alloc, text) {
+        Ok(script) => Ok(script),
+        Err(ScriptStop::Fault(fault)) => Err(Obstacle::Refused(Refusal::ScriptFault(fault))),
+        Err(ScriptStop::Memory) => Err(no_memory()),
     }
 }
 
@@ -137,6 +104,22 @@ fn ini_in(alloc: Global, text: &[u8], system: &[u8]) -> Result<BootIni, Obstacle
     }
 }
 
+/// The hive and its log.
+fn hive_in<H: Host>(
+    alloc: Global,
+    host: &mut H,
+    hive: &str,
+    log: Option<&str>,
+) -> Result<(Bytes, Bytes), Obstacle>
+    ensures looks { Looks (hive_in (H.state host.old).files hive.now (option_map (λ v. v.now) log.entry)) result (H.state host.old) (H.state host.new) }
+    ensures asks { AsksHive hive.now (option_map (λ v. v.now) log.entry) result (H.state host.old) (H.state host.new) }
+    ensures kept { result ≡ Err (Obstacle.Refused Refusal.Usage) → ⊥ }
+{
+    let hive = file_in(alloc, host, hive)?;
+    let log = bytes_in(alloc, host, log)?;
+    Ok((hive, log))
+}
+
 /// What the words and files have for a run, or the first obstacle. Nothing is said.
 pub(crate) fn inputs_in<H: Host>(
     alloc: Global,
@@ -145,7 +128,7 @@ pub(crate) fn inputs_in<H: Host>(
 ) -> Result<Inputs, Obstacle>
     ensures looks { Looks (inputs_in (map string_bytes words.now) (H.state host.old).files) result (H.state host.old) (H.state host.new) }
     ensures asks { AsksInputs (map string_bytes words.now) result (H.state host.old) (H.state host.new) }
-    ensures playable { IfOk result (λ inputs. IsPlayable inputs.script) }
+    ensures counts { IfOk result (λ inputs. All HasCounts inputs.script) }
     ensures usage { result ≡ Err (Obstacle.Refused Refusal.Usage) → arguments_in (map string_bytes words.now) ≡ Err Refusal.Usage }
     ensures refused { arguments_in (map string_bytes words.now) ≡ Err Refusal.Usage → IsBadUsage result }
 {
@@ -155,13 +138,14 @@ pub(crate) fn inputs_in<H: Host>(
     let system = system_in(alloc, asked.system.as_bytes())?;
     let script = file_in(alloc, host, asked.script)?;
     let script = events_in(alloc, script.as_slice())?;
-    let text = text_in(alloc, host, asked.boot_ini)?;
+    let text = bytes_in(alloc, host, asked.boot_ini)?;
     let ini = ini_in(alloc, text.as_slice(), asked.system.as_bytes())?;
-    let hive = file_in(alloc, host, asked.hive)?;
+    let (hive, log) = hive_in(alloc, host, asked.hive, asked.log)?;
     Ok(Inputs {
         system,
         ini,
         script,
         hive,
+        log,
     })
 }

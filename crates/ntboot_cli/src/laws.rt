@@ -1,30 +1,30 @@
-//! What a report is that is said as far as the run is built, in the words of the book of startup.
+//! What follows for a run that was said whole, or given up.
 
-ghost use Rattle.std.specs.Prelude.{◌≡◌, ◌++◌, ◌∷◌, [], ℕ, Bool, true, false, List, Option, Some};
-ghost use Rattle.hive_model.specs.State.{HiveState};
-ghost use Rattle.hive_model.specs.Tree.{Tree};
+ghost use Rattle.std.specs.Prelude.{◌≡◌, ◌++◌, ℕ, List, Option};
+ghost use Rattle.nt_edge.specs.Disk.{DiskState};
 ghost use Rattle.start_model.specs.Events.{Event as BookEvent};
-ghost use Rattle.start_model.specs.Lines.{Line as BookLine};
-ghost use Rattle.start_model.specs.Sets.{select_numbers_of, taken_number};
-ghost use Rattle.start_model.specs.Run.{Choice, RunState, set_line, begin_start, take_set, quiet_run_of};
-ghost use Rattle.ntboot_cli.specs.Built.{said_by, behind, not_built, woken_clean, report_of};
-ghost use Rattle.select_keys.specs.Sets.{usable_set};
-ghost use Rattle.ntboot_cli.specs.Sets.{changes_sets};
+ghost use Rattle.start_model.specs.Fits.{outcomes_of, KeepsGood};
+ghost use Rattle.start_model.specs.Lines.{text_of};
+ghost use Rattle.start_model.specs.Run.{Choice, Woken, run_of, quiet_run_of};
+ghost use Rattle.start_model.specs.Summary.{Summary, no_summary};
+ghost use Rattle.run_laws.specs.Quiet.{AllFinished};
+ghost use Rattle.run_parts.specs.Reports.{Reports, ReportsFront};
+ghost use Rattle.ntboot_cli.specs.Answer.{told};
 
-/// Of each script it is a front of what the quiet run says.
-pub fn a_report_is_a_front_of_the_quiet_run()
-    ensures { (choice : Option ℕ → Choice) (script : List BookEvent) (placed : HiveState)
-        → (tail : List BookLine) × ((quiet_run_of choice script (woken_clean placed)).lines ≡ (report_of choice script placed).lines ++ tail) }
+/// Where a report tells of no cut and no device fault, it is the text of the quiet run.
+pub fn a_report_without_a_stop_is_the_quiet_run()
+    ensures { (choice : Option ℕ → Choice) (script : List BookEvent) (placed : Woken) (summary : Summary) (old new : List ℕ)
+        (before after : DiskState) (r : Reports (run_of choice script placed) (told old no_summary) (told new summary) before after)
+        → AllFinished (outcomes_of r.text) → new ≡ old ++ text_of (quiet_run_of choice script placed).lines }
 {}
 
-/// Where the number that a start takes names a set, a beginning that changes no set is said to its end; another one is not
-/// built, and ends behind the line of its set.
-pub fn a_beginning_is_built_where_it_changes_no_set()
-    ensures built { (on_good : Bool) (m : RunState) (set : Tree) → usable_set m.live (taken_number (select_numbers_of m.live) on_good) ≡ Some set
-        → changes_sets (select_numbers_of m.live) on_good ≡ false
-        → said_by (take_set on_good m)
-        ≡ behind (set_line on_good m ∷ []) (said_by (begin_start (taken_number (select_numbers_of m.live) on_good) false (select_numbers_of m.live) m)) }
-    ensures unbuilt { (on_good : Bool) (m : RunState) (set : Tree) → usable_set m.live (taken_number (select_numbers_of m.live) on_good) ≡ Some set
-        → changes_sets (select_numbers_of m.live) on_good ≡ true
-        → said_by (take_set on_good m) ≡ behind (set_line on_good m ∷ []) not_built }
+/// Over every script and whatever came of its disk operations, LastKnownGood names a good set in each tree that was loaded or
+/// committed, and in each that the disk may load as afterwards: where the report was said whole, and where the run was given up.
+pub fn a_run_keeps_last_known_good()
+    ensures whole { (choice : Option ℕ → Choice) (script : List BookEvent) (placed : Woken) (summary : Summary) (old new : List ℕ)
+        (before after : DiskState) (r : Reports (run_of choice script placed) (told old no_summary) (told new summary) before after)
+        → let run = run_of choice script placed r.report.woken (outcomes_of r.text) in KeepsGood run.notes run.disk }
+    ensures front { (choice : Option ℕ → Choice) (script : List BookEvent) (placed : Woken) (old new : List ℕ)
+        (before after : DiskState) (r : ReportsFront (run_of choice script placed) old new before after)
+        → let run = run_of choice script placed r.report.woken (outcomes_of r.text) in KeepsGood run.notes run.disk }
 {}

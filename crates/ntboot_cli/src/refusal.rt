@@ -3,7 +3,7 @@
 ghost use Rattle.std.specs.Prelude.{◌≡◌, ◌++◌, IfOk, codes};
 ghost use Rattle.std.specs.Fmt.{decimal};
 ghost use Rattle.nt_edge.specs.Host.{AsksNone};
-ghost use Rattle.ntboot_cli.specs.Answer.{IsRefusedAs, Ends, refusal, refusal_text, refusal_status};
+ghost use Rattle.ntboot_cli.specs.Refusals.{IsRefusedAs, Ends, refusal, refusal_text, refusal_status};
 ghost use Rattle.ntboot_cli.specs.Leaves.{Leaves, stopped_as};
 
 use crate::kinds::{hive_kind, script_kind};
@@ -22,8 +22,6 @@ pub enum Refusal {
     NoFile(Bytes),
     /// The script has no reading.
     ScriptFault(ScriptFault),
-    /// The script has an event that is not built yet.
-    NotBuilt,
     /// boot.ini is over 65,536 bytes.
     IniTooLong,
     /// boot.ini has over 64 entries.
@@ -81,7 +79,6 @@ fn refusal_line(alloc: Global, refusal: &Refusal) -> Result<Vec<u8>, AllocError>
         Refusal::ScriptFault(fault) => {
             script_fault_line(alloc, fault.line, script_kind(fault.kind))
         }
-        Refusal::NotBuilt => Vec::from_slice(alloc, b"not built\n"),
         Refusal::IniTooLong => Vec::from_slice(alloc, b"boot.ini fault too-long\n"),
         Refusal::IniTooManyEntries => Vec::from_slice(alloc, b"boot.ini fault too-many-entries\n"),
         Refusal::HiveFault(fault) => hive_fault_line(alloc, hive_kind(fault.kind), fault.at),
@@ -96,7 +93,6 @@ fn refusal_status(refusal: &Refusal) -> Status
         Refusal::Usage => Status::Usage,
         Refusal::NoFile(_) => Status::NoFile,
         Refusal::ScriptFault(_) => Status::ScriptFault,
-        Refusal::NotBuilt => Status::NotBuilt,
         Refusal::IniTooLong | Refusal::IniTooManyEntries => Status::BootIniFault,
         Refusal::HiveFault(_) => Status::HiveFault,
     }

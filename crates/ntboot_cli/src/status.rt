@@ -3,7 +3,7 @@
 ghost use Rattle.std.specs.Prelude.{◌≡◌};
 ghost use Rattle.ntboot_cli.specs.Exits.{exit_of};
 
-/// The exit status. What is said with it is one line, but for `Done` and a run that came to what is not built.
+/// The exit status. What is said with it is one line, but for `Done`.
 #[derive(Clone, Copy, Debug, PartialEq, Eq)]
 pub enum Status {
     /// All was done; the report was said.
@@ -22,8 +22,6 @@ pub enum Status {
     ReadFault,
     /// Something could not be said: the host's count of write faults rose. Nothing more is said.
     WriteFault,
-    /// What was asked for isn't built yet. Said last: `not built`.
-    NotBuilt,
     /// There was no memory. Nothing more is said.
     Memory,
 }
@@ -42,7 +40,6 @@ impl Status {
             Status::HiveFault => 5,
             Status::ReadFault => 6,
             Status::WriteFault => 7,
-            Status::NotBuilt => 8,
             Status::Memory => 9,
         }
     }

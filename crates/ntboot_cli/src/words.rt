@@ -11,6 +11,7 @@ const USUAL_SYSTEM: &str = "multi(0)disk(0)rdisk(0)partition(1)\\WINDOWS";
 #[derive(Clone, Copy)]
 pub struct Asked<'a> {
     pub hive: &'a str,
+    pub log: Option<&'a str>,
     pub script: &'a str,
     pub boot_ini: Option<&'a str>,
     pub system: &'a str,
@@ -20,6 +21,7 @@ pub struct Asked<'a> {
 #[derive(Clone, Copy)]
 struct Given<'a> {
     hive: Option<&'a str>,
+    log: Option<&'a str>,
     script: Option<&'a str>,
     boot_ini: Option<&'a str>,
     system: Option<&'a str>,
@@ -48,6 +50,10 @@ fn with_option<'a>(given: Given<'a>, name: &str, value: &'a str) -> Option<Given
         given.hive = once(given.hive, value)?;
         return Some(given);
     }
+    if name == "--log" {
+        given.log = once(given.log, value)?;
+        return Some(given);
+    }
     if name == "--script" {
         given.script = once(given.script, value)?;
         return Some(given);
@@ -68,6 +74,7 @@ fn with_options<'a>(words: &'a [String]) -> Option<Given<'a>>
 {
     let mut given = Given {
         hive: None,
+        log: None,
         script: None,
         boot_ini: None,
         system: None,
@@ -92,6 +99,7 @@ fn asked_by<'a>(given: Given<'a>) -> Option<Asked<'a>>
     };
     Some(Asked {
         hive,
+        log: given.log,
         script,
         boot_ini: given.boot_ini,
         system,

@@ -1,7 +1,7 @@
-//! Rows over hosts in memory: without a failure, with the n-th `get` or `say` failing, and with a file that is absent.
+//! Rows over hosts and disks in memory: without a failure, with the n-th `get` or `say` failing, and with a file that is absent.
 
 use crate::hive::one_driver;
-use mem_edge::MemHost;
+use mem_edge::{MemDisk, MemHost};
 use ntboot_cli::{Status, ntboot};
 use std::alloc::{AllocError, Global};
 use std::process::Abort;
@@ -24,18 +24,21 @@ const REPORT: [&[u8]; 13] = [
     b"end\n",
 ];
 
-/// The words `run --hive h --script s`.
+/// The words `run --hive h --log l --script s`.
 fn words(alloc: Global) -> Result<Vec<String>, AllocError> {
     let mut words = Vec::new(alloc);
-    for word in ["run", "--hive", "h", "--script", "s"] {
+    for word in ["run", "--hive", "h", "--log", "l", "--script", "s"] {
         words.push(String::from_str(alloc, word)?)?;
     }
     Ok(words)
 }
 
-/// A host with the hive and the script, but for the one that is left out.
+/// A host with the hive, an empty log and the script, but for the one that is left out.
 fn host(rt: &impl Abort, alloc: Global, left_out: &str) -> Result<MemHost, Fail> {
     let mut host = MemHost::new(alloc);
+    if left_out != "l" {
+        host.add("l", b"")?;
+    }
     if left_out != "h" {
         host.add("h", one_driver(rt, alloc)?.as_slice())?;
     }
@@ -54,7 +57,7 @@ fn front(alloc: Global, lines: usize) -> Result<Vec<u8>, AllocError> {
     Ok(text)
 }
 
-/// The status, and what was said, of the run on this host.
+/// The status, and what was said, of the run on this host and a new disk.
 fn ends(
     rt: &impl Abort,
     alloc: Global,
@@ -63,19 +66,20 @@ fn ends(
     said: &[u8],
 ) -> Result<(), Fail> {
     let words = words(alloc)?;
-    assert_eq!(rt; ntboot(alloc, &words, &mut host), status);
+    let mut disk = MemDisk::new(alloc);
+    assert_eq!(rt; ntboot(alloc, &words, &mut host, &mut disk), status);
     assert_eq!(rt; host.said(), said);
     Ok(())
 }
 
 fn each_get(rt: &impl Abort, alloc: Global) -> Result<(), Fail> {
-    for n in [1u64, 2] {
+    for n in [1u64, 2, 3] {
         let mut host = host(rt, alloc, "")?;
         host.fail_read(n);
         ends(rt, alloc, host, Status::ReadFault, b"")?;
     }
     let mut host = host(rt, alloc, "")?;
-    host.fail_read(3);
+    host.fail_read(4);
     ends(rt, alloc, host, Status::Done, front(alloc, 13)?.as_slice())
 }
 
@@ -97,23 +101,23 @@ fn each_say(rt: &impl Abort, alloc: Global) -> Result<(), Fail> {
 }
 
 fn each_absent(rt: &impl Abort, alloc: Global) -> Result<(), Fail> {
-    ends(
-        rt,
-        alloc,
-        host(rt, alloc, "h")?,
-        Status::NoFile,
-        b"no file h\n",
-    )?;
-    ends(
-        rt,
-        alloc,
-        host(rt, alloc, "s")?,
-        Status::NoFile,
-        b"no file s\n",
-    )
+    for (name, said) in [
+        ("h", "no file h\n"),
+        ("l", "no file l\n"),
+        ("s", "no file s\n"),
+    ] {
+        ends(
+            rt,
+            alloc,
+            host(rt, alloc, name)?,
+            Status::NoFile,
+            said.as_bytes(),
+        )?;
+    }
+    Ok(())
 }
 
-/// With the first `get` failing nothing is said, as with the second, the hive's; there is no third.
+/// With the first `get` failing nothing is said, as with the second, the hive's, and the third, the log's; there is no fourth.
 #[test]
 fn a_get_that_fails_is_a_read_fault(rt: HostRuntime) -> Result<(), Fail> {
     each_get(&rt, rt.alloc())

@@ -11,17 +11,17 @@ use Rattle.ntboot_cli.proofs.top.ntboot.Goals as goal
 pub returns-in-Ok-clause-answer : goal.returns-in-Ok-clause-answer
 returns-in-Ok-clause-answer g c =
     let old = g.H.Host.state c.args.host.now in
-    found_leaves (inputs_in (map string_bytes c.args.words.now) old.files) c.in-Ok.inputs c.run.result old
+    found_leaves (inputs_in (map string_bytes c.args.words.now) old.files) c.in-Ok.inputs c.begin.result old
     (g.H.Host.state c.inputs_in.new.host)
-    (g.H.Host.state c.run.new.host) c.in-Ok.ensures.looks c.run.ensures.leaves
+    (g.H.Host.state c.begin.new.host) (g.B.Disk.state c.begin.new.bench) c.in-Ok.ensures.looks c.begin.ensures
 
 pub returns-in-Ok-clause-asked : goal.returns-in-Ok-clause-asked
 returns-in-Ok-clause-asked g c = λ tells.
     let old = g.H.Host.state c.args.host.now in
-    asks_on (asks_in (map string_bytes c.args.words.now) old.files) (stop_in c.run.result) old.gets
+    asks_on (asks_in (map string_bytes c.args.words.now) old.files) (stop_in c.begin.result) old.gets
     (g.H.Host.state c.inputs_in.new.host).gets
-    (g.H.Host.state c.run.new.host).gets (λ e. c.run.ensures.unread (not_read c.run.result e))
-    (c.in-Ok.ensures.asks tells) c.run.ensures.unasked
+    (g.H.Host.state c.begin.new.host).gets (λ e. c.begin.ensures.unread (not_read c.begin.result e))
+    (c.in-Ok.ensures.asks tells) c.begin.ensures.unasked
 
 pub returns-in-Err-Refused-clause-answer : goal.returns-in-Err-Refused-clause-answer
 returns-in-Err-Refused-clause-answer g c =
@@ -31,7 +31,7 @@ returns-in-Err-Refused-clause-answer g c =
     let looks = subst
     (λ (o : Obstacle). Looks wanted (Err o) old mid) c.in-Err-Refused.field-0-is c.in-Err-Refused.ensures.looks in
     refused_leaves wanted c.in-Err-Refused.why c.refuse.result old mid
-    (g.H.Host.state c.refuse.new.host) looks c.refuse.ensures.leaves
+    (g.H.Host.state c.refuse.new.host) (g.B.Disk.state c.args.bench.now) c.requires.fresh looks c.refuse.ensures.leaves
 
 pub returns-in-Err-Refused-clause-asked : goal.returns-in-Err-Refused-clause-asked
 returns-in-Err-Refused-clause-asked g c = λ tells.
@@ -50,7 +50,8 @@ returns-in-Err-Stopped-clause-answer g c =
     let wanted = inputs_in (map string_bytes c.args.words.now) old.files in
     let looks = subst
     (λ (o : Obstacle). Looks wanted (Err o) old new) c.in-Err-Stopped.field-0-is c.in-Err-Stopped.ensures.looks in
-    rw c.stopped.ensures (stopped_leaves wanted c.in-Err-Stopped.stop old new looks)
+    rw c.stopped.ensures
+    (stopped_leaves wanted c.in-Err-Stopped.stop old new (g.B.Disk.state c.args.bench.now) c.requires.fresh looks)
 
 pub returns-in-Err-Stopped-clause-asked : goal.returns-in-Err-Stopped-clause-asked
 returns-in-Err-Stopped-clause-asked g c = λ tells.

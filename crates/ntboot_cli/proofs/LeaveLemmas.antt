@@ -1,0 +1,42 @@
+-- What two calls leave of a host, one behind the other.
+use Rattle.std.proofs.Common.{◌≡◌, ◌++◌, ℕ, List, [], Option, Some, None, refl, sym, subst, ◌∙◌, append-nil}
+use Rattle.nt_edge.specs.Host.{HostState, Rises, SaysFront, KeepsCounts, Counts}
+use Rattle.nt_edge.specs.declared.host.HostStop.{HostStop}
+use Rattle.nt_edge.specs.declared.host.HostStop.TheVariants.{Read, Write, Memory}
+use Rattle.ntboot_cli.specs.Leaves.{Keeps, CountsBy, stop_in, stopped_as}
+
+pub keeps_then : (old mid new : HostState) → Keeps old mid → Keeps mid new → Keeps old new
+keeps_then old mid new k l =
+    record { tells = l.tells ∙ k.tells; quiet = λ q. l.quiet (k.quiet q); files = λ tells. l.files (k.tells ∙ tells) ∙ k.files tells }
+
+-- no fault before, and what came then
+counts_then : (stop : HostStop) (old mid new : HostState) → Keeps old mid → KeepsCounts old mid → Counts mid new stop
+    → Counts old new stop
+counts_then Read old mid new keeps k c =
+    record {
+      reads = subst (λ (n : ℕ). Rises n new.reads) k.reads c.reads;
+      writes = c.writes ∙ k.writes;
+      loud = λ q. c.loud (keeps.quiet q);
+    }
+counts_then Write old mid new keeps k c =
+    record {
+      reads = c.reads ∙ k.reads;
+      writes = subst (λ (n : ℕ). Rises n new.writes) k.writes c.writes;
+      loud = λ q. c.loud (keeps.quiet q);
+    }
+counts_then Memory old mid new keeps k c = record { reads = c.reads ∙ k.reads; writes = c.writes ∙ k.writes }
+
+pub counts_by : (stop : Option HostStop) (old mid new : HostState) → Keeps old mid → KeepsCounts old mid
+    → CountsBy stop mid new → CountsBy stop old new
+counts_by None old mid new keeps k c = record { reads = c.reads ∙ k.reads; writes = c.writes ∙ k.writes }
+counts_by (Some stop) old mid new keeps k c = counts_then stop old mid new keeps k c
+
+pub stop_counts : (stop : HostStop) (old new : HostState) → Counts old new stop
+    → CountsBy (stop_in (stopped_as stop)) old new
+stop_counts Read old new c = c
+stop_counts Write old new c = c
+stop_counts Memory old new c = c
+
+-- nothing was said
+pub no_front : (t old new : List ℕ) → new ≡ old → SaysFront old new t
+no_front t old new same = record { front = []; rest = t; cut = refl; said = same ∙ sym (append-nil old) }

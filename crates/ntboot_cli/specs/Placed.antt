@@ -1,0 +1,32 @@
+-- What is done to the disk before the run? (this project's own)
+use Rattle.std.specs.Prelude.{◌≡◌, ◌≤◌, ℕ, List, Result, Ok, Err}
+use Rattle.nt_bytes.specs.declared.fault.ReadStop.{ReadStop}
+use Rattle.nt_bytes.specs.declared.fault.ReadStop.TheVariants as read
+use Rattle.nt_edge.specs.Disk.{DiskState, new_state}
+use Rattle.hive_model.specs.Image.{Image, image_of}
+use Rattle.hive_model.specs.Load.{Loads, LoadFault}
+use Rattle.start_model.specs.Run.{Woken}
+use Rattle.ntboot_cli.specs.declared.status.Status.{Status}
+use Rattle.ntboot_cli.specs.declared.status.Status.TheVariants.{Done, WriteFault, Memory}
+
+-- a hive and its log were placed on a new disk, which is off: two placings, and nothing else was done to it
+abbrev pub placed_disk : List ℕ → List ℕ → DiskState
+placed_disk hive log = record new_state { held = image_of hive log; history = record new_state.history { placings = 2 } }
+
+-- nothing was done to a new disk but that at most one file was placed
+pub record IsUnrun (disk : DiskState) : Type 0 where
+  pub few : disk.history.placings ≤ 1
+  pub alone : disk ≡ record new_state { held = disk.held; history = record new_state.history { placings = disk.history.placings } }
+
+-- the image loads as some state, or this is its first fault
+abbrev pub IsChecked : Image → Result (Unit {0}) ReadStop → Type 0
+IsChecked image (Ok u) = (placed : Woken) × Loads image placed.state placed.dirty
+IsChecked image (Err (read.Fault f)) = LoadFault image f
+IsChecked image (Err read.Memory) = Unit {0}
+
+-- nothing was done to the disk where the status is that of a refusal or of a read fault
+abbrev pub IsUntouchedBy : Status → DiskState → Type 0
+IsUntouchedBy Done disk = Unit {0}
+IsUntouchedBy WriteFault disk = Unit {0}
+IsUntouchedBy Memory disk = Unit {0}
+IsUntouchedBy refused disk = disk ≡ new_state
