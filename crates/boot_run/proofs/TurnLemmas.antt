@@ -23,6 +23,8 @@ use Rattle.boot_machine.specs.Steps.{is_there}
 use Rattle.boot_machine.specs.Views.{event_in}
 use Rattle.boot_script.specs.declared.event.Event as script
 use Rattle.boot_script.specs.declared.event.Event.TheVariants as code
+use Rattle.nt_bytes.specs.declared.lists.Bytes.{Bytes}
+use Rattle.nt_bytes.specs.declared.lists.Names.{Names}
 use Rattle.nt_bytes.specs.declared.lists.Units.{Units}
 use Rattle.nt_edge.specs.declared.disk.DiskCall as calls
 use Rattle.nt_edge.specs.declared.disk.Keep as keeps
@@ -272,6 +274,56 @@ off_accepted choice (Some s) m h = refl
 pub cut_accepted : (choice : Option ℕ → Choice) (o : Option Start) (keep : Keep) (m : RunState) → is_there o ≡ true → cut_act m ≡ accepted_act choice o (CutNow keep) m
 cut_accepted choice None keep m h = absurd cc
 cut_accepted choice (Some s) keep m h = refl
+
+-- whatever is accepted while no start runs and is no boot leaves the session alone
+pub other_idles : (choice : Option ℕ → Choice) (ev : script.Event) (m : RunState) → ((entry : Option ℕ) (good : Bool) → ev ≡ code.Boot entry good → ⊥)
+    → aside_act (event_in ev) m ≡ idle_act choice (event_in ev) m
+other_idles choice (code.Boot entry good) m f = absurd (f entry good refl)
+other_idles choice (code.Go steps) m f = refl
+other_idles choice (code.Fail name count) m f = refl
+other_idles choice (code.Set path name kind bytes) m f = refl
+other_idles choice (code.Delete path name) m f = refl
+other_idles choice (code.Make path) m f = refl
+other_idles choice (code.Remove path) m f = refl
+other_idles choice code.Flush m f = refl
+other_idles choice code.Logon m f = refl
+other_idles choice code.Off m f = refl
+other_idles choice (code.CutNow keep) m f = refl
+other_idles choice (code.ArmCut call n keep) m f = refl
+other_idles choice (code.ArmFault call n) m f = refl
+
+-- the events of a running start that do more
+pub record IsBeside (ev : script.Event) : Type 0 where
+  pub go : (steps : Option ℕ) → ev ≡ code.Go steps → ⊥
+  pub flush : ev ≡ code.Flush → ⊥
+  pub logon : ev ≡ code.Logon → ⊥
+  pub off : ev ≡ code.Off → ⊥
+  pub cut : (keep : keeps.Keep) → ev ≡ code.CutNow keep → ⊥
+  pub set : (path : Names) (name : Units) (kind : ℕ) (bytes : Bytes) → ev ≡ code.Set path name kind bytes → ⊥
+  pub delete : (path : Names) (name : Units) → ev ≡ code.Delete path name → ⊥
+  pub make : (path : Names) → ev ≡ code.Make path → ⊥
+  pub remove : (path : Names) → ev ≡ code.Remove path → ⊥
+
+-- whatever else is accepted while a start runs leaves the session alone
+other_runs_by : (choice : Option ℕ → Choice) (s : Start) (ev : script.Event) (m : RunState) → IsBeside ev → aside_act (event_in ev) m ≡ accepted_act choice (Some s) (event_in ev) m
+other_runs_by choice s (code.Boot entry good) m h = refl
+other_runs_by choice s (code.Go steps) m h = absurd (h.go steps refl)
+other_runs_by choice s (code.Fail name count) m h = refl
+other_runs_by choice s (code.Set path name kind bytes) m h = absurd (h.set path name kind bytes refl)
+other_runs_by choice s (code.Delete path name) m h = absurd (h.delete path name refl)
+other_runs_by choice s (code.Make path) m h = absurd (h.make path refl)
+other_runs_by choice s (code.Remove path) m h = absurd (h.remove path refl)
+other_runs_by choice s code.Flush m h = absurd (h.flush refl)
+other_runs_by choice s code.Logon m h = absurd (h.logon refl)
+other_runs_by choice s code.Off m h = absurd (h.off refl)
+other_runs_by choice s (code.CutNow keep) m h = absurd (h.cut keep refl)
+other_runs_by choice s (code.ArmCut call n keep) m h = refl
+other_runs_by choice s (code.ArmFault call n) m h = refl
+
+pub other_runs : (choice : Option ℕ → Choice) (o : Option Start) (ev : script.Event) (m : RunState) → is_there o ≡ true → IsBeside ev
+    → aside_act (event_in ev) m ≡ accepted_act choice o (event_in ev) m
+other_runs choice None ev m there h = absurd cc
+other_runs choice (Some s) ev m there h = other_runs_by choice s ev m h
 
 -- ---- an event
 
