@@ -1,26 +1,28 @@
 -- What the beginning of a start comes to.
-use Rattle.std.proofs.Common.{◌≡◌, ◌<◌, ◌^◌, ℕ, Bool, true, false, cond, List, [], ◌∷◌, length, Option, Some, None, refl, sym, ap, subst, ◌∙◌, arith}
-use Rattle.std.specs.Prelude.{Result, Ok, Err, OnOk, IfSome, ◌==◌, not, option_map}
+use Rattle.std.proofs.Common.{◌≡◌, ◌<◌, ◌^◌, ◌+◌, ℕ, Bool, true, false, cond, List, [], ◌∷◌, length, map, Option, Some, None, refl, sym, ap, subst, ◌∙◌, arith}
+use Rattle.std.specs.Prelude.{Result, Ok, Err, OnOk, IfSome, ◌==◌, not}
 use Rattle.std.specs.Option.{is_some, unwrap_or}
-use Rattle.std.proofs.lemmas.Bool.{ne_eqb}
+use Rattle.std.proofs.lemmas.Bool.{ne_eqb, true≢false}
+use Rattle.hive_model.specs.Image.{Image}
 use Rattle.hive_model.specs.Tree.{Tree}
+use Rattle.start_model.specs.Fits.{MayLoad}
 use Rattle.hive_model.specs.Edit.{Refusal, edited, Step}
 use Rattle.hive_model.specs.Valid.{HoldsKeys}
 use Rattle.nt_bytes.specs.declared.version.HiveVersion.{HiveVersion}
 use Rattle.nt_edge.specs.Disk.{DiskState}
+use Rattle.nt_edge.specs.Crash.{EachCrash}
 use Rattle.hive_store.specs.Session.{Session}
-use Rattle.reg_tree.specs.Makes.{refusal_of, IsRefused}
-use Rattle.reg_tree.specs.declared.stop.EditStop.{EditStop}
+use Rattle.reg_tree.specs.Makes.{step_of}
+use Rattle.reg_tree.specs.declared.steps.TreeStep.{TreeStep}
 use Rattle.start_model.specs.Lines as lines
-use Rattle.start_model.specs.Lines.{RefusedWord}
 use Rattle.start_model.specs.Entries.{Boot}
 use Rattle.start_model.specs.Order.{plan_of}
-use Rattle.start_model.specs.Sets.{SelectNumbers, SetPlan, SetStop, NoPlan, select_numbers_of, usable_numbers_of, taken_number, is_usable, set_of, begin_plan_of, stepped, planned, changed_by, begin_of}
+use Rattle.start_model.specs.Sets.{SelectNumbers, SetPlan, SetStop, SetChange, NoPlan, select_numbers_of, usable_numbers_of, taken_number, is_usable, set_of, begin_plan_of, stepped, planned, changed_by, begin_of}
 use Rattle.start_model.specs.Machine.{MachineState, with_start, begun_with}
-use Rattle.start_model.specs.Run.{RunState, Act, Possible, Woken, Outcome, Finished, PowerCut, DeviceFault, Choice, EntryTaken, NoEntry, OtherLoader, NoSystem, Held, done, say, ask, mark, wake, play, commit, end_with, start_over, opened_state, woken_at, woken_state, loaded, woken, chosen, no_set, begin_start, begin_by, begun_state, take_set, set_line, reason_of}
+use Rattle.start_model.specs.Run.{RunState, Act, Possible, Woken, Outcome, Finished, PowerCut, DeviceFault, Choice, EntryTaken, NoEntry, OtherLoader, NoSystem, Held, done, say, ask, mark, wake, play, commit, end_with, start_over, opened_state, woken_at, woken_state, loaded, woken, chosen, no_set, begin_start, begin_by, begin_with, begun_state, take_set, set_line}
 use Rattle.start_model.proofs.HeldLemmas.{services_few}
 use Rattle.run_laws.proofs.CountLemmas.{plan_few}
-use Rattle.run_laws.proofs.KeptLemmas.{begin_by-keeps}
+use Rattle.run_laws.proofs.KeptLemmas.{begin_with-keeps, begin_by-keeps}
 use Rattle.run_laws.proofs.StillLemmas.{may_load, next-may}
 use Rattle.start_laws.proofs.BeginLemmas.{begin_case, begins}
 use Rattle.start_laws.proofs.UsableLemmas.{usable_is, usable_parts, usable_from}
@@ -138,11 +140,6 @@ taken_made on_good plan version t u some is made = taken_by version t u on_good 
 pub taken_none : (version : HiveVersion) (on_good : Bool) (plan : SetPlan) (t : Tree) → plan.steps ≡ [] → begin_plan_of (select_numbers_of t) (usable_numbers_of t) on_good ≡ Ok plan → IsTaken t plan.chosen
 taken_none version on_good plan t none is = taken_by version t t on_good plan is (ap (stepped version t) none)
 
--- a refusal that has a word is one of the book's
-pub why_by : (o : Option Refusal) (r : Result Tree Refusal) (x : RefusedWord) → IfSome o (λ why. r ≡ Err why) → Some x ≡ option_map reason_of o → (why : Refusal) × (r ≡ Err why)
-why_by None r x h e = absurd cc
-why_by (Some why) r x h e = (why, h)
-
 -- the session with another tree
 pub apply_stored : (m : RunState) (s t : Session) (d : DiskState) → IsLive m s d → t.base ≡ s.base → IsStored m t d
 apply_stored m s t d live base = record {
@@ -218,3 +215,27 @@ commit_over m tree next r d rest h = record { after = start_over false (opened_s
 pub load_off : (r r' : Runner) (d : DiskState) (o : Option Session) → r.machine.start ≡ None → LoadsUp r r' d o → r'.machine.start ≡ None
 load_off r r' d None off h = h.1
 load_off r r' d (Some t) off h = ap (λ (k : MachineState). k.start) h.1.1.machine ∙ off
+
+-- whatever a plan's steps led to
+pub planned_stays : (on_good : Bool) (m : RunState) (plan : SetPlan) (c : Image) (r : Result Tree Refusal) → m.disk.other ≡ None → MayLoad m.disk c → MayLoad (play (begin_planned on_good m plan r) [] []).disk c
+planned_stays on_good m plan c (Ok t) none may =
+    let change : SetChange = record { chosen = plan.chosen; numbers = plan.numbers; has_steps = not (length plan.steps == 0); tree = t } in
+    next-may c (begin_with on_good change) (λ h n up. begin_with-keeps (may_load c) on_good change h n up) m none may
+planned_stays on_good m plan c (Err why) none may = may
+
+-- whether there are steps, by those of the code
+pub steps_none : (made : List TreeStep) (steps : List Step) → map step_of made ≡ steps → (length made == 0) ≡ true → steps ≡ []
+steps_none [] steps is none = sym is
+steps_none (s ∷ ss) steps is none = absurd (true≢false (sym none ∙ ne_eqb (length (s ∷ ss)) 0 (λ e. omega (arith, e))))
+
+pub steps_some : (made : List TreeStep) (steps : List Step) → map step_of made ≡ steps → (length made == 0) ≡ false → steps ≡ [] → ⊥
+steps_some [] steps is some none = true≢false some
+steps_some (s ∷ ss) steps is some none = let z : map step_of (s ∷ ss) ≡ [] = is ∙ none in absurd cc
+
+pub chosen_left : (on_good : Bool) (m : RunState) (choice : Choice) (d : DiskState) → EachCrash d (MayLoad m.disk) → EachCrash d (MayLoad (play (chosen on_good m choice) [] []).disk)
+chosen_left on_good m choice d left image crash =
+    let P : Possible → Type 0 = λ p. MayLoad p image in subst P (sym (chosen_disk on_good m choice)) (left image crash)
+
+-- the number of one more start
+pub number_is : (m : RunState) (r : Runner) (number : ℕ) → Counts m r → number ≡ r.starts + 1 → number ≡ m.starts + 1
+number_is m r number counts is = is ∙ ap (λ (n : ℕ). n + 1) (sym counts.starts)

@@ -8,9 +8,12 @@ pub mod PlayLemmas
 pub mod CloseLemmas
 pub mod CutLemmas
 pub mod RunLemmas
+pub mod LineLemmas
 pub mod BeginLemmas
 pub mod SaveLemmas
 pub mod DueLemmas
 pub mod EditLemmas
 pub mod StartLemmas
 pub mod StepLemmas
+pub mod GoLemmas
+pub mod TurnLemmas

@@ -1,7 +1,6 @@
 -- Which act a step of the starter is.
 use Rattle.std.proofs.Common.{◌≡◌, ℕ, zero, suc, ◌<◌, Bool, true, false, not, cond, List, [], ◌∷◌, length, map, Option, Some, None, refl, sym, ap, subst, ◌∙◌, arith}
 use Rattle.std.proofs.lemmas.Bool.{false≢true}
-use Rattle.std.proofs.lemmas.List.{length-map}
 use Rattle.std.specs.Prelude.{Result, Ok, Err, slice_get, option_map, option_and_then}
 use Rattle.std.specs.Option.{unwrap_or}
 use Rattle.hive_model.specs.Image.{Image}
@@ -12,7 +11,7 @@ use Rattle.start_model.specs.Entries.{Entry, need_of}
 use Rattle.start_model.specs.Machine.{Start, MachineState, Tried, next_in, attempt_at, attempt_in, attempt_of, after_phase, is_done, with_start}
 use Rattle.start_model.specs.Fits.{MayLoad}
 use Rattle.start_model.specs.Sets.{set_of}
-use Rattle.start_model.specs.Run.{Act, RunState, done, no_set, live_set, good_is_usable, judged, starter_step, phase_step, stepping, go_steps, save_where_due, with_machine, play}
+use Rattle.start_model.specs.Run.{Act, RunState, done, no_set, live_set, good_is_usable, judged, starter_step, phase_step, stepping, go_steps, go_act, enough_steps, save_where_due, with_machine, play}
 use Rattle.start_laws.proofs.NextLemmas.{next_is}
 use Rattle.run_laws.proofs.StillLemmas.{may_load, next-may}
 use Rattle.run_laws.proofs.KeptLemmas.{go_steps-keeps, up_rests}
@@ -35,12 +34,16 @@ at_place : (m : MachineState) (s : Start) (usable : Bool) (place : ℕ) → plac
     → (one : MachineState × Tried) × (option_map (attempt_at m s usable place) (slice_get s.waiting place) ≡ Some one)
 at_place m s usable place lt = let e = got s.waiting place lt in (attempt_at m s usable place e.0, ap (option_map (attempt_at m s usable place)) e.1)
 
+needs_as_many : (es : List Entry) → length (map need_of es) ≡ length es
+needs_as_many [] = refl
+needs_as_many (e ∷ es) = ap suc (needs_as_many es)
+
 at_next : (m : MachineState) (s : Start) (usable : Bool) (o : Option ℕ) → next_in s ≡ o → not (is_there o) ≡ false
     → (one : MachineState × Tried) × (option_and_then (λ place. option_map (attempt_at m s usable place) (slice_get s.waiting place)) o ≡ Some one)
 at_next m s usable None is end = absurd (false≢true (sym end))
 at_next m s usable (Some place) is end =
     let within : place < length (map need_of s.waiting) = (next_is s.started (map need_of s.waiting) place is).within in
-    at_place m s usable place (omega (arith, within, length-map need_of s.waiting))
+    at_place m s usable place (omega (arith, within, needs_as_many s.waiting))
 
 at_start : (m : MachineState) (usable : Bool) (o : Option Start) → is_at_end o ≡ false → (one : MachineState × Tried) × (option_and_then (λ s. attempt_in m s usable) o ≡ Some one)
 at_start m usable None end = absurd (false≢true (sym end))
@@ -107,6 +110,11 @@ go_next n m = refl
 
 pub go_stays : (n : ℕ) → Stays (go_steps n)
 go_stays n m c none h = next-may c (go_steps n) (λ k x u. go_steps-keeps (may_load c) n k x (up_rests (may_load c) k x x.machine.start u)) m none h
+
+-- the same of all steps
+pub go_may : (steps : Option ℕ) (m : RunState) (c : Image) → m.disk.other ≡ None → MayLoad m.disk c → MayLoad (play (go_act steps m) [] []).disk c
+go_may None m c none h = go_stays (enough_steps m.machine.start m) m c none h
+go_may (Some n) m c none h = go_stays n m c none h
 
 -- whatever the step is, nothing of it is said yet
 pub step_may : (s : Start) (m : RunState) (next : RunState → Act) (c : Image) (o : Option (MachineState × Tried)) → m.disk.other ≡ None → Stays next → MayLoad m.disk c

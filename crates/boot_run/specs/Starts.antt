@@ -1,5 +1,5 @@
 -- What came of an attempt, and of the phases of a start? (this project's own)
-use Rattle.std.specs.Prelude.{◌≡◌, Bool, false, not, List, [], ◌∷◌, ◌++◌, map, Option, Some, None, option_map}
+use Rattle.std.specs.Prelude.{◌≡◌, ℕ, Bool, false, not, List, [], ◌∷◌, ◌++◌, map, Option, Some, None, option_map}
 use Rattle.hive_model.specs.Tree.{Tree}
 use Rattle.boot_report.specs.declared.words.Verdict.{Verdict}
 use Rattle.boot_report.specs.Report.{verdict_of}
@@ -8,7 +8,12 @@ use Rattle.start_model.specs.Lines as lines
 use Rattle.start_model.specs.Lines.{Line, UnmetLine}
 use Rattle.start_model.specs.Machine.{Start, MachineState, Tried, attempt_of, phase_after, after_phase, unmet_in, is_done, with_start}
 use Rattle.start_model.specs.Sets.{set_of}
-use Rattle.start_model.specs.Run.{phase_line}
+use Rattle.nt_edge.specs.Disk.{DiskState}
+use Rattle.hive_store.specs.Session.{Session}
+use Rattle.start_model.specs.Run.{RunState, Act, phase_line, go_steps, play}
+use Rattle.run_parts.specs.Parts.{Told, Goes}
+use Rattle.boot_run.specs.declared.runner.Runner.{Runner}
+use Rattle.boot_run.specs.Agrees.{OnLeft}
 
 -- a start runs whose phases are not over
 abbrev pub is_under_way : Option Start → Bool
@@ -40,3 +45,7 @@ pub record NextPhase (tree : Tree) (old new : MachineState) : Type 0 where
   pub is : old.start ≡ Some start
   pub there : set_of tree start.number ≡ Some set
   pub machine : new ≡ with_start (after_phase set start) old
+
+-- Of so many steps from a state on these are left, for a start that goes on; or the start is over.
+abbrev pub StepsTo : ℕ → RunState → ℕ → Told → Told → DiskState → DiskState → Runner → Option Session → Type 0
+StepsTo most m left x y d e r o = (rest : Act) × (Goes (play (go_steps most m)) (play rest) x y d e × OnLeft (go_steps left) r e o rest)

@@ -155,14 +155,10 @@ fn begin_stepped<H: Host, B: Bench>(
         (moment (H.state host.new) runner.new (B.state bench.new)) result (TurnLeft runner.new (B.state bench.new)) }
     ensures host { LeavesHost result (H.state host.old) (H.state host.new) }
 {
-    let SetPlan {
-        chosen,
-        numbers,
-        steps,
-    } = plan;
+    let (number, numbers) = (plan.chosen, plan.numbers);
     let mut hive = hive;
-    match hive.apply(alloc, steps) {
-        Ok(()) => begin_committed(alloc, chosen, on_good, numbers, hive, runner, host, bench),
+    match hive.apply(alloc, plan.steps) {
+        Ok(()) => begin_committed(alloc, number, on_good, numbers, hive, runner, host, bench),
         Err(stop) => match edit_word(stop) {
             None => Err(RunStop::Memory),
             Some(_) => end_start(alloc, Verdict::Full, runner, host, bench),

@@ -1,6 +1,6 @@
 //! The boot event, up to the first phase of the start.
 
-ghost use Rattle.std.specs.Prelude.{◌≡◌, ◌∷◌, [], true, None, IfOk, IsSome};
+ghost use Rattle.std.specs.Prelude.{◌≡◌, ◌||◌, true, None, IfOk, IsSome};
 ghost use Rattle.nt_edge.specs.Crash.{EachCrash};
 ghost use Rattle.boot_ini.specs.Choice.{entry_at, IsThere};
 ghost use Rattle.boot_report.specs.Report.{verdict_of};
@@ -61,6 +61,13 @@ fn is_on_good(ini: &BootIni, number: u32) -> bool
     }
 }
 
+/// Whether a start is on LastKnownGood, for either reason.
+fn either(one: bool, other: bool) -> bool
+    ensures { result ≡ (one || other) }
+{
+    one || other
+}
+
 /// Loads the session, and takes a set.
 fn load_and_take<H: Host, B: Bench>(
     alloc: Global,
@@ -106,7 +113,7 @@ fn boot_by<H: Host, B: Bench>(
     match chosen {
         Chosen::Entry(number) => {
             say_entry(alloc, ini, number, &mut runner.summary, host)?;
-            let on_good = on_good || is_on_good(ini, number);
+            let on_good = either(on_good, is_on_good(ini, number));
             load_and_take(alloc, on_good, runner, host, bench)
         }
         Chosen::NoEntry => end_start(alloc, Verdict::NoEntry, runner, host, bench),
@@ -150,13 +157,6 @@ pub(crate) fn boot<H: Host, B: Bench>(
     let Ok(chosen) = choose(alloc, ini, entry, system) else {
         return Err(RunStop::Memory);
     };
-    boot_by(
-        alloc,
-        ini,
-        chosen,
-        due || last_known_good,
-        runner,
-        host,
-        bench,
-    )
+    let on_good = either(due, last_known_good);
+    boot_by(alloc, ini, chosen, on_good, runner, host, bench)
 }

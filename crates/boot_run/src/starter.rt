@@ -240,7 +240,8 @@ fn take_steps<H: Host, B: Bench>(
 /// So many steps as are enough for all that the start can still do.
 fn enough(alloc: Global, hive: &Hive, runner: &Runner) -> Result<u64, RunStop>
     requires { IsRunningBy runner.now.machine.start hive.now.tree }
-    ensures { IfOk result (λ n. (m : RunState) → m.live ≡ hive.now.tree → enough_steps runner.now.machine.start m ≤ n) }
+    ensures memory { IfErr result (λ stop. stop ≡ Memory) }
+    ensures steps { IfOk result (λ n. (m : RunState) → m.live ≡ hive.now.tree → enough_steps runner.now.machine.start m ≤ n) }
 {
     let Some((number, _)) = runner.machine.running() else {
         unreachable!()
@@ -259,7 +260,8 @@ fn most_steps(
     runner: &Runner,
 ) -> Result<u64, RunStop>
     requires { IsRunningBy runner.now.machine.start hive.now.tree }
-    ensures { IfOk result (λ n. (m : RunState) → m.live ≡ hive.now.tree → m.machine ≡ runner.now.machine → go_steps n m ≡ go_act steps m) }
+    ensures memory { IfErr result (λ stop. stop ≡ Memory) }
+    ensures steps { IfOk result (λ n. (m : RunState) → m.live ≡ hive.now.tree → m.machine ≡ runner.now.machine → go_steps n m ≡ go_act steps m) }
 {
     match steps {
         Some(steps) => Ok(u64::from(steps)),

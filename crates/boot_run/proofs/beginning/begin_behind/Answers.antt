@@ -28,6 +28,10 @@ pub returns-in-None-clause-plays : goal.returns-in-None-clause-plays
 returns-in-None-clause-plays g c = λ m tree d rest tells up h.
     let next = begin_start c.args.number c.args.on_good c.args.numbers in
     let P : Option Session → Type 0 = λ o. CommitLeft m tree next c.args.runner.now d o rest in
-    let R : Option Session → Type 0 = λ o. TurnLeft c.args.runner.now d o rest in
-    (rest, (goes-nothing (play rest) (told_in (g.H.Host.state c.args.host.now) c.args.runner.now) d d (still d),
-    subst R (sym c.in-None.is) (commit_over m tree next c.args.runner.now d rest (subst P c.in-None.is h))))
+    let R : Option Session → Type 0 = λ o. TurnLeft c.args.runner.now d o rest in (
+      rest,
+      (
+        goes-nothing (play rest) (told_in (g.H.Host.state c.args.host.now) c.args.runner.now) d d (still d),
+        subst R (sym c.in-None.is) (commit_over m tree next c.args.runner.now d rest (subst P c.in-None.is h)),
+      ),
+    )

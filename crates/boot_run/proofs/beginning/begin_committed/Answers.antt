@@ -10,12 +10,12 @@ use Rattle.boot_run.proofs.PlayLemmas.{plays-then}
 use Rattle.boot_run.proofs.BeginLemmas.{stays_begin, up_or_down, still_off, still_taken}
 use Rattle.boot_run.proofs.beginning.begin_committed.Goals as goal
 
-pub begin_behind-requires-off : goal.begin_behind-requires-off
-begin_behind-requires-off g c =
+pub begin_behind-requires-clause-off : goal.begin_behind-requires-clause-off
+begin_behind-requires-clause-off g c =
     still_off c.args.hive c.args.runner.now c.commit.new.runner (g.B.Disk.state c.commit.new.bench) c.in_ok-left.left c.requires.off c.in_ok-left.ensures.sound
 
-pub begin_behind-requires-taken : goal.begin_behind-requires-taken
-begin_behind-requires-taken g c =
+pub begin_behind-requires-clause-taken : goal.begin_behind-requires-clause-taken
+begin_behind-requires-clause-taken g c =
     still_taken c.args.hive c.args.runner.now c.commit.new.runner (g.B.Disk.state c.commit.new.bench) c.in_ok-left.left c.args.number c.requires.taken c.in_ok-left.ensures.sound
 
 pub returns-in_err-left-clause-plays : goal.returns-in_err-left-clause-plays

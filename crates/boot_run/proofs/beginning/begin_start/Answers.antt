@@ -1,5 +1,4 @@
 use Rattle.std.proofs.Common.{◌≡◌, ◌∙◌, ◌∷◌, [], refl, subst}
-
 use Rattle.nt_edge.specs.Host.{SaysFront}
 use Rattle.start_model.specs.Lines as book
 use Rattle.start_model.specs.Lines.{Line, line_text}
@@ -8,7 +7,6 @@ use Rattle.run_parts.specs.Parts.{Tells}
 use Rattle.run_parts.proofs.CountLemmas.{still}
 use Rattle.run_parts.proofs.GoesLemmas.{goes-line}
 use Rattle.run_parts.proofs.BreakLemmas.{or-breaks, breaks-silent, breaks-line}
-
 use Rattle.boot_run.specs.Views.{told_in, told_by}
 use Rattle.boot_run.proofs.PlayLemmas.{plays-then, plays-line, live_left}
 use Rattle.boot_run.proofs.BeginLemmas.{on_done, begin_sound, begun}

@@ -13,7 +13,7 @@ use Rattle.boot_run.proofs.PlayLemmas.{plays-as, plays-then, live_left}
 use Rattle.boot_run.proofs.beginning.take_set.Goals as goal
 
 pub end_start-requires : goal.end_start-requires
-end_start-requires g c = still_leaves (g.B.Disk.state c.args.bench.now) LoadsAny c.requires.up.still c.requires.up.loads
+end_start-requires g c = record { left = still_leaves (g.B.Disk.state c.args.bench.now) LoadsAny c.requires.up.still c.requires.up.loads }
 
 pub returns-in_err-found-clause-plays : goal.returns-in_err-found-clause-plays
 returns-in_err-found-clause-plays g c = λ m tells counts live.

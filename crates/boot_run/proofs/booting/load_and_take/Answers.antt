@@ -13,13 +13,13 @@ use Rattle.boot_run.proofs.PlayLemmas.{plays-as, plays-then}
 use Rattle.boot_run.proofs.BeginLemmas.{stays_take, load_same, load_over, load_off}
 use Rattle.boot_run.proofs.booting.load_and_take.Goals as goal
 
-pub take_set-requires-up : goal.take_set-requires-up
-take_set-requires-up g c =
+pub take_set-requires-clause-up : goal.take_set-requires-clause-up
+take_set-requires-clause-up g c =
     let P : Option Session → Type 0 = λ o. LoadsUp c.args.runner.now c.load.new.runner (g.B.Disk.state c.load.new.bench) o in
     (subst P c.in-Some.is c.in_ok-left.ensures.sound).0
 
-pub take_set-requires-off : goal.take_set-requires-off
-take_set-requires-off g c = load_off c.args.runner.now c.load.new.runner (g.B.Disk.state c.load.new.bench) c.in_ok-left.left c.requires.off c.in_ok-left.ensures.sound
+pub take_set-requires-clause-off : goal.take_set-requires-clause-off
+take_set-requires-clause-off g c = load_off c.args.runner.now c.load.new.runner (g.B.Disk.state c.load.new.bench) c.in_ok-left.left c.requires.off c.in_ok-left.ensures.sound
 
 pub returns-in_err-left-clause-plays : goal.returns-in_err-left-clause-plays
 returns-in_err-left-clause-plays g c = λ m tells counts left.

@@ -31,7 +31,7 @@ returns-in_err-verdict-clause-plays g c = λ m s next tells counts live stays.
     let there = attempt_there k c.in-Ok.usable c.requires.ready in
     let one = there.0 in
     let same : o ≡ attempt_of k c.in-Ok.usable =
-        ap (λ (n : MachineState). attempt_of n (good_is_usable m.live)) counts.machine ∙ ap (attempt_of k) (ap good_is_usable live.live ∙ sym c.in-Ok.ensures) in
+    ap (λ (n : MachineState). attempt_of n (good_is_usable m.live)) counts.machine ∙ ap (attempt_of k) (ap good_is_usable live.live ∙ sym c.in-Ok.ensures) in
     let P : Option (MachineState × Tried) → Type 0 = λ t. Breaks (starter_step s m next t) x y.said d d in
     or-breaks _ c.from_residual.result c.from_residual.ensures.0 (starter_step s m next o) x y d d
     (subst P (sym (same ∙ there.1))
@@ -58,7 +58,7 @@ returns-clause-plays g c = λ m s next tells counts live stays.
     let n = with_machine one.0 m in
     let o = attempt_of m.machine (good_is_usable m.live) in
     let same : o ≡ attempt_of k c.in-Ok.usable =
-        ap (λ (q : MachineState). attempt_of q (good_is_usable m.live)) counts.machine ∙ ap (attempt_of k) (ap good_is_usable live.live ∙ sym c.in-Ok.ensures) in
+    ap (λ (q : MachineState). attempt_of q (good_is_usable m.live)) counts.machine ∙ ap (attempt_of k) (ap good_is_usable live.live ∙ sym c.in-Ok.ensures) in
     let act = judged one.1.judgement n next in
     let Left = OnLeft next c.end_where.new.runner e in
     let now : Counts n c.attempt.new.runner = record { machine = sym a.machine; starts = counts.starts ∙ sym c.attempt.ensures.starts } in

@@ -1,0 +1,294 @@
+-- What one event comes to.
+use Rattle.std.proofs.Common.{◌≡◌, ◌≤◌, ℕ, Bool, true, false, cond, List, [], ◌∷◌, Option, Some, None, refl, sym, ap, subst, ◌∙◌}
+use Rattle.std.specs.Prelude.{Result, Ok, Err, IfOk, IfSome, option_map}
+use Rattle.std.specs.Option.{option_map_or}
+use Rattle.hive_model.specs.Edit.{Step, edited}
+use Rattle.hive_model.specs.Image.{Keep}
+use Rattle.hive_model.specs.Tree.{Tree}
+use Rattle.nt_edge.specs.Bench.{armed}
+use Rattle.nt_edge.specs.Crash.{EachCrash}
+use Rattle.nt_edge.specs.Disk.{DiskState}
+use Rattle.hive_store.specs.Session.{Session}
+use Rattle.reg_tree.specs.Fitting.{Fits}
+use Rattle.reg_tree.specs.Makes as made
+use Rattle.reg_tree.specs.declared.steps.TreeStep.{TreeStep}
+use Rattle.start_model.specs.Events as book
+use Rattle.start_model.specs.Events.{Event, Edit, BootNow, Go, Fail, Edits, Flush, Logon, Off, CutNow, Arm, Set, Delete, Make, Remove, is_protected}
+use Rattle.start_model.specs.Lines.{RefusedWord, RefusedLine, ProtectedReason}
+use Rattle.start_model.specs.Machine.{Start, MachineState, failing, refusal_in, refusal_of}
+use Rattle.start_model.specs.Fits.{MayLoad}
+use Rattle.start_model.specs.Run.{Act, Choice, RunState, done, say, with_machine, edit_done, go_act, flush_act, logon_act, off_act, cut_act, boot_act, idle_act, accepted_act, act_unless, event_step_of, event_word_of, play}
+use Rattle.start_laws.proofs.UsableLemmas.{usable_parts}
+use Rattle.boot_machine.specs.Steps.{is_there}
+use Rattle.boot_machine.specs.Views.{event_in}
+use Rattle.boot_script.specs.declared.event.Event as script
+use Rattle.boot_script.specs.declared.event.Event.TheVariants as code
+use Rattle.nt_bytes.specs.declared.lists.Units.{Units}
+use Rattle.nt_edge.specs.declared.disk.DiskCall as calls
+use Rattle.nt_edge.specs.declared.disk.Keep as keeps
+use Rattle.run_parts.specs.Parts.{Told, Goes, Breaks, PlaysOr, TellsOr}
+use Rattle.run_parts.proofs.CountLemmas.{still}
+use Rattle.run_parts.proofs.GoesLemmas.{goes-nothing}
+use Rattle.run_parts.proofs.BreakLemmas.{breaks-silent}
+use Rattle.boot_run.specs.declared.runner.Runner.{Runner}
+use Rattle.boot_run.specs.Agrees.{IsUp, IsDown, IsLive, IsSound, IsRunningBy, RunsOnBy, Counts, Agrees, AgreesBy, TurnLeft}
+use Rattle.boot_run.specs.Begins.{aside_machine, aside_disk, aside_act, IsStepOf, IsEdit}
+use Rattle.boot_run.proofs.PlayLemmas.{plays-line, agrees_left, here_turn}
+
+-- ---- the same act by another name
+
+pub goes_as : (a b : Act) (x y : Told) (d e : DiskState) (Left : Act → Type 0) → a ≡ b → ((rest : Act) × (Goes (play a) (play rest) x y d e × Left rest))
+    → (rest : Act) × (Goes (play b) (play rest) x y d e × Left rest)
+goes_as a b x y d e Left is p = let P : Act → Type 0 = λ t. Goes (play t) (play p.0) x y d e in (p.0, (subst P is p.1.0, p.1.1))
+
+pub breaks_as : (a b : Act) (x : Told) (y : List ℕ) (d e : DiskState) → a ≡ b → Breaks a x y d e → Breaks b x y d e
+breaks_as a b x y d e is p = let P : Act → Type 0 = λ t. Breaks t x y d e in subst P is p
+
+-- ---- events that leave the session alone
+
+-- failures are noted in the machine alone
+pub aside_start : (ev : Event) (k : MachineState) → (aside_machine ev k).start ≡ k.start
+aside_start (BootNow entry good) k = refl
+aside_start (Go steps) k = refl
+aside_start (Fail name count) k = refl
+aside_start (Edits e) k = refl
+aside_start Flush k = refl
+aside_start Logon k = refl
+aside_start Off k = refl
+aside_start (CutNow keep) k = refl
+aside_start (Arm arming) k = refl
+
+-- what the disk carries, and its counts, are as they were
+record Aside (d e : DiskState) : Type 0 where
+  up : (s : Session) → IsUp s d → IsUp s e
+  down : IsDown d → IsDown e
+  live : (m : RunState) (k : MachineState) (s : Session) → IsLive m s d → IsLive (record m { machine = k }) s e
+  left : (m : RunState) → EachCrash d (MayLoad m.disk) → EachCrash e (MayLoad m.disk)
+
+aside_same : (d : DiskState) → Aside d d
+aside_same d = record {
+  up = λ s h. h;
+  down = λ h. h;
+  live = λ m k s h. record { live = h.live; changed = h.changed; sequence = h.sequence; version = h.version; settled = h.settled; loads = h.loads };
+  left = λ m h. h;
+}
+
+aside_by : (ev : Event) (d : DiskState) → Aside d (aside_disk ev d)
+aside_by (BootNow entry good) d = aside_same d
+aside_by (Go steps) d = aside_same d
+aside_by (Fail name count) d = aside_same d
+aside_by (Edits e) d = aside_same d
+aside_by Flush d = aside_same d
+aside_by Logon d = aside_same d
+aside_by Off d = aside_same d
+aside_by (CutNow keep) d = aside_same d
+aside_by (Arm arming) d = record {
+  up = λ s h. record { on = h.on; still = h.still; carries = h.carries; loads = h.loads; marked = record { cuts = h.marked.cuts; faults = h.marked.faults } };
+  down = λ h. record { off = h.off; loads = h.loads };
+  live = λ m k s h. record { live = h.live; changed = h.changed; sequence = h.sequence; version = h.version; settled = h.settled; loads = h.loads };
+  left = λ m h. h;
+}
+
+aside_at : (ev : Event) (d e : DiskState) → e ≡ aside_disk ev d → Aside d e
+aside_at ev d e is = let P : DiskState → Type 0 = λ t. Aside d t in subst P (sym is) (aside_by ev d)
+
+aside_runs : (ev : Event) (r r' : Runner) → r'.machine ≡ aside_machine ev r.machine → r'.machine.start ≡ r.machine.start
+aside_runs ev r r' machine = ap (λ (k : MachineState). k.start) machine ∙ aside_start ev r.machine
+
+pub beside_sound : (ev : Event) (r r' : Runner) (d e : DiskState) (hive : Option Session) → r'.machine ≡ aside_machine ev r.machine → e ≡ aside_disk ev d → IsSound r d hive → IsSound r' e hive
+beside_sound ev r r' d e None machine disk h = ((aside_at ev d e disk).down h.0, aside_runs ev r r' machine ∙ h.1)
+beside_sound ev r r' d e (Some s) machine disk h =
+    let P : Option Start → Type 0 = λ o. IsRunningBy o s.tree in
+    ((aside_at ev d e disk).up s h.0, subst P (sym (aside_runs ev r r' machine)) h.1)
+
+beside_by : (ev : Event) (m : RunState) (k : MachineState) (d e : DiskState) (hive : Option Session) → e ≡ aside_disk ev d → AgreesBy m d hive → AgreesBy (record m { machine = k }) e hive
+beside_by ev m k d e None disk h = (aside_at ev d e disk).left m h
+beside_by ev m k d e (Some s) disk h = (aside_at ev d e disk).live m k s h
+
+pub beside_goes : (ev : Event) (m : RunState) (r r' : Runner) (x : Told) (d e : DiskState) (hive : Option Session) → r'.machine ≡ aside_machine ev r.machine → r'.starts ≡ r.starts
+    → e ≡ aside_disk ev d → Agrees m r d hive
+    → ((a : Act) × (Goes (play (aside_act ev m)) (play a) x x d e × (a ≡ done (record m { machine = aside_machine ev m.machine }))))
+    → (a : Act) × (Goes (play (aside_act ev m)) (play a) x x d e × TurnLeft r' e hive a)
+beside_goes ev m r r' x d e hive machine starts disk agrees p =
+    let k : MachineState = aside_machine ev m.machine in
+    let counts : Counts (record m { machine = k }) r' = record { machine = ap (aside_machine ev) agrees.counts.machine ∙ sym machine; starts = agrees.counts.starts ∙ sym starts } in
+    (p.0, (p.1.0, record { after = record m { machine = k }; is = p.1.1; agrees = record { counts = counts; by = beside_by ev m k d e hive disk agrees.by } }))
+
+-- failures are noted, and nothing is said
+pub aside_goes : (ev : Event) (m : RunState) (x : Told) (d : DiskState) → aside_act ev m ≡ done (record m { machine = aside_machine ev m.machine })
+    → (a : Act) × (Goes (play (aside_act ev m)) (play a) x x d d × (a ≡ done (record m { machine = aside_machine ev m.machine })))
+aside_goes ev m x d is = (aside_act ev m, (goes-nothing (play (aside_act ev m)) x d d (still d), is))
+
+pub fail_act : (ev : Event) (name : List ℕ) (count : ℕ) (m : RunState) → ev ≡ Fail name count → aside_act ev m ≡ done (record m { machine = aside_machine ev m.machine })
+fail_act ev name count m is = let P : Event → Type 0 = λ v. aside_act v m ≡ done (record m { machine = aside_machine v m.machine }) in subst P (sym is) refl
+
+-- nothing was done, and nothing said
+pub aside_breaks : (ev : Event) (m : RunState) (x : Told) (d : DiskState) → EachCrash d (MayLoad m.disk) → Breaks (aside_act ev m) x x.said d d
+aside_breaks ev m x d left =
+    breaks-silent (aside_act ev m) x d d (still d) (may ev left)
+  where
+    may : (v : Event) → EachCrash d (MayLoad m.disk) → EachCrash d (MayLoad (play (aside_act v m) [] []).disk)
+    may (BootNow entry good) h = h
+    may (Go steps) h = h
+    may (Fail name count) h = h
+    may (Edits e) h = h
+    may Flush h = h
+    may Logon h = h
+    may Off h = h
+    may (CutNow keep) h = h
+    may (Arm arming) h = h
+
+-- the event does nothing at all
+pub record DoesNothing (ev : Event) : Type 0 where
+  pub machine : (k : MachineState) → k ≡ aside_machine ev k
+  pub disk : (d : DiskState) → d ≡ aside_disk ev d
+  pub act : (m : RunState) → aside_act ev m ≡ done (record m { machine = aside_machine ev m.machine })
+
+pub other_does_nothing : (ev : script.Event) → ((x : Units) (n : ℕ) → ev ≡ code.Fail x n → ⊥)
+    → ((x : calls.DiskCall) (n : ℕ) (k : keeps.Keep) → ev ≡ code.ArmCut x n k → ⊥) → ((x : calls.DiskCall) (n : ℕ) → ev ≡ code.ArmFault x n → ⊥) → DoesNothing (event_in ev)
+other_does_nothing (code.Boot entry good) f a b = record { machine = λ k. refl; disk = λ d. refl; act = λ m. refl }
+other_does_nothing (code.Go steps) f a b = record { machine = λ k. refl; disk = λ d. refl; act = λ m. refl }
+other_does_nothing (code.Fail name count) f a b = absurd (f name count refl)
+other_does_nothing (code.Set path name kind bytes) f a b = record { machine = λ k. refl; disk = λ d. refl; act = λ m. refl }
+other_does_nothing (code.Delete path name) f a b = record { machine = λ k. refl; disk = λ d. refl; act = λ m. refl }
+other_does_nothing (code.Make path) f a b = record { machine = λ k. refl; disk = λ d. refl; act = λ m. refl }
+other_does_nothing (code.Remove path) f a b = record { machine = λ k. refl; disk = λ d. refl; act = λ m. refl }
+other_does_nothing code.Flush f a b = record { machine = λ k. refl; disk = λ d. refl; act = λ m. refl }
+other_does_nothing code.Logon f a b = record { machine = λ k. refl; disk = λ d. refl; act = λ m. refl }
+other_does_nothing code.Off f a b = record { machine = λ k. refl; disk = λ d. refl; act = λ m. refl }
+other_does_nothing (code.CutNow keep) f a b = record { machine = λ k. refl; disk = λ d. refl; act = λ m. refl }
+other_does_nothing (code.ArmCut call n keep) f a b = absurd (a call n keep refl)
+other_does_nothing (code.ArmFault call n) f a b = absurd (b call n refl)
+
+-- ---- edits
+
+-- what an edit of a script brings along can be held
+pub step_fits : (number : ℕ) (e : Edit) → Fits (book.step_of number e)
+step_fits number (Set path name kind bytes) = tt
+step_fits number (Delete path name) = tt
+step_fits number (Make path) = tt
+step_fits number (Remove path) = tt
+
+pub made_fits : (step : TreeStep) (number : ℕ) (e : Edit) → made.step_of step ≡ book.step_of number e → Fits (made.step_of step)
+made_fits step number e is = let P : Step → Type 0 = λ s. Fits s in subst P (sym is) (step_fits number e)
+
+pub made_all : {E : Type 0} → (r : Result TreeStep E) (number : ℕ) (e : Edit) → IfOk r (λ s. made.step_of s ≡ book.step_of number e) → IfOk r (λ s. Fits (made.step_of s))
+made_all (Ok step) number e h = made_fits step number e h
+made_all (Err stop) number e h = tt
+
+-- the set of a start, by its number
+abbrev pub set_taken : Start → ℕ × Bool
+set_taken s = (s.number, s.on_good)
+
+pub step_running : {E : Type 0} → (r : Result TreeStep E) (o : Option Start) (taken : ℕ × Bool) (ev : Event) → Some taken ≡ option_map set_taken o
+    → IfOk r (IsStepOf taken.0 ev) → IfOk r (λ step. IfSome o (λ (s : Start). IsStepOf s.number ev step))
+step_running (Err stop) o taken ev is h = tt
+step_running (Ok step) None taken ev is h = tt
+step_running (Ok step) (Some s) taken ev is h =
+    let e : taken ≡ set_taken s = cc in
+    let P : ℕ × Bool → Type 0 = λ k. IsStepOf k.0 ev step in subst P e h
+
+pub number_most : (o : Option Start) (taken : ℕ × Bool) → Some taken ≡ option_map set_taken o → IfSome o (λ (s : Start). s.number ≤ 999) → taken.0 ≤ 999
+number_most None taken is h = absurd cc
+number_most (Some s) taken is h =
+    let e : set_taken s ≡ taken = cc in
+    let P : ℕ × Bool → Type 0 = λ k. k.0 ≤ 999 in subst P e h
+
+pub running_there : (o : Option Start) (tree : Tree) → IsRunningBy o tree → is_there o ≡ true
+running_there None tree h = absurd h
+running_there (Some s) tree h = refl
+
+pub edit_of : (ev : Event) → IsEdit ev → (e : Edit) × (ev ≡ Edits e)
+edit_of (BootNow entry good) h = absurd h
+edit_of (Go steps) h = absurd h
+edit_of (Fail name count) h = absurd h
+edit_of (Edits e) h = (e, refl)
+edit_of Flush h = absurd h
+edit_of Logon h = absurd h
+edit_of Off h = absurd h
+edit_of (CutNow keep) h = absurd h
+edit_of (Arm arming) h = absurd h
+
+-- the running start's number, which is that of a set
+pub running_number : (o : Option Start) (tree : Tree) → IsRunningBy o tree → (n : ℕ) × RunsOnBy o n
+running_number None tree h = absurd h
+running_number (Some s) tree h = (s.number, refl)
+
+pub running_most : (o : Option Start) (tree : Tree) → IsRunningBy o tree → IfSome o (λ (s : Start). s.number ≤ 999)
+running_most None tree h = absurd h
+running_most (Some s) tree h = (usable_parts tree s.number h.there).most
+
+pub edit_free : (o : Option Start) (tree : Tree) (ev : Event) (e : Edit) → IsRunningBy o tree → ev ≡ Edits e → refusal_in o ev ≡ None → is_protected e ≡ false
+edit_free None tree ev e h is ok = absurd h
+edit_free (Some s) tree ev e h is ok =
+    let P : Event → Type 0 = λ v. refusal_in (Some s) v ≡ None in by_word (is_protected e) (subst P is ok)
+  where
+    by_word : (b : Bool) → cond b (Some ProtectedReason) None ≡ None → b ≡ false
+    by_word true h = absurd cc
+    by_word false h = refl
+
+pub edit_step : (o : Option Start) (n : ℕ) (ev : Event) (e : Edit) (step : TreeStep) → RunsOnBy o n → ev ≡ Edits e → IfSome o (λ (s : Start). IsStepOf s.number ev step)
+    → made.step_of step ≡ book.step_of n e
+edit_step None n ev e step h is made_by = absurd h
+edit_step (Some s) n ev e step h is made_by =
+    let P : Event → Type 0 = λ v. IsStepOf s.number v step in
+    let here : made.step_of step ≡ book.step_of s.number e = subst P is made_by in
+    here ∙ ap (λ (k : ℕ). book.step_of k e) h
+
+pub edit_act : (choice : Option ℕ → Choice) (o : Option Start) (n : ℕ) (ev : Event) (e : Edit) (m : RunState) → RunsOnBy o n → ev ≡ Edits e
+    → edit_done (Edits e) m (edited m.version m.live (book.step_of n e ∷ [])) ≡ accepted_act choice o ev m
+edit_act choice None n ev e m h is = absurd h
+edit_act choice (Some s) n ev e m h is =
+    ap (λ (k : ℕ). edit_done (Edits e) m (edited m.version m.live (book.step_of k e ∷ []))) (sym h)
+    ∙ ap (λ (v : Event). accepted_act choice (Some s) v m) (sym is)
+
+-- ---- an event that was accepted
+
+pub act_by : (choice : Option ℕ → Choice) (o : Option Start) (a : Act) (ev one : Event) (m : RunState) → ev ≡ one → a ≡ accepted_act choice o one m → a ≡ accepted_act choice o ev m
+act_by choice o a ev one m is h = h ∙ ap (λ (v : Event). accepted_act choice o v m) (sym is)
+
+pub counted : (m : RunState) (r : Runner) → Counts m r → m.machine.start ≡ r.machine.start
+counted m r counts = ap (λ (k : MachineState). k.start) counts.machine
+
+pub there_by : (m : RunState) (r : Runner) (tree : Tree) → Counts m r → IsRunningBy r.machine.start tree → is_there m.machine.start ≡ true
+there_by m r tree counts h = ap is_there (counted m r counts) ∙ running_there r.machine.start tree h
+
+pub go_accepted : (choice : Option ℕ → Choice) (o : Option Start) (steps : Option ℕ) (m : RunState) → is_there o ≡ true → go_act steps m ≡ accepted_act choice o (Go steps) m
+go_accepted choice None steps m h = absurd cc
+go_accepted choice (Some s) steps m h = refl
+
+pub flush_accepted : (choice : Option ℕ → Choice) (o : Option Start) (m : RunState) → is_there o ≡ true → flush_act m ≡ accepted_act choice o Flush m
+flush_accepted choice None m h = absurd cc
+flush_accepted choice (Some s) m h = refl
+
+pub logon_accepted : (choice : Option ℕ → Choice) (o : Option Start) (m : RunState) → is_there o ≡ true → option_map_or (λ s. logon_act s m) o (done m) ≡ accepted_act choice o Logon m
+logon_accepted choice None m h = absurd cc
+logon_accepted choice (Some s) m h = refl
+
+pub off_accepted : (choice : Option ℕ → Choice) (o : Option Start) (m : RunState) → is_there o ≡ true → option_map_or (λ s. off_act s m) o (done m) ≡ accepted_act choice o Off m
+off_accepted choice None m h = absurd cc
+off_accepted choice (Some s) m h = refl
+
+pub cut_accepted : (choice : Option ℕ → Choice) (o : Option Start) (keep : Keep) (m : RunState) → is_there o ≡ true → cut_act m ≡ accepted_act choice o (CutNow keep) m
+cut_accepted choice None keep m h = absurd cc
+cut_accepted choice (Some s) keep m h = refl
+
+-- ---- an event
+
+pub event_accepted : (choice : Option ℕ → Choice) (ev : Event) (m : RunState) (r : Runner) → Counts m r → refusal_of r.machine ev ≡ None
+    → accepted_act choice m.machine.start ev m ≡ event_step_of choice ev m
+unfolding event_step_of
+event_accepted choice ev m r counts ok = ap (act_unless choice ev m) (sym (ap (λ (k : MachineState). refusal_of k ev) counts.machine ∙ ok))
+
+pub event_refused : (choice : Option ℕ → Choice) (ev : Event) (why : RefusedWord) (m : RunState) (r : Runner) → Counts m r → refusal_of r.machine ev ≡ Some why
+    → say (RefusedLine (event_word_of ev) why) (done m) ≡ event_step_of choice ev m
+unfolding event_step_of
+event_refused choice ev why m r counts is = ap (act_unless choice ev m) (sym (ap (λ (k : MachineState). refusal_of k ev) counts.machine ∙ is))
+
+-- the refusal is said, and all is as it was
+pub refused_plays : {E : Type 0} → (result : Result (Unit {0}) E) (ev : Event) (why : RefusedWord) (m : RunState) (r r' : Runner) (x y : Told) (d : DiskState) (hive : Option Session)
+    → r'.machine ≡ r.machine → r'.starts ≡ r.starts → IsSound r d hive → Agrees m r d hive → TellsOr (RefusedLine (event_word_of ev) why) x y result
+    → PlaysOr (say (RefusedLine (event_word_of ev) why) (done m)) x y d d result (λ u rest. TurnLeft r' d hive rest)
+refused_plays result ev why m r r' x y d hive machine starts sound agrees said =
+    plays-line result (λ u rest. TurnLeft r' d hive rest) (RefusedLine (event_word_of ev) why) (done m) x y d d (still d) refl said (agrees_left m r d hive sound agrees.by)
+    (λ v. here_turn m r' d hive (record { machine = agrees.counts.machine ∙ sym machine; starts = agrees.counts.starts ∙ sym starts }) agrees.by)
