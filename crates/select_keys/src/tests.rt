@@ -1,7 +1,7 @@
 //! Beginnings and saves on small roots. What is wanted is by hand, from docs/startup.md.
 
 use super::*;
-use nt_bytes::{Bytes, Units, narrow};
+use nt_bytes::{Bytes, HiveVersion, Units, narrow};
 use reg_tree::{Key, Keys, Value, Values};
 use std::alloc::{AllocError, Global};
 use std::process::Abort;
@@ -108,7 +108,7 @@ fn leads_to(
     assert_eq!(rt; plan.chosen, chosen);
     assert_eq!(rt; plan.numbers, numbers(state.0));
     assert_eq!(rt; plan.steps.len(), steps);
-    root.apply(alloc, plan.steps)?;
+    root.apply(alloc, plan.steps, HiveVersion::V3)?;
     has_state(rt, alloc, &root, state)
 }
 
