@@ -1,8 +1,8 @@
 -- How many files were asked for.
-use Rattle.std.proofs.Common.{◌≡◌, ◌≤◌, inl, inr, ℕ, zero, suc, ◌+◌, Some, None, refl, sym, ap, subst, ◌∙◌, arith}
+use Rattle.std.proofs.Common.{◌≡◌, ◌≤◌, ℕ, zero, suc, ◌+◌, Some, None, refl, sym, ap, subst, ◌∙◌, arith}
 use Rattle.std.specs.Prelude.{List, Option, Result, Ok, Err, min}
 use Rattle.std.specs.Result.{IsErrAnd}
-use Rattle.nt_edge.specs.Host.{Files, HostState, AsksNone}
+use Rattle.nt_edge.specs.Host.{Files}
 use Rattle.nt_edge.specs.declared.host.HostStop.{HostStop}
 use Rattle.nt_edge.specs.declared.host.HostStop.TheVariants.{Read, Write, Memory}
 use Rattle.arc_path.specs.declared.arc.Arc.{Arc}
@@ -13,8 +13,6 @@ use Rattle.boot_script.specs.Script.{script_of}
 use Rattle.ntboot_cli.specs.declared.refusal.Refusal.{Refusal}
 use Rattle.ntboot_cli.specs.declared.refusal.Obstacle.{Obstacle}
 use Rattle.ntboot_cli.specs.declared.refusal.Obstacle.TheVariants.{Refused, Stopped}
-use Rattle.ntboot_cli.specs.declared.inputs.Inputs.{Inputs}
-use Rattle.ntboot_cli.specs.declared.status.Status.{Status}
 use Rattle.ntboot_cli.specs.Words.{Asked, words_of}
 use Rattle.ntboot_cli.specs.Inputs.{asked_in, system_in, file_in, events_in, bytes_in, ini_in, named, behind_step, asks_hive, asks_in}
 use Rattle.ntboot_cli.specs.Leaves.{more, AsksSome, AsksStopped, AsksUntil, AsksBy, Gives, Reads, stop_in, stopped_as}

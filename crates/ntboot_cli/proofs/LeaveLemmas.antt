@@ -1,5 +1,5 @@
 -- What two calls leave of a host, one behind the other.
-use Rattle.std.proofs.Common.{◌≡◌, ◌++◌, ℕ, List, [], Option, Some, None, refl, sym, subst, ◌∙◌, append-nil}
+use Rattle.std.proofs.Common.{◌≡◌, ℕ, List, [], Option, Some, None, refl, sym, subst, ◌∙◌, append-nil}
 use Rattle.nt_edge.specs.Host.{HostState, Rises, SaysFront, KeepsCounts, Counts}
 use Rattle.nt_edge.specs.declared.host.HostStop.{HostStop}
 use Rattle.nt_edge.specs.declared.host.HostStop.TheVariants.{Read, Write, Memory}

@@ -6,7 +6,7 @@ use Rattle.hive_model.specs.Load.{Loads, LoadFault}
 use Rattle.nt_bytes.specs.declared.fault.HiveFault.{HiveFault}
 use Rattle.nt_edge.specs.Crash.{EachCrash}
 use Rattle.nt_edge.specs.Disk.{DiskState, new_state}
-use Rattle.nt_edge.specs.Host.{HostState, KeepsHost, KeepsFiles, AsksNone}
+use Rattle.nt_edge.specs.Host.{HostState, AsksNone}
 use Rattle.nt_edge.specs.declared.host.HostStop.{HostStop}
 use Rattle.nt_edge.specs.declared.host.HostStop.TheVariants.{Read, Write, Memory}
 use Rattle.boot_machine.specs.Views.{event_in}

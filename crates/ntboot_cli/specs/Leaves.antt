@@ -1,6 +1,6 @@
 -- What a call leaves of the host, and which of its faults it had. This project's own.
 use Rattle.std.specs.Prelude.{◌≡◌, ◌⊎◌, ◌≤◌, ◌+◌, ℕ, zero, suc, true, min, List, Option, Some, None, Result, Ok, Err, IfErr}
-use Rattle.nt_edge.specs.Host.{HostState, CountsRead, CountsWrite, KeepsCounts, CountsFault, Counts, IsUnsaid}
+use Rattle.nt_edge.specs.Host.{HostState, KeepsCounts, Counts, IsUnsaid}
 use Rattle.nt_edge.specs.declared.host.HostStop.{HostStop}
 use Rattle.nt_edge.specs.declared.host.HostStop.TheVariants.{Read, Write, Memory as NoMemory}
 use Rattle.ntboot_cli.specs.declared.status.Status.{Status}

@@ -4,8 +4,8 @@ use Rattle.nt_bytes.specs.declared.fault.ReadStop.{ReadStop}
 use Rattle.nt_bytes.specs.declared.fault.ReadStop.TheVariants as read
 use Rattle.nt_edge.specs.Disk.{DiskState, new_state}
 use Rattle.hive_model.specs.Image.{Image, image_of}
-use Rattle.hive_model.specs.Load.{Loads, LoadFault}
-use Rattle.start_model.specs.Run.{Woken}
+use Rattle.hive_model.specs.Load.{LoadFault}
+use Rattle.boot_run.specs.Agrees.{LoadsAny}
 use Rattle.ntboot_cli.specs.declared.status.Status.{Status}
 use Rattle.ntboot_cli.specs.declared.status.Status.TheVariants.{Done, WriteFault, Memory}
 
@@ -20,7 +20,7 @@ pub record IsUnrun (disk : DiskState) : Type 0 where
 
 -- the image loads as some state, or this is its first fault
 abbrev pub IsChecked : Image → Result (Unit {0}) ReadStop → Type 0
-IsChecked image (Ok u) = (placed : Woken) × Loads image placed.state placed.dirty
+IsChecked image (Ok u) = LoadsAny image
 IsChecked image (Err (read.Fault f)) = LoadFault image f
 IsChecked image (Err read.Memory) = Unit {0}
 

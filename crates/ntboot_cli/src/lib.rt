@@ -26,6 +26,9 @@ mod status;
 mod top;
 mod words;
 
-pub use laws::{a_report_without_a_stop_is_the_quiet_run, a_run_keeps_last_known_good};
+pub use laws::{
+    a_report_without_a_stop_is_the_quiet_run, a_run_has_two_files_placed_and_none_taken,
+    a_run_keeps_last_known_good,
+};
 pub use status::Status;
 pub use top::ntboot;

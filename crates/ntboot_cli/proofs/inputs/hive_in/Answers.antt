@@ -1,4 +1,4 @@
-use Rattle.std.proofs.Common.{◌≡◌, ◌∙◌, ℕ, ap, sym, arith}
+use Rattle.std.proofs.Common.{◌∙◌, ℕ, ap, sym, arith}
 use Rattle.std.specs.Prelude.{option_map}
 use Rattle.ntboot_cli.specs.Inputs.{asks_hive, named}
 use Rattle.ntboot_cli.specs.Leaves.{more}

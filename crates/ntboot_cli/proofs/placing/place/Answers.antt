@@ -1,4 +1,3 @@
-use Rattle.std.proofs.Common.{◌≡◌}
 use Rattle.ntboot_cli.proofs.PlacedLemmas.{both_placed_by}
 use Rattle.ntboot_cli.proofs.placing.place.Goals as goal
 

@@ -1,4 +1,4 @@
-use Rattle.std.proofs.Common.{map, string_bytes, subst, ap, sym, ◌∙◌}
+use Rattle.std.proofs.Common.{map, string_bytes, subst}
 use Rattle.std.specs.Prelude.{Err}
 use Rattle.ntboot_cli.specs.declared.inputs.Inputs.{Inputs}
 use Rattle.ntboot_cli.specs.declared.refusal.Obstacle.{Obstacle}

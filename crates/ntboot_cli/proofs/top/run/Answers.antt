@@ -2,7 +2,7 @@ use Rattle.std.proofs.Common.{ap, refl, sym}
 use Rattle.std.specs.Prelude.{Ok, Err}
 use Rattle.boot_run.specs.declared.stop.RunStop.{RunStop}
 use Rattle.ntboot_cli.specs.declared.status.Status.TheVariants as statuses
-use Rattle.ntboot_cli.proofs.TopLemmas.{placed_down, run_decides, run_status}
+use Rattle.ntboot_cli.proofs.TopLemmas.{run_decides, run_status}
 use Rattle.ntboot_cli.proofs.top.run.Goals as goal
 
 pub returns-in-Ok : goal.returns-in-Ok
