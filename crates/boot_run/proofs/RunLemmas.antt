@@ -122,7 +122,7 @@ module _ (choice : Option ℕ → Choice) where
       → RunBreaks (run_from choice (ev ∷ es) m) x y d e
   breaks-event ev es m x y d e closed b =
       let ends : (n : RunState) (ws : List Woken) (os : List Outcome) → (play b.rest [] []).rest ≡ Some (n, ws, os) → IsClosed n = λ n ws os is.
-          event-closed choice ev m closed (b.plays.woken ++ []) (outcomes_in b.plays.lines ++ []) n ws os (ap (λ (r : RunResult). r.rest) (b.plays.goes [] []) ∙ is) in
+      event-closed choice ev m closed (b.plays.woken ++ []) (outcomes_in b.plays.lines ++ []) n ws os (ap (λ (r : RunResult). r.rest) (b.plays.goes [] []) ∙ is) in
       record {
         rest = before es b.rest;
         mid = b.mid;
