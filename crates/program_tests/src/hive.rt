@@ -61,7 +61,7 @@ fn other_good(alloc: Global) -> Result<Steps, AllocError> {
 }
 
 /// A hive with one boot driver in set 1, which is Current and Default.
-pub fn one_driver(rt: &impl Abort, alloc: Global) -> Result<Bytes, Fail> {
+pub(crate) fn one_driver(rt: &impl Abort, alloc: Global) -> Result<Bytes, Fail> {
     let mut tree = system_tree(alloc, 1)?;
     tree.apply(alloc, other_good(alloc)?, HiveVersion::V3)?;
     assert!(rt; is_valid(&tree) && tree.bulk(HiveVersion::V3) <= 16_773_120);

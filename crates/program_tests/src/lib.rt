@@ -3,8 +3,7 @@
 //! No crate of the program stands on this one: it is for its tests.
 #![tactic(auto)]
 
+#[cfg(test)]
 mod hive;
 #[cfg(test)]
 mod runs;
-
-pub use hive::one_driver;
