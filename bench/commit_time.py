@@ -1,6 +1,6 @@
 #!/usr/bin/env python3
-"""Times a commit that changes one sector, on a disk in memory: bench/commit_time.py. Prints milliseconds and the writes that the disk
-saw, for hives of several sizes. No gate runs it."""
+"""Times a commit that changes one sector, on a disk in memory: bench/commit_time.py. Prints microseconds, those of a plain comparison
+of the same data, and the writes that the disk saw, for hives of several sizes. No gate runs it."""
 import os
 import sys
 
@@ -21,7 +21,13 @@ use mem_edge::MemDisk;
 use nt_edge::{Bench, DiskCall};
 use std::time::Instant;
 
-fn change<B: Bench>(rt: &HostRuntime, bench: &mut B, file: &[u8], new: &[u8]) -> Result<()>
+fn change<B: Bench>(
+    rt: &HostRuntime,
+    bench: &mut B,
+    file: &[u8],
+    old: &[u8],
+    new: &[u8],
+) -> Result<()>
     requires off { (B.state bench.old).on ≡ false }
     requires still { (B.state bench.old).flight ≡ [] }
     requires few { length file.now ≤ 33554432 }
@@ -33,9 +39,12 @@ fn change<B: Bench>(rt: &HostRuntime, bench: &mut B, file: &[u8], new: &[u8]) ->
     let found = recover(rt.alloc(), bench)?;
     let size = new.len();
     let start = Instant::now(rt)?;
+    let same = found.bins.as_slice() == old;
+    let compared = start.elapsed(rt)?.as_micros();
+    let start = Instant::now(rt)?;
     commit(bench, &found.base, found.bins.as_slice(), new, 32)?;
-    let took = start.elapsed(rt)?.as_millis();
-    println!(rt; "{size} bytes: committed in {took} ms")?;
+    let took = start.elapsed(rt)?.as_micros();
+    println!(rt; "{size} bytes: committed in {took} us, compared in {compared} us, same {same}")?;
     Ok(())
 }
 
@@ -46,7 +55,13 @@ fn main(rt: HostRuntime) -> Result<()> {
             bail!("no hive");
         }
         let mut disk = MemDisk::new(rt.alloc());
-        change(&rt, &mut disk, whole.file.as_slice(), whole.new.as_slice())?;
+        change(
+            &rt,
+            &mut disk,
+            whole.file.as_slice(),
+            whole.old.as_slice(),
+            whole.new.as_slice(),
+        )?;
         let reads = disk.calls(DiskCall::Read);
         let writes = disk.calls(DiskCall::Write);
         let syncs = disk.calls(DiskCall::Sync);
