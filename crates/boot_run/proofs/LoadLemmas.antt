@@ -19,7 +19,7 @@ use Rattle.start_model.specs.Fits.{outcomes_in, MayLoad, IsPossible}
 use Rattle.start_model.specs.Causes.{HasCause}
 use Rattle.start_model.specs.Run.{Act, done, ask, mark, wake, Woke, Held, Note, Possible, RunState, Woken, Outcome, Finished, settled_at, woken_at, woken_state, loaded_state, start_over, end_with, play}
 use Rattle.run_parts.specs.Parts.{Told, Tells, Goes, Breaks, Stays, Grew, since_wake, tally_now}
-use Rattle.run_parts.proofs.CountLemmas.{Still, still-by, no_less-same}
+use Rattle.run_parts.proofs.CountLemmas.{Still, still-by, none_fell-same}
 use Rattle.run_parts.proofs.GoesLemmas.{tells-nothing, goes-then, goes-told, goes-held}
 use Rattle.run_parts.proofs.BreakLemmas.{breaks-silent, breaks-then, breaks-told}
 use Rattle.boot_run.specs.Acts as acts
@@ -49,7 +49,7 @@ goes-wake disk next w i x d e is loads possible =
         cut_calls = refl;
         placings = refl;
         takings = refl;
-        later = record { cuts = no_less-same d.cuts; faults = no_less-same d.faults };
+        later = (none_fell-same (tally_now d), none_fell-same (tally_now d));
         caused = tt;
       };
       fits = (loads, possible, tt);

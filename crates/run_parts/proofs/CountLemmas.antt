@@ -6,7 +6,7 @@ use Rattle.nt_edge.specs.Disk.{DiskState, History, Wake, CountsGrow, next}
 use Rattle.start_model.specs.Causes.{Tally, Rises, HasCause, next_tally, Caused}
 use Rattle.start_model.specs.Orders.{ordered_in}
 use Rattle.start_model.specs.Run.{Note, Woke, Held, Saved, Ordered, Cuts, Ended, Outcome, Finished, PowerCut, DeviceFault}
-use Rattle.run_parts.specs.Parts.{tally_at, tallies, tally_now, last_tally, since_wake, NoLess, Later, cuts_behind, Grew}
+use Rattle.run_parts.specs.Parts.{tally_at, tallies, tally_now, last_tally, since_wake, NoLess, NoneFell, Later, cuts_behind, Grew}
 
 -- ---- counts
 
@@ -29,13 +29,38 @@ pub rises-since : (a b c : ℕ) → NoLess a b → Rises b c → Rises a c
 rises-since a b c p (inl less) = inl (omega (arith, less, p.grown))
 rises-since a b c p (inr full) = inr full
 
+none_fell-then : (a b c : Tally) → NoneFell a b → NoneFell b c → NoneFell a c
+none_fell-then a b c p q = record { cuts = no_less-then a.cuts b.cuts c.cuts p.cuts q.cuts; faults = no_less-then a.faults b.faults c.faults p.faults q.faults }
+
+pub none_fell-same : (t : Tally) → NoneFell t t
+none_fell-same t = record { cuts = no_less-same t.cuts; faults = no_less-same t.faults }
+
 pub later-same : (now : Tally) → Later now [] now
-later-same now = record { cuts = no_less-same now.cuts; faults = no_less-same now.faults }
+later-same now = none_fell-same now
+
+-- from an earlier moment on
+later-from : (since mid now : Tally) (wakes : List Tally) → NoneFell since mid → Later mid wakes now → Later since wakes now
+later-from since mid now [] p q = none_fell-then since mid now p q
+later-from since mid now (w ∷ ws) p q = (none_fell-then since mid w p q.0, q.1)
 
 pub later-then : (since mid now : Tally) (a b : List Tally) → Later since a mid → Later mid b now → Later since (a ++ b) now
-later-then since mid now [] b p q =
-    record { cuts = no_less-then since.cuts mid.cuts (next_tally b now).cuts p.cuts q.cuts; faults = no_less-then since.faults mid.faults (next_tally b now).faults p.faults q.faults }
-later-then since mid now (w ∷ a) b p q = record { cuts = p.cuts; faults = p.faults }
+later-then since mid now [] b p q = later-from since mid now b p q
+later-then since mid now (w ∷ a) b p q = (p.0, later-then w mid now a b p.1 q)
+
+-- up to the next wake
+later-next : (since now : Tally) (wakes : List Tally) → Later since wakes now → NoneFell since (next_tally wakes now)
+later-next since now [] p = p
+later-next since now (w ∷ ws) p = p.0
+
+-- up to now
+pub later-now : (since now : Tally) (wakes : List Tally) → Later since wakes now → NoneFell since now
+later-now since now [] p = p
+later-now since now (w ∷ ws) p = none_fell-then since w now p.0 (later-now w now ws p.1)
+
+-- from the next wake on
+pub next-now : (since now : Tally) (wakes : List Tally) → Later since wakes now → NoneFell (next_tally wakes now) now
+next-now since now [] p = none_fell-same now
+next-now since now (w ∷ ws) p = later-now w now ws p.1
 
 pub last-append : (a b : List Tally) (since : Tally) → last_tally (a ++ b) since ≡ last_tally b (last_tally a since)
 last-append [] b since = refl
@@ -57,9 +82,9 @@ since-grown d e added is =
 -- a stop has its cause until a later moment too
 cause-then : (o : Outcome) (since mid now : Tally) (a b : List Tally) → Later mid b now → HasCause o since (next_tally a mid) → HasCause o since (next_tally (a ++ b) now)
 cause-then Finished since mid now a b later h = tt
-cause-then PowerCut since mid now [] b later h = rises-then since.cuts mid.cuts (next_tally b now).cuts h later.cuts
+cause-then PowerCut since mid now [] b later h = rises-then since.cuts mid.cuts (next_tally b now).cuts h (later-next mid now b later).cuts
 cause-then PowerCut since mid now (w ∷ a) b later h = h
-cause-then DeviceFault since mid now [] b later h = rises-then since.faults mid.faults (next_tally b now).faults h later.faults
+cause-then DeviceFault since mid now [] b later h = rises-then since.faults mid.faults (next_tally b now).faults h (later-next mid now b later).faults
 cause-then DeviceFault since mid now (w ∷ a) b later h = h
 
 pub caused-then : (j k : List Note) (a b : List Tally) (since mid now : Tally) → Later mid b now → Caused j a since mid → Caused k b (last_tally a since) now

@@ -14,7 +14,7 @@ use Rattle.start_model.specs.Lines.{Line, line_text, text_of}
 use Rattle.start_model.specs.Summary.{Summary, with_lines}
 use Rattle.start_model.specs.Fits.{outcomes_in, woke_in, Fits, MayLoad}
 use Rattle.start_model.specs.Orders.{ordered_in}
-use Rattle.start_model.specs.Causes.{Tally, next_tally, Caused}
+use Rattle.start_model.specs.Causes.{Tally, Caused}
 use Rattle.start_model.specs.Run.{Act, Note, Cuts, Woken, Outcome, RunState, play, behind}
 use Rattle.start_model.specs.Report.{Going}
 
@@ -46,10 +46,15 @@ pub record NoLess (before after : ℕ) : Type 0 where
   pub grown : before ≤ after
   pub ended : before ≡ 18446744073709551615 → after ≡ 18446744073709551615
 
--- the counts at the next of these wakes, or now, are no smaller
-pub record Later (since : Tally) (wakes : List Tally) (now : Tally) : Type 0 where
-  pub cuts : NoLess since.cuts (next_tally wakes now).cuts
-  pub faults : NoLess since.faults (next_tally wakes now).faults
+-- neither count fell between the two moments
+pub record NoneFell (before after : Tally) : Type 0 where
+  pub cuts : NoLess before.cuts after.cuts
+  pub faults : NoLess before.faults after.faults
+
+-- no count fell from then to the first of these wakes, from each wake to the next, and from the last one to now
+abbrev pub Later : Tally → List Tally → Tally → Type 0
+Later since [] now = NoneFell since now
+Later since (w ∷ ws) now = NoneFell since w × Later w ws now
 
 -- the counts are no smaller than at the disk's last wake
 abbrev pub IsMarked : DiskState → Type 0
