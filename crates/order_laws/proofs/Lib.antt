@@ -1,0 +1,2 @@
+pub mod UnorderedLemmas
+pub mod QuietLemmas
