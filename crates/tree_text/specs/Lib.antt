@@ -1,0 +1,3 @@
+pub mod LineCount
+pub mod OneDriver
+pub mod TreeText
