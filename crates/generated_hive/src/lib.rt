@@ -1,0 +1,15 @@
+//! The hive of a system that is generated: a control set with as many services as are asked for.
+//!
+//! The services stand in ten groups, start in each of the three phases, and one in four needs another.
+//! Rules: this project's own.
+#![tactic(auto)]
+
+mod file;
+mod services;
+#[cfg(test)]
+mod tests;
+mod tree;
+mod values;
+
+pub use file::generated_hive;
+pub use tree::generated_tree;
