@@ -4,3 +4,15 @@ pub mod Taken
 pub mod Steps
 pub mod Spots
 pub mod Either
+pub mod Indexed
+pub mod SizeLemmas
+pub mod PlaceLemmas
+pub mod IndexLemmas
+pub mod MarkLemmas
+pub mod FillLemmas
+pub mod FilledLemmas
+pub mod FreeLemmas
+pub mod GrowLemmas
+pub mod Made
+pub mod PatchLemmas
+pub mod HeldLemmas

@@ -1,1 +1,5 @@
 pub mod Reading
+pub mod Held
+pub mod Holes
+pub mod Changes
+pub mod Frees

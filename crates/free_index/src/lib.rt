@@ -1,0 +1,14 @@
+//! The free cells of a heap by place: which is the lowest that holds so many bytes, and which is the
+//! last before a place. It takes no memory but in `grow`.
+//!
+//! It is seen as its sizes: for each slot of eight bytes the size of the free cell that begins there,
+//! or 0. A search looks at one number for each page of 512 slots, and at the slots of two pages at most:
+//! for 16 MiB at 4096 numbers and 1024 slots, however many cells there are.
+#![tactic(auto)]
+
+mod index;
+mod search;
+#[cfg(test)]
+mod tests;
+
+pub use index::FreeIndex;

@@ -1,0 +1,229 @@
+//! Changes of the cells, which keep an index of the free ones. Each finds first all that it needs and
+//! then writes, so that nothing here wants memory but a new bin, whose room is made first.
+
+ghost use Rattle.std.specs.Prelude.{◌≡◌, ℕ, ◌+◌, ◌%◌, ◌<◌, ◌≤◌, ◌∷◌, [], ◌++◌, length, None, IfOk, OnErr, OnOk};
+ghost use Rattle.std.specs.Option.{IfSome, IsSome, IsSomeAnd, MatchOption, option_map};
+ghost use Rattle.hive_model.specs.Bins.{or_else, cell_at, cell_size, bins_size, IsHeap};
+ghost use Rattle.hive_cells.specs.Held.{held_at, held_among, patched, run_cells, IsRun};
+ghost use Rattle.hive_cells.specs.Holes.{free_bin, free_size, free_sizes, new_bin_size, FindsHole, Grows, IsHole};
+ghost use Rattle.hive_cells.specs.Changes.{at_cell, with_free, with_next, with_part, with_run};
+ghost use Rattle.hive_cells.specs.Frees.{EndsAt, IsFreed, IsFreeOf, Neighbours};
+
+use crate::heap::CellHeap;
+use crate::marks::mark_run;
+use crate::pushes::{push_bin, push_marks, put, put_word};
+use free_index::FreeIndex;
+use nt_bytes::u32_at;
+use std::alloc::{AllocError, Global};
+
+impl CellHeap {
+    /// The same heap in room of its own.
+    pub(crate) fn copy(&self, alloc: Global) -> Result<CellHeap, AllocError>
+        ensures { IfOk result (λ heap. heap ≡ self.now) }
+    {
+        let mut bytes = Vec::new(alloc);
+        bytes.extend_from_slice(self.bytes.as_slice())?;
+        let mut starts = Vec::new(alloc);
+        starts.extend_from_slice(self.starts.as_slice())?;
+        Ok(CellHeap { bytes, starts })
+    }
+
+    /// Tells the caller that these bins can be spelled.
+    pub(crate) fn opens(&self)
+        ensures { IsHeap self.now }
+    {
+        let _bytes = &self.bytes;
+    }
+
+    /// The offset of the lowest free cell of at least this size.
+    pub(crate) fn fit(&self, free: &FreeIndex, size: u32) -> Option<u32>
+        requires some { 0 < size }
+        requires index { free.now ≡ free_sizes self.now }
+        ensures { FindsHole size self.now result }
+    {
+        let _bytes = &self.bytes;
+        let slot = free.lowest_fit(size)?;
+        Some(8 * slot as u32)
+    }
+
+    /// Puts allocated cells into the free one that begins here. What is left of it stays free.
+    pub(crate) fn fill(&mut self, free: &mut FreeIndex, at: u32, run: &[u8])
+        requires index { free.old ≡ free_sizes self.old }
+        requires hole { IsHole (length run.now) self.old at }
+        requires run { IsRun run.now }
+        ensures index { free.new ≡ free_sizes self.new }
+        ensures exact { self.new ≡ at_cell at (with_run (run_cells run.now)) self.old }
+        ensures held { (o : ℕ) → held_at self.new o ≡ or_else (held_among o at (run_cells run.now)) (held_at self.old o) }
+        ensures fresh { (o : ℕ) → at ≤ o → o < at + length run.now → held_at self.old o ≡ None }
+        ensures long { bins_size self.new ≡ bins_size self.old }
+    {
+        let place = at as usize;
+        put(&mut self.bytes, place, run);
+        let size = free.size(place / 8);
+        mark_run(&mut self.starts, place / 8, run);
+        free.set(place / 8, 0);
+        let left = size as usize - run.len();
+        if left == 0 {
+            return;
+        }
+        let rest = place + run.len();
+        put_word(&mut self.bytes, rest, left as u32);
+        self.starts[rest / 8] = true;
+        free.set(rest / 8, left as u32);
+    }
+
+    /// The allocated cell becomes free, and one with the free cells before and behind it in its bin.
+    pub(crate) fn free(&mut self, free: &mut FreeIndex, at: u32)
+        requires index { free.old ≡ free_sizes self.old }
+        requires allocated { IsSome (held_at self.old at) }
+        ensures index { free.new ≡ free_sizes self.new }
+        ensures exact { IsFreed at self.old self.new }
+        ensures gone { held_at self.new at ≡ None }
+        ensures others { (o : ℕ) → (o ≡ at → ⊥) → held_at self.new o ≡ held_at self.old o }
+        ensures long { bins_size self.new ≡ bins_size self.old }
+    {
+        let size = self.size(at);
+        let more = self.free_behind(free, at, size);
+        let before = self.free_before(free, at);
+        if more > 0 {
+            self.merge(free, at, size, more);
+            if let Some((from, room)) = before {
+                self.merge(free, from, room, size + more);
+            }
+            return;
+        }
+        match before {
+            None => self.release(free, at, size),
+            Some((from, room)) => self.merge(free, from, room, size),
+        }
+    }
+
+    /// Appends a bin for a free cell of at least this size, unless the bins data get too long by it.
+    pub(crate) fn grow(
+        &mut self,
+        free: &mut FreeIndex,
+        size: u32,
+    ) -> Result<Option<u32>, AllocError>
+        requires { free.old ≡ free_sizes self.old }
+        ensures index { free.new ≡ free_sizes self.new }
+        ensures exact { IfOk result (Grows size self.old self.new) }
+        ensures refused { OnErr result (self.new ≡ self.old) }
+        ensures hole { IfOk result (λ r. IfSome r (IsHole size self.new)) }
+        ensures held { (o : ℕ) → held_at self.new o ≡ held_at self.old o }
+        ensures long { bins_size self.new ≤ bins_size self.old + new_bin_size size }
+    {
+        let long = self.bytes.len();
+        let bin = (u64::from(size) + 4127) / 4096 * 4096;
+        if long as u64 + bin > 0x100_0000 {
+            return Ok(None);
+        }
+        self.append_bin(free, bin as u32)?;
+        Ok(Some(long as u32 + 32))
+    }
+
+    /// Writes a part of the payload of the allocated cell, from this byte of it on.
+    pub(crate) fn patch(&mut self, at: u32, from: u32, part: &[u8])
+        requires { IsSomeAnd (held_at self.old at) (λ p. from + length part.now ≤ length p) }
+        ensures sizes { free_sizes self.new ≡ free_sizes self.old }
+        ensures exact { self.new ≡ at_cell at (with_part from part.now) self.old }
+        ensures here { held_at self.new at ≡ option_map (patched from part.now) (held_at self.old at) }
+        ensures others { (o : ℕ) → (o ≡ at → ⊥) → held_at self.new o ≡ held_at self.old o }
+        ensures long { bins_size self.new ≡ bins_size self.old }
+    {
+        put(&mut self.bytes, at as usize + 4 + from as usize, part);
+    }
+
+    /// Appends a bin, one free cell in it.
+    fn append_bin(&mut self, free: &mut FreeIndex, size: u32) -> Result<(), AllocError>
+        requires index { free.old ≡ free_sizes self.old }
+        requires least { 4096 ≤ size }
+        requires whole { size % 4096 ≡ 0 }
+        requires fits { bins_size self.old + size ≤ 16777216 }
+        ensures index { free.new ≡ free_sizes self.new }
+        ensures ok { OnOk result (self.new ≡ self.old ++ free_bin size ∷ []) }
+        ensures err { OnErr result (self.new ≡ self.old) }
+    {
+        let slot = free.len();
+        self.bytes.reserve(size as usize)?;
+        self.starts.reserve(size as usize / 8)?;
+        free.grow(size as usize / 4096)?;
+        push_bin(&mut self.bytes, size);
+        push_marks(&mut self.starts, size);
+        free.set(slot + 4, size - 32);
+        Ok(())
+    }
+
+    /// The size of the allocated cell.
+    fn size(&self, at: u32) -> u32
+        requires { IsSome (held_at self.now at) }
+        ensures { IsSomeAnd (cell_at self.now at) (λ c. cell_size c ≡ result) }
+    {
+        (0x1_0000_0000 - u64::from(u32_at(self.bytes.as_slice(), at as usize))) as u32
+    }
+
+    /// The size of the free cell behind a cell, or 0.
+    fn free_behind(&self, free: &FreeIndex, at: u32, size: u32) -> u32
+        requires index { free.now ≡ free_sizes self.now }
+        requires cell { IsSomeAnd (cell_at self.now at) (λ c. cell_size c ≡ size) }
+        ensures value { result ≡ free_size (cell_at self.now (at + size)) }
+        ensures within { at + size + result ≤ 16777216 }
+    {
+        let _bytes = &self.bytes;
+        let slot = (at as usize + size as usize) / 8;
+        if slot < free.len() {
+            free.size(slot)
+        } else {
+            0
+        }
+    }
+
+    /// The free cell that ends where this one begins, and its size.
+    fn free_before(&self, free: &FreeIndex, at: u32) -> Option<(u32, u32)>
+        requires index { free.now ≡ free_sizes self.now }
+        requires allocated { IsSome (held_at self.now at) }
+        ensures { MatchOption result ((from size : ℕ) → EndsAt at from size self.now → ⊥) (λ b. EndsAt at b.0 b.1 self.now) }
+    {
+        let _bytes = &self.bytes;
+        let slot = free.last_below(at as usize / 8)?;
+        let room = free.size(slot);
+        let from = 8 * slot as u32;
+        if u64::from(from) + u64::from(room) == u64::from(at) {
+            Some((from, room))
+        } else {
+            None
+        }
+    }
+
+    /// The cell becomes free.
+    fn release(&mut self, free: &mut FreeIndex, at: u32, size: u32)
+        requires index { free.old ≡ free_sizes self.old }
+        requires cell { IsSomeAnd (cell_at self.old at) (λ c. cell_size c ≡ size) }
+        ensures index { free.new ≡ free_sizes self.new }
+        ensures exact { self.new ≡ at_cell at with_free self.old }
+        ensures others { (o : ℕ) → (o ≡ at → ⊥) → cell_at self.new o ≡ cell_at self.old o }
+        ensures here { IsFreeOf size (cell_at self.new at) }
+        ensures long { bins_size self.new ≡ bins_size self.old }
+    {
+        put_word(&mut self.bytes, at as usize, size);
+        free.set(at as usize / 8, size);
+    }
+
+    /// The cell and the one behind it become one free cell.
+    fn merge(&mut self, free: &mut FreeIndex, at: u32, size: u32, more: u32)
+        requires index { free.old ≡ free_sizes self.old }
+        requires cells { Neighbours at size more self.old }
+        ensures index { free.new ≡ free_sizes self.new }
+        ensures exact { self.new ≡ at_cell at with_next self.old }
+        ensures others { (o : ℕ) → (o ≡ at → ⊥) → (o ≡ at + size → ⊥) → cell_at self.new o ≡ cell_at self.old o }
+        ensures here { IsFreeOf (size + more) (cell_at self.new at) }
+        ensures gone { cell_at self.new (at + size) ≡ None }
+        ensures long { bins_size self.new ≡ bins_size self.old }
+    {
+        let place = at as usize;
+        let slot = (place + size as usize) / 8;
+        put_word(&mut self.bytes, place, size + more);
+        self.starts[slot] = false;
+        free.set(slot, 0);
+        free.set(place / 8, size + more);
+    }
+}

@@ -1,0 +1,213 @@
+//! A heap that can change.
+
+ghost use Rattle.std.specs.Prelude.{◌≡◌, ℕ, ◌+◌, ◌-◌, ◌%◌, ◌<◌, ◌≤◌, length, replicate, Some, None, IfOk, OnErr};
+ghost use Rattle.std.specs.Option.{IfSome, IsSome, IsSomeAnd, option_map};
+ghost use Rattle.hive_model.specs.Bins.{spelled, or_else, bins_size, payload_at, placed, IsHeap, Sees};
+ghost use Rattle.hive_model.specs.Size.{cell};
+ghost use Rattle.hive_cells.specs.Held.{held_at, held_among, patched, run_cells, IsRun};
+ghost use Rattle.hive_cells.specs.Holes.{new_bin_size, FindsHole, Grows, IsHole, MakesRoom};
+ghost use Rattle.hive_cells.specs.Changes.{at_cell, with_part, with_run, Allocates};
+ghost use Rattle.hive_cells.specs.Frees.{IsFreed};
+
+use crate::heap::CellHeap;
+use crate::index::index_of;
+use crate::pushes::zero_run;
+use free_index::FreeIndex;
+use nt_bytes::{Bytes, HiveFault};
+use std::alloc::{AllocError, Global};
+use std::marker::Model;
+
+/// Cells that can change, with an index of the free ones: at most 16,777,216 bytes. Each change takes
+/// the same few steps however many cells there are, beside the bytes that it writes.
+#[derive(Drop)]
+pub struct OpenHeap {
+    cells: CellHeap,
+    free: FreeIndex,
+}
+
+impl Model for OpenHeap {
+    ghost use Rattle.std.specs.Prelude.{◌≡◌, List};
+    ghost use Rattle.std.specs.Coded.{coded_list};
+    ghost use Rattle.hive_model.specs.Bins.{Bin, coded_bin};
+    ghost use Rattle.hive_cells.specs.Holes.{free_sizes};
+
+    ghost Value = { List Bin };
+
+    ghost coded = { coded_list coded_bin };
+
+    ghost view = { λ a. a.cells };
+
+    ghost invariant = { λ a. a.free ≡ free_sizes a.cells };
+}
+
+impl CellHeap {
+    /// The same heap, with an index of its free cells: one look at each eight bytes.
+    pub fn opened(self, alloc: Global) -> Result<OpenHeap, AllocError>
+        ensures { IfOk result (λ heap. heap ≡ self) }
+    {
+        let free = index_of(alloc, self.bytes.as_slice(), self.starts.as_slice())?;
+        Ok(OpenHeap { cells: self, free })
+    }
+}
+
+impl OpenHeap {
+    /// The same heap in room of its own.
+    pub fn copy(&self, alloc: Global) -> Result<OpenHeap, AllocError>
+        ensures { IfOk result (λ heap. heap ≡ self.now) }
+    {
+        let cells = self.cells.copy(alloc)?;
+        let free = self.free.copy(alloc)?;
+        Ok(OpenHeap { cells, free })
+    }
+
+    /// The cells, to be read.
+    pub fn cells(&self) -> &CellHeap
+        ensures { result.now ≡ self.now }
+    {
+        &self.cells
+    }
+
+    /// The cells, without a copy.
+    pub fn into_cells(self) -> CellHeap
+        ensures { result ≡ self }
+    {
+        self.cells
+    }
+
+    /// The payload of the allocated cell that begins at this offset. `OutOfRange` where no cell
+    /// begins there, `FreeCell` where that cell is free, both at the offset. A cell begins at whole
+    /// eight bytes.
+    #[tactic(auto, using(crate::proofs::HeldLemmas::seen_held))]
+    pub fn payload(&self, at: u32) -> Result<&[u8], HiveFault>
+        ensures exact { Sees (λ p. p.now) result (placed at (payload_at self.now at)) }
+        ensures held { IfOk result (λ p. held_at self.now at ≡ Some p.now) }
+        ensures whole { IfOk result (λ p. at % 8 ≡ 0) }
+    {
+        self.cells.payload(at)
+    }
+
+    /// The bins data.
+    pub fn bytes(&self) -> &[u8]
+        ensures exact { result.now ≡ spelled 0 self.now }
+        ensures sound { IsHeap self.now }
+    {
+        self.cells.opens();
+        self.cells.bytes()
+    }
+
+    /// The bins data, without a copy.
+    pub fn into_bytes(self) -> Bytes
+        ensures { result ≡ spelled 0 self }
+    {
+        self.cells.into_bytes()
+    }
+
+    /// The offset of the lowest free cell of at least this size, its four bytes for the size counted.
+    /// `None` exactly where each free cell is smaller.
+    pub fn fit(&self, size: u32) -> Option<u32>
+        requires { 0 < size }
+        ensures { FindsHole size self.now result }
+    {
+        self.cells.fit(&self.free, size)
+    }
+
+    /// Puts a run of allocated cells, one behind another, into the free cell that begins here. What
+    /// is left of it is free.
+    pub fn fill(&mut self, at: u32, run: &[u8])
+        requires hole { IsHole (length run.now) self.old at }
+        requires run { IsRun run.now }
+        ensures exact { self.new ≡ at_cell at (with_run (run_cells run.now)) self.old }
+        ensures held { (o : ℕ) → held_at self.new o ≡ or_else (held_among o at (run_cells run.now)) (held_at self.old o) }
+        ensures fresh { (o : ℕ) → at ≤ o → o < at + length run.now → held_at self.old o ≡ None }
+        ensures long { bins_size self.new ≡ bins_size self.old }
+    {
+        self.cells.fill(&mut self.free, at, run);
+    }
+
+    /// Appends a bin of the fewest whole 4096 bytes that hold a cell of this size, one free cell in
+    /// it, and answers the offset of that cell. `None` exactly where the bins data would pass
+    /// 16,777,216 bytes. The heap is as it was at `None` and where there is no memory.
+    pub fn grow(&mut self, size: u32) -> Result<Option<u32>, AllocError>
+        ensures exact { IfOk result (Grows size self.old self.new) }
+        ensures refused { OnErr result (self.new ≡ self.old) }
+        ensures hole { IfOk result (λ r. IfSome r (IsHole size self.new)) }
+        ensures held { (o : ℕ) → held_at self.new o ≡ held_at self.old o }
+        ensures long { bins_size self.new ≤ bins_size self.old + new_bin_size size }
+    {
+        self.cells.grow(&mut self.free, size)
+    }
+
+    /// The offset of a free cell of at least this size: the lowest, else that of a new bin. `None`
+    /// exactly where each free cell is smaller and the bins data would pass 16,777,216 bytes by the
+    /// new bin. The heap is as it was at `None` and where there is no memory.
+    pub fn make_room(&mut self, size: u32) -> Result<Option<u32>, AllocError>
+        requires { 0 < size }
+        ensures exact { IfOk result (MakesRoom size self.old self.new) }
+        ensures refused { OnErr result (self.new ≡ self.old) }
+        ensures hole { IfOk result (λ r. IfSome r (IsHole size self.new)) }
+        ensures held { (o : ℕ) → held_at self.new o ≡ held_at self.old o }
+        ensures long { bins_size self.new ≤ bins_size self.old + new_bin_size size }
+    {
+        match self.fit(size) {
+            Some(at) => Ok(Some(at)),
+            None => self.grow(size),
+        }
+    }
+
+    /// Allocates a cell for a payload of this many bytes, all zero, filled up to whole eight bytes
+    /// with the four for its size: in the lowest free cell that is large enough, else in a new bin.
+    /// `None` exactly where each free cell is smaller and the bins data would pass 16,777,216 bytes
+    /// by the new bin. The heap is as it was at `None` and where there is no memory.
+    pub fn alloc(&mut self, alloc: Global, payload: u32) -> Result<Option<u32>, AllocError>
+        requires { payload ≤ 16777216 }
+        ensures exact { IfOk result (Allocates payload self.old self.new) }
+        ensures refused { OnErr result (self.new ≡ self.old) }
+        ensures here { IfOk result (λ r. IfSome r (λ at. held_at self.new at ≡ Some (replicate (cell payload - 4) 0))) }
+        ensures fresh { IfOk result (λ r. IfSome r (λ at. held_at self.old at ≡ None)) }
+        ensures others { IfOk result (λ r. (o : ℕ) → (r ≡ Some o → ⊥) → held_at self.new o ≡ held_at self.old o) }
+        ensures long { bins_size self.new ≤ bins_size self.old + new_bin_size (cell payload) }
+    {
+        let run = zero_run(alloc, payload)?;
+        match self.make_room(run.len() as u32)? {
+            None => Ok(None),
+            Some(at) => {
+                self.fill(at, run.as_slice());
+                Ok(Some(at))
+            }
+        }
+    }
+
+    /// Frees the allocated cell. It becomes one with the free cell right before it in its bin, and
+    /// with the one right behind it.
+    pub fn free(&mut self, at: u32)
+        requires { IsSome (held_at self.old at) }
+        ensures exact { IsFreed at self.old self.new }
+        ensures gone { held_at self.new at ≡ None }
+        ensures others { (o : ℕ) → (o ≡ at → ⊥) → held_at self.new o ≡ held_at self.old o }
+        ensures long { bins_size self.new ≡ bins_size self.old }
+    {
+        self.cells.free(&mut self.free, at);
+    }
+
+    /// Writes a part of the payload of the allocated cell, from this byte of it on.
+    pub fn patch(&mut self, at: u32, from: u32, part: &[u8])
+        requires { IsSomeAnd (held_at self.old at) (λ p. from + length part.now ≤ length p) }
+        ensures exact { self.new ≡ at_cell at (with_part from part.now) self.old }
+        ensures here { held_at self.new at ≡ option_map (patched from part.now) (held_at self.old at) }
+        ensures others { (o : ℕ) → (o ≡ at → ⊥) → held_at self.new o ≡ held_at self.old o }
+        ensures long { bins_size self.new ≡ bins_size self.old }
+    {
+        self.cells.patch(at, from, part);
+    }
+
+    /// Gives the allocated cell another payload, as long as its own.
+    pub fn rewrite(&mut self, at: u32, payload: &[u8])
+        requires { IsSomeAnd (held_at self.old at) (λ p. length p ≡ length payload.now) }
+        ensures exact { self.new ≡ at_cell at (with_part 0 payload.now) self.old }
+        ensures here { held_at self.new at ≡ Some payload.now }
+        ensures others { (o : ℕ) → (o ≡ at → ⊥) → held_at self.new o ≡ held_at self.old o }
+        ensures long { bins_size self.new ≡ bins_size self.old }
+    {
+        self.patch(at, 0, payload);
+    }
+}
