@@ -1,0 +1,9 @@
+pub mod Tests
+pub mod Entered
+pub mod Nodes
+pub mod Names
+pub mod Finding
+pub mod Below
+pub mod Texts
+pub mod Runs
+pub mod Meeting

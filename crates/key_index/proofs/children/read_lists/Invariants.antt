@@ -1,0 +1,7 @@
+use Rattle.std.proofs.Common.{◌≡◌, take}
+use Rattle.key_index.specs.Lists.{offsets_in_lists}
+use Rattle.key_index.specs.Sources.{cells_of}
+use Rattle.key_index.proofs.children.read_lists.Given as goal
+
+abbrev pub invariant-loop-at : goal.invariant-loop-at
+invariant-loop-at l = l.all.items ≡ offsets_in_lists (cells_of l.cells) (take l.at-index l.lists)

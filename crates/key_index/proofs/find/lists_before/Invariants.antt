@@ -1,0 +1,12 @@
+use Rattle.std.proofs.Common.{◌≤◌, ◌-◌, length}
+use Rattle.key_index.specs.Lists.{offsets_of}
+use Rattle.key_index.proofs.find.lists_before.Given as goal
+
+abbrev pub invariant-halves : goal.invariant-halves
+invariant-halves l = record {
+  sorted : l.low ≤ l.high;
+  inside : l.high ≤ length (offsets_of l.list);
+}
+
+abbrev pub decreases-halves : goal.decreases-halves
+decreases-halves l = l.high - l.low

@@ -1,0 +1,6 @@
+use Rattle.std.proofs.Common.{arith}
+use Rattle.key_index.proofs.Nodes.{is_long}
+use Rattle.key_index.proofs.node.is_narrow.Goals as goal
+
+pub u16_at-requires : goal.u16_at-requires
+u16_at-requires c = omega (arith, is_long c.args.node.now c.requires)
