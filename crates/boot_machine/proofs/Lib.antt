@@ -1,3 +1,6 @@
+pub mod FewLemmas
 pub mod Places
+pub mod QueueLemmas
+pub mod StartLemmas
 pub mod Noted
 pub mod Attempts

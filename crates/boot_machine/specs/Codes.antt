@@ -5,6 +5,7 @@ use Rattle.hive_model.specs.Tree.{Tree, coded_tree}
 use Rattle.start_model.specs.Ready.{Label}
 use Rattle.start_model.specs.Entries.{Entry, Phase, Boot, System, Automatic, Done}
 use Rattle.start_model.specs.Machine.{Start, MachineState}
+use Rattle.boot_machine.specs.Queue.{QueueState}
 
 -- ---- a phase as a number
 
@@ -79,3 +80,6 @@ abbrev pub coded_machine : Coded MachineState
 coded_machine =
     code_by (Option Start × (List (List ℕ × ℕ) × Bool)) (coded× (coded_option coded_start) (coded× (coded_list (coded× coded_name coded_ℕ)) coded_bool))
     (λ m. (m.start, (m.failures, m.fallback_due))) (λ p. record { start = p.0; failures = p.1.0; fallback_due = p.1.1 }) (λ _. refl)
+
+abbrev pub coded_queue : Coded QueueState
+coded_queue = code_by (List Entry × List Label) (coded× (coded_list coded_entry) (coded_list coded_label)) (λ q. (q.waiting, q.started)) (λ p. record { waiting = p.0; started = p.1 }) (λ _. refl)

@@ -1,3 +1,4 @@
 pub mod Codes
+pub mod Queue
 pub mod Steps
 pub mod Views

@@ -1,8 +1,7 @@
 -- What are the steps of the machine, where the book has no word for them? (this project's own)
-use Rattle.std.specs.Prelude.{◌≡◌, ℕ, Bool, true, false, not, [], ◌∷◌, ◌++◌, ◌<◌, slice_get, remove, List, map, length, Option, Some, None, IfSome, option_map, if◌then◌else◌}
+use Rattle.std.specs.Prelude.{◌≡◌, ℕ, Bool, true, false, not, [], ◌∷◌, ◌++◌, slice_get, remove, Option, Some, None, option_map, if◌then◌else◌}
 use Rattle.nt_bytes.specs.Folding.{folded}
-use Rattle.start_model.specs.Entries.{Entry, need_of}
-use Rattle.start_model.specs.Ready.{Label, next_of}
+use Rattle.start_model.specs.Entries.{Entry}
 use Rattle.start_model.specs.Lines.{Verdict, Good, GoodUnsaved, Running, FallBack, Stopped, Cut, Device, Full, NoNumber, NoEntry, OtherLoader, NoSystem, NoControlSet, NoLastKnownGood}
 use Rattle.start_model.specs.Machine.{Start, MachineState, next_in, label_of}
 
@@ -18,11 +17,6 @@ on_start change m = record m { start = option_map change m.start }
 abbrev pub is_at_end : Option Start → Bool
 is_at_end None = true
 is_at_end (Some s) = not (is_there (next_in s))
-
--- the place is that of the first waiting entry that is ready
-pub record IsNext (next : Option ℕ) (started : List Label) (waiting : List Entry) : Type 0 where
-  pub place : next ≡ next_of started (map need_of waiting)
-  pub within : IfSome next (λ at. at < length waiting)
 
 -- an attempt is noted: the name as tried, and the entry as started where it was
 abbrev pub noted : Start → Entry → Bool → Start

@@ -10,7 +10,7 @@ mod accept;
 mod attempt;
 mod failures;
 mod machine;
-mod place;
+mod queue;
 mod refusal;
 mod start;
 mod tried;

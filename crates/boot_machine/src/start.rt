@@ -6,11 +6,12 @@ ghost use Rattle.nt_bytes.specs.Folding.{folded};
 ghost use Rattle.hive_model.specs.Valid.{HoldsKeys};
 ghost use Rattle.boot_phases.specs.Phases.{phase_in};
 ghost use Rattle.boot_report.specs.Report.{verdict_of};
+ghost use Rattle.start_model.specs.Order.{plan_of};
 ghost use Rattle.start_model.specs.Machine.{next_in, label_of, failures_of, one_failure_less, phase_after, unmet_in, after_phase, begun_with, is_done, takes_logons, is_good, save_due, ending_with, ending_of};
 ghost use Rattle.boot_machine.specs.Steps.{is_there, AttemptsNext};
 
 use crate::failures::{Failures, folded_units};
-use crate::place::next_place;
+use crate::queue::Queue;
 use boot_phases::{Phase, plan};
 use boot_report::Verdict;
 use dependencies::Started;
@@ -26,30 +27,28 @@ pub(crate) struct Start {
     pub(crate) number: u32,
     pub(crate) on_good: bool,
     pub(crate) phase: Phase,
-    pub(crate) waiting: Vec<Entry>,
+    pub(crate) queue: Queue,
     /// Folded.
     pub(crate) tried: Vec<Units>,
     pub(crate) started: Started,
     pub(crate) logged_on: bool,
     pub(crate) saved: Option<bool>,
     pub(crate) clone: Option<Key>,
-    /// The place among the waiting of the next attempt.
-    pub(crate) next: Option<usize>,
 }
 
 impl Model for Start {
     ghost use Rattle.start_model.specs.Machine.{Start as Running};
     ghost use Rattle.boot_machine.specs.Codes.{coded_start};
     ghost use Rattle.boot_phases.specs.Phases.{phase_in};
-    ghost use Rattle.boot_machine.specs.Steps.{IsNext};
+    ghost use Rattle.std.specs.Prelude.{◌≡◌};
 
     ghost Value = { Running };
 
     ghost coded = { coded_start };
 
-    ghost view = { λ a. record { number = a.number; on_good = a.on_good; phase = phase_in a.phase; waiting = a.waiting.items; tried = a.tried.items; started = a.started; logged_on = a.logged_on; saved = a.saved; clone = a.clone } };
+    ghost view = { λ a. record { number = a.number; on_good = a.on_good; phase = phase_in a.phase; waiting = a.queue.waiting; tried = a.tried.items; started = a.started; logged_on = a.logged_on; saved = a.saved; clone = a.clone } };
 
-    ghost invariant = { λ a. IsNext a.next a.started a.waiting.items };
+    ghost invariant = { λ a. a.queue.started ≡ a.started };
 }
 
 impl Start {
@@ -64,21 +63,19 @@ impl Start {
         ensures { IfOk result (λ s. s ≡ begun_with set.now number on_good) }
     {
         let tried = Vec::new(alloc);
-        let waiting = plan(alloc, set, Phase::Boot, tried.as_slice())?.into_vec();
         let started = Started::new(alloc);
-        let next = next_place(waiting.as_slice(), &started);
+        let queue = planned(alloc, set, Phase::Boot, tried.as_slice(), &started)?;
         let clone = set.copy(alloc)?;
         Ok(Start {
             number,
             on_good,
             phase: Phase::Boot,
-            waiting,
+            queue,
             tried,
             started,
             logged_on: false,
             saved: None,
             clone: Some(clone),
-            next,
         })
     }
 
@@ -112,7 +109,7 @@ impl Start {
     pub(crate) fn is_at_end(&self) -> bool
         ensures { result ≡ not (is_there (next_in self.now)) }
     {
-        self.next.is_none()
+        !self.queue.has_next()
     }
 
     /// Takes the first ready entry out of the waiting ones, and notes its attempt. It fails where a failure
@@ -129,15 +126,10 @@ impl Start {
         ensures kept { OnErr result (self.new ≡ self.old) }
         ensures failures_kept { OnErr result (failures.new ≡ failures.old) }
     {
-        let at = self.next.unwrap();
-        let entry = &self.waiting[at];
-        let name = folded_units(alloc, entry.name.as_slice())?;
+        let entry = self.queue.first().copy(alloc)?;
         let ok = !failures.has(entry.name.as_slice());
-        self.tried.reserve(1)?;
-        note_started(alloc, &mut self.started, &self.waiting[at], ok)?;
-        put(&mut self.tried, name);
-        let entry = self.waiting.remove(at);
-        self.next = next_place(self.waiting.as_slice(), &self.started);
+        note(alloc, &mut self.tried, &mut self.started, &entry, ok)?;
+        self.queue.take_first(ok);
         failures.take(entry.name.as_slice());
         Ok((entry, ok))
     }
@@ -150,11 +142,10 @@ impl Start {
         ensures kept { OnErr result (self.new ≡ self.old) }
     {
         let phase = phase_after(self.phase);
-        let waiting = plan(alloc, set, phase, self.tried.as_slice())?;
-        let unmet = names_of(alloc, self.waiting.as_slice())?;
+        let queue = planned(alloc, set, phase, self.tried.as_slice(), &self.started)?;
+        let unmet = self.queue.names(alloc)?;
         self.phase = phase;
-        self.waiting = waiting.into_vec();
-        self.next = next_place(self.waiting.as_slice(), &self.started);
+        self.queue = queue;
         Ok(unmet)
     }
 
@@ -213,6 +204,21 @@ fn ending_with(saved: Option<bool>) -> Verdict
     }
 }
 
+/// The entries of a phase, which all wait.
+fn planned(
+    alloc: Global,
+    set: &Key,
+    phase: Phase,
+    tried: &[Units],
+    started: &Started,
+) -> Result<Queue, AllocError>
+    requires { HoldsKeys set.now }
+    ensures { IfOk result (λ q. q ≡ record { waiting = plan_of set.now (phase_in phase) tried.now; started = started.now }) }
+{
+    let entries = plan(alloc, set, phase, tried)?;
+    Queue::new(alloc, entries.into_vec(), started)
+}
+
 // ---- phases
 
 fn phase_after(phase: Phase) -> Phase
@@ -246,17 +252,6 @@ pub(crate) fn takes_logons(phase: Phase) -> bool
 
 // ---- names
 
-/// The names of the entries.
-fn names_of(alloc: Global, entries: &[Entry]) -> Result<Names, AllocError>
-    ensures { IfOk result (λ names. names ≡ map (λ e. e.name) entries.now) }
-{
-    let mut names = Names::new(alloc);
-    for entry in entries {
-        names.push(Units::from_slice(alloc, entry.name.as_slice())?)?;
-    }
-    Ok(names)
-}
-
 /// Puts a name behind the others, where there is room.
 fn put(names: &mut Vec<Units>, name: Units)
     requires { vec_len names.old < vec_capacity names.old }
@@ -266,6 +261,26 @@ fn put(names: &mut Vec<Units>, name: Units)
         Ok(()) => {}
         Err(_) => unreachable!(),
     }
+}
+
+/// Notes the name of an entry as tried, and the entry as started where it was.
+fn note(
+    alloc: Global,
+    tried: &mut Vec<Units>,
+    started: &mut Started,
+    entry: &Entry,
+    ok: bool,
+) -> Result<(), AllocError>
+    ensures tried { OnOk result (tried.new.items ≡ tried.old.items ++ folded entry.now.name ∷ []) }
+    ensures started { OnOk result (started.new ≡ (if ok then started.old ++ label_of entry.now ∷ [] else started.old)) }
+    ensures tried_kept { OnErr result (tried.new.items ≡ tried.old.items) }
+    ensures started_kept { OnErr result (started.new ≡ started.old) }
+{
+    let name = folded_units(alloc, entry.name.as_slice())?;
+    tried.reserve(1)?;
+    note_started(alloc, started, entry, ok)?;
+    put(tried, name);
+    Ok(())
 }
 
 /// Notes an entry as started where it was.

@@ -2,15 +2,22 @@
 #![tactic(auto)]
 
 mod demand;
+mod meeting;
 mod need;
 mod next;
 mod order;
+mod place_set;
 mod started;
+mod test_count;
+mod waiting;
+mod wants;
 
 pub use demand::{automatic, pulled, taken_is_the_least_closed_set};
 pub use need::{Need, Needs, Places};
 pub use next::{all_met, groups_met, next_ready, ready, services_met};
 pub use started::Started;
+pub use test_count::TestCount;
+pub use waiting::Waiting;
 
 #[cfg(test)]
 mod tests;

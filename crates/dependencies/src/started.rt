@@ -60,6 +60,13 @@ impl Started {
         Ok(())
     }
 
+    /// Who was started, the first one first.
+    pub(crate) fn labels(&self) -> &[(Units, Option<Units>)]
+        ensures { result.now ≡ self.now }
+    {
+        self.entries.as_slice()
+    }
+
     /// Whether an entry of this name was started.
     pub(crate) fn has_name(&self, name: &[u16]) -> bool
         ensures { result ≡ has_name self.now name.now }
@@ -112,4 +119,20 @@ fn copied(alloc: Global, name: &Option<Units>) -> Result<Option<Units>, AllocErr
         Some(units) => Ok(Some(units.copy(alloc)?)),
         None => Ok(None),
     }
+}
+
+/// A copy of each entry, in order.
+pub(crate) fn copied_labels(
+    alloc: Global,
+    labels: &[(Units, Option<Units>)],
+) -> Result<Vec<(Units, Option<Units>)>, AllocError>
+    ensures { IfOk result (λ l. l.items ≡ labels.now) }
+{
+    let mut made = Vec::new(alloc);
+    for label in labels {
+        let name = label.0.copy(alloc)?;
+        let group = copied(alloc, &label.1)?;
+        made.push((name, group))?;
+    }
+    Ok(made)
 }

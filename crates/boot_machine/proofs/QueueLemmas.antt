@@ -1,0 +1,193 @@
+-- The entries that wait, among all entries of a phase.
+use Rattle.std.proofs.Common.{◌≡◌, ℕ, zero, suc, ◌+◌, ◌<◌, Bool, true, false, List, [], ◌∷◌, ◌++◌, length, map, set, replicate, Option, Some, None, refl, sym, ap, ◌∙◌, subst, arith}
+use Rattle.std.specs.Prelude.{slice_get, remove, if◌then◌else◌}
+use Rattle.std.specs.List.{items_where_true, range_with_len, filter_map, cons_option}
+use Rattle.std.specs.Option.{option_map, option_and_then, option_to_list, is_some}
+use Rattle.std.specs.Prelude.{Result, IfOk, IsSome}
+use Rattle.std.specs.declared.alloc.AllocError.{AllocError}
+use Rattle.std.proofs.lemmas.Bool.{false≢true}
+use Rattle.std.proofs.lemmas.List.Quantifiers.{position-Some}
+use Rattle.std.proofs.lemmas.List.{length-map}
+use Rattle.std.proofs.lemmas.Option.{slice_get-map}
+use Rattle.start_model.specs.Demand.{Need}
+use Rattle.start_model.specs.Entries.{Entry, need_of}
+use Rattle.start_model.specs.Ready.{Label, is_ready, next_of}
+use Rattle.start_model.specs.Machine.{label_of}
+use Rattle.dependencies.specs.Waiting as deps
+use Rattle.dependencies.specs.Waiting.{WaitingState, waiting_in, places_in, next_place_in, labels_at, after_trying}
+use Rattle.boot_machine.specs.Steps.{is_there}
+use Rattle.boot_machine.specs.Queue.{QueueState, next_among, IsFirst, TakesFirst}
+
+-- ---- the items that are picked
+
+pub picked_map : {X Y : Type 0} (f : X → Y) (bs : List Bool) (xs : List X) → items_where_true bs (map f xs) ≡ map f (items_where_true bs xs)
+picked_map f [] xs = refl
+picked_map f (b ∷ bs) [] = refl
+picked_map f (true ∷ bs) (x ∷ xs) = ap (λ l. f x ∷ l) (picked_map f bs xs)
+picked_map f (false ∷ bs) (x ∷ xs) = picked_map f bs xs
+
+pub all_picked : {X : Type 0} (xs : List X) → items_where_true (replicate (length xs) true) xs ≡ xs
+all_picked [] = refl
+all_picked (x ∷ xs) = ap (λ l. x ∷ l) (all_picked xs)
+
+as_many : {X : Type 0} (bs : List Bool) (xs : List X) (i : ℕ) → length (items_where_true bs (range_with_len i (length xs))) ≡ length (items_where_true bs xs)
+as_many [] xs i = refl
+as_many (b ∷ bs) [] i = refl
+as_many (true ∷ bs) (x ∷ xs) i = ap suc (as_many bs xs (i + 1))
+as_many (false ∷ bs) (x ∷ xs) i = as_many bs xs (i + 1)
+
+-- the k-th of those that are picked, and the others
+pub record IsPicked {X : Type 0} (bs : List Bool) (xs : List X) (i k at : ℕ) : Type 0 where
+  pub j : ℕ
+  pub here : at ≡ i + j
+  pub within : j < length xs
+  pub same : slice_get (items_where_true bs xs) k ≡ slice_get xs j
+  pub others : items_where_true (set bs j false) xs ≡ remove (items_where_true bs xs) k
+
+some_is : (a b : ℕ) → Some a ≡ Some b → a ≡ b
+some_is a b e = cc
+
+pub picked : {X : Type 0} (bs : List Bool) (xs : List X) (i k at : ℕ) → slice_get (items_where_true bs (range_with_len i (length xs))) k ≡ Some at → IsPicked bs xs i k at
+picked [] xs i k at h = absurd cc
+picked (b ∷ bs) [] i k at h = absurd cc
+picked (true ∷ bs) (x ∷ xs) i zero at h = record { j = 0; here = (let e = some_is i at h in omega (arith, e)); within = omega arith; same = refl; others = refl }
+picked (true ∷ bs) (x ∷ xs) i (suc k) at h =
+    let p = picked bs xs (i + 1) k at h in
+    record { j = suc p.j; here = omega (arith, p.here); within = omega (arith, p.within); same = p.same; others = ap (λ l. x ∷ l) p.others }
+picked (false ∷ bs) (x ∷ xs) i k at h =
+    let p = picked bs xs (i + 1) k at h in
+    record { j = suc p.j; here = omega (arith, p.here); within = omega (arith, p.within); same = p.same; others = p.others }
+
+-- ---- the next one
+
+and_then_there : {X Y : Type 0} (f : X → Option Y) (o : Option X) → ((x : X) → o ≡ Some x → is_there (f x) ≡ true) → is_there (option_and_then f o) ≡ is_there o
+and_then_there f None h = refl
+and_then_there f (Some x) h = h x refl
+
+there_at : {X : Type 0} (xs : List X) (k : ℕ) → k < length xs → is_there (slice_get xs k) ≡ true
+there_at [] k lt = absurd (omega (arith, lt))
+there_at (x ∷ xs) zero lt = refl
+there_at (x ∷ xs) (suc k) lt = there_at xs k (omega (arith, lt))
+
+-- what the queue's next is among all of the phase
+waiting_is : (w : WaitingState) (entries : List Entry) → w.needs ≡ map need_of entries → waiting_in w ≡ map need_of (items_where_true w.waits entries)
+waiting_is w entries is = ap (items_where_true w.waits) is ∙ picked_map need_of w.waits entries
+
+places_are : (w : WaitingState) (entries : List Entry) → w.needs ≡ map need_of entries → places_in w ≡ items_where_true w.waits (range_with_len 0 (length entries))
+places_are w entries is = ap (λ n. items_where_true w.waits (range_with_len 0 n)) (ap length is ∙ length-map entries need_of)
+
+abbrev pub queue_of : WaitingState → List Entry → QueueState
+queue_of w entries = record { waiting = items_where_true w.waits entries; started = w.started }
+
+next_is : (w : WaitingState) (entries : List Entry) → w.needs ≡ map need_of entries
+    → next_place_in w ≡ option_and_then (slice_get (items_where_true w.waits (range_with_len 0 (length entries)))) (next_among (queue_of w entries))
+next_is w entries is = λ i. option_and_then (slice_get (places_are w entries is i)) (next_of w.started (waiting_is w entries is i))
+
+pub next_there : (w : WaitingState) (entries : List Entry) → w.needs ≡ map need_of entries → is_there (next_place_in w) ≡ is_there (next_among (queue_of w entries))
+next_there w entries is =
+    ap is_there (next_is w entries is)
+    ∙ and_then_there (slice_get (items_where_true w.waits (range_with_len 0 (length entries)))) (next_among (queue_of w entries)) within
+  where
+    none : Need
+    none = record { name = []; start = 0; group = None; services = []; groups = [] }
+
+    within : (k : ℕ) → next_among (queue_of w entries) ≡ Some k → is_there (slice_get (items_where_true w.waits (range_with_len 0 (length entries))) k) ≡ true
+    within k e =
+        there_at (items_where_true w.waits (range_with_len 0 (length entries))) k
+        (omega (
+          arith,
+          as_many w.waits entries 0,
+          length-map (items_where_true w.waits entries) need_of,
+          (position-Some (is_ready w.started) (map need_of (items_where_true w.waits entries)) k none e).0,
+        ))
+
+pub record HasFirst (w : WaitingState) (entries : List Entry) (at : ℕ) : Type 0 where
+  pub place : ℕ
+  pub within : at < length entries
+  pub next : next_among (queue_of w entries) ≡ Some place
+  pub same : slice_get (items_where_true w.waits entries) place ≡ slice_get entries at
+  pub others : items_where_true (set w.waits at false) entries ≡ remove (items_where_true w.waits entries) place
+
+by_place : (w : WaitingState) (entries : List Entry) (at : ℕ) (o : Option ℕ) → next_among (queue_of w entries) ≡ o
+    → option_and_then (slice_get (items_where_true w.waits (range_with_len 0 (length entries)))) o ≡ Some at → HasFirst w entries at
+by_place w entries at None e h = absurd cc
+by_place w entries at (Some k) e h =
+    let p = picked w.waits entries 0 k at h in
+    let here : p.j ≡ at = omega (arith, p.here) in
+    record {
+      place = k;
+      within = omega (arith, p.within, here);
+      next = e;
+      same = p.same ∙ ap (slice_get entries) here;
+      others = ap (λ j. items_where_true (set w.waits j false) entries) (sym here) ∙ p.others;
+    }
+
+pub first_at : (w : WaitingState) (entries : List Entry) (at : ℕ) → w.needs ≡ map need_of entries → Some at ≡ next_place_in w → HasFirst w entries at
+first_at w entries at is h = by_place w entries at (next_among (queue_of w entries)) refl (sym (next_is w entries is) ∙ sym h)
+
+-- the same entry, by the equal places
+first_same : (e f : Entry) (o : Option Entry) → o ≡ Some e → o ≡ Some f → e ≡ f
+first_same e f o a b = let s : Some e ≡ Some f = sym a ∙ b in cc
+
+place_same : (k l : ℕ) (o : Option ℕ) → o ≡ Some k → o ≡ Some l → k ≡ l
+place_same k l o a b = some_is k l (sym a ∙ b)
+
+labels_are : (entries : List Entry) (at : ℕ) (e : Entry) → slice_get entries at ≡ Some e → labels_at (map need_of entries) at ≡ label_of e ∷ []
+labels_are entries at e h =
+    ap (λ o. option_to_list (option_map deps.label_of o)) (slice_get-map need_of entries at ∙ ap (option_map need_of) h)
+
+pub takes_first : (w w' : WaitingState) (entries : List Entry) (at : ℕ) (ok : Bool) → w.needs ≡ map need_of entries → Some at ≡ next_place_in w → w' ≡ after_trying w at ok
+    → (e : Entry) → IsFirst (queue_of w entries) e → TakesFirst (queue_of w entries) (queue_of w' entries) e ok
+takes_first w w' entries at ok is h after e first =
+    let has = first_at w entries at is h in
+    let same : has.place ≡ first.place = place_same has.place first.place (next_among (queue_of w entries)) has.next first.next in
+    let here : slice_get entries at ≡ Some e = sym has.same ∙ ap (slice_get (items_where_true w.waits entries)) same ∙ first.entry in
+    record {
+      place = first.place;
+      next = first.next;
+      entry = first.entry;
+      waiting = ap (λ (v : WaitingState). items_where_true v.waits entries) after ∙ has.others ∙ ap (remove (items_where_true w.waits entries)) same;
+      started = ap (λ (v : WaitingState). v.started) after ∙ ap (λ l. if ok then w.started ++ l else w.started) (ap (λ n. labels_at n at) is ∙ labels_are entries at e here);
+    }
+
+-- ---- the names of those that wait
+
+pub names_of_places : (bs : List Bool) (entries all : List Entry) (i : ℕ) → ((k : ℕ) → slice_get entries k ≡ slice_get all (i + k))
+    → filter_map (λ p. option_map (λ e. e.name) (slice_get all p)) (items_where_true bs (range_with_len i (length entries))) ≡ map (λ e. e.name) (items_where_true bs entries)
+names_of_places [] entries all i at = refl
+names_of_places (b ∷ bs) [] all i at = refl
+names_of_places (true ∷ bs) (e ∷ es) all i at =
+    ap (λ o. cons_option (option_map (λ (x : Entry). x.name) o) (filter_map (λ p. option_map (λ (x : Entry). x.name) (slice_get all p)) (items_where_true bs (range_with_len (i + 1) (length es)))))
+    (ap (slice_get all) (let z : i ≡ i + 0 = omega arith in z) ∙ sym (at 0))
+    ∙ ap (λ l. e.name ∷ l) (names_of_places bs es all (i + 1) (λ k. at (suc k) ∙ ap (slice_get all) (let z : i + suc k ≡ i + 1 + k = omega arith in z)))
+names_of_places (false ∷ bs) (e ∷ es) all i at =
+    names_of_places bs es all (i + 1) (λ k. at (suc k) ∙ ap (slice_get all) (let z : i + suc k ≡ i + 1 + k = omega arith in z))
+
+every_name : (w : WaitingState) (entries : List Entry) → w.needs ≡ map need_of entries
+    → filter_map (λ p. option_map (λ e. e.name) (slice_get entries p)) (places_in w) ≡ map (λ e. e.name) (items_where_true w.waits entries)
+every_name w entries is =
+    ap (filter_map (λ p. option_map (λ (e : Entry). e.name) (slice_get entries p))) (places_are w entries is)
+    ∙ names_of_places w.waits entries entries 0 (λ k. ap (slice_get entries) (let z : k ≡ 0 + k = omega arith in z))
+
+pub names_by : (w : WaitingState) (entries : List Entry) (places : List ℕ) (r : Result (List (List ℕ)) AllocError) → w.needs ≡ map need_of entries → places ≡ places_in w
+    → IfOk r (λ n. n ≡ filter_map (λ p. option_map (λ e. e.name) (slice_get entries p)) places) → IfOk r (λ n. n ≡ map (λ e. e.name) (items_where_true w.waits entries))
+names_by w entries places r is at h =
+    let P : List (List ℕ) → Type 0 = λ l. IfOk r (λ n. n ≡ l) in
+    subst P (ap (filter_map (λ p. option_map (λ (e : Entry). e.name) (slice_get entries p))) at ∙ every_name w entries is) h
+
+-- ---- a queue in which all wait
+
+pub new_queue : (w : WaitingState) (entries : List Entry) (needs : List Need) (started : List Label) → w ≡ record { needs = needs; waits = replicate (length needs) true; started = started } → needs ≡ map need_of entries
+    → queue_of w entries ≡ record { waiting = entries; started = started }
+new_queue w entries needs started is of =
+    let all : items_where_true (replicate (length needs) true) entries ≡ entries =
+    ap (λ n. items_where_true (replicate n true) entries) (ap length of ∙ length-map entries need_of) ∙ all_picked entries in
+    ap (λ v. queue_of v entries) is ∙ (λ i. record { waiting = all i; started = started })
+
+pub some_is_there : (o : Option ℕ) → is_some o ≡ is_there o
+some_is_there None = refl
+some_is_there (Some x) = refl
+
+pub is_some_there : (o : Option ℕ) → is_there o ≡ true → IsSome o
+is_some_there None h = absurd (false≢true h)
+is_some_there (Some x) h = refl

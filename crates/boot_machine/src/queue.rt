@@ -1,0 +1,133 @@
+//! The entries of a phase that wait, with the next one at hand.
+
+ghost use Rattle.std.specs.Prelude.{◌≡◌, ◌<◌, ◌^◌, true, length, map, slice_get, Some, IfOk};
+ghost use Rattle.std.specs.List.{filter_map};
+ghost use Rattle.std.specs.Option.{option_map};
+ghost use Rattle.start_model.specs.Demand.{member};
+ghost use Rattle.start_model.specs.Entries.{need_of};
+ghost use Rattle.dependencies.specs.Waiting.{next_place_in};
+ghost use Rattle.boot_machine.specs.Steps.{is_there};
+ghost use Rattle.boot_machine.specs.Queue.{next_among, IsFirst, TakesFirst};
+
+use boot_phases::need_of;
+use dependencies::{Needs, Started, TestCount, Waiting};
+use nt_bytes::{Names, Units};
+use service_entries::Entry;
+use std::alloc::{AllocError, Global};
+use std::marker::Model;
+
+/// The entries of a phase, those of them that wait, and who was started.
+#[derive(Drop)]
+pub(crate) struct Queue {
+    entries: Vec<Entry>,
+    waiting: Waiting,
+}
+
+impl Model for Queue {
+    ghost use Rattle.std.specs.Prelude.{◌≡◌, map};
+    ghost use Rattle.std.specs.List.{items_where_true};
+    ghost use Rattle.start_model.specs.Entries.{need_of};
+    ghost use Rattle.boot_machine.specs.Queue.{QueueState};
+    ghost use Rattle.boot_machine.specs.Codes.{coded_queue};
+
+    ghost Value = { QueueState };
+
+    ghost coded = { coded_queue };
+
+    ghost view = { λ a. record { waiting = items_where_true a.waiting.waits a.entries.items; started = a.waiting.started } };
+
+    ghost invariant = { λ a. a.waiting.needs ≡ map need_of a.entries.items };
+}
+
+impl Queue {
+    /// All entries of a phase wait.
+    pub(crate) fn new(
+        alloc: Global,
+        entries: Vec<Entry>,
+        started: &Started,
+    ) -> Result<Queue, AllocError>
+        requires { length entries.items < 2 ^ 32 }
+        ensures { IfOk result (λ q. q ≡ record { waiting = entries.items; started = started.now }) }
+    {
+        let needs = needs_of(alloc, entries.as_slice())?;
+        let mut tests = TestCount::new();
+        let waiting = Waiting::new(alloc, needs, started, &mut tests)?;
+        Ok(Queue { entries, waiting })
+    }
+
+    /// Whether a waiting entry is ready.
+    pub(crate) fn has_next(&self) -> bool
+        ensures { result ≡ is_there (next_among self.now) }
+    {
+        self.waiting.next().is_some()
+    }
+
+    /// The first waiting entry that is ready.
+    pub(crate) fn first(&self) -> &Entry
+        requires { is_there (next_among self.now) ≡ true }
+        ensures { IsFirst self.now result.now }
+    {
+        let place = next_place(&self.waiting);
+        &self.entries[place as usize]
+    }
+
+    /// The first waiting entry that is ready waits no more, and was started where `ok`.
+    pub(crate) fn take_first(&mut self, ok: bool)
+        requires { is_there (next_among self.old) ≡ true }
+        ensures { (e : Entry) → IsFirst self.old e → TakesFirst self.old self.new e ok }
+    {
+        let place = next_place(&self.waiting);
+        let mut tests = TestCount::new();
+        self.waiting.tried(place, ok, &mut tests);
+    }
+
+    /// The names of the entries that wait.
+    pub(crate) fn names(&self, alloc: Global) -> Result<Names, AllocError>
+        ensures { IfOk result (λ names. names ≡ map (λ e. e.name) self.now.waiting) }
+    {
+        let left = self.waiting.left(alloc)?;
+        names_at(alloc, self.entries.as_slice(), left.as_slice())
+    }
+}
+
+/// The place of the next entry, where there is one.
+fn next_place(waiting: &Waiting) -> u32
+    requires { is_there (next_place_in waiting.now) ≡ true }
+    ensures place { Some result ≡ next_place_in waiting.now }
+    ensures waits { member waiting.now.waits result ≡ true }
+{
+    waiting.next().unwrap()
+}
+
+/// What each entry needs.
+fn needs_of(alloc: Global, entries: &[Entry]) -> Result<Needs, AllocError>
+    ensures { IfOk result (λ n. n ≡ map need_of entries.now) }
+{
+    let mut needs = Needs::new(alloc);
+    for entry in entries {
+        needs.push(need_of(alloc, entry)?)?;
+    }
+    Ok(needs)
+}
+
+/// The names of the entries at these places.
+fn names_at(alloc: Global, entries: &[Entry], places: &[u32]) -> Result<Names, AllocError>
+    ensures { IfOk result (λ names. names ≡ filter_map (λ p. option_map (λ e. e.name) (slice_get entries.now p)) places.now) }
+{
+    let mut names = Names::new(alloc);
+    for place in places {
+        if let Some(name) = name_at(alloc, entries, *place)? {
+            names.push(name)?;
+        }
+    }
+    Ok(names)
+}
+
+fn name_at(alloc: Global, entries: &[Entry], place: u32) -> Result<Option<Units>, AllocError>
+    ensures { IfOk result (λ n. n ≡ option_map (λ e. e.name) (slice_get entries.now place)) }
+{
+    match entries.get(place as usize) {
+        Some(entry) => Ok(Some(entry.name.copy(alloc)?)),
+        None => Ok(None),
+    }
+}
