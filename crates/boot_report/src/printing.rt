@@ -79,6 +79,7 @@ pub fn reason_text(why: RefusedWord) -> &'static str
     }
 }
 
+/// The word of a verdict.
 pub fn verdict_text(verdict: Verdict) -> &'static str
     ensures { result.now ≡ verdict_word (verdict_of verdict) }
 {
