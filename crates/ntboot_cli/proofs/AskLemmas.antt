@@ -13,9 +13,9 @@ use Rattle.boot_script.specs.Script.{script_of}
 use Rattle.ntboot_cli.specs.declared.refusal.Refusal.{Refusal}
 use Rattle.ntboot_cli.specs.declared.refusal.Obstacle.{Obstacle}
 use Rattle.ntboot_cli.specs.declared.refusal.Obstacle.TheVariants.{Refused, Stopped}
-use Rattle.ntboot_cli.specs.Words.{Asked, words_of}
-use Rattle.ntboot_cli.specs.Inputs.{asked_in, system_in, file_in, events_in, bytes_in, ini_in, named, behind_step, asks_hive, asks_in}
-use Rattle.ntboot_cli.specs.Leaves.{more, AsksSome, AsksStopped, AsksUntil, AsksBy, Gives, Reads, stop_in, stopped_as}
+use Rattle.command_words.specs.Words.{RunAsked}
+use Rattle.ntboot_cli.specs.Inputs.{system_in, file_in, events_in, bytes_in, ini_in, behind_step, asks_hive, asks_run}
+use Rattle.ntboot_cli.specs.Leaves.{more, named, AsksSome, AsksStopped, AsksUntil, AsksBy, Gives, Reads, stop_in, stopped_as}
 
 pub more_more : (a b n : ℕ) → more a (more b n) ≡ more (a + b) n
 more_more zero b n = (let same : b ≡ 0 + b = omega arith in ap (λ (k : ℕ). more k n) same)
@@ -126,66 +126,57 @@ log_asked files hive log primary found =
     ap (λ (r : Result (List ℕ) Refusal). 1 + behind_step r (λ (p : List ℕ). named log)) found in
     omega (arith, all)
 
-abbrev pub by_hive : Asked → Files → ℕ
+abbrev pub by_hive : RunAsked → Files → ℕ
 by_hive asked files = asks_hive files asked.hive asked.log
 
-abbrev pub by_text : Asked → Files → List ℕ → ℕ
+abbrev pub by_text : RunAsked → Files → List ℕ → ℕ
 by_text asked files text = behind_step (ini_in text asked.system) (λ ini. by_hive asked files)
 
-abbrev pub by_events : Asked → Files → ℕ
+abbrev pub by_events : RunAsked → Files → ℕ
 by_events asked files = named asked.boot_ini + behind_step (bytes_in files asked.boot_ini) (by_text asked files)
 
-abbrev pub by_script : Asked → Files → List ℕ → ℕ
+abbrev pub by_script : RunAsked → Files → List ℕ → ℕ
 by_script asked files script = behind_step (events_in (script_of script)) (λ events. by_events asked files)
 
-abbrev pub by_system : Asked → Files → ℕ
+abbrev pub by_system : RunAsked → Files → ℕ
 by_system asked files = 1 + behind_step (file_in asked.script (files asked.script)) (by_script asked files)
 
-abbrev by_words : Option Asked → Files → ℕ
-by_words words files =
-    behind_step (asked_in words)
-    (λ asked. behind_step (system_in (arc_of asked.system)) (λ system. by_system asked files))
+pub script_asked : (files : Files) (asked : RunAsked) (system : Arc) → system_in (arc_of asked.system) ≡ Ok system
+    → asks_run asked files ≡ 1 + behind_step (file_in asked.script (files asked.script)) (by_script asked files)
+script_asked files asked system is =
+    ap (λ (r : Result Arc Refusal). behind_step r (λ (s : Arc). by_system asked files)) is
 
-pub script_asked : (words : List (List ℕ)) (files : Files) (asked : Asked) (system : Arc) → Some asked ≡ words_of words
-    → system_in (arc_of asked.system) ≡ Ok system
-    → asks_in words files ≡ 1 + behind_step (file_in asked.script (files asked.script)) (by_script asked files)
-script_asked words files asked system read is =
-    ap (λ (o : Option Asked). by_words o files) (sym read) ∙ ap
-    (λ (r : Result Arc Refusal). behind_step r (λ (s : Arc). by_system asked files)) is
-
-pub events_asked : (words : List (List ℕ)) (files : Files) (asked : Asked) (system : Arc) (script : List ℕ)
-    → Some asked ≡ words_of words
+pub events_asked : (files : Files) (asked : RunAsked) (system : Arc) (script : List ℕ)
     → system_in (arc_of asked.system) ≡ Ok system → file_in asked.script (files asked.script) ≡ Ok script
-    → asks_in words files ≡ 1 + behind_step (events_in (script_of script)) (λ events. by_events asked files)
-events_asked words files asked system script read is found =
-    script_asked words files asked system read is ∙ ap
+    → asks_run asked files ≡ 1 + behind_step (events_in (script_of script)) (λ events. by_events asked files)
+events_asked files asked system script is found =
+    script_asked files asked system is ∙ ap
     (λ (r : Result (List ℕ) Refusal). 1 + behind_step r (by_script asked files))
     found
 
-pub text_asked : (words : List (List ℕ)) (files : Files) (asked : Asked) (system : Arc) (script : List ℕ)
+pub text_asked : (files : Files) (asked : RunAsked) (system : Arc) (script : List ℕ)
     (events : List Event)
-    → Some asked ≡ words_of words
     → system_in (arc_of asked.system) ≡ Ok system → file_in asked.script (files asked.script) ≡ Ok script
     → events_in (script_of script) ≡ Ok events
-    → asks_in words files ≡ named asked.boot_ini + 1 + behind_step (bytes_in files asked.boot_ini) (by_text asked files)
-text_asked words files asked system script events read is found are =
-    let before : asks_in words files ≡ 1 + by_events asked files =
-    events_asked words files asked system script read is found ∙ ap
+    → asks_run asked files ≡ named asked.boot_ini + 1 + behind_step (bytes_in files asked.boot_ini) (by_text asked files)
+text_asked files asked system script events is found are =
+    let before : asks_run asked files ≡ 1 + by_events asked files =
+    events_asked files asked system script is found ∙ ap
     (λ (r : Result (List Event) Refusal). 1 + behind_step r (λ (es : List Event). by_events asked files)) are in
     omega (arith, before)
 
-pub ini_asked : (words : List (List ℕ)) (files : Files) (asked : Asked) (text : List ℕ)
-    → asks_in words files ≡ named asked.boot_ini + 1 + behind_step (bytes_in files asked.boot_ini) (by_text asked files)
+pub ini_asked : (files : Files) (asked : RunAsked) (text : List ℕ)
+    → asks_run asked files ≡ named asked.boot_ini + 1 + behind_step (bytes_in files asked.boot_ini) (by_text asked files)
     → bytes_in files asked.boot_ini ≡ Ok text
-    → asks_in words files ≡ named asked.boot_ini + 1 + behind_step (ini_in text asked.system) (λ ini. by_hive asked files)
-ini_asked words files asked text before found =
+    → asks_run asked files ≡ named asked.boot_ini + 1 + behind_step (ini_in text asked.system) (λ ini. by_hive asked files)
+ini_asked files asked text before found =
     before ∙ ap (λ (r : Result (List ℕ) Refusal). named asked.boot_ini + 1 + behind_step r (by_text asked files)) found
 
-pub hive_asked : (words : List (List ℕ)) (files : Files) (asked : Asked) (text : List ℕ) (ini : BootIni)
-    → asks_in words files ≡ named asked.boot_ini + 1 + behind_step (ini_in text asked.system) (λ ini. by_hive asked files)
+pub hive_asked : (files : Files) (asked : RunAsked) (text : List ℕ) (ini : BootIni)
+    → asks_run asked files ≡ named asked.boot_ini + 1 + behind_step (ini_in text asked.system) (λ ini. by_hive asked files)
     → ini_in text asked.system ≡ Ok ini
-    → asks_in words files ≡ named asked.boot_ini + 1 + by_hive asked files
-hive_asked words files asked text ini before is =
+    → asks_run asked files ≡ named asked.boot_ini + 1 + by_hive asked files
+hive_asked files asked text ini before is =
     before
     ∙ ap (λ (r : Result BootIni Refusal). named asked.boot_ini + 1 + behind_step r (λ (i : BootIni). by_hive asked files)) is
 

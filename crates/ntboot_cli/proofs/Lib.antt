@@ -1,5 +1,12 @@
-pub mod WordLemmas
-pub mod LeaveLemmas
 pub mod AskLemmas
+pub mod LeaveLemmas
 pub mod PlacedLemmas
+pub mod SaveLemmas
+pub mod DecideLemmas
+pub mod RunLemmas
+pub mod ShowLemmas
+pub mod MakeLemmas
+pub mod UsualLemmas
+pub mod CountedLemmas
+pub mod SavedLemmas
 pub mod TopLemmas

@@ -1,68 +1,194 @@
 -- What the program answers on given words and files. This project's own.
 --
--- The first obstacle decides (`inputs_in`), and then the hive with its log, which has a first fault or is what the script is run on.
-use Rattle.std.specs.Prelude.{◌≡◌, ◌⊎◌, ℕ, false, List, map, Result, Ok, Err}
+-- The first obstacle decides, and then the hive with its log, which has a first fault or is what the command is about.
+use Rattle.std.specs.Prelude.{◌≡◌, ◌⊎◌, ◌≤◌, ◌++◌, ℕ, true, false, List, [], Option, Some, None, map, Result, Ok, Err, unwrap_or}
 use Rattle.nt_bytes.specs.declared.fault.HiveFault.{HiveFault}
 use Rattle.nt_edge.specs.Disk.{DiskState, new_state}
-use Rattle.nt_edge.specs.Host.{HostState, AsksNone}
-use Rattle.hive_model.specs.Image.{image_of}
+use Rattle.nt_edge.specs.Host.{Files, HostState, AsksNone}
+use Rattle.nt_edge.specs.declared.host.HostStop.TheVariants.{Memory as NoMemory}
+use Rattle.hive_model.specs.Image.{Image}
 use Rattle.hive_model.specs.Load.{Loads, LoadFault}
+use Rattle.hive_model.specs.Size.{bulk_of}
 use Rattle.boot_machine.specs.Views.{event_in}
+use Rattle.start_model.specs.Lines.{text_of}
 use Rattle.start_model.specs.Report.{Going}
-use Rattle.start_model.specs.Run.{Woken, run_of}
+use Rattle.start_model.specs.Run.{Woken, Quiet, run_of, quiet_run_of}
 use Rattle.start_model.specs.Summary.{Summary, no_summary}
-use Rattle.run_parts.specs.Parts.{Told}
 use Rattle.run_parts.specs.Reports.{Reports, ReportsFront}
 use Rattle.boot_run.specs.Choices.{choices}
+use Rattle.tree_text.specs.TreeText.{shown_text}
+use Rattle.command_words.specs.Words.{Asked, run, show, make, RunAsked, ShowAsked, MakeAsked}
 use Rattle.ntboot_cli.specs.declared.status.Status.{Status}
 use Rattle.ntboot_cli.specs.declared.status.Status.TheVariants as statuses
 use Rattle.ntboot_cli.specs.declared.refusal.Refusal.{Refusal}
-use Rattle.ntboot_cli.specs.declared.refusal.Refusal.TheVariants.{HiveFault as BadHive}
+use Rattle.ntboot_cli.specs.declared.refusal.Refusal.TheVariants.{Usage, HiveFault as BadHive}
+use Rattle.ntboot_cli.specs.declared.refusal.Obstacle.{Obstacle}
+use Rattle.ntboot_cli.specs.declared.refusal.Obstacle.TheVariants.{Refused, Stopped}
+use Rattle.ntboot_cli.specs.declared.inputs.HiveFiles.{HiveFiles}
 use Rattle.ntboot_cli.specs.declared.inputs.Inputs.{Inputs}
+use Rattle.ntboot_cli.specs.declared.making.Usual.{Usual}
+use Rattle.ntboot_cli.specs.Inputs.{arguments_in, hive_in, inputs_in, asks_in, AsksSoMany}
 use Rattle.ntboot_cli.specs.Leaves.{Leaves}
-use Rattle.ntboot_cli.specs.Placed.{placed_disk, IsUnrun, IsUntouchedBy}
-use Rattle.ntboot_cli.specs.Refusals.{Ends, refusal}
+use Rattle.ntboot_cli.specs.Made.{told, usual_in, made_text, IsMade, IsPartMade}
+use Rattle.ntboot_cli.specs.Placed.{image_in, placed_disk, IsUnrun, IsUntouchedBy}
+use Rattle.ntboot_cli.specs.Refusals.{Answer, Ends, IsToldAs, refusal}
+use Rattle.ntboot_cli.specs.Saves.{Saves, no_saves, saved_count, FilesAs, Settles}
 
--- ---- the run
+-- ---- a run
 
 -- the run of the inputs' script, with what boot.ini has for its starts, on what the disk wakes up with first
 abbrev pub run_in : Inputs → Woken → Going
 run_in inputs placed = run_of (choices inputs.ini inputs.system) (map event_in inputs.script) placed
 
--- this was said, and its lines come to the summary
-abbrev pub told : List ℕ → Summary → Told
-told said summary = record { said = said; summary = summary }
+-- the same on a disk without cuts and faults
+abbrev pub quiet_in : Inputs → Woken → Quiet
+quiet_in inputs placed = quiet_run_of (choices inputs.ini inputs.system) (map event_in inputs.script) placed
 
--- The run went from the disk as it was to the disk as it is: its whole report was said, or up to a fault in saying it or to want
--- of memory a front of it.
-abbrev pub EndsRun : Going → DiskState → DiskState → Status → List ℕ → List ℕ → Type 0
-EndsRun run before after statuses.Done old new = (summary : Summary) × Reports run (told old no_summary) (told new summary) before after
-EndsRun run before after statuses.WriteFault old new = ReportsFront run old new before after
-EndsRun run before after statuses.Memory old new = ReportsFront run old new before after
-EndsRun run before after refused old new = ⊥
+-- The whole report was said. The disk as the run left it then settled, and so many files were taken from it. Where it had no
+-- cut and no fault, the report is the text of the quiet run.
+pub record RunsWhole (inputs : Inputs) (placed : Woken) (taken : ℕ) (before after : DiskState) (old new : List ℕ) : Type 0 where
+  pub summary : Summary
+  pub left : DiskState
+  pub reports : Reports (run_in inputs placed) (told old no_summary) (told new summary) before left
+  pub settles : Settles taken left after
+  pub quiet : after.cuts ≡ 0 → after.faults ≡ 0 → new ≡ old ++ text_of (quiet_in inputs placed).lines
+
+-- the run was given up, and a front of its report was said; or the whole report was, and then the saving was given up
+abbrev pub RunsPart : Inputs → Woken → Saves → DiskState → DiskState → List ℕ → List ℕ → Type 0
+RunsPart inputs placed saves before after old new =
+    ReportsFront (run_in inputs placed) old new before after
+    ⊎ ((taken : ℕ) × (taken ≤ saved_count saves) × RunsWhole inputs placed taken before after old new)
+
+-- the run went from the disk as it was to the disk as it is
+abbrev pub EndsRun : Inputs → Woken → Saves → DiskState → DiskState → Status → List ℕ → List ℕ → Type 0
+EndsRun inputs placed saves before after statuses.Done old new = RunsWhole inputs placed (saved_count saves) before after old new
+EndsRun inputs placed saves before after statuses.WriteFault old new = RunsPart inputs placed saves before after old new
+EndsRun inputs placed saves before after statuses.Memory old new = RunsPart inputs placed saves before after old new
+EndsRun inputs placed saves before after refused old new = ⊥
 
 -- The hive has a first fault, and that is said; or it loads as a state, and the script is run on the disk that holds it; or there
 -- was no memory before anything was said. The disk is this afterwards.
-abbrev pub EndsHive : Inputs → DiskState → Status → List ℕ → List ℕ → Type 0
-EndsHive inputs disk status old new =
-    ((fault : HiveFault) × (LoadFault (image_of inputs.hive inputs.log) fault)
+abbrev pub EndsHive : Inputs → Saves → DiskState → Status → List ℕ → List ℕ → Type 0
+EndsHive inputs saves disk status old new =
+    ((fault : HiveFault) × (LoadFault (image_in inputs.hive) fault)
     × Ends (refusal (BadHive fault)) status old new × (disk ≡ new_state))
-    ⊎ (((placed : Woken) × (Loads (image_of inputs.hive inputs.log) placed.state placed.dirty)
-    × EndsRun (run_in inputs placed) (placed_disk inputs.hive inputs.log) disk status old new)
+    ⊎ (((placed : Woken) × (Loads (image_in inputs.hive) placed.state placed.dirty)
+    × EndsRun inputs placed saves (placed_disk inputs.hive) disk status old new)
     ⊎ ((status ≡ statuses.Memory) × (new ≡ old) × IsUnrun disk))
 
 -- the first obstacle is said, and nothing was done to the disk; or there is none, and the hive decides
-abbrev pub EndsInputs : Result Inputs Refusal → DiskState → Status → List ℕ → List ℕ → Type 0
-EndsInputs (Err r) disk status old new = Ends (refusal r) status old new × (disk ≡ new_state)
-EndsInputs (Ok inputs) disk status old new =
-    EndsHive inputs disk status old new ⊎ ((status ≡ statuses.ReadFault) × (new ≡ old) × (disk ≡ new_state))
+abbrev pub EndsInputs : Result Inputs Refusal → Saves → DiskState → Status → List ℕ → List ℕ → Type 0
+EndsInputs (Err r) saves disk status old new = Ends (refusal r) status old new × (disk ≡ new_state)
+EndsInputs (Ok inputs) saves disk status old new =
+    EndsHive inputs saves disk status old new ⊎ ((status ≡ statuses.ReadFault) × (new ≡ old) × (disk ≡ new_state))
 
--- without an obstacle: the disk is off, and untouched after a refusal; no file was asked for; and bad usage or a read fault is
--- no answer any more
-pub record HiveDecides (inputs : Inputs) (status : Status) (old new : HostState) (disk : DiskState) : Type 0 where
-  pub leaves : Leaves (EndsHive inputs disk) status old new
+-- ---- what a hive holds
+
+-- the answer with the text of a state's tree
+abbrev pub shown : Woken → Answer
+shown placed = record {
+  status = statuses.Done;
+  text = shown_text placed.state.sequence (bulk_of placed.state.version placed.state.tree) placed.state.tree;
+}
+
+-- The hive has a first fault, and that is said; or it loads as a state, and the text of its tree is said; or there was no memory
+-- or a read fault before anything was said.
+abbrev pub EndsShown : Result HiveFiles Refusal → Status → List ℕ → List ℕ → Type 0
+EndsShown (Err r) status old new = Ends (refusal r) status old new
+EndsShown (Ok files) status old new =
+    ((fault : HiveFault) × (LoadFault (image_in files) fault) × Ends (refusal (BadHive fault)) status old new)
+    ⊎ (((placed : Woken) × (Loads (image_in files) placed.state placed.dirty) × Ends (shown placed) status old new)
+    ⊎ (((status ≡ statuses.Memory) ⊎ (status ≡ statuses.ReadFault)) × (new ≡ old)))
+
+-- ---- a generated hive
+
+-- the answer with the line on it
+abbrev pub made : Usual → ℕ → Answer
+made usual count = record { status = statuses.Done; text = made_text usual count }
+
+-- a front of the line was said, and the disk is left as it may be then
+abbrev pub EndsPart : Usual → ℕ → Saves → DiskState → Status → List ℕ → List ℕ → Type 0
+EndsPart usual count saves disk status old new = Ends (made usual count) status old new × IsPartMade (saved_count saves) disk
+
+-- the line was said whole at the end, or of it a front up to a fault in saying it or to want of memory; the disk is this afterwards
+abbrev pub EndsMade : Result Usual Refusal → ℕ → Saves → DiskState → Status → List ℕ → List ℕ → Type 0
+EndsMade (Err r) count saves disk status old new = Ends (refusal r) status old new × (disk ≡ new_state)
+EndsMade (Ok usual) count saves disk statuses.Done old new = (new ≡ old ++ made_text usual count) × IsMade usual count (saved_count saves) disk
+EndsMade (Ok usual) count saves disk statuses.WriteFault old new = EndsPart usual count saves disk statuses.WriteFault old new
+EndsMade (Ok usual) count saves disk statuses.Memory old new = EndsPart usual count saves disk statuses.Memory old new
+EndsMade (Ok usual) count saves disk refused old new = ⊥
+
+-- the text of the hive's tree, or its first fault, or there was no memory
+abbrev pub ShowsAs : Image → Result (List ℕ) Obstacle → Type 0
+ShowsAs image (Ok text) = (placed : Woken) × (Loads image placed.state placed.dirty) × (text ≡ (shown placed).text)
+ShowsAs image (Err (Refused r)) = (fault : HiveFault) × (LoadFault image fault) × (r ≡ BadHive fault)
+ShowsAs image (Err (Stopped stop)) = stop ≡ NoMemory
+
+-- ---- a command
+
+-- the files that the words want to be saved
+abbrev pub saves_of : Option Asked → Saves
+saves_of None = no_saves
+saves_of (Some (run words)) = record { hive = words.save_hive; log = words.save_log }
+saves_of (Some (show words)) = no_saves
+saves_of (Some (make words)) = record { hive = words.save_hive; log = None }
+
+-- words without a reading are bad usage; else the command decides
+abbrev pub EndsWords : Option Asked → Files → DiskState → Status → List ℕ → List ℕ → Type 0
+EndsWords None files disk status old new = Ends (refusal Usage) status old new × (disk ≡ new_state)
+EndsWords (Some (run words)) files disk status old new =
+    EndsInputs (inputs_in words files) (saves_of (Some (run words))) disk status old new
+EndsWords (Some (show words)) files disk status old new =
+    EndsShown (hive_in files words.hive words.log) status old new × (disk ≡ new_state)
+EndsWords (Some (make words)) files disk status old new =
+    EndsMade usual_in words.count (saves_of (Some (make words))) disk status old new
+
+-- ---- what a part of the program leaves
+
+-- which statuses a part of the program ends with, from what was said before to what was said then
+abbrev pub Ending : Type 1
+Ending = Status → List ℕ → List ℕ → Type 0
+
+-- The host is left as the end allows; the files are those that were saved; the disk is off, and untouched after a refusal.
+pub record Decides (ends : Ending) (saves : Saves) (status : Status) (old new : HostState) (disk : DiskState) : Type 0 where
+  pub leaves : Leaves ends status old new
+  pub files : old.tells ≡ true → FilesAs saves status disk.held old.files new.files
   pub off : disk.on ≡ false
   pub untouched : IsUntouchedBy status disk
+
+-- without an obstacle in words and files: no file was asked for, and bad usage or a read fault is no answer any more
+pub record DecidesAlone (ends : Ending) (saves : Saves) (status : Status) (old new : HostState) (disk : DiskState) : Type 0 where
+  pub decides : Decides ends saves status old new disk
   pub unasked : AsksNone old new
   pub kept : status ≡ statuses.Usage → ⊥
   pub unread : status ≡ statuses.ReadFault → ⊥
+
+-- the same of a hive that a script is run on
+abbrev pub DecidesHive : Inputs → Saves → Status → HostState → HostState → DiskState → Type 0
+DecidesHive inputs saves status old new disk = DecidesAlone (EndsHive inputs saves disk) saves status old new disk
+
+-- of all that a run reads
+abbrev pub DecidesRun : RunAsked → Status → HostState → HostState → DiskState → Type 0
+DecidesRun words status old new disk =
+    let saves : Saves = record { hive = words.save_hive; log = words.save_log } in
+    Decides (EndsInputs (inputs_in words old.files) saves disk) saves status old new disk
+
+-- of a hive that is shown, on which no disk depends
+abbrev pub DecidesTree : HiveFiles → Status → HostState → HostState → Type 0
+DecidesTree files status old new = DecidesAlone (EndsShown (Ok files)) no_saves status old new new_state
+
+abbrev pub DecidesShow : ShowAsked → Status → HostState → HostState → Type 0
+DecidesShow words status old new = Decides (EndsShown (hive_in old.files words.hive words.log)) no_saves status old new new_state
+
+-- and of a hive that is made
+abbrev pub MakesAlone : Result Usual Refusal → MakeAsked → Status → HostState → HostState → DiskState → Type 0
+MakesAlone usual words status old new disk =
+    let saves : Saves = record { hive = words.save_hive; log = None } in
+    DecidesAlone (EndsMade usual words.count saves disk) saves status old new disk
+
+-- all that is said of the whole call
+pub record TopDecides (asked : Option Asked) (status : Status) (old new : HostState) (disk : DiskState) : Type 0 where
+  pub decides : Decides (EndsWords asked old.files disk) (saves_of asked) status old new disk
+  pub asks : AsksSoMany (asks_in asked) status old new
+  pub usage : status ≡ statuses.Usage → arguments_in asked ≡ Err Usage
+  pub refused : arguments_in asked ≡ Err Usage → IsToldAs statuses.Usage status

@@ -1,6 +1,6 @@
 -- What a call leaves of the host, and which of its faults it had. This project's own.
 use Rattle.std.specs.Prelude.{◌≡◌, ◌⊎◌, ◌≤◌, ◌+◌, ℕ, zero, suc, true, min, List, Option, Some, None, Result, Ok, Err, IfErr}
-use Rattle.nt_edge.specs.Host.{HostState, KeepsCounts, Counts, IsUnsaid}
+use Rattle.nt_edge.specs.Host.{HostState, KeepsHost, KeepsFiles, KeepsCounts, Counts, IsUnsaid}
 use Rattle.nt_edge.specs.declared.host.HostStop.{HostStop}
 use Rattle.nt_edge.specs.declared.host.HostStop.TheVariants.{Read, Write, Memory as NoMemory}
 use Rattle.ntboot_cli.specs.declared.status.Status.{Status}
@@ -9,12 +9,6 @@ use Rattle.ntboot_cli.specs.declared.refusal.Refusal.{Refusal}
 use Rattle.ntboot_cli.specs.declared.refusal.Refusal.TheVariants.{Usage}
 use Rattle.ntboot_cli.specs.declared.refusal.Obstacle.{Obstacle}
 use Rattle.ntboot_cli.specs.declared.refusal.Obstacle.TheVariants.{Refused, Stopped}
-
--- whether the host tells stays, one that is quiet stays quiet, and the files are as they were, where the host tells them
-pub record Keeps (old new : HostState) : Type 0 where
-  pub tells : new.tells ≡ old.tells
-  pub quiet : old.quiet ≡ true → new.quiet ≡ true
-  pub files : old.tells ≡ true → new.files ≡ old.files
 
 -- the status of a call that the host stopped
 abbrev pub stopped_as : HostStop → Status
@@ -34,13 +28,18 @@ abbrev pub CountsBy : Option HostStop → HostState → HostState → Type 0
 CountsBy None old new = KeepsCounts old new
 CountsBy (Some stop) old new = Counts old new stop
 
--- the status is allowed what was said from the old to the new; the files stay, and a fault is that of the host
+-- the status is allowed what was said from the old to the new, and a fault is that of the host
 pub record Leaves (ends : Status → List ℕ → List ℕ → Type 0) (status : Status) (old new : HostState) : Type 0 where
-  pub keeps : Keeps old new
+  pub keeps : KeepsHost old new
   pub counts : CountsBy (stop_in status) old new
   pub said : old.tells ≡ true → ends status old.said new.said
 
 -- ---- a search of the files
+
+-- how many names these are
+abbrev pub named : Option (List ℕ) → ℕ
+named None = 0
+named (Some name) = 1
 
 -- a count after so many more, up to its end
 abbrev pub more : ℕ → ℕ → ℕ
@@ -93,9 +92,10 @@ CountsObstacle (Ok a) old new = KeepsCounts old new
 CountsObstacle (Err (Refused r)) old new = KeepsCounts old new
 CountsObstacle (Err (Stopped stop)) old new = Counts old new stop
 
--- a search of the files, which says nothing
+-- a search of the files, which says nothing and changes none
 pub record Looks {A : Type 0} (wanted : Result A Refusal) (result : Result A Obstacle) (old new : HostState) : Type 0 where
-  pub keeps : Keeps old new
+  pub keeps : KeepsHost old new
+  pub files : KeepsFiles old new
   pub unsaid : IsUnsaid old new
   pub found : old.tells ≡ true → Gives wanted result
   pub counts : CountsObstacle result old new

@@ -1,4 +1,3 @@
-pub mod Words
 pub mod Views
 pub mod Kinds
 pub mod Exits
@@ -6,4 +5,6 @@ pub mod Inputs
 pub mod Leaves
 pub mod Refusals
 pub mod Placed
+pub mod Saves
+pub mod Made
 pub mod Answer

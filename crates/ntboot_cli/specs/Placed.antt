@@ -1,17 +1,29 @@
 -- What is done to the disk before the run? (this project's own)
-use Rattle.std.specs.Prelude.{◌≡◌, ◌≤◌, ℕ, List, Result, Ok, Err}
+use Rattle.std.specs.Prelude.{◌≡◌, ◌≤◌, ◌+◌, ℕ, List, [], length, take, min, Option, Some, None, unwrap_or, Result, Ok, Err}
 use Rattle.nt_bytes.specs.declared.fault.ReadStop.{ReadStop}
 use Rattle.nt_bytes.specs.declared.fault.ReadStop.TheVariants as read
 use Rattle.nt_edge.specs.Disk.{DiskState, new_state}
-use Rattle.hive_model.specs.Image.{Image, image_of}
+use Rattle.nt_edge.specs.Bench.{placed}
+use Rattle.hive_model.specs.Image.{Log, Image, image_of}
 use Rattle.hive_model.specs.Load.{LoadFault}
 use Rattle.boot_run.specs.Agrees.{LoadsAny}
+use Rattle.ntboot_cli.specs.declared.inputs.HiveFiles.{HiveFiles}
 use Rattle.ntboot_cli.specs.declared.status.Status.{Status}
 use Rattle.ntboot_cli.specs.declared.status.Status.TheVariants.{Done, WriteFault, Memory}
+use Rattle.ntboot_cli.specs.Leaves.{named}
 
--- a hive and its log were placed on a new disk, which is off: two placings, and nothing else was done to it
-abbrev pub placed_disk : List ℕ → List ℕ → DiskState
-placed_disk hive log = record new_state { held = image_of hive log; history = record new_state.history { placings = 2 } }
+-- the image of a hive and its log, which is absent where the words name none
+abbrev pub image_in : HiveFiles → Image
+image_in files = image_of files.primary (unwrap_or files.log [])
+
+-- each file that the words name was placed on a new disk, which is off, and nothing else was done to it
+abbrev pub placed_disk : HiveFiles → DiskState
+placed_disk files = record new_state { held = image_in files; history = record new_state.history { placings = 1 + named files.log } }
+
+-- with the first 32 MiB of a log placed behind, where there is one
+abbrev pub with_log : Option (List ℕ) → DiskState → DiskState
+with_log None disk = disk
+with_log (Some log) disk = placed Log (take (min (length log) 33554432) log) disk
 
 -- nothing was done to a new disk but that at most one file was placed
 pub record IsUnrun (disk : DiskState) : Type 0 where

@@ -39,9 +39,9 @@ refusal r = record { status = refusal_status r; text = refusal_text r }
 
 -- ---- how a call ends
 
--- the refusal's status, or that of a stop while its line was said
-abbrev pub IsRefusedAs : Refusal → Status → Type 0
-IsRefusedAs r status = (status ≡ refusal_status r) ⊎ ((status ≡ statuses.WriteFault) ⊎ (status ≡ statuses.Memory))
+-- this status, or that of a stop while something was said
+abbrev pub IsToldAs : Status → Status → Type 0
+IsToldAs told status = (status ≡ told) ⊎ ((status ≡ statuses.WriteFault) ⊎ (status ≡ statuses.Memory))
 
 -- where the outside stopped, nothing was said at a read fault, and else a front of the text
 abbrev pub StopsBy : Option HostStop → List ℕ → List ℕ → List ℕ → Type 0

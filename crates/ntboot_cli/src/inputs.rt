@@ -1,30 +1,38 @@
-//! What a run reads: one step after the other, up to the first obstacle.
+//! What a command reads: one step after the other, up to the first obstacle.
 
-ghost use Rattle.std.specs.Prelude.{◌≡◌, None, Err, map, string_bytes, option_map, IfOk};
+ghost use Rattle.std.specs.Prelude.{◌≡◌, Some, Err, option_map, IfOk};
 ghost use Rattle.std.specs.List.{All};
 ghost use Rattle.arc_path.specs.Reading.{arc_of};
 ghost use Rattle.boot_script.specs.Script.{script_of, HasCounts};
 ghost use Rattle.nt_edge.specs.Host.{Asks};
-ghost use Rattle.ntboot_cli.specs.Inputs.{arguments_in, inputs_in, system_in, events_in, file_in, bytes_in, hive_in, ini_in, named, AsksHive, AsksInputs};
-ghost use Rattle.ntboot_cli.specs.Leaves.{Looks, Reads, IsBadUsage, more};
+ghost use Rattle.command_words.specs.Words as book;
+ghost use Rattle.command_words.specs.Views.{run_seen};
+ghost use Rattle.ntboot_cli.specs.Inputs.{arguments_in, inputs_in, system_in, events_in, file_in, bytes_in, log_in, hive_in, ini_in, AsksHive, AsksRun};
+ghost use Rattle.ntboot_cli.specs.Leaves.{Looks, Reads, IsBadUsage, more, named};
 
 use crate::refusal::{Obstacle, Refusal};
-use crate::words::read_words;
 use arc_path::{Arc, ArcStop, read_arc};
 use boot_ini::{BootIni, IniStop, read_boot_ini};
 use boot_script::{Script, ScriptStop, read_script};
+use command_words::RunWords;
 use nt_bytes::Bytes;
 use nt_edge::{Host, HostStop};
 use std::alloc::Global;
 
-/// All that a run reads. An empty log is an absent one.
+/// A hive's file, and that of its log where the words name one.
+#[derive(Drop)]
+pub struct HiveFiles {
+    pub primary: Bytes,
+    pub log: Option<Bytes>,
+}
+
+/// All that a run reads.
 #[derive(Drop)]
 pub struct Inputs {
     pub system: Arc,
     pub ini: BootIni,
     pub script: Script,
-    pub hive: Bytes,
-    pub log: Bytes,
+    pub hive: HiveFiles,
 }
 
 /// There was no memory.
@@ -35,7 +43,7 @@ fn no_memory() -> Obstacle
 }
 
 /// The system that a path names.
-fn system_in(alloc: Global, path: &[u8]) -> Result<Arc, Obstacle>
+pub(crate) fn system_in(alloc: Global, path: &[u8]) -> Result<Arc, Obstacle>
     ensures { Reads (system_in (arc_of path.now)) result }
 {
     match read_arc(alloc, path) {
@@ -93,7 +101,7 @@ fn events_in(alloc: Global, text: &[u8]) -> Result<Script, Obstacle>
 }
 
 /// The entries of boot.ini's text, for a system of this path.
-fn ini_in(alloc: Global, text: &[u8], system: &[u8]) -> Result<BootIni, Obstacle>
+pub(crate) fn ini_in(alloc: Global, text: &[u8], system: &[u8]) -> Result<BootIni, Obstacle>
     ensures { Reads (ini_in text.now system.now) result }
 {
     match read_boot_ini(alloc, text, system) {
@@ -104,48 +112,60 @@ fn ini_in(alloc: Global, text: &[u8], system: &[u8]) -> Result<BootIni, Obstacle
     }
 }
 
-/// The hive and its log.
-fn hive_in<H: Host>(
+/// The bytes of the log, where the words name one.
+fn log_in<H: Host>(
+    alloc: Global,
+    host: &mut H,
+    name: Option<&str>,
+) -> Result<Option<Bytes>, Obstacle>
+    ensures looks { Looks (log_in (H.state host.old).files (option_map (λ v. v.now) name.entry)) result (H.state host.old) (H.state host.new) }
+    ensures asks { (H.state host.new).gets ≡ more (named (option_map (λ v. v.now) name.entry)) (H.state host.old).gets }
+    ensures kept { result ≡ Err (Obstacle.Refused Refusal.Usage) → ⊥ }
+{
+    match name {
+        Some(name) => Ok(Some(file_in(alloc, host, name)?)),
+        None => Ok(None),
+    }
+}
+
+/// The hive and its log, or the first obstacle. Nothing is said.
+pub(crate) fn hive_in<H: Host>(
     alloc: Global,
     host: &mut H,
     hive: &str,
     log: Option<&str>,
-) -> Result<(Bytes, Bytes), Obstacle>
+) -> Result<HiveFiles, Obstacle>
     ensures looks { Looks (hive_in (H.state host.old).files hive.now (option_map (λ v. v.now) log.entry)) result (H.state host.old) (H.state host.new) }
     ensures asks { AsksHive hive.now (option_map (λ v. v.now) log.entry) result (H.state host.old) (H.state host.new) }
     ensures kept { result ≡ Err (Obstacle.Refused Refusal.Usage) → ⊥ }
 {
-    let hive = file_in(alloc, host, hive)?;
-    let log = bytes_in(alloc, host, log)?;
-    Ok((hive, log))
+    let primary = file_in(alloc, host, hive)?;
+    let log = log_in(alloc, host, log)?;
+    Ok(HiveFiles { primary, log })
 }
 
 /// What the words and files have for a run, or the first obstacle. Nothing is said.
 pub(crate) fn inputs_in<H: Host>(
     alloc: Global,
-    words: &[String],
+    words: RunWords<'_>,
     host: &mut H,
 ) -> Result<Inputs, Obstacle>
-    ensures looks { Looks (inputs_in (map string_bytes words.now) (H.state host.old).files) result (H.state host.old) (H.state host.new) }
-    ensures asks { AsksInputs (map string_bytes words.now) result (H.state host.old) (H.state host.new) }
+    ensures looks { Looks (inputs_in (run_seen words.entry) (H.state host.old).files) result (H.state host.old) (H.state host.new) }
+    ensures asks { AsksRun (run_seen words.entry) result (H.state host.old) (H.state host.new) }
     ensures counts { IfOk result (λ inputs. All HasCounts inputs.script) }
-    ensures usage { result ≡ Err (Obstacle.Refused Refusal.Usage) → arguments_in (map string_bytes words.now) ≡ Err Refusal.Usage }
-    ensures refused { arguments_in (map string_bytes words.now) ≡ Err Refusal.Usage → IsBadUsage result }
+    ensures usage { result ≡ Err (Obstacle.Refused Refusal.Usage) → arguments_in (Some (book.run (run_seen words.entry))) ≡ Err Refusal.Usage }
+    ensures refused { arguments_in (Some (book.run (run_seen words.entry))) ≡ Err Refusal.Usage → IsBadUsage result }
 {
-    let Some(asked) = read_words(words) else {
-        return Err(Obstacle::Refused(Refusal::Usage));
-    };
-    let system = system_in(alloc, asked.system.as_bytes())?;
-    let script = file_in(alloc, host, asked.script)?;
+    let system = system_in(alloc, words.system.as_bytes())?;
+    let script = file_in(alloc, host, words.script)?;
     let script = events_in(alloc, script.as_slice())?;
-    let text = bytes_in(alloc, host, asked.boot_ini)?;
-    let ini = ini_in(alloc, text.as_slice(), asked.system.as_bytes())?;
-    let (hive, log) = hive_in(alloc, host, asked.hive, asked.log)?;
+    let text = bytes_in(alloc, host, words.boot_ini)?;
+    let ini = ini_in(alloc, text.as_slice(), words.system.as_bytes())?;
+    let hive = hive_in(alloc, host, words.hive, words.log)?;
     Ok(Inputs {
         system,
         ini,
         script,
         hive,
-        log,
     })
 }

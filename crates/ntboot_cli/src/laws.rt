@@ -1,24 +1,26 @@
 //! What follows for a run that was said whole, or given up.
 
-ghost use Rattle.std.specs.Prelude.{◌≡◌, ◌++◌, ℕ, List, Option};
+ghost use Rattle.std.specs.Prelude.{◌≡◌, ◌⊎◌, ◌+◌, ℕ, List, Option, Ok};
+ghost use Rattle.std.specs.Option.{IsSome};
+ghost use Rattle.hive_model.specs.Image.{Primary, Log, IsFileOf, image_of};
+ghost use Rattle.hive_model.specs.Load.{Loads};
 ghost use Rattle.nt_edge.specs.Disk.{DiskState};
 ghost use Rattle.start_model.specs.Report.{Going};
 ghost use Rattle.start_model.specs.Events.{Event as BookEvent};
-ghost use Rattle.start_model.specs.Fits.{outcomes_of, KeepsGood};
-ghost use Rattle.start_model.specs.Lines.{text_of};
-ghost use Rattle.start_model.specs.Run.{Choice, Woken, run_of, quiet_run_of};
+ghost use Rattle.start_model.specs.Fits.{outcomes_of, KeepsGood, MayLoad};
+ghost use Rattle.start_model.specs.Run.{Choice, Woken, run_of};
 ghost use Rattle.start_model.specs.Summary.{Summary, no_summary};
-ghost use Rattle.run_laws.specs.Quiet.{AllFinished};
 ghost use Rattle.run_parts.specs.Reports.{Reports, ReportsFront};
-ghost use Rattle.ntboot_cli.specs.Answer.{told};
-ghost use Rattle.ntboot_cli.specs.Placed.{placed_disk};
-
-/// Where a report tells of no cut and no device fault, it is the text of the quiet run.
-pub fn a_report_without_a_stop_is_the_quiet_run()
-    ensures { (choice : Option ℕ → Choice) (script : List BookEvent) (placed : Woken) (summary : Summary) (old new : List ℕ)
-        (before after : DiskState) (r : Reports (run_of choice script placed) (told old no_summary) (told new summary) before after)
-        → AllFinished (outcomes_of r.text) → new ≡ old ++ text_of (quiet_run_of choice script placed).lines }
-{}
+ghost use Rattle.saved_laws.specs.Saved.{HasUntornBlock};
+ghost use Rattle.ntboot_cli.specs.declared.inputs.HiveFiles.{HiveFiles};
+ghost use Rattle.ntboot_cli.specs.declared.inputs.Inputs.{Inputs};
+ghost use Rattle.ntboot_cli.specs.declared.making.Usual.{Usual};
+ghost use Rattle.ntboot_cli.specs.declared.status.Status.{Status};
+ghost use Rattle.ntboot_cli.specs.Answer.{RunsWhole, EndsInputs};
+ghost use Rattle.ntboot_cli.specs.Leaves.{more, named, stop_in};
+ghost use Rattle.ntboot_cli.specs.Made.{told, usual_in, made_run, IsMade};
+ghost use Rattle.ntboot_cli.specs.Placed.{image_in, placed_disk};
+ghost use Rattle.ntboot_cli.specs.Saves.{Saves};
 
 /// Over every script and whatever came of its disk operations, LastKnownGood names a good set in each tree that was loaded or
 /// committed, and in each that the disk may load as afterwards: where the report was said whole, and where the run was given up.
@@ -31,14 +33,40 @@ pub fn a_run_keeps_last_known_good()
         → let run = run_of choice script placed r.report.woken (outcomes_of r.text) in KeepsGood run.notes run.disk }
 {}
 
-/// Two files were placed for a run, and none was taken: where the report was said whole, and where the run was given up.
-pub fn a_run_has_two_files_placed_and_none_taken()
-    ensures placed { (run : Going) (summary : Summary) (old new hive log : List ℕ) (after : DiskState)
-        → Reports run (told old no_summary) (told new summary) (placed_disk hive log) after → after.history.placings ≡ 2 }
-    ensures untaken { (run : Going) (summary : Summary) (old new hive log : List ℕ) (after : DiskState)
-        → Reports run (told old no_summary) (told new summary) (placed_disk hive log) after → after.history.takings ≡ 0 }
-    ensures placed_front { (run : Going) (old new hive log : List ℕ) (after : DiskState)
-        → ReportsFront run old new (placed_disk hive log) after → after.history.placings ≡ 2 }
-    ensures untaken_front { (run : Going) (old new hive log : List ℕ) (after : DiskState)
-        → ReportsFront run old new (placed_disk hive log) after → after.history.takings ≡ 0 }
+/// Each file of the hive that the words name was placed for a run, and each that they want saved was taken: where all was done. Where
+/// the run was given up, no file was taken.
+pub fn a_run_places_and_takes_the_named_files()
+    ensures placed { (inputs : Inputs) (woken : Woken) (taken : ℕ) (after : DiskState) (old new : List ℕ)
+        → RunsWhole inputs woken taken (placed_disk inputs.hive) after old new → after.history.placings ≡ 1 + named inputs.hive.log }
+    ensures taken { (inputs : Inputs) (woken : Woken) (taken : ℕ) (after : DiskState) (old new : List ℕ)
+        → RunsWhole inputs woken taken (placed_disk inputs.hive) after old new → after.history.takings ≡ more taken 0 }
+    ensures placed_front { (run : Going) (files : HiveFiles) (after : DiskState) (old new : List ℕ)
+        → ReportsFront run old new (placed_disk files) after → after.history.placings ≡ 1 + named files.log }
+    ensures untaken_front { (run : Going) (files : HiveFiles) (after : DiskState) (old new : List ℕ)
+        → ReportsFront run old new (placed_disk files) after → after.history.takings ≡ 0 }
+{}
+
+/// Where the words and files have no obstacle and the hive is well-formed, a run ends as done, unless the outside stopped it or there
+/// was no memory.
+pub fn a_well_formed_hive_is_run()
+    ensures { (inputs : Inputs) (saves : Saves) (placed : Woken) (disk : DiskState) (status : Status) (old new : List ℕ)
+        → Loads (image_in inputs.hive) placed.state placed.dirty → EndsInputs (Ok inputs) saves disk status old new
+        → (status ≡ Status.Done) ⊎ IsSome (stop_in status) }
+{}
+
+/// The two files of the disk behind a run, or behind the run of a generated hive, load as its last state says: as the settled state,
+/// or as the other one of an open change. The hive's first sector has to be one that can be read.
+pub fn what_was_saved_loads_as_the_run_says()
+    ensures run { (inputs : Inputs) (placed : Woken) (count : ℕ) (before : DiskState) (after : DiskState) (old new hive log : List ℕ)
+        (r : RunsWhole inputs placed count before after old new)
+        → IsFileOf after.held Primary hive → IsFileOf after.held Log log → HasUntornBlock after.held
+        → MayLoad r.reports.report.last.disk (image_of hive log) }
+    ensures made { (usual : Usual) (count saved : ℕ) (disk : DiskState) (hive log : List ℕ)
+        → IsMade usual count saved disk → IsFileOf disk.held Primary hive → IsFileOf disk.held Log log → HasUntornBlock disk.held
+        → MayLoad (made_run usual count).state.disk (image_of hive log) }
+{}
+
+/// The usual system and an empty boot.ini are read, so that `make` has no obstacle.
+pub fn make_has_no_obstacle()
+    ensures { (usual : Usual) × (usual_in ≡ Ok usual) }
 {}

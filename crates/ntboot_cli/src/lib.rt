@@ -1,34 +1,39 @@
-//! The top call: words in, report out.
+//! The top call: words in; a report, a tree or a line out; and what the disk then holds saved.
 //!
-//! `ntboot` reads the words, then the files that they name, and runs the script on a disk, or says the refusal's one line.
+//! `ntboot` reads the words, and runs a script on a disk (`run`), says a hive's tree (`show`), or starts a generated hive once
+//! (`make`); or it says the one line of the first obstacle.
 //!
 //! From `main` of the crate `ntboot` to the last line of a report, ten steps:
 //!
 //! 1. `main` makes a disk in memory, and hands the words, the real host and the disk to the top call (`ntboot/src/main.rt`).
-//! 2. The top call gets the inputs, and then checks, places and runs, or refuses (`top.rt`).
-//! 3. The words name the files, and the system (`words.rt`).
-//! 4. The inputs are asked for one after the other, up to the first obstacle (`inputs.rt`).
-//! 5. An obstacle is said in one line and has its status (`refusal.rt`, `kinds.rt`, `status.rt`).
-//! 6. The hive and its log are checked whole, and placed on the disk (`placing.rt`).
-//! 7. The run plays the script event by event, and then closes it (`boot_run/src/whole.rt`, `turning.rt`).
-//! 8. A `boot` chooses the entry, loads the hive, takes the set, and begins the start (`boot_run/src/booting.rt`, `beginning.rt`).
-//! 9. A `go` attempts entries and changes phases (`boot_run/src/starter.rt`); a logon, a flush or an end commits
-//!    (`boot_run/src/saving.rt`, `closing.rt`, `committing.rt`).
-//! 10. Each line is said behind the step that it tells of, to the last one, `end` (`boot_run/src/saying.rt`).
+//! 2. The top call reads the words (`command_words/src/words.rt`), and does what they ask for (`top.rt`): `running.rt`, `showing.rt` or
+//!    `making.rt`.
+//! 3. The inputs of a run are asked for one after the other, up to the first obstacle (`inputs.rt`), which is said in one line and has
+//!    its status (`refusal.rt`, `kinds.rt`, `status.rt`).
+//! 4. The hive and its log are checked whole, and placed on the disk (`placing.rt`).
+//! 5. The run plays the script event by event, and then closes it (`boot_run/src/whole.rt`, `turning.rt`).
+//! 6. A `boot` chooses the entry, loads the hive, takes the set, and begins the start (`boot_run/src/booting.rt`, `beginning.rt`).
+//! 7. A `go` attempts entries and changes phases (`boot_run/src/starter.rt`).
+//! 8. A logon, a flush or an end commits (`boot_run/src/saving.rt`, `closing.rt`, `committing.rt`).
+//! 9. Each line is said behind the step that it tells of, to the last one, `end` (`boot_run/src/saying.rt`).
+//! 10. The two files of the disk are saved under the names that the words have for them (`saving.rt`).
 #![tactic(auto)]
 
 mod inputs;
 mod kinds;
 mod laws;
+mod making;
 mod placing;
 mod refusal;
+mod running;
+mod saving;
+mod showing;
 mod status;
 mod top;
-mod words;
 
 pub use laws::{
-    a_report_without_a_stop_is_the_quiet_run, a_run_has_two_files_placed_and_none_taken,
-    a_run_keeps_last_known_good,
+    a_run_keeps_last_known_good, a_run_places_and_takes_the_named_files, a_well_formed_hive_is_run,
+    make_has_no_obstacle, what_was_saved_loads_as_the_run_says,
 };
 pub use status::Status;
 pub use top::ntboot;

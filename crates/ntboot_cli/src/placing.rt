@@ -1,13 +1,15 @@
 //! A hive and its log, checked and placed on the disk.
 
-ghost use Rattle.std.specs.Prelude.{◌≡◌, false, length, min, take, OnOk, OnErr};
-ghost use Rattle.hive_model.specs.Image.{image_of};
+ghost use Rattle.std.specs.Prelude.{◌≡◌, false, [], length, min, take, unwrap_or, OnOk, OnErr};
+ghost use Rattle.hive_store.specs.Checks.{ChecksAs};
 ghost use Rattle.nt_edge.specs.Disk.{new_state};
-ghost use Rattle.ntboot_cli.specs.Placed.{placed_disk, IsChecked, IsUnrun};
+ghost use Rattle.ntboot_cli.specs.Placed.{image_in, placed_disk, with_log, IsChecked, IsUnrun};
 
+use crate::inputs::HiveFiles;
 use hive_store::check_images;
-use nt_bytes::ReadStop;
+use nt_bytes::{Bytes, HiveVersion, ReadStop};
 use nt_edge::{Bench, DiskStop, HiveFile};
+use reg_tree::Key;
 use std::alloc::Global;
 
 /// The greatest file on a disk, in bytes: 65,536 sectors of 512.
@@ -20,20 +22,50 @@ fn front(bytes: &[u8]) -> &[u8]
     &bytes[..bytes.len().min(MOST)]
 }
 
-/// Checks a whole hive with its log, as the run will load it.
-pub(crate) fn check(alloc: Global, hive: &[u8], log: &[u8]) -> Result<(), ReadStop>
-    ensures { IsChecked (image_of hive.now log.now) result }
+/// The bytes of a log, none where there is no log.
+fn log_bytes(log: &Option<Bytes>) -> &[u8]
+    ensures { result.now ≡ unwrap_or log.now [] }
 {
-    let _loaded = check_images(alloc, hive, log)?;
+    match log {
+        Some(log) => log.as_slice(),
+        None => &[],
+    }
+}
+
+/// Reads a whole hive with its log, as a start will load it: the tree, its sequence number and its version.
+pub(crate) fn read(alloc: Global, files: &HiveFiles) -> Result<(Key, u32, HiveVersion), ReadStop>
+    ensures { ChecksAs (image_in files.now) result }
+{
+    check_images(alloc, files.primary.as_slice(), log_bytes(&files.log))
+}
+
+/// Checks a whole hive with its log, and keeps no memory.
+pub(crate) fn check(alloc: Global, files: &HiveFiles) -> Result<(), ReadStop>
+    ensures { IsChecked (image_in files.now) result }
+{
+    let _read = read(alloc, files)?;
     Ok(())
 }
 
-/// Places a hive and its log, of each the first 32 MiB, on a new disk.
-pub(crate) fn place<B: Bench>(hive: &[u8], log: &[u8], bench: &mut B) -> Result<(), DiskStop>
+/// Places the log on the disk, where there is one.
+fn place_log<B: Bench>(log: &Option<Bytes>, bench: &mut B) -> Result<(), DiskStop>
+    requires off { (B.state bench.old).on ≡ false }
+    requires still { (B.state bench.old).flight ≡ [] }
+    ensures placed { OnOk result (B.state bench.new ≡ with_log log.now (B.state bench.old)) }
+    ensures before { OnErr result (B.state bench.new ≡ B.state bench.old) }
+{
+    match log {
+        Some(log) => bench.place(HiveFile::Log, front(log.as_slice())),
+        None => Ok(()),
+    }
+}
+
+/// Places a hive and its log, where there is one, of each the first 32 MiB, on a new disk.
+pub(crate) fn place<B: Bench>(files: &HiveFiles, bench: &mut B) -> Result<(), DiskStop>
     requires fresh { B.state bench.old ≡ new_state }
-    ensures placed { OnOk result (B.state bench.new ≡ placed_disk hive.now log.now) }
+    ensures placed { OnOk result (B.state bench.new ≡ placed_disk files.now) }
     ensures unrun { OnErr result (IsUnrun (B.state bench.new)) }
 {
-    bench.place(HiveFile::Primary, front(hive))?;
-    bench.place(HiveFile::Log, front(log))
+    bench.place(HiveFile::Primary, front(files.primary.as_slice()))?;
+    place_log(&files.log, bench)
 }

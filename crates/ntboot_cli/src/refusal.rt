@@ -1,10 +1,10 @@
-//! Why a run is not begun, and how that is said.
+//! Why a command is not begun, and how that is said.
 
-ghost use Rattle.std.specs.Prelude.{◌≡◌, ◌++◌, IfOk, codes};
+ghost use Rattle.std.specs.Prelude.{◌≡◌, ◌++◌, None, IfOk, codes};
 ghost use Rattle.std.specs.Fmt.{decimal};
-ghost use Rattle.nt_edge.specs.Host.{AsksNone};
-ghost use Rattle.ntboot_cli.specs.Refusals.{IsRefusedAs, Ends, refusal, refusal_text, refusal_status};
-ghost use Rattle.ntboot_cli.specs.Leaves.{Leaves, stopped_as};
+ghost use Rattle.nt_edge.specs.Host.{AsksNone, KeepsFiles};
+ghost use Rattle.ntboot_cli.specs.Refusals.{IsToldAs, Ends, refusal, refusal_text, refusal_status};
+ghost use Rattle.ntboot_cli.specs.Leaves.{Leaves, stop_in, stopped_as};
 
 use crate::kinds::{hive_kind, script_kind};
 use crate::status::Status;
@@ -98,17 +98,29 @@ fn refusal_status(refusal: &Refusal) -> Status
     }
 }
 
+/// Says a text, and answers this status; or that of the host's stop.
+pub(crate) fn tell<H: Host>(host: &mut H, text: &[u8], status: Status) -> Status
+    requires ends { stop_in status ≡ None }
+    ensures leaves { Leaves (Ends (record { status = status; text = text.now })) result (H.state host.old) (H.state host.new) }
+    ensures files { KeepsFiles (H.state host.old) (H.state host.new) }
+    ensures unasked { AsksNone (H.state host.old) (H.state host.new) }
+    ensures kept { IsToldAs status result }
+{
+    match host.say(text) {
+        Ok(()) => status,
+        Err(stop) => stopped(stop),
+    }
+}
+
 /// Says the line of a refusal, and answers its status; or that of the host's stop.
 pub(crate) fn refuse<H: Host>(alloc: Global, host: &mut H, why: &Refusal) -> Status
     ensures leaves { Leaves (Ends (refusal why.now)) result (H.state host.old) (H.state host.new) }
+    ensures files { KeepsFiles (H.state host.old) (H.state host.new) }
     ensures unasked { AsksNone (H.state host.old) (H.state host.new) }
-    ensures kept { IsRefusedAs why.now result }
+    ensures kept { IsToldAs (refusal_status why.now) result }
 {
-    let Ok(line) = refusal_line(alloc, why) else {
-        return Status::Memory;
-    };
-    match host.say(line.as_slice()) {
-        Ok(()) => refusal_status(why),
-        Err(stop) => stopped(stop),
+    match refusal_line(alloc, why) {
+        Ok(line) => tell(host, line.as_slice(), refusal_status(why)),
+        Err(_) => Status::Memory,
     }
 }

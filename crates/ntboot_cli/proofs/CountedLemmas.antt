@@ -1,0 +1,89 @@
+-- The number of services that words ask for is from 1 to 10000.
+use Rattle.std.proofs.Common.{◌≡◌, ◌≤◌, ◌&&◌, ℕ, Bool, true, false, List, [], ◌∷◌, Option, Some, None, if◌then◌else◌, cond, sym, subst, refl}
+use Rattle.std.specs.Prelude.{IfSome, option_map, option_and_then, nat_le, length, bytes_eq, codes}
+use Rattle.std.proofs.lemmas.Bool.{leb-true}
+use Rattle.std.specs.Str.Parse.{digits_value}
+use Rattle.nt_bytes.specs.Text.{is_digits}
+use Rattle.command_words.specs.Words.{Text, Look, CommandForm, Asked, run, show, make, RunAsked, ShowAsked, MakeAsked, number_name, count_of, is_count, run_by, show_by, make_by, run_form, show_form, make_form, asked_by, named_command, given_by, given_value, command_of}
+
+-- a number to be made is one of those that can be made
+abbrev pub IsCounted : Asked → Type 0
+IsCounted (run w) = Unit {0}
+IsCounted (show w) = Unit {0}
+IsCounted (make w) = (1 ≤ w.count) × (w.count ≤ 10000)
+
+-- ---- options
+
+by_then : {A B : Type 0} (P : B → Type 0) (f : A → Option B) (o : Option A) → ((a : A) → IfSome (f a) P) → IfSome (option_and_then f o) P
+by_then P f None each = tt
+by_then P f (Some a) each = each a
+
+by_map : {A B : Type 0} (P : B → Type 0) (Q : A → Type 0) (f : A → B) (o : Option A) → IfSome o Q → ((a : A) → Q a → P (f a)) → IfSome (option_map f o) P
+by_map P Q f None here each = tt
+by_map P Q f (Some a) here each = each a here
+
+by_any : {A B : Type 0} (P : B → Type 0) (f : A → B) (o : Option A) → ((a : A) → P (f a)) → IfSome (option_map f o) P
+by_any P f None each = tt
+by_any P f (Some a) each = each a
+
+by_either : {B : Type 0} (P : B → Type 0) (b : Bool) (x y : Option B) → IfSome x P → IfSome y P → IfSome (if b then x else y) P
+by_either P true x y here there = here
+by_either P false x y here there = there
+
+by_test : {B : Type 0} (P : B → Type 0) (b : Bool) (x : B) → (b ≡ true → P x) → IfSome (if b then Some x else None) P
+by_test P true x here = here refl
+by_test P false x here = tt
+
+-- ---- the words
+
+both : (a b : Bool) → (a && b) ≡ true → (a ≡ true) × (b ≡ true)
+both true b e = (refl, e)
+both false b e = absurd cc
+
+in_range : (a b : Bool) (n : ℕ) → (a && (b && (nat_le 1 n && nat_le n 10000))) ≡ true → (1 ≤ n) × (n ≤ 10000)
+in_range a b n e =
+    let first = both a (b && (nat_le 1 n && nat_le n 10000)) e in
+    let second = both b (nat_le 1 n && nat_le n 10000) first.1 in
+    let last = both (nat_le 1 n) (nat_le n 10000) second.1 in
+    (leb-true 1 n last.0, leb-true n 10000 last.1)
+
+count_counted : (text : Text) → IfSome (count_of text) (λ n. (1 ≤ n) × (n ≤ 10000))
+count_counted text =
+    let value : ℕ = digits_value 10 text in
+    by_test (λ n. (1 ≤ n) × (n ≤ 10000)) (is_digits text && (nat_le (length text) 5 && is_count value)) value
+    (in_range (is_digits text) (nat_le (length text) 5) value)
+
+run_counted : (look : Look) → IfSome (run_by look) IsCounted
+run_counted look = by_then IsCounted _ (look (codes "hive")) (λ hive. by_any IsCounted _ (look (codes "script")) (λ script. tt))
+
+show_counted : (look : Look) → IfSome (show_by look) IsCounted
+show_counted look = by_any IsCounted _ (look (codes "hive")) (λ hive. tt)
+
+make_counted : (look : Look) → IfSome (make_by look) IsCounted
+make_counted look =
+    by_then IsCounted _ (look number_name) (λ text. by_map IsCounted (λ n. (1 ≤ n) × (n ≤ 10000)) _ (count_of text) (count_counted text) (λ n range. range))
+
+asked_counted : (form : CommandForm) (by : Look → Option Asked) (words : List Text) → ((look : Look) → IfSome (by look) IsCounted) → IfSome (asked_by form by words) IsCounted
+asked_counted form by words each = by_then IsCounted _ _ (λ given. each (λ name. given_value name given))
+
+named_counted : (command : Text) (words : List Text) → IfSome (named_command command words) IsCounted
+named_counted command words =
+    let as_run = asked_by run_form run_by words in
+    let as_show = asked_by show_form show_by words in
+    let as_make = asked_by make_form make_by words in
+    let is_make = bytes_eq (codes "make") command in
+    let is_show = bytes_eq (codes "show") command in
+    let last : IfSome (if is_make then as_make else None) IsCounted =
+    by_either IsCounted is_make as_make None (asked_counted make_form make_by words make_counted) tt in
+    let later : IfSome (if is_show then as_show else if is_make then as_make else None) IsCounted =
+    by_either IsCounted is_show as_show (if is_make then as_make else None) (asked_counted show_form show_by words show_counted) last in
+    by_either IsCounted (bytes_eq (codes "run") command) as_run (if is_show then as_show else if is_make then as_make else None)
+    (asked_counted run_form run_by words run_counted) later
+
+all_counted : (words : List Text) → IfSome (command_of words) IsCounted
+unfolding command_of
+all_counted [] = tt
+all_counted (command ∷ words) = named_counted command words
+
+pub counted : (words : List Text) (asked : Asked) → command_of words ≡ Some asked → IsCounted asked
+counted words asked is = (let P : Option Asked → Type 0 = λ o. IfSome o IsCounted in subst P is (all_counted words))

@@ -1,0 +1,18 @@
+use Rattle.std.proofs.Common.{subst}
+use Rattle.std.specs.Prelude.{Err}
+use Rattle.command_words.specs.Views.{make_seen}
+use Rattle.ntboot_cli.specs.declared.refusal.Obstacle.{Obstacle}
+use Rattle.ntboot_cli.specs.Leaves.{Reads}
+use Rattle.ntboot_cli.specs.Made.{usual_in}
+use Rattle.ntboot_cli.proofs.UsualLemmas.{never_refused, unread_usual}
+use Rattle.ntboot_cli.proofs.making.make.Goals as goal
+
+pub returns-in-Err-Refused : goal.returns-in-Err-Refused
+returns-in-Err-Refused g c =
+    absurd (never_refused c.in-Err-Refused.why (subst (λ (o : Obstacle). Reads usual_in (Err o)) c.in-Err-Refused.field-0-is c.in-Err-Refused.ensures))
+
+pub returns-in-Err-Stopped : goal.returns-in-Err-Stopped
+returns-in-Err-Stopped g c =
+    let reads = subst (λ (o : Obstacle). Reads usual_in (Err o)) c.in-Err-Stopped.field-0-is c.in-Err-Stopped.ensures in
+    rw c.stopped.ensures
+    (unread_usual (make_seen c.args.words) c.in-Err-Stopped.stop (g.H.Host.state c.args.host.now) (g.B.Disk.state c.args.bench.now) c.requires.fresh reads)

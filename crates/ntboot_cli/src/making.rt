@@ -1,0 +1,189 @@
+//! `make`: a generated hive, started once, and what that came to.
+
+ghost use Rattle.std.specs.Prelude.{◌≡◌, ◌≤◌, ◌++◌, Ok, false, IfOk, OnOk, OnErr, option_map};
+ghost use Rattle.std.specs.Fmt.{decimal};
+ghost use Rattle.nt_edge.specs.Crash.{EachCrash};
+ghost use Rattle.nt_edge.specs.Disk.{new_state};
+ghost use Rattle.hive_model.specs.Image.{Image};
+ghost use Rattle.hive_model.specs.Load.{Loads};
+ghost use Rattle.boot_run.specs.Agrees.{IsDown};
+ghost use Rattle.boot_run.specs.Views.{summary_in};
+ghost use Rattle.boot_report.specs.Report.{verdict_of};
+ghost use Rattle.start_model.specs.Run.{Woken};
+ghost use Rattle.start_model.specs.Summary.{summary_of};
+ghost use Rattle.command_words.specs.Views.{make_seen};
+ghost use Rattle.ntboot_cli.specs.Answer.{MakesAlone};
+ghost use Rattle.ntboot_cli.specs.Leaves.{Reads};
+ghost use Rattle.ntboot_cli.specs.Made.{usual_in, summary_text, last_word, made_run, PlaysMade, IsMade, IsPartMade};
+ghost use Rattle.ntboot_cli.specs.Saves.{FinishesAs};
+ghost use Rattle.ntboot_cli.specs.Views.{saves_seen};
+
+use crate::inputs::{HiveFiles, ini_in, system_in};
+use crate::placing::place;
+use crate::refusal::{Obstacle, refuse, stopped, tell};
+use crate::saving::{Saves, save, saved};
+use crate::status::Status;
+use arc_path::Arc;
+use boot_ini::BootIni;
+use boot_report::{Verdict, verdict_text};
+use boot_run::Summary;
+use boot_script::Event;
+use command_words::{MakeWords, USUAL_SYSTEM};
+use generated_hive::generated_hive;
+use mem_edge::QuietHost;
+use nt_edge::{Bench, Host};
+use std::alloc::{AllocError, Global};
+
+/// The system and the boot.ini of a machine where nothing else is said.
+#[derive(Drop)]
+pub struct Usual {
+    pub system: Arc,
+    pub ini: BootIni,
+}
+
+/// The usual system, and a boot.ini without text.
+fn usual_in(alloc: Global) -> Result<Usual, Obstacle>
+    ensures { Reads usual_in result }
+{
+    let path = USUAL_SYSTEM.as_bytes();
+    let system = system_in(alloc, path)?;
+    let ini = ini_in(alloc, &[], path)?;
+    Ok(Usual { system, ini })
+}
+
+/// Runs what is placed once, up to a good logon, on a host of its own.
+fn play<B: Bench>(alloc: Global, usual: &Usual, bench: &mut B) -> Result<Summary, AllocError>
+    requires down { IsDown (B.state bench.old) }
+    ensures played { (placed : Woken) → EachCrash (B.state bench.old) (λ (c : Image). Loads c placed.state placed.dirty)
+        → PlaysMade usual.now placed (B.state bench.old) (B.state bench.new) result }
+    ensures off { (B.state bench.new).on ≡ false }
+{
+    let script = [
+        Event::Boot {
+            entry: None,
+            last_known_good: false,
+        },
+        Event::Go { steps: None },
+        Event::Logon,
+        Event::Off,
+    ];
+    let mut host = QuietHost::new(alloc);
+    match boot_run::run(alloc, &script, &usual.ini, &usual.system, &mut host, bench) {
+        Ok(summary) => Ok(summary),
+        Err(_) => Err(AllocError),
+    }
+}
+
+/// Generates a hive, places it on a new disk, and runs it once.
+fn generate<B: Bench>(
+    alloc: Global,
+    count: u32,
+    usual: &Usual,
+    bench: &mut B,
+) -> Result<Summary, AllocError>
+    requires some { 1 ≤ count }
+    requires few { count ≤ 10000 }
+    requires fresh { B.state bench.old ≡ new_state }
+    ensures summary { IfOk result (λ s. summary_in s ≡ summary_of (made_run usual.now count).lines) }
+    ensures made { IfOk result (λ s. IsMade usual.now count 0 (B.state bench.new)) }
+    ensures part { OnErr result (IsPartMade 0 (B.state bench.new)) }
+    ensures off { (B.state bench.new).on ≡ false }
+{
+    let primary = generated_hive(alloc, count)?;
+    let files = HiveFiles { primary, log: None };
+    match place(&files, bench) {
+        Ok(()) => play(alloc, usual, bench),
+        Err(_) => Err(AllocError),
+    }
+}
+
+/// The word of the last verdict.
+fn last_word(verdict: Option<Verdict>) -> &'static str
+    ensures { result.now ≡ last_word (option_map verdict_of verdict) }
+{
+    match verdict {
+        Some(verdict) => verdict_text(verdict),
+        None => "none",
+    }
+}
+
+/// Puts a word and a number behind a line.
+fn push_count(alloc: Global, line: &mut Vec<u8>, word: &str, number: u32) -> Result<(), AllocError>
+    ensures { OnOk result (line.new.items ≡ line.old.items ++ word.now ++ decimal number) }
+{
+    line.extend_from_slice(word.as_bytes())?;
+    let digits = number.to_string(alloc)?;
+    line.extend_from_slice(digits.as_bytes())
+}
+
+/// The one line on a made hive.
+fn summary_line(alloc: Global, count: u32, summary: &Summary) -> Result<Vec<u8>, AllocError>
+    ensures { IfOk result (λ l. l.items ≡ summary_text count (summary_in summary.now)) }
+{
+    let mut line = Vec::new(alloc);
+    push_count(alloc, &mut line, "made ", count)?;
+    push_count(alloc, &mut line, " started ", summary.started)?;
+    push_count(alloc, &mut line, " failed ", summary.failed)?;
+    push_count(alloc, &mut line, " unmet ", summary.unmet)?;
+    line.extend_from_slice(b" verdict ")?;
+    line.extend_from_slice(last_word(summary.verdict).as_bytes())?;
+    push_count(alloc, &mut line, " sequence ", summary.sequence)?;
+    line.push(b'\n')?;
+    Ok(line)
+}
+
+/// Says the line, and saves what the disk holds.
+fn finish<H: Host, B: Bench>(line: &[u8], saves: Saves<'_>, host: &mut H, bench: &mut B) -> Status
+    requires off { (B.state bench.old).on ≡ false }
+    ensures { FinishesAs line.now (saves_seen saves.entry) result (H.state host.old) (H.state host.new) (B.state bench.old) (B.state bench.new) }
+{
+    match tell(host, line, Status::Done) {
+        Status::Done => saved(save(saves, host, bench)),
+        status => status,
+    }
+}
+
+/// Generates a hive and runs it, says what that came to, and saves what the disk holds.
+fn make_with<H: Host, B: Bench>(
+    alloc: Global,
+    words: MakeWords<'_>,
+    usual: &Usual,
+    host: &mut H,
+    bench: &mut B,
+) -> Status
+    requires some { 1 ≤ words.count }
+    requires few { words.count ≤ 10000 }
+    requires fresh { B.state bench.old ≡ new_state }
+    ensures { MakesAlone (Ok usual.now) (make_seen words.entry) result (H.state host.old) (H.state host.new) (B.state bench.new) }
+{
+    let Ok(summary) = generate(alloc, words.count, usual, bench) else {
+        return Status::Memory;
+    };
+    let Ok(line) = summary_line(alloc, words.count, &summary) else {
+        return Status::Memory;
+    };
+    let saves = Saves {
+        hive: words.save_hive,
+        log: None,
+    };
+    finish(line.as_slice(), saves, host, bench)
+}
+
+/// Makes a hive of so many services, and says what one start of it comes to.
+pub(crate) fn make<H: Host, B: Bench>(
+    alloc: Global,
+    words: MakeWords<'_>,
+    host: &mut H,
+    bench: &mut B,
+) -> Status
+    requires some { 1 ≤ words.count }
+    requires few { words.count ≤ 10000 }
+    requires fresh { B.state bench.old ≡ new_state }
+    ensures { MakesAlone usual_in (make_seen words.entry) result (H.state host.old) (H.state host.new) (B.state bench.new) }
+{
+    match usual_in(alloc) {
+        Ok(usual) => make_with(alloc, words, &usual, host, bench),
+        Err(Obstacle::Refused(why)) => refuse(alloc, host, &why),
+        Err(Obstacle::Stopped(stop)) => stopped(stop),
+    }
+}

@@ -1,0 +1,108 @@
+//! `run`: the script played on the disk, and what the disk then holds saved.
+
+ghost use Rattle.std.specs.Prelude.{◌≡◌, Some, Err};
+ghost use Rattle.std.specs.List.{All};
+ghost use Rattle.boot_script.specs.Script.{HasCounts};
+ghost use Rattle.nt_edge.specs.Disk.{new_state};
+ghost use Rattle.boot_run.specs.Agrees.{LoadsAny};
+ghost use Rattle.command_words.specs.Words as book;
+ghost use Rattle.command_words.specs.Views.{run_seen};
+ghost use Rattle.ntboot_cli.specs.Answer.{DecidesHive, DecidesRun};
+ghost use Rattle.ntboot_cli.specs.Inputs.{arguments_in, asks_run, AsksSoMany};
+ghost use Rattle.ntboot_cli.specs.Placed.{image_in, placed_disk};
+ghost use Rattle.ntboot_cli.specs.Refusals.{IsToldAs};
+ghost use Rattle.ntboot_cli.specs.Views.{saves_seen};
+
+use crate::inputs::{Inputs, inputs_in};
+use crate::placing::{check, place};
+use crate::refusal::{Obstacle, Refusal, refuse, stopped};
+use crate::saving::{Saves, save, saved};
+use crate::status::Status;
+use boot_run::RunStop;
+use command_words::RunWords;
+use nt_bytes::ReadStop;
+use nt_edge::{Bench, Host};
+use std::alloc::Global;
+
+/// Runs the script on the disk, which holds the hive, and saves what it holds then.
+fn play<H: Host, B: Bench>(
+    alloc: Global,
+    inputs: &Inputs,
+    saves: Saves<'_>,
+    host: &mut H,
+    bench: &mut B,
+) -> Status
+    requires counts { All HasCounts inputs.now.script }
+    requires placed { B.state bench.old ≡ placed_disk inputs.now.hive }
+    requires loads { LoadsAny (image_in inputs.now.hive) }
+    ensures { DecidesHive inputs.now (saves_seen saves.entry) result (H.state host.old) (H.state host.new) (B.state bench.new) }
+{
+    let script = inputs.script.as_slice();
+    match boot_run::run(alloc, script, &inputs.ini, &inputs.system, host, bench) {
+        Ok(_) => saved(save(saves, host, bench)),
+        Err(RunStop::Write) => Status::WriteFault,
+        Err(RunStop::Memory) => Status::Memory,
+    }
+}
+
+/// Places the hive on the disk, and runs the script.
+fn start<H: Host, B: Bench>(
+    alloc: Global,
+    inputs: &Inputs,
+    saves: Saves<'_>,
+    host: &mut H,
+    bench: &mut B,
+) -> Status
+    requires counts { All HasCounts inputs.now.script }
+    requires fresh { B.state bench.old ≡ new_state }
+    requires loads { LoadsAny (image_in inputs.now.hive) }
+    ensures { DecidesHive inputs.now (saves_seen saves.entry) result (H.state host.old) (H.state host.new) (B.state bench.new) }
+{
+    match place(&inputs.hive, bench) {
+        Ok(()) => play(alloc, inputs, saves, host, bench),
+        Err(_) => Status::Memory,
+    }
+}
+
+/// Checks the hive, and starts with it or says its first fault.
+fn begin<H: Host, B: Bench>(
+    alloc: Global,
+    inputs: &Inputs,
+    saves: Saves<'_>,
+    host: &mut H,
+    bench: &mut B,
+) -> Status
+    requires counts { All HasCounts inputs.now.script }
+    requires fresh { B.state bench.old ≡ new_state }
+    ensures { DecidesHive inputs.now (saves_seen saves.entry) result (H.state host.old) (H.state host.new) (B.state bench.new) }
+{
+    match check(alloc, &inputs.hive) {
+        Ok(_) => start(alloc, inputs, saves, host, bench),
+        Err(ReadStop::Fault(fault)) => refuse(alloc, host, &Refusal::HiveFault(fault)),
+        Err(ReadStop::Memory) => Status::Memory,
+    }
+}
+
+/// Gets what the words name, runs, and saves; or says the first obstacle.
+pub(crate) fn run<H: Host, B: Bench>(
+    alloc: Global,
+    words: RunWords<'_>,
+    host: &mut H,
+    bench: &mut B,
+) -> Status
+    requires fresh { B.state bench.old ≡ new_state }
+    ensures decides { DecidesRun (run_seen words.entry) result (H.state host.old) (H.state host.new) (B.state bench.new) }
+    ensures asked { AsksSoMany (asks_run (run_seen words.entry)) result (H.state host.old) (H.state host.new) }
+    ensures usage { result ≡ Status.Usage → arguments_in (Some (book.run (run_seen words.entry))) ≡ Err Refusal.Usage }
+    ensures refused { arguments_in (Some (book.run (run_seen words.entry))) ≡ Err Refusal.Usage → IsToldAs Status.Usage result }
+{
+    let saves = Saves {
+        hive: words.save_hive,
+        log: words.save_log,
+    };
+    match inputs_in(alloc, words, host) {
+        Ok(inputs) => begin(alloc, &inputs, saves, host, bench),
+        Err(Obstacle::Refused(why)) => refuse(alloc, host, &why),
+        Err(Obstacle::Stopped(stop)) => stopped(stop),
+    }
+}

@@ -1,0 +1,57 @@
+//! `show`: the tree of a hive, as text.
+
+ghost use Rattle.std.specs.Prelude.{◌≡◌};
+ghost use Rattle.command_words.specs.Views.{show_seen};
+ghost use Rattle.ntboot_cli.specs.Answer.{ShowsAs, DecidesTree, DecidesShow};
+ghost use Rattle.ntboot_cli.specs.Inputs.{asks_show, AsksSoMany};
+ghost use Rattle.ntboot_cli.specs.Placed.{image_in};
+
+use crate::inputs::{HiveFiles, hive_in};
+use crate::placing::read;
+use crate::refusal::{Obstacle, Refusal, refuse, stopped, tell};
+use crate::status::Status;
+use command_words::ShowWords;
+use nt_bytes::{Bytes, ReadStop};
+use nt_edge::{Host, HostStop};
+use std::alloc::Global;
+use tree_text::shown_text;
+
+/// The text of a hive's tree, or the hive's first fault.
+fn text_of(alloc: Global, files: &HiveFiles) -> Result<Bytes, Obstacle>
+    ensures { ShowsAs (image_in files.now) result }
+{
+    match read(alloc, files) {
+        Ok((root, sequence, version)) => {
+            match shown_text(alloc, sequence, root.bulk(version), &root) {
+                Ok(text) => Ok(text),
+                Err(_) => Err(Obstacle::Stopped(HostStop::Memory)),
+            }
+        }
+        Err(ReadStop::Fault(fault)) => Err(Obstacle::Refused(Refusal::HiveFault(fault))),
+        Err(ReadStop::Memory) => Err(Obstacle::Stopped(HostStop::Memory)),
+    }
+}
+
+/// Says a hive's tree, or the hive's first fault.
+fn show_tree<H: Host>(alloc: Global, files: &HiveFiles, host: &mut H) -> Status
+    ensures { DecidesTree files.now result (H.state host.old) (H.state host.new) }
+{
+    match text_of(alloc, files) {
+        Ok(text) => tell(host, text.as_slice(), Status::Done),
+        Err(Obstacle::Refused(why)) => refuse(alloc, host, &why),
+        Err(Obstacle::Stopped(stop)) => stopped(stop),
+    }
+}
+
+/// Gets the hive that the words name, and says its tree; or says the first obstacle.
+pub(crate) fn show<H: Host>(alloc: Global, words: ShowWords<'_>, host: &mut H) -> Status
+    ensures decides { DecidesShow (show_seen words.entry) result (H.state host.old) (H.state host.new) }
+    ensures asked { AsksSoMany (asks_show (show_seen words.entry)) result (H.state host.old) (H.state host.new) }
+    ensures kept { result ≡ Status.Usage → ⊥ }
+{
+    match hive_in(alloc, host, words.hive, words.log) {
+        Ok(files) => show_tree(alloc, &files, host),
+        Err(Obstacle::Refused(why)) => refuse(alloc, host, &why),
+        Err(Obstacle::Stopped(stop)) => stopped(stop),
+    }
+}
