@@ -4,6 +4,7 @@
 #![tactic(auto)]
 
 mod real_host;
+mod whole_file;
 
 use mem_edge::MemDisk;
 use ntboot_cli::{Status, ntboot};

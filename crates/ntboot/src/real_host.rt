@@ -1,15 +1,17 @@
 //! The real host: files, and standard output.
 //!
-//! It tells no content, since no contract can say what a file holds. It counts each error.
+//! It tells no content, since no contract can say what a file holds. It counts each error. A file is put whole or not
+//! at all.
 
 ghost use Rattle.nt_edge.specs.Host.{IsWithinEnds};
 
+use crate::whole_file::put_whole;
 use nt_bytes::Bytes;
 use nt_edge::{Host, HostStop};
 use std::alloc::Global;
 use std::fs::File;
+use std::io;
 use std::io::{ErrorKind, Read, Write};
-use std::{fs, io};
 
 /// The greatest file that is read, in bytes. A longer one is a read error, so that no part of a
 /// file is taken for the whole, and a file without an end stops.
@@ -98,8 +100,9 @@ impl Host for RealHost<'_> {
 
     fn put(&mut self, name: &str, bytes: &[u8]) -> Result<(), HostStop> {
         let (_reads, _writes) = (self.reads, self.writes);
-        match fs::write(self.rt, name, bytes) {
+        match put_whole(self.rt, name, bytes) {
             Ok(()) => Ok(()),
+            Err(e) if e.kind() == ErrorKind::OutOfMemory => Err(HostStop::Memory),
             Err(_) => {
                 self.writes = self.writes.saturating_add(1);
                 Err(HostStop::Write)
