@@ -1,4 +1,4 @@
-//! The hive of these tests.
+//! The hives of these tests.
 
 ghost use Rattle.std.specs.Prelude.{◌≡◌, ◌≤◌};
 ghost use Rattle.hive_model.specs.Size.{bulk_of};
@@ -13,6 +13,23 @@ use regf_base::{BaseBlock, base_bytes};
 use std::alloc::{AllocError, Global};
 use std::process::Abort;
 use std::test::Fail;
+
+/// The names of a service's numbers.
+const NUMBERS: [&[u8]; 3] = [b"Start", b"Type", b"ErrorControl"];
+
+/// A service: its name, and its numbers, the first ones, as many as it has.
+pub(crate) type Service<'a> = (&'a [u8], &'a [u32]);
+
+/// The sets of a hive, whose Current and Default are 1.
+#[derive(Clone, Copy)]
+pub(crate) struct Sets<'a> {
+    /// The services of each set.
+    pub shared: &'a [Service<'a>],
+    /// More services of set 1.
+    pub more: &'a [Service<'a>],
+    /// LastKnownGood. Set 2 is there where it is 2.
+    pub good: u32,
+}
 
 /// A clean base block with sequence number 5 and no name, of one page of bins data.
 fn block() -> BaseBlock {
@@ -44,26 +61,73 @@ fn primary(alloc: Global, tree: &Key) -> Result<Bytes, AllocError>
     Ok(bytes)
 }
 
-/// LastKnownGood names set 2, which is not there. So a start on Default changes no set.
-fn other_good(alloc: Global) -> Result<Steps, AllocError> {
+/// The path of the key with the services of set 1.
+fn parent(alloc: Global) -> Result<Names, AllocError> {
     let mut path = Names::new(alloc);
-    path.push(narrow(alloc, b"Select")?)?;
+    path.push(narrow(alloc, b"ControlSet001")?)?;
+    path.push(narrow(alloc, b"Services")?)?;
+    Ok(path)
+}
+
+fn number(alloc: Global, path: Names, name: &[u8], number: u32) -> Result<TreeStep, AllocError> {
     let mut bytes = Bytes::new(alloc);
-    bytes.put_u32(2)?;
-    let mut steps = Row::new(alloc);
-    steps.push(TreeStep::SetValue {
+    bytes.put_u32(number)?;
+    Ok(TreeStep::SetValue {
         path,
-        name: narrow(alloc, b"LastKnownGood")?,
+        name: narrow(alloc, name)?,
         kind: 4,
         bytes,
+    })
+}
+
+/// The steps that make a service of set 1.
+fn service(alloc: Global, steps: &mut Steps, service: &Service<'_>) -> Result<(), AllocError> {
+    let (name, numbers) = *service;
+    steps.push(TreeStep::MakeKey {
+        parent: parent(alloc)?,
+        name: narrow(alloc, name)?,
     })?;
+    for (value, n) in NUMBERS.iter().zip(numbers.iter()) {
+        let mut path = parent(alloc)?;
+        path.push(narrow(alloc, name)?)?;
+        steps.push(number(alloc, path, value, *n)?)?;
+    }
+    Ok(())
+}
+
+fn services(alloc: Global, steps: &mut Steps, all: &[Service<'_>]) -> Result<(), AllocError> {
+    for one in all {
+        service(alloc, steps, one)?;
+    }
+    Ok(())
+}
+
+/// The step that copies set 1 to set 2.
+fn copy(alloc: Global) -> Result<TreeStep, AllocError> {
+    Ok(TreeStep::CopyChild {
+        from: narrow(alloc, b"ControlSet001")?,
+        to: narrow(alloc, b"ControlSet002")?,
+    })
+}
+
+/// The steps from one set without services.
+fn steps(alloc: Global, sets: &Sets<'_>) -> Result<Steps, AllocError> {
+    let mut steps = Row::new(alloc);
+    services(alloc, &mut steps, sets.shared)?;
+    if sets.good == 2 {
+        steps.push(copy(alloc)?)?;
+    }
+    services(alloc, &mut steps, sets.more)?;
+    let mut select = Names::new(alloc);
+    select.push(narrow(alloc, b"Select")?)?;
+    steps.push(number(alloc, select, b"LastKnownGood", sets.good)?)?;
     Ok(steps)
 }
 
-/// A hive with one boot driver in set 1, which is Current and Default.
-pub(crate) fn one_driver(rt: &impl Abort, alloc: Global) -> Result<Bytes, Fail> {
-    let mut tree = system_tree(alloc, 1)?;
-    tree.apply(alloc, other_good(alloc)?, HiveVersion::V3)?;
+/// The primary file of a hive with these sets.
+pub(crate) fn hive(rt: &impl Abort, alloc: Global, sets: &Sets<'_>) -> Result<Bytes, Fail> {
+    let mut tree = system_tree(alloc, 0)?;
+    tree.apply(alloc, steps(alloc, sets)?, HiveVersion::V3)?;
     assert!(rt; is_valid(&tree) && tree.bulk(HiveVersion::V3) <= 16_773_120);
     Ok(primary(alloc, &tree)?)
 }

@@ -1,9 +1,11 @@
-//! The top call over a host in memory: what it says and answers, and where the host fails.
+//! The top call over a host in memory: what it says, saves and answers, and where the host fails.
 //!
 //! No crate of the program stands on this one: it is for its tests.
 #![tactic(auto)]
 
 #[cfg(test)]
+mod cases;
+#[cfg(test)]
 mod hive;
 #[cfg(test)]
-mod runs;
+mod tables;

@@ -1,0 +1,152 @@
+//! One call of the program with each call of its host failing in turn.
+
+use mem_edge::{MemDisk, MemHost};
+use nt_edge::{Bench, HiveFile, Host, HostStop};
+use ntboot_cli::{Status, ntboot};
+use std::alloc::{AllocError, Global};
+use std::process::Abort;
+use std::test::Fail;
+
+/// What the files `x` and `y` hold before they are saved.
+const BEFORE: &[u8] = b"before";
+
+/// A call of the program, the files that it finds, and what comes of it where the host does not fail.
+#[derive(Clone, Copy)]
+pub(crate) struct Case<'a> {
+    pub words: &'a [&'a str],
+    /// The hive `h`; its log `l` is empty.
+    pub hive: &'a [u8],
+    /// The script `s`.
+    pub script: &'a str,
+    pub status: Status,
+    pub said: &'a str,
+    /// How many files it asks for.
+    pub gets: u8,
+    /// How often it says something. Where that is more than once, it says a line at a time.
+    pub says: u8,
+    /// How many files it saves: `x` is the hive and `y` its log.
+    pub puts: u8,
+}
+
+pub(crate) fn owned(alloc: Global, words: &[&str]) -> Result<Vec<String>, AllocError> {
+    let mut owned = Vec::new(alloc);
+    for word in words {
+        owned.push(String::from_str(alloc, word)?)?;
+    }
+    Ok(owned)
+}
+
+fn host(alloc: Global, case: &Case<'_>) -> Result<MemHost, AllocError> {
+    let mut host = MemHost::new(alloc);
+    host.add("h", case.hive)?;
+    host.add("l", b"")?;
+    host.add("s", case.script.as_bytes())?;
+    host.add("x", BEFORE)?;
+    host.add("y", BEFORE)?;
+    Ok(host)
+}
+
+/// The first lines of a text, so many.
+fn front(alloc: Global, text: &str, lines: u8) -> Result<String, AllocError> {
+    let mut front = String::new(alloc);
+    for line in text.split_inclusive('\n').take(usize::from(lines)) {
+        front.push_str(line)?;
+    }
+    Ok(front)
+}
+
+/// The bytes of a file of the disk where it was saved, and else what was there before.
+fn saved(bytes: &[u8], is_saved: bool) -> &[u8] {
+    if is_saved { bytes } else { BEFORE }
+}
+
+/// Says the name alone where the file has other bytes, which are many.
+fn holds(rt: &impl Abort, host: &MemHost, name: &str, bytes: &[u8]) {
+    assert!(rt; host.file(name) == Some(bytes), "the file {name}");
+}
+
+/// Makes the call on this host and a new disk. It answers this status and says this, and so many files are saved; no other file
+/// changes. The disk is off, since its files are taken.
+fn ends(
+    rt: &impl Abort,
+    alloc: Global,
+    case: &Case<'_>,
+    host: &mut MemHost,
+    (status, said, puts): (Status, &str, u8),
+) -> Result<(), Fail> {
+    let words = owned(alloc, case.words)?;
+    let mut disk = MemDisk::new(alloc);
+    assert_eq!(rt; ntboot(alloc, &words, host, &mut disk), status);
+    let hive = disk.take(HiveFile::Primary)?;
+    let log = disk.take(HiveFile::Log)?;
+    assert_eq!(rt; host.said(), said.as_bytes());
+    holds(rt, host, "h", case.hive);
+    holds(rt, host, "l", b"");
+    holds(rt, host, "s", case.script.as_bytes());
+    holds(rt, host, "x", saved(hive.as_slice(), puts > 0));
+    holds(rt, host, "y", saved(log.as_slice(), puts > 1));
+    Ok(())
+}
+
+/// With a `get` failing nothing is said and saved.
+fn each_get(rt: &impl Abort, alloc: Global, case: &Case<'_>) -> Result<(), Fail> {
+    for n in 0..case.gets {
+        let mut host = host(alloc, case)?;
+        host.fail_read(u64::from(n) + 1);
+        ends(rt, alloc, case, &mut host, (Status::ReadFault, "", 0))?;
+    }
+    Ok(())
+}
+
+/// With a `say` failing all before it is said, no byte more, and nothing is saved.
+fn each_say(rt: &impl Abort, alloc: Global, case: &Case<'_>) -> Result<(), Fail> {
+    for n in 0..case.says {
+        let mut host = host(alloc, case)?;
+        host.fail_write(u64::from(n) + 1);
+        let front = front(alloc, case.said, n)?;
+        ends(rt, alloc, case, &mut host, (Status::WriteFault, &front, 0))?;
+    }
+    Ok(())
+}
+
+/// With a `put` failing all is said, and the files before it are saved.
+fn each_put(rt: &impl Abort, alloc: Global, case: &Case<'_>) -> Result<(), Fail> {
+    for n in 0..case.puts {
+        let mut host = host(alloc, case)?;
+        host.fail_write(u64::from(case.says) + u64::from(n) + 1);
+        ends(
+            rt,
+            alloc,
+            case,
+            &mut host,
+            (Status::WriteFault, case.said, n),
+        )?;
+    }
+    Ok(())
+}
+
+/// The host after the call without a failure, which made as many calls as the case says: the first one behind them is the one
+/// that was to fail.
+pub(crate) fn whole(rt: &impl Abort, alloc: Global, case: &Case<'_>) -> Result<MemHost, Fail> {
+    let mut host = host(alloc, case)?;
+    host.fail_read(u64::from(case.gets) + 1);
+    host.fail_write(u64::from(case.says) + u64::from(case.puts) + 1);
+    ends(
+        rt,
+        alloc,
+        case,
+        &mut host,
+        (case.status, case.said, case.puts),
+    )?;
+    assert_eq!(rt; host.get("h").err(), Some(HostStop::Read));
+    assert_eq!(rt; host.say(b"").err(), Some(HostStop::Write));
+    Ok(host)
+}
+
+/// Each call of the host fails in turn, and then none does. The host after that.
+pub(crate) fn each_call(rt: &impl Abort, alloc: Global, case: &Case<'_>) -> Result<MemHost, Fail> {
+    each_get(rt, alloc, case)?;
+    each_say(rt, alloc, case)?;
+    each_put(rt, alloc, case)?;
+    whole(rt, alloc, case)
+}
