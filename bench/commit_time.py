@@ -1,6 +1,7 @@
 #!/usr/bin/env python3
-"""Times a commit that changes one sector, on a disk in memory: bench/commit_time.py. Prints microseconds, those of a plain comparison
-of the same data, and the writes that the disk saw, for hives of several sizes. No gate runs it."""
+"""Times commits on a disk in memory: bench/commit_time.py. First those that change one sector of hives of several sizes, then those of
+16 MiB that change a growing share of the sectors. Prints microseconds, those of a plain comparison of the same data, and the calls that
+the disk saw. No gate runs it."""
 import os
 import sys
 
@@ -48,24 +49,41 @@ fn change<B: Bench>(
     Ok(())
 }
 
+/// A commit on a disk of its own.
+fn once(rt: &HostRuntime, whole: &Change) -> Result<()> {
+    if whole.file.len() > 33_554_432 || !is_size(whole.new.len()) {
+        bail!("no hive");
+    }
+    let mut disk = MemDisk::new(rt.alloc());
+    change(
+        rt,
+        &mut disk,
+        whole.file.as_slice(),
+        whole.old.as_slice(),
+        whole.new.as_slice(),
+    )?;
+    let reads = disk.calls(DiskCall::Read);
+    let writes = disk.calls(DiskCall::Write);
+    let syncs = disk.calls(DiskCall::Sync);
+    println!(rt; "    the load took {reads} reads, the commit {writes} writes and {syncs} syncs")?;
+    Ok(())
+}
+
 fn main(rt: HostRuntime) -> Result<()> {
+    println!(rt; "one sector:")?;
     for pages in [256, 1_024, 2_048, 4_096] {
-        let whole = Change::new(rt.alloc(), pages, pages)?;
-        if whole.file.len() > 33_554_432 || !is_size(whole.new.len()) {
-            bail!("no hive");
+        once(&rt, &Change::new(rt.alloc(), pages, pages)?)?;
+    }
+    for every in [8_192_usize, 4_096, 2_048, 1_024, 512] {
+        println!(rt; "one sector in {every} bytes:")?;
+        let mut whole = Change::new(rt.alloc(), 4_096, 4_096)?;
+        for i in 0..16_777_216 / every {
+            let at = i.saturating_mul(every);
+            if at < whole.new.len() {
+                whole.new.overwrite(at, &[0x5a]);
+            }
         }
-        let mut disk = MemDisk::new(rt.alloc());
-        change(
-            &rt,
-            &mut disk,
-            whole.file.as_slice(),
-            whole.old.as_slice(),
-            whole.new.as_slice(),
-        )?;
-        let reads = disk.calls(DiskCall::Read);
-        let writes = disk.calls(DiskCall::Write);
-        let syncs = disk.calls(DiskCall::Sync);
-        println!(rt; "    the load took {reads} reads, the commit {writes} writes and {syncs} syncs")?;
+        once(&rt, &whole)?;
     }
     Ok(())
 }

@@ -18,12 +18,12 @@ def node(name, children, child_list, values, value_list):
     )
 
 
-def base_block(size, root=32, first=5, second=5):
-    """The first 4096 bytes of a primary file."""
+def base_block(size, root=32, first=5, second=5, minor=3, kind=0):
+    """The first 4096 bytes of a primary file, or of the kind 1 the base block of a log with zeros behind it."""
     block = bytearray(512)
     block[0:4] = b"regf"
     struct.pack_into("<II", block, 4, first, second)
-    struct.pack_into("<IIII", block, 20, 1, 3, 0, 1)
+    struct.pack_into("<IIII", block, 20, 1, minor, kind, 1)
     struct.pack_into("<III", block, 36, root, size, 1)
     summed = 0
     for (word,) in struct.iter_unpack("<I", bytes(block[:508])):
@@ -141,17 +141,29 @@ def layout(key, at):
     return cells, at
 
 
+def control_set(name, services, groups, tags):
+    """A control set with these services, the groups in this order, and the tags of a group in the order that is given for it."""
+    listed = [(group.encode(), 3, b"".join(struct.pack("<I", n) for n in [len(order), *order])) for group, order in tags.items()]
+    control = (b"Control", [], [(b"ServiceGroupOrder", [strings(b"List", groups)], []), (b"GroupOrderList", listed, [])])
+    return (name, [], [control, (b"Services", [], services)])
+
+
+def select(current, default, failed, last_known_good):
+    """The key that numbers the sets."""
+    values = [dword(b"Current", current), dword(b"Default", default), dword(b"Failed", failed), dword(b"LastKnownGood", last_known_good)]
+    return (b"Select", values, [])
+
+
+def machine(sets, numbers):
+    """A SYSTEM hive of these control sets, with the numbers of Select."""
+    return hive(layout((b"SYSTEM", [], [*sets, select(*numbers)]), 32)[0])
+
+
 def system(services, groups=10, tags=20):
     """A SYSTEM hive of one control set with these services, in so many groups with so many tags each, the greatest tag first."""
     names = [f"G{i}" for i in range(groups)]
-    listed = struct.pack("<I", tags) + b"".join(struct.pack("<I", tags - i) for i in range(tags))
-    control = (b"Control", [], [
-        (b"ServiceGroupOrder", [strings(b"List", names)], []),
-        (b"GroupOrderList", [(name.encode(), 3, listed) for name in names], []),
-    ])
-    select = (b"Select", [dword(b"Current", 1), dword(b"Default", 1), dword(b"Failed", 0), dword(b"LastKnownGood", 0)], [])
-    one = (b"ControlSet001", [], [control, (b"Services", [], services)])
-    return hive(layout((b"SYSTEM", [], [one, select]), 32)[0])
+    order = list(range(tags, 0, -1))
+    return machine([control_set(b"ControlSet001", services, names, {name: order for name in names})], (1, 1, 0, 0))
 
 
 def service(i, start, group, needs, tag=None):

@@ -6,10 +6,12 @@ import os
 import resource
 import shutil
 import signal
+import stat
 import subprocess
 import sys
 import tempfile
 import threading
+import time
 
 TOP = os.path.join(os.path.dirname(os.path.abspath(__file__)), "..")
 PROGRAM = os.path.join(TOP, "crates", "ntboot", "out", "ntboot")
@@ -17,6 +19,8 @@ RUNS = os.path.join(TOP, "tests", "runs")
 EXAMPLES = os.path.join(TOP, "examples")
 ONE_DRIVER = os.path.join(RUNS, "starts_one_boot_driver")
 WORDS = ["run", "--hive", "hive", "--script", "script"]
+UMASK = os.umask(0o022)
+os.umask(UMASK)
 
 
 def read(*path):
@@ -40,10 +44,12 @@ def of_folder(program, folder):
 
 
 def of_example(program, folder):
-    """An example by the command that its folder has, whose first word is the program."""
-    with tempfile.TemporaryDirectory() as room:
-        shutil.copytree(folder, room, dirs_exist_ok=True)
-        return said(program, read(folder, "command").decode().split()[1:], room)
+    """The runs of an example: each line of its `command` has the program's name, its words and, behind `>`, the file with its report."""
+    for line in read(folder, "command").decode().splitlines():
+        command, _, report = line.partition(" > ")
+        with tempfile.TemporaryDirectory() as room:
+            shutil.copytree(folder, room, dirs_exist_ok=True)
+            yield line, said(program, command.split()[1:], room), (read(folder, report or "report.txt"), 0)
 
 
 def in_room(program, change, words=WORDS, **more):
@@ -58,6 +64,11 @@ def in_room(program, change, words=WORDS, **more):
 def becomes_a_folder(room):
     os.remove(os.path.join(room, "script"))
     os.mkdir(os.path.join(room, "script"))
+
+
+def becomes_as_long_as_is_read(room):
+    """The hive with zeros behind it up to 256 MiB. Its first 32 MiB count."""
+    os.truncate(os.path.join(room, "hive"), 256 * 1024 * 1024)
 
 
 def becomes_too_long(room):
@@ -76,8 +87,85 @@ def comes_in_pieces(room):
         with open(path, "wb", buffering=0) as f:
             for at in range(0, len(data), 1000):
                 f.write(data[at:at + 1000])
+                time.sleep(0.01)
 
     threading.Thread(target=write, daemon=True).start()
+
+
+def listing(room):
+    """What is in a folder: each name with its mode, and the bytes of a file or what a link names."""
+    found = {}
+    for at, folders, files in os.walk(room):
+        for path in (os.path.join(at, name) for name in folders + files):
+            mode = os.lstat(path).st_mode
+            content = os.readlink(path) if stat.S_ISLNK(mode) else read(path) if stat.S_ISREG(mode) else None
+            found[os.path.relpath(path, room)] = mode, content
+    return found
+
+
+def save(program, change, name, put, **more):
+    """A run that saves its hive, which it doesn't change, under a name: what was said, the exit status, and whether the folder is then as
+    before, but that the file `put`, where one is given, has the hive's bytes, and the mode that it had or a new file's."""
+    hive = read(ONE_DRIVER, "hive")
+    with tempfile.TemporaryDirectory() as room:
+        for part in ("hive", "script"):
+            shutil.copy(os.path.join(ONE_DRIVER, part), room)
+        change(room)
+        want = listing(room)
+        new = stat.S_IFREG | 0o666 & ~UMASK, None
+        if put:
+            want[put] = want.get(put, new)[0], hive
+        found = said(program, [*WORDS, "--save-hive", name], room, **more)
+        return *found, listing(room) == want
+
+
+def has_an_old_file(room):
+    """An old file of another mode, and the new file that a killed run left beside it."""
+    for name in ("saved", "saved.ntboot-new-0"):
+        with open(os.path.join(room, name), "wb") as f:
+            f.write(b"old")
+        os.chmod(os.path.join(room, name), 0o640)
+
+
+def has_links(room):
+    """A link to a link to an old file, and one to nothing."""
+    os.mkdir(os.path.join(room, "below"))
+    with open(os.path.join(room, "below", "old"), "wb") as f:
+        f.write(b"old")
+    os.symlink("old", os.path.join(room, "below", "link"))
+    os.symlink("below/link", os.path.join(room, "saved"))
+    os.symlink("below/new", os.path.join(room, "dangling"))
+    os.symlink("circle", os.path.join(room, "circle"))
+
+
+def has_a_pipe(room):
+    """A pipe with a name whose other end is read."""
+    path = os.path.join(room, "saved")
+    os.mkfifo(path)
+    threading.Thread(target=read, args=(path,), daemon=True).start()
+
+
+def files_end_early():
+    """No file gets longer than 4,096 bytes."""
+    signal.signal(signal.SIGXFSZ, signal.SIG_IGN)
+    resource.setrlimit(resource.RLIMIT_FSIZE, (4096, 4096))
+
+
+def saves(program):
+    """Runs that save, as `cases`. What is said is the report, whole, whatever becomes of the save."""
+    report = read(ONE_DRIVER, "stdout")
+    as_it_is = lambda room: None
+    yield "a save to a new name", save(program, as_it_is, "saved", "saved"), (report, 0, True)
+    yield "a save over the input", save(program, as_it_is, "hive", "hive"), (report, 0, True)
+    yield "a save over an old file", save(program, has_an_old_file, "saved", "saved"), (report, 0, True)
+    yield "a save over links", save(program, has_links, "saved", "below/old"), (report, 0, True)
+    yield "a save over a link to nothing", save(program, has_links, "dangling", "below/new"), (report, 0, True)
+    yield "a save over a circle of links", save(program, has_links, "circle", None), (report, 7, True)
+    yield "a save to a pipe", save(program, has_a_pipe, "saved", None), (report, 0, True)
+    yield "a save to a folder", save(program, has_links, "below", None), (report, 7, True)
+    yield "a save below a plain file", save(program, as_it_is, "hive/saved", None), (report, 7, True)
+    yield "a save over an old file that ends early", save(program, has_an_old_file, "saved", None, preexec_fn=files_end_early), (report, 7, True)
+    yield "a save to a new name that ends early", save(program, as_it_is, "saved", None, preexec_fn=files_end_early), (report, 7, True)
 
 
 def to_a_full_device(program):
@@ -108,15 +196,19 @@ def cases(program):
         yield name, of_folder(program, folder), (read(folder, "stdout"), int(read(folder, "status")))
     for name in sorted(os.listdir(EXAMPLES)):
         folder = os.path.join(EXAMPLES, name)
-        yield f"example {name}", of_example(program, folder), (read(folder, "report.txt"), 0)
+        for line, found, want in of_example(program, folder):
+            yield f"example {name}: {line}", found, want
     whole = (read(ONE_DRIVER, "stdout"), 0)
     below = ["run", "--hive", "hive", "--script", "script/below"]
     odd = [b"run", b"--hive", b"\xff", b"--script", b"script"]
     yield "a file that is a folder", in_room(program, becomes_a_folder), (b"", 6)
     yield "a path below a plain file", in_room(program, lambda room: None, below), (b"", 6)
+    yield "a hive of 256 MiB", in_room(program, becomes_as_long_as_is_read), whole
     yield "a hive of more than 256 MiB", in_room(program, becomes_too_long), (b"", 6)
     yield "a hive that comes in pieces", in_room(program, comes_in_pieces), whole
+    yield "the program's name as a word", in_room(program, lambda room: None, ["ntboot", *WORDS]), (b"bad usage\n", 1)
     yield "a word that is no UTF-8", in_room(program, lambda room: None, odd), (b"bad usage\n", 1)
+    yield from saves(program)
     yield "an output that takes nothing", to_a_full_device(program), (b"", 7)
     yield "an output that ends early", to_a_short_file(program), (whole[0][:-2], 7)
 
@@ -132,7 +224,8 @@ def main(words):
             passed += 1
             continue
         failed += 1
-        print(f"{name}: exit {found[1]}, wanted {want[1]}; said {found[0][:400]!r}, wanted {want[0][:400]!r}")
+        folder = "" if found[2:] == want[2:] else "; the folder is not as it should be"
+        print(f"{name}: exit {found[1]}, wanted {want[1]}; said {found[0][:400]!r}, wanted {want[0][:400]!r}{folder}")
     print(f"{passed} passed, {failed} failed")
     return 1 if failed or not passed else 0
 
