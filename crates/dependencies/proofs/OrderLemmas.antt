@@ -1,26 +1,23 @@
--- Names in their folded order: what a search finds among them, and what one more does to them.
-use Rattle.std.proofs.Common.{◌≡◌, ℕ, zero, suc, ◌+◌, ◌-◌, ◌<◌, ◌≤◌, Bool, true, false, ◌||◌, List, [], ◌∷◌, ◌++◌, length, get_or, Result, Ok, Err, Option, IfOk, IfErr, inl, inr, refl, sym, ap, ◌∙◌, arith}
-use Rattle.std.specs.List.{list_any, insert, HoldsAt}
-use Rattle.std.specs.List.Sorted.{IsSearchInRange, IsBinarySearchResult}
+-- Names in their folded order: what a search finds among them, and what one more does to runs of them.
+use Rattle.std.proofs.Common.{◌≡◌, ℕ, zero, suc, ◌<◌, Bool, true, false, ◌||◌, List, [], ◌∷◌, ◌++◌, length, get_or, take, drop, Result, Ok, Err, Option, Some, None, IfOk, IfErr, inl, inr, refl, sym, ap, ◌∙◌, arith}
+use Rattle.std.specs.List.{list_any, flat_map, HoldsAt}
+use Rattle.std.specs.List.Sorted.{IsPermutation, IsSearchInRange, IsBinarySearchResult}
+use Rattle.std.specs.Cmp.{IsStrictWeakOrder}
 use Rattle.std.specs.Result.{is_ok}
-use Rattle.std.specs.Option.{option_map_or}
-use Rattle.std.specs.Ordering.{ordering_reverse, is_eq, is_lt}
+use Rattle.std.specs.Option.{option_map_or, option_to_list}
+use Rattle.std.specs.Ordering.{is_eq, is_lt}
 use Rattle.std.specs.Cmp.Lexicographic.{nat_list_cmp_total}
 use Rattle.std.specs.declared.cmp.Ordering.TheVariants.{Equal}
 use Rattle.std.proofs.lemmas.Bool.{cases_lt}
-use Rattle.std.proofs.lemmas.List.Sorted.{searchable_from_sorted, list_any-IsPermutation, IsPermutation-insert}
-use Rattle.std.proofs.lemmas.List.Edits.{length-insert, get_or-insert_below, get_or-insert_at, get_or-insert_above}
+use Rattle.std.proofs.lemmas.List.{take-append-drop}
+use Rattle.std.proofs.lemmas.List.Folds.{list_any-append}
+use Rattle.std.proofs.lemmas.List.Sorted.{ranks_by, searchable_from_sorted, list_any-IsPermutation}
 use Rattle.name_places.proofs.FoldLemmas.{same_from_order, alike}
 use Rattle.nt_bytes.specs.Folding.{folded, folds_same, folded_order}
 use Rattle.start_model.specs.Ready.{Label, has_name, has_group}
-use Rattle.dependencies.specs.Index.{AreInOrder, IsGap, IsIndexed}
+use Rattle.dependencies.specs.Index.{AddsAlike, AreInOrder, IsGap, IsIndexed, AreCarried, is_among, is_that, stands_in}
 
 -- ---- tests of a list
-
-or_by : (a b : Bool) → (b ≡ true → a ≡ true) → a ≡ (a || b)
-or_by true b h = refl
-or_by false true h = h refl
-or_by false false h = refl
 
 or_flip : (a b : Bool) → (a || b) ≡ (b || a)
 or_flip true true = refl
@@ -74,71 +71,79 @@ pub asked : (names : List (List ℕ)) (name : List ℕ) (r : Result ℕ ℕ) →
 asked names name (Ok at) there absent = sym there
 asked names name (Err at) there absent = sym (not_found names name at absent)
 
--- ---- one more name
+-- ---- more names
 
--- one that is there already adds nothing
-pub added_again : (names : List (List ℕ)) (name : List ℕ) → list_any (folds_same name) names ≡ true → (q : List ℕ) → list_any (folds_same q) names ≡ (list_any (folds_same q) names || folds_same q name)
-added_again names name there q = or_by (list_any (folds_same q) names) (folds_same q name) (λ h. ap (λ (p : List ℕ → Bool). list_any p names) (λ i y. alike q name h y i) ∙ there)
+pub by_names : IsStrictWeakOrder (λ (a b : List ℕ). is_lt (folded_order a b))
+by_names = ranks_by nat_list_cmp_total folded
 
-pub added : (names : List (List ℕ)) (at : ℕ) (name : List ℕ) (q : List ℕ) → list_any (folds_same q) (insert names at name) ≡ (list_any (folds_same q) names || folds_same q name)
-added names at name q =
-    sym (list_any-IsPermutation (folds_same q) (name ∷ names) (insert names at name) (IsPermutation-insert names at name)) ∙ or_flip (folds_same q name) (list_any (folds_same q) names)
+-- names that were sorted
+pub sorted_same : (names sorted : List (List ℕ)) (q : List ℕ) → IsPermutation names sorted → is_among sorted q ≡ is_among names q
+sorted_same names sorted q moved = sym (list_any-IsPermutation (folds_same q) names sorted moved)
 
-between : (a b a' b' : List ℕ) → a ≡ a' → b ≡ b' → is_lt (folded_order a' b') ≡ false → is_lt (folded_order a b) ≡ false
-between a b a' b' p q h = (λ i. is_lt (folded_order (p i) (q i))) ∙ h
+any_joined : {X : Type 0} (p : X → Bool) (runs : List (List X)) → list_any p (flat_map (λ run. run) runs) ≡ list_any (list_any p) runs
+any_joined p [] = refl
+any_joined p (run ∷ runs) = list_any-append p run (flat_map (λ r. r) runs) ∙ ap (λ b. list_any p run || b) (any_joined p runs)
 
-pub added_in_order : (names : List (List ℕ)) (at : ℕ) (name : List ℕ) → IsGap names name at → AreInOrder names → AreInOrder (insert names at name)
-added_in_order names at name gap order k d low lt =
-    let new = insert names at name in
-    let within : k < length names = omega (arith, lt, length-insert names at name gap.in_range) in
-    elim (cases_lt (k + 1) at) [
-      | inl both ↦
-          between (get_or new (k + 1) d) (get_or new k d) (get_or names (k + 1) d) (get_or names k d)
-          (get_or-insert_below names at name d (k + 1) both gap.in_range) (get_or-insert_below names at name d k (omega (arith, both)) gap.in_range)
-          (order k d low (omega (arith, both, gap.in_range)))
-      | inr up ↦ elim (cases_lt k at) [
-        | inl last ↦
-            let same : at ≡ k + 1 = omega (arith, up, last) in
-            let here : get_or new (k + 1) d ≡ name = rw (← same) (get_or-insert_at names at name d gap.in_range) in
-            between (get_or new (k + 1) d) (get_or new k d) name (get_or names k d)
-            here (get_or-insert_below names at name d k last gap.in_range)
-            (ap is_lt (nat_list_cmp_total.antisymm (folded name) (folded (get_or names k d))) ∙ ap (λ r. is_lt (ordering_reverse r)) (gap.lower k d low last))
-        | inr from ↦ elim (cases_lt at k) [
-          | inl past ↦
-              let moved : get_or new k d ≡ get_or names (k - 1) d = moved_up (k - 1) k (omega (arith, past)) (omega (arith, past)) in
-              between (get_or new (k + 1) d) (get_or new k d) (get_or names k d) (get_or names (k - 1) d)
-              (get_or-insert_above names at name d k from gap.in_range) moved
-              (order_at k past within)
-          | inr exact ↦
-              let same : at ≡ k = omega (arith, from, exact) in
-              let here : get_or new k d ≡ name = rw (← same) (get_or-insert_at names at name d gap.in_range) in
-              between (get_or new (k + 1) d) (get_or new k d) (get_or names k d) name
-              (get_or-insert_above names at name d k from gap.in_range) here
-              (ap is_lt (gap.higher k d from within))
-        ]
-      ]
-    ]
-  where
-    step : (i j : ℕ) → j ≡ i + 1 → j < length names → is_lt (folded_order (get_or names j d) (get_or names i d)) ≡ false
-    step i j e lt = rw e (order i d (omega arith) (rw (← e) lt))
+any_some : {X : Type 0} (p : X → Bool) (o : Option X) → list_any p (option_to_list o) ≡ option_map_or p o false
+any_some p None = refl
+any_some p (Some x) = or_false (p x)
 
-    moved_up : (i j : ℕ) → j ≡ i + 1 → at ≤ i → get_or (insert names at name) j d ≡ get_or names i d
-    moved_up i j e le = rw e (get_or-insert_above names at name d i le gap.in_range)
+-- the names of some runs with one more
+joined : (names all : List (List ℕ)) (runs : List (List (List ℕ))) (name : Option (List ℕ)) (q : List ℕ) → names ≡ flat_map (λ run. run) runs → all ≡ names ++ option_to_list name
+    → is_among all q ≡ (stands_in runs q || is_that name q)
+joined names all runs name q is more =
+    ap (list_any (folds_same q)) (more ∙ ap (λ ns. ns ++ option_to_list name) is)
+    ∙ list_any-append (folds_same q) (flat_map (λ run. run) runs) (option_to_list name)
+    ∙ ap (λ b. b || list_any (folds_same q) (option_to_list name)) (any_joined (folds_same q) runs)
+    ∙ ap (λ b. stands_in runs q || b) (any_some (folds_same q) name)
 
-    order_at : (k : ℕ) → at < k → k < length names → is_lt (folded_order (get_or names k d) (get_or names (k - 1) d)) ≡ false
-    order_at k past lt = step (k - 1) k (omega (arith, past)) lt
+pub joined_ok : {E : Type 0} (r : Result (List (List ℕ)) E) (names all : List (List ℕ)) (runs : List (List (List ℕ))) (name : Option (List ℕ))
+    → names ≡ flat_map (λ run. run) runs → all ≡ names ++ option_to_list name → IfOk r (λ s. (q : List ℕ) → is_among s q ≡ is_among all q)
+    → IfOk r (λ s. (q : List ℕ) → is_among s q ≡ (stands_in runs q || is_that name q))
+joined_ok (Ok s) names all runs name is more h = λ q. h q ∙ joined names all runs name q is more
+joined_ok (Err e) names all runs name is more h = tt
+
+-- one run in place of the last ones
+pub carried : (runs rest : List (List (List ℕ))) (name : Option (List ℕ)) (kept : ℕ) (run : List (List ℕ)) → rest ≡ drop kept runs
+    → ((q : List ℕ) → is_among run q ≡ (stands_in rest q || is_that name q)) → AreCarried runs name kept run
+carried runs rest name kept run is has q =
+    any_push (list_any (folds_same q)) (take kept runs) run
+    ∙ ap (λ b. stands_in (take kept runs) q || b) (has q ∙ ap (λ rs. stands_in rs q || is_that name q) is)
+    ∙ or_more (stands_in (take kept runs) q) (stands_in (drop kept runs) q) (is_that name q)
+    ∙ ap (λ b. b || is_that name q) (sym (list_any-append (list_any (folds_same q)) (take kept runs) (drop kept runs)) ∙ ap (list_any (list_any (folds_same q))) (take-append-drop kept runs))
+
+or_spared : (a b : Bool) → (b ≡ true → a ≡ true) → (a || false) ≡ (a || b)
+or_spared true b h = refl
+or_spared false true h = h refl
+or_spared false false h = refl
+
+-- a name that stands there already adds nothing
+pub again : (runs : List (List (List ℕ))) (name : List ℕ) → stands_in runs name ≡ true → AddsAlike runs (Some name) None
+again runs name there q =
+    or_spared (stands_in runs q) (folds_same q name) (λ h. ap (λ (p : List ℕ → Bool). list_any (list_any p) runs) (λ i y. alike q name h y i) ∙ there)
+
+pub alike_in : (runs slice : List (List (List ℕ))) (name own : Option (List ℕ)) → slice ≡ runs → AddsAlike slice name own → AddsAlike runs name own
+alike_in runs slice name own is h q = ap (λ rs. stands_in rs q || is_that own q) (sym is) ∙ h q ∙ ap (λ rs. stands_in rs q || is_that name q) is
 
 -- ---- who was started
 
-pub pushed : (entries entries' : List Label) (names names' groups groups' : List (List ℕ)) (name own : List ℕ) (group own_group : Option (List ℕ)) → IsIndexed entries names groups → own ≡ name → own_group ≡ group
-    → entries' ≡ entries ++ (name, group) ∷ [] → AreInOrder names' → ((q : List ℕ) → list_any (folds_same q) names' ≡ (list_any (folds_same q) names || folds_same q own))
-    → AreInOrder groups' → ((q : List ℕ) → list_any (folds_same q) groups' ≡ (list_any (folds_same q) groups || option_map_or (folds_same q) own_group false)) → IsIndexed entries' names' groups'
-pushed entries entries' names names' groups groups' name own group own_group old own_is group_is same names_up names_has groups_up groups_has = record {
-  names_in_order = names_up;
-  groups_in_order = groups_up;
+-- one run was put in place of the last ones
+pub replaced : (runs slice room new : List (List (List ℕ))) (name given : Option (List ℕ)) (kept : ℕ) (run : List (List ℕ)) → slice ≡ runs → room ≡ runs → given ≡ name
+    → AreCarried slice given kept run → new ≡ take kept room ++ run ∷ [] → (q : List ℕ) → stands_in new q ≡ (stands_in runs q || is_that name q)
+replaced runs slice room new name given kept run slice_is room_is given_is carries is q =
+    ap (λ rs. stands_in rs q) (is ∙ ap (λ rs. take kept rs ++ run ∷ []) (room_is ∙ sym slice_is))
+    ∙ carries q
+    ∙ ap (λ rs. stands_in rs q || is_that given q) slice_is
+    ∙ ap (λ n. stands_in runs q || is_that n q) given_is
+
+pub pushed : (entries entries' : List Label) (names names' groups groups' : List (List (List ℕ))) (name : List ℕ) (group own : Option (List ℕ)) → IsIndexed entries names groups
+    → entries' ≡ entries ++ (name, group) ∷ [] → ((q : List ℕ) → stands_in names' q ≡ (stands_in names q || is_that (Some name) q))
+    → AddsAlike groups group own → ((q : List ℕ) → stands_in groups' q ≡ (stands_in groups q || is_that own q)) → IsIndexed entries' names' groups'
+pushed entries entries' names names' groups groups' name group own old same names_has alike_own groups_has = record {
   by_name = λ q.
-      names_has q ∙ ap (λ n. list_any (folds_same q) names || folds_same q n) own_is ∙ ap (λ b. b || folds_same q name) (old.by_name q) ∙ sym (any_push (λ (s : Label). folds_same q s.0) entries (name, group)) ∙ ap (λ es. has_name es q) (sym same);
+      names_has q ∙ ap (λ b. b || folds_same q name) (old.by_name q)
+      ∙ sym (any_push (λ (s : Label). folds_same q s.0) entries (name, group)) ∙ ap (λ es. has_name es q) (sym same);
   by_group = λ q.
-      groups_has q ∙ ap (λ g. list_any (folds_same q) groups || option_map_or (folds_same q) g false) group_is ∙ ap (λ b. b || option_map_or (folds_same q) group false) (old.by_group q) ∙ sym (any_push (λ (s : Label). option_map_or (folds_same q) s.1 false) entries (name, group))
-      ∙ ap (λ es. has_group es q) (sym same);
+      groups_has q ∙ alike_own q ∙ ap (λ b. b || is_that group q) (old.by_group q)
+      ∙ sym (any_push (λ (s : Label). option_map_or (folds_same q) s.1 false) entries (name, group)) ∙ ap (λ es. has_group es q) (sym same);
 }

@@ -1,3 +1,4 @@
+pub mod Attempts
 pub mod Firsts
 pub mod Index
 pub mod Kept

@@ -7,6 +7,7 @@ mod need;
 mod next;
 mod order;
 mod place_set;
+mod runs;
 mod started;
 mod test_count;
 mod waiting;
@@ -14,7 +15,7 @@ mod wants;
 
 pub use demand::{automatic, pulled, taken_is_the_least_closed_set};
 pub use need::{Need, Needs, Places};
-pub use next::{all_met, groups_met, next_ready, ready, services_met};
+pub use next::{all_met, both_ways_try_the_same, groups_met, next_ready, ready, services_met};
 pub use started::Started;
 pub use test_count::TestCount;
 pub use waiting::Waiting;

@@ -1,8 +1,10 @@
 //! Which entry may be attempted next.
 
-ghost use Rattle.std.specs.Prelude.{◌≡◌, ◌^◌, ◌<◌, ◌&&◌, length, position, IfSome};
+ghost use Rattle.std.specs.Prelude.{◌≡◌, ◌^◌, ◌<◌, ◌&&◌, Bool, List, length, position, IfSome};
 ghost use Rattle.std.specs.List.{list_all};
-ghost use Rattle.start_model.specs.Ready.{is_ready, next_of, has_name, has_group};
+ghost use Rattle.start_model.specs.Demand.{Need as Needed};
+ghost use Rattle.start_model.specs.Ready.{Label, is_ready, next_of, has_name, has_group};
+ghost use Rattle.dependencies.specs.Attempts.{all_waiting, tried_by_place, tried_plainly};
 
 use crate::need::{Need, Needs};
 use crate::started::Started;
@@ -46,6 +48,12 @@ pub fn next_ready(waiting: &Needs, started: &Started) -> Option<u32>
         None => None,
     }
 }
+
+/// The place that `Waiting::next` answers, and the one that `next_ready` answers among those that wait, are of
+/// the same entry, attempt after attempt, whatever each of them comes to.
+pub fn both_ways_try_the_same()
+    ensures { (needs : List Needed) (started : List Label) (oks : List Bool) → tried_by_place oks (all_waiting needs started) ≡ tried_plainly oks started needs }
+{}
 
 fn first_ready(waiting: &[Need], started: &Started) -> Option<usize>
     ensures place { result ≡ position (is_ready started.now) waiting.now }

@@ -1,59 +1,63 @@
 //! Names in their folded order, in which one is found without a scan.
 
-ghost use Rattle.std.specs.Prelude.{◌≡◌, ◌<◌, ◌||◌, true, false, IfOk, IfErr, vec_len, vec_capacity, List, ℕ};
-ghost use Rattle.std.specs.Option.{option_map_or};
+ghost use Rattle.std.specs.Prelude.{◌≡◌, true, IfOk, IfErr, List, ℕ};
 ghost use Rattle.std.specs.List.{list_any};
 ghost use Rattle.nt_bytes.specs.Folding.{folds_same, folded_order};
-ghost use Rattle.dependencies.specs.Index.{AreInOrder, IsGap};
+ghost use Rattle.dependencies.specs.Index.{AreInOrder, IsGap, is_among};
 
 use nt_bytes::{Units, compare_folded};
+use std::alloc::AllocError;
 use std::cmp::Ordering;
+use std::marker::Model;
+
+/// Names in their folded order.
+#[derive(Drop)]
+pub(crate) struct NamesInOrder {
+    names: Vec<Units>,
+}
+
+impl Model for NamesInOrder {
+    ghost use Rattle.std.specs.Prelude.{ℕ, List};
+    ghost use Rattle.dependencies.specs.Index.{AreInOrder};
+
+    ghost Value = { List (List ℕ) };
+
+    ghost view = { λ a. a.names.items };
+
+    ghost invariant = { λ a. AreInOrder a.names.items };
+}
+
+impl NamesInOrder {
+    /// These names. Those that stand in order already, one part behind another, are merged.
+    pub(crate) fn new(names: Vec<Units>) -> Result<NamesInOrder, AllocError>
+        ensures { IfOk result (λ s. (q : List ℕ) → is_among s q ≡ is_among names.items q) }
+    {
+        let mut sorted = names;
+        sorted.sort_by(|a, b| compare_folded(a.as_slice(), b.as_slice()))?;
+        Ok(NamesInOrder { names: sorted })
+    }
+
+    /// The names.
+    pub(crate) fn as_slice(&self) -> &[Units]
+        ensures { result.now ≡ self.now }
+    {
+        self.names.as_slice()
+    }
+
+    /// Whether one of the names is this one.
+    pub(crate) fn has(&self, name: &[u16]) -> bool
+        ensures { result ≡ is_among self.now name.now }
+    {
+        has(self.names.as_slice(), name)
+    }
+}
 
 /// Whether one of the names is this one.
-pub(crate) fn has(names: &[Units], name: &[u16]) -> bool
+fn has(names: &[Units], name: &[u16]) -> bool
     requires { AreInOrder names.now }
     ensures { result ≡ list_any (folds_same name.now) names.now }
 {
     search(names, name).is_ok()
-}
-
-/// Adds a name, where there is room, unless it is there.
-pub(crate) fn add(names: &mut Vec<Units>, name: Units)
-    requires order { AreInOrder names.old.items }
-    requires room { vec_len names.old < vec_capacity names.old }
-    ensures order { AreInOrder names.new.items }
-    ensures has { (q : List ℕ) → list_any (folds_same q) names.new.items ≡ (list_any (folds_same q) names.old.items || folds_same q name) }
-{
-    match search(names.as_slice(), name.as_slice()) {
-        Ok(_) => {}
-        Err(at) => insert(names, at, name),
-    }
-}
-
-/// Adds a name, where there is one.
-pub(crate) fn add_group(names: &mut Vec<Units>, name: Option<Units>)
-    requires order { AreInOrder names.old.items }
-    requires room { vec_len names.old < vec_capacity names.old }
-    ensures order { AreInOrder names.new.items }
-    ensures has { (q : List ℕ) → list_any (folds_same q) names.new.items ≡ (list_any (folds_same q) names.old.items || option_map_or (folds_same q) name false) }
-{
-    if let Some(units) = name {
-        add(names, units);
-    }
-}
-
-/// Puts a name in its gap, where there is room.
-fn insert(names: &mut Vec<Units>, at: usize, name: Units)
-    requires gap { IsGap names.old.items name at }
-    requires order { AreInOrder names.old.items }
-    requires room { vec_len names.old < vec_capacity names.old }
-    ensures order { AreInOrder names.new.items }
-    ensures has { (q : List ℕ) → list_any (folds_same q) names.new.items ≡ (list_any (folds_same q) names.old.items || folds_same q name) }
-{
-    match names.insert(at, name) {
-        Ok(()) => {}
-        Err(_) => unreachable!(),
-    }
 }
 
 /// Where the name is, or where it would go.

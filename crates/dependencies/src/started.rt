@@ -3,19 +3,20 @@
 ghost use Rattle.std.specs.Prelude.{◌≡◌, ◌<◌, ◌∷◌, ◌++◌, [], IfOk, OnOk, OnErr, vec_len, vec_capacity};
 ghost use Rattle.start_model.specs.Ready.{has_name, has_group};
 
-use crate::order::{add, add_group, has};
+use crate::order::NamesInOrder;
+use crate::runs::{carried, replace, stands_in, unlisted};
 use nt_bytes::Units;
 use std::alloc::{AllocError, Global};
 use std::marker::Model;
 
 /// Who was started, the first one first: the name, and the group where there is one.
-/// Beside them stand the names and the groups in their order, in which one is found without a scan.
+/// Beside them stand the names and the groups in runs that are in order, in which one is found without a scan.
 #[derive(Drop)]
 pub struct Started {
     // For contracts alone: a ghost field holds no data, and the lists below lose the order and the pairs.
     entries: Vec<(Units, Option<Units>)>,
-    names: Vec<Units>,
-    groups: Vec<Units>,
+    names: Vec<NamesInOrder>,
+    groups: Vec<NamesInOrder>,
 }
 
 impl Model for Started {
@@ -51,12 +52,15 @@ impl Started {
         ensures ok { OnOk result (self.new ≡ self.old ++ (name, group) ∷ []) }
         ensures err { OnErr result (self.new ≡ self.old) }
     {
-        let own_name = name.copy(alloc)?;
-        let own_group = copied(alloc, &group)?;
+        let count = self.entries.len();
+        let own_name = Some(name.copy(alloc)?);
+        let own_group = unlisted(alloc, self.groups.as_slice(), &group)?;
+        let (names_kept, names) = carried(alloc, self.names.as_slice(), count, own_name)?;
+        let (groups_kept, groups) = carried(alloc, self.groups.as_slice(), count, own_group)?;
         make_room(&mut self.entries, &mut self.names, &mut self.groups)?;
         put(&mut self.entries, (name, group));
-        add(&mut self.names, own_name);
-        add_group(&mut self.groups, own_group);
+        replace(&mut self.names, names_kept, names);
+        replace(&mut self.groups, groups_kept, groups);
         Ok(())
     }
 
@@ -71,22 +75,22 @@ impl Started {
     pub(crate) fn has_name(&self, name: &[u16]) -> bool
         ensures { result ≡ has_name self.now name.now }
     {
-        has(self.names.as_slice(), name)
+        stands_in(self.names.as_slice(), name)
     }
 
     /// Whether an entry of this group was started.
     pub(crate) fn has_group(&self, group: &[u16]) -> bool
         ensures { result ≡ has_group self.now group.now }
     {
-        has(self.groups.as_slice(), group)
+        stands_in(self.groups.as_slice(), group)
     }
 }
 
 /// Makes room for one more in each of the lists.
 fn make_room(
     entries: &mut Vec<(Units, Option<Units>)>,
-    names: &mut Vec<Units>,
-    groups: &mut Vec<Units>,
+    names: &mut Vec<NamesInOrder>,
+    groups: &mut Vec<NamesInOrder>,
 ) -> Result<(), AllocError>
     ensures entries { entries.new.items ≡ entries.old.items }
     ensures names { names.new.items ≡ names.old.items }

@@ -1,15 +1,15 @@
-use Rattle.std.proofs.Common.{ap, ◌∙◌, ◌++◌, ◌∷◌, [], ◌||◌, false}
-use Rattle.std.specs.List.{list_any}
-use Rattle.std.specs.Option.{option_map_or}
-use Rattle.nt_bytes.specs.Folding.{folds_same}
-use Rattle.dependencies.proofs.OrderLemmas.{pushed}
+use Rattle.std.proofs.Common.{Some, refl, ap, ◌∙◌, ◌++◌, ◌∷◌, []}
+use Rattle.dependencies.proofs.OrderLemmas.{alike_in, replaced, pushed}
 use Rattle.dependencies.proofs.started.Started.push.Goals as goal
 
 pub invariant_of-self-2 : goal.invariant_of-self-2
 invariant_of-self-2 c =
     let room = c.make_room.ensures in
-    pushed c.self.inside.entries.items c.put.new.entries.items c.self.inside.names.items c.add.new.names.items c.self.inside.groups.items c.add_group.new.names.items
-    c.args.name c.in_ok-own_name.own_name c.args.group c.in_ok-own_group.own_group c.self.invariant c.in_ok-own_name.ensures c.in_ok-own_group.ensures
-    (c.put.ensures ∙ ap (λ es. es ++ (c.args.name, c.args.group) ∷ []) room.entries)
-    c.add.ensures.order (λ q. c.add.ensures.has q ∙ ap (λ ns. list_any (folds_same q) ns || folds_same q c.in_ok-own_name.own_name) room.names)
-    c.add_group.ensures.order (λ q. c.add_group.ensures.has q ∙ ap (λ ns. list_any (folds_same q) ns || option_map_or (folds_same q) c.in_ok-own_group.own_group false) room.groups)
+    let old = c.self.inside in
+    let names = c.in_ok-names_kept in
+    let groups = c.in_ok-groups_kept in
+    pushed old.entries.items c.put.new.entries.items old.names.items c.replace.new.runs.items old.groups.items c.replace-2.new.runs.items
+    c.args.name c.args.group c.in_ok-own_group.own_group c.self.invariant (c.put.ensures ∙ ap (λ es. es ++ (c.args.name, c.args.group) ∷ []) room.entries)
+    (replaced _ _ _ _ _ _ names.names_kept names.names c.as_slice-2.ensures.value room.names (ap Some c.in_ok-copy.ensures) names.ensures c.replace.ensures)
+    (alike_in _ _ _ _ c.as_slice.ensures.value c.in_ok-own_group.ensures)
+    (replaced _ _ _ _ _ _ groups.groups_kept groups.groups c.as_slice-3.ensures.value room.groups refl groups.ensures c.replace-2.ensures)
