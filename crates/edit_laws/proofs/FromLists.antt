@@ -1,0 +1,278 @@
+-- What changed of a key's children, from the cells that were patched, written or freed.
+use Rattle.std.proofs.Common.{◌≡◌, ℕ, suc, ◌+◌, ◌<◌, ◌≤◌, ◌^◌, Bool, true, false, cond, List, [], ◌∷◌, ◌++◌, length, refl, sym, ◌∙◌, ap, subst, inl, inr, ⊎_elim, Result, Ok, arith}
+use Rattle.std.specs.Prelude.{◌⊎◌, MatchBool, ◌==◌, slice_range, if◌then◌else◌, flat_map}
+use Rattle.std.specs.Int.{w16, w32, w64, from_le_bytes}
+use Rattle.std.proofs.lemmas.List.{append-nil}
+use Rattle.nt_bytes.specs.declared.fault.HiveKind.{HiveKind}
+use Rattle.hive_model.specs.Bins.{Cells}
+use Rattle.hive_model.specs.Tree.{Tree, head}
+use Rattle.hive_model.specs.Edit.{new_key}
+use Rattle.hive_model.specs.Forms.{◌>>=◌, KeyNode, key_node_in, key_node_at, bytes_in, SecurityCell, offsets_in}
+use Rattle.hive_model.specs.Walk.{reading, use_as, entries_at, class_checks, entries_checks, key_checks, all_checks}
+use Rattle.hive_model.specs.Footprint.{used_in, security_used_in, of_read, child_places, list_cells_at, security_cell_at}
+use Rattle.hive_model.specs.InPlace.{KeepsSecurity}
+use Rattle.hive_model.specs.Stands.{IsWellFormed, ListsChildren, Stands, class_of, items_at, security_of, tree_flags, values_of}
+use Rattle.edit_laws.specs.Owned.{In, class_cell_at, value_list_at, value_places}
+use Rattle.edit_laws.specs.Framed.{IsUnheld}
+use Rattle.edit_laws.specs.Uses.{Once, plain, secure, tree_uses}
+use Rattle.edit_laws.specs.Revalues.{cells_of_values, all_value_cells}
+use Rattle.edit_laws.specs.Written.{with_part, three_numbers}
+use Rattle.edit_laws.specs.Relists.{descriptor_at, IsSecurityCell, SaysTheRest, ChangesChildren}
+use Rattle.edit_laws.specs.Lists.{HasNewChildren, InsertsChild, RemovesChild}
+use Rattle.edit_laws.proofs.Ins.{in_left, in_cases, security_from, contains_from}
+use Rattle.edit_laws.proofs.Out.{of_node_is}
+use Rattle.edit_laws.proofs.Wellformed.{sound_tree}
+use Rattle.edit_laws.proofs.Untouched.{root_node}
+use Rattle.edit_laws.proofs.Uses.{mark_to, walk_uses}
+use Rattle.edit_laws.proofs.Relisting.{secure_there}
+use Rattle.edit_laws.proofs.Patches.{IsPatchOf, part_patches, in_part, number_again, node_text, node_patched}
+use Rattle.edit_laws.proofs.FromCells.{counted_some}
+
+-- ---- the node
+
+-- where the part is that of the count and the list of children, or of the greatest of their names, the node says the same of all else
+pub part_says_rest : (from to : ℕ) (p q : List ℕ) (n : KeyNode) → key_node_at p ≡ Ok n → IsPatchOf from to p q
+    → (20 ≤ from) × (to ≤ 36) ⊎ (52 ≤ from) × (to ≤ 72) → SaysTheRest n (key_node_in q n.name)
+part_says_rest from to p q n e patch within = record {
+  name = refl;
+  flags = ap (from_le_bytes w16) (patch.before 2 2 (omega (arith, low))) ∙ sym (ap (λ (m : KeyNode). m.flags) fields);
+  stamp = ap (from_le_bytes w64) (patch.before 4 8 (omega (arith, low))) ∙ sym (ap (λ (m : KeyNode). m.stamp) fields);
+  value_count = ap (from_le_bytes w32) (mid 36 within (omega arith) (omega arith)) ∙ sym (ap (λ (m : KeyNode). m.value_count) fields);
+  value_list = ap (from_le_bytes w32) (mid 40 within (omega arith) (omega arith)) ∙ sym (ap (λ (m : KeyNode). m.value_list) fields);
+  security = ap (from_le_bytes w32) (mid 44 within (omega arith) (omega arith)) ∙ sym (ap (λ (m : KeyNode). m.security) fields);
+  class = ap (from_le_bytes w32) (mid 48 within (omega arith) (omega arith)) ∙ sym (ap (λ (m : KeyNode). m.class) fields);
+  class_length = ap (from_le_bytes w16) (patch.behind 74 2 (omega (arith, high))) ∙ sym (ap (λ (m : KeyNode). m.class_length) fields);
+}
+  where
+    fields : n ≡ key_node_in p n.name
+    fields = (node_text p n e).fields
+
+    low : 20 ≤ from
+    low =
+        ⊎_elim (λ (w : (20 ≤ from) × (to ≤ 36)). w.0) (λ (w : (52 ≤ from) × (to ≤ 72)). let l = w.0 in omega (arith, l)) within
+
+    high : to ≤ 72
+    high =
+        ⊎_elim (λ (w : (20 ≤ from) × (to ≤ 36)). let l = w.1 in omega (arith, l)) (λ (w : (52 ≤ from) × (to ≤ 72)). w.1) within
+
+    mid : (i : ℕ) → (20 ≤ from) × (to ≤ 36) ⊎ (52 ≤ from) × (to ≤ 72) → 36 ≤ i → i ≤ 48
+        → slice_range q i (i + 4) ≡ slice_range p i (i + 4)
+    mid i (inl w) l h = let t = w.1 in patch.behind i 4 (omega (arith, l, t))
+    mid i (inr w) l h = let t = w.0 in patch.before i 4 (omega (arith, h, t))
+
+pub says_rest_then : (a b c : KeyNode) → SaysTheRest a b → SaysTheRest b c → SaysTheRest a c
+says_rest_then a b c s t = record {
+  name = t.name ∙ s.name;
+  flags = t.flags ∙ s.flags;
+  stamp = t.stamp ∙ s.stamp;
+  value_count = t.value_count ∙ s.value_count;
+  value_list = t.value_list ∙ s.value_list;
+  security = t.security ∙ s.security;
+  class = t.class ∙ s.class;
+  class_length = t.class_length ∙ s.class_length;
+}
+
+-- a node's count of children, of volatile ones and the list of children are written over
+pub children_written : (p : List ℕ) (n : KeyNode) (count volatile list : ℕ) → key_node_at p ≡ Ok n → count < 2 ^ 32
+    → list < 2 ^ 32 → HasNewChildren (with_part 20 (three_numbers count volatile list) p) n count list
+children_written p n count volatile list e c l =
+    let t = (node_text p n e).long in
+    let patch : IsPatchOf 20 32 p (with_part 20 (three_numbers count volatile list) p) = part_patches 20 (three_numbers count volatile list) p (omega (arith, t)) in
+    record {
+      new = key_node_in (with_part 20 (three_numbers count volatile list) p) n.name;
+      read = node_patched 20 32 p (with_part 20 (three_numbers count volatile list) p) n e patch (omega arith) (omega arith);
+      same = part_says_rest 20 32 p (with_part 20 (three_numbers count volatile list) p) n e patch (inl (omega arith, omega arith));
+      count_is = ap (from_le_bytes w32) (in_part 20 (three_numbers count volatile list) p 0 4 (omega (arith, t)) (omega arith)) ∙ number_again count c;
+      list_is = ap (from_le_bytes w32) (in_part 20 (three_numbers count volatile list) p 8 4 (omega (arith, t)) (omega arith)) ∙ number_again list l;
+    }
+
+-- ---- the lists
+
+lists_at_is : (cells : Cells) (at : ℕ) (n : KeyNode) → reading key_node_at cells at ≡ Ok n
+    → (n.child_count == 0) ≡ false → list_cells_at cells at ≡ used_in (entries_checks cells n.child_list)
+unfolding list_cells_at
+lists_at_is cells at n read some =
+    of_node_is cells at n (λ m. if m.child_count == 0 then [] else used_in (entries_checks cells m.child_list)) read
+    ∙ ap (λ (b : Bool). cond b [] (used_in (entries_checks cells n.child_list))) some
+
+lists_at_none : (cells : Cells) (at : ℕ) (n : KeyNode) → reading key_node_at cells at ≡ Ok n
+    → (n.child_count == 0) ≡ true → list_cells_at cells at ≡ []
+unfolding list_cells_at
+lists_at_none cells at n read none =
+    of_node_is cells at n (λ m. if m.child_count == 0 then [] else used_in (entries_checks cells m.child_list)) read
+    ∙ ap (λ (b : Bool). cond b [] (used_in (entries_checks cells n.child_list))) none
+
+length_more : (front : List ℕ) (y : ℕ) (back : List ℕ) → length (front ++ y ∷ back) ≡ suc (length (front ++ back))
+length_more [] y back = refl
+length_more (x ∷ front) y back = let l = length_more front y back in omega (arith, l)
+
+-- a child is put among the others, in new lists
+pub inserts_child : (b c : Cells) (root x left : ℕ) (n : KeyNode) (front back : List ℕ) (y : ℕ) (q : List ℕ)
+    (list : ℕ) (counted : List ℕ) → reading key_node_at b x ≡ Ok n → child_places b x ≡ front ++ back
+    → InsertsChild b c root x left n front back y q list counted
+    → ChangesChildren b c root x left front [] (y ∷ []) back counted
+inserts_child b c root x left n front back y q list counted read places g = record {
+  version = g.version;
+  old = n;
+  new = g.node.new;
+  read = read;
+  read_new = read_new;
+  same = g.node.same;
+  listed = places;
+  listed_new = subst (λ (z : Bool). MatchBool z (front ++ y ∷ back ≡ []) ((entries_at c g.node.new.child_list ≡ Ok (front ++ y ∷ back)) × (length (front ++ y ∷ back) ≡ g.node.new.child_count))) (sym some)
+      (ap (entries_at c) g.node.list_is ∙ g.lists, sym g.node.count_is);
+  others = λ o r held no_node no_list no_gone no_count. g.others o r held no_node no_list no_count;
+  counted_are = g.counted_are;
+  security = g.security;
+  used = λ u i. inr (g.fresh u (subst (λ (l : List (ℕ × Bool)). In l u) new_uses i));
+  once = subst Once (sym new_uses) g.once;
+}
+  where
+    read_new : reading key_node_at c x ≡ Ok g.node.new
+    read_new = ap (λ (r : Result (List ℕ) HiveKind). r >>= key_node_at) g.there ∙ g.node.read
+
+    some : (g.node.new.child_count == 0) ≡ false
+    some = counted_some g.node.new.child_count (length (front ++ back)) (g.node.count_is ∙ length_more front y back)
+
+    new_uses : plain (list_cells_at c x) ++ flat_map (tree_uses left c) (y ∷ []) ≡ plain (used_in (entries_checks c list)) ++ tree_uses left c y
+    new_uses =
+        ap (λ (l : List ℕ). plain l ++ flat_map (tree_uses left c) (y ∷ [])) (lists_at_is c x g.node.new read_new some ∙ ap (λ (o : ℕ). used_in (entries_checks c o)) g.node.list_is)
+        ∙ ap (λ (l : List (ℕ × Bool)). plain (used_in (entries_checks c list)) ++ l) (append-nil (tree_uses left c y))
+
+-- a child is taken out, and the others are in new lists, or there is no list
+pub removes_child : (b c : Cells) (root x left : ℕ) (n : KeyNode) (front back : List ℕ) (y : ℕ) (q : List ℕ)
+    (list : ℕ) (counted : List ℕ) → reading key_node_at b x ≡ Ok n → child_places b x ≡ front ++ y ∷ back
+    → RemovesChild b c root x left n front back y q list counted
+    → ChangesChildren b c root x left front (y ∷ []) [] back counted
+removes_child b c root x left n front back y q list counted read places g = record {
+  version = g.version;
+  old = n;
+  new = g.node.new;
+  read = read;
+  read_new = read_new;
+  same = g.node.same;
+  listed = places;
+  listed_new = lists (front ++ back) refl;
+  others = λ o r held no_node no_list no_gone no_count. g.others o r held no_node no_list (λ s i. no_gone s (in_left (tree_uses left b y) [] (o, s) i)) no_count;
+  counted_are = g.counted_are;
+  security = g.security;
+  used = λ u i. fresh (front ++ back) refl u (in_cases (plain (list_cells_at c x)) [] u i);
+  once = subst Once (sym (append-nil (plain (list_cells_at c x)))) (once (front ++ back) refl);
+}
+  where
+    read_new : reading key_node_at c x ≡ Ok g.node.new
+    read_new = ap (λ (r : Result (List ℕ) HiveKind). r >>= key_node_at) g.there ∙ g.node.read
+
+    none : (os : List ℕ) → os ≡ [] → front ++ back ≡ os → (g.node.new.child_count == 0) ≡ true
+    none os e f = ap (λ (m : ℕ). m == 0) (g.node.count_is ∙ ap (λ (l : List ℕ). length l) (f ∙ e))
+
+    some : (w : ℕ) (os : List ℕ) → front ++ back ≡ w ∷ os → (g.node.new.child_count == 0) ≡ false
+    some w os f = counted_some g.node.new.child_count (length os) (g.node.count_is ∙ ap (λ (l : List ℕ). length l) f)
+
+    lists : (os : List ℕ) → front ++ back ≡ os → ListsChildren c g.node.new (front ++ back)
+    lists [] f =
+        subst (λ (z : Bool). MatchBool z (front ++ back ≡ []) ((entries_at c g.node.new.child_list ≡ Ok (front ++ back)) × (length (front ++ back) ≡ g.node.new.child_count))) (sym (none [] refl f)) f
+    lists (w ∷ os) f =
+        subst (λ (z : Bool). MatchBool z (front ++ back ≡ []) ((entries_at c g.node.new.child_list ≡ Ok (front ++ back)) × (length (front ++ back) ≡ g.node.new.child_count))) (sym (some w os f))
+        (ap (entries_at c) g.node.list_is ∙ g.lists w os f, sym g.node.count_is)
+
+    lists_are : (w : ℕ) (os : List ℕ) → front ++ back ≡ w ∷ os → list_cells_at c x ≡ used_in (entries_checks c list)
+    lists_are w os f =
+        lists_at_is c x g.node.new read_new (some w os f)
+        ∙ ap (λ (o : ℕ). used_in (entries_checks c o)) g.node.list_is
+
+    fresh : (os : List ℕ) → front ++ back ≡ os → (u : ℕ × Bool) → In (plain (list_cells_at c x)) u ⊎ ⊥
+        → In (plain (list_cells_at b x) ++ flat_map (tree_uses left b) (y ∷ [])) u ⊎ (IsUnheld b u.0 ⊎ ((u.1 ≡ true) × In counted u.0))
+    fresh [] f u (inl i) =
+        absurd (subst (λ (l : List ℕ). In (plain l) u) (lists_at_none c x g.node.new read_new (none [] refl f)) i)
+    fresh (w ∷ os) f u (inl i) =
+        inr (inl (g.fresh w os f u (subst (λ (l : List ℕ). In (plain l) u) (lists_are w os f) i)))
+    fresh os f u (inr z) = absurd z
+
+    once : (os : List ℕ) → front ++ back ≡ os → Once (plain (list_cells_at c x))
+    once [] f =
+        subst (λ (l : List ℕ). Once (plain l)) (sym (lists_at_none c x g.node.new read_new (none [] refl f))) tt
+    once (w ∷ os) f = subst (λ (l : List ℕ). Once (plain l)) (sym (lists_are w os f)) (g.once w os f)
+
+-- ---- security
+
+-- where the cells of security are kept, they keep their descriptors
+pub kept_descriptor : (b c : Cells) (root : ℕ) (t : Tree) (changes : ℕ → List Bool) → IsWellFormed b root t
+    → KeepsSecurity root changes b c → (o : ℕ) → IsSecurityCell b root o → descriptor_at c o ≡ descriptor_at b o
+unfolding all_checks
+kept_descriptor b c root t changes well keeps o s =
+    let r = root_node b root t well.stands in
+    let e = walk_uses 512 b true [] root r.0 (sound_tree b root t well.stands well.names) r.1 in
+    let i = mark_to (key_checks 512 b true [] root) (o, true) (subst (λ (l : List (ℕ × Bool)). In l (o, true)) (sym e) (secure_there b root t o well s)) in
+    let k = keeps o (contains_from (security_used_in (key_checks 512 b true [] root)) o (security_from (key_checks 512 b true [] root) o i)) in
+    ap (λ (r : Result SecurityCell HiveKind). r >>= λ d. Ok d.descriptor) k.stays
+    ∙ sym (ap (λ (r : Result SecurityCell HiveKind). r >>= λ d. Ok d.descriptor) k.was)
+
+-- ---- a key without values and children
+
+class_none : (cells : Cells) (at : ℕ) (n : KeyNode) → reading key_node_at cells at ≡ Ok n
+    → (n.class_length == 0) ≡ true → class_cell_at cells at ≡ []
+unfolding class_cell_at class_checks
+class_none cells at n read none =
+    of_node_is cells at n (λ m. used_in (class_checks cells m)) read
+    ∙ ap (λ (b : Bool). used_in (cond b [] (use_as false (bytes_in n.class_length) cells n.class))) none
+
+values_none : (cells : Cells) (at : ℕ) (n : KeyNode) → reading key_node_at cells at ≡ Ok n
+    → (n.value_count == 0) ≡ true → all_value_cells cells at ≡ []
+unfolding value_list_at value_places
+values_none cells at n read none =
+    ap (λ (l : List ℕ). l ++ cells_of_values cells (value_places cells at))
+    (of_node_is cells at n (λ k. if k.value_count == 0 then [] else k.value_list ∷ []) read ∙ ap (λ (b : Bool). cond b [] (n.value_list ∷ [])) none)
+    ∙ ap (cells_of_values cells)
+    (of_node_is cells at n (λ k. if k.value_count == 0 then [] else of_read (reading (offsets_in k.value_count) cells k.value_list) (λ os. os)) read
+    ∙ ap (λ (b : Bool). cond b [] (of_read (reading (offsets_in n.value_count) cells n.value_list) (λ os. os))) none)
+
+children_none : (cells : Cells) (at : ℕ) (n : KeyNode) → reading key_node_at cells at ≡ Ok n
+    → (n.child_count == 0) ≡ true → child_places cells at ≡ []
+unfolding child_places
+children_none cells at n read none =
+    of_node_is cells at n (λ m. if m.child_count == 0 then [] else of_read (entries_at cells m.child_list) (λ os. os)) read
+    ∙ ap (λ (b : Bool). cond b [] (of_read (entries_at cells n.child_list) (λ os. os))) none
+
+-- a key with a name alone, and a descriptor perhaps, uses its node and the cell of that
+pub bare_uses : (left : ℕ) (cells : Cells) (at : ℕ) (n : KeyNode) → reading key_node_at cells at ≡ Ok n
+    → (n.class_length == 0) ≡ true → (n.value_count == 0) ≡ true → (n.child_count == 0) ≡ true
+    → tree_uses (suc left) cells at ≡ (at, false) ∷ (secure (security_cell_at cells at) ++ [])
+bare_uses left cells at n read no_class no_values no_children =
+    ap (λ (l : List ℕ). ((at, false) ∷ (plain l ++ (secure (security_cell_at cells at) ++ (plain (all_value_cells cells at) ++ plain (list_cells_at cells at))))) ++ flat_map (tree_uses left cells) (child_places cells at))
+    (class_none cells at n read no_class)
+    ∙ ap (λ (l : List ℕ). ((at, false) ∷ (secure (security_cell_at cells at) ++ (plain l ++ plain (list_cells_at cells at)))) ++ flat_map (tree_uses left cells) (child_places cells at)) (values_none cells at n read no_values)
+    ∙ ap (λ (l : List ℕ). ((at, false) ∷ (secure (security_cell_at cells at) ++ plain l)) ++ flat_map (tree_uses left cells) (child_places cells at)) (lists_at_none cells at n read no_children)
+    ∙ ap (λ (l : List ℕ). ((at, false) ∷ (secure (security_cell_at cells at) ++ [])) ++ flat_map (tree_uses left cells) l) (children_none cells at n read no_children)
+    ∙ append-nil ((at, false) ∷ (secure (security_cell_at cells at) ++ []))
+
+abbrev no_offsets : List ℕ
+no_offsets = []
+
+-- a key with a name alone stands, as a new key has the stamp and the descriptor of the key above it
+pub bare_stands : (cells : Cells) (at : ℕ) (n : KeyNode) (name : List ℕ) (k : Tree) → reading key_node_at cells at ≡ Ok n
+    → n.name ≡ name → tree_flags n.flags ≡ 0 → n.stamp ≡ (head k).stamp → (n.class_length == 0) ≡ true
+    → security_of cells n ≡ Ok (head k).security → (n.value_count == 0) ≡ true → (n.child_count == 0) ≡ true
+    → Stands cells at (new_key name k)
+unfolding class_of values_of
+bare_stands cells at n name k read named flags stamp no_class descriptor no_values no_children = (
+  no_offsets,
+  record {
+    node = n;
+    read = read;
+    name = sym named;
+    flags = sym flags;
+    stamp = sym stamp;
+    class = ap (λ (b : Bool). cond b (Ok []) (reading (bytes_in n.class_length) cells n.class)) no_class;
+    security = descriptor;
+    values = ap
+        (λ (b : Bool). cond b (Ok []) (reading (offsets_in n.value_count) cells n.value_list >>= items_at cells)) no_values;
+    children = no_children_at (n.child_count == 0) no_children;
+  },
+  refl,
+)
+  where
+    no_children_at : (b : Bool) → b ≡ true
+        → MatchBool b (no_offsets ≡ []) ((entries_at cells n.child_list ≡ Ok no_offsets) × (length no_offsets ≡ n.child_count))
+    no_children_at true e = refl
+    no_children_at false e = absurd cc

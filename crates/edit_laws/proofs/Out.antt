@@ -1,0 +1,329 @@
+-- A step's cells are those of owned entries that it names.
+use Rattle.std.proofs.Common.{◌≡◌, ℕ, zero, suc, Bool, true, false, cond, List, [], ◌∷◌, ◌++◌, length, refl, sym, ◌∙◌, ap, subst, inl, inr, ⊎_elim, Option, Some, None, Result, Ok, Err}
+use Rattle.std.specs.Prelude.{◌-◌, find, not, ◌==◌, ◌&&◌, if◌then◌else◌, is_some, option_and_then}
+use Rattle.std.specs.List.{list_any}
+use Rattle.std.specs.Option.{option_map_or}
+use Rattle.nt_bytes.specs.Folding.{folds_same}
+use Rattle.nt_bytes.specs.declared.fault.HiveKind.{HiveKind}
+use Rattle.nt_bytes.specs.declared.fault.HiveKind.TheVariants.{TooDeep, FormName, Count, DoubleName}
+use Rattle.hive_model.specs.Bins.{Cells}
+use Rattle.hive_model.specs.Size.{segment_bytes, is_big, segment_part}
+use Rattle.hive_model.specs.Forms.{◌>>=◌, KeyNode, key_node_at, KeyValue, key_value_at, data_inside, bytes_in, BigData, SubkeyList, list_at, offsets_in}
+use Rattle.hive_model.specs.Walk.{Check, uses, tests, reading, node_at, leaf_at, is_list_of_lists, entries_at, below_of, use_as, failing, name_check, names_of, class_checks, security_checks, big_data_of, segments_checks, big_checks, data_checks, value_checks, values_in_turn, values_checks, leaves_checks, entries_checks, keys_in_turn, children_checks, below_node, key_checks}
+use Rattle.hive_model.specs.Footprint.{of_read, of_node, of_key, key_place, used_in, child_places, is_node_named, security_cell_at, list_cells_at}
+use Rattle.edit_laws.specs.Owned.{Role, node, class, security, value_list, value, lists, In, first_or_empty, node_name, value_name, value_places, value_list_at, class_cell_at, HasRole, Reaches, Folds, IsSecurity, IsBelow}
+use Rattle.edit_laws.proofs.Ins.{in_left, in_right, in_cases, found_in, used_from, no_test, use_one, in_read}
+
+-- ---- paths
+
+pub named_so : {F : Type 0} (name : List ℕ) (view : F → List ℕ) (r : Result F HiveKind)
+    → list_any (folds_same name) (names_of view r) ≡ true → folds_same name (first_or_empty (names_of view r)) ≡ true
+named_so name view (Ok x) e = go (folds_same name (view x)) e
+  where
+    go : (b : Bool) → list_any (λ (c : Bool). c) (b ∷ []) ≡ true → b ≡ true
+    go true e = refl
+    go false e = absurd cc
+named_so name view (Err k) e = absurd cc
+
+-- a path and the place that it leads to
+pub record IsPlaced (cells : Cells) (at : ℕ) (path : List (List ℕ)) (x : ℕ) : Type 0 where
+  pub stored : List (List ℕ)
+  pub folds : Folds path stored
+  pub reached : Reaches cells at stored x
+
+pub placed_at : (cells : Cells) (path : List (List ℕ)) (at x : ℕ) → key_place cells path at ≡ Some x
+    → IsPlaced cells at path x
+placed_at cells [] at x e = record { stored = []; folds = tt; reached = cc }
+placed_at cells (name ∷ path) at x e =
+    go (placed_at cells path) (find (is_node_named cells name) (child_places cells at)) refl e
+  where
+    go : ((y z : ℕ) → key_place cells path y ≡ Some z → IsPlaced cells y path z) → (f : Option ℕ)
+        → find (is_node_named cells name) (child_places cells at) ≡ f
+        → option_and_then (key_place cells path) f ≡ Some x → IsPlaced cells at (name ∷ path) x
+    go deep None is e = absurd cc
+    go deep (Some y) is e =
+        let one = found_in (is_node_named cells name) (child_places cells at) y is in
+        let rest = deep y x e in
+        record {
+          stored = node_name cells y ∷ rest.stored;
+          folds = (named_so name (λ (n : KeyNode). n.name) (reading key_node_at cells y) one.1, rest.folds);
+          reached = (y, one.0, refl, rest.reached);
+        }
+
+pub of_key_to : (cells : Cells) (root : ℕ) (path : List (List ℕ)) (listing : ℕ → List ℕ) (o : ℕ)
+    → In (of_key cells root path listing) o → (x : ℕ) × IsPlaced cells root path x × In (listing x) o
+of_key_to cells root path listing o h = go (key_place cells path root) refl h
+  where
+    go : (k : Option ℕ) → key_place cells path root ≡ k → In (option_map_or listing k []) o
+        → (x : ℕ) × IsPlaced cells root path x × In (listing x) o
+    go None e h = absurd h
+    go (Some x) e h = (x, placed_at cells path root x e, h)
+
+-- ---- the walk's uses are owned
+
+pub plain_node : (root : Bool) (cells : Cells) (at : ℕ) (n : KeyNode) → reading (node_at root) cells at ≡ Ok n
+    → reading key_node_at cells at ≡ Ok n
+unfolding node_at
+plain_node root cells at n e = go (cells.payload at) e
+  where
+    inner : (k : KeyNode) (b : Bool) → cond b (Err FormName) (Ok k) ≡ Ok n → k ≡ n
+    inner k true e = absurd cc
+    inner k false e = cc
+
+    mid : (r : Result KeyNode HiveKind)
+        → (r >>= λ k. if (length k.name == 0) && not root then Err FormName else Ok k) ≡ Ok n → r ≡ Ok n
+    mid (Ok k) e = ap (λ (z : KeyNode). Ok z) (inner k ((length k.name == 0) && not root) e)
+    mid (Err k) e = absurd cc
+
+    go : (r : Result (List ℕ) HiveKind) → (r >>= node_at root) ≡ Ok n → (r >>= key_node_at) ≡ Ok n
+    go (Ok p) e = mid (key_node_at p) e
+    go (Err k) e = absurd cc
+
+pub of_node_is : (cells : Cells) (at : ℕ) (n : KeyNode) (listing : KeyNode → List ℕ)
+    → reading key_node_at cells at ≡ Ok n → of_node cells at listing ≡ listing n
+of_node_is cells at n listing e = ap (λ (r : Result KeyNode HiveKind). of_read r listing) e
+
+-- no use as security
+abbrev pub IsPlain : List Check → Type 0
+IsPlain cs = (o : ℕ) → In cs (uses o true) → ⊥
+
+pub plain_use : {F : Type 0} (form : List ℕ → Result F HiveKind) (cells : Cells) (at : ℕ)
+    → IsPlain (use_as false form cells at)
+plain_use form cells at o h = let d = (use_one false form cells at o true h).1 in absurd cc
+
+pub plain_append : (xs ys : List Check) → IsPlain xs → IsPlain ys → IsPlain (xs ++ ys)
+plain_append xs ys p q o h = ⊎_elim (p o) (q o) (in_cases xs ys (uses o true) h)
+
+pub plain_read : {F : Type 0} (r : Result F HiveKind) (below : F → List Check) → ((x : F) → IsPlain (below x))
+    → IsPlain (below_of r below)
+plain_read r below p o h = let x = in_read r below (uses o true) h in p x.0 o x.2
+
+plain_choice : (b : Bool) (xs : List Check) → IsPlain xs → IsPlain (cond b [] xs)
+plain_choice true xs p o h = h
+plain_choice false xs p o h = p o h
+
+pub class_plain : (cells : Cells) (n : KeyNode) → IsPlain (class_checks cells n)
+unfolding class_checks
+class_plain cells n =
+    plain_choice (n.class_length == 0) (use_as false (bytes_in n.class_length) cells n.class) (plain_use (bytes_in n.class_length) cells n.class)
+
+plain_either : (b : Bool) (xs ys : List Check) → IsPlain xs → IsPlain ys → IsPlain (cond b xs ys)
+plain_either true xs ys p q o h = p o h
+plain_either false xs ys p q o h = q o h
+
+segments_plain : (cells : Cells) (n : ℕ) (offsets : List ℕ) → IsPlain (segments_checks cells n offsets)
+segments_plain cells n [] o h = h
+segments_plain cells n (at ∷ rest) o h =
+    plain_append (use_as false (bytes_in (segment_part n)) cells at) (segments_checks cells (n - segment_bytes) rest)
+    (plain_use (bytes_in (segment_part n)) cells at) (segments_plain cells (n - segment_bytes) rest) o h
+
+-- what is checked behind a cell of big data
+abbrev pub behind_big : Cells → ℕ → BigData → List Check
+behind_big cells n big =
+    use_as false (offsets_in big.segments) cells big.list ++ below_of (reading (offsets_in big.segments) cells big.list) (segments_checks cells n)
+
+big_plain : (cells : Cells) (n at : ℕ) → IsPlain (big_checks cells n at)
+unfolding big_checks
+big_plain cells n at =
+    plain_append (use_as false (big_data_of n) cells at) (below_of (reading (big_data_of n) cells at) (behind_big cells n)) (plain_use (big_data_of n) cells at)
+    (plain_read (reading (big_data_of n) cells at) (behind_big cells n) (λ big.
+    plain_append (use_as false (offsets_in big.segments) cells big.list) (below_of (reading (offsets_in big.segments) cells big.list) (segments_checks cells n))
+    (plain_use (offsets_in big.segments) cells big.list)
+    (plain_read (reading (offsets_in big.segments) cells big.list) (segments_checks cells n) (segments_plain cells n))))
+
+-- the cells of data that are not in the value itself
+abbrev pub outside_checks : Cells → KeyValue → List Check
+outside_checks cells v =
+    if is_big cells.version v.size then big_checks cells v.size v.offset else use_as false (bytes_in v.size) cells v.offset
+
+data_plain : (cells : Cells) (v : KeyValue) → IsPlain (data_checks cells v)
+unfolding data_checks
+data_plain cells v =
+    plain_choice (is_some (data_inside v)) (outside_checks cells v)
+    (plain_either (is_big cells.version v.size) (big_checks cells v.size v.offset) (use_as false (bytes_in v.size) cells v.offset)
+    (big_plain cells v.size v.offset) (plain_use (bytes_in v.size) cells v.offset))
+
+plain_test : (at : ℕ) (k : Option HiveKind) (xs : List Check) → IsPlain xs → IsPlain (tests at k ∷ xs)
+plain_test at k xs p o (inl e) = no_test at o k true e
+plain_test at k xs p o (inr h) = p o h
+
+abbrev behind_value : Cells → List (List ℕ) → ℕ → KeyValue → List Check
+behind_value cells names at v = name_check names at v.name ∷ data_checks cells v
+
+pub value_plain : (cells : Cells) (names : List (List ℕ)) (at : ℕ) → IsPlain (value_checks cells names at)
+unfolding value_checks
+value_plain cells names at =
+    plain_append (use_as false key_value_at cells at) (below_of (reading key_value_at cells at) (behind_value cells names at)) (plain_use key_value_at cells at)
+    (plain_read (reading key_value_at cells at) (behind_value cells names at)
+    (λ v. plain_test at (failing (list_any (folds_same v.name) names) DoubleName) (data_checks cells v) (data_plain cells v)))
+
+-- the names told do not matter to what is used
+pub value_told : (cells : Cells) (names others : List (List ℕ)) (at o : ℕ) (s : Bool)
+    → In (value_checks cells names at) (uses o s) → In (value_checks cells others at) (uses o s)
+unfolding value_checks
+value_told cells names others at o s h = ⊎_elim
+    (λ l. in_left (use_as false key_value_at cells at) (below_of (reading key_value_at cells at) (behind_value cells others at)) (uses o s) l)
+    (λ r. in_right (use_as false key_value_at cells at) (below_of (reading key_value_at cells at) (behind_value cells others at)) (uses o s) (go (reading key_value_at cells at) r))
+    (in_cases (use_as false key_value_at cells at) (below_of (reading key_value_at cells at) (behind_value cells names at)) (uses o s) h)
+  where
+    go : (r : Result KeyValue HiveKind) → In (below_of r (behind_value cells names at)) (uses o s)
+        → In (below_of r (behind_value cells others at)) (uses o s)
+    go (Ok v) (inl e) = absurd (no_test at o (failing (list_any (folds_same v.name) names) DoubleName) s e)
+    go (Ok v) (inr h) = inr h
+    go (Err k) h = absurd h
+
+leaves_plain : (cells : Cells) (offsets : List ℕ) → IsPlain (leaves_checks cells offsets)
+leaves_plain cells [] o h = h
+leaves_plain cells (at ∷ rest) o h =
+    plain_append (use_as false leaf_at cells at) (leaves_checks cells rest) (plain_use leaf_at cells at) (leaves_plain cells rest) o h
+
+abbrev leaves_of : Cells → SubkeyList → List Check
+leaves_of cells list = if is_list_of_lists list.kind then leaves_checks cells list.offsets else []
+
+pub entries_plain : (cells : Cells) (at : ℕ) → IsPlain (entries_checks cells at)
+unfolding entries_checks
+entries_plain cells at =
+    plain_append (use_as false list_at cells at) (below_of (reading list_at cells at) (leaves_of cells)) (plain_use list_at cells at)
+    (plain_read (reading list_at cells at) (leaves_of cells) (λ list. go list (is_list_of_lists list.kind)))
+  where
+    go : (list : SubkeyList) (b : Bool) → IsPlain (cond b (leaves_checks cells list.offsets) [])
+    go list true o h = leaves_plain cells list.offsets o h
+    go list false o h = h
+
+-- a value's use
+pub values_to : (cells : Cells) (names : List (List ℕ)) (offsets : List ℕ) (o : ℕ) (s : Bool)
+    → In (values_in_turn cells names offsets) (uses o s) → (v : ℕ) × In offsets v × In (value_checks cells [] v)
+    (uses o s)
+values_to cells names [] o s h = absurd h
+values_to cells names (at ∷ rest) o s h =
+    let more = names ++ names_of (λ (v : KeyValue). v.name) (reading key_value_at cells at) in
+    ⊎_elim (λ l. (at, inl refl, value_told cells names [] at o s l)) (λ r. let p = values_to cells more rest o s r in (p.0, inr p.1, p.2))
+    (in_cases (value_checks cells names at) (values_in_turn cells more rest) (uses o s) h)
+
+-- a child's use
+pub keys_to : (checks : List (List ℕ) → ℕ → List Check) (cells : Cells) (names : List (List ℕ)) (offsets : List ℕ)
+    (c : Check) → In (keys_in_turn checks cells names offsets) c
+    → (y : ℕ) × (told : List (List ℕ)) × In offsets y × In (checks told y) c
+keys_to checks cells names [] c h = absurd h
+keys_to checks cells names (at ∷ rest) c h =
+    let more = names ++ names_of (λ (n : KeyNode). n.name) (reading (node_at false) cells at) in
+    ⊎_elim (λ l. (at, names, inl refl, l)) (λ r. let p = keys_to checks cells more rest c r in (p.0, p.1, inr p.2, p.3))
+    (in_cases (checks names at) (keys_in_turn checks cells more rest) c h)
+
+-- the key's own cell in this role
+pub here : (cells : Cells) (at o : ℕ) (s : Bool) (role : Role) → HasRole cells at role o
+    → (s ≡ true → IsSecurity role) → IsBelow cells at o s
+here cells at o s role has sec =
+    record { path = []; role = role; owns = record { at = at; reached = refl; has = has }; security = sec }
+
+-- not as security
+not_so : (cs : List Check) (o : ℕ) (s : Bool) (P : Type 0) → IsPlain cs → In cs (uses o s) → s ≡ true → P
+not_so cs o s P plain h e = absurd (plain o (subst (λ (b : Bool). In cs (uses o b)) e h))
+
+values_below : (cells : Cells) (n : KeyNode) (at o : ℕ) (s : Bool) → reading key_node_at cells at ≡ Ok n
+    → In (values_checks cells n) (uses o s) → IsBelow cells at o s
+unfolding values_checks value_places value_list_at
+values_below cells n at o s read h = go (n.value_count == 0) refl h
+  where
+    r : Result (List ℕ) HiveKind
+    r = reading (offsets_in n.value_count) cells n.value_list
+
+    go : (b : Bool) → (n.value_count == 0) ≡ b
+        → In (cond b [] (use_as false (offsets_in n.value_count) cells n.value_list ++ below_of (reading (offsets_in n.value_count) cells n.value_list) (values_in_turn cells []))) (uses o s)
+        → IsBelow cells at o s
+    go true z h = absurd h
+    go false z h = ⊎_elim
+        (λ l. let u = use_one false (offsets_in n.value_count) cells n.value_list o s l in
+        here cells at o s value_list
+        (subst (λ (xs : List ℕ). In xs o) (sym (of_node_is cells at n (λ k. if k.value_count == 0 then [] else k.value_list ∷ []) read
+        ∙ ap (λ (c : Bool). cond c [] (n.value_list ∷ [])) z)) (inl u.0))
+        (λ e. absurd (let d = u.1 in cc)))
+        (λ below. let x = in_read (reading (offsets_in n.value_count) cells n.value_list) (values_in_turn cells []) (uses o s) below in
+        let v = values_to cells [] x.0 o s x.2 in
+        here cells at o s (value (value_name cells v.0))
+        (record {
+          place = v.0;
+          listed = subst (λ (xs : List ℕ). In xs v.0)
+              (sym (of_node_is cells at n (λ k. if k.value_count == 0 then [] else of_read (reading (offsets_in k.value_count) cells k.value_list) (λ offsets. offsets)) read
+              ∙ ap (λ (c : Bool). cond c [] (of_read (reading (offsets_in n.value_count) cells n.value_list) (λ offsets. offsets))) z
+              ∙ ap (λ (q : Result (List ℕ) HiveKind). of_read q (λ offsets. offsets)) x.1)) v.1;
+          named = refl;
+          used = used_from (value_checks cells [] v.0) o s v.2;
+        })
+        (λ e. not_so (value_checks cells [] v.0) o s ⊥ (value_plain cells [] v.0) v.2 e))
+        (in_cases (use_as false (offsets_in n.value_count) cells n.value_list) (below_of (reading (offsets_in n.value_count) cells n.value_list) (values_in_turn cells [])) (uses o s) h)
+
+-- what a child has, its parent has below it
+pub deeper : (cells : Cells) (at y o : ℕ) (s : Bool) → In (child_places cells at) y → IsBelow cells y o s
+    → IsBelow cells at o s
+deeper cells at y o s h b = record {
+  path = node_name cells y ∷ b.path;
+  role = b.role;
+  owns = record { at = b.owns.at; reached = (y, h, refl, b.owns.reached); has = b.owns.has };
+  security = b.security;
+}
+
+children_below : (checks : List (List ℕ) → ℕ → List Check) (cells : Cells) (n : KeyNode) (at o : ℕ) (s : Bool)
+    → ((told : List (List ℕ)) (y : ℕ) → In (checks told y) (uses o s) → IsBelow cells y o s)
+    → reading key_node_at cells at ≡ Ok n → In (children_checks checks cells n at) (uses o s) → IsBelow cells at o s
+unfolding children_checks child_places list_cells_at
+children_below checks cells n at o s each read h = go (n.child_count == 0) refl h
+  where
+    inside : List ℕ → List Check
+    inside offsets =
+        tests at (failing (not (length offsets == n.child_count)) Count) ∷ keys_in_turn checks cells [] offsets
+
+    below : (n.child_count == 0) ≡ false → (x : List ℕ) → entries_at cells n.child_list ≡ Ok x
+        → In (tests at (failing (not (length x == n.child_count)) Count) ∷ keys_in_turn checks cells [] x) (uses o s)
+        → IsBelow cells at o s
+    below z x is (inl e) = absurd (no_test at o (failing (not (length x == n.child_count)) Count) s e)
+    below z x is (inr h) =
+        let k = keys_to checks cells [] x (uses o s) h in
+        deeper cells at k.0 o s
+        (subst (λ (xs : List ℕ). In xs k.0)
+        (sym (of_node_is cells at n (λ m. if m.child_count == 0 then [] else of_read (entries_at cells m.child_list) (λ offsets. offsets)) read
+        ∙ ap (λ (c : Bool). cond c [] (of_read (entries_at cells n.child_list) (λ offsets. offsets))) z
+        ∙ ap (λ (q : Result (List ℕ) HiveKind). of_read q (λ offsets. offsets)) is)) k.2)
+        (each k.1 k.0 k.3)
+
+    go : (b : Bool) → (n.child_count == 0) ≡ b
+        → In (cond b [] (entries_checks cells n.child_list ++ below_of (entries_at cells n.child_list) (λ offsets. tests at (failing (not (length offsets == n.child_count)) Count) ∷ keys_in_turn checks cells [] offsets))) (uses o s)
+        → IsBelow cells at o s
+    go true z h = absurd h
+    go false z h = ⊎_elim
+        (λ l. here cells at o s lists
+        (subst (λ (xs : List ℕ). In xs o) (sym (of_node_is cells at n (λ m. if m.child_count == 0 then [] else used_in (entries_checks cells m.child_list)) read
+        ∙ ap (λ (c : Bool). cond c [] (used_in (entries_checks cells n.child_list))) z)) (used_from (entries_checks cells n.child_list) o s l))
+        (λ e. not_so (entries_checks cells n.child_list) o s ⊥ (entries_plain cells n.child_list) l e))
+        (λ r. let x = in_read (entries_at cells n.child_list) (λ offsets. tests at (failing (not (length offsets == n.child_count)) Count) ∷ keys_in_turn checks cells [] offsets) (uses o s) r in below z x.0 x.1 x.2)
+        (in_cases (entries_checks cells n.child_list) (below_of (entries_at cells n.child_list) (λ offsets. tests at (failing (not (length offsets == n.child_count)) Count) ∷ keys_in_turn checks cells [] offsets)) (uses o s) h)
+
+pub walk_below : (fuel : ℕ) (cells : Cells) (root : Bool) (names : List (List ℕ)) (at o : ℕ) (s : Bool)
+    → In (key_checks fuel cells root names at) (uses o s) → IsBelow cells at o s
+unfolding key_checks class_cell_at security_cell_at
+walk_below zero cells root names at o s (inl e) = absurd (no_test at o (Some TooDeep) s e)
+walk_below zero cells root names at o s (inr h) = absurd h
+walk_below (suc left) cells root names at o s h = ⊎_elim
+    (λ l. let u = use_one false (node_at root) cells at o s l in here cells at o s node u.0 (λ e. absurd (let d = u.1 in cc)))
+    (λ r. let x = in_read (reading (node_at root) cells at) inside (uses o s) r in go (λ told y u. walk_below left cells false told y o s u) x.0 (plain_node root cells at x.0 x.1) x.2)
+    (in_cases (use_as false (node_at root) cells at) (below_of (reading (node_at root) cells at) inside) (uses o s) h)
+  where
+    checks : List (List ℕ) → ℕ → List Check
+    checks = key_checks left cells false
+
+    inside : KeyNode → List Check
+    inside n = name_check names at n.name ∷ below_node (key_checks left cells false) cells n at
+
+    go : ((told : List (List ℕ)) (y : ℕ) → In (key_checks left cells false told y) (uses o s) → IsBelow cells y o s)
+        → (n : KeyNode) → reading key_node_at cells at ≡ Ok n → In (inside n) (uses o s) → IsBelow cells at o s
+    go deep n read (inl e) = absurd (no_test at o (failing (list_any (folds_same n.name) names) DoubleName) s e)
+    go deep n read (inr h) = ⊎_elim
+        (λ c. here cells at o s class (subst (λ (xs : List ℕ). In xs o) (sym (of_node_is cells at n (λ m. used_in (class_checks cells m)) read)) (used_from (class_checks cells n) o s c))
+        (λ e. not_so (class_checks cells n) o s ⊥ (class_plain cells n) c e))
+        (λ h2. ⊎_elim
+        (λ c. here cells at o s security (subst (λ (xs : List ℕ). In xs o) (sym (of_node_is cells at n (λ m. used_in (security_checks cells m)) read)) (used_from (security_checks cells n) o s c)) (λ e. tt))
+        (λ h3. ⊎_elim (values_below cells n at o s read)
+        (children_below (key_checks left cells false) cells n at o s deep read)
+        (in_cases (values_checks cells n) (children_checks (key_checks left cells false) cells n at) (uses o s) h3))
+        (in_cases (security_checks cells n) (values_checks cells n ++ children_checks (key_checks left cells false) cells n at) (uses o s) h2))
+        (in_cases (class_checks cells n) (security_checks cells n ++ (values_checks cells n ++ children_checks (key_checks left cells false) cells n at)) (uses o s) h)

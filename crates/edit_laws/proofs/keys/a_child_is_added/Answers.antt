@@ -1,0 +1,5 @@
+use Rattle.edit_laws.proofs.KeyDone.{a_child_added}
+use Rattle.edit_laws.proofs.keys.a_child_is_added.Goals as goal
+
+pub returns : goal.returns
+returns c = a_child_added

@@ -1,0 +1,5 @@
+use Rattle.edit_laws.proofs.KeyDone.{a_child_copied}
+use Rattle.edit_laws.proofs.keys.a_child_is_copied.Goals as goal
+
+pub returns : goal.returns
+returns c = a_child_copied

@@ -1,0 +1,5 @@
+use Rattle.edit_laws.proofs.KeyDone.{a_key_deleted}
+use Rattle.edit_laws.proofs.keys.a_key_is_deleted.Goals as goal
+
+pub returns : goal.returns
+returns c = a_key_deleted

@@ -1,0 +1,11 @@
+use Rattle.edit_laws.proofs.InOrder.{tree_done, stands_done, left_outside}
+use Rattle.edit_laws.proofs.outside.steps_are_done_in_order.Goals as goal
+
+pub returns-clause-tree : goal.returns-clause-tree
+returns-clause-tree c = tree_done
+
+pub returns-clause-stands : goal.returns-clause-stands
+returns-clause-stands c = stands_done
+
+pub returns-clause-left : goal.returns-clause-left
+returns-clause-left c = left_outside

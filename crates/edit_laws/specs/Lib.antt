@@ -1,0 +1,12 @@
+pub mod Owned
+pub mod Framed
+pub mod Sound
+pub mod Pairs
+pub mod Revalues
+pub mod Uses
+pub mod Relists
+pub mod Done
+pub mod Written
+pub mod Sizes
+pub mod Changes
+pub mod Lists
