@@ -1,0 +1,14 @@
+pub mod ResultLemmas
+pub mod StandingLemmas
+pub mod OnceLemmas
+pub mod PlaceLemmas
+pub mod NodeLemmas
+pub mod ItemLemmas
+pub mod ScanLemmas
+pub mod FoundLemmas
+pub mod HiveLemmas
+pub mod InPlaceLemmas
+pub mod EditLemmas
+pub mod SetLemmas
+pub mod AnewLemmas
+pub mod OwnLemmas

@@ -1,0 +1,60 @@
+use Rattle.std.proofs.Common.{◌+◌, length, is_some, inl, inr, refl, sym, ap, ◌∙◌, arith}
+use Rattle.std.specs.Int.{w32, from_le_bytes}
+use Rattle.reg_tree.proofs.Outcomes.{on_ok}
+use Rattle.hive_edit.proofs.SetLemmas.{set_full, is_set, patch_room, fields_long}
+use Rattle.hive_edit.proofs.hive.HiveBytes.set_value.Goals as goal
+
+pub returns-then-size-gt4-clause-cells : goal.returns-then-size-gt4-clause-cells
+returns-then-size-gt4-clause-cells c = on_ok c.set_anew.result _ _ (λ p. inr p) c.set_anew.ensures.anew
+
+pub returns-in-None-clause-cells : goal.returns-in-None-clause-cells
+returns-in-None-clause-cells c = on_ok c.set_anew-in-None.result _ _ (λ p. inr p) c.set_anew-in-None.ensures.anew
+
+pub returns-in-None-clause-in_place : goal.returns-in-None-clause-in_place
+returns-in-None-clause-in_place c = λ there few. absurd (let e = ap is_some c.in-None.ensures in cc)
+
+pub returns-in-None-clause-no_memory : goal.returns-in-None-clause-no_memory
+returns-in-None-clause-no_memory c = λ there few. absurd (let e = ap is_some c.in-None.ensures in cc)
+
+pub returns-then-bulk-gt-MOST_BULK-clause-made : goal.returns-then-bulk-gt-MOST_BULK-clause-made
+returns-then-bulk-gt-MOST_BULK-clause-made c =
+    let i = c.self.inside in (
+      set_full i.cells i.cells i.root i.version i.bulk c.args.self.now c.args.path.now c.args.name.now c.args.kind c.args.bytes.now c.in-Some.at
+          c.self.invariant c.self.view_is (sym c.in-Some.ensures) (omega arith) c.if-bulk-gt-MOST_BULK.true,
+      refl,
+    )
+
+pub patch-requires : goal.patch-requires
+patch-requires c =
+    let i = c.self.inside in
+    patch_room i.cells i.root i.version i.bulk c.args.self.now c.args.path.now c.args.name.now c.in-Some.at c.inside_fields-fields.result
+    c.self.invariant c.self.view_is (sym c.in-Some.ensures)
+    (ap length c.inside_fields-fields.ensures ∙ fields_long (2147483648 + length c.args.bytes.now) (from_le_bytes w32 c.args.bytes.now) c.args.kind)
+
+pub invariant_of-self : goal.invariant_of-self
+invariant_of-self c =
+    let i = c.self.inside in
+    (is_set i.cells c.patch.new.self i.root i.version i.bulk c.args.self.now c.args.path.now c.args.name.now c.args.kind c.args.bytes.now c.in-Some.at
+    c.self.invariant c.self.view_is (sym c.in-Some.ensures) (omega arith) (λ k. omega (arith, c.type_inv.bytes k)) (omega arith) c.if-bulk-gt-MOST_BULK.false
+    (rw c.inside_fields-fields.ensures at c.patch.ensures.here) c.patch.ensures.others c.patch.ensures.long).hive
+
+pub returns-else-bulk-gt-MOST_BULK-clause-made : goal.returns-else-bulk-gt-MOST_BULK-clause-made
+returns-else-bulk-gt-MOST_BULK-clause-made c =
+    let i = c.self.inside in
+    (is_set i.cells c.patch.new.self i.root i.version i.bulk c.args.self.now c.args.path.now c.args.name.now c.args.kind c.args.bytes.now c.in-Some.at
+    c.self.invariant c.self.view_is (sym c.in-Some.ensures) (omega arith) (λ k. omega (arith, c.type_inv.bytes k)) (omega arith) c.if-bulk-gt-MOST_BULK.false
+    (rw c.inside_fields-fields.ensures at c.patch.ensures.here) c.patch.ensures.others c.patch.ensures.long).edit
+
+pub returns-else-bulk-gt-MOST_BULK-clause-cells : goal.returns-else-bulk-gt-MOST_BULK-clause-cells
+returns-else-bulk-gt-MOST_BULK-clause-cells c =
+    let i = c.self.inside in
+    inl (is_set i.cells c.patch.new.self i.root i.version i.bulk c.args.self.now c.args.path.now c.args.name.now c.args.kind c.args.bytes.now c.in-Some.at
+    c.self.invariant c.self.view_is (sym c.in-Some.ensures) (omega arith) (λ k. omega (arith, c.type_inv.bytes k)) (omega arith) c.if-bulk-gt-MOST_BULK.false
+    (rw c.inside_fields-fields.ensures at c.patch.ensures.here) c.patch.ensures.others c.patch.ensures.long).kept
+
+pub returns-else-bulk-gt-MOST_BULK-clause-in_place : goal.returns-else-bulk-gt-MOST_BULK-clause-in_place
+returns-else-bulk-gt-MOST_BULK-clause-in_place c = λ there few.
+    let i = c.self.inside in
+    (is_set i.cells c.patch.new.self i.root i.version i.bulk c.args.self.now c.args.path.now c.args.name.now c.args.kind c.args.bytes.now c.in-Some.at
+    c.self.invariant c.self.view_is (sym c.in-Some.ensures) (omega arith) (λ k. omega (arith, c.type_inv.bytes k)) (omega arith) c.if-bulk-gt-MOST_BULK.false
+    (rw c.inside_fields-fields.ensures at c.patch.ensures.here) c.patch.ensures.others c.patch.ensures.long).kept

@@ -1,0 +1,49 @@
+-- What an edit of a hive leaves of its cells. (This project's own.)
+use Rattle.std.specs.Prelude.{◌≡◌, ◌++◌, ℕ, Bool, false, if◌then◌else◌, List, is_some, Option, Some, None, Result, Ok, Err}
+use Rattle.std.specs.Option.{option_and_then}
+use Rattle.std.specs.Int.{w32, to_le_bytes}
+use Rattle.nt_bytes.specs.declared.fault.HiveKind.{HiveKind}
+use Rattle.hive_model.specs.Bins.{Cells, bins_size}
+use Rattle.hive_model.specs.Forms.{KeyValue, key_value_at, data_inside}
+use Rattle.hive_model.specs.Walk.{reading}
+use Rattle.hive_model.specs.Edit.{Step}
+use Rattle.hive_model.specs.Footprint.{IsInFootprint, key_place}
+use Rattle.hive_model.specs.Packed.{packed_bins}
+use Rattle.hive_cells.specs.Held.{held_at}
+use Rattle.hive_edit.specs.Hive.{HiveCells, cells_in}
+use Rattle.hive_edit.specs.Places.{value_place}
+
+-- in place: each cell that was allocated, and is in the footprint of no step, has its offset and its payload, the root is where it was,
+-- and the bins data are as long as before
+pub record IsEditedInPlace (old : HiveCells) (steps : List Step) (new : HiveCells) : Type 0 where
+  pub kept : (o : ℕ) (p : List ℕ) → held_at old.bins o ≡ Some p → (IsInFootprint (cells_in old) old.root old.tree steps o → ⊥)
+      → held_at new.bins o ≡ Some p
+  pub root : new.root ≡ old.root
+  pub long : bins_size new.bins ≡ bins_size old.bins
+
+-- packed anew: the cells are those of the packed form of the tree
+pub record IsPackedAnew (h : HiveCells) : Type 0 where
+  pub bins : h.bins ≡ packed_bins h.version h.tree
+  pub root : h.root ≡ 32
+
+-- the value that was read holds its data itself
+abbrev pub held_itself : Result KeyValue HiveKind → Bool
+held_itself (Ok value) = is_some (data_inside value)
+held_itself (Err kind) = false
+
+-- the value at an offset holds its data itself
+abbrev pub holds_itself : Cells → ℕ → Bool
+holds_itself cells at = held_itself (reading key_value_at cells at)
+
+-- the offset of a value that holds its data itself
+abbrev pub if_inside : Cells → ℕ → Option ℕ
+if_inside cells at = if holds_itself cells at then Some at else None
+
+-- the offset of the value of this name in the key at a path, where it holds its data itself
+abbrev pub inside_place : Cells → List (List ℕ) → List ℕ → ℕ → Option ℕ
+inside_place cells path name root =
+    option_and_then (λ key. option_and_then (if_inside cells) (value_place cells name key)) (key_place cells path root)
+
+-- the twelve bytes of a value's size, offset and type (regf format, Key value)
+abbrev pub value_fields : ℕ → ℕ → ℕ → List ℕ
+value_fields size offset kind = to_le_bytes w32 size ++ (to_le_bytes w32 offset ++ to_le_bytes w32 kind)

@@ -1,0 +1,41 @@
+-- Where the keys and values of a tree stand in cells. (This project's own.)
+use Rattle.std.specs.Prelude.{◌==◌, ℕ, if◌then◌else◌, List, [], find, Option, Some, None, Result, Ok, Err}
+use Rattle.std.specs.Option.{option_and_then}
+use Rattle.nt_bytes.specs.declared.fault.HiveKind.{HiveKind}
+use Rattle.hive_model.specs.Bins.{Cells}
+use Rattle.std.specs.Result.{IsOk}
+use Rattle.hive_model.specs.Forms.{key_value_at, offsets_in}
+use Rattle.hive_model.specs.Walk.{reading}
+use Rattle.hive_model.specs.Tree.{Item, Tree, dword_in}
+use Rattle.hive_model.specs.Footprint.{of_node, of_read, is_value_named}
+use Rattle.hive_model.specs.Stands.{IsWellFormed, item_at}
+
+-- a key stands at an offset, with all below it in well-formed cells
+abbrev pub IsKeyAt : Cells → ℕ → Type 0
+IsKeyAt cells at = (t : Tree) × IsWellFormed cells at t
+
+-- the offsets of the values of the key at an offset, in order
+unfoldable pub value_places : Cells → ℕ → List ℕ
+value_places cells at =
+    of_node cells at (λ node. if node.value_count == 0 then [] else of_read (reading (offsets_in node.value_count) cells node.value_list) (λ offsets. offsets))
+
+-- the offset of the first value that has this name, of the key at an offset
+abbrev pub value_place : Cells → List ℕ → ℕ → Option ℕ
+value_place cells name at = find (is_value_named cells name) (value_places cells at)
+
+-- the value that was read, if one was
+abbrev pub item_read : Result Item HiveKind → Option Item
+item_read (Ok v) = Some v
+item_read (Err kind) = None
+
+-- the number that the value at an offset is
+abbrev pub dword_at : Cells → ℕ → Option ℕ
+dword_at cells at = option_and_then dword_in (item_read (item_at cells at))
+
+-- a value stands at an offset
+abbrev pub IsItemHere : Cells → ℕ → Type 0
+IsItemHere cells at = IsOk (item_at cells at)
+
+-- the name of the value in a payload, empty where none is read
+unfoldable pub value_name_of : List ℕ → List ℕ
+value_name_of p = of_read (key_value_at p) (λ value. value.name)

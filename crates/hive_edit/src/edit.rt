@@ -1,0 +1,218 @@
+//! A value set, where it stands or with all cells packed anew, and steps in order.
+
+ghost use Rattle.std.specs.Prelude.{◌≡◌, ◌≤◌, ◌+◌, ◌⊎◌, [], ◌∷◌, length, map, is_some, true, Ok, IfOk, IfErr, OnOk, OnErr, MatchResult};
+ghost use Rattle.std.specs.List.{All};
+ghost use Rattle.std.specs.Int.{w32, from_le_bytes};
+ghost use Rattle.hive_model.specs.Edit.{edited, set_value};
+ghost use Rattle.reg_tree.specs.Fitting.{Fits};
+ghost use Rattle.hive_model.specs.Size.{bulk_of};
+ghost use Rattle.hive_model.specs.Valid.{IsValid};
+ghost use Rattle.reg_tree.specs.Makes.{IsRefused, Makes, step_of};
+ghost use Rattle.reg_tree.specs.declared.stop.EditStop.TheVariants.{Full, Memory};
+ghost use Rattle.hive_edit.specs.Hive.{cells_in};
+ghost use Rattle.hive_edit.specs.Edits.{inside_place, value_fields, IsEditedInPlace, IsPackedAnew};
+
+use crate::hive::HiveBytes;
+use crate::path::key_at;
+use crate::source::Source;
+use crate::values::{if_inside, value_at};
+use hive_cells::read_cells;
+use hive_pack::pack;
+use hive_read::read_tree;
+use nt_bytes::{Bytes, HiveVersion, Names, ReadStop, Row, Units, put_u32};
+use reg_tree::{EditStop, Key, Steps, TreeStep};
+use std::alloc::Global;
+
+/// The greatest bulk of an edited tree, in bytes.
+const MOST_BULK: u64 = 16_773_120;
+
+/// Where the packed form has the root.
+const ROOT: u32 = 32;
+
+/// The number of up to four bytes, which stand in the offset field of a value.
+fn own_number(bytes: &[u8]) -> u32
+    requires { length bytes.now ≤ 4 }
+    ensures { result ≡ from_le_bytes w32 bytes.now }
+{
+    let mut own = [0; 4];
+    for i in 0..bytes.len() {
+        own[i] = bytes[i];
+    }
+    u32::from_le_bytes(own)
+}
+
+/// The fields of a value for its size, offset and type.
+fn fields_of(size: u32, offset: u32, kind: u32) -> [u8; 12]
+    ensures { result ≡ value_fields size offset kind }
+{
+    let mut fields = [0; 12];
+    put_u32(&mut fields, 0, size);
+    put_u32(&mut fields, 4, offset);
+    put_u32(&mut fields, 8, kind);
+    fields
+}
+
+/// The fields of a value of this type that holds these bytes itself.
+fn inside_fields(kind: u32, bytes: &[u8]) -> [u8; 12]
+    requires { length bytes.now ≤ 4 }
+    ensures { result ≡ value_fields (2147483648 + length bytes.now) (from_le_bytes w32 bytes.now) kind }
+{
+    let size = 0x8000_0000 + bytes.len() as u32;
+    let offset = own_number(bytes);
+    fields_of(size, offset, kind)
+}
+
+/// The step that sets a value.
+fn setting(
+    alloc: Global,
+    path: &Names,
+    name: &[u16],
+    kind: u32,
+    bytes: &[u8],
+) -> Result<Steps, EditStop>
+    ensures made { IfOk result (λ steps. map step_of steps ≡ set_value path.now name.now kind bytes.now ∷ []) }
+    ensures fits { IfOk result (λ steps. All Fits (map step_of steps)) }
+    ensures memory { IfErr result (λ stop. stop ≡ Memory) }
+{
+    let mut steps = Row::new(alloc);
+    steps.push(TreeStep::SetValue {
+        path: path.copy(alloc)?,
+        name: Units::from_slice(alloc, name)?,
+        kind,
+        bytes: Bytes::from_slice(alloc, bytes)?,
+    })?;
+    Ok(steps)
+}
+
+impl HiveBytes {
+    /// The offset of the value of a name in the key that a path leads to, where it holds its data itself.
+    fn inside_at(&self, path: &Names, name: &[u16]) -> Option<u32>
+        ensures { result ≡ inside_place (cells_in self.now) path.now name.now self.now.root }
+    {
+        let source = Source {
+            heap: self.cells.cells(),
+            version: self.version,
+        };
+        match key_at(&source, self.root, path) {
+            None => None,
+            Some(key) => match value_at(&source, key, name) {
+                None => None,
+                Some(value) => if_inside(&source, value),
+            },
+        }
+    }
+
+    /// The hive of the packed tree after the steps.
+    fn packed_anew(&self, alloc: Global, steps: Steps) -> Result<HiveBytes, EditStop>
+        requires fits { All Fits (map step_of steps) }
+        ensures made { MatchResult result (λ h. edited self.now.version self.now.tree (map step_of steps) ≡ Ok h.tree)
+            (IsRefused (edited self.now.version self.now.tree (map step_of steps))) }
+        ensures version { IfOk result (λ h. h.version ≡ self.now.version) }
+        ensures anew { IfOk result IsPackedAnew }
+    {
+        let version = self.version;
+        let mut tree = match read_tree(alloc, self.cells.cells(), self.root, version) {
+            Ok(tree) => tree,
+            Err(ReadStop::Memory) => return Err(EditStop::Memory),
+            Err(ReadStop::Fault(_)) => unreachable!(),
+        };
+        tree.apply(alloc, steps, version)?;
+        of_packed(alloc, &tree, version)
+    }
+
+    /// Makes the steps in order, all or none, and packs the tree anew. A hive can hold each key that a step brings
+    /// along. After an `Err` the hive is as before.
+    pub fn apply(&mut self, alloc: Global, steps: Steps) -> Result<(), EditStop>
+        requires fits { All Fits (map step_of steps) }
+        ensures made { Makes self.old.tree self.new.tree result (edited self.old.version self.old.tree (map step_of steps)) }
+        ensures refused { OnErr result (self.new ≡ self.old) }
+        ensures version { self.new.version ≡ self.old.version }
+        ensures anew { OnOk result (IsPackedAnew self.new) }
+    {
+        let after = self.packed_anew(alloc, steps)?;
+        *self = after;
+        Ok(())
+    }
+
+    /// The same for one value.
+    fn set_anew(
+        &mut self,
+        alloc: Global,
+        path: &Names,
+        name: &[u16],
+        kind: u32,
+        bytes: &[u8],
+    ) -> Result<(), EditStop>
+        ensures made { Makes self.old.tree self.new.tree result (edited self.old.version self.old.tree (set_value path.now name.now kind bytes.now ∷ [])) }
+        ensures refused { OnErr result (self.new ≡ self.old) }
+        ensures version { self.new.version ≡ self.old.version }
+        ensures anew { OnOk result (IsPackedAnew self.new) }
+    {
+        let steps = setting(alloc, path, name, kind, bytes)?;
+        self.apply(alloc, steps)
+    }
+
+    /// Gives the key that a path leads to a value: in place of the one that has the name, letters of either case
+    /// taken for one, which keeps its own, or as the last. Where the value is there, holds its data itself, and is to
+    /// hold up to four bytes, twelve bytes are written in its cell, and no memory is wanted; else the tree is packed
+    /// anew. After an `Err` the hive is as before.
+    pub fn set_value(
+        &mut self,
+        alloc: Global,
+        path: &Names,
+        name: &[u16],
+        kind: u32,
+        bytes: &[u8],
+    ) -> Result<(), EditStop>
+        ensures made { Makes self.old.tree self.new.tree result (edited self.old.version self.old.tree (set_value path.now name.now kind bytes.now ∷ [])) }
+        ensures refused { OnErr result (self.new ≡ self.old) }
+        ensures version { self.new.version ≡ self.old.version }
+        ensures cells { OnOk result (IsEditedInPlace self.old (set_value path.now name.now kind bytes.now ∷ []) self.new ⊎ IsPackedAnew self.new) }
+        ensures in_place { is_some (inside_place (cells_in self.old) path.now name.now self.old.root) ≡ true → length bytes.now ≤ 4
+            → OnOk result (IsEditedInPlace self.old (set_value path.now name.now kind bytes.now ∷ []) self.new) }
+        ensures no_memory { is_some (inside_place (cells_in self.old) path.now name.now self.old.root) ≡ true → length bytes.now ≤ 4
+            → IfErr result (λ stop. stop ≡ Full) }
+    {
+        let size = bytes.len();
+        if size > 4 {
+            return self.set_anew(alloc, path, name, kind, bytes);
+        }
+        match self.inside_at(path, name) {
+            None => self.set_anew(alloc, path, name, kind, bytes),
+            Some(at) => {
+                let bulk = self.bulk;
+                if bulk > MOST_BULK {
+                    return Err(EditStop::Full);
+                }
+                let fields = inside_fields(kind, bytes);
+                self.cells.patch(at, 4, &fields);
+                Ok(())
+            }
+        }
+    }
+}
+
+/// The hive of a packed tree.
+fn of_packed(alloc: Global, tree: &Key, version: HiveVersion) -> Result<HiveBytes, EditStop>
+    requires valid { IsValid tree.now }
+    requires room { bulk_of version tree.now ≤ 16773120 }
+    ensures tree { IfOk result (λ h. h.tree ≡ tree.now) }
+    ensures version { IfOk result (λ h. h.version ≡ version) }
+    ensures anew { IfOk result IsPackedAnew }
+    ensures memory { IfErr result (λ stop. stop ≡ Memory) }
+{
+    let packed = pack(alloc, tree, version)?;
+    let cells = match read_cells(alloc, packed) {
+        Ok(cells) => cells,
+        Err(ReadStop::Memory) => return Err(EditStop::Memory),
+        Err(ReadStop::Fault(_)) => unreachable!(),
+    };
+    let heap = cells.opened(alloc)?;
+    let bulk = tree.bulk(version);
+    Ok(HiveBytes {
+        cells: heap,
+        root: ROOT,
+        version,
+        bulk,
+    })
+}

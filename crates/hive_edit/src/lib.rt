@@ -1,0 +1,18 @@
+//! A hive as its cells: looked into where it stands, without its tree in memory.
+//!
+//! `HiveBytes::from_cells` judges the whole tree once, and answers the hive or its first fault. From then on
+//! the type keeps that its cells are well-formed, so a lookup goes from cell to cell and judges nothing.
+//! Rules: regf format 1.3 and 1.5, key node, key value and subkey lists; that names are compared folded is
+//! that of the registry.
+#![tactic(auto)]
+
+mod children;
+mod edit;
+mod hive;
+mod path;
+mod source;
+#[cfg(test)]
+mod tests;
+mod values;
+
+pub use hive::HiveBytes;
