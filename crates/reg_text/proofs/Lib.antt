@@ -1,0 +1,6 @@
+mod DigitLemmas
+mod FitLemmas
+mod PathLemmas
+mod PairLemmas
+mod QuoteLemmas
+mod ReadLemmas

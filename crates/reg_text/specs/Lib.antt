@@ -1,0 +1,7 @@
+pub mod Digits
+pub mod Gives
+pub mod Items
+pub mod Quotes
+pub mod Reading
+pub mod Takes
+pub mod Writing

@@ -1,0 +1,180 @@
+//! The line of a value.
+
+ghost use Rattle.std.specs.Prelude.{◌≡◌, ◌++◌, ◌*◌, ◌≤◌, if◌then◌else◌, false, length, codes, OnOk};
+ghost use Rattle.std.specs.List.{flat_map};
+ghost use Rattle.std.specs.Fmt.{digits};
+ghost use Rattle.std.specs.Int.{w32, from_le_bytes};
+ghost use Rattle.nt_bytes.specs.Text.{sz_of};
+ghost use Rattle.reg_text.specs.Writing.{quoted_unit, quoted, name_text, byte_digits, bytes_text, number_digits, is_dword, is_string, binary_text, data_text, value_text, breaks};
+
+use crate::names::breaks;
+use nt_bytes::{hex_digit, sz, u32_at};
+use reg_tree::Value;
+use std::alloc::{AllocError, Global};
+
+/// Puts characters behind, a unit for each byte.
+pub fn push_ascii(out: &mut Vec<u16>, text: &[u8]) -> Result<(), AllocError>
+    ensures { OnOk result (out.new.items ≡ out.old.items ++ text.now) }
+{
+    for c in text {
+        out.push(u16::from(*c))?;
+    }
+    Ok(())
+}
+
+#[tactic(auto, unfolding(crate::specs::Writing::quoted_unit))]
+fn push_quoted_unit(out: &mut Vec<u16>, unit: u16) -> Result<(), AllocError>
+    ensures { OnOk result (out.new.items ≡ out.old.items ++ quoted_unit unit) }
+{
+    if unit == 0x5c || unit == 0x22 {
+        out.push(0x5c)?;
+    }
+    out.push(unit)?;
+    Ok(())
+}
+
+fn push_units(out: &mut Vec<u16>, text: &[u16]) -> Result<(), AllocError>
+    ensures { OnOk result (out.new.items ≡ out.old.items ++ flat_map quoted_unit text.now) }
+{
+    for unit in text {
+        push_quoted_unit(out, *unit)?;
+    }
+    Ok(())
+}
+
+fn push_quoted(out: &mut Vec<u16>, text: &[u16]) -> Result<(), AllocError>
+    ensures { OnOk result (out.new.items ≡ out.old.items ++ quoted text.now) }
+{
+    push_ascii(out, b"\"")?;
+    push_units(out, text)?;
+    push_ascii(out, b"\"")
+}
+
+fn push_name(out: &mut Vec<u16>, name: &[u16]) -> Result<(), AllocError>
+    ensures { OnOk result (out.new.items ≡ out.old.items ++ name_text name.now) }
+{
+    if name.is_empty() {
+        return push_ascii(out, b"@");
+    }
+    push_quoted(out, name)
+}
+
+fn push_byte(out: &mut Vec<u16>, byte: u8) -> Result<(), AllocError>
+    ensures { OnOk result (out.new.items ≡ out.old.items ++ byte_digits byte) }
+{
+    let value = u32::from(byte);
+    out.push(u16::from(hex_digit(value / 16)))?;
+    out.push(u16::from(hex_digit(value % 16)))?;
+    Ok(())
+}
+
+fn push_more_bytes(out: &mut Vec<u16>, bytes: &[u8]) -> Result<(), AllocError>
+    ensures { OnOk result (out.new.items ≡ out.old.items ++ flat_map (λ b. codes "," ++ byte_digits b) bytes.now) }
+{
+    for byte in bytes {
+        push_ascii(out, b",")?;
+        push_byte(out, *byte)?;
+    }
+    Ok(())
+}
+
+fn push_bytes(out: &mut Vec<u16>, bytes: &[u8]) -> Result<(), AllocError>
+    ensures { OnOk result (out.new.items ≡ out.old.items ++ bytes_text bytes.now) }
+{
+    match bytes {
+        [] => Ok(()),
+        [first, more @ ..] => {
+            push_byte(out, *first)?;
+            push_more_bytes(out, more)
+        }
+    }
+}
+
+fn push_number(out: &mut Vec<u16>, number: u32) -> Result<(), AllocError>
+    ensures { OnOk result (out.new.items ≡ out.old.items ++ number_digits number) }
+{
+    push_byte(out, (number / 16777216) as u8)?;
+    push_byte(out, (number / 65536 % 256) as u8)?;
+    push_byte(out, (number / 256 % 256) as u8)?;
+    push_byte(out, (number % 256) as u8)
+}
+
+/// The type in hexadecimal digits.
+fn push_kind(alloc: Global, out: &mut Vec<u16>, kind: u32) -> Result<(), AllocError>
+    ensures { OnOk result (out.new.items ≡ out.old.items ++ digits 16 false kind) }
+{
+    let text = format!(in alloc; "{kind:x}")?;
+    push_ascii(out, text.as_bytes())
+}
+
+fn push_binary(alloc: Global, out: &mut Vec<u16>, kind: u32, bytes: &[u8]) -> Result<(), AllocError>
+    ensures { OnOk result (out.new.items ≡ out.old.items ++ binary_text kind bytes.now) }
+{
+    if kind == 3 {
+        push_ascii(out, b"hex:")?;
+        return push_bytes(out, bytes);
+    }
+    push_ascii(out, b"hex(")?;
+    push_kind(alloc, out, kind)?;
+    push_ascii(out, b"):")?;
+    push_bytes(out, bytes)
+}
+
+/// Whether the data are this string, which stands in one line, and one zero unit behind it.
+#[tactic(auto, unfolding(crate::specs::Writing::is_string))]
+fn is_plain_string(bytes: &[u8], text: &[u16]) -> bool
+    requires text { text.now ≡ sz_of bytes.now }
+    requires half { 2 * length text.now ≤ length bytes.now }
+    ensures { result ≡ is_string 1 bytes.now }
+{
+    bytes.len() - 2 * text.len() == 2 && !breaks(text)
+}
+
+fn push_string(alloc: Global, out: &mut Vec<u16>, bytes: &[u8]) -> Result<(), AllocError>
+    ensures { OnOk result (out.new.items ≡ out.old.items ++ (if is_string 1 bytes.now then quoted (sz_of bytes.now) else binary_text 1 bytes.now)) }
+{
+    let text = sz(alloc, bytes)?;
+    if is_plain_string(bytes, text.as_slice()) {
+        return push_quoted(out, text.as_slice());
+    }
+    push_binary(alloc, out, 1, bytes)
+}
+
+/// The number that four bytes are.
+fn number_in(bytes: &[u8]) -> u32
+    requires { length bytes.now ≡ 4 }
+    ensures { result ≡ from_le_bytes w32 bytes.now }
+{
+    u32_at(bytes, 0)
+}
+
+fn push_dword(out: &mut Vec<u16>, number: u32) -> Result<(), AllocError>
+    ensures { OnOk result (out.new.items ≡ out.old.items ++ (codes "dword:" ++ number_digits number)) }
+{
+    push_ascii(out, b"dword:")?;
+    push_number(out, number)
+}
+
+#[tactic(auto, unfolding(crate::specs::Writing::data_text, crate::specs::Writing::is_string))]
+fn push_data(alloc: Global, out: &mut Vec<u16>, kind: u32, bytes: &[u8]) -> Result<(), AllocError>
+    ensures { OnOk result (out.new.items ≡ out.old.items ++ data_text kind bytes.now) }
+{
+    if kind == 4 && bytes.len() == 4 {
+        return push_dword(out, number_in(bytes));
+    }
+    if kind == 1 {
+        return push_string(alloc, out, bytes);
+    }
+    push_binary(alloc, out, kind, bytes)
+}
+
+/// Puts the line of a value behind.
+#[tactic(auto, unfolding(crate::specs::Writing::value_text))]
+pub fn push_value(alloc: Global, out: &mut Vec<u16>, value: &Value) -> Result<(), AllocError>
+    ensures { OnOk result (out.new.items ≡ out.old.items ++ value_text value.now) }
+{
+    push_name(out, value.name())?;
+    push_ascii(out, b"=")?;
+    push_data(alloc, out, value.kind, value.data())?;
+    push_ascii(out, b"\r\n")
+}
