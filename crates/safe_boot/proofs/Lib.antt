@@ -1,0 +1,7 @@
+pub mod NameLemmas
+pub mod ReduceLemmas
+pub mod HeldLemmas
+pub mod PlayLemmas
+pub mod ListLemmas
+pub mod SetLemmas
+pub mod LateLemmas

@@ -1,0 +1,5 @@
+pub mod Modes
+pub mod Listed
+pub mod Lines
+pub mod Played
+pub mod Laws

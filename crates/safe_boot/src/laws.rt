@@ -1,0 +1,13 @@
+//! Laws of safe starts.
+
+ghost use Rattle.safe_boot.specs.Laws.{UnlistedChangesNoLine, LateIsListed};
+
+/// Whether there is an entry with a Start other than 0 that isn't listed changes no line.
+pub fn an_unlisted_entry_changes_no_line()
+    ensures { UnlistedChangesNoLine }
+{}
+
+/// Each name that is started in the system phase or the automatic one is that of a listed entry.
+pub fn what_starts_late_is_listed()
+    ensures { LateIsListed }
+{}

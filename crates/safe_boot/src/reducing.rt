@@ -1,0 +1,167 @@
+//! What a safe mode leaves of a control set.
+
+ghost use Rattle.std.specs.Prelude.{◌≡◌, ◌&&◌, ◌==◌, false, not, filter, codes, IfOk, if◌then◌else◌};
+ghost use Rattle.std.specs.Option.{option_map_or};
+ghost use Rattle.hive_model.specs.Tree.{head, find_text, is_named};
+ghost use Rattle.hive_model.specs.Edit.{of_children, at_first};
+ghost use Rattle.start_model.specs.Entries.{entry_of, named_group};
+ghost use Rattle.safe_boot.specs.Listed.{has_name, is_among, stays, reduced_of};
+
+use crate::listing::read_list;
+use crate::mode::SafeMode;
+use name_places::NamePlaces;
+use nt_bytes::{Bytes, Units, same_folded};
+use reg_tree::{Key, Keys, Value, Values};
+use std::alloc::{AllocError, Global};
+
+const SERVICES: [u16; 8] = [0x53, 0x65, 0x72, 0x76, 0x69, 0x63, 0x65, 0x73];
+
+const START: [u16; 5] = [0x53, 0x74, 0x61, 0x72, 0x74];
+
+const TYPE: [u16; 4] = [0x54, 0x79, 0x70, 0x65];
+
+const GROUP: [u16; 5] = [0x47, 0x72, 0x6f, 0x75, 0x70];
+
+/// The control set without the services that the mode leaves out: the children of `Services` that are entries with a
+/// Start other than 0 and are not listed. Takes n log n time in the services and the names of the list.
+pub fn reduce(alloc: Global, set: &Key, mode: SafeMode) -> Result<Key, AllocError>
+    ensures { IfOk result (λ k. k ≡ reduced_of set.now mode) }
+{
+    let names = read_list(alloc, set, mode)?;
+    let children = reduced_children(alloc, set.subkeys(), &names)?;
+    with_children(alloc, set, children)
+}
+
+/// The children of a set, of which the first that is named `Services` is reduced.
+fn reduced_children(alloc: Global, keys: &[Key], names: &NamePlaces) -> Result<Keys, AllocError>
+    ensures { IfOk result (λ ks. ks ≡ at_first (is_named (codes "Services")) (of_children (filter (stays names.now))) keys.now) }
+{
+    let mut made = Keys::new(alloc);
+    let mut found = false;
+    for key in keys {
+        let reduces = reduces_at(found, key);
+        made.push(reduced_where(alloc, key, names, reduces)?)?;
+        found |= reduces;
+    }
+    Ok(made)
+}
+
+/// Whether the key is the first of this name, where `found` says that one was before it.
+fn reduces_at(found: bool, key: &Key) -> bool
+    ensures { result ≡ (not found && is_named (codes "Services") key.now) }
+{
+    !found && has_services(key)
+}
+
+fn has_services(key: &Key) -> bool
+    ensures { result ≡ is_named (codes "Services") key.now }
+{
+    same_folded(&SERVICES, key.name())
+}
+
+/// The key with those children that stay, where it is to be reduced, or else as it is.
+fn reduced_where(
+    alloc: Global,
+    key: &Key,
+    names: &NamePlaces,
+    reduces: bool,
+) -> Result<Key, AllocError>
+    ensures { IfOk result (λ k. k ≡ (if reduces then of_children (filter (stays names.now)) key.now else key.now)) }
+{
+    if reduces {
+        let children = staying(alloc, key.subkeys(), names)?;
+        with_children(alloc, key, children)
+    } else {
+        key.copy(alloc)
+    }
+}
+
+/// Copies of the keys that stay, in their order.
+fn staying(alloc: Global, keys: &[Key], names: &NamePlaces) -> Result<Keys, AllocError>
+    ensures { IfOk result (λ ks. ks ≡ filter (stays names.now) keys.now) }
+{
+    let mut made = Keys::new(alloc);
+    for key in keys {
+        if stays(alloc, key, names)? {
+            made.push(key.copy(alloc)?)?;
+        }
+    }
+    Ok(made)
+}
+
+/// Whether a child of `Services` stays: it is no entry, its Start is 0, or it is listed.
+fn stays(alloc: Global, key: &Key, names: &NamePlaces) -> Result<bool, AllocError>
+    ensures { IfOk result (λ b. b ≡ stays names.now key.now) }
+{
+    match late_start(key) {
+        true => is_key_listed(alloc, key, names),
+        false => Ok(true),
+    }
+}
+
+/// Whether the key is an entry with a Start other than 0.
+fn late_start(key: &Key) -> bool
+    ensures { result ≡ option_map_or (λ e. not (e.start == 0)) (entry_of key.now) false }
+{
+    match key.dword(&START) {
+        Some(start) => start != 0 && key.dword(&TYPE).is_some(),
+        None => false,
+    }
+}
+
+/// Whether the names have the key's own name, or that of the group that it has as an entry.
+fn is_key_listed(alloc: Global, key: &Key, names: &NamePlaces) -> Result<bool, AllocError>
+    ensures { IfOk result (λ b. b ≡ is_among names.now (head key.now).name (named_group (find_text (codes "Group") key.now))) }
+{
+    let group = key.text(alloc, &GROUP)?;
+    Ok(is_among(names, key.name(), &group))
+}
+
+/// Whether the names have this name, or that of the group.
+fn is_among(names: &NamePlaces, name: &[u16], group: &Option<Units>) -> bool
+    ensures { result ≡ is_among names.now name.now (named_group group.now) }
+{
+    has_name(names, name) || has_group(names, group)
+}
+
+fn has_name(names: &NamePlaces, name: &[u16]) -> bool
+    ensures { result ≡ has_name names.now name.now }
+{
+    names.place_of(name).is_some()
+}
+
+/// Whether the names have that of the group. A group with an empty name is none.
+fn has_group(names: &NamePlaces, group: &Option<Units>) -> bool
+    ensures { result ≡ option_map_or (has_name names.now) (named_group group.now) false }
+{
+    match group {
+        Some(name) => !name.is_empty() && has_name(names, name.as_slice()),
+        None => false,
+    }
+}
+
+/// The key with other children.
+fn with_children(alloc: Global, key: &Key, children: Keys) -> Result<Key, AllocError>
+    ensures { IfOk result (λ k. k ≡ of_children (λ _. children) key.now) }
+{
+    Ok(Key {
+        name: Units::from_slice(alloc, key.name())?,
+        flags: key.flags,
+        stamp: key.stamp,
+        class: Bytes::from_slice(alloc, key.class())?,
+        security: Bytes::from_slice(alloc, key.security())?,
+        values: copied(alloc, key.items())?,
+        children,
+    })
+}
+
+/// A copy of each value, in order.
+fn copied(alloc: Global, values: &[Value]) -> Result<Values, AllocError>
+    ensures { IfOk result (λ vs. vs ≡ values.now) }
+{
+    let mut made = Values::new(alloc);
+    for value in values {
+        made.push(value.copy(alloc)?)?;
+    }
+    Ok(made)
+}
