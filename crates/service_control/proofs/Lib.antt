@@ -1,0 +1,11 @@
+pub mod StepLemmas
+pub mod SpreadState
+pub mod WaitLemmas
+pub mod LeanLemmas
+pub mod CauseLemmas
+pub mod SpreadLemmas
+pub mod JudgeLemmas
+pub mod NeededLemmas
+pub mod LeaningLaws
+pub mod MetLemmas
+pub mod LeastLemmas

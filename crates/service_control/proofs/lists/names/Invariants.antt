@@ -1,0 +1,6 @@
+use Rattle.std.proofs.Common.{◌≡◌, take}
+use Rattle.dependencies.specs.Work.{names_of}
+use Rattle.service_control.proofs.lists.names.Given as goal
+
+abbrev pub invariant-loop-need : goal.invariant-loop-need
+invariant-loop-need l = l.names ≡ names_of (take l.need-index l.needs)

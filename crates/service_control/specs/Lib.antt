@@ -1,0 +1,9 @@
+pub mod State
+pub mod Turns
+pub mod Needed
+pub mod Leaning
+pub mod Calls
+pub mod First
+pub mod Causes
+pub mod Sets
+pub mod Laws
