@@ -1,0 +1,9 @@
+pub mod ChangeLemmas
+pub mod CopyLemmas
+pub mod KeptLemmas
+pub mod LoadLemmas
+pub mod LogLemmas
+pub mod PairLemmas
+pub mod ReadingLemmas
+pub mod SeenLemmas
+pub mod TwinLemmas

@@ -1,0 +1,86 @@
+-- The scheme of a log.
+use Rattle.std.proofs.Common.{◌≡◌, ℕ, true, false, List, length, Ok, Err, refl, inl, inr, ⊎_elim}
+use Rattle.hive_model.specs.Base.{Base, is_bins_size}
+use Rattle.hive_model.specs.Image.{Image, Address}
+use Rattle.hive_model.specs.Recovery.{recovered_of}
+use Rattle.hive_model.specs.Carries.{Carries, IsRecoveredAs}
+use Rattle.nt_edge.specs.Crash.{EachCrash}
+use Rattle.nt_edge.specs.Calls.{Made}
+use Rattle.nt_edge.specs.Disk.{DiskState}
+use Rattle.nt_edge.specs.Frames.{Goes}
+use Rattle.nt_edge.specs.declared.disk.DiskStop.{DiskStop}
+use Rattle.nt_edge.specs.declared.disk.DiskStop.TheVariants as disk
+use Rattle.hive_log.proofs.Finding.{carries_recovered}
+use Rattle.hive_log.specs.Asked.{MakesReads}
+use Rattle.hive_commit.specs.Alone.{KeepsClean}
+use Rattle.hive_commit.specs.Stages.{IsBeforeOrAfter}
+use Rattle.hive_commit.specs.Stops.{commit_stop_of, IsCommitOn}
+use Rattle.hive_commit.specs.Untouched.{IsUntouched}
+use Rattle.hive_alt.specs.Schemes.{IsKeptAs, IsKeptAsEither, OnlyReads}
+use Rattle.hive_alt.proofs.TwinLemmas.{whole_of}
+
+pub carried_is_clean : (image : Image) (base : Base) (bins : List ℕ) → is_bins_size (length bins) ≡ true → Carries image base bins → recovered_of image ≡ Ok (record { base = base; bins = bins; dirty = false })
+carried_is_clean image base bins size is = carries_recovered image base bins is (whole_of (length bins) size)
+
+pub recovered_crash : (old new : DiskState) → ((base : Base) (bins : List ℕ) → IsRecoveredAs old.held base bins → EachCrash new (λ (c : Image). IsRecoveredAs c base bins))
+    → (base : Base) (bins : List ℕ) → IsKeptAs recovered_of base bins old.held → EachCrash new (IsKeptAs recovered_of base bins)
+recovered_crash old new each base bins is c crash =
+    let one = each base bins (record { dirty = is.dirty; recovered = is.kept }) c crash in
+    record { dirty = one.dirty; kept = one.recovered }
+
+pub either_crash : (s : DiskState) (base closed : Base) (old new : List ℕ) → EachCrash s (IsBeforeOrAfter base old closed new) → EachCrash s (IsKeptAsEither recovered_of base old closed new)
+either_crash s base closed old new each c crash = ⊎_elim
+    (λ is. inl (record { dirty = is.dirty; kept = is.recovered }))
+    (λ is. inr (record { dirty = is.dirty; kept = is.recovered }))
+    (each c crash)
+
+pub clean_untouched : (old new : DiskState) → KeepsClean old new → (base : Base) (bins : List ℕ) → Carries old.held base bins → IsUntouched old new
+clean_untouched old new keeps base bins is = keeps base is.block is.clean
+
+pub only_reads : (before after : List Made → Type 0) (which : List Address → Type 0) → MakesReads before after which → OnlyReads before after
+only_reads before after which reads = record { sectors = reads.sectors; made = reads.made; are = tt }
+
+-- a refusal of the disk, as a commit calls it
+pub commit_goes : {T U : Type 0} (old new : DiskState) (e : DiskStop) → Goes {T = T} old new (Err e) → IsCommitOn {T = U} old new (Err (commit_stop_of e))
+commit_goes old new disk.PowerLost is = record {
+  goes_on = record {
+    history = is.goes_on.history;
+    counts = is.goes_on.counts;
+    cut = λ e. is.goes_on.cut refl;
+    fault = λ e. absurd (cc);
+    no_cut = λ e. absurd (e refl);
+    no_fault = λ e other. absurd (e refl);
+    no_lack = λ e. is.goes_on.no_lack (λ x. absurd (cc));
+    off = λ e. is.goes_on.off refl;
+    on = λ e. absurd (e refl);
+  };
+  lack = λ e. absurd (cc);
+}
+commit_goes old new disk.Failed is = record {
+  goes_on = record {
+    history = is.goes_on.history;
+    counts = is.goes_on.counts;
+    cut = λ e. absurd (cc);
+    fault = λ e. is.goes_on.fault refl;
+    no_cut = λ e. is.goes_on.no_cut (λ x. absurd (cc));
+    no_fault = λ e other. absurd (other refl);
+    no_lack = λ e. is.goes_on.no_lack (λ x. absurd (cc));
+    off = λ e. absurd (cc);
+    on = λ e. is.goes_on.on (λ x. absurd (cc));
+  };
+  lack = λ e. absurd (cc);
+}
+commit_goes old new disk.Memory is = record {
+  goes_on = record {
+    history = is.goes_on.history;
+    counts = is.goes_on.counts;
+    cut = λ e. absurd (cc);
+    fault = λ e. absurd (cc);
+    no_cut = λ e. is.goes_on.no_cut (λ x. absurd (cc));
+    no_fault = λ e other. is.goes_on.no_fault (λ x. absurd (cc)) (λ x. absurd (cc));
+    no_lack = λ e. absurd (e refl);
+    off = λ e. absurd (cc);
+    on = λ e. is.goes_on.on (λ x. absurd (cc));
+  };
+  lack = λ e. is.lack refl;
+}

@@ -1,0 +1,16 @@
+-- Reads, one after the other.
+use Rattle.std.proofs.Common.{◌++◌, ◌∷◌, [], List, sym, subst}
+use Rattle.std.proofs.lemmas.List.{append-nil}
+use Rattle.nt_edge.specs.Calls.{Made, ReadAt, Makes}
+use Rattle.hive_model.specs.Image.{Address}
+use Rattle.hive_log.proofs.Asking.{reads_in_turn}
+use Rattle.hive_alt.specs.Schemes.{OnlyReads}
+
+pub reads_none : (a : List Made → Type 0) → OnlyReads a a
+reads_none a = record { sectors = []; made = λ earlier is. subst a (sym (append-nil earlier)) is; are = tt }
+
+pub reads_one : (a b : List Made → Type 0) (at : Address) → Makes a b (ReadAt at ∷ []) → OnlyReads a b
+reads_one a b at made = record { sectors = at ∷ []; made = made; are = tt }
+
+pub reads_then : {a b c : List Made → Type 0} → OnlyReads a b → OnlyReads b c → OnlyReads a c
+reads_then {a = a} {b = b} {c = c} one two = record { sectors = one.sectors ++ two.sectors; made = reads_in_turn a b c one.sectors two.sectors one.made two.made; are = tt }

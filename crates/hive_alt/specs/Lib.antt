@@ -1,0 +1,8 @@
+pub mod Changes
+pub mod Copies
+pub mod FilesState
+pub mod Plans
+pub mod Schemes
+pub mod Shown
+pub mod Turned
+pub mod Twin

@@ -1,0 +1,37 @@
+-- What a way to keep a hive on a disk promises. (This project's own.)
+use Rattle.std.specs.Prelude.{◌≡◌, ◌⊎◌, Bool, ℕ, List, Result, Ok, Err}
+use Rattle.nt_bytes.specs.declared.fault.HiveFault.{HiveFault}
+use Rattle.hive_model.specs.Base.{Base}
+use Rattle.hive_model.specs.Image.{Image}
+use Rattle.hive_model.specs.Recovery.{Recovered}
+use Rattle.hive_model.specs.State.{HiveState}
+use Rattle.hive_model.specs.Load.{Holds, HeldFault}
+use Rattle.nt_edge.specs.Calls.{Made}
+use Rattle.hive_log.specs.Asked.{MakesReads}
+
+-- what each image stands for, and whether a load mends something; or the first check that fails
+abbrev pub Standing : Type 0
+Standing = Image → Result Recovered HiveFault
+
+-- the image stands for this base block and these bins data, be there something to mend or not
+pub record IsKeptAs (stands : Standing) (base : Base) (bins : List ℕ) (image : Image) : Type 0 where
+  pub dirty : Bool
+  pub kept : stands image ≡ Ok (record { base = base; bins = bins; dirty = dirty })
+
+-- the image stands for what was before a commit, or for what is after it
+abbrev pub IsKeptAsEither : Standing → Base → List ℕ → Base → List ℕ → Image → Type 0
+IsKeptAsEither stands base old closed new image = IsKeptAs stands base old image ⊎ IsKeptAs stands closed new image
+
+-- the image stands for this state
+pub record StandsFor (stands : Standing) (state : HiveState) (image : Image) : Type 0 where
+  pub recovered : Recovered
+  pub read : stands image ≡ Ok recovered
+  pub holds : Holds recovered state
+
+-- the first fault of the image
+abbrev pub StandFault : Standing → Image → HiveFault → Type 0
+StandFault stands image fault = (stands image ≡ Err fault) ⊎ ((recovered : Recovered) × (stands image ≡ Ok recovered) × HeldFault recovered fault)
+
+-- sectors were read, and no other call was made
+abbrev pub OnlyReads : (List Made → Type 0) → (List Made → Type 0) → Type 0
+OnlyReads before after = MakesReads before after (λ sectors. Unit {0})

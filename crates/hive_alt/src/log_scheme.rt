@@ -1,0 +1,47 @@
+//! The scheme of a log.
+
+ghost use Rattle.std.specs.Prelude.{◌≡◌};
+
+use crate::Scheme;
+use hive_commit::{CommitStop, LoadStop, Recovered};
+use nt_bytes::ReadStop;
+use nt_edge::Disk;
+use regf_base::BaseBlock;
+use std::alloc::Global;
+
+/// A hive with a log, which a commit writes first: what `hive_log` and `hive_commit` do.
+#[derive(Clone, Copy, Debug, PartialEq, Eq)]
+pub struct LogScheme;
+
+impl Scheme for LogScheme {
+    ghost use Rattle.hive_model.specs.Recovery.{recovered_of};
+    ghost use Rattle.hive_model.specs.Carries.{Carries};
+
+    ghost stands = { recovered_of };
+
+    ghost settled = { Carries };
+
+    fn look<D: Disk>(alloc: Global, disk: &mut D) -> Result<Recovered, LoadStop> {
+        hive_commit::look(alloc, disk)
+    }
+
+    fn kept(alloc: Global, primary: &[u8], second: &[u8]) -> Result<Recovered, ReadStop> {
+        hive_log::recovered(alloc, primary, second)
+    }
+
+    fn load<D: Disk>(alloc: Global, disk: &mut D) -> Result<Recovered, LoadStop> {
+        hive_commit::recover(alloc, disk)
+    }
+
+    fn commit<D: Disk>(
+        disk: &mut D,
+        base: &BaseBlock,
+        old: &[u8],
+        new: &[u8],
+        root: u32,
+    ) -> Result<BaseBlock, CommitStop> {
+        hive_commit::commit(disk, base, old, new, root)
+    }
+
+    fn settled_is_clean() {}
+}
