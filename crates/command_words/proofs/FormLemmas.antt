@@ -1,5 +1,5 @@
 -- The rules of each command are those of its form.
-use Rattle.std.proofs.Common.{◌≡◌, ◌∙◌, ◌==◌, ◌&&◌, ◌||◌, ◌++◌, ℕ, Bool, true, false, cond, not, List, [], ◌∷◌, Option, Some, None, map, refl, sym, ap, ap₂, subst, codes, is_some, true≢false}
+use Rattle.std.proofs.Common.{◌≡◌, ◌∙◌, ◌==◌, ◌&&◌, ◌||◌, ◌++◌, ℕ, Bool, true, false, cond, not, List, [], ◌∷◌, Option, Some, None, map, refl, sym, ap, ap₂, subst, is_some, true≢false}
 use Rattle.std.specs.Prelude.{bytes_eq, fold}
 use Rattle.std.specs.List.{list_any}
 use Rattle.std.proofs.lemmas.Slice.Eq.{bytes_eq-Decides}
@@ -9,8 +9,8 @@ use Rattle.clap.specs.Words.{Kinds, Row, Rule}
 use Rattle.clap.specs.Walk.{arg_by_id, arg_by_index, arg_by_long, has_row, next_position, with_default}
 use Rattle.clap.specs.Faults.{defaults_fault}
 use Rattle.clap.specs.Kinds.{or_else}
-use Rattle.command_words.specs.Words.{Asked, Given, Look, Text, is_given, make_by, make_form, number_name, run, run_by, run_form, run_with, show_by, show_form, given_value}
-use Rattle.command_words.specs.Clap.{make_offers, run_inputs, run_others, show_offers}
+use Rattle.command_words.specs.Words.{Asked, CommandForm, Given, Look, Text, is_given, make_form, number_name, given_value}
+use Rattle.command_words.specs.Clap.{control_others, export_others, hive_inputs, import_others, make_offers, run_inputs, run_others, safe_others, twin_inputs, twin_others}
 use Rattle.command_words.proofs.WordForms.{never, or_left, or_right}
 use Rattle.command_words.proofs.RowLemmas.{IsSingle, number_built, option_built, option_single, row_given_for, rows_for}
 use Rattle.command_words.proofs.ClaimLemmas.{Suits}
@@ -23,16 +23,40 @@ rules_from (o ∷ os) tail = option_built o.0 o.1 ∷ rules_from os tail
 abbrev pub names_from : List (Text × Bool) → List Text
 names_from = map (λ o. o.0)
 
-abbrev pub run_rules : List Rule
-run_rules = rules_from (run_inputs ++ run_others) []
+-- the rules of a command that takes these options alone
+abbrev pub option_rules : List (Text × Bool) → List Rule
+option_rules os = rules_from os []
 
-abbrev pub show_rules : List Rule
-show_rules = rules_from show_offers []
+-- its form
+abbrev pub option_form : List (Text × Bool) → CommandForm
+option_form os = record { options = names_from os; takes_number = false }
 
 abbrev pub make_rules : List Rule
 make_rules = rules_from make_offers (number_built ∷ [])
 
-abbrev is_among : Text → List (Text × Bool) → Bool
+-- the options of each other command
+abbrev pub run_offers : List (Text × Bool)
+run_offers = run_inputs ++ run_others
+
+abbrev pub show_offers : List (Text × Bool)
+show_offers = hive_inputs
+
+abbrev pub safe_offers : List (Text × Bool)
+safe_offers = hive_inputs ++ safe_others
+
+abbrev pub control_offers : List (Text × Bool)
+control_offers = hive_inputs ++ control_others
+
+abbrev pub twin_offers : List (Text × Bool)
+twin_offers = twin_inputs ++ twin_others
+
+abbrev pub export_offers : List (Text × Bool)
+export_offers = hive_inputs ++ export_others
+
+abbrev pub import_offers : List (Text × Bool)
+import_offers = hive_inputs ++ import_others
+
+abbrev pub is_among : Text → List (Text × Bool) → Bool
 is_among n os = list_any (λ o. bytes_eq o n) (names_from os)
 
 abbrev Found : List Rule → Text → Type 0
@@ -63,22 +87,18 @@ apart_from n (o ∷ os) none e = go (bytes_eq o.0 n) refl (apart_from n os (or_r
 none_is : {A : Type 0} (a : Rule) → None ≡ Some a → A
 none_is a e = absurd (true≢false (ap (λ (o : Option Rule). is_some o) (sym e)))
 
-pub run_suits : Suits run_rules run_form
-run_suits = record {
-  known = λ n e. found [] n (run_inputs ++ run_others) e;
-  unknown = λ n e. not_found [] n refl (run_inputs ++ run_others) e;
-  number = λ e. never (sym e);
-  second = λ p e. refl;
-  apart = λ n e. apart_from n (run_inputs ++ run_others) refl e;
-}
+-- no option stands at a place
+pub no_place : (os : List (Text × Bool)) (p : ℕ) → arg_by_index (option_rules os) p ≡ None
+no_place [] p = refl
+no_place (o ∷ os) p = no_place os p
 
-pub show_suits : Suits show_rules show_form
-show_suits = record {
-  known = λ n e. found [] n show_offers e;
-  unknown = λ n e. not_found [] n refl show_offers e;
+pub option_suits : (os : List (Text × Bool)) → is_among number_name os ≡ false → Suits (option_rules os) (option_form os)
+option_suits os none = record {
+  known = λ n e. found [] n os e;
+  unknown = λ n e. not_found [] n refl os e;
   number = λ e. never (sym e);
-  second = λ p e. refl;
-  apart = λ n e. apart_from n show_offers refl e;
+  second = λ p e. no_place os (next_position number_built p);
+  apart = λ n e. apart_from n os none e;
 }
 
 second_number : (p : ℕ) → arg_by_index make_rules p ≡ Some number_built → arg_by_index make_rules (next_position number_built p) ≡ None
@@ -133,11 +153,8 @@ options_no_default : (tail : List Rule) → HasNoDefaults tail → (os : List (T
 options_no_default tail rest [] = rest
 options_no_default tail rest (o ∷ os) = option_no_default o.0 o.1 (rules_from os tail) (options_no_default tail rest os)
 
-pub run_no_defaults : HasNoDefaults run_rules
-run_no_defaults = options_no_default [] no_defaults (run_inputs ++ run_others)
-
-pub show_no_defaults : HasNoDefaults show_rules
-show_no_defaults = options_no_default [] no_defaults show_offers
+pub option_no_defaults : (os : List (Text × Bool)) → HasNoDefaults (option_rules os)
+option_no_defaults os = options_no_default [] no_defaults os
 
 pub make_no_defaults : HasNoDefaults make_rules
 make_no_defaults = options_no_default (number_built ∷ []) number_no_default make_offers
@@ -160,30 +177,24 @@ given_has_value n (x ∷ g) = go (bytes_eq x.0 n) refl (given_has_value n g)
 row_given : (n : Text) (g : Given) (v : Text) → given_value n g ≡ Some v → is_row_given n (rows_for g) ≡ true
 row_given n g v e = row_given_for n g ∙ given_has_value n g ∙ ap (λ (o : Option Text). is_some o) e
 
-abbrev run_parts : Look → Option Text → Option Text → Option Asked
-run_parts look hive script =
-    Rattle.std.specs.Prelude.option_and_then (λ h. Rattle.std.specs.Prelude.option_map (λ s. run (run_with look h s)) script) hive
-
-pub run_missing : (g : Given) → is_missing run_rules g ≡ true → run_by (look_in g) ≡ None
-run_missing g missing = go (given_value (codes "hive") g) (given_value (codes "script") g) refl refl
+-- nothing is asked for where the argument that is required was not given
+pub one_needed : (n : Text) (g : Given) (ask : Option Text → Option Asked) → ask None ≡ None
+    → (not (is_row_given n (rows_for g)) || false) ≡ true → ask (given_value n g) ≡ None
+one_needed n g ask without missing = go (given_value n g) refl
   where
-    go : (h s : Option Text) → given_value (codes "hive") g ≡ h → given_value (codes "script") g ≡ s → run_by (look_in g) ≡ None
-    go None s eh es = ap (λ (h : Option Text). run_parts (look_in g) h (given_value (codes "script") g)) eh
-    go (Some h) None eh es = ap₂ (run_parts (look_in g)) eh es
-    go (Some h) (Some s) eh es =
-        let both = ap₂ (λ (a b : Bool). not a || (not b || false)) (row_given (codes "hive") g h eh) (row_given (codes "script") g s es) in
+    go : (v : Option Text) → given_value n g ≡ v → ask (given_value n g) ≡ None
+    go None e = ap ask e ∙ without
+    go (Some v) e = never (sym missing ∙ ap (λ (a : Bool). not a || false) (row_given n g v e))
+
+-- nor where one of two was not given
+pub two_needed : (n m : Text) (g : Given) (ask : Option Text → Option Text → Option Asked)
+    → ((b : Option Text) → ask None b ≡ None) → ((a : Text) → ask (Some a) None ≡ None)
+    → (not (is_row_given n (rows_for g)) || (not (is_row_given m (rows_for g)) || false)) ≡ true → ask (given_value n g) (given_value m g) ≡ None
+two_needed n m g ask first second missing = go (given_value n g) (given_value m g) refl refl
+  where
+    go : (v w : Option Text) → given_value n g ≡ v → given_value m g ≡ w → ask (given_value n g) (given_value m g) ≡ None
+    go None w e f = ap (λ (a : Option Text). ask a (given_value m g)) e ∙ first (given_value m g)
+    go (Some v) None e f = ap₂ ask e f ∙ second v
+    go (Some v) (Some w) e f =
+        let both = ap₂ (λ (a b : Bool). not a || (not b || false)) (row_given n g v e) (row_given m g w f) in
         never (sym missing ∙ both)
-
-pub show_missing : (g : Given) → is_missing show_rules g ≡ true → show_by (look_in g) ≡ None
-show_missing g missing = go (given_value (codes "hive") g) refl
-  where
-    go : (h : Option Text) → given_value (codes "hive") g ≡ h → show_by (look_in g) ≡ None
-    go None eh = rw eh refl
-    go (Some h) eh = never (sym missing ∙ ap (λ (a : Bool). not a || false) (row_given (codes "hive") g h eh))
-
-pub make_missing : (g : Given) → is_missing make_rules g ≡ true → make_by (look_in g) ≡ None
-make_missing g missing = go (given_value number_name g) refl
-  where
-    go : (h : Option Text) → given_value number_name g ≡ h → make_by (look_in g) ≡ None
-    go None eh = rw eh refl
-    go (Some h) eh = never (sym missing ∙ ap (λ (a : Bool). not a || false) (row_given number_name g h eh))

@@ -1,34 +1,34 @@
 -- `clap` has a fault exactly where our definition has no reading.
-use Rattle.std.proofs.Common.{◌≡◌, ◌∙◌, ◌&&◌, ◌++◌, ◌⊎◌, inl, inr, Bool, true, false, List, [], ◌∷◌, Option, Some, None, refl, sym, ap, ap₂, subst, codes, is_some}
+use Rattle.std.proofs.Common.{◌≡◌, ◌∙◌, ◌&&◌, ◌++◌, ◌⊎◌, inl, inr, Bool, true, false, List, [], ◌∷◌, Option, Some, None, map, refl, sym, ap, ap₂, subst, codes, is_some}
 use Rattle.std.proofs.lemmas.List.{append_assoc}
-use Rattle.std.proofs.lemmas.Slice.Eq.{bytes_eq-Decides}
-use Rattle.std.specs.Prelude.{bytes_eq, fold}
+use Rattle.std.specs.Prelude.{bytes_eq, find, fold, option_and_then, option_map}
+use Rattle.std.specs.Option.{option_map_or}
 use Rattle.std.specs.List.{list_any}
 use Rattle.clap.specs.Words.{App, Kinds, Shape, built, fault_of, first_of, subcommand_of}
-use Rattle.clap.specs.Walk.{Held, Names, Walk, idle, nothing_held, rows_after, subcommand_met, walk_from, walked}
-use Rattle.clap.specs.Faults.{defaults_fault, entered_fault, turn_fault, walk_fault}
-use Rattle.clap.specs.Simple.{entered, names_of}
+use Rattle.clap.specs.Walk.{Held, Names, Walk, answers_to, idle, nothing_held, rows_after, subcommand_met, walk_from, walked}
+use Rattle.clap.specs.Faults.{defaults_fault, entered_fault, level_fault, turn_fault, walk_fault}
+use Rattle.clap.specs.Simple.{entered, label_of, names_of, rows_at}
 use Rattle.clap.specs.Kinds.{IsAmong, or_else}
 use Rattle.clap.specs.declared.error.kind.ErrorKind.{ErrorKind}
-use Rattle.command_words.specs.Words.{Asked, Text, asked_by, command_of, make_by, make_form, named_command, run_by, run_form, show_by, show_form}
-use Rattle.command_words.specs.Clap.{asked_of, is_refused, ntboot_app}
+use Rattle.command_words.specs.Words.{Asked, CommandRow, Text, asked_by, command_of, named_command, row_named}
+use Rattle.command_words.specs.Clap.{asked_of, asked_of_rows, is_refused, ntboot_app}
 use Rattle.command_words.proofs.WordForms.{Looks, as_long, as_plain, looks, never, or_left, or_right}
 use Rattle.command_words.proofs.RowLemmas.{is_none, or_nil}
 use Rattle.command_words.proofs.WalkLemmas.{or_blocked, shape}
-use Rattle.command_words.proofs.FormLemmas.{make_missing, make_no_defaults, make_rules, make_suits, run_missing, run_no_defaults, run_rules, run_suits, show_missing, show_no_defaults, show_rules, show_suits}
-use Rattle.command_words.proofs.LevelLemmas.{level, reads}
+use Rattle.command_words.proofs.LevelLemmas.{level}
+use Rattle.command_words.proofs.TableLemmas.{Entry, Match, entries, label_for, match_in, is_met, is_unmet, shape_of}
 
 abbrev top : Shape
 top = (built ntboot_app).top
 
 abbrev subs : List Shape
-subs = shape (codes "run") run_rules ∷ shape (codes "show") show_rules ∷ shape (codes "make") make_rules ∷ []
+subs = map shape_of entries
 
 abbrev app : App
 app = record { top = top; subs = subs }
 
 abbrev names : Names
-names = (codes "run", []) ∷ (codes "show", []) ∷ (codes "make", []) ∷ []
+names = map label_for entries
 
 app_is : built ntboot_app ≡ app
 app_is = refl
@@ -97,32 +97,40 @@ law_of : (words : List Text) (asked : Option Asked) (below : Kinds) (found : Opt
 law_of words asked below found fault rows (inl bad) = (λ e. bad.1, λ e. never (ap is_none (sym e ∙ fault) ∙ bad.0))
 law_of words asked below found fault rows (inr good) = (λ e. never (sym (ap is_none (fault ∙ good.0)) ∙ e), λ e. good.1 ∙ sym rows)
 
-end_fault : (below : Kinds) → or_else below [] ≡ below
-end_fault = or_nil
+-- the command of this entry is the one that was entered
+abbrev Enters : Text → Entry → Type 0
+Enters command e = (row_named command ≡ Some e.row) × (find (λ s. answers_to command (label_of s)) subs ≡ Some (shape_of e))
+    × (subcommand_met names idle command ≡ Some command)
 
-run_law : (words : List Text) → list_any is_refused words ≡ false → Law (codes "run" ∷ words) (asked_by run_form run_by words)
-unfolding defaults_fault
-run_law words sound =
-    law_of (codes "run" ∷ words) (asked_by run_form run_by words) (level (codes "run") run_rules words) (run_by (λ n. first_of n (rows_after run_rules [] words)))
-    (ap₂ fault_by (entering_fault (codes "run") (codes "run") words refl) (entering (codes "run") (codes "run") words refl) ∙ or_nil (level (codes "run") run_rules words))
-    (ap (λ (w : Walk). asked_of (entered app w.stopped)) (entering (codes "run") (codes "run") words refl))
-    (reads (codes "run") run_rules run_form run_by run_suits run_no_defaults refl run_missing words sound)
+-- the faults of the command that was entered, where these are the shape that was found
+abbrev below_fault : List Text → Option Shape → Kinds
+below_fault words found = or_else (option_map_or (λ s. level_fault s [] nothing_held words false []) found [])
+    (or_else (Rattle.clap.specs.Faults.settle_fault [] false nothing_held)
+    (or_else (defaults_fault (Rattle.clap.specs.Walk.settled [] nothing_held).rows [])
+    (Rattle.clap.specs.Faults.check_fault top (Rattle.clap.specs.Walk.finished [] nothing_held) (is_some (option_map (λ s. rows_at s words) found)))))
 
-show_law : (words : List Text) → list_any is_refused words ≡ false → Law (codes "show" ∷ words) (asked_by show_form show_by words)
+entry_fault : (command : Text) (e : Entry) (words : List Text) → Enters command e
+    → fault_of ntboot_app (command ∷ words) ≡ level e.row.name e.rules words
 unfolding defaults_fault
-show_law words sound =
-    law_of (codes "show" ∷ words) (asked_by show_form show_by words) (level (codes "show") show_rules words) (show_by (λ n. first_of n (rows_after show_rules [] words)))
-    (ap₂ fault_by (entering_fault (codes "show") (codes "show") words refl) (entering (codes "show") (codes "show") words refl) ∙ or_nil (level (codes "show") show_rules words))
-    (ap (λ (w : Walk). asked_of (entered app w.stopped)) (entering (codes "show") (codes "show") words refl))
-    (reads (codes "show") show_rules show_form show_by show_suits show_no_defaults refl show_missing words sound)
+entry_fault command e words enters =
+    ap₂ fault_by (entering_fault command command words enters.2) (entering command command words enters.2)
+    ∙ ap (below_fault words) enters.1
+    ∙ or_nil (level e.row.name e.rules words)
 
-make_law : (words : List Text) → list_any is_refused words ≡ false → Law (codes "make" ∷ words) (asked_by make_form make_by words)
-unfolding defaults_fault
-make_law words sound =
-    law_of (codes "make" ∷ words) (asked_by make_form make_by words) (level (codes "make") make_rules words) (make_by (λ n. first_of n (rows_after make_rules [] words)))
-    (ap₂ fault_by (entering_fault (codes "make") (codes "make") words refl) (entering (codes "make") (codes "make") words refl) ∙ or_nil (level (codes "make") make_rules words))
-    (ap (λ (w : Walk). asked_of (entered app w.stopped)) (entering (codes "make") (codes "make") words refl))
-    (reads (codes "make") make_rules make_form make_by make_suits make_no_defaults refl make_missing words sound)
+entry_asks : (command : Text) (e : Entry) (words : List Text) → e.row.name ≡ command → Enters command e
+    → asked_of (subcommand_of ntboot_app (command ∷ words)) ≡ e.row.asks (λ n. first_of n (rows_after e.rules [] words))
+entry_asks command e words name_is enters =
+    ap (λ (w : Walk). asked_of (entered app w.stopped)) (entering command command words enters.2)
+    ∙ ap (λ (s : Option Shape). asked_of (option_map (λ s. rows_at s words) s)) enters.1
+    ∙ ap (λ (n : Text). asked_of_rows n (rows_after e.rules [] words)) name_is
+    ∙ ap (λ (o : Option CommandRow). option_and_then (λ c. c.asks (λ n. first_of n (rows_after e.rules [] words))) o) enters.0
+
+entry_law : (command : Text) (e : Entry) (words : List Text) → e.row.name ≡ command → Enters command e → list_any is_refused words ≡ false
+    → Law (command ∷ words) (named_command command words)
+entry_law command e words name_is enters sound =
+    subst (Law (command ∷ words)) (sym (ap (λ (o : Option CommandRow). option_and_then (λ c. asked_by c.form c.asks words) o) enters.0))
+    (law_of (command ∷ words) (asked_by e.row.form e.row.asks words) (level e.row.name e.rules words) (e.row.asks (λ n. first_of n (rows_after e.rules [] words)))
+    (entry_fault command e words enters) (entry_asks command e words name_is enters) (e.agrees words sound))
 
 -- a first word that names no command
 no_command : (command : Text) (words : List Text) → is_refused command ≡ false → subcommand_met names idle command ≡ None
@@ -135,21 +143,16 @@ no_command command words sound met = or_blocked (turn_fault top names (walk_from
     go (as_plain ne long short behind first full) = rw (met, ne, long, short) refl
 
 named_law : (command : Text) (words : List Text) → list_any is_refused (command ∷ words) ≡ false → Law (command ∷ words) (named_command command words)
-named_law command words sound = go (bytes_eq (codes "run") command) (bytes_eq (codes "show") command) (bytes_eq (codes "make") command) refl refl refl
+named_law command words sound = go (match_in command entries)
   where
-    rest : list_any is_refused words ≡ false
-    rest = or_right (is_refused command) (list_any is_refused words) sound
-
-    go : (r s m : Bool) → bytes_eq (codes "run") command ≡ r → bytes_eq (codes "show") command ≡ s → bytes_eq (codes "make") command ≡ m
-        → Law (command ∷ words) (named_command command words)
-    go true s m r_is s_is m_is = subst (λ (c : Text). Law (c ∷ words) (named_command c words)) ((bytes_eq-Decides (codes "run") command).0 r_is) (run_law words rest)
-    go false true m r_is s_is m_is = subst (λ (c : Text). Law (c ∷ words) (named_command c words)) ((bytes_eq-Decides (codes "show") command).0 s_is) (show_law words rest)
-    go false false true r_is s_is m_is = subst (λ (c : Text). Law (c ∷ words) (named_command c words)) ((bytes_eq-Decides (codes "make") command).0 m_is) (make_law words rest)
-    go false false false r_is s_is m_is =
-        let none : named_command command words ≡ None = rw (r_is, s_is, m_is) refl in
-        let met : subcommand_met names idle command ≡ None = rw (r_is, s_is, m_is) refl in
+    go : Match command entries → Law (command ∷ words) (named_command command words)
+    go (is_met e name row shape label) =
+        entry_law command e words name (row, shape, ap (λ (o : Option (Text × List Text)). option_map (λ s. s.0) o) label ∙ ap Some name) (or_right (is_refused command) (list_any is_refused words) sound)
+    go (is_unmet row label) =
+        let none : named_command command words ≡ None = ap (λ (o : Option CommandRow). option_and_then (λ c. asked_by c.form c.asks words) o) row in
         let fault : is_none (fault_of ntboot_app (command ∷ words)) ≡ false =
-        or_blocked (walk_fault top names (walk_from nothing_held) (command ∷ words)) _ (no_command command words (or_left (is_refused command) (list_any is_refused words) sound) met) in
+        or_blocked (walk_fault top names (walk_from nothing_held) (command ∷ words)) _
+        (no_command command words (or_left (is_refused command) (list_any is_refused words) sound) (ap (λ (o : Option (Text × List Text)). option_map (λ s. s.0) o) label)) in
         (λ e. none, λ e. never (ap is_none (sym e) ∙ fault))
 
 empty_law : Law [] None

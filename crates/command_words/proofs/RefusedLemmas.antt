@@ -1,11 +1,11 @@
 -- Words among which one is refused have no reading.
-use Rattle.std.proofs.Common.{◌≡◌, ◌∙◌, ◌||◌, Bool, true, false, cond, List, [], ◌∷◌, Option, Some, None, refl, sym, ap, subst, codes}
-use Rattle.std.specs.Prelude.{bytes_eq, option_and_then}
+use Rattle.std.proofs.Common.{◌≡◌, ◌∙◌, ◌||◌, Bool, true, false, cond, List, [], ◌∷◌, Option, Some, None, refl, sym, ap}
+use Rattle.std.specs.Prelude.{bytes_eq, find, option_and_then}
 use Rattle.std.specs.List.{list_any}
 use Rattle.std.proofs.lemmas.Slice.Eq.{bytes_eq-Decides}
-use Rattle.command_words.specs.Words.{Asked, CommandForm, Given, Look, Text, asked_by, attached_in, behind_hyphens, command_of, given_by, is_empty_text, is_hyphen, is_option, make_by, make_form, name_in, named_command, number_name, run_by, run_form, show_by, show_form, with_next, with_option, with_value, with_word}
+use Rattle.command_words.specs.Words.{Asked, CommandForm, CommandRow, Given, Look, Text, asked_by, attached_in, behind_hyphens, command_of, commands, given_by, is_empty_text, is_hyphen, is_option, name_in, named_command, number_name, with_next, with_option, with_value, with_word}
 use Rattle.command_words.specs.Clap.{is_empty_value, is_refused, lacks_text}
-use Rattle.command_words.proofs.WordForms.{never}
+use Rattle.command_words.proofs.WordForms.{never, or_left, or_right}
 
 same : {A : Type 0} (b : Bool) (x : A) → cond b x x ≡ x
 same true x = refl
@@ -93,22 +93,36 @@ none_asked : (form : CommandForm) (by : Look → Option Asked) → is_option [] 
     → asked_by form by words ≡ None
 none_asked form by nameless words refused = ap (option_and_then (λ given. by (λ name. Rattle.command_words.specs.Words.given_value name given))) (none_given form nameless words refused [] None)
 
-no_command : (command : Text) (words : List Text) → is_refused command ≡ true → named_command command words ≡ None
-no_command command words e = go (bytes_eq (codes "run") command) (bytes_eq (codes "show") command) (bytes_eq (codes "make") command) refl refl refl
+-- a word that is refused names no command
+unnamed : (command : Text) → is_refused command ≡ true → (cs : List CommandRow) → list_any (λ c. is_refused c.name) cs ≡ false
+    → find (λ c. bytes_eq c.name command) cs ≡ None
+unnamed command e [] sound = refl
+unnamed command e (c ∷ cs) sound = go (bytes_eq c.name command) refl (unnamed command e cs (or_right (is_refused c.name) _ sound))
   where
-    go : (r s m : Bool) → bytes_eq (codes "run") command ≡ r → bytes_eq (codes "show") command ≡ s → bytes_eq (codes "make") command ≡ m
-        → named_command command words ≡ None
-    go true s m r_is s_is m_is = never (sym (subst (λ (c : Text). is_refused c ≡ true) (sym ((bytes_eq-Decides (codes "run") command).0 r_is)) e))
-    go false true m r_is s_is m_is = never (sym (subst (λ (c : Text). is_refused c ≡ true) (sym ((bytes_eq-Decides (codes "show") command).0 s_is)) e))
-    go false false true r_is s_is m_is = never (sym (subst (λ (c : Text). is_refused c ≡ true) (sym ((bytes_eq-Decides (codes "make") command).0 m_is)) e))
-    go false false false r_is s_is m_is = rw (r_is, s_is, m_is) refl
+    go : (b : Bool) → bytes_eq c.name command ≡ b → find (λ c. bytes_eq c.name command) cs ≡ None
+        → find (λ c. bytes_eq c.name command) (c ∷ cs) ≡ None
+    go true s rest =
+        let name_is : is_refused c.name ≡ true = ap is_refused ((bytes_eq-Decides c.name command).0 s) ∙ e in
+        never (sym name_is ∙ or_left (is_refused c.name) _ sound)
+    go false s rest = rw s rest
+
+no_command : (command : Text) (words : List Text) → is_refused command ≡ true → named_command command words ≡ None
+no_command command words e = ap (λ (o : Option CommandRow). option_and_then (λ c. asked_by c.form c.asks words) o) (unnamed command e commands refl)
+
+-- no command reads words one of which is refused
+none_of : (command : Text) (words : List Text) → list_any is_refused words ≡ true → (cs : List CommandRow) → list_any (λ c. is_option [] c.form) cs ≡ false
+    → option_and_then (λ c. asked_by c.form c.asks words) (find (λ c. bytes_eq c.name command) cs) ≡ None
+none_of command words e [] named = refl
+none_of command words e (c ∷ cs) named = go (bytes_eq c.name command) refl (none_of command words e cs (or_right (is_option [] c.form) _ named))
+  where
+    go : (b : Bool) → bytes_eq c.name command ≡ b
+        → option_and_then (λ c. asked_by c.form c.asks words) (find (λ c. bytes_eq c.name command) cs) ≡ None
+        → option_and_then (λ c. asked_by c.form c.asks words) (find (λ c. bytes_eq c.name command) (c ∷ cs)) ≡ None
+    go true s rest = rw s (none_asked c.form c.asks (or_left (is_option [] c.form) _ named) words e)
+    go false s rest = rw s rest
 
 none_named : (command : Text) (words : List Text) → list_any is_refused words ≡ true → named_command command words ≡ None
-none_named command words e = rw (none_asked run_form run_by refl words e, none_asked show_form show_by refl words e, none_asked make_form make_by refl words e)
-    (same3 (bytes_eq (codes "run") command) (bytes_eq (codes "show") command) (bytes_eq (codes "make") command))
-  where
-    same3 : (r s m : Bool) → cond {A = Option Asked} r None (cond s None (cond m None None)) ≡ None
-    same3 r s m = ap (λ (o : Option Asked). cond r None (cond s None o)) (same m None) ∙ ap (λ (o : Option Asked). cond r None o) (same s None) ∙ same r None
+none_named command words e = none_of command words e commands refl
 
 pub refused_words : (words : List Text) → list_any is_refused words ≡ true → command_of words ≡ None
 unfolding command_of

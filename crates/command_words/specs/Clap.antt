@@ -1,8 +1,8 @@
 -- The command line as `clap` is told of it, and how its answer is seen.
-use Rattle.std.specs.Prelude.{◌&&◌, ◌||◌, not, Bool, true, false, List, [], ◌∷◌, Option, Some, None, codes, if◌then◌else◌, bytes_eq}
+use Rattle.std.specs.Prelude.{◌&&◌, ◌||◌, not, Bool, true, false, List, [], ◌∷◌, Option, Some, None, codes, option_and_then}
 use Rattle.clap.specs.Words.{App, Row, Rule, Text, first_of, new_app, new_rule, with_rule, with_subcommand}
 use Rattle.clap.specs.declared.builder.action.ArgAction.TheVariants.{Set}
-use Rattle.command_words.specs.Words.{Asked, attached_in, behind_hyphens, is_empty_text, is_hyphen, run_by, show_by, make_by, number_name}
+use Rattle.command_words.specs.Words.{Asked, attached_in, behind_hyphens, is_empty_text, is_hyphen, number_name, row_named}
 
 -- `--name VALUE`, at most once
 abbrev pub option_rule : Text → Bool → Rule
@@ -25,13 +25,37 @@ run_inputs = (codes "hive", true) ∷ (codes "script", true) ∷ (codes "log", f
 abbrev pub run_others : List (Text × Bool)
 run_others = (codes "system", false) ∷ (codes "save-hive", false) ∷ (codes "save-log", false) ∷ []
 
--- the options of `show`, each with whether it is required
-abbrev pub show_offers : List (Text × Bool)
-show_offers = (codes "hive", true) ∷ (codes "log", false) ∷ []
+-- the options of every command that reads a hive with its log
+abbrev pub hive_inputs : List (Text × Bool)
+hive_inputs = (codes "hive", true) ∷ (codes "log", false) ∷ []
 
 -- the options of `make`
 abbrev pub make_offers : List (Text × Bool)
 make_offers = (codes "save-hive", false) ∷ []
+
+-- the other options of `safe`
+abbrev pub safe_others : List (Text × Bool)
+safe_others = (codes "boot-ini", false) ∷ (codes "system", false) ∷ []
+
+-- the other option of `control`
+abbrev pub control_others : List (Text × Bool)
+control_others = (codes "commands", true) ∷ []
+
+-- the options of `twin` that tell what is done, each with whether it is required
+abbrev pub twin_inputs : List (Text × Bool)
+twin_inputs = (codes "hive", true) ∷ (codes "alt", false) ∷ (codes "scheme", false) ∷ (codes "default", false) ∷ []
+
+-- the options of `twin` that tell what is saved
+abbrev pub twin_others : List (Text × Bool)
+twin_others = (codes "save-hive", false) ∷ (codes "save-alt", false) ∷ []
+
+-- the other options of `export`
+abbrev pub export_others : List (Text × Bool)
+export_others = (codes "reg", true) ∷ (codes "key", false) ∷ []
+
+-- the other options of `import`
+abbrev pub import_others : List (Text × Bool)
+import_others = (codes "reg", true) ∷ (codes "save-hive", false) ∷ (codes "save-log", false) ∷ []
 
 -- `run` with the first of them
 abbrev pub run_inputs_app : App
@@ -41,13 +65,41 @@ run_inputs_app = with_option_rules (new_app (codes "run")) run_inputs
 abbrev pub run_app : App
 run_app = with_option_rules run_inputs_app run_others
 
+-- the command of this name, with a hive and its log
+abbrev pub hive_app : Text → App
+hive_app name = with_option_rules (new_app name) hive_inputs
+
 -- `show` with all its options
 abbrev pub show_app : App
-show_app = with_option_rules (new_app (codes "show")) show_offers
+show_app = hive_app (codes "show")
 
 -- `make` with its option and its number
 abbrev pub make_app : App
 make_app = with_rule (with_option_rules (new_app (codes "make")) make_offers) number_rule
+
+-- `safe` with all its options
+abbrev pub safe_app : App
+safe_app = with_option_rules (hive_app (codes "safe")) safe_others
+
+-- `control` with all its options
+abbrev pub control_app : App
+control_app = with_option_rules (hive_app (codes "control")) control_others
+
+-- `twin` with the first of them
+abbrev pub twin_inputs_app : App
+twin_inputs_app = with_option_rules (new_app (codes "twin")) twin_inputs
+
+-- `twin` with all its options
+abbrev pub twin_app : App
+twin_app = with_option_rules twin_inputs_app twin_others
+
+-- `export` with all its options
+abbrev pub export_app : App
+export_app = with_option_rules (hive_app (codes "export")) export_others
+
+-- `import` with all its options
+abbrev pub import_app : App
+import_app = with_option_rules (hive_app (codes "import")) import_others
 
 -- no program's name, help or version among the words, and one of the commands
 abbrev pub plain_app : App
@@ -61,17 +113,21 @@ plain_app = record (new_app (codes "ntboot")) {
   };
 }
 
--- all three commands
+-- the first three commands
+abbrev pub startup_app : App
+startup_app = with_subcommand (with_subcommand (with_subcommand plain_app run_app.top) show_app.top) make_app.top
+
+-- two more
+abbrev pub service_app : App
+service_app = with_subcommand (with_subcommand startup_app safe_app.top) control_app.top
+
+-- all the commands
 abbrev pub ntboot_app : App
-ntboot_app = with_subcommand (with_subcommand (with_subcommand plain_app run_app.top) show_app.top) make_app.top
+ntboot_app = with_subcommand (with_subcommand (with_subcommand service_app twin_app.top) export_app.top) import_app.top
 
 -- what the rows of the command of this name ask for
 abbrev pub asked_of_rows : Text → List Row → Option Asked
-asked_of_rows name rows =
-    if bytes_eq (codes "run") name then run_by (λ n. first_of n rows)
-    else if bytes_eq (codes "show") name then show_by (λ n. first_of n rows)
-    else if bytes_eq (codes "make") name then make_by (λ n. first_of n rows)
-    else None
+asked_of_rows name rows = option_and_then (λ c. c.asks (λ n. first_of n rows)) (row_named name)
 
 -- what the command that was entered asks for
 abbrev pub asked_of : Option (Text × List Row) → Option Asked

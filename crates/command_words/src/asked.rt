@@ -31,10 +31,71 @@ pub struct MakeWords<'a> {
     pub save_hive: Option<&'a str>,
 }
 
+/// What `safe` is asked for: the names of the files that it reads, and the ARC path of the system.
+///
+/// That the path is one is for the caller to judge.
+#[derive(Clone, Copy, Debug, PartialEq, Eq)]
+pub struct SafeWords<'a> {
+    pub hive: &'a str,
+    pub log: Option<&'a str>,
+    pub boot_ini: Option<&'a str>,
+    pub system: &'a str,
+}
+
+/// What `control` is asked for: the names of the files that it reads.
+#[derive(Clone, Copy, Debug, PartialEq, Eq)]
+pub struct ControlWords<'a> {
+    pub hive: &'a str,
+    pub log: Option<&'a str>,
+    pub commands: &'a str,
+}
+
+/// What keeps the hive: a second whole copy, or a log.
+#[derive(Clone, Copy, Debug, PartialEq, Eq)]
+pub enum TwinScheme {
+    Alt,
+    Log,
+}
+
+/// What `twin` is asked for: the files that it reads and saves, what keeps the hive, and the number of a set, from 1 to 999.
+#[derive(Clone, Copy, Debug, PartialEq, Eq)]
+pub struct TwinWords<'a> {
+    pub hive: &'a str,
+    pub alt: Option<&'a str>,
+    pub scheme: TwinScheme,
+    pub default: Option<u32>,
+    pub save_hive: Option<&'a str>,
+    pub save_alt: Option<&'a str>,
+}
+
+/// What `export` is asked for: the names of the files that it reads and puts, and the path of the key.
+#[derive(Clone, Copy, Debug, PartialEq, Eq)]
+pub struct ExportWords<'a> {
+    pub hive: &'a str,
+    pub log: Option<&'a str>,
+    pub reg: &'a str,
+    pub key: Option<&'a str>,
+}
+
+/// What `import` is asked for: the names of the files that it reads and saves.
+#[derive(Clone, Copy, Debug, PartialEq, Eq)]
+pub struct ImportWords<'a> {
+    pub hive: &'a str,
+    pub log: Option<&'a str>,
+    pub reg: &'a str,
+    pub save_hive: Option<&'a str>,
+    pub save_log: Option<&'a str>,
+}
+
 /// A command with what it is asked for.
 #[derive(Clone, Copy, Debug, PartialEq, Eq)]
 pub enum Command<'a> {
     Run(RunWords<'a>),
     Show(ShowWords<'a>),
     Make(MakeWords<'a>),
+    Safe(SafeWords<'a>),
+    Control(ControlWords<'a>),
+    Twin(TwinWords<'a>),
+    Export(ExportWords<'a>),
+    Import(ImportWords<'a>),
 }

@@ -1,13 +1,17 @@
 //! The command that was parsed, with its values.
 
-ghost use Rattle.std.specs.Prelude.{◌≡◌, codes, option_map, unwrap_or};
+ghost use Rattle.std.specs.Prelude.{◌≡◌, Some, codes, option_map, unwrap_or};
 ghost use Rattle.clap.specs.Words.{first_of, found_of, rows_of, subcommand_rows_of};
-ghost use Rattle.command_words.specs.Words.{run, show, make, run_by, show_by, make_by, usual_system};
+ghost use Rattle.command_words.specs.Words.{run_by, show_by, make_by, safe_by, control_by, twin_by, export_by, import_by};
+ghost use Rattle.command_words.specs.Words.{default_of, scheme_of, usual_system};
 ghost use Rattle.command_words.specs.Clap.{asked_of, asked_of_rows};
-ghost use Rattle.command_words.specs.Views.{command_seen, run_seen, show_seen, make_seen};
+ghost use Rattle.command_words.specs.Views.{command_seen};
 
-use crate::asked::{Command, MakeWords, RunWords, ShowWords, USUAL_SYSTEM};
-use crate::count::count_in;
+use crate::asked::{
+    Command, ControlWords, ExportWords, ImportWords, MakeWords, RunWords, SafeWords, ShowWords,
+    TwinScheme, TwinWords, USUAL_SYSTEM,
+};
+use crate::count::{count_in, set_number_in};
 use clap::ArgMatches;
 
 /// The value of the argument, where one was given.
@@ -27,12 +31,12 @@ fn system<'a>(matches: &ArgMatches<'a>) -> &'a str
     }
 }
 
-fn run_words<'a>(matches: &ArgMatches<'a>) -> Option<RunWords<'a>>
-    ensures { option_map (λ r. run (run_seen r)) result ≡ run_by (λ name. first_of name (rows_of (found_of matches.now))) }
+fn run_words<'a>(matches: &ArgMatches<'a>) -> Option<Command<'a>>
+    ensures { option_map command_seen result ≡ run_by (λ name. first_of name (rows_of (found_of matches.now))) }
 {
     let hive = value(matches, "hive")?;
     let script = value(matches, "script")?;
-    Some(RunWords {
+    Some(Command::Run(RunWords {
         hive,
         log: value(matches, "log"),
         script,
@@ -40,50 +44,164 @@ fn run_words<'a>(matches: &ArgMatches<'a>) -> Option<RunWords<'a>>
         system: system(matches),
         save_hive: value(matches, "save-hive"),
         save_log: value(matches, "save-log"),
-    })
+    }))
 }
 
-fn show_words<'a>(matches: &ArgMatches<'a>) -> Option<ShowWords<'a>>
-    ensures { option_map (λ s. show (show_seen s)) result ≡ show_by (λ name. first_of name (rows_of (found_of matches.now))) }
+fn show_words<'a>(matches: &ArgMatches<'a>) -> Option<Command<'a>>
+    ensures { option_map command_seen result ≡ show_by (λ name. first_of name (rows_of (found_of matches.now))) }
 {
     let hive = value(matches, "hive")?;
-    Some(ShowWords {
+    Some(Command::Show(ShowWords {
         hive,
         log: value(matches, "log"),
-    })
+    }))
 }
 
-fn make_words<'a>(matches: &ArgMatches<'a>) -> Option<MakeWords<'a>>
-    ensures { option_map (λ m. make (make_seen m)) result ≡ make_by (λ name. first_of name (rows_of (found_of matches.now))) }
+fn make_words<'a>(matches: &ArgMatches<'a>) -> Option<Command<'a>>
+    ensures { option_map command_seen result ≡ make_by (λ name. first_of name (rows_of (found_of matches.now))) }
 {
     let number = value(matches, "N")?;
     let count = count_in(number.as_bytes())?;
-    Some(MakeWords {
+    Some(Command::Make(MakeWords {
         count,
         save_hive: value(matches, "save-hive"),
-    })
+    }))
+}
+
+fn safe_words<'a>(matches: &ArgMatches<'a>) -> Option<Command<'a>>
+    ensures { option_map command_seen result ≡ safe_by (λ name. first_of name (rows_of (found_of matches.now))) }
+{
+    let hive = value(matches, "hive")?;
+    Some(Command::Safe(SafeWords {
+        hive,
+        log: value(matches, "log"),
+        boot_ini: value(matches, "boot-ini"),
+        system: system(matches),
+    }))
+}
+
+fn control_words<'a>(matches: &ArgMatches<'a>) -> Option<Command<'a>>
+    ensures { option_map command_seen result ≡ control_by (λ name. first_of name (rows_of (found_of matches.now))) }
+{
+    let hive = value(matches, "hive")?;
+    let commands = value(matches, "commands")?;
+    Some(Command::Control(ControlWords {
+        hive,
+        log: value(matches, "log"),
+        commands,
+    }))
+}
+
+fn scheme_named(name: &str) -> Option<TwinScheme>
+    ensures { result ≡ scheme_of (Some name.now) }
+{
+    if name == "alt" {
+        return Some(TwinScheme::Alt);
+    }
+    if name == "log" {
+        return Some(TwinScheme::Log);
+    }
+    None
+}
+
+/// What keeps the hive: a second copy, where it is not said.
+fn scheme_given<'a>(matches: &ArgMatches<'a>) -> Option<TwinScheme>
+    ensures { result ≡ scheme_of (first_of (codes "scheme") (rows_of (found_of matches.now))) }
+{
+    match value(matches, "scheme") {
+        Some(name) => scheme_named(name),
+        None => Some(TwinScheme::Alt),
+    }
+}
+
+fn number_written(text: &str) -> Option<Option<u32>>
+    ensures { result ≡ default_of (Some text.now) }
+{
+    match set_number_in(text.as_bytes()) {
+        Some(number) => Some(Some(number)),
+        None => None,
+    }
+}
+
+/// The number of a set, where one is given; none where it is no such number.
+fn number_given<'a>(matches: &ArgMatches<'a>) -> Option<Option<u32>>
+    ensures { result ≡ default_of (first_of (codes "default") (rows_of (found_of matches.now))) }
+{
+    match value(matches, "default") {
+        Some(text) => number_written(text),
+        None => Some(None),
+    }
+}
+
+fn twin_words<'a>(matches: &ArgMatches<'a>) -> Option<Command<'a>>
+    ensures { option_map command_seen result ≡ twin_by (λ name. first_of name (rows_of (found_of matches.now))) }
+{
+    let hive = value(matches, "hive")?;
+    let scheme = scheme_given(matches)?;
+    let default = number_given(matches)?;
+    Some(Command::Twin(TwinWords {
+        hive,
+        alt: value(matches, "alt"),
+        scheme,
+        default,
+        save_hive: value(matches, "save-hive"),
+        save_alt: value(matches, "save-alt"),
+    }))
+}
+
+fn export_words<'a>(matches: &ArgMatches<'a>) -> Option<Command<'a>>
+    ensures { option_map command_seen result ≡ export_by (λ name. first_of name (rows_of (found_of matches.now))) }
+{
+    let hive = value(matches, "hive")?;
+    let reg = value(matches, "reg")?;
+    Some(Command::Export(ExportWords {
+        hive,
+        log: value(matches, "log"),
+        reg,
+        key: value(matches, "key"),
+    }))
+}
+
+fn import_words<'a>(matches: &ArgMatches<'a>) -> Option<Command<'a>>
+    ensures { option_map command_seen result ≡ import_by (λ name. first_of name (rows_of (found_of matches.now))) }
+{
+    let hive = value(matches, "hive")?;
+    let reg = value(matches, "reg")?;
+    Some(Command::Import(ImportWords {
+        hive,
+        log: value(matches, "log"),
+        reg,
+        save_hive: value(matches, "save-hive"),
+        save_log: value(matches, "save-log"),
+    }))
 }
 
 fn command_named<'a>(name: &str, matches: &ArgMatches<'a>) -> Option<Command<'a>>
     ensures { option_map command_seen result ≡ asked_of_rows name.now (rows_of (found_of matches.now)) }
 {
     if name == "run" {
-        return match run_words(matches) {
-            Some(words) => Some(Command::Run(words)),
-            None => None,
-        };
+        return run_words(matches);
     }
     if name == "show" {
-        return match show_words(matches) {
-            Some(words) => Some(Command::Show(words)),
-            None => None,
-        };
+        return show_words(matches);
     }
     if name == "make" {
-        return match make_words(matches) {
-            Some(words) => Some(Command::Make(words)),
-            None => None,
-        };
+        return make_words(matches);
+    }
+    if name == "safe" {
+        return safe_words(matches);
+    }
+    if name == "control" {
+        return control_words(matches);
+    }
+    if name == "twin" {
+        return twin_words(matches);
+    }
+    if name == "export" {
+        return export_words(matches);
+    }
+    if name == "import" {
+        return import_words(matches);
     }
     None
 }
