@@ -1,0 +1,5 @@
+pub mod AskLemmas
+pub mod LeaveLemmas
+pub mod PlacedLemmas
+pub mod SaveLemmas
+pub mod DecideLemmas

@@ -1,0 +1,9 @@
+pub mod Views
+pub mod Kinds
+pub mod Exits
+pub mod Inputs
+pub mod Leaves
+pub mod Refusals
+pub mod Placed
+pub mod Saves
+pub mod Decides

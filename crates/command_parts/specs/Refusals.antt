@@ -1,0 +1,55 @@
+-- How is a refusal said, and how does a call end that has an answer to give? This project's own.
+use Rattle.std.specs.Prelude.{◌≡◌, ◌⊎◌, ◌++◌, ℕ, List, Option, Some, None, codes}
+use Rattle.std.specs.Fmt.{decimal}
+use Rattle.nt_edge.specs.Host.{SaysFront}
+use Rattle.nt_edge.specs.declared.host.HostStop.{HostStop}
+use Rattle.nt_edge.specs.declared.host.HostStop.TheVariants.{Read, Write, Memory as NoMemory}
+use Rattle.command_parts.specs.declared.status.Status.{Status}
+use Rattle.command_parts.specs.declared.status.Status.TheVariants as statuses
+use Rattle.command_parts.specs.declared.refusal.Refusal.{Refusal}
+use Rattle.command_parts.specs.declared.refusal.Refusal.TheVariants.{Usage, NoFile, ScriptFault, IniTooLong, IniTooManyEntries, HiveFault as BadHive}
+use Rattle.command_parts.specs.Kinds.{script_kind_word, hive_kind_word}
+use Rattle.command_parts.specs.Leaves.{stop_in}
+
+-- a status, and all that is said with it
+pub record Answer : Type 0 where
+  pub status : Status
+  pub text : List ℕ
+
+-- ---- a refusal
+
+abbrev pub refusal_text : Refusal → List ℕ
+refusal_text Usage = codes "bad usage\n"
+refusal_text (NoFile name) = codes "no file " ++ name ++ codes "\n"
+refusal_text (ScriptFault fault) = codes "script fault " ++ decimal fault.line ++ codes " " ++ script_kind_word fault.kind ++ codes "\n"
+refusal_text IniTooLong = codes "boot.ini fault too-long\n"
+refusal_text IniTooManyEntries = codes "boot.ini fault too-many-entries\n"
+refusal_text (BadHive fault) = codes "hive fault " ++ hive_kind_word fault.kind ++ codes " at " ++ decimal fault.at ++ codes "\n"
+
+abbrev pub refusal_status : Refusal → Status
+refusal_status Usage = statuses.Usage
+refusal_status (NoFile name) = statuses.NoFile
+refusal_status (ScriptFault fault) = statuses.ScriptFault
+refusal_status IniTooLong = statuses.BootIniFault
+refusal_status IniTooManyEntries = statuses.BootIniFault
+refusal_status (BadHive fault) = statuses.HiveFault
+
+abbrev pub refusal : Refusal → Answer
+refusal r = record { status = refusal_status r; text = refusal_text r }
+
+-- ---- how a call ends
+
+-- this status, or that of a stop while something was said
+abbrev pub IsToldAs : Status → Status → Type 0
+IsToldAs told status = (status ≡ told) ⊎ ((status ≡ statuses.WriteFault) ⊎ (status ≡ statuses.Memory))
+
+-- where the outside stopped, nothing was said at a read fault, and else a front of the text
+abbrev pub StopsBy : Option HostStop → List ℕ → List ℕ → List ℕ → Type 0
+StopsBy None text old new = ⊥
+StopsBy (Some Read) text old new = new ≡ old
+StopsBy (Some Write) text old new = SaysFront old new text
+StopsBy (Some NoMemory) text old new = SaysFront old new text
+
+-- the status and what was said are the answer's, or the outside stopped
+abbrev pub Ends : Answer → Status → List ℕ → List ℕ → Type 0
+Ends answer status old new = ((status ≡ answer.status) × (new ≡ old ++ answer.text)) ⊎ StopsBy (stop_in status) answer.text old new

@@ -1,0 +1,63 @@
+//! A hive and its log, checked and placed on the disk.
+
+ghost use Rattle.std.specs.Prelude.{◌≡◌, false, [], length, min, take, unwrap_or, OnOk, OnErr};
+ghost use Rattle.hive_store.specs.Checks.{ChecksAs};
+ghost use Rattle.nt_edge.specs.Disk.{new_state};
+ghost use Rattle.command_parts.specs.Placed.{image_in, placed_disk, with_log, IsUnrun};
+
+use crate::inputs::HiveFiles;
+use hive_store::check_images;
+use nt_bytes::{Bytes, HiveVersion, ReadStop};
+use nt_edge::{Bench, DiskStop, HiveFile};
+use reg_tree::Key;
+use std::alloc::Global;
+
+/// The greatest file on a disk, in bytes: 65,536 sectors of 512.
+const MOST: usize = 33_554_432;
+
+/// The bytes that are placed of a file.
+fn front(bytes: &[u8]) -> &[u8]
+    ensures { result.now ≡ take (min (length bytes.now) 33554432) bytes.now }
+{
+    &bytes[..bytes.len().min(MOST)]
+}
+
+/// The bytes of a log, none where there is no log.
+fn log_bytes(log: &Option<Bytes>) -> &[u8]
+    ensures { result.now ≡ unwrap_or log.now [] }
+{
+    match log {
+        Some(log) => log.as_slice(),
+        None => &[],
+    }
+}
+
+/// Reads a whole hive with its log, as a start will load it: the tree, its sequence number and its version.
+pub fn read(alloc: Global, files: &HiveFiles) -> Result<(Key, u32, HiveVersion), ReadStop>
+    ensures { ChecksAs (image_in files.now) result }
+{
+    check_images(alloc, files.primary.as_slice(), log_bytes(&files.log))
+}
+
+/// Places the log on the disk, where there is one.
+fn place_log<B: Bench>(log: &Option<Bytes>, bench: &mut B) -> Result<(), DiskStop>
+    requires off { (B.state bench.old).on ≡ false }
+    requires still { (B.state bench.old).flight ≡ [] }
+    ensures placed { OnOk result (B.state bench.new ≡ with_log log.now (B.state bench.old)) }
+    ensures before { OnErr result (B.state bench.new ≡ B.state bench.old) }
+{
+    match log {
+        Some(log) => bench.place(HiveFile::Log, front(log.as_slice())),
+        None => Ok(()),
+    }
+}
+
+/// Places a hive and its log, where there is one, of each the first 32 MiB, on a new disk.
+pub fn place<B: Bench>(files: &HiveFiles, bench: &mut B) -> Result<(), DiskStop>
+    requires fresh { B.state bench.old ≡ new_state }
+    ensures placed { OnOk result (B.state bench.new ≡ placed_disk files.now) }
+    ensures unrun { OnErr result (IsUnrun (B.state bench.new)) }
+{
+    bench.place(HiveFile::Primary, front(files.primary.as_slice()))?;
+    place_log(&files.log, bench)
+}

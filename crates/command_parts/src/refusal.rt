@@ -1,0 +1,126 @@
+//! Why a command is not begun, and how that is said.
+
+ghost use Rattle.std.specs.Prelude.{◌≡◌, ◌++◌, None, IfOk, codes};
+ghost use Rattle.std.specs.Fmt.{decimal};
+ghost use Rattle.nt_edge.specs.Host.{AsksNone, KeepsFiles};
+ghost use Rattle.command_parts.specs.Refusals.{IsToldAs, Ends, refusal, refusal_text, refusal_status};
+ghost use Rattle.command_parts.specs.Leaves.{Leaves, stop_in, stopped_as};
+
+use crate::kinds::{hive_kind, script_kind};
+use crate::status::Status;
+use boot_script::ScriptFault;
+use nt_bytes::{Bytes, HiveFault};
+use nt_edge::{Host, HostStop};
+use std::alloc::{AllocError, Global};
+
+/// The first obstacle of a command.
+#[derive(Debug, Drop)]
+pub enum Refusal {
+    /// The words have no reading, or the system's path has none.
+    Usage,
+    /// A file that the words name is absent.
+    NoFile(Bytes),
+    /// The script has no reading.
+    ScriptFault(ScriptFault),
+    /// boot.ini is over 65,536 bytes.
+    IniTooLong,
+    /// boot.ini has over 64 entries.
+    IniTooManyEntries,
+    /// The hive has a fault.
+    HiveFault(HiveFault),
+}
+
+/// A refusal, or a stop of the outside.
+#[derive(Debug, Drop)]
+pub enum Obstacle {
+    Refused(Refusal),
+    Stopped(HostStop),
+}
+
+/// The status of a call that the host stopped.
+pub fn stopped(stop: HostStop) -> Status
+    ensures { result ≡ stopped_as stop }
+{
+    match stop {
+        HostStop::Read => Status::ReadFault,
+        HostStop::Write => Status::WriteFault,
+        HostStop::Memory => Status::Memory,
+    }
+}
+
+fn no_file_line(alloc: Global, name: &[u8]) -> Result<Vec<u8>, AllocError>
+    ensures { IfOk result (λ l. l.items ≡ codes "no file " ++ name.now ++ codes "\n") }
+{
+    let mut line = Vec::from_slice(alloc, b"no file ")?;
+    line.extend_from_slice(name)?;
+    line.push(b'\n')?;
+    Ok(line)
+}
+
+fn script_fault_line(alloc: Global, number: u32, kind: &str) -> Result<Vec<u8>, AllocError>
+    ensures { IfOk result (λ l. l.items ≡ codes "script fault " ++ decimal number ++ codes " " ++ kind.now ++ codes "\n") }
+{
+    Ok(format!(in alloc; "script fault {number} {kind}\n")?.into_bytes())
+}
+
+fn hive_fault_line(alloc: Global, kind: &str, at: u32) -> Result<Vec<u8>, AllocError>
+    ensures { IfOk result (λ l. l.items ≡ codes "hive fault " ++ kind.now ++ codes " at " ++ decimal at ++ codes "\n") }
+{
+    Ok(format!(in alloc; "hive fault {kind} at {at}\n")?.into_bytes())
+}
+
+/// The line of a refusal.
+fn refusal_line(alloc: Global, refusal: &Refusal) -> Result<Vec<u8>, AllocError>
+    ensures { IfOk result (λ l. l.items ≡ refusal_text refusal.now) }
+{
+    match refusal {
+        Refusal::Usage => Vec::from_slice(alloc, b"bad usage\n"),
+        Refusal::NoFile(name) => no_file_line(alloc, name.as_slice()),
+        Refusal::ScriptFault(fault) => {
+            script_fault_line(alloc, fault.line, script_kind(fault.kind))
+        }
+        Refusal::IniTooLong => Vec::from_slice(alloc, b"boot.ini fault too-long\n"),
+        Refusal::IniTooManyEntries => Vec::from_slice(alloc, b"boot.ini fault too-many-entries\n"),
+        Refusal::HiveFault(fault) => hive_fault_line(alloc, hive_kind(fault.kind), fault.at),
+    }
+}
+
+/// Its status.
+fn refusal_status(refusal: &Refusal) -> Status
+    ensures { result ≡ refusal_status refusal.now }
+{
+    match refusal {
+        Refusal::Usage => Status::Usage,
+        Refusal::NoFile(_) => Status::NoFile,
+        Refusal::ScriptFault(_) => Status::ScriptFault,
+        Refusal::IniTooLong | Refusal::IniTooManyEntries => Status::BootIniFault,
+        Refusal::HiveFault(_) => Status::HiveFault,
+    }
+}
+
+/// Says a text, and answers this status; or that of the host's stop.
+pub fn tell<H: Host>(host: &mut H, text: &[u8], status: Status) -> Status
+    requires ends { stop_in status ≡ None }
+    ensures leaves { Leaves (Ends (record { status = status; text = text.now })) result (H.state host.old) (H.state host.new) }
+    ensures files { KeepsFiles (H.state host.old) (H.state host.new) }
+    ensures unasked { AsksNone (H.state host.old) (H.state host.new) }
+    ensures kept { IsToldAs status result }
+{
+    match host.say(text) {
+        Ok(()) => status,
+        Err(stop) => stopped(stop),
+    }
+}
+
+/// Says the line of a refusal, and answers its status; or that of the host's stop.
+pub fn refuse<H: Host>(alloc: Global, host: &mut H, why: &Refusal) -> Status
+    ensures leaves { Leaves (Ends (refusal why.now)) result (H.state host.old) (H.state host.new) }
+    ensures files { KeepsFiles (H.state host.old) (H.state host.new) }
+    ensures unasked { AsksNone (H.state host.old) (H.state host.new) }
+    ensures kept { IsToldAs (refusal_status why.now) result }
+{
+    match refusal_line(alloc, why) {
+        Ok(line) => tell(host, line.as_slice(), refusal_status(why)),
+        Err(_) => Status::Memory,
+    }
+}

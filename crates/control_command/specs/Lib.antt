@@ -1,0 +1,4 @@
+pub mod Commands
+pub mod Report
+pub mod Inputs
+pub mod Answer

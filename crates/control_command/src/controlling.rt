@@ -1,0 +1,79 @@
+//! `control`: services started and stopped after the boot.
+
+ghost use Rattle.std.specs.Prelude.{◌≡◌, [], unwrap_or, IfOk};
+ghost use Rattle.hive_model.specs.Valid.{IsValid};
+ghost use Rattle.hive_store.specs.Checks.{ChecksAs};
+ghost use Rattle.command_parts.specs.Placed.{image_in};
+ghost use Rattle.command_words.specs.Views.{control_seen};
+ghost use Rattle.command_parts.specs.Inputs.{AsksSoMany};
+ghost use Rattle.control_command.specs.Inputs.{asks_control};
+ghost use Rattle.control_command.specs.Answer.{ReportsAs, DecidesInputs, DecidesControl};
+
+use crate::answering::report;
+use crate::inputs::{Inputs, inputs_in};
+use command_parts::{HiveFiles, Obstacle, Refusal, Status, refuse, stopped, tell};
+use command_words::ControlWords;
+use hive_store::check_images;
+use nt_bytes::{Bytes, HiveVersion, ReadStop};
+use nt_edge::{Host, HostStop};
+use reg_tree::Key;
+use std::alloc::Global;
+
+/// The bytes of a log, none where there is no log.
+fn log_bytes(log: &Option<Bytes>) -> &[u8]
+    ensures { result.now ≡ unwrap_or log.now [] }
+{
+    match log {
+        Some(log) => log.as_slice(),
+        None => &[],
+    }
+}
+
+/// The tree of a hive with its log, its number and its version, or the first fault.
+fn read(alloc: Global, files: &HiveFiles) -> Result<(Key, u32, HiveVersion), ReadStop>
+    ensures exact { ChecksAs (image_in files.now) result }
+    ensures valid { IfOk result (λ x. IsValid x.0) }
+{
+    check_images(alloc, files.primary.as_slice(), log_bytes(&files.log))
+}
+
+/// The report on the hive's tree, or the hive's first fault.
+fn report_on(alloc: Global, inputs: &Inputs) -> Result<Bytes, Obstacle>
+    ensures { ReportsAs inputs.now result }
+{
+    match read(alloc, &inputs.hive) {
+        Ok((root, _sequence, _version)) => {
+            match report(alloc, &root, inputs.commands.as_slice()) {
+                Ok(text) => Ok(text),
+                Err(_) => Err(Obstacle::Stopped(HostStop::Memory)),
+            }
+        }
+        Err(ReadStop::Fault(fault)) => Err(Obstacle::Refused(Refusal::HiveFault(fault))),
+        Err(ReadStop::Memory) => Err(Obstacle::Stopped(HostStop::Memory)),
+    }
+}
+
+/// Says the report on the hive's tree, or the hive's first fault.
+fn control_inputs<H: Host>(alloc: Global, inputs: &Inputs, host: &mut H) -> Status
+    ensures { DecidesInputs inputs.now result (H.state host.old) (H.state host.new) }
+{
+    match report_on(alloc, inputs) {
+        Ok(text) => tell(host, text.as_slice(), Status::Done),
+        Err(Obstacle::Refused(why)) => refuse(alloc, host, &why),
+        Err(Obstacle::Stopped(stop)) => stopped(stop),
+    }
+}
+
+/// Gets the commands and the hive that the words name, and says what comes of the commands; or says the first
+/// obstacle. No call of a disk is made.
+pub fn control<H: Host>(alloc: Global, words: ControlWords<'_>, host: &mut H) -> Status
+    ensures decides { DecidesControl (control_seen words.entry) result (H.state host.old) (H.state host.new) }
+    ensures asked { AsksSoMany (asks_control (control_seen words.entry)) result (H.state host.old) (H.state host.new) }
+    ensures kept { result ≡ Status.Usage → ⊥ }
+{
+    match inputs_in(alloc, words, host) {
+        Ok(inputs) => control_inputs(alloc, &inputs, host),
+        Err(Obstacle::Refused(why)) => refuse(alloc, host, &why),
+        Err(Obstacle::Stopped(stop)) => stopped(stop),
+    }
+}

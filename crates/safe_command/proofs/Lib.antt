@@ -1,0 +1,3 @@
+pub mod AskLemmas
+pub mod ReportLemmas
+pub mod TextLemmas

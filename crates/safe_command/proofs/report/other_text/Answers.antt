@@ -1,0 +1,10 @@
+use Rattle.boot_report.specs.Report.{verdict_of}
+use Rattle.start_model.specs.Lines.{EntryLine}
+use Rattle.safe_command.specs.Report.{path_at, verdict_lines}
+use Rattle.safe_command.proofs.TextLemmas.{two_parts}
+use Rattle.safe_command.proofs.report.other_text.Goals as goal
+
+pub returns : goal.returns
+returns c =
+    two_parts c.new-text.result c.put_entry.new.text c.put_verdict.new.text (EntryLine c.args.number (path_at c.args.ini.now c.args.number)) (verdict_lines (verdict_of c.args.verdict)) c.new-text.ensures
+    c.in_ok-put_entry.ensures c.in_ok-put_verdict.ensures

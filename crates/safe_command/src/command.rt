@@ -1,0 +1,78 @@
+//! The command: files in, a report or the first obstacle out.
+
+ghost use Rattle.std.specs.Prelude.{◌≡◌, Err, IfOk, unwrap_or, []};
+ghost use Rattle.hive_model.specs.Valid.{IsValid};
+ghost use Rattle.hive_store.specs.Checks.{ChecksAs};
+ghost use Rattle.command_words.specs.Views.{safe_seen};
+ghost use Rattle.command_parts.specs.Inputs.{AsksSoMany};
+ghost use Rattle.command_parts.specs.Placed.{image_in};
+ghost use Rattle.command_parts.specs.Refusals.{IsToldAs};
+ghost use Rattle.safe_command.specs.Answer.{ReportsAs, DecidesReport, DecidesSafe};
+ghost use Rattle.safe_command.specs.Inputs.{arguments_in, asks_safe};
+
+use crate::inputs::{SafeInputs, inputs_in};
+use crate::report::report_text;
+use command_parts::{HiveFiles, Obstacle, Refusal, Status, no_memory, refuse, stopped, tell};
+use command_words::SafeWords;
+use hive_store::check_images;
+use nt_bytes::{Bytes, HiveVersion, ReadStop};
+use nt_edge::Host;
+use reg_tree::Key;
+use std::alloc::Global;
+
+/// The bytes of a log, none where there is no log.
+fn log_bytes(log: &Option<Bytes>) -> &[u8]
+    ensures { result.now ≡ unwrap_or log.now [] }
+{
+    match log {
+        Some(log) => log.as_slice(),
+        None => &[],
+    }
+}
+
+/// Reads a whole hive with its log, as a start will load it. Each key of the tree is one that a hive can hold.
+fn read(alloc: Global, files: &HiveFiles) -> Result<(Key, u32, HiveVersion), ReadStop>
+    ensures checks { ChecksAs (image_in files.now) result }
+    ensures valid { IfOk result (λ x. IsValid x.0) }
+{
+    check_images(alloc, files.primary.as_slice(), log_bytes(&files.log))
+}
+
+/// The report, or the hive's first fault.
+fn report(alloc: Global, inputs: &SafeInputs) -> Result<Bytes, Obstacle>
+    ensures { ReportsAs inputs.now result }
+{
+    match read(alloc, &inputs.hive) {
+        Ok((root, _, _)) => match report_text(alloc, &inputs.ini, &inputs.system, &root) {
+            Ok(text) => Ok(text),
+            Err(_) => Err(no_memory()),
+        },
+        Err(ReadStop::Fault(fault)) => Err(Obstacle::Refused(Refusal::HiveFault(fault))),
+        Err(ReadStop::Memory) => Err(no_memory()),
+    }
+}
+
+/// Says the report, or the hive's first fault.
+fn say_report<H: Host>(alloc: Global, inputs: &SafeInputs, host: &mut H) -> Status
+    ensures { DecidesReport inputs.now result (H.state host.old) (H.state host.new) }
+{
+    match report(alloc, inputs) {
+        Ok(text) => tell(host, text.as_slice(), Status::Done),
+        Err(Obstacle::Refused(why)) => refuse(alloc, host, &why),
+        Err(Obstacle::Stopped(stop)) => stopped(stop),
+    }
+}
+
+/// Gets what the words name, and says what a start in safe mode would attempt; or says the first obstacle. Nothing is written.
+pub fn safe<H: Host>(alloc: Global, words: SafeWords<'_>, host: &mut H) -> Status
+    ensures decides { DecidesSafe (safe_seen words.entry) result (H.state host.old) (H.state host.new) }
+    ensures asked { AsksSoMany (asks_safe (safe_seen words.entry)) result (H.state host.old) (H.state host.new) }
+    ensures usage { result ≡ Status.Usage → arguments_in (safe_seen words.entry) ≡ Err Refusal.Usage }
+    ensures refused { arguments_in (safe_seen words.entry) ≡ Err Refusal.Usage → IsToldAs Status.Usage result }
+{
+    match inputs_in(alloc, words, host) {
+        Ok(inputs) => say_report(alloc, &inputs, host),
+        Err(Obstacle::Refused(why)) => refuse(alloc, host, &why),
+        Err(Obstacle::Stopped(stop)) => stopped(stop),
+    }
+}

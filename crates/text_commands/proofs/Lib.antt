@@ -1,0 +1,4 @@
+pub mod CountLemmas
+pub mod ExportLemmas
+pub mod ChangeLemmas
+pub mod ImportLemmas

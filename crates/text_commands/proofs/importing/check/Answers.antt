@@ -1,0 +1,6 @@
+use Rattle.command_parts.specs.Placed.{image_in}
+use Rattle.text_commands.proofs.ImportLemmas.{checked}
+use Rattle.text_commands.proofs.importing.check.Goals as goal
+
+pub returns : goal.returns
+returns c = checked (image_in c.args.files.now) c.in_ok-_read._read c.in_ok-_read.ensures

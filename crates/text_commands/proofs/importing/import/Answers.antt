@@ -1,0 +1,22 @@
+use Rattle.std.proofs.Common.{◌≡◌, sym, subst}
+use Rattle.std.specs.Prelude.{Err}
+use Rattle.command_words.specs.Views.{import_seen}
+use Rattle.command_parts.specs.declared.inputs.HiveFiles.{HiveFiles}
+use Rattle.command_parts.specs.declared.refusal.Obstacle.{Obstacle}
+use Rattle.command_parts.specs.Inputs.{hive_in}
+use Rattle.command_parts.specs.declared.status.Status.{Status}
+use Rattle.command_parts.specs.Leaves.{Looks, stopped_as}
+use Rattle.text_commands.specs.Imported.{DecidesImport}
+use Rattle.text_commands.proofs.ImportLemmas.{unfound_import}
+use Rattle.text_commands.proofs.importing.import.Goals as goal
+
+pub returns-in-Err-Stopped-clause-decides : goal.returns-in-Err-Stopped-clause-decides
+returns-in-Err-Stopped-clause-decides g c =
+    let old = g.H.Host.state c.args.host.now in
+    let new = g.H.Host.state c.hive_in.new.host in
+    let looks = subst
+    (λ (o : Obstacle). Looks {A = HiveFiles} (hive_in old.files (import_seen c.args.words).hive (import_seen c.args.words).log) (Err o) old new)
+    c.in-Err-Stopped.field-0-is c.in-Err-Stopped.ensures.looks in
+    let done = unfound_import (import_seen c.args.words) c.in-Err-Stopped.stop old new (g.B.Disk.state c.args.bench.now) c.requires.fresh looks in
+    let told : c.stopped.result ≡ stopped_as c.in-Err-Stopped.stop = rw c.in-Err-Stopped.field-0-is at c.stopped.ensures in
+    subst (λ (s : Status). DecidesImport (import_seen c.args.words) s old new (g.B.Disk.state c.args.bench.now)) (sym told) done

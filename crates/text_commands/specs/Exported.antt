@@ -1,0 +1,121 @@
+-- What does `export` put, and what does it say? (this project's own)
+--
+-- The registry text of the key that the path leads to is put into a file, and then one line is said. Where there is no such
+-- key, or no such text, no file is put.
+use Rattle.std.specs.Prelude.{◌≡◌, ◌⊎◌, ◌++◌, ◌+◌, min, ℕ, List, [], length, Option, Some, None, Result, Ok, Err, codes}
+use Rattle.std.specs.List.{flat_map, slice_split}
+use Rattle.std.specs.Char.Escape.{encode_utf16}
+use Rattle.std.specs.Str.{chars}
+use Rattle.std.specs.Fmt.{decimal}
+use Rattle.nt_bytes.specs.declared.fault.HiveFault.{HiveFault}
+use Rattle.nt_edge.specs.Host.{Files, HostState, Puts, KeepsOthers}
+use Rattle.hive_model.specs.Load.{Loads, LoadFault}
+use Rattle.hive_model.specs.Tree.{Tree, Trees, key, none, more, key_count, find_key}
+use Rattle.hive_model.specs.Valid.{is_backslash}
+use Rattle.start_model.specs.Run.{Woken}
+use Rattle.reg_text.specs.declared.stop.RegFault.{RegFault}
+use Rattle.reg_text.specs.declared.stop.RegKind.{RegKind}
+use Rattle.reg_text.specs.declared.stop.RegKind.TheVariants.{Mark, Header, Root, Line, NotText}
+use Rattle.reg_text.specs.Writing.{reg_text_of}
+use Rattle.command_words.specs.Words.{ExportAsked}
+use Rattle.command_parts.specs.declared.status.Status.{Status}
+use Rattle.command_parts.specs.declared.status.Status.TheVariants as statuses
+use Rattle.command_parts.specs.declared.refusal.Refusal.{Refusal}
+use Rattle.command_parts.specs.declared.refusal.Refusal.TheVariants.{HiveFault as BadHive}
+use Rattle.command_parts.specs.declared.inputs.HiveFiles.{HiveFiles}
+use Rattle.command_parts.specs.Inputs.{hive_in, asks_hive}
+use Rattle.command_parts.specs.Leaves.{Leaves}
+use Rattle.command_parts.specs.Placed.{image_in}
+use Rattle.command_parts.specs.Refusals.{Answer, Ends, refusal}
+
+-- ---- words
+
+-- the units of a text
+abbrev pub units_of : List ℕ → List ℕ
+units_of text = flat_map encode_utf16 (chars text)
+
+-- the path that a word names: its parts between backslashes; the root's, where there is no word
+abbrev pub path_in : Option (List ℕ) → List (List ℕ)
+path_in None = []
+path_in (Some text) = slice_split is_backslash (units_of text)
+
+-- ---- answers
+
+-- how many values a tree has
+abbrev mutual
+  pub item_count : Tree → ℕ
+  item_count (key h ts) = length h.values + items_count ts
+
+  -- how many values trees have together
+  pub items_count : Trees → ℕ
+  items_count none = 0
+  items_count (more t ts) = item_count t + items_count ts
+
+-- a count, up to its end
+abbrev pub capped : ℕ → ℕ
+capped n = min n 18446744073709551615
+
+abbrev pub kind_word : RegKind → List ℕ
+kind_word Mark = codes "mark"
+kind_word Header = codes "header"
+kind_word Root = codes "root"
+kind_word Line = codes "line"
+kind_word NotText = codes "not-text"
+
+-- the answer that a text, or a tree that is to be one, has a fault
+unfoldable pub fault_text : RegFault → List ℕ
+fault_text fault = codes "reg fault " ++ decimal fault.line ++ codes " " ++ kind_word fault.kind ++ codes "\n"
+
+abbrev pub fault_answer : RegFault → Answer
+fault_answer fault = record { status = statuses.RegFault; text = fault_text fault }
+
+-- the line on what was exported
+unfoldable pub exported_text : Tree → List ℕ
+exported_text t = codes "exported " ++ decimal (capped (key_count t)) ++ codes " keys " ++ decimal (capped (item_count t)) ++ codes " values\n"
+
+-- what is put into the file, if anything, and what is answered
+pub record Export : Type 0 where
+  pub put : Option (List ℕ)
+  pub answer : Answer
+
+-- a key with its text, or with the fault that it has none
+abbrev pub text_export : Tree → Result (List ℕ) RegFault → Export
+text_export t (Ok text) = record { put = Some text; answer = record { status = statuses.Done; text = exported_text t } }
+text_export t (Err fault) = record { put = None; answer = fault_answer fault }
+
+-- the key that was found, if any
+abbrev pub found_export : List (List ℕ) → Option Tree → Export
+found_export path None = record { put = None; answer = record { status = statuses.Done; text = codes "export refused no-key\n" } }
+found_export path (Some t) = text_export t (reg_text_of path t)
+
+-- of a whole tree
+abbrev pub export_of : List (List ℕ) → Tree → Export
+export_of path root = found_export path (find_key path root)
+
+-- ---- the end
+
+-- what was to be put is in the file of this name at the end; every other file is as it was, and a front of the work may have
+-- changed that one
+abbrev pub PutsAs : List ℕ → Option (List ℕ) → Status → Files → Files → Type 0
+PutsAs name None status old new = new ≡ old
+PutsAs name (Some text) statuses.Done old new = Puts old new name text
+PutsAs name (Some text) stopped old new = KeepsOthers old new name
+
+-- The first obstacle of the words' files is said; or the hive has a first fault, and that is said; or it loads as a state, and
+-- its export is put and said; or there was no memory or a read fault before anything was done. Before the export nothing is put.
+abbrev pub EndsExported : Result HiveFiles Refusal → List (List ℕ) → List ℕ → Files → Files → Status → List ℕ → List ℕ → Type 0
+EndsExported (Err r) path name before after status old new = Ends (refusal r) status old new × (after ≡ before)
+EndsExported (Ok files) path name before after status old new =
+    ((fault : HiveFault) × (LoadFault (image_in files) fault) × Ends (refusal (BadHive fault)) status old new × (after ≡ before))
+    ⊎ (((placed : Woken) × (Loads (image_in files) placed.state placed.dirty)
+    × Ends (export_of path placed.state.tree).answer status old new × PutsAs name (export_of path placed.state.tree).put status before after)
+    ⊎ (((status ≡ statuses.Memory) ⊎ (status ≡ statuses.ReadFault)) × (new ≡ old) × (after ≡ before)))
+
+-- the host is left so by the whole command
+abbrev pub DecidesExport : ExportAsked → Status → HostState → HostState → Type 0
+DecidesExport words status old new =
+    Leaves (EndsExported (hive_in old.files words.hive words.log) (path_in words.key) words.reg old.files new.files) status old new
+
+-- how many files are asked for
+abbrev pub asks_export : ExportAsked → Files → ℕ
+asks_export words files = asks_hive files words.hive words.log

@@ -1,0 +1,4 @@
+pub mod Exported
+pub mod Exports
+pub mod Imported
+pub mod Imports

@@ -1,0 +1,3 @@
+pub mod AwakeLemmas
+pub mod TextLemmas
+pub mod TwinnedLemmas

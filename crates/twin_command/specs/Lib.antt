@@ -1,0 +1,3 @@
+pub mod Awake
+pub mod Told
+pub mod Twinned
