@@ -1,130 +1,17 @@
--- How many files were asked for.
-use Rattle.std.proofs.Common.{◌≡◌, ◌≤◌, ℕ, zero, suc, ◌+◌, Some, None, refl, sym, ap, subst, ◌∙◌, arith}
-use Rattle.std.specs.Prelude.{List, Option, Result, Ok, Err, min}
-use Rattle.std.specs.Result.{IsErrAnd}
+-- How many files a run asks for, step by step.
+use Rattle.std.proofs.Common.{◌≡◌, ℕ, ◌+◌, ap, ◌∙◌, arith}
+use Rattle.std.specs.Prelude.{List, Result, Ok}
 use Rattle.nt_edge.specs.Host.{Files}
-use Rattle.nt_edge.specs.declared.host.HostStop.{HostStop}
-use Rattle.nt_edge.specs.declared.host.HostStop.TheVariants.{Read, Write, Memory}
 use Rattle.arc_path.specs.declared.arc.Arc.{Arc}
 use Rattle.arc_path.specs.Reading.{arc_of}
 use Rattle.boot_ini.specs.declared.ini.BootIni.{BootIni}
 use Rattle.boot_script.specs.declared.event.Event.{Event}
 use Rattle.boot_script.specs.Script.{script_of}
-use Rattle.ntboot_cli.specs.declared.refusal.Refusal.{Refusal}
-use Rattle.ntboot_cli.specs.declared.refusal.Obstacle.{Obstacle}
-use Rattle.ntboot_cli.specs.declared.refusal.Obstacle.TheVariants.{Refused, Stopped}
 use Rattle.command_words.specs.Words.{RunAsked}
-use Rattle.ntboot_cli.specs.Inputs.{system_in, file_in, events_in, bytes_in, ini_in, behind_step, asks_hive, asks_run}
-use Rattle.ntboot_cli.specs.Leaves.{more, named, AsksSome, AsksStopped, AsksUntil, AsksBy, Gives, Reads, stop_in, stopped_as}
-
-pub more_more : (a b n : ℕ) → more a (more b n) ≡ more (a + b) n
-more_more zero b n = (let same : b ≡ 0 + b = omega arith in ap (λ (k : ℕ). more k n) same)
-more_more (suc a) b n =
-    let same : suc (a + b) ≡ suc a + b = omega arith in
-    ap (λ (k : ℕ). min (k + 1) 18446744073709551615) (more_more a b n) ∙ ap (λ (k : ℕ). more k n) same
-
--- ---- a step that ends the search
-
-none_more : (p : ℕ) → p + 0 ≡ p
-none_more p = omega arith
-
--- it asked for nothing, behind p files
-pub reads_asks : {A B : Type 0} (n p : ℕ) (s : Result A Refusal) (k : A → ℕ) (e : Obstacle) (q : Result B Obstacle)
-    (g h : ℕ)
-    → n ≡ p + behind_step s k → Reads s (Err e) → IsErrAnd q (λ x. x ≡ e) → h ≡ more p g → AsksUntil n q g h
-reads_asks n p s k e (Ok x) g h whole reads is asked = absurd is
-reads_asks {A} {B} n p s k e (Err x) g h whole reads is asked =
-    subst (λ (y : Obstacle). AsksUntil {A = B} n (Err y) g h) (sym is) (by_kind e reads)
-  where
-    by_kind : (y : Obstacle) → Reads s (Err y) → AsksUntil {A = B} n (Err y) g h
-    by_kind (Refused r) reads =
-        let all : n ≡ p = whole ∙ ap (λ (t : Result A Refusal). p + behind_step t k) reads ∙ none_more p in
-        asked ∙ ap (λ (m : ℕ). more m g) (sym all)
-    by_kind (Stopped stop) reads =
-        subst (λ (t : HostStop). AsksStopped t n g h) (sym reads)
-        (record { asked = p; not_less = omega arith; not_more = omega (arith, whole); gets = asked })
-
--- it asked for the last of p files
-pub file_asks : {A B : Type 0} (n p : ℕ) (s : Result A Refusal) (k : A → ℕ) (e : Obstacle) (q : Result B Obstacle)
-    (g h : ℕ)
-    → n ≡ p + behind_step s k → Gives s (Err e) → (e ≡ Stopped Write → ⊥) → IsErrAnd q (λ x. x ≡ e) → 1 ≤ p
-    → h ≡ more p g → AsksUntil n q g h
-file_asks n p s k e (Ok x) g h whole gives unwritten is some asked = absurd is
-file_asks {A} {B} n p s k e (Err x) g h whole gives unwritten is some asked =
-    subst (λ (y : Obstacle). AsksUntil {A = B} n (Err y) g h) (sym is) (by_kind e gives unwritten)
-  where
-    by_kind : (y : Obstacle) → Gives s (Err y) → (y ≡ Stopped Write → ⊥) → AsksUntil {A = B} n (Err y) g h
-    by_kind (Refused r) gives unwritten =
-        let all : n ≡ p = whole ∙ ap (λ (t : Result A Refusal). p + behind_step t k) gives ∙ none_more p in
-        asked ∙ ap (λ (m : ℕ). more m g) (sym all)
-    by_kind (Stopped Read) gives unwritten = record {
-      asked = p;
-      not_less = some;
-      not_more = omega (arith, whole);
-      gets = asked;
-    }
-    by_kind (Stopped Write) gives unwritten = absurd (unwritten refl)
-    by_kind (Stopped Memory) gives unwritten = record {
-      asked = p;
-      not_less = omega arith;
-      not_more = omega (arith, whole);
-      gets = asked;
-    }
-
--- it asked for the last of all n files
-pub last_asks : {B : Type 0} (n : ℕ) (e : Obstacle) (q : Result B Obstacle) (g h : ℕ)
-    → (e ≡ Stopped Write → ⊥) → IsErrAnd q (λ x. x ≡ e) → 1 ≤ n → h ≡ more n g → AsksUntil n q g h
-last_asks n e (Ok x) g h unwritten is some asked = absurd is
-last_asks {B} n e (Err x) g h unwritten is some asked =
-    subst (λ (y : Obstacle). AsksUntil {A = B} n (Err y) g h) (sym is) (by_kind e unwritten)
-  where
-    by_kind : (y : Obstacle) → (y ≡ Stopped Write → ⊥) → AsksUntil {A = B} n (Err y) g h
-    by_kind (Refused r) unwritten = asked
-    by_kind (Stopped Read) unwritten = record { asked = n; not_less = some; not_more = omega arith; gets = asked }
-    by_kind (Stopped Write) unwritten = absurd (unwritten refl)
-    by_kind (Stopped Memory) unwritten = record {
-      asked = n;
-      not_less = omega arith;
-      not_more = omega arith;
-      gets = asked;
-    }
-
--- so many files behind p others
-pub more_behind : (n p k : ℕ) (g m h : ℕ) → n ≡ p + k → m ≡ more p g → h ≡ more k m → h ≡ more n g
-more_behind n p k g m h whole before asked =
-    let all : k + p ≡ n = omega (arith, whole) in
-    asked ∙ ap (λ (i : ℕ). more k i) before ∙ more_more k p g ∙ ap (λ (i : ℕ). more i g) all
-
-some_behind : (least n p k : ℕ) (g m h : ℕ) → n ≡ p + k → m ≡ more p g → AsksSome least k m h → AsksSome least n g h
-some_behind least n p k g m h whole before some =
-    record {
-      asked = p + some.asked;
-      not_less = omega (arith, some.not_less);
-      not_more = omega (arith, whole, some.not_more);
-      gets = more_behind (p + some.asked) p some.asked g m h refl before some.gets;
-    }
-
--- the last step asked for some of k files, behind p files
-pub behind_asks : (A : Type 0) {B : Type 0} (n p k : ℕ) (e : Obstacle) (q : Result B Obstacle) (g m h : ℕ) → n ≡ p + k
-    → m ≡ more p g → AsksUntil {A = A} k (Err e) m h → IsErrAnd q (λ x. x ≡ e) → AsksUntil n q g h
-behind_asks A n p k e (Ok x) g m h whole before asks is = absurd is
-behind_asks A {B} n p k e (Err x) g m h whole before asks is =
-    subst (λ (y : Obstacle). AsksUntil {A = B} n (Err y) g h) (sym is) (by_kind e asks)
-  where
-    by_kind : (y : Obstacle) → AsksUntil {A = A} k (Err y) m h → AsksUntil {A = B} n (Err y) g h
-    by_kind (Refused r) asks = more_behind n p k g m h whole before asks
-    by_kind (Stopped Read) asks = some_behind 1 n p k g m h whole before asks
-    by_kind (Stopped Write) asks = more_behind n p k g m h whole before asks
-    by_kind (Stopped Memory) asks = some_behind 0 n p k g m h whole before asks
-
--- ---- the files that are asked for, step by step
-
-pub log_asked : (files : Files) (hive : List ℕ) (log : Option (List ℕ)) (primary : List ℕ)
-    → file_in hive (files hive) ≡ Ok primary → asks_hive files hive log ≡ named log + 1
-log_asked files hive log primary found =
-    let all : asks_hive files hive log ≡ 1 + named log =
-    ap (λ (r : Result (List ℕ) Refusal). 1 + behind_step r (λ (p : List ℕ). named log)) found in
-    omega (arith, all)
+use Rattle.command_parts.specs.declared.refusal.Refusal.{Refusal}
+use Rattle.command_parts.specs.Inputs.{system_in, file_in, bytes_in, ini_in, behind_step, asks_hive}
+use Rattle.command_parts.specs.Leaves.{named}
+use Rattle.ntboot_cli.specs.Inputs.{events_in, asks_run}
 
 abbrev pub by_hive : RunAsked → Files → ℕ
 by_hive asked files = asks_hive files asked.hive asked.log
@@ -179,23 +66,3 @@ pub hive_asked : (files : Files) (asked : RunAsked) (text : List ℕ) (ini : Boo
 hive_asked files asked text ini before is =
     before
     ∙ ap (λ (r : Result BootIni Refusal). named asked.boot_ini + 1 + behind_step r (λ (i : BootIni). by_hive asked files)) is
-
--- ---- what the call came to
-
-pub asks_on : (n : ℕ) (stop : Option HostStop) (old mid new : ℕ) → (stop ≡ Some Read → ⊥) → mid ≡ more n old → new ≡ mid
-    → AsksBy n stop old new
-asks_on n None old mid new unread asked same = same ∙ asked
-asks_on n (Some Read) old mid new unread asked same = absurd (unread refl)
-asks_on n (Some Write) old mid new unread asked same = same ∙ asked
-asks_on n (Some Memory) old mid new unread asked same = record {
-  asked = n;
-  not_less = omega arith;
-  not_more = omega arith;
-  gets = same ∙ asked;
-}
-
-pub asks_stop : (n : ℕ) (stop : HostStop) (old new : ℕ) → AsksStopped stop n old new
-    → AsksBy n (stop_in (stopped_as stop)) old new
-asks_stop n Read old new a = a
-asks_stop n Write old new a = a
-asks_stop n Memory old new a = a

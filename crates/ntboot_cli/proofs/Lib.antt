@@ -1,8 +1,4 @@
 pub mod AskLemmas
-pub mod LeaveLemmas
-pub mod PlacedLemmas
-pub mod SaveLemmas
-pub mod DecideLemmas
 pub mod RunLemmas
 pub mod ShowLemmas
 pub mod MakeLemmas

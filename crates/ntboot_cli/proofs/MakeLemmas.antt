@@ -1,11 +1,11 @@
 -- What `make` leaves.
-use Rattle.std.proofs.Common.{◌≡◌, ◌≤◌, ◌+◌, ◌++◌, inl, inr, ℕ, zero, suc, true, false, List, [], ◌∷◌, Option, None, Some, refl, sym, ap, subst, ◌∙◌, append-nil, arith}
+use Rattle.std.proofs.Common.{◌≡◌, ◌≤◌, ◌+◌, ◌++◌, inl, inr, ℕ, zero, suc, false, List, [], ◌∷◌, Option, None, Some, refl, sym, ap, subst, ◌∙◌, append-nil, arith}
 use Rattle.std.specs.Prelude.{Result, Ok, Err, IfOk, OnErr, alloc_error}
 use Rattle.std.specs.declared.alloc.AllocError.{AllocError}
-use Rattle.hive_model.specs.Image.{Image, Arming}
+use Rattle.hive_model.specs.Image.{Arming}
 use Rattle.nt_edge.specs.Bench.{KeepsOrders}
 use Rattle.nt_edge.specs.Disk.{DiskState, new_state}
-use Rattle.nt_edge.specs.Host.{HostState, Files, KeepsFiles, KeepsCounts, AsksNone, SaysFront}
+use Rattle.nt_edge.specs.Host.{HostState, Files, KeepsFiles, AsksNone, SaysFront}
 use Rattle.nt_edge.specs.declared.host.HostStop.{HostStop}
 use Rattle.nt_edge.specs.declared.host.HostStop.TheVariants.{Read, Write, Memory}
 use Rattle.start_model.specs.Fits.{outcomes_of}
@@ -21,22 +21,20 @@ use Rattle.command_words.specs.Words.{MakeAsked}
 use Rattle.order_laws.specs.Unordered.{AreUnordered}
 use Rattle.order_laws.proofs.QuietLemmas.{reports-summary, reports-loads, reports-uncounted}
 use Rattle.order_laws.proofs.UnorderedLemmas.{AreNoOrders, no_orders, no_cuts, front_notes, run_of-notes}
-use Rattle.ntboot_cli.specs.declared.inputs.HiveFiles.{HiveFiles}
+use Rattle.command_parts.specs.declared.inputs.HiveFiles.{HiveFiles}
 use Rattle.ntboot_cli.specs.declared.making.Usual.{Usual}
-use Rattle.ntboot_cli.specs.declared.refusal.Refusal.{Refusal}
-use Rattle.ntboot_cli.specs.declared.refusal.Obstacle.TheVariants.{Refused, Stopped}
-use Rattle.ntboot_cli.specs.declared.status.Status.{Status}
-use Rattle.ntboot_cli.specs.declared.status.Status.TheVariants as statuses
-use Rattle.ntboot_cli.specs.Answer.{EndsMade, Decides, DecidesAlone, MakesAlone}
-use Rattle.ntboot_cli.specs.Leaves.{Leaves, Reads, CountsBy, more, named, stop_in, stopped_as}
+use Rattle.command_parts.specs.declared.status.Status.{Status}
+use Rattle.command_parts.specs.declared.status.Status.TheVariants as statuses
+use Rattle.ntboot_cli.specs.Answer.{EndsMade, MakesAlone}
+use Rattle.command_parts.specs.Leaves.{Leaves, more, named}
 use Rattle.ntboot_cli.specs.Made.{PlaysMade, make_script, made_state, made_going, made_run, made_text, summary_text, told, IsMade, IsPartMade}
-use Rattle.ntboot_cli.specs.Placed.{placed_disk, IsUnrun, IsUntouchedBy}
-use Rattle.ntboot_cli.specs.Refusals.{Answer, Ends, IsToldAs, refusal, refusal_status, refusal_text}
-use Rattle.ntboot_cli.specs.Saves.{Saves, saved_count, saved_status, FilesAs, Settles, SavesBoth, FinishesAs}
-use Rattle.ntboot_cli.proofs.DecideLemmas.{refusal_decides, memory_decides, unchanged, told_unused, told_unread, refused_unread, new_off}
-use Rattle.ntboot_cli.proofs.LeaveLemmas.{keeps_then, fault_then, no_front}
-use Rattle.ntboot_cli.proofs.RunLemmas.{files_saved, counts_saved}
-use Rattle.ntboot_cli.proofs.SaveLemmas.{settles-same}
+use Rattle.command_parts.specs.Placed.{placed_disk, IsUnrun, IsUntouchedBy}
+use Rattle.command_parts.specs.Refusals.{Answer, Ends, IsToldAs}
+use Rattle.command_parts.specs.Saves.{Saves, saved_count, saved_status, FilesAs, Settles, SavesBoth, FinishesAs}
+use Rattle.command_parts.proofs.DecideLemmas.{memory_decides, unchanged, told_unused, told_unread}
+use Rattle.command_parts.proofs.LeaveLemmas.{keeps_then, fault_then, no_front}
+use Rattle.command_parts.proofs.SaveLemmas.{files_saved, counts_saved}
+use Rattle.command_parts.proofs.SaveLemmas.{settles-same}
 
 -- ---- a text that is said, and files that are saved behind it
 

@@ -1,13 +1,16 @@
 -- What a run leaves: the report, the files that are saved, and the disk.
-use Rattle.std.proofs.Common.{◌≡◌, ◌⊎◌, ◌≤◌, inl, inr, ℕ, true, false, List, map, Some, refl, sym, ap, subst, ◌∙◌, arith}
+use Rattle.nt_bytes.specs.declared.version.HiveVersion.{HiveVersion}
+use Rattle.hive_model.specs.Tree.{Tree}
+use Rattle.hive_store.specs.Checks.{ChecksAs}
+use Rattle.std.proofs.Common.{◌≡◌, ◌⊎◌, inl, inr, ℕ, true, false, List, map, Some, refl, sym, ap, subst, ◌∙◌}
 use Rattle.std.specs.Prelude.{Result, Ok, Err}
 use Rattle.std.specs.Option.{IsSome}
 use Rattle.nt_bytes.specs.declared.fault.HiveFault.{HiveFault}
 use Rattle.hive_model.specs.Image.{Image}
-use Rattle.hive_model.specs.Load.{Loads, LoadFault}
+use Rattle.hive_model.specs.Load.{Loads, LoadFault, state_of}
 use Rattle.nt_edge.specs.Crash.{EachCrash}
 use Rattle.nt_edge.specs.Disk.{DiskState, new_state}
-use Rattle.nt_edge.specs.Host.{HostState, Files, KeepsFiles, CountsFault, AsksNone}
+use Rattle.nt_edge.specs.Host.{HostState, Files, KeepsFiles, AsksNone}
 use Rattle.nt_edge.specs.declared.host.HostStop.{HostStop}
 use Rattle.nt_edge.specs.declared.host.HostStop.TheVariants.{Read, Write, Memory}
 use Rattle.boot_machine.specs.Views.{event_in}
@@ -27,22 +30,24 @@ use Rattle.boot_run.specs.Views.{summary_in}
 use Rattle.boot_run.proofs.DiskLemmas.{still_leaves}
 use Rattle.boot_run.proofs.LoadLemmas.{no_fault}
 use Rattle.command_words.specs.Words.{run, RunAsked}
-use Rattle.ntboot_cli.specs.declared.refusal.Obstacle.TheVariants.{Stopped}
+use Rattle.command_parts.specs.declared.refusal.Obstacle.TheVariants.{Stopped}
 use Rattle.ntboot_cli.specs.Inputs.{inputs_in}
-use Rattle.ntboot_cli.specs.declared.inputs.HiveFiles.{HiveFiles}
+use Rattle.command_parts.specs.declared.inputs.HiveFiles.{HiveFiles}
 use Rattle.ntboot_cli.specs.declared.inputs.Inputs.{Inputs}
-use Rattle.ntboot_cli.specs.declared.refusal.Refusal.{Refusal}
-use Rattle.ntboot_cli.specs.declared.refusal.Refusal.TheVariants as refusals
-use Rattle.ntboot_cli.specs.declared.status.Status.{Status}
-use Rattle.ntboot_cli.specs.declared.status.Status.TheVariants as statuses
-use Rattle.ntboot_cli.specs.Answer.{saves_of, RunsWhole, EndsRun, EndsHive, EndsInputs, Decides, DecidesAlone, run_in}
-use Rattle.ntboot_cli.specs.Leaves.{Leaves, Looks, CountsBy, stop_in, stopped_as}
+use Rattle.command_parts.specs.declared.refusal.Refusal.{Refusal}
+use Rattle.command_parts.specs.declared.refusal.Refusal.TheVariants as refusals
+use Rattle.command_parts.specs.declared.status.Status.{Status}
+use Rattle.command_parts.specs.declared.status.Status.TheVariants as statuses
+use Rattle.command_parts.specs.Decides.{Decides, DecidesAlone}
+use Rattle.ntboot_cli.specs.Answer.{IsChecked, saves_of, RunsWhole, EndsRun, EndsHive, EndsInputs, run_in}
+use Rattle.command_parts.specs.Leaves.{Leaves, Looks, CountsBy, stop_in, stopped_as}
 use Rattle.ntboot_cli.specs.Made.{told}
-use Rattle.ntboot_cli.specs.Placed.{image_in, placed_disk, IsUnrun, IsUntouchedBy}
-use Rattle.ntboot_cli.specs.Refusals.{Ends, IsToldAs, refusal, refusal_status, refusal_text}
-use Rattle.ntboot_cli.specs.Saves.{Saves, saved_count, saved_status, FilesAs, KeepsUnsaved, Settles, SavesBoth}
-use Rattle.ntboot_cli.proofs.DecideLemmas.{stopped_decides, refusal_decides, told_unused, refused_unread, unrun}
-use Rattle.ntboot_cli.proofs.LeaveLemmas.{keeps_then, fault_then, no_front}
+use Rattle.command_parts.specs.Placed.{image_in, placed_disk, IsUntouchedBy}
+use Rattle.command_parts.specs.Refusals.{Ends, IsToldAs, refusal, refusal_text}
+use Rattle.command_parts.specs.Saves.{Saves, saved_status, FilesAs, Settles, SavesBoth}
+use Rattle.command_parts.proofs.DecideLemmas.{stopped_decides, refusal_decides, told_unused, refused_unread, unrun}
+use Rattle.command_parts.proofs.SaveLemmas.{counts_saved, files_saved, untouched_saved, unused_saved, unread_saved}
+use Rattle.command_parts.proofs.LeaveLemmas.{keeps_then, fault_then, no_front}
 
 -- ---- the disk that holds the hive
 
@@ -97,39 +102,6 @@ module _ (inputs : Inputs) (saves : Saves) (w : Woken) (before : DiskState) wher
       inr (s.taken, s.few, whole summary s.taken old.said mid.said new.said left after reports same s.settles)
   ends_saved (Err Memory) summary old mid new left after reports same s =
       inr (s.taken, s.few, whole summary s.taken old.said mid.said new.said left after reports same s.settles)
-
-pub counts_saved : (r : Result (Unit {0}) HostStop) (old new : HostState) → CountsFault r old new → CountsBy (stop_in (saved_status r)) old new
-counts_saved (Ok u) old new c = c
-counts_saved (Err Read) old new c = c
-counts_saved (Err Write) old new c = c
-counts_saved (Err Memory) old new c = c
-
-pub files_saved : (saves : Saves) (r : Result (Unit {0}) HostStop) (mid new : HostState) (left after : DiskState) → mid.tells ≡ true → SavesBoth saves r mid new left after
-    → FilesAs saves (saved_status r) after.held mid.files new.files
-files_saved saves (Ok u) mid new left after tells s = (s.saved tells, s.others tells)
-files_saved saves (Err Read) mid new left after tells s = absurd (s.host.unread refl)
-files_saved saves (Err Write) mid new left after tells s = s.others tells
-files_saved saves (Err Memory) mid new left after tells s = s.others tells
-
-pub untouched_saved : (saves : Saves) (r : Result (Unit {0}) HostStop) (mid new : HostState) (left after disk : DiskState) → SavesBoth saves r mid new left after
-    → IsUntouchedBy (saved_status r) disk
-untouched_saved saves (Ok u) mid new left after disk s = tt
-untouched_saved saves (Err Read) mid new left after disk s = absurd (s.host.unread refl)
-untouched_saved saves (Err Write) mid new left after disk s = tt
-untouched_saved saves (Err Memory) mid new left after disk s = tt
-
-pub unused_saved : (r : Result (Unit {0}) HostStop) → saved_status r ≡ statuses.Usage → ⊥
-unused_saved (Ok u) e = absurd cc
-unused_saved (Err Read) e = absurd cc
-unused_saved (Err Write) e = absurd cc
-unused_saved (Err Memory) e = absurd cc
-
-pub unread_saved : (saves : Saves) (r : Result (Unit {0}) HostStop) (mid new : HostState) (left after : DiskState) → SavesBoth saves r mid new left after
-    → saved_status r ≡ statuses.ReadFault → ⊥
-unread_saved saves (Ok u) mid new left after s e = absurd cc
-unread_saved saves (Err Read) mid new left after s e = s.host.unread refl
-unread_saved saves (Err Write) mid new left after s e = absurd cc
-unread_saved saves (Err Memory) mid new left after s e = absurd cc
 
 -- the run came to its end, and its files were saved or that was stopped
 pub saved_decides : (inputs : Inputs) (saves : Saves) (script : List Event) (summary : Summary) (r : Result (Unit {0}) HostStop) (status : Status) (old mid new : HostState)
@@ -262,6 +234,7 @@ stops_or_done inputs w saves before after statuses.ScriptFault old new ends = ab
 stops_or_done inputs w saves before after statuses.BootIniFault old new ends = absurd ends
 stops_or_done inputs w saves before after statuses.HiveFault old new ends = absurd ends
 stops_or_done inputs w saves before after statuses.ReadFault old new ends = absurd ends
+stops_or_done inputs w saves before after statuses.RegFault old new ends = absurd ends
 
 stop_is : (status other : Status) → status ≡ other → IsSome (stop_in other) → IsSome (stop_in status)
 stop_is status other is there = (let P : Status → Type 0 = λ s. IsSome (stop_in s) in subst P (sym is) there)
@@ -276,3 +249,8 @@ well_formed_runs inputs saves placed disk status old new loads (inl (inl ends)) 
 well_formed_runs inputs saves placed disk status old new loads (inl (inr (inl ends))) =
     stops_or_done inputs ends.0 saves (placed_disk inputs.hive) disk status old new ends.2
 well_formed_runs inputs saves placed disk status old new loads (inl (inr (inr ends))) = inr (stop_is status statuses.Memory ends.0 refl)
+
+-- ---- a hive that was checked
+
+pub checked : (image : Image) (x : Tree × ℕ × HiveVersion) → ChecksAs image (Ok x) → IsChecked image (Ok tt)
+checked image x loads = (record { state = state_of x.0 x.1 x.2; dirty = loads.0 }, loads.1)

@@ -12,19 +12,19 @@ use Rattle.nt_edge.specs.Disk.{new_state}
 use Rattle.nt_edge.specs.Host.{HostState, KeepsFiles, AsksNone}
 use Rattle.nt_edge.specs.declared.host.HostStop.{HostStop}
 use Rattle.nt_edge.specs.declared.host.HostStop.TheVariants.{Read, Write, Memory}
-use Rattle.ntboot_cli.specs.declared.inputs.HiveFiles.{HiveFiles}
-use Rattle.ntboot_cli.specs.declared.refusal.Refusal.{Refusal}
-use Rattle.ntboot_cli.specs.declared.refusal.Refusal.TheVariants as refusals
-use Rattle.ntboot_cli.specs.declared.refusal.Obstacle.TheVariants.{Refused, Stopped}
-use Rattle.ntboot_cli.specs.declared.status.Status.{Status}
-use Rattle.ntboot_cli.specs.declared.status.Status.TheVariants as statuses
-use Rattle.ntboot_cli.specs.Answer.{EndsShown, ShowsAs, Decides, DecidesAlone}
-use Rattle.ntboot_cli.specs.Leaves.{Leaves, stopped_as}
-use Rattle.ntboot_cli.specs.Placed.{image_in}
-use Rattle.ntboot_cli.specs.Refusals.{Answer, Ends, IsToldAs, refusal, refusal_status, refusal_text}
-use Rattle.ntboot_cli.specs.Saves.{no_saves}
-use Rattle.ntboot_cli.proofs.DecideLemmas.{told_decides, memory_decides, refusal_decides, told_unused, refused_unread}
-use Rattle.ntboot_cli.proofs.LeaveLemmas.{no_front}
+use Rattle.command_parts.specs.declared.inputs.HiveFiles.{HiveFiles}
+use Rattle.command_parts.specs.declared.refusal.Refusal.{Refusal}
+use Rattle.command_parts.specs.declared.refusal.Obstacle.TheVariants.{Refused, Stopped}
+use Rattle.command_parts.specs.declared.status.Status.{Status}
+use Rattle.command_parts.specs.declared.status.Status.TheVariants as statuses
+use Rattle.command_parts.specs.Decides.{DecidesAlone}
+use Rattle.ntboot_cli.specs.Answer.{EndsShown, ShowsAs}
+use Rattle.command_parts.specs.Leaves.{Leaves, stopped_as}
+use Rattle.command_parts.specs.Placed.{image_in}
+use Rattle.command_parts.specs.Refusals.{Answer, Ends, IsToldAs, refusal, refusal_status, refusal_text}
+use Rattle.command_parts.specs.Saves.{no_saves}
+use Rattle.command_parts.proofs.DecideLemmas.{told_decides, memory_decides, refusal_decides, told_unused, refused_unread}
+use Rattle.command_parts.proofs.LeaveLemmas.{no_front}
 
 abbrev done_with : List ℕ → Answer
 done_with text = record { status = statuses.Done; text = text }

@@ -8,14 +8,14 @@ use Rattle.nt_edge.specs.declared.host.HostStop.TheVariants.{Memory}
 use Rattle.arc_path.specs.Reading.{word_at, number_at, item_at, kind_at, partition_at, numbers_at, directory_at, parts_at, arc_of}
 use Rattle.command_words.specs.Words.{MakeAsked}
 use Rattle.ntboot_cli.specs.declared.making.Usual.{Usual}
-use Rattle.ntboot_cli.specs.declared.refusal.Refusal.{Refusal}
-use Rattle.ntboot_cli.specs.declared.status.Status.TheVariants as statuses
+use Rattle.command_parts.specs.declared.refusal.Refusal.{Refusal}
+use Rattle.command_parts.specs.declared.status.Status.TheVariants as statuses
 use Rattle.ntboot_cli.specs.Answer.{EndsMade, MakesAlone}
-use Rattle.ntboot_cli.specs.Leaves.{stopped_as}
+use Rattle.command_parts.specs.Leaves.{stopped_as}
 use Rattle.ntboot_cli.specs.Made.{usual_in}
-use Rattle.ntboot_cli.specs.Refusals.{refusal_text}
-use Rattle.ntboot_cli.proofs.DecideLemmas.{memory_decides, new_off}
-use Rattle.ntboot_cli.proofs.LeaveLemmas.{no_front}
+use Rattle.command_parts.specs.Refusals.{refusal_text}
+use Rattle.command_parts.proofs.DecideLemmas.{memory_decides, new_off}
+use Rattle.command_parts.proofs.LeaveLemmas.{no_front}
 use Rattle.ntboot_cli.proofs.MakeLemmas.{unmade, new_part}
 
 abbrev WasRead : Result Usual Refusal → Type 0

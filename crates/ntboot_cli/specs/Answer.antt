@@ -1,10 +1,12 @@
 -- What the program answers on given words and files. This project's own.
 --
 -- The first obstacle decides, and then the hive with its log, which has a first fault or is what the command is about.
-use Rattle.std.specs.Prelude.{◌≡◌, ◌⊎◌, ◌≤◌, ◌++◌, ℕ, true, false, List, [], Option, Some, None, map, Result, Ok, Err, unwrap_or}
+use Rattle.std.specs.Prelude.{◌≡◌, ◌⊎◌, ◌≤◌, ◌++◌, ℕ, true, false, List, Option, Some, None, map, Result, Ok, Err}
 use Rattle.nt_bytes.specs.declared.fault.HiveFault.{HiveFault}
+use Rattle.nt_bytes.specs.declared.fault.ReadStop.{ReadStop}
+use Rattle.nt_bytes.specs.declared.fault.ReadStop.TheVariants as read
 use Rattle.nt_edge.specs.Disk.{DiskState, new_state}
-use Rattle.nt_edge.specs.Host.{Files, HostState, AsksNone}
+use Rattle.nt_edge.specs.Host.{Files, HostState, KeepsOthers}
 use Rattle.nt_edge.specs.declared.host.HostStop.TheVariants.{Memory as NoMemory}
 use Rattle.hive_model.specs.Image.{Image}
 use Rattle.hive_model.specs.Load.{Loads, LoadFault}
@@ -15,26 +17,42 @@ use Rattle.start_model.specs.Report.{Going}
 use Rattle.start_model.specs.Run.{Woken, Quiet, run_of, quiet_run_of}
 use Rattle.start_model.specs.Summary.{Summary, no_summary}
 use Rattle.run_parts.specs.Reports.{Reports, ReportsFront}
+use Rattle.boot_run.specs.Agrees.{LoadsAny}
 use Rattle.boot_run.specs.Choices.{choices}
 use Rattle.tree_text.specs.TreeText.{shown_text}
-use Rattle.command_words.specs.Words.{Asked, run, show, make, RunAsked, ShowAsked, MakeAsked}
-use Rattle.ntboot_cli.specs.declared.status.Status.{Status}
-use Rattle.ntboot_cli.specs.declared.status.Status.TheVariants as statuses
-use Rattle.ntboot_cli.specs.declared.refusal.Refusal.{Refusal}
-use Rattle.ntboot_cli.specs.declared.refusal.Refusal.TheVariants.{Usage, HiveFault as BadHive}
-use Rattle.ntboot_cli.specs.declared.refusal.Obstacle.{Obstacle}
-use Rattle.ntboot_cli.specs.declared.refusal.Obstacle.TheVariants.{Refused, Stopped}
-use Rattle.ntboot_cli.specs.declared.inputs.HiveFiles.{HiveFiles}
+use Rattle.command_words.specs.Words.{Asked, export, import, twin, control, safe, run, show, make, RunAsked, ShowAsked, MakeAsked}
+use Rattle.command_parts.specs.declared.status.Status.{Status}
+use Rattle.command_parts.specs.declared.status.Status.TheVariants as statuses
+use Rattle.command_parts.specs.declared.refusal.Refusal.{Refusal}
+use Rattle.command_parts.specs.declared.refusal.Refusal.TheVariants.{Usage, HiveFault as BadHive}
+use Rattle.command_parts.specs.declared.refusal.Obstacle.{Obstacle}
+use Rattle.command_parts.specs.declared.refusal.Obstacle.TheVariants.{Refused, Stopped}
+use Rattle.command_parts.specs.declared.inputs.HiveFiles.{HiveFiles}
 use Rattle.ntboot_cli.specs.declared.inputs.Inputs.{Inputs}
 use Rattle.ntboot_cli.specs.declared.making.Usual.{Usual}
-use Rattle.ntboot_cli.specs.Inputs.{arguments_in, hive_in, inputs_in, asks_in, AsksSoMany}
-use Rattle.ntboot_cli.specs.Leaves.{Leaves}
+use Rattle.command_parts.specs.Decides.{Decides, DecidesAlone}
+use Rattle.command_parts.specs.Inputs.{file_in, hive_in, AsksSoMany}
+use Rattle.ntboot_cli.specs.Inputs.{arguments_in, inputs_in, asks_in}
+use Rattle.safe_command.specs.Answer.{EndsSafe}
+use Rattle.safe_command.specs.Inputs.{inputs_in as safe_inputs_in}
+use Rattle.control_command.specs.Answer.{EndsControl}
+use Rattle.control_command.specs.Inputs.{inputs_in as control_inputs_in}
+use Rattle.twin_command.specs.Twinned.{EndsTwin, stands_by, twin_saves}
+use Rattle.text_commands.specs.Imported.{EndsImport, import_saves}
+use Rattle.text_commands.specs.Exported.{EndsExported, path_in}
 use Rattle.ntboot_cli.specs.Made.{told, usual_in, made_text, IsMade, IsPartMade}
-use Rattle.ntboot_cli.specs.Placed.{image_in, placed_disk, IsUnrun, IsUntouchedBy}
-use Rattle.ntboot_cli.specs.Refusals.{Answer, Ends, IsToldAs, refusal}
-use Rattle.ntboot_cli.specs.Saves.{Saves, no_saves, saved_count, FilesAs, Settles}
+use Rattle.command_parts.specs.Leaves.{Leaves}
+use Rattle.command_parts.specs.Placed.{image_in, placed_disk, IsUnrun, IsUntouchedBy}
+use Rattle.command_parts.specs.Refusals.{Answer, Ends, IsToldAs, refusal}
+use Rattle.command_parts.specs.Saves.{Saves, no_saves, saved_count, FilesAs, Settles}
 
 -- ---- a run
+
+-- the image loads as some state, or this is its first fault
+abbrev pub IsChecked : Image → Result (Unit {0}) ReadStop → Type 0
+IsChecked image (Ok u) = LoadsAny image
+IsChecked image (Err (read.Fault f)) = LoadFault image f
+IsChecked image (Err read.Memory) = Unit {0}
 
 -- the run of the inputs' script, with what boot.ini has for its starts, on what the disk wakes up with first
 abbrev pub run_in : Inputs → Woken → Going
@@ -132,36 +150,41 @@ saves_of None = no_saves
 saves_of (Some (run words)) = record { hive = words.save_hive; log = words.save_log }
 saves_of (Some (show words)) = no_saves
 saves_of (Some (make words)) = record { hive = words.save_hive; log = None }
+saves_of (Some (safe words)) = no_saves
+saves_of (Some (control words)) = no_saves
+saves_of (Some (twin words)) = twin_saves words
+saves_of (Some (import words)) = import_saves words
+saves_of (Some (export words)) = no_saves
 
--- words without a reading are bad usage; else the command decides
-abbrev pub EndsWords : Option Asked → Files → DiskState → Status → List ℕ → List ℕ → Type 0
-EndsWords None files disk status old new = Ends (refusal Usage) status old new × (disk ≡ new_state)
-EndsWords (Some (run words)) files disk status old new =
+-- words without a reading are bad usage; else the command decides, by the files before and after
+abbrev pub EndsWords : Option Asked → Files → Files → DiskState → Status → List ℕ → List ℕ → Type 0
+EndsWords None files after disk status old new = Ends (refusal Usage) status old new × (disk ≡ new_state)
+EndsWords (Some (run words)) files after disk status old new =
     EndsInputs (inputs_in words files) (saves_of (Some (run words))) disk status old new
-EndsWords (Some (show words)) files disk status old new =
+EndsWords (Some (show words)) files after disk status old new =
     EndsShown (hive_in files words.hive words.log) status old new × (disk ≡ new_state)
-EndsWords (Some (make words)) files disk status old new =
+EndsWords (Some (make words)) files after disk status old new =
     EndsMade usual_in words.count (saves_of (Some (make words))) disk status old new
+EndsWords (Some (safe words)) files after disk status old new = EndsSafe (safe_inputs_in words files) status old new × (disk ≡ new_state)
+EndsWords (Some (control words)) files after disk status old new = EndsControl (control_inputs_in words files) status old new × (disk ≡ new_state)
+EndsWords (Some (twin words)) files after disk status old new =
+    EndsTwin (hive_in files words.hive words.alt) (stands_by words.scheme) words.default (twin_saves words) disk status old new
+EndsWords (Some (import words)) files after disk status old new =
+    EndsImport (hive_in files words.hive words.log) (import_saves words) (file_in words.reg (files words.reg)) disk status old new
+EndsWords (Some (export words)) files after disk status old new =
+    EndsExported (hive_in files words.hive words.log) (path_in words.key) words.reg files after status old new × (disk ≡ new_state)
+
+-- as many files are asked for as stand in the written order, up to the first obstacle; of `import` it is not said
+abbrev pub AsksAs : Option Asked → Status → HostState → HostState → Type 0
+AsksAs (Some (import words)) status old new = Unit {0}
+AsksAs asked status old new = AsksSoMany (asks_in asked) status old new
+
+-- what becomes of the files: `export` changes the one that it puts alone, every other command those that it saves
+abbrev pub LeavesFiles : Option Asked → Status → Image → Files → Files → Type 0
+LeavesFiles (Some (export words)) status held old new = KeepsOthers old new words.reg
+LeavesFiles asked status held old new = FilesAs (saves_of asked) status held old new
 
 -- ---- what a part of the program leaves
-
--- which statuses a part of the program ends with, from what was said before to what was said then
-abbrev pub Ending : Type 1
-Ending = Status → List ℕ → List ℕ → Type 0
-
--- The host is left as the end allows; the files are those that were saved; the disk is off, and untouched after a refusal.
-pub record Decides (ends : Ending) (saves : Saves) (status : Status) (old new : HostState) (disk : DiskState) : Type 0 where
-  pub leaves : Leaves ends status old new
-  pub files : old.tells ≡ true → FilesAs saves status disk.held old.files new.files
-  pub off : disk.on ≡ false
-  pub untouched : IsUntouchedBy status disk
-
--- without an obstacle in words and files: no file was asked for, and bad usage or a read fault is no answer any more
-pub record DecidesAlone (ends : Ending) (saves : Saves) (status : Status) (old new : HostState) (disk : DiskState) : Type 0 where
-  pub decides : Decides ends saves status old new disk
-  pub unasked : AsksNone old new
-  pub kept : status ≡ statuses.Usage → ⊥
-  pub unread : status ≡ statuses.ReadFault → ⊥
 
 -- the same of a hive that a script is run on
 abbrev pub DecidesHive : Inputs → Saves → Status → HostState → HostState → DiskState → Type 0
@@ -188,7 +211,10 @@ MakesAlone usual words status old new disk =
 
 -- all that is said of the whole call
 pub record TopDecides (asked : Option Asked) (status : Status) (old new : HostState) (disk : DiskState) : Type 0 where
-  pub decides : Decides (EndsWords asked old.files disk) (saves_of asked) status old new disk
-  pub asks : AsksSoMany (asks_in asked) status old new
+  pub leaves : Leaves (EndsWords asked old.files new.files disk) status old new
+  pub files : old.tells ≡ true → LeavesFiles asked status disk.held old.files new.files
+  pub off : disk.on ≡ false
+  pub untouched : IsUntouchedBy status disk
+  pub asks : AsksAs asked status old new
   pub usage : status ≡ statuses.Usage → arguments_in asked ≡ Err Usage
   pub refused : arguments_in asked ≡ Err Usage → IsToldAs statuses.Usage status

@@ -1,10 +1,3 @@
-pub mod Views
-pub mod Kinds
-pub mod Exits
 pub mod Inputs
-pub mod Leaves
-pub mod Refusals
-pub mod Placed
-pub mod Saves
 pub mod Made
 pub mod Answer

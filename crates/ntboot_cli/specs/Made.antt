@@ -1,14 +1,12 @@
 -- What does `make` do? (this project's own)
 --
 -- It starts a generated hive once, on a disk of its own, up to a good logon, and says what that came to in one line.
-use Rattle.std.specs.Prelude.{◌≡◌, ◌≤◌, ◌++◌, ℕ, false, List, [], ◌∷◌, Option, Some, None, Result, Ok, Err, codes, map}
+use Rattle.std.specs.Prelude.{◌≡◌, ◌≤◌, ◌++◌, ℕ, false, List, [], ◌∷◌, Option, Some, None, Result, Ok, Err, codes}
 use Rattle.std.specs.Fmt.{decimal}
 use Rattle.nt_bytes.specs.declared.version.HiveVersion.TheVariants.{V3}
 use Rattle.hive_model.specs.Image.{Image}
 use Rattle.nt_edge.specs.Disk.{DiskState}
-use Rattle.arc_path.specs.declared.arc.Arc.{Arc}
 use Rattle.arc_path.specs.Reading.{arc_of}
-use Rattle.boot_ini.specs.declared.ini.BootIni.{BootIni}
 use Rattle.start_model.specs.Events.{Event, BootNow, Go, Logon, Off}
 use Rattle.start_model.specs.Fits.{MayLoad}
 use Rattle.start_model.specs.Lines.{Verdict, verdict_word}
@@ -23,8 +21,8 @@ use Rattle.boot_run.specs.Views.{summary_in}
 use Rattle.command_words.specs.Words.{usual_system}
 use Rattle.generated_hive.specs.Generated.{generated}
 use Rattle.ntboot_cli.specs.declared.making.Usual.{Usual}
-use Rattle.ntboot_cli.specs.declared.refusal.Refusal.{Refusal}
-use Rattle.ntboot_cli.specs.Inputs.{◌>>=◌, system_in, ini_in}
+use Rattle.command_parts.specs.declared.refusal.Refusal.{Refusal}
+use Rattle.command_parts.specs.Inputs.{◌>>=◌, system_in, ini_in}
 
 -- the usual system, and a boot.ini without text; both are there
 abbrev pub usual_in : Result Usual Refusal

@@ -12,15 +12,15 @@ ghost use Rattle.start_model.specs.Run.{Choice, Woken, run_of};
 ghost use Rattle.start_model.specs.Summary.{Summary, no_summary};
 ghost use Rattle.run_parts.specs.Reports.{Reports, ReportsFront};
 ghost use Rattle.saved_laws.specs.Saved.{HasUntornBlock};
-ghost use Rattle.ntboot_cli.specs.declared.inputs.HiveFiles.{HiveFiles};
+ghost use Rattle.command_parts.specs.declared.inputs.HiveFiles.{HiveFiles};
 ghost use Rattle.ntboot_cli.specs.declared.inputs.Inputs.{Inputs};
 ghost use Rattle.ntboot_cli.specs.declared.making.Usual.{Usual};
-ghost use Rattle.ntboot_cli.specs.declared.status.Status.{Status};
+ghost use Rattle.command_parts.specs.declared.status.Status.{Status};
 ghost use Rattle.ntboot_cli.specs.Answer.{RunsWhole, EndsInputs};
-ghost use Rattle.ntboot_cli.specs.Leaves.{more, named, stop_in};
+ghost use Rattle.command_parts.specs.Leaves.{more, named, stop_in};
 ghost use Rattle.ntboot_cli.specs.Made.{told, usual_in, made_run, IsMade};
-ghost use Rattle.ntboot_cli.specs.Placed.{image_in, placed_disk};
-ghost use Rattle.ntboot_cli.specs.Saves.{Saves};
+ghost use Rattle.command_parts.specs.Placed.{image_in, placed_disk};
+ghost use Rattle.command_parts.specs.Saves.{Saves};
 
 /// Over every script and whatever came of its disk operations, LastKnownGood names a good set in each tree that was loaded or
 /// committed, and in each that the disk may load as afterwards: where the report was said whole, and where the run was given up.

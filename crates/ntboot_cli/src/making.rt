@@ -13,21 +13,17 @@ ghost use Rattle.start_model.specs.Run.{Woken};
 ghost use Rattle.start_model.specs.Summary.{summary_of};
 ghost use Rattle.command_words.specs.Views.{make_seen};
 ghost use Rattle.ntboot_cli.specs.Answer.{MakesAlone};
-ghost use Rattle.ntboot_cli.specs.Leaves.{Reads};
+ghost use Rattle.command_parts.specs.Leaves.{Reads};
 ghost use Rattle.ntboot_cli.specs.Made.{usual_in, summary_text, last_word, made_run, PlaysMade, IsMade, IsPartMade};
-ghost use Rattle.ntboot_cli.specs.Saves.{FinishesAs};
-ghost use Rattle.ntboot_cli.specs.Views.{saves_seen};
 
-use crate::inputs::{HiveFiles, ini_in, system_in};
-use crate::placing::place;
-use crate::refusal::{Obstacle, refuse, stopped, tell};
-use crate::saving::{Saves, save, saved};
-use crate::status::Status;
 use arc_path::Arc;
 use boot_ini::BootIni;
 use boot_report::{Verdict, verdict_text};
 use boot_run::Summary;
 use boot_script::Event;
+use command_parts::{
+    HiveFiles, Obstacle, Saves, Status, finish, ini_in, place, refuse, stopped, system_in,
+};
 use command_words::{MakeWords, USUAL_SYSTEM};
 use generated_hive::generated_hive;
 use mem_edge::QuietHost;
@@ -130,17 +126,6 @@ fn summary_line(alloc: Global, count: u32, summary: &Summary) -> Result<Vec<u8>,
     push_count(alloc, &mut line, " sequence ", summary.sequence)?;
     line.push(b'\n')?;
     Ok(line)
-}
-
-/// Says the line, and saves what the disk holds.
-fn finish<H: Host, B: Bench>(line: &[u8], saves: Saves<'_>, host: &mut H, bench: &mut B) -> Status
-    requires off { (B.state bench.old).on ≡ false }
-    ensures { FinishesAs line.now (saves_seen saves.entry) result (H.state host.old) (H.state host.new) (B.state bench.old) (B.state bench.new) }
-{
-    match tell(host, line, Status::Done) {
-        Status::Done => saved(save(saves, host, bench)),
-        status => status,
-    }
 }
 
 /// Generates a hive and runs it, says what that came to, and saves what the disk holds.

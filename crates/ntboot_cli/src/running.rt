@@ -7,22 +7,30 @@ ghost use Rattle.nt_edge.specs.Disk.{new_state};
 ghost use Rattle.boot_run.specs.Agrees.{LoadsAny};
 ghost use Rattle.command_words.specs.Words as book;
 ghost use Rattle.command_words.specs.Views.{run_seen};
-ghost use Rattle.ntboot_cli.specs.Answer.{DecidesHive, DecidesRun};
-ghost use Rattle.ntboot_cli.specs.Inputs.{arguments_in, asks_run, AsksSoMany};
-ghost use Rattle.ntboot_cli.specs.Placed.{image_in, placed_disk};
-ghost use Rattle.ntboot_cli.specs.Refusals.{IsToldAs};
-ghost use Rattle.ntboot_cli.specs.Views.{saves_seen};
+ghost use Rattle.ntboot_cli.specs.Answer.{DecidesHive, DecidesRun, IsChecked};
+ghost use Rattle.command_parts.specs.Inputs.{AsksSoMany};
+ghost use Rattle.ntboot_cli.specs.Inputs.{arguments_in, asks_run};
+ghost use Rattle.command_parts.specs.Placed.{image_in, placed_disk};
+ghost use Rattle.command_parts.specs.Refusals.{IsToldAs};
+ghost use Rattle.command_parts.specs.Views.{saves_seen};
 
 use crate::inputs::{Inputs, inputs_in};
-use crate::placing::{check, place};
-use crate::refusal::{Obstacle, Refusal, refuse, stopped};
-use crate::saving::{Saves, save, saved};
-use crate::status::Status;
 use boot_run::RunStop;
+use command_parts::{
+    HiveFiles, Obstacle, Refusal, Saves, Status, place, read, refuse, save, saved, stopped,
+};
 use command_words::RunWords;
 use nt_bytes::ReadStop;
 use nt_edge::{Bench, Host};
 use std::alloc::Global;
+
+/// Checks a whole hive with its log, and keeps no memory.
+fn check(alloc: Global, files: &HiveFiles) -> Result<(), ReadStop>
+    ensures { IsChecked (image_in files.now) result }
+{
+    let _read = read(alloc, files)?;
+    Ok(())
+}
 
 /// Runs the script on the disk, which holds the hive, and saves what it holds then.
 fn play<H: Host, B: Bench>(

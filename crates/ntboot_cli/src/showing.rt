@@ -3,13 +3,11 @@
 ghost use Rattle.std.specs.Prelude.{◌≡◌};
 ghost use Rattle.command_words.specs.Views.{show_seen};
 ghost use Rattle.ntboot_cli.specs.Answer.{ShowsAs, DecidesTree, DecidesShow};
-ghost use Rattle.ntboot_cli.specs.Inputs.{asks_show, AsksSoMany};
-ghost use Rattle.ntboot_cli.specs.Placed.{image_in};
+ghost use Rattle.command_parts.specs.Inputs.{AsksSoMany};
+ghost use Rattle.ntboot_cli.specs.Inputs.{asks_show};
+ghost use Rattle.command_parts.specs.Placed.{image_in};
 
-use crate::inputs::{HiveFiles, hive_in};
-use crate::placing::read;
-use crate::refusal::{Obstacle, Refusal, refuse, stopped, tell};
-use crate::status::Status;
+use command_parts::{HiveFiles, Obstacle, Refusal, Status, hive_in, read, refuse, stopped, tell};
 use command_words::ShowWords;
 use nt_bytes::{Bytes, ReadStop};
 use nt_edge::{Host, HostStop};

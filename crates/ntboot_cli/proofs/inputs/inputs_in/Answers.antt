@@ -3,12 +3,14 @@ use Rattle.std.specs.Prelude.{Ok, Err}
 use Rattle.nt_edge.specs.Host.{Files}
 use Rattle.arc_path.specs.Reading.{arc_of}
 use Rattle.boot_script.specs.Script.{script_of}
-use Rattle.ntboot_cli.specs.Inputs.{asks_run, system_in, events_in, bytes_in, ini_in}
-use Rattle.ntboot_cli.specs.Leaves.{AsksUntil, Gives, Reads, more, named}
+use Rattle.command_parts.specs.Inputs.{system_in, bytes_in, ini_in}
+use Rattle.ntboot_cli.specs.Inputs.{asks_run, events_in}
+use Rattle.command_parts.specs.Leaves.{AsksUntil, Gives, Reads, more, named}
 use Rattle.command_words.specs.Views.{run_seen}
-use Rattle.ntboot_cli.proofs.AskLemmas.{more_more, reads_asks, file_asks, behind_asks, more_behind, by_script, by_events, by_text, by_hive, script_asked, events_asked, text_asked, ini_asked, hive_asked}
-use Rattle.ntboot_cli.specs.declared.inputs.HiveFiles.{HiveFiles}
-use Rattle.ntboot_cli.proofs.LeaveLemmas.{looks_then}
+use Rattle.command_parts.proofs.AskLemmas.{more_more, reads_asks, file_asks, behind_asks, more_behind}
+use Rattle.ntboot_cli.proofs.AskLemmas.{by_script, by_events, by_text, by_hive, script_asked, events_asked, text_asked, ini_asked, hive_asked}
+use Rattle.command_parts.specs.declared.inputs.HiveFiles.{HiveFiles}
+use Rattle.command_parts.proofs.LeaveLemmas.{looks_then}
 use Rattle.ntboot_cli.proofs.inputs.inputs_in.Goals as goal
 
 pub returns-in_err-script-clause-asks : goal.returns-in_err-script-clause-asks

@@ -1,8 +1,8 @@
 use Rattle.std.proofs.Common.{subst}
 use Rattle.std.specs.Prelude.{Err}
 use Rattle.command_words.specs.Views.{make_seen}
-use Rattle.ntboot_cli.specs.declared.refusal.Obstacle.{Obstacle}
-use Rattle.ntboot_cli.specs.Leaves.{Reads}
+use Rattle.command_parts.specs.declared.refusal.Obstacle.{Obstacle}
+use Rattle.command_parts.specs.Leaves.{Reads}
 use Rattle.ntboot_cli.specs.Made.{usual_in}
 use Rattle.ntboot_cli.proofs.UsualLemmas.{never_refused, unread_usual}
 use Rattle.ntboot_cli.proofs.making.make.Goals as goal

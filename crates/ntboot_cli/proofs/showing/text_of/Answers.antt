@@ -1,4 +1,4 @@
-use Rattle.ntboot_cli.specs.Placed.{image_in}
+use Rattle.command_parts.specs.Placed.{image_in}
 use Rattle.ntboot_cli.proofs.ShowLemmas.{shown_as}
 use Rattle.ntboot_cli.proofs.showing.text_of.Goals as goal
 

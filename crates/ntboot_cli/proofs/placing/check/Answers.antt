@@ -1,6 +1,0 @@
-use Rattle.ntboot_cli.specs.Placed.{image_in}
-use Rattle.ntboot_cli.proofs.PlacedLemmas.{checked}
-use Rattle.ntboot_cli.proofs.placing.check.Goals as goal
-
-pub returns : goal.returns
-returns c = checked (image_in c.args.files.now) c.in_ok-_read._read c.in_ok-_read.ensures

@@ -1,0 +1,6 @@
+use Rattle.command_parts.specs.Placed.{image_in}
+use Rattle.ntboot_cli.proofs.RunLemmas.{checked}
+use Rattle.ntboot_cli.proofs.running.check.Goals as goal
+
+pub returns : goal.returns
+returns c = checked (image_in c.args.files.now) c.in_ok-_read._read c.in_ok-_read.ensures
