@@ -8,7 +8,7 @@ use std::process::Abort;
 use std::test::Fail;
 
 /// What the files `x` and `y` hold before they are saved.
-const BEFORE: &[u8] = b"before";
+pub(crate) const BEFORE: &[u8] = b"before";
 
 /// A call of the program, the files that it finds, and what comes of it where the host does not fail.
 #[derive(Clone, Copy)]
@@ -16,8 +16,8 @@ pub(crate) struct Case<'a> {
     pub words: &'a [&'a str],
     /// The hive `h`; its log `l` is empty.
     pub hive: &'a [u8],
-    /// The script `s`.
-    pub script: &'a str,
+    /// The script, or other text, `s`.
+    pub script: &'a [u8],
     pub status: Status,
     pub said: &'a str,
     /// How many files it asks for.
@@ -36,11 +36,11 @@ pub(crate) fn owned(alloc: Global, words: &[&str]) -> Result<Vec<String>, AllocE
     Ok(owned)
 }
 
-fn host(alloc: Global, case: &Case<'_>) -> Result<MemHost, AllocError> {
+pub(crate) fn host(alloc: Global, case: &Case<'_>) -> Result<MemHost, AllocError> {
     let mut host = MemHost::new(alloc);
     host.add("h", case.hive)?;
     host.add("l", b"")?;
-    host.add("s", case.script.as_bytes())?;
+    host.add("s", case.script)?;
     host.add("x", BEFORE)?;
     host.add("y", BEFORE)?;
     Ok(host)
@@ -82,7 +82,7 @@ fn ends(
     assert_eq!(rt; host.said(), said.as_bytes());
     holds(rt, host, "h", case.hive);
     holds(rt, host, "l", b"");
-    holds(rt, host, "s", case.script.as_bytes());
+    holds(rt, host, "s", case.script);
     holds(rt, host, "x", saved(hive.as_slice(), puts > 0));
     holds(rt, host, "y", saved(log.as_slice(), puts > 1));
     Ok(())

@@ -6,6 +6,12 @@
 #[cfg(test)]
 mod cases;
 #[cfg(test)]
+mod commands;
+#[cfg(test)]
 mod hive;
+#[cfg(test)]
+mod hostile;
+#[cfg(test)]
+mod stops;
 #[cfg(test)]
 mod tables;

@@ -25,7 +25,7 @@ const RUN: [&str; 11] = [
 ];
 
 /// A run on the two files that were saved.
-const AGAIN: [&str; 7] = ["run", "--hive", "x", "--log", "y", "--script", "t"];
+pub(crate) const AGAIN: [&str; 7] = ["run", "--hive", "x", "--log", "y", "--script", "t"];
 
 /// A run on the saved hive alone.
 const ALONE: [&str; 5] = ["run", "--hive", "x", "--script", "t"];
@@ -110,7 +110,7 @@ fn run<'a>(hive: &'a [u8], script: &'a str, said: &'a str, says: u8) -> Case<'a>
     Case {
         words: &RUN,
         hive,
-        script,
+        script: script.as_bytes(),
         status: Status::Done,
         said,
         gets: 3,
@@ -120,7 +120,7 @@ fn run<'a>(hive: &'a [u8], script: &'a str, said: &'a str, says: u8) -> Case<'a>
 }
 
 /// Starts what was saved: it answers this, and says this first, behind what was said before.
-fn starts(
+pub(crate) fn starts(
     rt: &impl Abort,
     alloc: Global,
     mut host: MemHost,
@@ -137,7 +137,7 @@ fn starts(
 }
 
 /// The first lines of a start that loads so.
-fn loaded(alloc: Global, load: &str) -> Result<String, AllocError> {
+pub(crate) fn loaded(alloc: Global, load: &str) -> Result<String, AllocError> {
     format!(in alloc; "start 1\n{ENTRY}load {load}\n")
 }
 
@@ -259,7 +259,7 @@ fn shown(rt: &impl Abort, alloc: Global) -> Result<(), Fail> {
     let case = Case {
         words: &["show", "--hive", "h", "--log", "l"],
         hive: hive.as_slice(),
-        script: "",
+        script: b"",
         status: Status::Done,
         said: SHOWN,
         gets: 2,
@@ -275,7 +275,7 @@ fn made(rt: &impl Abort, alloc: Global) -> Result<(), Fail> {
     let case = Case {
         words: &["make", "3", "--save-hive", "x"],
         hive: b"",
-        script: "",
+        script: b"",
         status: Status::Done,
         said,
         gets: 0,
@@ -427,7 +427,7 @@ fn refusals(rt: &impl Abort, alloc: Global) -> Result<(), Fail> {
         let case = Case {
             words,
             hive: hive.as_slice(),
-            script,
+            script: script.as_bytes(),
             status,
             said,
             gets,
