@@ -1,6 +1,6 @@
 #!/usr/bin/env python3
-"""Runs the built program: over each folder of tests/runs, which has `words` (one a line), the input files, what must be said (`stdout`) and
-the exit status (`status`); over each example; and over files and an output that no folder can hold. Prints each run that differs, then
+"""Runs the built program: over each folder of tests/runs, which has `words` (one a line), the input files, what must be said (`stdout`),
+the exit status (`status`), and files that must be there then (`after`); over each example; and over files and an output that no folder can hold. Prints each run that differs, then
 'N passed, N failed'. tests/run_all.py [PROGRAM]"""
 import os
 import resource
@@ -38,9 +38,14 @@ def of_folder(program, folder):
     """A run of tests/runs in a fresh folder with its inputs."""
     with tempfile.TemporaryDirectory() as room:
         for part in os.listdir(folder):
-            if part not in ("words", "stdout", "status"):
+            if part not in ("words", "stdout", "status", "after"):
                 shutil.copy(os.path.join(folder, part), room)
-        return said(program, read(folder, "words").decode().split("\n")[:-1], room)
+        text, status = said(program, read(folder, "words").decode().split("\n")[:-1], room)
+        after = os.path.join(folder, "after")
+        for part in os.listdir(after) if os.path.isdir(after) else ():
+            if not os.path.isfile(os.path.join(room, part)) or read(room, part) != read(after, part):
+                text += f"the file {part} is not as it should be\n".encode()
+        return text, status
 
 
 def of_example(program, folder):

@@ -1,0 +1,208 @@
+#!/usr/bin/env python3
+"""Runs the built program on mutated inputs: bench/fuzz.py PROGRAM [--count N] [--seed TEXT] [--jobs N] [--keep FOLDER].
+
+Each input is a folder of tests/runs with one to four changes of its hive, log, boot.ini or script: bytes turned, fields set to edges, blocks
+of 512 bytes swapped, dropped or doubled, lines doubled or dropped, the end cut off. Where the base block changes its checksum is mostly
+made anew, so that later checks are reached too. Each run must end with an answer of the program within ten seconds, take no more memory
+than 64 MiB and eight times its files, and where it is done save files that load. What fails is kept as a folder with its inputs and words.
+The N-th input of a seed is always the same. No gate runs it."""
+import argparse
+import multiprocessing
+import os
+import random
+import resource
+import shutil
+import signal
+import struct
+import sys
+import tempfile
+
+sys.path.insert(0, os.path.dirname(os.path.abspath(__file__)))
+import hives
+
+TOP = os.path.join(os.path.dirname(os.path.abspath(__file__)), "..")
+RUNS = os.path.join(TOP, "tests", "runs")
+INPUTS = ("hive", "log", "boot.ini", "script")
+ANSWERS = {0: b"", 1: b"bad usage", 2: b"no file ", 3: b"script fault ", 4: b"boot.ini fault ", 5: b"hive fault "}
+EDGES = (0, 1, 2, 3, 4, 5, 7, 8, 0x20, 0x7F, 0x80, 0xFF, 0x1000, 0x7FFF, 0x8000, 0xFFFF, 0x7FFFFFFF, 0x80000000, 0x80000004, hives.NONE - 7, hives.NONE)
+
+
+def seeds():
+    """The inputs of each run that is kept, by name."""
+    found = []
+    for name in sorted(os.listdir(RUNS)):
+        parts = {}
+        for part in INPUTS:
+            path = os.path.join(RUNS, name, part)
+            if os.path.isfile(path) and os.path.getsize(path) <= 1 << 20:
+                with open(path, "rb") as f:
+                    parts[part] = f.read()
+        if "hive" in parts:
+            found.append((name, parts))
+    return found
+
+
+def turned(chance, data):
+    for _ in range(chance.randint(1, 4)):
+        if data:
+            data[chance.randrange(len(data))] ^= 1 << chance.randrange(8)
+
+
+def edged(chance, data):
+    """A field of one, two or four bytes is set to an edge; most stand at multiples of two."""
+    size = chance.choice((1, 2, 4, 4))
+    if len(data) >= size:
+        at = chance.randrange((len(data) - size) // 2 + 1) * 2 if size > 1 else chance.randrange(len(data))
+        near = int.from_bytes(data[at:at + size], "little") + chance.choice((-8, -1, 1, 8))
+        value = chance.choice((*EDGES, near)) % (1 << (8 * size))
+        data[at:at + size] = value.to_bytes(size, "little")
+
+
+def moved(chance, data):
+    """A block of 512 bytes is swapped with another, dropped or doubled."""
+    blocks = [data[i:i + 512] for i in range(0, len(data), 512)]
+    if len(blocks) > 1:
+        one, other = chance.randrange(len(blocks)), chance.randrange(len(blocks))
+        kind = chance.randrange(3)
+        if kind == 0:
+            blocks[one], blocks[other] = blocks[other], blocks[one]
+        elif kind == 1:
+            del blocks[one]
+        else:
+            blocks.insert(other, blocks[one])
+        data[:] = b"".join(blocks)
+
+
+def copied(chance, data):
+    """A few bytes are copied over others, as offsets and names of other cells."""
+    size = chance.choice((4, 8, 16))
+    if len(data) > size:
+        one, other = chance.randrange(len(data) - size), chance.randrange(len(data) - size)
+        data[one:one + size] = data[other:other + size]
+
+
+def ended(chance, data):
+    del data[chance.randrange(len(data) + 1):]
+
+
+def lined(chance, data):
+    """A line is doubled, dropped or moved."""
+    lines = bytes(data).split(b"\n")
+    at = chance.randrange(len(lines))
+    line = lines.pop(at)
+    for _ in range(chance.choice((0, 1, 2, 40))):
+        lines.insert(chance.randrange(len(lines) + 1), line)
+    data[:] = b"\n".join(lines)
+
+
+def summed(data):
+    """The checksum of the base block is made anew."""
+    if len(data) >= 512:
+        total = 0
+        for (word,) in struct.iter_unpack("<I", bytes(data[:508])):
+            total ^= word
+        struct.pack_into("<I", data, 508, {0: 1, hives.NONE: hives.NONE - 1}.get(total, total))
+
+
+def mutated(chance, parts):
+    """The inputs with one to four changes."""
+    parts = {name: bytearray(data) for name, data in parts.items()}
+    for _ in range(chance.randint(1, 4)):
+        name = chance.choice([*parts, "hive"])
+        data = parts[name]
+        is_text = name in ("boot.ini", "script")
+        change = chance.choice((turned, edged, lined, lined, ended) if is_text else (turned, edged, edged, edged, copied, moved, ended))
+        change(chance, data)
+    for name in ("hive", "log"):
+        if name in parts and chance.random() < 0.9:
+            summed(parts[name])
+    return parts
+
+
+def ran(program, words, room):
+    """The exit status, or minus the signal's number, the output, and the greatest memory in KiB."""
+    with open(os.path.join(room, "said"), "wb") as out:
+        child = os.fork()
+        if child == 0:
+            os.chdir(room)
+            os.dup2(out.fileno(), 1)
+            os.dup2(out.fileno(), 2)
+            signal.alarm(10)
+            os.execv(program, [program, *words])
+        _, status, used = os.wait4(child, 0)
+    with open(os.path.join(room, "said"), "rb") as f:
+        return os.waitstatus_to_exitcode(status), f.read(), used.ru_maxrss
+
+
+def words_of(parts):
+    words = ["run", "--hive", "hive", "--script", "script", "--save-hive", "new", "--save-log", "newlog"]
+    if "log" in parts:
+        words += ["--log", "log"]
+    if "boot.ini" in parts:
+        words += ["--boot-ini", "boot.ini"]
+    return words
+
+
+def wrong(program, parts, room):
+    """What is wrong with the run on these inputs, if anything."""
+    for name, data in parts.items():
+        with open(os.path.join(room, name), "wb") as f:
+            f.write(data)
+    status, said, memory = ran(program, words_of(parts), room)
+    if status not in ANSWERS:
+        return f"exit {status}"
+    if not said.endswith(b"\n") or not said.startswith(ANSWERS[status]) or (status == 0 and not said.endswith(b"end\n")):
+        return f"exit {status} says {said[-60:]!r}"
+    if memory > 64 * 1024 + 8 * sum(map(len, parts.values())) // 1024:
+        return f"{memory} KiB"
+    saved = os.path.join(room, "new")
+    if (status == 0) != os.path.exists(saved):
+        return f"exit {status}, and the hive is {'saved' if os.path.exists(saved) else 'not saved'}"
+    if status == 0 and b"torn" not in parts["script"]:
+        shown, text, _ = ran(program, ["show", "--hive", "new", "--log", "newlog"], room)
+        if shown != 0:
+            return f"what was saved: exit {shown}, {text[-60:]!r}"
+    return None
+
+
+def work(task):
+    """Tries the inputs of one range, and answers how many there were of each exit status of a first run, and what failed."""
+    program, seed, first, last, keep = task
+    found, failed = seeds(), []
+    for n in range(first, last):
+        chance = random.Random(f"{seed} {n}")
+        name, parts = chance.choice(found)
+        parts.setdefault("script", bytearray(b"boot\ngo\nlogon\noff\n"))
+        parts = mutated(chance, parts)
+        with tempfile.TemporaryDirectory() as room:
+            why = wrong(program, parts, room)
+            if why:
+                failed.append(f"{seed} {n} (from {name}): {why}")
+                shutil.copytree(room, os.path.join(keep, f"{seed}_{n}"), dirs_exist_ok=True)
+    return last - first, failed
+
+
+def main():
+    asked = argparse.ArgumentParser()
+    asked.add_argument("program")
+    asked.add_argument("--count", type=int, default=10_000)
+    asked.add_argument("--seed", default="a")
+    asked.add_argument("--jobs", type=int, default=1)
+    asked.add_argument("--keep", default="fuzz-failures")
+    asked = asked.parse_args()
+    resource.setrlimit(resource.RLIMIT_CORE, (0, 0))
+    step = 200
+    tasks = [(os.path.abspath(asked.program), asked.seed, n, min(n + step, asked.count), asked.keep) for n in range(0, asked.count, step)]
+    done = failed = 0
+    with multiprocessing.Pool(asked.jobs) as pool:
+        for count, why in pool.imap_unordered(work, tasks):
+            done += count
+            failed += len(why)
+            for line in why:
+                print(line, flush=True)
+    print(f"{done - failed} passed, {failed} failed")
+    return 1 if failed else 0
+
+
+if __name__ == "__main__":
+    sys.exit(main())
