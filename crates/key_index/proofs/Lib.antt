@@ -7,3 +7,4 @@ pub mod Below
 pub mod Texts
 pub mod Runs
 pub mod Meeting
+pub mod Fresh

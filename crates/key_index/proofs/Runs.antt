@@ -26,10 +26,12 @@ use Rattle.hive_pack.proofs.Named.{entries_read}
 use Rattle.hive_pack.proofs.Found.{Has}
 use Rattle.hive_cells.specs.Held.{run_cells, held_at, held_among, IsRun}
 use Rattle.hive_cells.specs.Holes.{IsHole, FindsRoom}
+use Rattle.hive_cells.proofs.GrowLemmas.{new_long}
 use Rattle.hive_cells.proofs.Made.{run_made}
 use Rattle.hive_cells.proofs.HeldLemmas.{held_payload, payload_held}
 use Rattle.key_index.specs.Relists.{list_run, IsPut, AreRelisted}
 use Rattle.key_index.specs.Lists.{IsNode, ListsSiblings, hints_in, lists_at, lists_lists, name_in, offsets_of, payload_in, without_child}
+use Rattle.key_index.proofs.Fresh.{lists_inside, lists_once}
 use Rattle.key_index.proofs.Below.{ChildLists, UsedLists, child_lists, used_lists}
 
 -- ---- a run is its cells
@@ -376,6 +378,8 @@ put_is version gone offsets hints old mid new at held fit some same four room fi
       freed = freed;
       kept = λ o p h k. others o k ∙ filled o ∙ first (held_among o at (map allocated_cell ps)) (held_at old o) p (λ q e. unheld o q e) h;
       others = λ o k. others o k ∙ filled o;
+      fresh = λ o i. let r = lists_inside (look_up version new) at offsets hints written some same fit four room o i in fresh o r.0 r.1;
+      once = lists_once (look_up version new) at offsets hints written some same fit four room;
       long = long_too ∙ long;
     }
   where
@@ -396,6 +400,14 @@ room_inside size old new at (inr h) small = grown (bins_size old) size at h.1.pl
     grown : (bytes size at : ℕ) → at ≡ bytes + 32 → bytes + rounded (size + 32) ≤ 16777216 → at + size ≤ 16777216
     grown bytes size at e f = omega arith
 
+-- bins in which room was made are no shorter
+pub room_longer : (size : ℕ) (old new : List Bin) (at : ℕ) → FindsRoom size old new at → bins_size old ≤ bins_size new
+room_longer size old new at (inl h) = let e = ap bins_size h.1 in omega (arith, e)
+room_longer size old new at (inr h) =
+    let e = ap bins_size h.1.bins in
+    let l = new_long old size in
+    omega (arith, e, l)
+
 pub none_over : (size bytes n : ℕ) → size ≡ list_size n → 0 < n → 16777216 < bytes + rounded (size + 32) → 16777216 < list_strain_of bytes n
 none_over size bytes n e some h =
     let k : 16777216 < bytes + rounded (list_size n + 32) = subst (λ (m : ℕ). 16777216 < bytes + rounded (m + 32)) e h in
@@ -403,9 +415,9 @@ none_over size bytes n e some h =
 
 pub relisted : (version : HiveVersion) (gone offsets : List ℕ) (hints : List (List ℕ)) (old mid new : List Bin) (at size : ℕ)
     → IsPut version gone offsets hints mid new at → ((o : ℕ) → held_at mid o ≡ held_at old o)
-    → bins_size mid ≤ bins_size old + rounded (size + 32) → size ≡ list_size (length offsets) → 0 < length offsets
-    → AreRelisted version gone offsets hints old new at
-relisted version gone offsets hints old mid new at size p same long e some =
+    → bins_size mid ≤ bins_size old + rounded (size + 32) → bins_size old ≤ bins_size mid → size ≡ list_size (length offsets)
+    → 0 < length offsets → AreRelisted version gone offsets hints old new at
+relisted version gone offsets hints old mid new at size p same long least e some =
     let k : bins_size mid ≤ bins_size old + rounded (list_size (length offsets) + 32) =
     subst (λ (m : ℕ). bins_size mid ≤ bins_size old + rounded (m + 32)) e long in
     let strain = strain_holds (bins_size old) (length offsets) some in
@@ -414,7 +426,10 @@ relisted version gone offsets hints old mid new at size p same long e some =
       freed = p.freed;
       kept = λ o q h ng. p.kept o q (same o ∙ h) ng;
       others = λ o ng. p.others o ng ∙ ap (or_else (held_among o at (list_run version at offsets hints))) (same o);
+      fresh = λ o i. sym (same o) ∙ p.fresh o i;
+      once = p.once;
       long = within (bins_size old) (bins_size mid) (bins_size new) (rounded (list_size (length offsets) + 32)) (list_strain_of (bins_size old) (length offsets)) p.long k strain;
+      kept_long = let l = p.long in omega (arith, l, least);
     }
   where
     within : (a b d r s : ℕ) → d ≡ b → b ≤ a + r → a + r ≤ s → d ≤ s

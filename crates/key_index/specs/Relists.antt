@@ -4,7 +4,8 @@ use Rattle.std.specs.List.{AllPairs}
 use Rattle.nt_bytes.specs.declared.version.HiveVersion.{HiveVersion}
 use Rattle.hive_model.specs.Bins.{Cell, Bin, bins_size, or_else, look_up}
 use Rattle.hive_model.specs.Packed.{allocated_cell, list_cells}
-use Rattle.hive_model.specs.Footprint.{list_strain_of}
+use Rattle.hive_model.specs.Walk.{entries_checks, AreUsedOnce}
+use Rattle.hive_model.specs.Footprint.{used_in, list_strain_of}
 use Rattle.hive_model.specs.Stands.{ListsAt}
 use Rattle.hive_cells.specs.Held.{held_at, held_among}
 use Rattle.key_index.specs.declared.removal.Removal.{Removal}
@@ -19,13 +20,17 @@ abbrev pub list_run : HiveVersion → ℕ → List ℕ → List (List ℕ) → L
 list_run version at offsets hints = map allocated_cell (list_cells version at offsets hints)
 
 -- The lists of these children begin here, in packed form, cell behind cell. The old cells of lists are gone, each other cell that
--- was held is as it was, and nothing else is held. The bins data are longer by no more than the room for each list.
+-- was held is as it was, and nothing else is held. The lists use each cell once, and none of these was held. The bins data are
+-- longer by no more than the room for each list.
 pub record AreRelisted (version : HiveVersion) (gone offsets : List ℕ) (hints : List (List ℕ)) (old new : List Bin) (at : ℕ) : Type 0 where
   pub lists : ListsAt (look_up version new) at offsets
   pub freed : (o : ℕ) → Contains gone o → held_at new o ≡ None
   pub kept : (o : ℕ) (p : List ℕ) → held_at old o ≡ Some p → (Contains gone o → ⊥) → held_at new o ≡ Some p
   pub others : (o : ℕ) → (Contains gone o → ⊥) → held_at new o ≡ or_else (held_among o at (list_run version at offsets hints)) (held_at old o)
+  pub fresh : (o : ℕ) → Contains (used_in (entries_checks (look_up version new) at)) o → held_at old o ≡ None
+  pub once : AreUsedOnce (entries_checks (look_up version new) at)
   pub long : bins_size new ≤ list_strain_of (bins_size old) (length offsets)
+  pub kept_long : bins_size old ≤ bins_size new
 
 -- The lists of these children were put here, and the old ones freed.
 pub record IsPut (version : HiveVersion) (gone offsets : List ℕ) (hints : List (List ℕ)) (old new : List Bin) (at : ℕ) : Type 0 where
@@ -33,6 +38,8 @@ pub record IsPut (version : HiveVersion) (gone offsets : List ℕ) (hints : List
   pub freed : (o : ℕ) → Contains gone o → held_at new o ≡ None
   pub kept : (o : ℕ) (p : List ℕ) → held_at old o ≡ Some p → (Contains gone o → ⊥) → held_at new o ≡ Some p
   pub others : (o : ℕ) → (Contains gone o → ⊥) → held_at new o ≡ or_else (held_among o at (list_run version at offsets hints)) (held_at old o)
+  pub fresh : (o : ℕ) → Contains (used_in (entries_checks (look_up version new) at)) o → held_at old o ≡ None
+  pub once : AreUsedOnce (entries_checks (look_up version new) at)
   pub long : bins_size new ≡ bins_size old
 
 -- the room for lists of so many children is over 16 MiB, and the cells are as they were
