@@ -45,7 +45,7 @@ folds_length (x ∷ xs) (y ∷ ys) e = go (eqb (folded_unit x) (folded_unit y)) 
 abbrev pub set_tree : List (List ℕ) → List ℕ → ℕ → List ℕ → Tree → Tree
 set_tree path name kind bytes t = at_key path (of_items (with_item name kind bytes)) t
 
-made : (path : List (List ℕ)) (name : List ℕ) (kind : ℕ) (bytes : List ℕ) (t : Tree) → is_none (find_key path t) ≡ false → nat_lt 16383 (length name) ≡ false
+pub made : (path : List (List ℕ)) (name : List ℕ) (kind : ℕ) (bytes : List ℕ) (t : Tree) → is_none (find_key path t) ≡ false → nat_lt 16383 (length name) ≡ false
     → nat_lt 1048576 (length bytes) ≡ false → value_set path name kind bytes t ≡ Ok (set_tree path name kind bytes t)
 made path name kind bytes t a b c =
     λ i. unless ((a i, no_key) ∷ (b i, name_too_long) ∷ (c i, data_too_long) ∷ []) (set_tree path name kind bytes t)
@@ -147,7 +147,7 @@ in_footprint b root t path name kind bytes key v node r k e =
 
 -- where one cell was patched, each other one is as before
 pub kept_in_place : (old new : HiveCells) (step : Step) (v : ℕ) → IsInFootprint (cells_in old) old.root old.tree (step ∷ []) v
-    → ((o : ℕ) → (o ≡ v → ⊥) → held_at new.bins o ≡ held_at old.bins o) → new.root ≡ old.root → bins_size new.bins ≡ bins_size old.bins → IsEditedInPlace old (step ∷ []) new
+    → ((o : ℕ) → (o ≡ v → ⊥) → held_at new.bins o ≡ held_at old.bins o) → new.root ≡ old.root → bins_size old.bins ≤ bins_size new.bins → IsEditedInPlace old (step ∷ []) new
 kept_in_place old new step v foot others root long = record {
   kept = λ o p held outside. go o p held outside (eqb o v) refl;
   root = root;

@@ -95,10 +95,10 @@ own_again (a ∷ b ∷ c ∷ d ∷ []) h small =
 own_again (a ∷ b ∷ c ∷ d ∷ e ∷ rest) h small = absurd (omega arith)
 
 -- a value that holds these bytes itself
-abbrev inside_value : KeyValue → ℕ → List ℕ → KeyValue
+abbrev pub inside_value : KeyValue → ℕ → List ℕ → KeyValue
 inside_value value kind bytes = record value { size = 2147483648 + length bytes; offset = from_le_bytes w32 bytes; kind = kind }
 
-inside_size : (n : ℕ) → n ≤ 4 → (is_in_place (2147483648 + n) ≡ true) × (is_overfull (2147483648 + n) ≡ false)
+pub inside_size : (n : ℕ) → n ≤ 4 → (is_in_place (2147483648 + n) ≡ true) × (is_overfull (2147483648 + n) ≡ false)
 inside_size zero h = (refl, refl)
 inside_size (suc zero) h = (refl, refl)
 inside_size (suc (suc zero)) h = (refl, refl)
@@ -106,7 +106,7 @@ inside_size (suc (suc (suc zero))) h = (refl, refl)
 inside_size (suc (suc (suc (suc zero)))) h = (refl, refl)
 inside_size (suc (suc (suc (suc (suc n))))) h = absurd (omega arith)
 
-inside_again : (value : KeyValue) (kind : ℕ) (bytes : List ℕ) → length bytes ≤ 4 → ((i : ℕ) → get_or bytes i 0 < 256)
+pub inside_again : (value : KeyValue) (kind : ℕ) (bytes : List ℕ) → length bytes ≤ 4 → ((i : ℕ) → get_or bytes i 0 < 256)
     → data_inside (inside_value value kind bytes) ≡ some bytes
 inside_again value kind bytes short small =
     let n : 2147483648 + length bytes - 2147483648 ≡ length bytes = omega arith in
@@ -140,7 +140,7 @@ found_among test (y ∷ ys) x e = go (test y) refl e (λ d. found_among test ys 
         let d = deep e in
         record { front = y ∷ d.front; back = d.back; whole = ap (λ (zs : List ℕ). y ∷ zs) d.whole; passes = d.passes }
 
-places_same : (cells : Cells) (at : ℕ) → owned_places cells at ≡ value_places cells at
+pub places_same : (cells : Cells) (at : ℕ) → owned_places cells at ≡ value_places cells at
 unfolding owned_places value_places
 places_same cells at = refl
 

@@ -141,7 +141,7 @@ bytes_there n p bytes e =
     let t = unless (nat_lt (length p) n) FormShort (Ok (take n p)) bytes e in
     (ltb-false (length p) n t.0, ok_same (take n p) bytes t.1)
 
-bytes_long : (cells : Cells) (n at : ℕ) (bytes : List ℕ) → reading (bytes_in n) cells at ≡ done bytes → length bytes ≡ n
+pub bytes_long : (cells : Cells) (n at : ℕ) (bytes : List ℕ) → reading (bytes_in n) cells at ≡ done bytes → length bytes ≡ n
 bytes_long cells n at bytes e =
     let b = bytes_there n (payload_in cells at) bytes (in_payload (bytes_in n) cells at bytes e) in
     ap length (sym b.1) ∙ take_all n (payload_in cells at) b.0
@@ -150,7 +150,7 @@ numbers_long : (step n : ℕ) (p : List ℕ) → length (numbers_in step n p) �
 numbers_long step Rattle.std.proofs.Common.zero p = refl
 numbers_long step (Rattle.std.proofs.Common.suc n) p = omega (arith, numbers_long step n (drop step p))
 
-offsets_long : (n : ℕ) (p offsets : List ℕ) → offsets_in n p ≡ done offsets → length offsets ≡ n
+pub offsets_long : (n : ℕ) (p offsets : List ℕ) → offsets_in n p ≡ done offsets → length offsets ≡ n
 unfolding offsets_in
 offsets_long n p offsets e =
     let t = (unless (nat_lt (length p) (Rattle.std.proofs.Common.◌*◌ 4 n)) FormShort (Ok (numbers_in 4 n p)) offsets e).1 in
@@ -164,7 +164,7 @@ segments_many cells n (at ∷ rest) bytes e some big =
     let first : length part.0 ≡ min 16344 n = bytes_long cells (segment_part n) at part.0 part.1 in
     subst (λ (xs : List ℕ). 4 < length xs) (ok_same (part.0 ++ others.0) bytes others.2) (omega (arith, first, length-append part.0 others.0))
 
-big_form : (n : ℕ) (p : List ℕ) (big : BigData) → big_data_of n p ≡ done big → big.segments ≡ segment_count n
+pub big_form : (n : ℕ) (p : List ℕ) (big : BigData) → big_data_of n p ≡ done big → big.segments ≡ segment_count n
 unfolding big_data_of
 big_form n p big e =
     let r = then_so (big_data_at p) (λ (b : BigData). cond (b.segments == segment_count n) (Ok b) (Err FormLength)) big e in

@@ -119,7 +119,7 @@ pub record ValuesHere (cells : Cells) (at count : ℕ) (list : List ℕ) : Type 
   pub places : value_places cells at ≡ numbers_in 4 count list
   pub values : All (IsItemHere cells) (numbers_in 4 count list)
 
-numbers_there : (count : ℕ) (p offsets : List ℕ) → offsets_in count p ≡ done offsets → (4 * count ≤ length p) × (offsets ≡ numbers_in 4 count p)
+pub numbers_there : (count : ℕ) (p offsets : List ℕ) → offsets_in count p ≡ done offsets → (4 * count ≤ length p) × (offsets ≡ numbers_in 4 count p)
 unfolding offsets_in
 numbers_there count p offsets e =
     let t = unless (nat_lt (length p) (4 * count)) FormShort (Ok (numbers_in 4 count p)) offsets e in

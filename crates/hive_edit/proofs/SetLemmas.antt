@@ -149,7 +149,7 @@ record EditThere (version : HiveVersion) (t : Tree) (path : List (List ℕ)) (na
   edit : edited version t (set_value path name kind bytes ∷ []) ≡ cond (nat_lt most_bulk (bulk_of version t)) (Err full) (Ok (set_tree path name kind bytes t))
   bulk : bulk_of version (set_tree path name kind bytes t) ≡ bulk_of version t
 
-name_short : (b : Cells) (name : List ℕ) (key v : ℕ) (value : KeyValue) → value_place b name key ≡ some v → reading key_value_at b v ≡ done value → length name ≤ 16383
+pub name_short : (b : Cells) (name : List ℕ) (key v : ℕ) (value : KeyValue) → value_place b name key ≡ some v → reading key_value_at b v ≡ done value → length name ≤ 16383
 name_short b name key v value e r =
     let p = then_so (b.payload v) key_value_at value r in
     let long = value-facts p.0 value p.2 in
@@ -216,7 +216,7 @@ is_set old new root version bulk h path name kind bytes v is view e short small 
       edit = subst (λ (g : HiveCells). edited g.version g.tree (set_value path name kind bytes ∷ []) ≡ the_tree (tree_of c root)) view (edit ∙ sym (ap the_tree tree));
       kept = subst (λ (g : HiveCells). IsEditedInPlace g (set_value path name kind bytes ∷ []) (hive_of new root version)) view
           (kept_in_place (hive_of old root version) (hive_of new root version) (set_value path name kind bytes) v
-          (in_footprint b root t path name kind bytes i.key v node.0 node.1 i.place i.named) others refl long);
+          (in_footprint b root t path name kind bytes i.key v node.0 node.1 i.place i.named) others refl (omega (arith, long)));
     }
   where
     node_read : (cells : Cells) (at : ℕ) (k : Tree) → Stands cells at k → (n : KeyNode) × (reading key_node_at cells at ≡ done n)

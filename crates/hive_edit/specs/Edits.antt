@@ -1,30 +1,36 @@
 -- What an edit of a hive leaves of its cells. (This project's own.)
-use Rattle.std.specs.Prelude.{◌≡◌, ◌++◌, ℕ, Bool, false, if◌then◌else◌, List, is_some, Option, Some, None, Result, Ok, Err}
+use Rattle.std.specs.Prelude.{◌≡◌, ◌≤◌, ◌<◌, ◌++◌, ℕ, Bool, false, if◌then◌else◌, List, is_some, Option, Some, None, Result, Ok, Err}
 use Rattle.std.specs.Option.{option_and_then}
 use Rattle.std.specs.Int.{w32, to_le_bytes}
 use Rattle.nt_bytes.specs.declared.fault.HiveKind.{HiveKind}
-use Rattle.hive_model.specs.Bins.{Cells, bins_size}
+use Rattle.hive_model.specs.Bins.{Bin, Cells, bins_size}
 use Rattle.hive_model.specs.Forms.{KeyValue, key_value_at, data_inside}
 use Rattle.hive_model.specs.Walk.{reading}
 use Rattle.hive_model.specs.Edit.{Step}
-use Rattle.hive_model.specs.Footprint.{IsInFootprint, key_place}
+use Rattle.hive_model.specs.Footprint.{IsInFootprint, key_place, strain_of}
 use Rattle.hive_model.specs.Packed.{packed_bins}
 use Rattle.hive_cells.specs.Held.{held_at}
+use Rattle.hive_cells.specs.Changes.{at_cell, with_part}
 use Rattle.hive_edit.specs.Hive.{HiveCells, cells_in}
 use Rattle.hive_edit.specs.Places.{value_place}
 
 -- in place: each cell that was allocated, and is in the footprint of no step, has its offset and its payload, the root is where it was,
--- and the bins data are as long as before
+-- and the bins data are as long as before, or longer
 pub record IsEditedInPlace (old : HiveCells) (steps : List Step) (new : HiveCells) : Type 0 where
   pub kept : (o : ℕ) (p : List ℕ) → held_at old.bins o ≡ Some p → (IsInFootprint (cells_in old) old.root old.tree steps o → ⊥)
       → held_at new.bins o ≡ Some p
   pub root : new.root ≡ old.root
-  pub long : bins_size new.bins ≡ bins_size old.bins
+  pub long : bins_size old.bins ≤ bins_size new.bins
 
 -- packed anew: the cells are those of the packed form of the tree
 pub record IsPackedAnew (h : HiveCells) : Type 0 where
   pub bins : h.bins ≡ packed_bins h.version h.tree
   pub root : h.root ≡ 32
+
+-- packed anew for want of room: the strain of the steps is over the greatest size of bins data
+pub record IsPackedForRoom (old : HiveCells) (steps : List Step) (new : HiveCells) : Type 0 where
+  pub packed : IsPackedAnew new
+  pub strained : 16777216 < strain_of old.version (bins_size old.bins) old.tree steps
 
 -- the value that was read holds its data itself
 abbrev pub held_itself : Result KeyValue HiveKind → Bool
@@ -47,3 +53,8 @@ inside_place cells path name root =
 -- the twelve bytes of a value's size, offset and type (regf format, Key value)
 abbrev pub value_fields : ℕ → ℕ → ℕ → List ℕ
 value_fields size offset kind = to_le_bytes w32 size ++ (to_le_bytes w32 offset ++ to_le_bytes w32 kind)
+
+-- from bins to bins only these fields were written, over those of the value at an offset: no other byte differs
+pub record WritesFields (at : ℕ) (fields : List ℕ) (old new : List Bin) : Type 0 where
+  pub exact : new ≡ at_cell at (with_part 4 fields) old
+  pub long : bins_size new ≡ bins_size old

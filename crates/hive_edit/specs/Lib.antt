@@ -4,3 +4,7 @@ pub mod Hive
 pub mod Places
 pub mod Sources
 pub mod Edits
+pub mod Runs
+pub mod Given
+pub mod Gone
+pub mod Making

@@ -1,17 +1,19 @@
 //! A value set, where it stands or with all cells packed anew, and steps in order.
 
-ghost use Rattle.std.specs.Prelude.{◌≡◌, ◌≤◌, ◌+◌, ◌⊎◌, [], ◌∷◌, length, map, is_some, true, Ok, IfOk, IfErr, OnOk, OnErr, MatchResult};
+ghost use Rattle.std.specs.Prelude.{◌≡◌, ◌≤◌, ℕ, ◌+◌, ◌⊎◌, [], ◌∷◌, length, map, is_some, true, Some, Ok, IfOk, IfErr, OnOk, OnErr, MatchResult};
 ghost use Rattle.std.specs.List.{All};
 ghost use Rattle.std.specs.Int.{w32, from_le_bytes};
-ghost use Rattle.hive_model.specs.Edit.{edited, set_value};
+ghost use Rattle.hive_model.specs.Edit.{edited, set_value, make_key};
 ghost use Rattle.reg_tree.specs.Fitting.{Fits};
 ghost use Rattle.hive_model.specs.Size.{bulk_of};
 ghost use Rattle.hive_model.specs.Valid.{IsValid};
 ghost use Rattle.reg_tree.specs.Makes.{IsRefused, Makes, step_of};
 ghost use Rattle.reg_tree.specs.declared.stop.EditStop.TheVariants.{Full, Memory};
 ghost use Rattle.hive_edit.specs.Hive.{cells_in};
-ghost use Rattle.hive_edit.specs.Edits.{inside_place, value_fields, IsEditedInPlace, IsPackedAnew};
+ghost use Rattle.hive_edit.specs.Edits.{inside_place, value_fields, IsEditedInPlace, IsPackedAnew, IsPackedForRoom, WritesFields};
+ghost use Rattle.hive_edit.specs.Given.{place_in};
 
+use crate::give::inside_fields;
 use crate::hive::HiveBytes;
 use crate::path::key_at;
 use crate::source::Source;
@@ -19,48 +21,18 @@ use crate::values::{if_inside, value_at};
 use hive_cells::read_cells;
 use hive_pack::pack;
 use hive_read::read_tree;
-use nt_bytes::{Bytes, HiveVersion, Names, ReadStop, Row, Units, put_u32};
+use nt_bytes::{Bytes, HiveVersion, Names, ReadStop, Row, Units};
 use reg_tree::{EditStop, Key, Steps, TreeStep};
-use std::alloc::Global;
+use std::alloc::{AllocError, Global};
 
 /// The greatest bulk of an edited tree, in bytes.
 const MOST_BULK: u64 = 16_773_120;
 
+/// The greatest number of bytes that a value's data have.
+const MOST_DATA: usize = 1_048_576;
+
 /// Where the packed form has the root.
 const ROOT: u32 = 32;
-
-/// The number of up to four bytes, which stand in the offset field of a value.
-fn own_number(bytes: &[u8]) -> u32
-    requires { length bytes.now ≤ 4 }
-    ensures { result ≡ from_le_bytes w32 bytes.now }
-{
-    let mut own = [0; 4];
-    for i in 0..bytes.len() {
-        own[i] = bytes[i];
-    }
-    u32::from_le_bytes(own)
-}
-
-/// The fields of a value for its size, offset and type.
-fn fields_of(size: u32, offset: u32, kind: u32) -> [u8; 12]
-    ensures { result ≡ value_fields size offset kind }
-{
-    let mut fields = [0; 12];
-    put_u32(&mut fields, 0, size);
-    put_u32(&mut fields, 4, offset);
-    put_u32(&mut fields, 8, kind);
-    fields
-}
-
-/// The fields of a value of this type that holds these bytes itself.
-fn inside_fields(kind: u32, bytes: &[u8]) -> [u8; 12]
-    requires { length bytes.now ≤ 4 }
-    ensures { result ≡ value_fields (2147483648 + length bytes.now) (from_le_bytes w32 bytes.now) kind }
-{
-    let size = 0x8000_0000 + bytes.len() as u32;
-    let offset = own_number(bytes);
-    fields_of(size, offset, kind)
-}
 
 /// The step that sets a value.
 fn setting(
@@ -84,7 +56,34 @@ fn setting(
     Ok(steps)
 }
 
+/// The step that makes a key.
+fn making(alloc: Global, parent: &Names, name: &[u16]) -> Result<Steps, EditStop>
+    ensures made { IfOk result (λ steps. map step_of steps ≡ make_key parent.now name.now ∷ []) }
+    ensures fits { IfOk result (λ steps. All Fits (map step_of steps)) }
+    ensures memory { IfErr result (λ stop. stop ≡ Memory) }
+{
+    let mut steps = Row::new(alloc);
+    steps.push(TreeStep::MakeKey {
+        parent: parent.copy(alloc)?,
+        name: Units::from_slice(alloc, name)?,
+    })?;
+    Ok(steps)
+}
+
 impl HiveBytes {
+    /// The same hive in memory of its own.
+    fn copy(&self, alloc: Global) -> Result<HiveBytes, AllocError>
+        ensures { IfOk result (λ h. h ≡ self.now) }
+    {
+        let cells = self.cells.copy(alloc)?;
+        Ok(HiveBytes {
+            cells,
+            root: self.root,
+            version: self.version,
+            bulk: self.bulk,
+        })
+    }
+
     /// The offset of the value of a name in the key that a path leads to, where it holds its data itself.
     fn inside_at(&self, path: &Names, name: &[u16]) -> Option<u32>
         ensures { result ≡ inside_place (cells_in self.now) path.now name.now self.now.root }
@@ -120,9 +119,8 @@ impl HiveBytes {
         of_packed(alloc, &tree, version)
     }
 
-    /// Makes the steps in order, all or none, and packs the tree anew. A hive can hold each key that a step brings
-    /// along. After an `Err` the hive is as before.
-    pub fn apply(&mut self, alloc: Global, steps: Steps) -> Result<(), EditStop>
+    /// Makes the steps in order, all or none, and packs the tree anew.
+    fn apply_anew(&mut self, alloc: Global, steps: Steps) -> Result<(), EditStop>
         requires fits { All Fits (map step_of steps) }
         ensures made { Makes self.old.tree self.new.tree result (edited self.old.version self.old.tree (map step_of steps)) }
         ensures refused { OnErr result (self.new ≡ self.old) }
@@ -134,7 +132,51 @@ impl HiveBytes {
         Ok(())
     }
 
-    /// The same for one value.
+    /// Makes one key in a copy of the cells, so that a refusal leaves nothing behind; where it has no room, packs the
+    /// tree anew.
+    fn make_or_pack(&mut self, alloc: Global, parent: &Names, name: &[u16]) -> Result<(), EditStop>
+        ensures made { Makes self.old.tree self.new.tree result (edited self.old.version self.old.tree (make_key parent.now name.now ∷ [])) }
+        ensures refused { OnErr result (self.new ≡ self.old) }
+        ensures version { self.new.version ≡ self.old.version }
+        ensures cells { OnOk result (IsEditedInPlace self.old (make_key parent.now name.now ∷ []) self.new ⊎ IsPackedAnew self.new) }
+    {
+        let mut draft = self.copy(alloc)?;
+        if draft.make_key(alloc, parent, name)? {
+            *self = draft;
+            return Ok(());
+        }
+        let steps = making(alloc, parent, name)?;
+        self.apply_anew(alloc, steps)
+    }
+
+    /// Makes the steps in order, all or none. A hive can hold each key that a step brings along. One value that is set
+    /// or deleted changes few cells, as `set_value` and `delete_value` say, and so does one key that is made, in a copy
+    /// of the cells; all else packs the tree anew. After an `Err` the hive is as before.
+    pub fn apply(&mut self, alloc: Global, steps: Steps) -> Result<(), EditStop>
+        requires fits { All Fits (map step_of steps) }
+        ensures made { Makes self.old.tree self.new.tree result (edited self.old.version self.old.tree (map step_of steps)) }
+        ensures refused { OnErr result (self.new ≡ self.old) }
+        ensures version { self.new.version ≡ self.old.version }
+        ensures cells { OnOk result (IsEditedInPlace self.old (map step_of steps) self.new ⊎ IsPackedAnew self.new) }
+    {
+        match steps.as_slice() {
+            [
+                TreeStep::SetValue {
+                    path,
+                    name,
+                    kind,
+                    bytes,
+                },
+            ] => self.set_value(alloc, path, name.as_slice(), *kind, bytes.as_slice()),
+            [TreeStep::DeleteValue { path, name }] => self.delete_value(path, name.as_slice()),
+            [TreeStep::MakeKey { parent, name }] => {
+                self.make_or_pack(alloc, parent, name.as_slice())
+            }
+            _ => self.apply_anew(alloc, steps),
+        }
+    }
+
+    /// Sets one value, and packs the tree anew.
     fn set_anew(
         &mut self,
         alloc: Global,
@@ -149,13 +191,40 @@ impl HiveBytes {
         ensures anew { OnOk result (IsPackedAnew self.new) }
     {
         let steps = setting(alloc, path, name, kind, bytes)?;
-        self.apply(alloc, steps)
+        self.apply_anew(alloc, steps)
+    }
+
+    /// Sets one value where it is there and has room for its data, else packs the tree anew.
+    fn set_or_pack(
+        &mut self,
+        alloc: Global,
+        path: &Names,
+        name: &[u16],
+        kind: u32,
+        bytes: &[u8],
+    ) -> Result<(), EditStop>
+        ensures made { Makes self.old.tree self.new.tree result (edited self.old.version self.old.tree (set_value path.now name.now kind bytes.now ∷ [])) }
+        ensures refused { OnErr result (self.new ≡ self.old) }
+        ensures version { self.new.version ≡ self.old.version }
+        ensures cells { OnOk result (IsEditedInPlace self.old (set_value path.now name.now kind bytes.now ∷ []) self.new ⊎ IsPackedAnew self.new) }
+        ensures room { (at : ℕ) → place_in (cells_in self.old) path.now name.now self.old.root ≡ Some at
+            → OnOk result (IsEditedInPlace self.old (set_value path.now name.now kind bytes.now ∷ []) self.new
+            ⊎ IsPackedForRoom self.old (set_value path.now name.now kind bytes.now ∷ []) self.new) }
+    {
+        if bytes.len() > MOST_DATA {
+            return self.set_anew(alloc, path, name, kind, bytes);
+        }
+        if self.set_there(alloc, path, name, kind, bytes)? {
+            return Ok(());
+        }
+        self.set_anew(alloc, path, name, kind, bytes)
     }
 
     /// Gives the key that a path leads to a value: in place of the one that has the name, letters of either case
-    /// taken for one, which keeps its own, or as the last. Where the value is there, holds its data itself, and is to
-    /// hold up to four bytes, twelve bytes are written in its cell, and no memory is wanted; else the tree is packed
-    /// anew. After an `Err` the hive is as before.
+    /// taken for one, which keeps its own, or as the last. Where the value is there, twelve bytes of its cell are
+    /// written, new cells take data of over four bytes, and the cells of the old data are freed; where these were in the
+    /// value itself, and so are the new, no memory is wanted. A value of a new name, and data that there is no room for,
+    /// pack the tree anew. After an `Err` the hive is as before.
     pub fn set_value(
         &mut self,
         alloc: Global,
@@ -168,17 +237,22 @@ impl HiveBytes {
         ensures refused { OnErr result (self.new ≡ self.old) }
         ensures version { self.new.version ≡ self.old.version }
         ensures cells { OnOk result (IsEditedInPlace self.old (set_value path.now name.now kind bytes.now ∷ []) self.new ⊎ IsPackedAnew self.new) }
+        ensures room { (at : ℕ) → place_in (cells_in self.old) path.now name.now self.old.root ≡ Some at
+            → OnOk result (IsEditedInPlace self.old (set_value path.now name.now kind bytes.now ∷ []) self.new
+            ⊎ IsPackedForRoom self.old (set_value path.now name.now kind bytes.now ∷ []) self.new) }
         ensures in_place { is_some (inside_place (cells_in self.old) path.now name.now self.old.root) ≡ true → length bytes.now ≤ 4
             → OnOk result (IsEditedInPlace self.old (set_value path.now name.now kind bytes.now ∷ []) self.new) }
+        ensures twelve_bytes { (at : ℕ) → inside_place (cells_in self.old) path.now name.now self.old.root ≡ Some at → length bytes.now ≤ 4
+            → OnOk result (WritesFields at (value_fields (2147483648 + length bytes.now) (from_le_bytes w32 bytes.now) kind) self.old.bins self.new.bins) }
         ensures no_memory { is_some (inside_place (cells_in self.old) path.now name.now self.old.root) ≡ true → length bytes.now ≤ 4
             → IfErr result (λ stop. stop ≡ Full) }
     {
         let size = bytes.len();
         if size > 4 {
-            return self.set_anew(alloc, path, name, kind, bytes);
+            return self.set_or_pack(alloc, path, name, kind, bytes);
         }
         match self.inside_at(path, name) {
-            None => self.set_anew(alloc, path, name, kind, bytes),
+            None => self.set_or_pack(alloc, path, name, kind, bytes),
             Some(at) => {
                 let bulk = self.bulk;
                 if bulk > MOST_BULK {

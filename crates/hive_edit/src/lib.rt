@@ -6,13 +6,22 @@
 //! that of the registry.
 #![tactic(auto)]
 
+mod adding;
+mod cells;
 mod children;
+mod data;
 mod edit;
+mod give;
 mod hive;
+mod making;
+mod measure;
 mod path;
+mod runs;
+mod set;
 mod source;
 #[cfg(test)]
 mod tests;
+mod unset;
 mod values;
 
 pub use hive::HiveBytes;

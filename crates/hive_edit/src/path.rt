@@ -11,7 +11,7 @@ use key_index::find_child;
 use nt_bytes::{Names, u32_at};
 
 /// The offset of the child that has a name, of the key at an offset.
-fn child_at(cells: &Source, at: u32, name: &[u16]) -> Option<u32>
+pub(crate) fn child_at(cells: &Source, at: u32, name: &[u16]) -> Option<u32>
     requires { IsKeyAt (cells_of cells.now) at }
     ensures place { result ≡ find (is_node_named (cells_of cells.now) name.now) (child_places (cells_of cells.now) at) }
     ensures stands { IfSome result (IsKeyAt (cells_of cells.now)) }

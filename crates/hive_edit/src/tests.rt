@@ -57,11 +57,15 @@ fn path_of(alloc: Global, names: &[&str]) -> Result<Names, AllocError> {
     Ok(path)
 }
 
-fn opened(rt: &impl Abort, alloc: Global) -> Result<HiveBytes, Fail> {
+fn opened_in(rt: &impl Abort, alloc: Global, version: HiveVersion) -> Result<HiveBytes, Fail> {
     let bins = small_hive(alloc)?;
     assert!(rt; bins.len() == 4096);
     let cells = read_cells(alloc, bins)?;
-    Ok(HiveBytes::from_cells(alloc, cells, 32, HiveVersion::V3)?)
+    Ok(HiveBytes::from_cells(alloc, cells, 32, version)?)
+}
+
+fn opened(rt: &impl Abort, alloc: Global) -> Result<HiveBytes, Fail> {
+    opened_in(rt, alloc, HiveVersion::V3)
 }
 
 fn looked_up(rt: &impl Abort, alloc: Global) -> Result<(), Fail> {
@@ -87,6 +91,67 @@ fn edited(rt: &impl Abort, alloc: Global) -> Result<(), Fail> {
     assert_eq!(rt; hive.dword(&disk, start.as_slice()), Some(3));
     assert_eq!(rt; hive.size(), 4096);
     Ok(())
+}
+
+/// How many bytes a value of the driver's key has.
+fn data_length(
+    alloc: Global,
+    hive: &HiveBytes,
+    path: &Names,
+    name: &[u16],
+) -> Result<usize, AllocError> {
+    let Some(key) = hive.subtree(alloc, path)? else {
+        return Ok(0);
+    };
+    match key.value(name) {
+        Some(value) => Ok(value.data().len()),
+        None => Ok(0),
+    }
+}
+
+/// One value gets data of these lengths in turn, and the bins data are as long as is said behind each.
+fn lengths(
+    rt: &impl Abort,
+    alloc: Global,
+    version: HiveVersion,
+    turns: &[(usize, usize)],
+) -> Result<(), Fail> {
+    let mut hive = opened_in(rt, alloc, version)?;
+    let disk = path_of(alloc, &["ControlSet001", "Services", "Disk"])?;
+    let start = narrow(alloc, b"Start")?;
+    let kind = narrow(alloc, b"Type")?;
+    for (length, size) in turns {
+        let mut data = Bytes::new(alloc);
+        data.append_zeros(*length)?;
+        hive.set_value(alloc, &disk, start.as_slice(), 3, data.as_slice())?;
+        let found = data_length(alloc, &hive, &disk, start.as_slice())?;
+        assert!(rt; found == *length, "data of {length} bytes");
+        assert!(rt; hive.size() == *size, "bins behind {length} bytes");
+        assert_eq!(rt; hive.dword(&disk, kind.as_slice()), Some(1));
+    }
+    Ok(())
+}
+
+/// The free cell of the small hive takes what fits it; what was written is free for what comes behind.
+const TURNS: [(usize, usize); 8] = [
+    (100, 4096),
+    (90, 4096),
+    (3, 4096),
+    (20_000, 24_576),
+    (19_000, 45_056),
+    (20_000, 45_056),
+    (4, 45_056),
+    (20_000, 45_056),
+];
+
+#[test]
+fn a_value_moves_among_cells(rt: HostRuntime) -> Result<(), Fail> {
+    lengths(&rt, rt.alloc(), HiveVersion::V3, &TURNS)
+}
+
+#[test]
+fn a_value_moves_among_segments(rt: HostRuntime) -> Result<(), Fail> {
+    lengths(&rt, rt.alloc(), HiveVersion::V5, &TURNS)
 }
 
 #[test]

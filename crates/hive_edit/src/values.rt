@@ -72,7 +72,7 @@ fn same_stored(name: &[u16], narrow: bool, stored: &[u8]) -> bool
 }
 
 /// The bytes that the name of the value in a payload is stored in.
-fn stored_bytes(value: &[u8]) -> &[u8]
+pub(crate) fn stored_bytes(value: &[u8]) -> &[u8]
     requires { IsOk (key_value_at value.now) }
     ensures { result.now ≡ slice_range value.now 20 (20 + u16_in value.now 2) }
 {
@@ -82,7 +82,7 @@ fn stored_bytes(value: &[u8]) -> &[u8]
 }
 
 /// Whether the name of the value in a payload is stored with one byte a unit.
-fn is_narrow(value: &[u8]) -> bool
+pub(crate) fn is_narrow(value: &[u8]) -> bool
     requires { IsOk (key_value_at value.now) }
     ensures { result ≡ is_narrow_value (u16_in value.now 16) }
 {

@@ -1,14 +1,12 @@
-use Rattle.std.proofs.Common.{◌+◌, length, is_some, inl, inr, refl, sym, ap, ◌∙◌, arith}
+use Rattle.std.proofs.Common.{◌≡◌, ℕ, List, ◌+◌, length, subst, is_some, inl, refl, sym, ap, ◌∙◌, arith}
 use Rattle.std.specs.Int.{w32, from_le_bytes}
-use Rattle.reg_tree.proofs.Outcomes.{on_ok}
+use Rattle.hive_model.specs.Bins.{Bin}
+use Rattle.hive_cells.specs.Changes.{at_cell, with_part}
+use Rattle.hive_edit.specs.Hive.{HiveCells}
+use Rattle.hive_edit.specs.Edits.{value_fields, WritesFields}
+use Rattle.hive_edit.proofs.ResultLemmas.{some_same}
 use Rattle.hive_edit.proofs.SetLemmas.{set_full, is_set, patch_room, fields_long}
 use Rattle.hive_edit.proofs.hive.HiveBytes.set_value.Goals as goal
-
-pub returns-then-size-gt4-clause-cells : goal.returns-then-size-gt4-clause-cells
-returns-then-size-gt4-clause-cells c = on_ok c.set_anew.result _ _ (λ p. inr p) c.set_anew.ensures.anew
-
-pub returns-in-None-clause-cells : goal.returns-in-None-clause-cells
-returns-in-None-clause-cells c = on_ok c.set_anew-in-None.result _ _ (λ p. inr p) c.set_anew-in-None.ensures.anew
 
 pub returns-in-None-clause-in_place : goal.returns-in-None-clause-in_place
 returns-in-None-clause-in_place c = λ there few. absurd (let e = ap is_some c.in-None.ensures in cc)
@@ -56,5 +54,24 @@ pub returns-else-bulk-gt-MOST_BULK-clause-in_place : goal.returns-else-bulk-gt-M
 returns-else-bulk-gt-MOST_BULK-clause-in_place c = λ there few.
     let i = c.self.inside in
     (is_set i.cells c.patch.new.self i.root i.version i.bulk c.args.self.now c.args.path.now c.args.name.now c.args.kind c.args.bytes.now c.in-Some.at
+    c.self.invariant c.self.view_is (sym c.in-Some.ensures) (omega arith) (λ k. omega (arith, c.type_inv.bytes k)) (omega arith) c.if-bulk-gt-MOST_BULK.false
+    (rw c.inside_fields-fields.ensures at c.patch.ensures.here) c.patch.ensures.others c.patch.ensures.long).kept
+
+pub returns-in-None-clause-twelve_bytes : goal.returns-in-None-clause-twelve_bytes
+returns-in-None-clause-twelve_bytes c = λ at there few. absurd (let e = c.in-None.ensures ∙ there in cc)
+
+pub returns-else-bulk-gt-MOST_BULK-clause-twelve_bytes : goal.returns-else-bulk-gt-MOST_BULK-clause-twelve_bytes
+returns-else-bulk-gt-MOST_BULK-clause-twelve_bytes c = λ at there few.
+    let fields = value_fields (2147483648 + length c.args.bytes.now) (from_le_bytes w32 c.args.bytes.now) c.args.kind in
+    let same = some_same c.in-Some.at at (c.in-Some.ensures ∙ there) in
+    let new = c.patch.new.self in
+    let exact = rw c.inside_fields-fields.ensures at c.patch.ensures.exact in
+    subst (λ (h : HiveCells). WritesFields at fields h.bins new) c.self.view_is
+    (record { exact = subst (λ (a : ℕ). new ≡ at_cell a (with_part 4 fields) c.self.inside.cells) same exact; long = c.patch.ensures.long })
+
+pub returns-else-bulk-gt-MOST_BULK-clause-room : goal.returns-else-bulk-gt-MOST_BULK-clause-room
+returns-else-bulk-gt-MOST_BULK-clause-room c = λ at there.
+    let i = c.self.inside in
+    inl (is_set i.cells c.patch.new.self i.root i.version i.bulk c.args.self.now c.args.path.now c.args.name.now c.args.kind c.args.bytes.now c.in-Some.at
     c.self.invariant c.self.view_is (sym c.in-Some.ensures) (omega arith) (λ k. omega (arith, c.type_inv.bytes k)) (omega arith) c.if-bulk-gt-MOST_BULK.false
     (rw c.inside_fields-fields.ensures at c.patch.ensures.here) c.patch.ensures.others c.patch.ensures.long).kept

@@ -1,6 +1,6 @@
 use Rattle.std.proofs.Common.{◌<◌, length, arith, length-set}
 use Rattle.hive_edit.proofs.OwnLemmas.{written_below, written_above}
-use Rattle.hive_edit.proofs.edit.own_number.Goals as goal
+use Rattle.hive_edit.proofs.give.own_number.Goals as goal
 
 pub loop-i-preserved : goal.loop-i-preserved
 loop-i-preserved c =

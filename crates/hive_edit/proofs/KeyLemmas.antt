@@ -1,0 +1,308 @@
+-- A hive in which a key was made, or in which nothing was made.
+use Rattle.std.proofs.Common.{◌≡◌, ◌≤◌, ◌<◌, ◌^◌, ℕ, ◌+◌, ◌||◌, Bool, true, false, cond, List, [], ◌∷◌, ◌++◌, length, Option, Some, None, Result, Ok, Err, refl, sym, ap, subst, ◌∙◌, arith}
+use Rattle.std.specs.Prelude.{nat_lt, ◌==◌, Contains, slice_index, MatchBool, OnErr}
+use Rattle.std.specs.Option.{IsSome, IsSomeAnd}
+use Rattle.std.specs.Result.{IsOk}
+use Rattle.std.specs.List.{list_any}
+use Rattle.std.proofs.lemmas.Bool.{le-ltb, ltb-false}
+use Rattle.std.proofs.lemmas.List.Elements.{All-cons, All-nil, Contains-append_left}
+use Rattle.nt_bytes.specs.declared.fault.HiveKind.{HiveKind}
+use Rattle.nt_bytes.specs.Fields.{u32_in, u64_in}
+use Rattle.nt_bytes.specs.declared.version.HiveVersion.{HiveVersion}
+use Rattle.hive_model.specs.Bins.{Bin, Cells, bins_size, look_up}
+use Rattle.hive_model.specs.Forms.{◌>>=◌, KeyNode, key_node_at, key_node_text, security_at, is_narrow_key}
+use Rattle.hive_model.specs.Tree.{Tree, key, head, find_key}
+use Rattle.hive_model.specs.Size.{bulk_of}
+use Rattle.hive_model.specs.Valid.{is_backslash}
+use Rattle.hive_model.specs.Edit.{Step, Refusal, make_key, full, is_bad_name, after_step, most_bulk, edited}
+use Rattle.hive_model.specs.Walk.{reading, nowhere}
+use Rattle.hive_model.specs.Footprint.{key_place, has_key, step_cells, unless_refused, security_cell_at, list_cells_at}
+use Rattle.hive_model.specs.Stands.{Stands, IsWellFormed}
+use Rattle.hive_model.proofs.Spelling.{length_key_node, length_name}
+use Rattle.hive_cells.specs.Held.{held_at}
+use Rattle.hive_cells.proofs.HeldLemmas.{payload_held, held_payload}
+use Rattle.reg_tree.specs.Fitting.{Fits}
+use Rattle.reg_tree.proofs.Edited.{edited_valid}
+use Rattle.edit_laws.specs.Owned.{In}
+use Rattle.edit_laws.specs.Done.{IsDone}
+use Rattle.edit_laws.proofs.Ins.{in_from}
+use Rattle.edit_laws.proofs.Out.{placed_at}
+use Rattle.edit_laws.proofs.Patches.{node_text}
+use Rattle.key_index.specs.Lists.{payload_in, lists_at, IsNode, ListsSiblings}
+use Rattle.key_index.specs.Relists.{AreApart}
+use Rattle.hive_edit.specs.declared.adding.NewPlace.{NewPlace}
+use Rattle.hive_edit.specs.declared.making.Above.{Above}
+use Rattle.hive_edit.specs.Hive.{HiveCells, cells_in, hive_of, IsHive}
+use Rattle.hive_edit.specs.Edits.{IsEditedInPlace}
+use Rattle.hive_edit.specs.Standing.{tree_of}
+use Rattle.hive_edit.specs.Making.{new_node, made_tree, above_lists, AboveIs, IsPutAt, IsLinkable, IsAddable, IsAdded, MayMake, IsMade, IsUnmade}
+use Rattle.hive_edit.specs.Places.{IsKeyAt}
+use Rattle.hive_edit.proofs.ResultLemmas.{done, some, then_so, is_ok_of, ok_same}
+use Rattle.hive_edit.proofs.StandingLemmas.{tree_is}
+use Rattle.hive_edit.proofs.HiveLemmas.{hive_opened}
+use Rattle.hive_edit.proofs.PlaceLemmas.{key_there}
+use Rattle.hive_edit.proofs.NodeLemmas.{NodeHere}
+use Rattle.hive_edit.proofs.NodeLemmas.{node_here as node_at_key}
+use Rattle.hive_edit.proofs.EditLemmas.{the_tree}
+use Rattle.hive_edit.proofs.NodeMade.{MayBeNode, node_again, security_text_is}
+use Rattle.hive_edit.proofs.ParentLemmas.{Keeps, kept_well, IsParent, kept_parent, parent_held, lists_are, siblings_are, lists_apart, list_no_node, list_no_security, node_no_security, security_there, node_stands, security_read}
+use Rattle.hive_edit.proofs.AddedLemmas.{no_some}
+use Rattle.hive_edit.proofs.MakingLemmas.{put_keeps, lists_still, key_done}
+use Rattle.hive_edit.proofs.JudgeLemmas.{MayTry, step_made, edit_made}
+
+-- all that is known of the parent where a key may be made
+pub record Ready (bins : List Bin) (root : ℕ) (version : HiveVersion) (parent : List (List ℕ)) (name : List ℕ) (place : NewPlace) (above : Above) (stamp : ℕ) : Type 0 where
+  pub path : List (List ℕ)
+  pub there : Tree
+  pub node : KeyNode
+  pub parent_is : IsParent (look_up version bins) root (tree_of (look_up version bins) root) path place.at there node
+  pub says : AboveIs above node
+  pub may : MayBeNode place.at node.stamp node.security name
+  pub stamp_is : stamp ≡ node.stamp
+  pub few : above.count ≤ 2097150
+  pub try : MayTry parent name (tree_of (look_up version bins) root) there
+  pub absent : has_key parent name (tree_of (look_up version bins) root) ≡ false
+  pub at : key_place (look_up version bins) parent root ≡ some place.at
+  pub bulk : place.bulk ≡ bulk_of version (made_tree parent name (tree_of (look_up version bins) root))
+  pub fits : place.bulk ≤ 16773120
+
+no_slash : (name : List ℕ) → is_bad_name name ≡ false → list_any is_backslash name ≡ false
+no_slash name e = go (length name == 0) (list_any is_backslash name) e
+  where
+    go : (a b : Bool) → (a || b) ≡ false → b ≡ false
+    go true b e = absurd cc
+    go false b e = e
+
+pub node_read : (cells : Cells) (at : ℕ) (u : Tree) → Stands cells at u → (n : KeyNode) × (reading key_node_at cells at ≡ done n)
+node_read cells at (key g ts) s = (s.1.node, s.1.read)
+
+pub ready : (bins heap : List Bin) (root : ℕ) (version : HiveVersion) (bulk : ℕ) (h : HiveCells) (parent : List (List ℕ)) (name : List ℕ) (place : NewPlace) (above : Above) (stamp : ℕ)
+    → IsHive bins root version bulk → hive_of bins root version ≡ h → heap ≡ bins → MayMake h parent name place
+    → ((n : KeyNode) → reading key_node_at (look_up version heap) place.at ≡ Ok n → AboveIs above n)
+    → ((n : KeyNode) → reading key_node_at (look_up version heap) place.at ≡ Ok n → stamp ≡ n.stamp)
+    → place.at < 2 ^ 32 → stamp < 2 ^ 64 → above.security < 2 ^ 32 → ((k : ℕ) → slice_index name k < 65536)
+    → Ready bins root version parent name place above stamp
+ready bins heap root version bulk h parent name place above stamp is view same may_make says_all stamp_all at_fits stamp_fits security_fits units =
+    let b = look_up version bins in
+    let t = tree_of b root in
+    let m : MayMake (hive_of bins root version) parent name place = subst (λ (g : HiveCells). MayMake g parent name place) (sym view) may_make in
+    let there = key_there b parent root t place.at is.stands m.at in
+    let placed = placed_at b parent root place.at m.at in
+    let read = node_read b place.at there.there there.well.stands in
+    let says = says_all read.0 (subst (λ (z : List Bin). reading key_node_at (look_up version z) place.at ≡ done read.0) (sym same) read.1) in
+    let stamp_is = stamp_all read.0 (subst (λ (z : List Bin). reading key_node_at (look_up version z) place.at ≡ done read.0) (sym same) read.1) in
+    let count = says.count in
+    let few = m.few read.0 read.1 in
+    record {
+      path = placed.stored;
+      there = there.there;
+      node = read.0;
+      parent_is = record { well = is.stands; reached = placed.reached; below = there.well; read = read.1 };
+      says = says;
+      may = record {
+        parent_fits = at_fits;
+        stamp_fits = subst (λ (z : ℕ). z < 2 ^ 64) stamp_is stamp_fits;
+        security_fits = subst (λ (z : ℕ). z < 2 ^ 32) says.security security_fits;
+        short = m.short;
+        no_backslash = no_slash name m.good;
+        units = units;
+      };
+      stamp_is = stamp_is;
+      few = omega (arith, count, few);
+      try = record { found = there.found; good = m.good; short = m.short; deep = m.deep };
+      absent = m.absent;
+      at = m.at;
+      bulk = m.bulk;
+      fits = m.fits;
+    }
+
+-- ---- the node can be put and named
+
+node_here : (version : HiveVersion) (bins : List Bin) (at : ℕ) (p : List ℕ) (n : KeyNode) → held_at bins at ≡ some p → key_node_at p ≡ done n → IsNode (look_up version bins) at
+unfolding payload_in
+node_here version bins at p n e f =
+    subst (λ (r : Result (List ℕ) HiveKind). IsOk (key_node_at (Rattle.hive_model.specs.Footprint.of_read r (λ q. q)))) (sym (held_payload bins at p e)) (is_ok_of (key_node_at p) n f)
+
+-- the node's text, as the code spells it
+pub node_is : (bins : List Bin) (root : ℕ) (version : HiveVersion) (parent : List (List ℕ)) (name : List ℕ) (place : NewPlace) (above : Above) (stamp : ℕ) (node : List ℕ)
+    → (r : Ready bins root version parent name place above stamp) → node ≡ key_node_text (new_node place.at stamp above.security name)
+    → node ≡ key_node_text (new_node place.at r.node.stamp r.node.security name)
+node_is bins root version parent name place above stamp node r e =
+    e ∙ (λ i. key_node_text (new_node place.at (r.stamp_is i) (r.says.security i) name))
+
+pub linkable : (bins new : List Bin) (root : ℕ) (version : HiveVersion) (parent : List (List ℕ)) (name : List ℕ) (place : NewPlace) (above : Above) (stamp : ℕ) (node : List ℕ) (child : ℕ)
+    → (r : Ready bins root version parent name place above stamp) → node ≡ key_node_text (new_node place.at stamp above.security name) → IsPutAt node bins new child
+    → IsLinkable version place.at above child new
+linkable bins new root version parent name place above stamp node child r e put =
+    let b = look_up version bins in
+    let m = look_up version new in
+    let t = tree_of b root in
+    let p = r.path in
+    let x = place.at in
+    let k = r.there in
+    let n = r.node in
+    let h = r.parent_is in
+    let keeps : Keeps b m = put_keeps version node bins new child put in
+    let h2 = kept_parent b m root t p x k n h keeps in
+    let still = lists_still b m root t p x k n above h keeps r.says in
+    let text = node_is bins root version parent name place above stamp node r e in
+    let here : held_at new child ≡ some (key_node_text (new_node x n.stamp n.security name) ++ put.slack) = put.here ∙ ap (λ (z : List ℕ). some (z ++ put.slack)) text in
+    let q = parent_held m root t p x k n h2 in
+    let long = (node_text q.0 n q.2).long in
+    let says = r.says in
+    record {
+      siblings = subst (λ (z : ℕ). ListsSiblings m z above.count) (sym says.list)
+          (subst (λ (z : ℕ). ListsSiblings m n.child_list z) (sym says.count) (siblings_are m root t p x k n h2));
+      apart = subst AreApart (sym (λ i. lists_at m (says.list i) (says.count i))) (lists_apart m root t p x k n h2);
+      node = node_here version new child (key_node_text (new_node x n.stamp n.security name) ++ put.slack) (new_node x n.stamp n.security name) here
+          (node_again x n.stamp n.security name put.slack r.may);
+      few = r.few;
+      parent_long = subst (λ (o : Option (List ℕ)). IsSomeAnd o (λ z. 76 ≤ length z)) (sym (payload_held new x q.0 q.1)) (omega (arith, long));
+      parent_apart = λ i. list_no_node b root t p x k n h (subst (λ (l : List ℕ). In l x) still (in_from (above_lists version above new) x i));
+      security_long = λ used. secure_long b m x n new above k (λ w. used (says.security ∙ w)) h.read h.below.stands keeps says version refl;
+      security_lists = λ used i. list_no_security b root t p x k n p x above.security h h.reached
+          (subst (λ (z : ℕ). In (security_cell_at b x) z) (sym says.security) (security_there b x n h.read (λ w. used (says.security ∙ w))))
+          (subst (λ (l : List ℕ). In l above.security) still (in_from (above_lists version above new) above.security i));
+      security_parent = λ used z. node_no_security b root t p x k n p x h h.reached
+          (subst (λ (w : ℕ). In (security_cell_at b x) w) (sym says.security ∙ z) (security_there b x n h.read (λ w. used (says.security ∙ w))));
+      child_held = subst IsSome (sym put.here) refl;
+    }
+  where
+    secure_long : (b m : Cells) (x : ℕ) (n : KeyNode) (new : List Bin) (above : Above) (k : Tree) → (n.security ≡ nowhere → ⊥) → reading key_node_at b x ≡ done n → Stands b x k
+        → Keeps b m → AboveIs above n → (version : HiveVersion) → m ≡ look_up version new → IsSomeAnd (held_at new above.security) (λ z. 20 ≤ length z)
+    secure_long b m x n new above k some_there read stands keeps says version is =
+        let s = security_read b n (head k).security (node_stands b x k n stands read).security some_there in
+        let q = then_so (b.payload n.security) security_at s.0 s.1 in
+        let held = subst (λ (c : Cells). c.payload n.security ≡ done q.0) is (keeps.held n.security q.0 q.1) in
+        let long = ltb-false (length q.0) 20 (security_text_is q.0 s.0 q.2).head in
+        subst (λ (o : Option (List ℕ)). IsSomeAnd o (λ z. 20 ≤ length z)) (sym (ap (held_at new) says.security ∙ payload_held new n.security q.0 held)) long
+
+-- ---- the key is made
+
+pub record IsKeyMade (h : HiveCells) (new : List Bin) (root : ℕ) (version : HiveVersion) (bulk : ℕ) (parent : List (List ℕ)) (name : List ℕ) : Type 0 where
+  pub hive : IsHive new root version bulk
+  pub made : IsMade h parent name (hive_of new root version)
+
+pub is_made : (old new : List Bin) (root : ℕ) (version : HiveVersion) (bulk : ℕ) (h : HiveCells) (parent : List (List ℕ)) (name : List ℕ) (place : NewPlace) (above : Above) (stamp : ℕ) (node : List ℕ)
+    → IsHive old root version bulk → hive_of old root version ≡ h → (r : Ready old root version parent name place above stamp)
+    → node ≡ key_node_text (new_node place.at stamp above.security name) → IsAdded version place.at above node old new
+    → IsKeyMade h new root version place.bulk parent name
+is_made old new root version bulk h parent name place above stamp node is view r e added =
+    let b = look_up version old in
+    let c = look_up version new in
+    let t = tree_of b root in
+    let u = made_tree parent name t in
+    let text = node_is old root version parent name place above stamp node r e in
+    let a : IsAdded version place.at above (key_node_text (new_node place.at r.node.stamp r.node.security name)) old new = subst (λ (z : List ℕ). IsAdded version place.at above z old new) text added in
+    let deep = r.try.deep in
+    let d = key_done version old new root t u parent r.path place.at r.there r.node above name r.parent_is r.says r.may r.few a (step_made parent name t r.there r.try) r.absent r.at r.try.found (omega (arith, deep)) in
+    let within : nat_lt most_bulk (bulk_of version u) ≡ false = le-ltb most_bulk (bulk_of version u) (subst (λ (z : ℕ). z ≤ 16773120) r.bulk r.fits) in
+    let edit : edited version t (make_key parent name ∷ []) ≡ the_tree u = edit_made version parent name t r.there r.try ∙ ap (λ (v : Bool). cond v (Err full) (the_tree u)) within in
+    let valid = edited_valid version t u (make_key parent name ∷ []) is.valid (All-cons Fits (make_key parent name) [] tt (All-nil Fits)) edit in
+    let tree : tree_of c root ≡ u = tree_is c root u d.stands in
+    record {
+      hive = hive_opened new new root version place.bulk u refl d.stands valid r.bulk;
+      made = subst (λ (g : HiveCells). IsMade g parent name (hive_of new root version)) view (record {
+        edit = edit ∙ sym (ap the_tree tree);
+        version = refl;
+        kept = record {
+          kept = λ o q held outside. payload_held new o q (d.leaves.rest o q (held_payload old o q held)
+              (λ i. outside (Contains-append_left (step_cells b root t (make_key parent name)) (unless_refused [] (after_step (make_key parent name) t) (λ z. [])) o i)));
+          root = refl;
+          long =
+              let one = a.put.least in
+              let two = a.linked.lists.kept_long in
+              let three = a.linked.fields.long in
+              let four = a.linked.counted.long in
+              omega (arith, one, two, three, four);
+        };
+      });
+    }
+
+-- ---- nothing is made
+
+pub record IsNoneMade (h : HiveCells) (new : List Bin) (root : ℕ) (version : HiveVersion) (bulk : ℕ) : Type 0 where
+  pub hive : IsHive new root version bulk
+  pub unmade : IsUnmade h (hive_of new root version)
+
+pub is_unmade : (old new : List Bin) (root : ℕ) (version : HiveVersion) (bulk : ℕ) (h : HiveCells) → IsHive old root version bulk → hive_of old root version ≡ h
+    → ((o : ℕ) → held_at new o ≡ held_at old o) → bins_size old ≤ bins_size new → IsNoneMade h new root version bulk
+is_unmade old new root version bulk h is view held long =
+    let b = look_up version old in
+    let c = look_up version new in
+    let t = tree_of b root in
+    let well = kept_well b c root t is.stands (record { version = refl; held = λ o q e. held_payload new o q (held o ∙ payload_held old o q e) }) in
+    record {
+      hive = hive_opened new new root version bulk t refl well is.valid is.counted;
+      unmade = subst (λ (g : HiveCells). IsUnmade g (hive_of new root version)) view (record {
+        tree = tree_is c root t well;
+        root = refl;
+        version = refl;
+        held = held;
+        long = long;
+      });
+    }
+
+-- ---- what a node says
+
+pub above_is : (cells : Cells) (at : ℕ) (p : List ℕ) (above : Above) → IsKeyAt cells at → p ≡ payload_in cells at → above.list ≡ u32_in p 28 → above.count ≡ u32_in p 20
+    → above.security ≡ u32_in p 44 → (n : KeyNode) → reading key_node_at cells at ≡ Ok n → AboveIs above n
+above_is cells at p above k e l c s n read =
+    let f = node_at_key cells at p k e in
+    let same : f.node ≡ n = ok_same f.node n (sym f.read ∙ read) in
+    record {
+      list = l ∙ sym (ap (λ (m : KeyNode). m.child_list) f.is) ∙ ap (λ (m : KeyNode). m.child_list) same;
+      count = c ∙ sym (ap (λ (m : KeyNode). m.child_count) f.is) ∙ ap (λ (m : KeyNode). m.child_count) same;
+      security = s ∙ sym (ap (λ (m : KeyNode). m.security) f.is) ∙ ap (λ (m : KeyNode). m.security) same;
+    }
+
+pub stamp_is : (cells : Cells) (at : ℕ) (p : List ℕ) (stamp : ℕ) → IsKeyAt cells at → p ≡ payload_in cells at → stamp ≡ u64_in p 4 → (n : KeyNode) → reading key_node_at cells at ≡ Ok n
+    → stamp ≡ n.stamp
+stamp_is cells at p stamp k e s n read =
+    let f = node_at_key cells at p k e in
+    let same : f.node ≡ n = ok_same f.node n (sym f.read ∙ read) in
+    s ∙ sym (ap (λ (m : KeyNode). m.stamp) f.is) ∙ ap (λ (m : KeyNode). m.stamp) same
+
+-- ---- what making asks of its parts
+
+pub at_there : (bins heap : List Bin) (root : ℕ) (version : HiveVersion) (bulk : ℕ) (h : HiveCells) (parent : List (List ℕ)) (name : List ℕ) (place : NewPlace)
+    → IsHive bins root version bulk → hive_of bins root version ≡ h → heap ≡ bins → MayMake h parent name place → IsKeyAt (look_up version heap) place.at
+at_there bins heap root version bulk h parent name place is view same may_make =
+    let m : MayMake (hive_of bins root version) parent name place = subst (λ (g : HiveCells). MayMake g parent name place) (sym view) may_make in
+    let there = key_there (look_up version bins) parent root (tree_of (look_up version bins) root) place.at is.stands m.at in
+    subst (λ (z : List Bin). IsKeyAt (look_up version z) place.at) (sym same) (there.there, there.well)
+
+pub addable : (bins : List Bin) (root : ℕ) (version : HiveVersion) (parent : List (List ℕ)) (name : List ℕ) (place : NewPlace) (above : Above) (stamp : ℕ) (node : List ℕ)
+    → (r : Ready bins root version parent name place above stamp) → node ≡ key_node_text (new_node place.at stamp above.security name)
+    → IsAddable version place.at above node bins
+addable bins root version parent name place above stamp node r e = record {
+  short =
+      let n = new_node place.at stamp above.security name in
+      let l = ap (λ (z : List ℕ). length z) e ∙ length_key_node n in
+      let m = length_name (is_narrow_key n.flags) name in
+      let s = r.try.short in
+      omega (arith, l, m, s);
+  linkable = λ child new put. linkable bins new root version parent name place above stamp node child r e put;
+}
+
+-- ---- a hive as it is
+
+pub unmade_itself : (h : HiveCells) → IsUnmade h h
+unmade_itself h = record { tree = refl; root = refl; version = refl; held = λ o. refl; long = omega arith }
+
+pub kept_itself : (h : HiveCells) (steps : List Step) → IsEditedInPlace h steps h
+kept_itself h steps = record { kept = λ o p held outside. held; root = refl; long = omega arith }
+
+-- by a flag
+pub if_done : (A B : Type 0) (d : Bool) → d ≡ true → MatchBool d A B → A
+if_done A B true e h = h
+if_done A B false e h = absurd cc
+
+pub if_undone : (A B : Type 0) (d : Bool) → d ≡ false → MatchBool d A B → B
+if_undone A B true e h = absurd cc
+if_undone A B false e h = h
+
+-- what holds anyway holds where there is an error
+pub on_err_of : {X E : Type 0} (r : Result X E) (P : Type 0) → P → OnErr r P
+on_err_of (Ok x) P p = tt
+on_err_of (Err e) P p = p

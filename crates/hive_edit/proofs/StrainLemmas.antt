@@ -1,0 +1,102 @@
+-- A value that is there, and has no room for other data: the strain of the step is over the limit.
+use Rattle.std.proofs.Common.{◌≡◌, ◌<◌, ◌≤◌, ℕ, ◌+◌, Bool, true, false, cond, List, [], ◌∷◌, ◌++◌, length, map, Option, Some, None, Result, Ok, Err, inl, refl, sym, ap, subst, ◌∙◌, arith}
+use Rattle.std.specs.Prelude.{nat_lt, find, is_some, OnOk}
+use Rattle.std.specs.Option.{is_none}
+use Rattle.std.proofs.lemmas.Bool.{ltb-false}
+use Rattle.nt_bytes.specs.declared.version.HiveVersion.{HiveVersion}
+use Rattle.hive_model.specs.Bins.{Bin, Cells, bins_size, look_up}
+use Rattle.hive_model.specs.Size.{cell, name_bytes, data_sizes, data_size, bulk_of}
+use Rattle.hive_model.specs.Tree.{Tree, Item, head, is_item, find_key, find_item}
+use Rattle.hive_model.specs.Tree.{key as tree_key}
+use Rattle.hive_model.specs.Edit.{set_value, no_key, name_too_long, data_too_long, full, unless, then_edit, at_first, with_item, of_items, after_steps, most_bulk, edited}
+use Rattle.hive_model.specs.Packed.{rounded}
+use Rattle.hive_model.specs.Footprint.{value_list_sizes, item_sizes, strain_of}
+use Rattle.reg_tree.specs.declared.stop.EditStop.{EditStop}
+use Rattle.reg_tree.specs.Makes.{Makes}
+use Rattle.edit_laws.specs.Sizes.{total, AreSome}
+use Rattle.edit_laws.proofs.RoomLemmas.{some_all, some_right, no_room, found_changed, set_needs, item_total}
+use Rattle.hive_edit.specs.Given.{place_in}
+use Rattle.hive_edit.specs.Hive.{HiveCells, cells_in, hive_of, IsHive}
+use Rattle.hive_edit.specs.Standing.{tree_of}
+use Rattle.hive_edit.proofs.ResultLemmas.{some, some_same}
+use Rattle.hive_edit.proofs.EditLemmas.{set_tree, the_tree}
+use Rattle.hive_pack.proofs.Rows.{space_data}
+use Rattle.hive_edit.proofs.GiveLemmas.{some_size}
+use Rattle.hive_edit.proofs.ThereLemmas.{ThereIs, there_in, edit_there}
+
+abbrev become : ℕ → List ℕ → Item → Item
+become kind bytes v = record v { kind = kind; bytes = bytes }
+
+-- the value is found with its data
+first_found : (name : List ℕ) (kind : ℕ) (bytes : List ℕ) (vs : List Item) (one : Item) → find (is_item name) vs ≡ some one
+    → find (is_item name) (at_first (is_item name) (become kind bytes) vs) ≡ some (become kind bytes one)
+first_found name kind bytes [] one e = absurd cc
+first_found name kind bytes (v ∷ vs) one e = go (is_item name v) refl e (λ f. first_found name kind bytes vs one f)
+  where
+    go : (t : Bool) → is_item name v ≡ t → cond t (Some v) (find (is_item name) vs) ≡ some one
+        → (find (is_item name) vs ≡ some one → find (is_item name) (at_first (is_item name) (become kind bytes) vs) ≡ some (become kind bytes one))
+        → find (is_item name) (cond t (become kind bytes v ∷ vs) (v ∷ at_first (is_item name) (become kind bytes) vs)) ≡ some (become kind bytes one)
+    go true is f deep =
+        ap (λ (t : Bool). cond t (Some (become kind bytes v)) (find (is_item name) vs)) is ∙ ap (λ (i : Item). some (become kind bytes i)) (some_same v one f)
+    go false is f deep =
+        ap (λ (t : Bool). cond t (Some v) (find (is_item name) (at_first (is_item name) (become kind bytes) vs))) is ∙ deep f
+
+item_then : (name : List ℕ) (kind : ℕ) (bytes : List ℕ) (k : Tree) (one : Item) → find_item name k ≡ some one
+    → find_item name (of_items (with_item name kind bytes) k) ≡ some (become kind bytes one)
+item_then name kind bytes (tree_key h ts) one e =
+    ap (λ (o : Option Item). find (is_item name) (cond (is_some o) (at_first (is_item name) (become kind bytes) h.values) (h.values ++ record { name = name; kind = kind; bytes = bytes } ∷ []))) e
+    ∙ first_found name kind bytes h.values one e
+
+kept_name : (name : List ℕ) (kind : ℕ) (bytes : List ℕ) (w : Tree) → (head (of_items (with_item name kind bytes) w)).name ≡ (head w).name
+kept_name name kind bytes (tree_key h ts) = refl
+
+data_total : (version : HiveVersion) (v : Item) → total (map cell (data_sizes version (length v.bytes))) ≡ data_size version v.bytes
+data_total version v = cancel (cell (20 + name_bytes v.name)) (total (map cell (data_sizes version (length v.bytes)))) (data_size version v.bytes) (item_total version v)
+  where
+    cancel : (a b c : ℕ) → a + b ≡ a + c → b ≡ c
+    cancel a b c e = omega (arith, e)
+
+-- where a new bin for the data is not to be had
+pub there_strained : (bins : List Bin) (root : ℕ) (version : HiveVersion) (bulk : ℕ) (h : HiveCells) (path : List (List ℕ)) (name : List ℕ) (kind : ℕ) (bytes : List ℕ) (v : ℕ)
+    → IsHive bins root version bulk → hive_of bins root version ≡ h → place_in (cells_in h) path name h.root ≡ some v → length bytes ≤ 1048576
+    → 4 < length bytes → 16777216 < bins_size bins + rounded (data_size version bytes + 32)
+    → 16777216 < strain_of h.version (bins_size h.bins) h.tree (set_value path name kind bytes ∷ [])
+there_strained bins root version bulk h path name kind bytes v is view e few long over =
+    let some_data : 0 < data_size version bytes = omega (arith, some_size version 0 bytes long, space_data version 0 bytes) in
+    let b = look_up version bins in
+    let t = tree_of b root in
+    let u = set_tree path name kind bytes t in
+    let i = there_in bins root version bulk h path name v is view e in
+    let step = set_value path name kind bytes in
+    let d = edit_there b version root t path name kind bytes v i few in
+    let k = of_items (with_item name kind bytes) i.tree in
+    let one = become kind bytes i.one in
+    let found : find_key path u ≡ Some k = found_changed (of_items (with_item name kind bytes)) path t i.tree (kept_name name kind bytes) i.found in
+    let needs = set_needs version t u k path name kind bytes one found (item_then name kind bytes i.tree i.one i.there) in
+    let asked = map cell (data_sizes version (length bytes)) in
+    let lists = value_list_sizes (length (head k).values) in
+    let among : AreSome asked (lists ++ item_sizes version one) = some_right asked lists (item_sizes version one) (some_right asked (cell (20 + name_bytes one.name) ∷ []) asked (some_all asked)) in
+    let all : total asked ≡ data_size version bytes = data_total version one in
+    subst (λ (g : HiveCells). 16777216 < strain_of g.version (bins_size g.bins) g.tree (step ∷ [])) view
+    (no_room version (bins_size bins) 16777216 t u step [] asked d.step (subst (AreSome asked) (sym needs) among)
+    (subst (λ (n : ℕ). 0 < n) (sym all) some_data) (subst (λ (n : ℕ). 16777216 < bins_size bins + rounded (n + 32)) (sym all) over))
+
+-- data that are set are not too long
+pub few_made : (version : HiveVersion) (t u : Tree) (path : List (List ℕ)) (name : List ℕ) (kind : ℕ) (bytes : List ℕ) → edited version t (set_value path name kind bytes ∷ []) ≡ the_tree u
+    → length bytes ≤ 1048576
+unfolding edited
+few_made version t u path name kind bytes e = go (is_none (find_key path t)) (nat_lt 16383 (length name)) (nat_lt 1048576 (length bytes)) refl e
+  where
+    go : (a b c : Bool) → nat_lt 1048576 (length bytes) ≡ c
+        → then_edit (then_edit (unless ((a, no_key) ∷ (b, name_too_long) ∷ (c, data_too_long) ∷ []) (set_tree path name kind bytes t)) (λ w. after_steps w [])) (λ w. cond (nat_lt most_bulk (bulk_of version w)) (Err full) (Ok w)) ≡ the_tree u
+        → length bytes ≤ 1048576
+    go true b c q f = absurd cc
+    go false true c q f = absurd cc
+    go false false true q f = absurd cc
+    go false false false q f = ltb-false 1048576 (length bytes) q
+
+-- and an edit that brings too many is not made
+pub too_long : (version : HiveVersion) (t u : Tree) (path : List (List ℕ)) (name : List ℕ) (kind : ℕ) (bytes : List ℕ) (r : Result (Unit {0}) EditStop) (P : Type 0)
+    → Makes t u r (edited version t (set_value path name kind bytes ∷ [])) → 1048576 < length bytes → OnOk r P
+too_long version t u path name kind bytes (Ok x) P made long = absurd (let few = few_made version t u path name kind bytes made in omega (arith, few, long))
+too_long version t u path name kind bytes (Err stop) P made long = tt

@@ -1,0 +1,12 @@
+use Rattle.std.proofs.Common.{◌≡◌, ℕ, take, None}
+use Rattle.std.specs.Prelude.{Contains}
+use Rattle.hive_model.specs.Bins.{bins_size}
+use Rattle.hive_cells.specs.Held.{held_at}
+use Rattle.hive_edit.proofs.cells.free_all.Given as goal
+
+abbrev pub invariant-loop-at : goal.invariant-loop-at
+invariant-loop-at l = record {
+  gone : (o : ℕ) → Contains (take l.at-index l.cells) o → held_at l.heap o ≡ None;
+  others : (o : ℕ) → (Contains (take l.at-index l.cells) o → ⊥) → held_at l.heap o ≡ held_at l.fn.heap o;
+  long : bins_size l.heap ≡ bins_size l.fn.heap;
+}

@@ -1,0 +1,83 @@
+//! Runs of new cells put, and old cells freed.
+
+ghost use Rattle.std.specs.Prelude.{◌≡◌, ◌≤◌, ◌<◌, ℕ, length, Contains, None, OnOk, OnErr, MatchOption};
+ghost use Rattle.std.specs.Option.{IsSome};
+ghost use Rattle.std.specs.List.{All};
+ghost use Rattle.hive_model.specs.Bins.{bins_size};
+ghost use Rattle.hive_cells.specs.Held.{held_at, run_cells, IsRun};
+ghost use Rattle.key_index.specs.Relists.{AreApart};
+ghost use Rattle.hive_edit.specs.Runs.{IsNewPlace, IsPlace, IsPutAt, LacksPlace};
+
+use hive_cells::OpenHeap;
+use std::alloc::AllocError;
+
+/// How many bytes the bins data have, at most 16 MiB.
+pub(crate) fn long(heap: &OpenHeap) -> u32
+    ensures long { result ≡ bins_size heap.now }
+    ensures fits { bins_size heap.now ≤ 16777216 }
+{
+    heap.bytes().len() as u32
+}
+
+/// Frees these cells.
+pub(crate) fn free_all(heap: &mut OpenHeap, cells: &[u32])
+    requires held { All (λ o. IsSome (held_at heap.old o)) cells.now }
+    requires apart { AreApart cells.now }
+    ensures gone { (o : ℕ) → Contains cells.now o → held_at heap.new o ≡ None }
+    ensures others { (o : ℕ) → (Contains cells.now o → ⊥) → held_at heap.new o ≡ held_at heap.old o }
+    ensures long { bins_size heap.new ≡ bins_size heap.old }
+{
+    for at in cells {
+        heap.free(*at);
+    }
+}
+
+/// Where a run of so many bytes is to be put, if there is room: nothing changes.
+pub(crate) fn place_for(heap: &OpenHeap, size: u32) -> Option<u32>
+    requires some { 0 < size }
+    requires few { size ≤ 16777216 }
+    ensures { MatchOption result (LacksPlace size heap.now) (IsPlace size heap.now) }
+{
+    let long = long(heap);
+    match heap.fit(size) {
+        Some(at) => Some(at),
+        None => {
+            if long + (size + 4127) / 4096 * 4096 > 16_777_216 {
+                return None;
+            }
+            Some(long + 32)
+        }
+    }
+}
+
+/// Puts a run into a new bin.
+fn put_behind(heap: &mut OpenHeap, at: u32, run: &[u8]) -> Result<(), AllocError>
+    requires few { length run.now ≤ 16777216 }
+    requires place { IsNewPlace (length run.now) heap.old at }
+    requires run { IsRun run.now }
+    ensures put { OnOk result (IsPutAt (length run.now) at (run_cells run.now) heap.old heap.new) }
+    ensures refused { OnErr result (heap.new ≡ heap.old) }
+{
+    match heap.grow(run.len() as u32)? {
+        None => unreachable!(),
+        Some(at) => {
+            heap.fill(at, run);
+            Ok(())
+        }
+    }
+}
+
+/// Puts a run of allocated cells at the place that `place_for` answers. The heap is as it was where there is no
+/// memory, which only a new bin takes.
+pub(crate) fn put_run(heap: &mut OpenHeap, at: u32, run: &[u8]) -> Result<(), AllocError>
+    requires place { IsPlace (length run.now) heap.old at }
+    requires run { IsRun run.now }
+    ensures put { OnOk result (IsPutAt (length run.now) at (run_cells run.now) heap.old heap.new) }
+    ensures refused { OnErr result (heap.new ≡ heap.old) }
+{
+    if at > long(heap) {
+        return put_behind(heap, at, run);
+    }
+    heap.fill(at, run);
+    Ok(())
+}

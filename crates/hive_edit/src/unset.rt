@@ -1,0 +1,306 @@
+//! A value taken out of the cells of its key. Nothing here wants memory or room.
+
+ghost use Rattle.std.specs.Prelude.{◌≡◌, ◌≤◌, ◌<◌, ◌+◌, ◌-◌, ◌*◌, ◌++◌, ◌∷◌, [], ℕ, List, length, Some, Ok, IfOk, IfErr, OnOk, OnErr, Err};
+ghost use Rattle.std.specs.Option.{IsSome, IsSomeAnd};
+ghost use Rattle.std.specs.Result.{IsOk};
+ghost use Rattle.nt_bytes.specs.Fields.{u32_in};
+ghost use Rattle.hive_model.specs.Bins.{bins_size, look_up};
+ghost use Rattle.hive_model.specs.Edit.{edited, delete_value, after_step};
+ghost use Rattle.hive_model.specs.Size.{bulk_of};
+ghost use Rattle.hive_model.specs.Forms.{KeyNode, key_node_at};
+ghost use Rattle.hive_model.specs.Walk.{reading, value_checks};
+ghost use Rattle.hive_model.specs.Footprint.{key_place, used_in};
+ghost use Rattle.hive_cells.specs.Held.{held_at, patched};
+ghost use Rattle.edit_laws.specs.Owned.{In};
+ghost use Rattle.edit_laws.specs.Written.{two_numbers};
+ghost use Rattle.reg_tree.specs.Makes.{IsRefused, Makes};
+ghost use Rattle.reg_tree.specs.declared.stop.EditStop.TheVariants.{Full, Memory, NoKey, NoValue};
+ghost use Rattle.hive_edit.specs.Edits.{IsEditedInPlace};
+ghost use Rattle.hive_edit.specs.Gone.{AreGone, CanGo, CanTake, ClosesGap, HasData, HasOffsets, HasSegments, TakesOut, TellsBulk, Unlists, data_cells, list_room, unset_tree};
+ghost use Rattle.hive_edit.specs.Hive.{cells_in};
+ghost use Rattle.hive_edit.specs.Places.{IsItemHere, IsKeyAt, value_place};
+
+use crate::hive::HiveBytes;
+use crate::measure::{cell_len, is_big, value_len};
+use crate::path::key_at;
+use crate::source::{Source, payload};
+use crate::values::value_at;
+use hive_cells::OpenHeap;
+use nt_bytes::{HiveVersion, Names, put_u32, u16_at, u32_at};
+use reg_tree::EditStop;
+
+/// The greatest bulk of an edited tree, in bytes.
+const MOST_BULK: u64 = 16_773_120;
+
+/// The offset that names nothing.
+const NOWHERE: u32 = 0xffff_ffff;
+
+// ---- lists of offsets
+
+/// A number of four bytes in the payload of a cell, each number behind the one before.
+fn number_in(heap: &OpenHeap, at: u32, place: u32) -> u32
+    requires { IsSomeAnd (held_at heap.now at) (λ p. 4 * place + 4 ≤ length p) }
+    ensures { (p : List ℕ) → held_at heap.now at ≡ Some p → result ≡ u32_in p (4 * place) }
+{
+    match heap.payload(at) {
+        Ok(bytes) => u32_at(bytes, 4 * place as usize),
+        Err(_) => unreachable!(),
+    }
+}
+
+/// Frees the cells that a list of so many offsets names, then the list.
+fn free_listed(heap: &mut OpenHeap, list: u32, count: u32)
+    requires { (offsets : List ℕ) × HasOffsets heap.old list count offsets × CanGo heap.old (list ∷ offsets) }
+    ensures { (offsets : List ℕ) → HasOffsets heap.old list count offsets → AreGone (list ∷ offsets) heap.old heap.new }
+{
+    for place in 0..count {
+        let at = number_in(heap, list, place);
+        heap.free(at);
+    }
+    heap.free(list);
+}
+
+/// The bins data have at most 16 MiB.
+fn bins_fit(heap: &OpenHeap)
+    ensures { bins_size heap.now ≤ 16777216 }
+{
+    let _bins = heap.bytes();
+}
+
+/// Moves the numbers of a list behind a place down by one, over the one that is there.
+fn close_gap(heap: &mut OpenHeap, list: u32, from: u32, count: u32)
+    requires some { from < count }
+    requires few { count ≤ 4194304 }
+    requires long { IsSomeAnd (held_at heap.old list) (λ p. 4 * count ≤ length p) }
+    ensures { ClosesGap from (count - 1) list heap.old heap.new }
+{
+    for place in from..count - 1 {
+        let next = number_in(heap, list, place + 1);
+        heap.patch(list, 4 * place, &next.to_le_bytes());
+    }
+}
+
+/// The place of an offset in a list of so many.
+fn place_of(heap: &OpenHeap, list: u32, count: u32, offset: u32) -> u32
+    requires { (offsets : List ℕ) × HasOffsets heap.now list count offsets × In offsets offset }
+    ensures within { result < count }
+    ensures here { (p : List ℕ) → held_at heap.now list ≡ Some p → u32_in p (4 * result) ≡ offset }
+{
+    for place in 0..count {
+        if number_in(heap, list, place) == offset {
+            return place;
+        }
+    }
+    unreachable!()
+}
+
+// ---- the cells of a value
+
+/// Where the list of the segments of big data is, and how many it names.
+fn segments_of(heap: &OpenHeap, place: u32) -> (u32, u32)
+    requires { (list : ℕ) × (offsets : List ℕ) × HasSegments heap.now place list offsets }
+    ensures { (list : ℕ) (offsets : List ℕ) → HasSegments heap.now place list offsets → (result.0 ≡ list) × HasOffsets heap.now list result.1 offsets }
+{
+    match heap.payload(place) {
+        Ok(bytes) => {
+            let list = u32_at(bytes, 4);
+            let count = u32::from(u16_at(bytes, 2));
+            (list, count)
+        }
+        Err(_) => unreachable!(),
+    }
+}
+
+/// Frees the cells of big data: each segment, their list, and the cell that names the list.
+fn free_big(heap: &mut OpenHeap, place: u32)
+    requires { (list : ℕ) × (offsets : List ℕ) × HasSegments heap.old place list offsets × CanGo heap.old (place ∷ list ∷ offsets) }
+    ensures { (list : ℕ) (offsets : List ℕ) → HasSegments heap.old place list offsets → AreGone (place ∷ list ∷ offsets) heap.old heap.new }
+{
+    let (list, count) = segments_of(heap, place);
+    free_listed(heap, list, count);
+    heap.free(place);
+}
+
+/// Frees the cells of so many data, where they have any.
+fn free_data(heap: &mut OpenHeap, version: HiveVersion, size: u32, place: u32)
+    requires data { HasData (look_up version heap.old) size place }
+    requires can { CanGo heap.old (data_cells (look_up version heap.old) size place) }
+    ensures { AreGone (data_cells (look_up version heap.old) size place) heap.old heap.new }
+{
+    if size >= 0x8000_0000 {
+        return;
+    }
+    if size == 0 {
+        return;
+    }
+    if is_big(version, size) {
+        free_big(heap, place);
+    } else {
+        heap.free(place);
+    }
+}
+
+/// Where the data of a value are, and how many.
+fn data_at(heap: &OpenHeap, version: HiveVersion, at: u32) -> (u32, u32)
+    requires { IsItemHere (look_up version heap.now) at }
+    ensures data { HasData (look_up version heap.now) result.0 result.1 }
+    ensures cells { used_in (value_checks (look_up version heap.now) [] at) ≡ at ∷ data_cells (look_up version heap.now) result.0 result.1 }
+{
+    let source = Source {
+        heap: heap.cells(),
+        version,
+    };
+    let value = payload(&source, at);
+    let size = u32_at(value, 4);
+    let place = u32_at(value, 8);
+    (size, place)
+}
+
+/// Frees the cells of a value: those of its data, and its own.
+pub(crate) fn free_value(heap: &mut OpenHeap, version: HiveVersion, at: u32)
+    requires item { IsItemHere (look_up version heap.old) at }
+    requires can { CanGo heap.old (used_in (value_checks (look_up version heap.old) [] at)) }
+    ensures { AreGone (used_in (value_checks (look_up version heap.old) [] at)) heap.old heap.new }
+{
+    let (size, place) = data_at(heap, version, at);
+    free_data(heap, version, size, place);
+    heap.free(at);
+}
+
+// ---- a value of a key
+
+/// Takes an offset out of a list of so many. The list goes where it names no other. Answers where it is then.
+fn unlist(heap: &mut OpenHeap, list: u32, count: u32, offset: u32) -> u32
+    requires { (offsets : List ℕ) × HasOffsets heap.old list count offsets × In offsets offset }
+    ensures { (offsets : List ℕ) → HasOffsets heap.old list count offsets → Unlists heap.old heap.new list result offsets offset }
+{
+    if count == 1 {
+        heap.free(list);
+        return NOWHERE;
+    }
+    bins_fit(heap);
+    let place = place_of(heap, list, count, offset);
+    close_gap(heap, list, place, count);
+    list
+}
+
+/// How many values a key has, and where their list is.
+fn values_of(heap: &OpenHeap, version: HiveVersion, key: u32) -> (u32, u32)
+    requires { IsOk (reading key_node_at (look_up version heap.now) key) }
+    ensures { (n : KeyNode) → reading key_node_at (look_up version heap.now) key ≡ Ok n → (result.0 ≡ n.value_count) × (result.1 ≡ n.value_list) }
+{
+    let source = Source {
+        heap: heap.cells(),
+        version,
+    };
+    let node = payload(&source, key);
+    (u32_at(node, 36), u32_at(node, 40))
+}
+
+/// Two numbers as the bytes of two fields.
+fn two_fields(a: u32, b: u32) -> [u8; 8]
+    ensures { result ≡ two_numbers a b }
+{
+    let mut fields = [0; 8];
+    put_u32(&mut fields, 0, a);
+    put_u32(&mut fields, 4, b);
+    fields
+}
+
+/// Takes a value out of a key: its cells are freed, the list names the others, and the node counts them.
+fn take_out(heap: &mut OpenHeap, version: HiveVersion, key: u32, value: u32)
+    requires { CanTake (look_up version heap.old) heap.old key value }
+    ensures { TakesOut version heap.old heap.new key value }
+{
+    let (count, list) = values_of(heap, version, key);
+    free_value(heap, version, value);
+    let now = unlist(heap, list, count, value);
+    let fields = two_fields(count - 1, now);
+    heap.patch(key, 36, &fields);
+}
+
+// ---- the hive
+
+/// The cell of a value list of so many; none for none.
+fn list_len(count: u32) -> u64
+    ensures { result ≡ list_room count }
+{
+    if count == 0 {
+        0
+    } else {
+        cell_len(4 * u64::from(count))
+    }
+}
+
+impl HiveBytes {
+    /// Where a key and a value of it are, or why they are not.
+    fn named(&self, path: &Names, name: &[u16]) -> Result<(u32, u32), EditStop>
+        ensures key { IfOk result (λ r. key_place (cells_in self.now) path.now self.now.root ≡ Some r.0) }
+        ensures value { IfOk result (λ r. value_place (cells_in self.now) name.now r.0 ≡ Some r.1) }
+        ensures refused { IfErr result (λ stop. IsRefused (edited self.now.version self.now.tree (delete_value path.now name.now ∷ [])) stop) }
+        ensures no_memory { IfErr result (λ stop. stop ≡ Memory → ⊥) }
+    {
+        let source = Source {
+            heap: self.cells.cells(),
+            version: self.version,
+        };
+        match key_at(&source, self.root, path) {
+            None => Err(EditStop::NoKey),
+            Some(key) => match value_at(&source, key, name) {
+                None => Err(EditStop::NoValue),
+                Some(value) => Ok((key, value)),
+            },
+        }
+    }
+
+    /// The bulk without a value of a key; over the greatest of an edited tree where that is.
+    fn bulk_without(&self, path: &Names, name: &[u16], key: u32, value: u32) -> u64
+        requires key { key_place (cells_in self.now) path.now self.now.root ≡ Some key }
+        requires value { value_place (cells_in self.now) name.now key ≡ Some value }
+        ensures { TellsBulk result (bulk_of self.now.version (unset_tree path.now name.now self.now.tree)) }
+    {
+        let source = Source {
+            heap: self.cells.cells(),
+            version: self.version,
+        };
+        let (count, _list) = values_of(&self.cells, self.version, key);
+        let own = value_len(&source, value);
+        let less = (own + list_len(count)) - list_len(count - 1);
+        self.bulk - less
+    }
+
+    /// Deletes the value that is there.
+    fn unset(&mut self, path: &Names, name: &[u16], key: u32, value: u32) -> Result<(), EditStop>
+        requires key { key_place (cells_in self.old) path.now self.old.root ≡ Some key }
+        requires value { value_place (cells_in self.old) name.now key ≡ Some value }
+        ensures made { Makes self.old.tree self.new.tree result (edited self.old.version self.old.tree (delete_value path.now name.now ∷ [])) }
+        ensures refused { OnErr result (self.new ≡ self.old) }
+        ensures version { self.new.version ≡ self.old.version }
+        ensures done { OnOk result (IsEditedInPlace self.old (delete_value path.now name.now ∷ []) self.new) }
+        ensures long { bins_size self.new.bins ≡ bins_size self.old.bins }
+        ensures no_memory { IfErr result (λ stop. stop ≡ Memory → ⊥) }
+    {
+        let bulk = self.bulk_without(path, name, key, value);
+        if bulk > MOST_BULK {
+            return Err(EditStop::Full);
+        }
+        take_out(&mut self.cells, self.version, key, value);
+        self.bulk = bulk;
+        Ok(())
+    }
+
+    /// Deletes a value of the key that a path leads to, by its name, letters of either case taken for one. Its
+    /// cells are freed, and the list closes over its place where it stands, or is freed with it. So it wants no
+    /// memory and no room. After an `Err` the hive is as before.
+    pub fn delete_value(&mut self, path: &Names, name: &[u16]) -> Result<(), EditStop>
+        ensures made { Makes self.old.tree self.new.tree result (edited self.old.version self.old.tree (delete_value path.now name.now ∷ [])) }
+        ensures refused { OnErr result (self.new ≡ self.old) }
+        ensures version { self.new.version ≡ self.old.version }
+        ensures done { OnOk result (IsEditedInPlace self.old (delete_value path.now name.now ∷ []) self.new) }
+        ensures long { bins_size self.new.bins ≡ bins_size self.old.bins }
+        ensures no_memory { IfErr result (λ stop. stop ≡ Memory → ⊥) }
+    {
+        let (key, value) = self.named(path, name)?;
+        self.unset(path, name, key, value)
+    }
+}
