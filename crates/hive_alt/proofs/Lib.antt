@@ -1,3 +1,4 @@
+pub mod EditingLemmas
 pub mod ChangeLemmas
 pub mod CopyLemmas
 pub mod KeptLemmas

@@ -1,13 +1,16 @@
 -- What a commit of a session leaves.
-use Rattle.std.proofs.Common.{◌≡◌, inl, inr, ⊎_elim, ℕ, Bool, true, false, List, length, Option, Some, None, Err, refl, sym, ap, subst, ◌∙◌}
-use Rattle.std.specs.Prelude.{IsErrOf, unwrap_or}
+use Rattle.std.proofs.Common.{◌≡◌, inl, inr, ⊎_elim, ℕ, Bool, true, false, List, length, Err, refl, sym, ap, subst, ◌∙◌}
+use Rattle.std.specs.Prelude.{IsErrOf}
 use Rattle.hive_model.specs.Base.{Base, is_bins_size, version_of}
 use Rattle.hive_model.specs.Image.{Image}
 use Rattle.hive_model.specs.Carries.{Carries}
 use Rattle.hive_model.specs.State.{HiveState}
 use Rattle.hive_model.specs.Load.{Loads, Holds, state_of}
 use Rattle.hive_model.specs.Tree.{Tree}
-use Rattle.hive_model.specs.Valid.{IsValid}
+use Rattle.nt_bytes.specs.declared.version.HiveVersion.{HiveVersion}
+use Rattle.hive_model.specs.Bins.{IsHeap, spelled}
+use Rattle.hive_model.specs.Stands.{IsWellFormed}
+use Rattle.hive_edit.specs.Hive.{HiveCells, cells_in}
 use Rattle.nt_edge.specs.Disk.{DiskState}
 use Rattle.nt_edge.specs.Crash.{EachCrash}
 use Rattle.hive_commit.specs.Stages.{closed_of, IsBeforeOrAfter}
@@ -16,13 +19,8 @@ use Rattle.hive_commit.specs.declared.stops.CommitStop.{CommitStop}
 use Rattle.hive_commit.specs.declared.stops.CommitStop.TheVariants as commit
 use Rattle.hive_store.specs.Session.{Session, HasTree, IsSession, session_of, next_bins, next_root}
 use Rattle.hive_store.specs.Commits.{next_base, committed, committed_state, LoadsAsEither}
+use Rattle.hive_store.proofs.SizedLemmas.{has_bytes}
 use Rattle.hive_store.proofs.Holding.{clean, held_again, held_by, carried, carried_loads}
-
--- what is kept for the next commit, or what the disk carries, is what the session writes
-pub data_is : (base : Base) (bins : List ℕ) (tree : Tree) (next : Option (List ℕ)) → IsSession base bins tree next
-    → unwrap_or next bins ≡ next_bins (session_of base bins tree next)
-data_is base bins tree None is = refl
-data_is base bins tree (Some new) is = is.kept new refl
 
 -- what a session's disk loads as before
 pub stood : (s : Session) (tree : Tree) → HasTree (version_of s.base.minor) s.bins s.base.root tree → (held : Image) → Carries held s.base s.bins
@@ -34,6 +32,13 @@ stood s tree has held carries =
 -- the next commit writes data in which the session's tree stands
 abbrev pub IsReady : Session → Type 0
 IsReady s = HasTree (version_of s.base.minor) (next_bins s) (next_root s) s.tree
+
+-- the bytes of the cells are data in which the session's tree stands
+pub is_ready : (base : Base) (bins : List ℕ) (cells : HiveCells) (changed : Bool) → IsSession base bins cells changed → IsHeap cells.bins
+    → IsWellFormed (cells_in cells) cells.root cells.tree → IsReady (session_of base bins cells changed)
+is_ready base bins cells changed is heap stands =
+    subst (λ (v : HiveVersion). HasTree v (spelled 0 cells.bins) cells.root cells.tree) is.version
+    (has_bytes cells.version cells.bins cells.root cells.tree heap stands)
 
 -- the base block that closes the commit, with these data, holds the tree under the next number
 closed_holds : (s : Session) → IsReady s → Holds (clean (next_base s) (next_bins s)) (committed_state s)
@@ -53,24 +58,25 @@ commit_crash s has size held state carries each before dirty loads c crash =
     (λ is. inr (held_again (clean (next_base s) (next_bins s)) (committed_state s) c (closed_holds s has) is))
     (each c crash)
 
--- ---- the session that was opened, and the one after the commit
+-- ---- the session after the commit
 
--- the next session keeps the tree, which stands in what was written
-pub next_session : (s : Session) → IsValid s.tree → IsReady s → (closed : Base) (bins new : List ℕ) (root : ℕ) → closed ≡ closed_of s.base new root → bins ≡ new
-    → new ≡ next_bins s → root ≡ next_root s → IsSession closed bins s.tree None
-next_session s valid has closed bins new root closed_is bins_are written at =
+-- the cells are what the next session's disk carries, and the tree stands in them
+pub next_session : (s : Session) → IsReady s → s.cells.version ≡ version_of s.base.minor → (closed : Base) (bins new : List ℕ) (root : ℕ) → closed ≡ closed_of s.base new root
+    → bins ≡ new → new ≡ next_bins s → root ≡ next_root s → IsSession closed bins s.cells false
+next_session s has version closed bins new root closed_is bins_are written at =
     let same : closed ≡ next_base s = closed_is ∙ ap (λ (b : List ℕ). closed_of s.base b root) written ∙ ap (λ (n : ℕ). closed_of s.base (next_bins s) n) at in
     let whole : bins ≡ next_bins s = bins_are ∙ written in
-    subst (λ (b : Base). IsSession b bins s.tree None) (sym same)
-    (subst (λ (b : List ℕ). IsSession (next_base s) b s.tree None) (sym whole)
-    (record { valid = valid; committed = s.tree; carried = has; kept = λ new e. absurd cc; ready = has }))
+    subst (λ (b : Base). IsSession b bins s.cells false) (sym same)
+    (subst (λ (b : List ℕ). IsSession (next_base s) b s.cells false) (sym whole)
+    (record { committed = s.tree; carried = has; version = version; kept = λ e. record { bytes = refl; root = refl } }))
 
 -- it is the session that the book of hives says
-pub next_is : (s : Session) (closed : Base) (bins new : List ℕ) (root : ℕ) → closed ≡ closed_of s.base new root → bins ≡ new → new ≡ next_bins s → root ≡ next_root s
-    → session_of closed bins s.tree None ≡ committed s
-next_is s closed bins new root closed_is bins_are written at =
-    ap (λ (b : Base). session_of b bins s.tree None) (closed_is ∙ ap (λ (b : List ℕ). closed_of s.base b root) written ∙ ap (λ (n : ℕ). closed_of s.base (next_bins s) n) at)
-    ∙ ap (λ (b : List ℕ). session_of (next_base s) b s.tree None) (bins_are ∙ written)
+pub next_is : (s : Session) → s.tree ≡ s.cells.tree → (closed : Base) (bins new : List ℕ) (root : ℕ) → closed ≡ closed_of s.base new root → bins ≡ new → new ≡ next_bins s → root ≡ next_root s
+    → session_of closed bins s.cells false ≡ committed s
+next_is s tree closed bins new root closed_is bins_are written at =
+    ap (λ (b : Base). session_of b bins s.cells false) (closed_is ∙ ap (λ (b : List ℕ). closed_of s.base b root) written ∙ ap (λ (n : ℕ). closed_of s.base (next_bins s) n) at)
+    ∙ ap (λ (b : List ℕ). session_of (next_base s) b s.cells false) (bins_are ∙ written)
+    ∙ ap (λ (t : Tree). record { base = next_base s; bins = next_bins s; cells = s.cells; tree = t; changed = false }) (sym tree)
 
 -- what is said of the data that were written is said of those of the session
 pub as_written : (s : Session) (P : List ℕ → List ℕ → ℕ → Type 0) (old new : List ℕ) (root : ℕ) → old ≡ s.bins → new ≡ next_bins s → root ≡ next_root s

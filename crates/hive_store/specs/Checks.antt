@@ -9,16 +9,31 @@ use Rattle.hive_model.specs.Recovery.{Recovered}
 use Rattle.hive_model.specs.Tree.{Tree}
 use Rattle.hive_model.specs.State.{HiveState}
 use Rattle.hive_model.specs.Load.{LoadsAs, LoadFault, Holds, HeldFault, state_of}
+use Rattle.hive_edit.specs.Hive.{HiveCells}
+use Rattle.hive_store.specs.Session.{AreCarried}
 
 -- the state that what was recovered holds with this tree
 abbrev pub held_state : Recovered → Tree → HiveState
 held_state found tree = state_of tree found.base.first (version_of found.base.minor)
 
--- of what was recovered: the tree that it holds, with its bins data given back, or its first fault
-abbrev pub HoldsAs : Recovered → Result (Tree × List ℕ) ReadStop → Type 0
-HoldsAs found (Ok x) = Holds found (held_state found x.0) × (x.1 ≡ found.bins)
+-- of what was recovered: the tree that it holds, or its first fault
+abbrev pub HoldsAs : Recovered → Result Tree ReadStop → Type 0
+HoldsAs found (Ok tree) = Holds found (held_state found tree)
 HoldsAs found (Err (read.Fault f)) = HeldFault found f
 HoldsAs found (Err read.Memory) = Unit {0}
+
+-- the cells of what was recovered, in whose tree it is held, and its bins data
+pub record AreOf (found : Recovered) (cells : HiveCells) (bins : List ℕ) : Type 0 where
+  pub holds : Holds found (held_state found cells.tree)
+  pub same : bins ≡ found.bins
+  pub version : cells.version ≡ version_of found.base.minor
+  pub carried : AreCarried found.base found.bins cells
+
+-- of what was recovered: its cells and its bins data, or its first fault
+abbrev pub HoldsIn : Recovered → Result (HiveCells × List ℕ) ReadStop → Type 0
+HoldsIn found (Ok x) = AreOf found x.0 x.1
+HoldsIn found (Err (read.Fault f)) = HeldFault found f
+HoldsIn found (Err read.Memory) = Unit {0}
 
 -- of an image: the tree, the number and the version of the state that it loads as, or its first fault
 abbrev pub ChecksAs : Image → Result (Tree × ℕ × HiveVersion) ReadStop → Type 0

@@ -12,9 +12,9 @@ use Rattle.hive_store.specs.Session.{Session, next_bins, next_root}
 abbrev pub next_base : Session → Base
 next_base s = closed_of s.base (next_bins s) (next_root s)
 
--- the session after its commit: the tree stays, the disk carries what was written, and nothing is changed any more
+-- the session after its commit: its cells and their tree stay, the disk carries their bytes, and nothing is changed any more
 abbrev pub committed : Session → Session
-committed s = record { base = next_base s; bins = next_bins s; tree = s.tree; changed = false }
+committed s = record { base = next_base s; bins = next_bins s; cells = s.cells; tree = s.tree; changed = false }
 
 -- what the session's commit leads to: its tree under the next number
 abbrev pub committed_state : Session → HiveState

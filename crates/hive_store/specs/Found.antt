@@ -1,18 +1,2 @@
--- What is found in a session's tree. (This project's own.)
-use Rattle.std.specs.Prelude.{ℕ, ◌+◌, ◌≤◌, List, [], map, length, Option}
-use Rattle.std.specs.Option.{option_and_then, option_map_or}
-use Rattle.hive_model.specs.Tree.{Tree, head, children, find_key, find_dword}
-use Rattle.hive_model.specs.Valid.{deepest_level, HoldsKeys, levels}
-
--- the number under a name in the key that a path leads to
-abbrev pub found_dword : List (List ℕ) → List ℕ → Tree → Option ℕ
-found_dword path name t = option_and_then (find_dword name) (find_key path t)
-
--- the names of the children of the key that a path leads to, in order; none where there is no such key
-abbrev pub found_names : List (List ℕ) → Tree → List (List ℕ)
-found_names path t = option_map_or (λ key. map (λ child. (head child).name) (children key)) (find_key path t) []
-
--- a key that stands below this path, which a hive can hold there
-pub record FitsBelow (path : List (List ℕ)) (t : Tree) : Type 0 where
-  pub keys : HoldsKeys t
-  pub levels : length path + levels t ≤ deepest_level
+-- What is found in a session's tree: the words of a hive as its cells. (This project's own.)
+pub use Rattle.hive_edit.specs.Found.{found_dword, found_names, FitsBelow}

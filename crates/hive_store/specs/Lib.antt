@@ -3,3 +3,4 @@ pub mod Session
 pub mod Found
 pub mod Loading
 pub mod Commits
+pub mod Same

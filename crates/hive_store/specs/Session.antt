@@ -1,19 +1,19 @@
 -- What is a session on a hive, and what does it keep? (This project's own.)
-use Rattle.std.specs.Prelude.{◌≡◌, Bool, true, ℕ, if◌then◌else◌, List, length, Option, Some, is_some, refl}
+use Rattle.std.specs.Prelude.{◌≡◌, Bool, true, false, ℕ, List, length, refl}
 use Rattle.std.specs.Coded.{Coded, code_by, coded×, coded_ℕ, coded_bool, coded_list}
 use Rattle.nt_bytes.specs.declared.version.HiveVersion.{HiveVersion}
 use Rattle.hive_model.specs.Base.{Base, is_bins_size, version_of}
-use Rattle.hive_model.specs.Bins.{Bin, IsBins, look_up}
+use Rattle.hive_model.specs.Bins.{Bin, IsBins, look_up, spelled}
 use Rattle.hive_model.specs.Tree.{Tree, coded_tree}
-use Rattle.hive_model.specs.Valid.{IsValid}
 use Rattle.hive_model.specs.Stands.{IsWellFormed}
-use Rattle.hive_model.specs.Packed.{packed}
+use Rattle.hive_edit.specs.Hive.{HiveCells, coded_hive}
 
--- the base block and the bins data as the disk carries them, the tree with the edits since, and whether one
--- of them gave another tree, also where a later one undid it
+-- the base block and the bins data as the disk carries them; the cells with the edits since, and the tree in them; and whether
+-- one of the edits gave another tree, also where a later one undid it
 pub record Session : Type 0 where
   pub base : Base
   pub bins : List ℕ
+  pub cells : HiveCells
   pub tree : Tree
   pub changed : Bool
 
@@ -24,26 +24,29 @@ pub record HasTree (version : HiveVersion) (bins : List ℕ) (root : ℕ) (tree 
   pub cells : IsBins bins heap
   pub stands : IsWellFormed (look_up version heap) root tree
 
--- what the next commit writes: the packed tree where an edit gave another one, else what the disk carries
+-- what the next commit writes: the bytes of the cells
 abbrev pub next_bins : Session → List ℕ
-next_bins s = if s.changed then packed (version_of s.base.minor) s.tree else s.bins
+next_bins s = spelled 0 s.cells.bins
 
--- where the root is of what the next commit writes: the packed tree's is at 32
+-- where the root is of what the next commit writes
 abbrev pub next_root : Session → ℕ
-next_root s = if s.changed then 32 else s.base.root
+next_root s = s.cells.root
 
--- the session of these fields, in which the next commit's data are kept where an edit gave another tree
-abbrev pub session_of : Base → List ℕ → Tree → Option (List ℕ) → Session
-session_of base bins tree next = record { base = base; bins = bins; tree = tree; changed = is_some next }
+-- the cells are those that the disk carries
+pub record AreCarried (base : Base) (bins : List ℕ) (cells : HiveCells) : Type 0 where
+  pub bytes : spelled 0 cells.bins ≡ bins
+  pub root : cells.root ≡ base.root
 
--- a hive can hold the tree, what the disk carries has a tree too, and the next commit writes this one: the data that
--- are kept for it are the packed tree
-pub record IsSession (base : Base) (bins : List ℕ) (tree : Tree) (next : Option (List ℕ)) : Type 0 where
-  pub valid : IsValid tree
+-- the session of these fields
+abbrev pub session_of : Base → List ℕ → HiveCells → Bool → Session
+session_of base bins cells changed = record { base = base; bins = bins; cells = cells; tree = cells.tree; changed = changed }
+
+-- what the disk carries has a tree, in the version of the cells, which are those that the disk carries until an edit gives another tree
+pub record IsSession (base : Base) (bins : List ℕ) (cells : HiveCells) (changed : Bool) : Type 0 where
   pub committed : Tree
   pub carried : HasTree (version_of base.minor) bins base.root committed
-  pub kept : (new : List ℕ) → next ≡ Some new → new ≡ packed (version_of base.minor) tree
-  pub ready : HasTree (version_of base.minor) (next_bins (session_of base bins tree next)) (next_root (session_of base bins tree next)) tree
+  pub version : cells.version ≡ version_of base.minor
+  pub kept : changed ≡ false → AreCarried base bins cells
 
 -- a base block and a session as the logic codes them
 abbrev pub coded_base : Coded Base
@@ -56,5 +59,5 @@ coded_base =
 
 abbrev pub coded_session : Coded Session
 coded_session =
-    code_by (Base × (List ℕ × (Tree × Bool))) (coded× coded_base (coded× (coded_list coded_ℕ) (coded× coded_tree coded_bool)))
-    (λ s. (s.base, (s.bins, (s.tree, s.changed)))) (λ p. record { base = p.0; bins = p.1.0; tree = p.1.1.0; changed = p.1.1.1 }) (λ _. refl)
+    code_by (Base × (List ℕ × (HiveCells × (Tree × Bool)))) (coded× coded_base (coded× (coded_list coded_ℕ) (coded× coded_hive (coded× coded_tree coded_bool))))
+    (λ s. (s.base, (s.bins, (s.cells, (s.tree, s.changed))))) (λ p. record { base = p.0; bins = p.1.0; cells = p.1.1.0; tree = p.1.1.1.0; changed = p.1.1.1.1 }) (λ _. refl)

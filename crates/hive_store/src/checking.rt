@@ -4,26 +4,39 @@ ghost use Rattle.std.specs.Prelude.{◌≡◌, true, length, IfOk};
 ghost use Rattle.hive_model.specs.Base.{is_bins_size};
 ghost use Rattle.hive_model.specs.Image.{image_of};
 ghost use Rattle.hive_model.specs.Valid.{IsValid};
-ghost use Rattle.hive_store.specs.Checks.{HoldsAs, ChecksAs};
+ghost use Rattle.hive_store.specs.Checks.{HoldsAs, HoldsIn, ChecksAs};
 
+use crate::room::Kept;
 use hive_cells::read_cells;
+use hive_edit::HiveBytes;
 use hive_log::{Recovered, recovered};
 use hive_read::read_tree;
-use nt_bytes::{Bytes, HiveVersion, ReadStop};
+use nt_bytes::{HiveVersion, ReadStop};
 use reg_tree::Key;
 use std::alloc::Global;
 
-/// The tree of what was recovered, with the bins data given back, or the first fault of its bins, and then
-/// of the tree in them. The bins data are not copied.
-pub(crate) fn tree_in(alloc: Global, found: Recovered) -> Result<(Key, Bytes), ReadStop>
+/// The tree of what was recovered, or the first fault of its bins, and then of the tree in them.
+fn tree_in(alloc: Global, found: Recovered) -> Result<Key, ReadStop>
     requires sized { is_bins_size (length found.bins) ≡ true }
     ensures exact { HoldsAs found result }
-    ensures valid { IfOk result (λ x. IsValid x.0) }
+    ensures valid { IfOk result IsValid }
 {
     let base = found.base;
     let cells = read_cells(alloc, found.bins)?;
-    let tree = read_tree(alloc, &cells, base.root, base.version())?;
-    Ok((tree, cells.into_bytes()))
+    read_tree(alloc, &cells, base.root, base.version())
+}
+
+/// The hive of what was recovered, and its bins data with room for others, or the first fault of its bins, and then
+/// of the tree in them.
+pub(crate) fn hive_in(alloc: Global, found: Recovered) -> Result<(HiveBytes, Kept), ReadStop>
+    requires sized { is_bins_size (length found.bins) ≡ true }
+    ensures exact { HoldsIn found result }
+{
+    let base = found.base;
+    let kept = Kept::copied(alloc, found.bins.as_slice())?;
+    let cells = read_cells(alloc, found.bins)?;
+    let hive = HiveBytes::from_cells(alloc, cells, base.root, base.version())?;
+    Ok((hive, kept))
 }
 
 /// The tree, the sequence number and the version of two files, or the first fault. An empty log is an absent
@@ -38,6 +51,6 @@ pub fn check_images(
 {
     let found = recovered(alloc, primary, log)?;
     let base = found.base;
-    let (tree, _bins) = tree_in(alloc, found)?;
+    let tree = tree_in(alloc, found)?;
     Ok((tree, base.first, base.version()))
 }

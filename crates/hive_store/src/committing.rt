@@ -1,6 +1,6 @@
 //! A session committed to its disk.
 
-ghost use Rattle.std.specs.Prelude.{◌≡◌, Bool, true, false, [], IfOk, OnOk, IsOk, unwrap_or, is_some, if◌then◌else◌};
+ghost use Rattle.std.specs.Prelude.{◌≡◌, Bool, true, false, [], IfOk, OnOk, IsOk};
 ghost use Rattle.hive_model.specs.Carries.{Carries, HasLog};
 ghost use Rattle.hive_model.specs.State.{HiveState};
 ghost use Rattle.hive_model.specs.Load.{Loads};
@@ -15,23 +15,7 @@ ghost use Rattle.hive_store.specs.Commits.{next_base, committed, committed_state
 
 use crate::Hive;
 use hive_commit::{CommitStop, commit};
-use nt_bytes::Bytes;
 use nt_edge::Disk;
-use regf_base::BaseBlock;
-
-/// Where `pack` puts the root.
-const ROOT: u32 = 32;
-
-/// The bins data that a commit writes, and where their root is: what is packed, or what the disk carries.
-fn next_data<'a>(base: &BaseBlock, bins: &'a Bytes, next: &'a Option<Bytes>) -> (&'a [u8], u32)
-    ensures data { result.0.now ≡ unwrap_or next.now bins.now }
-    ensures root { result.1 ≡ (if is_some next.now then 32 else base.now.root) }
-{
-    match next {
-        Some(packed) => (packed.as_slice(), ROOT),
-        None => (bins.as_slice(), base.root),
-    }
-}
 
 impl Hive {
     /// The session after a commit of its tree, and the new sequence number. The disk is on, has nothing in
@@ -41,11 +25,10 @@ impl Hive {
         requires on { (D.state disk.old).on ≡ true }
         requires still { D.tells ≡ true → (D.state disk.old).flight ≡ [] }
         requires carries { D.tells ≡ true → Carries (D.state disk.old).held self.base self.bins }
-        // It makes the calls of one change and no other, after a refusal a front of them: to the packed tree where an
-        // edit gave another one, else to what the disk carries.
+        // It makes the calls of one change and no other, after a refusal a front of them: to the bytes of the cells.
         ensures made { MakesUntil (D.calls disk.old) (D.calls disk.new)
             (change_calls self.base self.bins (next_bins self) (next_root self)) result }
-        // At Ok the tree and the version stay, the number is one more modulo 2^32, and nothing is changed any more.
+        // At Ok the cells, their tree and the version stay, the number is one more modulo 2^32, and nothing is changed any more.
         ensures answered { IfOk result (λ x. x.0 ≡ committed self) }
         ensures number { IfOk result (λ x. x.1 ≡ next_number self.base.first) }
         // The disk is clean then, loads as the tree under this number, and carries what was written; its log begins
@@ -66,14 +49,15 @@ impl Hive {
             → (Rises (D.state disk.old).faults (D.state disk.new).faults → ⊥)
             → (Rises (D.state disk.old).lacks (D.state disk.new).lacks → ⊥) → IsOk result }
     {
-        let (base, old, tree, next) = (self.base, self.bins, self.tree, self.next);
-        let (new, root) = next_data(&base, &old, &next);
-        let closed = commit(disk, &base, old.as_slice(), new, root)?;
+        let (base, mut bins, cells) = (self.base, self.bins, self.cells);
+        let new = cells.bytes();
+        let closed = commit(disk, &base, bins.as_slice(), new, cells.root())?;
+        bins.keep(new);
         let hive = Hive {
             base: closed,
-            bins: next.unwrap_or(old),
-            tree,
-            next: None,
+            bins,
+            cells,
+            changed: false,
         };
         Ok((hive, closed.first))
     }

@@ -6,14 +6,16 @@ ghost use Rattle.hive_model.specs.Base.{version_of};
 ghost use Rattle.hive_model.specs.Edit.{edited};
 ghost use Rattle.reg_tree.specs.Fitting.{Fits};
 ghost use Rattle.reg_tree.specs.Makes.{Makes, step_of};
+ghost use Rattle.hive_edit.specs.Edits.{IsEditedInPlace, IsPackedAnew};
 
 use crate::Hive;
-use hive_pack::pack;
+use crate::same::keeps;
 use reg_tree::{EditStop, Steps};
 use std::alloc::Global;
 
 impl Hive {
-    /// Makes the steps in order, all or none, as `Key::apply` does, and packs what the next commit writes.
+    /// Makes the steps in order, all or none, as `HiveBytes::apply` does. Steps that give the tree that is there leave
+    /// a session without changes as it is.
     /// A hive can hold each key that a step brings along. After an `Err` the session is as before.
     pub fn apply(&mut self, alloc: Global, steps: Steps) -> Result<(), EditStop>
         requires fits { All Fits (map step_of steps) }
@@ -23,19 +25,21 @@ impl Hive {
         ensures refused { OnErr result (self.new ≡ self.old) }
         ensures base { self.new.base ≡ self.old.base }
         ensures bins { self.new.bins ≡ self.old.bins }
+        // The cells are edited in place, or packed anew.
+        ensures cells { OnOk result (IsEditedInPlace self.old.cells (map step_of steps) self.new.cells ⊎ IsPackedAnew self.new.cells) }
         // It is changed where it was before, or where the tree is another.
         ensures changed { OnOk result (self.new.changed ≡ true
             ↔ (self.old.changed ≡ true) ⊎ (self.new.tree ≡ self.old.tree → ⊥)) }
     {
-        let version = self.base.version();
-        let mut work = self.tree.copy(alloc)?;
-        work.apply(alloc, steps, version)?;
-        if work.same(&self.tree) {
+        if self.changed {
+            self.cells.apply(alloc, steps)?;
             return Ok(());
         }
-        let packed = pack(alloc, &work, version)?;
-        self.tree = work;
-        self.next = Some(packed);
+        if keeps(alloc, &self.cells, &steps)? {
+            return Ok(());
+        }
+        self.cells.apply(alloc, steps)?;
+        self.changed = true;
         Ok(())
     }
 }

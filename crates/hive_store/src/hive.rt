@@ -1,25 +1,28 @@
 //! A hive in memory.
 
-ghost use Rattle.std.specs.Prelude.{◌≡◌, Some, is_some, map, IfOk};
+ghost use Rattle.std.specs.Prelude.{◌≡◌, false, Some, is_some, IfOk};
 ghost use Rattle.hive_model.specs.Base.{version_of};
-ghost use Rattle.hive_model.specs.Tree.{Tree, head, find_key};
+ghost use Rattle.hive_model.specs.Tree.{Tree, find_key};
 ghost use Rattle.hive_store.specs.Found.{found_dword, found_names, FitsBelow};
+ghost use Rattle.hive_store.specs.Session.{AreCarried};
 
-use nt_bytes::{Bytes, HiveVersion, Names};
+use crate::room::Kept;
+use hive_edit::HiveBytes;
+use nt_bytes::{HiveVersion, Names};
 use reg_tree::Key;
 use regf_base::BaseBlock;
 use std::alloc::{AllocError, Global};
 use std::marker::Model;
 
-/// A hive in memory: its base block, its bins data as the disk carries them, and its tree with the edits
-/// since. The tree is one that a hive can hold.
+/// A hive in memory: its base block, its bins data as the disk carries them, and its cells with the edits since.
+/// A tree that a hive can hold stands in them.
 #[derive(Drop)]
 pub struct Hive {
     pub(crate) base: BaseBlock,
-    pub(crate) bins: Bytes,
-    pub(crate) tree: Key,
-    /// The packed tree, where an edit gave another one. A second edit may have undone it.
-    pub(crate) next: Option<Bytes>,
+    pub(crate) bins: Kept,
+    pub(crate) cells: HiveBytes,
+    /// Whether an edit gave another tree. A second edit may have undone it.
+    pub(crate) changed: bool,
 }
 
 impl Model for Hive {
@@ -29,9 +32,9 @@ impl Model for Hive {
 
     ghost coded = { coded_session };
 
-    ghost view = { λ h. session_of h.base h.bins h.tree h.next };
+    ghost view = { λ h. session_of h.base h.bins h.cells h.changed };
 
-    ghost invariant = { λ h. IsSession h.base h.bins h.tree h.next };
+    ghost invariant = { λ h. IsSession h.base h.bins h.cells h.changed };
 }
 
 impl Hive {
@@ -53,7 +56,17 @@ impl Hive {
     pub fn changed(&self) -> bool
         ensures { result ≡ self.now.changed }
     {
-        self.next.is_some()
+        self.changed
+    }
+
+    /// The hive as its cells. Until an edit gives another tree, they are those that the disk carries.
+    pub fn cells(&self) -> &HiveBytes
+        ensures cells { result.now ≡ self.now.cells }
+        ensures tree { self.now.tree ≡ self.now.cells.tree }
+        ensures version { self.now.cells.version ≡ version_of self.now.base.minor }
+        ensures carried { self.now.changed ≡ false → AreCarried self.now.base self.now.bins self.now.cells }
+    {
+        &self.cells
     }
 
     /// The number under a name in the key that a path leads to, where there is such a key with a value of type 4
@@ -61,15 +74,14 @@ impl Hive {
     pub fn dword(&self, path: &Names, name: &[u16]) -> Option<u32>
         ensures { result ≡ found_dword path.now name.now self.now.tree }
     {
-        let key = self.tree.find(path)?;
-        key.dword(name)
+        self.cells.dword(path, name)
     }
 
     /// Whether a path leads to a key.
     pub fn has(&self, path: &Names) -> bool
         ensures { result ≡ is_some (find_key path.now self.now.tree) }
     {
-        self.tree.has_key(path)
+        self.cells.has(path)
     }
 
     /// The key that a path leads to, with all below it, in memory of its own.
@@ -77,30 +89,13 @@ impl Hive {
         ensures found { IfOk result (λ key. key ≡ find_key path.now self.now.tree) }
         ensures fits { (t : Tree) → find_key path.now self.now.tree ≡ Some t → FitsBelow path.now t }
     {
-        match self.tree.find(path) {
-            Some(key) => Ok(Some(key.copy(alloc)?)),
-            None => Ok(None),
-        }
+        self.cells.subtree(alloc, path)
     }
 
     /// The names of the children of the key that a path leads to, in order. None where there is no such key.
     pub fn names_below(&self, alloc: Global, path: &Names) -> Result<Names, AllocError>
         ensures { IfOk result (λ names. names ≡ found_names path.now self.now.tree) }
     {
-        match self.tree.find(path) {
-            Some(key) => names_of(alloc, key.subkeys()),
-            None => Ok(Names::new(alloc)),
-        }
+        self.cells.names_below(alloc, path)
     }
-}
-
-/// The names of keys, in order.
-fn names_of(alloc: Global, keys: &[Key]) -> Result<Names, AllocError>
-    ensures { IfOk result (λ names. names ≡ map (λ key. (head key).name) keys.now) }
-{
-    let mut names = Names::new(alloc);
-    for key in keys {
-        names.push(key.name.copy(alloc)?)?;
-    }
-    Ok(names)
 }

@@ -1,7 +1,7 @@
 //! A session on a hive: loaded from a disk, looked into, edited, committed.
 //!
-//! `Hive::load` checks the whole hive before it writes, `apply` makes room for the next commit, and
-//! `commit` takes no memory. Whatever the power does, a start finds a state from before or after.
+//! `Hive::load` checks the whole hive before it writes and makes room for what the disk carries, `apply` edits
+//! the cells, and `commit` takes no memory. Whatever the power does, a start finds a state from before or after.
 //! Rules: docs/format.md, "Commit and recovery".
 #![tactic(auto)]
 
@@ -10,6 +10,8 @@ mod committing;
 mod editing;
 mod hive;
 mod loading;
+mod room;
+mod same;
 
 pub use checking::check_images;
 pub use hive::Hive;

@@ -16,10 +16,11 @@ ghost use Rattle.hive_log.specs.Stops.{IsLookAt, IsLoadOn};
 ghost use Rattle.hive_commit.specs.Alone.{KeepsClean};
 ghost use Rattle.hive_commit.specs.Calls.{MakesRecovery};
 ghost use Rattle.hive_commit.specs.Untouched.{IsUntouched, IsUnwritten};
+ghost use Rattle.hive_store.specs.Session.{AreCarried};
 ghost use Rattle.hive_store.specs.Loading.{loaded_state, LoadsFrom, StopsFrom, AreOfLoad};
 
 use crate::Hive;
-use crate::checking::tree_in;
+use crate::checking::hive_in;
 use hive_commit::restore;
 use hive_log::{LoadStop, Reading, read_recovered};
 use nt_bytes::{Bytes, ReadStop};
@@ -51,17 +52,18 @@ fn look<D: Disk>(alloc: Global, disk: &mut D) -> Result<Looked, LoadStop>
         → Found (D.state disk.old).held x.hive.base x.bitmap x.hive.bins) }
     ensures sized { IfOk result (λ x. is_bins_size (length x.hive.bins) ≡ true) }
     ensures unchanged { IfOk result (λ x. x.hive.changed ≡ false) }
+    ensures cells { IfOk result (λ x. AreCarried x.hive.base x.hive.bins x.hive.cells) }
     ensures look { IsLookAt D.tells (D.state disk.old) (D.state disk.new) result }
 {
     let Reading { recovered, bitmap } = read_recovered(alloc, disk)?;
     let (base, dirty) = (recovered.base, recovered.dirty);
-    match tree_in(alloc, recovered) {
-        Ok((tree, bins)) => Ok(Looked {
+    match hive_in(alloc, recovered) {
+        Ok((cells, bins)) => Ok(Looked {
             hive: Hive {
                 base,
                 bins,
-                tree,
-                next: None,
+                cells,
+                changed: false,
             },
             dirty,
             bitmap,
@@ -85,9 +87,10 @@ impl Hive {
         // At Ok the tree and the number are what the disk loads as, and so is whether it was dirty; a fault is its first.
         ensures exact { D.tells ≡ true → LoadsFrom (D.state disk.old).held result }
         ensures unchanged { IfOk result (λ x. x.0.changed ≡ false) }
-        // Then the disk is clean, and carries the session's base block and bins data.
+        // Then the disk is clean, and carries the session's base block and bins data, which are the bytes of its cells.
         ensures still { D.tells ≡ true → OnOk result ((D.state disk.new).flight ≡ []) }
         ensures carries { D.tells ≡ true → IfOk result (λ x. Carries (D.state disk.new).held x.0.base x.0.bins) }
+        ensures cells { IfOk result (λ x. AreCarried x.0.base x.0.bins x.0.cells) }
         ensures loads { D.tells ≡ true → IfOk result (λ x. Loads (D.state disk.new).held (loaded_state x.0) false) }
         // At every exit a cut leaves what loads as the disk did at entry.
         ensures crash { D.tells ≡ true → (s : HiveState) (dirty : Bool)

@@ -4,7 +4,7 @@ use Rattle.hive_model.specs.Edit.{edited}
 use Rattle.hive_model.specs.Tree.{Tree}
 use Rattle.reg_tree.specs.Makes.{Makes, step_of}
 use Rattle.reg_tree.specs.declared.stop.EditStop.{EditStop}
-use Rattle.hive_store.proofs.EditingLemmas.{edited_fits}
+use Rattle.hive_alt.proofs.EditingLemmas.{edited_fits}
 use Rattle.hive_alt.specs.Changes.{Change}
 use Rattle.hive_alt.specs.Plans.{IsPlanOf}
 use Rattle.hive_alt.proofs.ChangeLemmas.{plan_made, plan_full}
