@@ -1,7 +1,7 @@
 -- What are the steps of the machine, where the book has no word for them? (this project's own)
 use Rattle.std.specs.Prelude.{◌≡◌, ℕ, Bool, true, false, not, [], ◌∷◌, ◌++◌, slice_get, remove, Option, Some, None, option_map, if◌then◌else◌}
 use Rattle.nt_bytes.specs.Folding.{folded}
-use Rattle.start_model.specs.Entries.{Entry}
+use Rattle.start_model.specs.Entries.{Entry, Phase, Boot, System, Automatic, Done}
 use Rattle.start_model.specs.Lines.{Verdict, Good, GoodUnsaved, Running, FallBack, Stopped, Cut, Device, Full, NoNumber, NoEntry, OtherLoader, NoSystem, NoControlSet, NoLastKnownGood}
 use Rattle.start_model.specs.Machine.{Start, MachineState, next_in, label_of}
 
@@ -17,6 +17,18 @@ on_start change m = record m { start = option_map change m.start }
 abbrev pub is_at_end : Option Start → Bool
 is_at_end None = true
 is_at_end (Some s) = not (is_there (next_in s))
+
+-- no entries are taken behind the phase
+abbrev pub is_last_phase : Phase → Bool
+is_last_phase Boot = false
+is_last_phase System = false
+is_last_phase Automatic = true
+is_last_phase Done = true
+
+-- no start runs that takes entries behind its phase
+abbrev pub is_in_last_phase : Option Start → Bool
+is_in_last_phase None = true
+is_in_last_phase (Some s) = is_last_phase s.phase
 
 -- an attempt is noted: the name as tried, and the entry as started where it was
 abbrev pub noted : Start → Entry → Bool → Start

@@ -2,19 +2,20 @@
 
 ghost use Rattle.std.specs.Prelude.{◌≡◌, true, false, [], IfOk, OnOk, OnErr, Some, None, option_map, option_and_then};
 ghost use Rattle.std.specs.Option.{option_map_or};
+ghost use Rattle.hive_model.specs.Tree.{Tree};
 ghost use Rattle.hive_model.specs.Valid.{HoldsKeys};
 ghost use Rattle.boot_phases.specs.Phases.{phase_in};
 ghost use Rattle.boot_report.specs.Report.{verdict_of};
 ghost use Rattle.start_model.specs.Entries.{Done};
 ghost use Rattle.start_model.specs.Machine.{off_machine, failing, attempt_of, after_phase, unmet_in, begun_with, with_start, save_due, ending_of, ended, refusal_of};
-ghost use Rattle.boot_machine.specs.Steps.{is_there, on_start, is_at_end, falls_back};
+ghost use Rattle.boot_machine.specs.Steps.{is_there, on_start, is_at_end, is_in_last_phase, falls_back};
 ghost use Rattle.boot_machine.specs.Views.{event_in, tried_in, Answers};
 
 use crate::accept::{accept_off, accept_running};
 use crate::attempt::attempt;
 use crate::failures::Failures;
 use crate::refusal::Refusal;
-use crate::start::Start;
+use crate::start::{Start, is_last};
 use crate::tried::Tried;
 use boot_phases::Phase;
 use boot_report::Verdict;
@@ -136,6 +137,23 @@ impl Machine {
         ensures ok { OnOk result (self.new ≡ with_start (begun_with set.now number on_last_known_good) self.old) }
         ensures kept { OnErr result (self.new ≡ self.old) }
     {
+        let clone = set.copy(alloc)?;
+        self.begin_with(alloc, clone, number, on_last_known_good)
+    }
+
+    /// Begins a start as `begin` does, and keeps the set itself as the clone.
+    pub fn begin_with(
+        &mut self,
+        alloc: Global,
+        set: Key,
+        number: u32,
+        on_last_known_good: bool,
+    ) -> Result<(), AllocError>
+        requires off { is_there self.old.start ≡ false }
+        requires keys { HoldsKeys set }
+        ensures ok { OnOk result (self.new ≡ with_start (begun_with set number on_last_known_good) self.old) }
+        ensures kept { OnErr result (self.new ≡ self.old) }
+    {
         let start = Start::begun(alloc, set, number, on_last_known_good)?;
         self.start = Some(start);
         Ok(())
@@ -174,6 +192,29 @@ impl Machine {
     {
         match &mut self.start {
             Some(start) => start.next_phase(alloc, set),
+            None => Ok(Names::new(alloc)),
+        }
+    }
+
+    /// Whether no entries are taken behind the phase, or no start runs.
+    pub fn in_last_phase(&self) -> bool
+        ensures { result ≡ is_in_last_phase self.now.start }
+    {
+        match &self.start {
+            Some(start) => is_last(start.phase()),
+            None => true,
+        }
+    }
+
+    /// Goes on from the last phase as `next_phase` does, whatever the set is now. Where no start runs nothing is done.
+    pub fn end_phases(&mut self, alloc: Global) -> Result<Names, AllocError>
+        requires { is_in_last_phase self.old.start ≡ true }
+        ensures machine { IfOk result (λ _. (set : Tree) → self.new ≡ on_start (after_phase set) self.old) }
+        ensures unmet { IfOk result (λ names. names ≡ option_map_or unmet_in self.old.start []) }
+        ensures kept { OnErr result (self.new ≡ self.old) }
+    {
+        match &mut self.start {
+            Some(start) => start.end_phases(alloc),
             None => Ok(Names::new(alloc)),
         }
     }

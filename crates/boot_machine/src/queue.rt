@@ -81,6 +81,13 @@ impl Queue {
         self.waiting.tried(place, ok, &mut tests);
     }
 
+    /// Who was started, before the phase and in it.
+    pub(crate) fn started(&self, alloc: Global) -> Result<Started, AllocError>
+        ensures { IfOk result (λ started. started ≡ self.now.started) }
+    {
+        self.waiting.started(alloc)
+    }
+
     /// The names of the entries that wait.
     pub(crate) fn names(&self, alloc: Global) -> Result<Names, AllocError>
         ensures { IfOk result (λ names. names ≡ map (λ e. e.name) self.now.waiting) }

@@ -1,14 +1,14 @@
 //! A start that runs.
 
-ghost use Rattle.std.specs.Prelude.{◌≡◌, ◌∷◌, [], ◌++◌, ◌==◌, ◌<◌, vec_len, vec_capacity, true, not, Some, None, map, IfOk, OnOk, OnErr, option_map, if◌then◌else◌};
-ghost use Rattle.std.specs.Option.{option_copied};
+ghost use Rattle.std.specs.Prelude.{◌≡◌, ℕ, List, ◌∷◌, [], ◌++◌, ◌==◌, ◌<◌, vec_len, vec_capacity, true, not, Some, None, map, IfOk, OnOk, OnErr, option_map, if◌then◌else◌};
 ghost use Rattle.nt_bytes.specs.Folding.{folded};
+ghost use Rattle.hive_model.specs.Tree.{Tree};
 ghost use Rattle.hive_model.specs.Valid.{HoldsKeys};
 ghost use Rattle.boot_phases.specs.Phases.{phase_in};
 ghost use Rattle.boot_report.specs.Report.{verdict_of};
 ghost use Rattle.start_model.specs.Order.{plan_of};
 ghost use Rattle.start_model.specs.Machine.{next_in, label_of, failures_of, one_failure_less, phase_after, unmet_in, after_phase, begun_with, is_done, takes_logons, is_good, save_due, ending_with, ending_of};
-ghost use Rattle.boot_machine.specs.Steps.{is_there, AttemptsNext};
+ghost use Rattle.boot_machine.specs.Steps.{is_there, is_last_phase, AttemptsNext};
 
 use crate::failures::{Failures, folded_units};
 use crate::queue::Queue;
@@ -30,7 +30,6 @@ pub(crate) struct Start {
     pub(crate) queue: Queue,
     /// Folded.
     pub(crate) tried: Vec<Units>,
-    pub(crate) started: Started,
     pub(crate) logged_on: bool,
     pub(crate) saved: Option<bool>,
     pub(crate) clone: Option<Key>,
@@ -40,42 +39,37 @@ impl Model for Start {
     ghost use Rattle.start_model.specs.Machine.{Start as Running};
     ghost use Rattle.boot_machine.specs.Codes.{coded_start};
     ghost use Rattle.boot_phases.specs.Phases.{phase_in};
-    ghost use Rattle.std.specs.Prelude.{◌≡◌};
 
     ghost Value = { Running };
 
     ghost coded = { coded_start };
 
-    ghost view = { λ a. record { number = a.number; on_good = a.on_good; phase = phase_in a.phase; waiting = a.queue.waiting; tried = a.tried.items; started = a.started; logged_on = a.logged_on; saved = a.saved; clone = a.clone } };
-
-    ghost invariant = { λ a. a.queue.started ≡ a.started };
+    ghost view = { λ a. record { number = a.number; on_good = a.on_good; phase = phase_in a.phase; waiting = a.queue.waiting; tried = a.tried.items; started = a.queue.started; logged_on = a.logged_on; saved = a.saved; clone = a.clone } };
 }
 
 impl Start {
-    /// A start at the beginning of its boot phase. It copies the set as its clone.
+    /// A start at the beginning of its boot phase. The set is its clone.
     pub(crate) fn begun(
         alloc: Global,
-        set: &Key,
+        set: Key,
         number: u32,
         on_good: bool,
     ) -> Result<Start, AllocError>
-        requires { HoldsKeys set.now }
-        ensures { IfOk result (λ s. s ≡ begun_with set.now number on_good) }
+        requires { HoldsKeys set }
+        ensures { IfOk result (λ s. s ≡ begun_with set number on_good) }
     {
         let tried = Vec::new(alloc);
         let started = Started::new(alloc);
-        let queue = planned(alloc, set, Phase::Boot, tried.as_slice(), &started)?;
-        let clone = set.copy(alloc)?;
+        let queue = planned(alloc, &set, Phase::Boot, tried.as_slice(), &started)?;
         Ok(Start {
             number,
             on_good,
             phase: Phase::Boot,
             queue,
             tried,
-            started,
             logged_on: false,
             saved: None,
-            clone: Some(clone),
+            clone: Some(set),
         })
     }
 
@@ -128,7 +122,7 @@ impl Start {
     {
         let entry = self.queue.first().copy(alloc)?;
         let ok = !failures.has(entry.name.as_slice());
-        note(alloc, &mut self.tried, &mut self.started, &entry, ok)?;
+        note(alloc, &mut self.tried, &entry)?;
         self.queue.take_first(ok);
         failures.take(entry.name.as_slice());
         Ok((entry, ok))
@@ -142,7 +136,24 @@ impl Start {
         ensures kept { OnErr result (self.new ≡ self.old) }
     {
         let phase = phase_after(self.phase);
-        let queue = planned(alloc, set, phase, self.tried.as_slice(), &self.started)?;
+        let started = self.queue.started(alloc)?;
+        let queue = planned(alloc, set, phase, self.tried.as_slice(), &started)?;
+        let unmet = self.queue.names(alloc)?;
+        self.phase = phase;
+        self.queue = queue;
+        Ok(unmet)
+    }
+
+    /// Goes on from the last phase, behind which nothing is taken of a set, and answers the names of those that wait.
+    pub(crate) fn end_phases(&mut self, alloc: Global) -> Result<Names, AllocError>
+        requires { is_last_phase self.old.phase ≡ true }
+        ensures start { IfOk result (λ _. (set : Tree) → self.new ≡ after_phase set self.old) }
+        ensures unmet { IfOk result (λ names. names ≡ unmet_in self.old) }
+        ensures kept { OnErr result (self.new ≡ self.old) }
+    {
+        let phase = phase_after(self.phase);
+        let started = self.queue.started(alloc)?;
+        let queue = nothing_planned(alloc, self.phase, &started)?;
         let unmet = self.queue.names(alloc)?;
         self.phase = phase;
         self.queue = queue;
@@ -219,6 +230,17 @@ fn planned(
     Queue::new(alloc, entries.into_vec(), started)
 }
 
+/// The entries behind a last phase, which are none, whatever the set is.
+fn nothing_planned(alloc: Global, last: Phase, started: &Started) -> Result<Queue, AllocError>
+    requires { is_last_phase (phase_in last) ≡ true }
+    ensures { IfOk result (λ q. (set : Tree) (tried : List (List ℕ)) → q ≡ record { waiting = plan_of set (phase_after (phase_in last)) tried; started = started.now }) }
+{
+    match last {
+        Phase::Automatic | Phase::Done => Queue::new(alloc, Vec::new(alloc), started),
+        Phase::Boot | Phase::System => unreachable!(),
+    }
+}
+
 // ---- phases
 
 fn phase_after(phase: Phase) -> Phase
@@ -237,6 +259,16 @@ pub(crate) fn is_done(phase: Phase) -> bool
     match phase {
         Phase::Done => true,
         Phase::Boot | Phase::System | Phase::Automatic => false,
+    }
+}
+
+/// Whether no entries are taken behind the phase.
+pub(crate) fn is_last(phase: Phase) -> bool
+    ensures { result ≡ is_last_phase (phase_in phase) }
+{
+    match phase {
+        Phase::Automatic | Phase::Done => true,
+        Phase::Boot | Phase::System => false,
     }
 }
 
@@ -263,57 +295,13 @@ fn put(names: &mut Vec<Units>, name: Units)
     }
 }
 
-/// Notes the name of an entry as tried, and the entry as started where it was.
-fn note(
-    alloc: Global,
-    tried: &mut Vec<Units>,
-    started: &mut Started,
-    entry: &Entry,
-    ok: bool,
-) -> Result<(), AllocError>
+/// Notes the name of an entry as tried.
+fn note(alloc: Global, tried: &mut Vec<Units>, entry: &Entry) -> Result<(), AllocError>
     ensures tried { OnOk result (tried.new.items ≡ tried.old.items ++ folded entry.now.name ∷ []) }
-    ensures started { OnOk result (started.new ≡ (if ok then started.old ++ label_of entry.now ∷ [] else started.old)) }
-    ensures tried_kept { OnErr result (tried.new.items ≡ tried.old.items) }
-    ensures started_kept { OnErr result (started.new ≡ started.old) }
+    ensures kept { OnErr result (tried.new.items ≡ tried.old.items) }
 {
     let name = folded_units(alloc, entry.name.as_slice())?;
     tried.reserve(1)?;
-    note_started(alloc, started, entry, ok)?;
     put(tried, name);
     Ok(())
-}
-
-/// Notes an entry as started where it was.
-fn note_started(
-    alloc: Global,
-    started: &mut Started,
-    entry: &Entry,
-    ok: bool,
-) -> Result<(), AllocError>
-    ensures ok { OnOk result (started.new ≡ (if ok then started.old ++ label_of entry.now ∷ [] else started.old)) }
-    ensures kept { OnErr result (started.new ≡ started.old) }
-{
-    if ok {
-        let (name, group) = label(alloc, entry)?;
-        started.push(alloc, name, group)?;
-    }
-    Ok(())
-}
-
-/// The folded name, and the folded group where there is one.
-fn label(alloc: Global, entry: &Entry) -> Result<(Units, Option<Units>), AllocError>
-    ensures { IfOk result (λ l. l ≡ label_of entry.now) }
-{
-    let name = folded_units(alloc, entry.name.as_slice())?;
-    let group = folded_group(alloc, entry.group.as_ref())?;
-    Ok((name, group))
-}
-
-fn folded_group(alloc: Global, group: Option<&Units>) -> Result<Option<Units>, AllocError>
-    ensures { IfOk result (λ g. g ≡ option_map folded (option_copied group.entry)) }
-{
-    match group {
-        Some(name) => Ok(Some(folded_units(alloc, name.as_slice())?)),
-        None => Ok(None),
-    }
 }

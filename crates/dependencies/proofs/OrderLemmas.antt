@@ -1,5 +1,5 @@
 -- Names in their folded order: what a search finds among them, and what one more does to runs of them.
-use Rattle.std.proofs.Common.{◌≡◌, ℕ, zero, suc, ◌<◌, Bool, true, false, ◌||◌, List, [], ◌∷◌, ◌++◌, length, get_or, take, drop, Result, Ok, Err, Option, Some, None, IfOk, IfErr, inl, inr, refl, sym, ap, ◌∙◌, arith}
+use Rattle.std.proofs.Common.{◌≡◌, ℕ, zero, suc, ◌<◌, Bool, true, false, ◌||◌, List, [], ◌∷◌, ◌++◌, length, map, get_or, take, drop, Result, Ok, Err, Option, Some, None, IfOk, IfErr, inl, inr, refl, sym, ap, ◌∙◌, arith}
 use Rattle.std.specs.List.{list_any, flat_map, HoldsAt}
 use Rattle.std.specs.List.Sorted.{IsPermutation, IsSearchInRange, IsBinarySearchResult}
 use Rattle.std.specs.Cmp.{IsStrictWeakOrder}
@@ -146,4 +146,28 @@ pushed entries entries' names names' groups groups' name group own old same name
   by_group = λ q.
       groups_has q ∙ alike_own q ∙ ap (λ b. b || is_that group q) (old.by_group q)
       ∙ sym (any_push (λ (s : Label). option_map_or (folds_same q) s.1 false) entries (name, group)) ∙ ap (λ es. has_group es q) (sym same);
+}
+
+-- one run alone
+pub in_one_run : (runs : List (List (List ℕ))) (run names : List (List ℕ)) (q : List ℕ) → runs ≡ [] ++ run ∷ [] → ((p : List ℕ) → is_among run p ≡ is_among names p) → stands_in runs q ≡ is_among names q
+in_one_run runs run names q is has = ap (λ rs. stands_in rs q) is ∙ or_false (is_among run q) ∙ has q
+
+-- ---- those that were started, as one run of names and one of groups
+
+names_have : (started : List Label) (q : List ℕ) → is_among (map (λ s. s.0) started) q ≡ has_name started q
+names_have [] q = refl
+names_have (s ∷ ss) q = ap (λ b. folds_same q s.0 || b) (names_have ss q)
+
+groups_have : (started : List Label) (q : List ℕ) → is_among (flat_map (λ s. option_to_list s.1) started) q ≡ has_group started q
+groups_have [] q = refl
+groups_have (s ∷ ss) q =
+    list_any-append (folds_same q) (option_to_list s.1) (flat_map (λ (t : Label). option_to_list t.1) ss)
+    ∙ (λ i. any_some (folds_same q) s.1 i || groups_have ss q i)
+
+pub indexed : (started : List Label) (names groups : List (List ℕ)) (name_runs group_runs : List (List (List ℕ)))
+    → names ≡ map (λ s. s.0) started → ((q : List ℕ) → stands_in name_runs q ≡ is_among names q)
+    → groups ≡ flat_map (λ s. option_to_list s.1) started → ((q : List ℕ) → stands_in group_runs q ≡ is_among groups q) → IsIndexed started name_runs group_runs
+indexed started names groups name_runs group_runs names_are in_names groups_are in_groups = record {
+  by_name = λ q. in_names q ∙ ap (λ ns. is_among ns q) names_are ∙ names_have started q;
+  by_group = λ q. in_groups q ∙ ap (λ gs. is_among gs q) groups_are ∙ groups_have started q;
 }

@@ -45,6 +45,16 @@ fn unlisted_name(
     }
 }
 
+/// These names as one run.
+pub(crate) fn one_run(alloc: Global, names: Vec<Units>) -> Result<Vec<NamesInOrder>, AllocError>
+    ensures { IfOk result (λ runs. (q : List ℕ) → stands_in runs.items q ≡ is_among names.items q) }
+{
+    let only = NamesInOrder::new(names)?;
+    let mut runs = Vec::new(alloc);
+    runs.push(only)?;
+    Ok(runs)
+}
+
 /// How many runs stay where a name comes to so many, and the run that goes behind them.
 pub(crate) fn carried(
     alloc: Global,
@@ -101,7 +111,7 @@ fn append(alloc: Global, names: &[Units], all: &mut Vec<Units>) -> Result<(), Al
 }
 
 /// Puts a name behind the others, where there is one.
-fn push_some(names: &mut Vec<Units>, name: Option<Units>) -> Result<(), AllocError>
+pub(crate) fn push_some(names: &mut Vec<Units>, name: Option<Units>) -> Result<(), AllocError>
     ensures { OnOk result (names.new.items ≡ names.old.items ++ option_to_list name) }
 {
     match name {

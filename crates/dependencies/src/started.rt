@@ -1,10 +1,12 @@
 //! Who was started, found by name and by group without a scan.
 
-ghost use Rattle.std.specs.Prelude.{◌≡◌, ◌<◌, ◌∷◌, ◌++◌, [], IfOk, OnOk, OnErr, vec_len, vec_capacity};
+ghost use Rattle.std.specs.Prelude.{◌≡◌, ◌<◌, ◌∷◌, ◌++◌, [], map, IfOk, OnOk, OnErr, vec_len, vec_capacity};
+ghost use Rattle.std.specs.List.{flat_map};
+ghost use Rattle.std.specs.Option.{option_to_list};
 ghost use Rattle.start_model.specs.Ready.{has_name, has_group};
 
 use crate::order::NamesInOrder;
-use crate::runs::{carried, replace, stands_in, unlisted};
+use crate::runs::{carried, one_run, push_some, replace, stands_in, unlisted};
 use nt_bytes::Units;
 use std::alloc::{AllocError, Global};
 use std::marker::Model;
@@ -40,6 +42,24 @@ impl Started {
             names: Vec::new(alloc),
             groups: Vec::new(alloc),
         }
+    }
+
+    /// These entries, the first one first. Takes n log n time in their number.
+    pub(crate) fn of(
+        alloc: Global,
+        entries: Vec<(Units, Option<Units>)>,
+    ) -> Result<Started, AllocError>
+        ensures { IfOk result (λ s. s ≡ entries.items) }
+    {
+        let name_list = names_of(alloc, entries.as_slice())?;
+        let group_list = groups_of(alloc, entries.as_slice())?;
+        let names = one_run(alloc, name_list)?;
+        let groups = one_run(alloc, group_list)?;
+        Ok(Started {
+            entries,
+            names,
+            groups,
+        })
     }
 
     /// Puts an entry behind the others. Without memory for it they stay as they were.
@@ -139,4 +159,26 @@ pub(crate) fn copied_labels(
         made.push((name, group))?;
     }
     Ok(made)
+}
+
+/// The name of each entry, in order.
+fn names_of(alloc: Global, labels: &[(Units, Option<Units>)]) -> Result<Vec<Units>, AllocError>
+    ensures { IfOk result (λ names. names.items ≡ map (λ l. l.0) labels.now) }
+{
+    let mut names = Vec::new(alloc);
+    for label in labels {
+        names.push(label.0.copy(alloc)?)?;
+    }
+    Ok(names)
+}
+
+/// The group of each entry that has one, in order.
+fn groups_of(alloc: Global, labels: &[(Units, Option<Units>)]) -> Result<Vec<Units>, AllocError>
+    ensures { IfOk result (λ groups. groups.items ≡ flat_map (λ l. option_to_list l.1) labels.now) }
+{
+    let mut groups = Vec::new(alloc);
+    for label in labels {
+        push_some(&mut groups, copied(alloc, &label.1)?)?;
+    }
+    Ok(groups)
 }

@@ -1,19 +1,21 @@
 //! The entries of a phase that still wait, and the next of them.
 
-ghost use Rattle.std.specs.Prelude.{◌≡◌, ◌<◌, ◌≤◌, ◌^◌, ◌+◌, ◌-◌, ◌∷◌, ◌++◌, [], true, length, replicate, vec_len, vec_capacity, IfOk, IfSome, OnOk, OnErr};
-ghost use Rattle.std.specs.List.{items_where_true, range_with_len};
+ghost use Rattle.std.specs.Prelude.{◌≡◌, ◌<◌, ◌≤◌, ◌^◌, ◌+◌, ◌-◌, ◌∷◌, ◌++◌, [], true, length, replicate, slice_get, vec_len, vec_capacity, IfOk, IfSome, OnOk, OnErr};
+ghost use Rattle.std.specs.List.{flat_map, items_where_true, range_with_len};
+ghost use Rattle.std.specs.Option.{option_map, option_to_list};
+ghost use Rattle.nt_bytes.specs.Folding.{folded};
 ghost use Rattle.start_model.specs.Demand.{member};
 ghost use Rattle.dependencies.specs.Wants.{AreReadyBut};
-ghost use Rattle.dependencies.specs.Waiting.{raised, name_count, unmet_count, next_place_in, places_in, after_trying};
+ghost use Rattle.dependencies.specs.Waiting.{raised, name_count, unmet_count, next_place_in, places_in, after_trying, label_of, labels_at};
 
 use crate::meeting::{meet_group, meet_name, refresh};
-use crate::need::{Needs, Places};
+use crate::need::{Need, Needs, Places};
 use crate::place_set::PlaceSet;
 use crate::started::{Started, copied_labels};
 use crate::test_count::TestCount;
 use crate::wants::{Kind, Wants, test_all, wanted};
 use name_places::NamePlaces;
-use nt_bytes::Units;
+use nt_bytes::{Units, fold};
 use std::alloc::{AllocError, Global};
 use std::marker::Model;
 
@@ -148,6 +150,20 @@ impl Waiting {
         );
     }
 
+    /// Who was started, before the phase and in it. Takes n log n time in their number.
+    pub fn started(&self, alloc: Global) -> Result<Started, AllocError>
+        ensures { IfOk result (λ started. started ≡ self.now.started) }
+    {
+        let mut labels = copied_labels(alloc, self.first.as_slice())?;
+        append_labels(
+            alloc,
+            self.needs.as_slice(),
+            self.done.as_slice(),
+            &mut labels,
+        )?;
+        Started::of(alloc, labels)
+    }
+
     /// The places of the entries that wait, rising.
     pub fn left(&self, alloc: Global) -> Result<Places, AllocError>
         ensures { IfOk result (λ places. places ≡ places_in self.now) }
@@ -193,4 +209,75 @@ fn places_left(alloc: Global, waits: &[bool]) -> Result<Places, AllocError>
         }
     }
     Ok(places)
+}
+
+/// Puts what is kept of the entries at these places behind the others.
+fn append_labels(
+    alloc: Global,
+    needs: &[Need],
+    places: &[u32],
+    labels: &mut Vec<(Units, Option<Units>)>,
+) -> Result<(), AllocError>
+    ensures { OnOk result (labels.new.items ≡ labels.old.items ++ flat_map (labels_at needs.now) places.now) }
+{
+    for place in places {
+        push_label(labels, label_at(alloc, needs, *place)?)?;
+    }
+    Ok(())
+}
+
+/// What is kept of the entry at a place, where there is one.
+fn label_at(
+    alloc: Global,
+    needs: &[Need],
+    place: u32,
+) -> Result<Option<(Units, Option<Units>)>, AllocError>
+    ensures { IfOk result (λ l. l ≡ option_map label_of (slice_get needs.now place)) }
+{
+    match needs.get(place as usize) {
+        Some(need) => Ok(Some(label(alloc, need)?)),
+        None => Ok(None),
+    }
+}
+
+/// Puts what is kept of an entry behind the others, where there is one.
+fn push_label(
+    labels: &mut Vec<(Units, Option<Units>)>,
+    label: Option<(Units, Option<Units>)>,
+) -> Result<(), AllocError>
+    ensures { OnOk result (labels.new.items ≡ labels.old.items ++ option_to_list label) }
+{
+    match label {
+        Some(known) => {
+            labels.push(known)?;
+            Ok(())
+        }
+        None => Ok(()),
+    }
+}
+
+/// The folded name, and the folded group where there is one.
+fn label(alloc: Global, need: &Need) -> Result<(Units, Option<Units>), AllocError>
+    ensures { IfOk result (λ l. l ≡ label_of need.now) }
+{
+    let name = folded(alloc, need.name.as_slice())?;
+    let group = folded_group(alloc, &need.group)?;
+    Ok((name, group))
+}
+
+fn folded_group(alloc: Global, group: &Option<Units>) -> Result<Option<Units>, AllocError>
+    ensures { IfOk result (λ g. g ≡ option_map folded group.now) }
+{
+    match group {
+        Some(name) => Ok(Some(folded(alloc, name.as_slice())?)),
+        None => Ok(None),
+    }
+}
+
+/// A name with each unit folded.
+fn folded(alloc: Global, name: &[u16]) -> Result<Units, AllocError>
+    ensures { IfOk result (λ u. u ≡ folded name.now) }
+{
+    let units: Vec<u16> = name.iter().map(|u| fold(*u)).collect(alloc)?;
+    Ok(Units::from_vec(units))
 }

@@ -53,7 +53,8 @@ impl Wants {
     /// Whether a want is met.
     pub(crate) fn is_met(&self, want: usize) -> bool
         requires { want < length self.now.met }
-        ensures { result ≡ member self.now.met want }
+        ensures met { result ≡ member self.now.met want }
+        ensures paired { length self.now.owners ≡ length self.now.met }
     {
         self.met[want]
     }
@@ -78,14 +79,22 @@ impl Wants {
     /// Marks a want as met.
     pub(crate) fn mark(&mut self, want: usize)
         requires { want < length self.old.met }
-        ensures marked { self.new ≡ record self.old { met = slice_set self.old.met want true } }
-        ensures paired { length self.old.owners ≡ length self.old.met }
+        ensures { self.new ≡ record self.old { met = slice_set self.old.met want true } }
     {
-        if !self.met[want] {
-            self.met[want] = true;
-            let owner = self.owners[want];
-            self.unmet[owner] -= 1;
+        if !self.is_met(want) {
+            self.lower(want);
         }
+    }
+
+    /// Marks a want that is not met yet, so that its owner wants one name less.
+    fn lower(&mut self, want: usize)
+        requires within { want < length self.old.met }
+        requires unmet { member self.old.met want ≡ false }
+        ensures { self.new ≡ record self.old { met = slice_set self.old.met want true } }
+    {
+        self.met[want] = true;
+        let owner = self.owners[want];
+        self.unmet[owner] -= 1;
     }
 }
 
