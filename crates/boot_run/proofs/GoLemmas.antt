@@ -1,9 +1,8 @@
 -- What steps of the starter come to, one behind another.
-use Rattle.std.proofs.Common.{◌≡◌, ℕ, zero, suc, ◌-◌, ◌<◌, ◌≤◌, ◌^◌, Bool, true, false, List, [], ◌∷◌, length, Option, Some, None, refl, sym, ap, subst, ◌∙◌, arith}
+use Rattle.std.proofs.Common.{◌≡◌, ℕ, zero, suc, ◌-◌, ◌<◌, ◌≤◌, ◌^◌, Bool, true, false, ◌+◌, List, [], ◌∷◌, length, Option, Some, None, refl, sym, ap, subst, ◌∙◌, arith}
 use Rattle.std.specs.Prelude.{Result, Ok, Err, IfOk, option_map}
 use Rattle.std.specs.Option.{unwrap_or}
 use Rattle.hive_model.specs.Tree.{Tree}
-use Rattle.hive_model.specs.Valid.{HoldsKeys}
 use Rattle.nt_edge.specs.Disk.{DiskState}
 use Rattle.hive_store.specs.Session.{Session}
 use Rattle.start_model.specs.Entries.{services_of}
@@ -17,23 +16,21 @@ use Rattle.run_parts.proofs.BreakLemmas.{breaks-then}
 use Rattle.boot_run.specs.declared.runner.Runner.{Runner}
 use Rattle.boot_run.specs.Agrees.{IsLive, IsRunningBy, Counts, Agrees, TurnLeft, OnLeft}
 use Rattle.boot_run.specs.Starts.{is_under_way, StepsTo}
-use Rattle.boot_run.proofs.StartLemmas.{few_services}
 use Rattle.boot_run.proofs.StepLemmas.{go_none, go_zero, go_next}
 
 -- ---- enough
 
-pub enough_most : (o : Option Start) (m : RunState) (tree set : Tree) (q : ℕ × Bool) → option_map (λ (s : Start). (s.number, s.on_good)) o ≡ Some q → m.live ≡ tree → set_of tree q.0 ≡ Some set → HoldsKeys set
-    → IsRunningBy o tree → enough_steps o m ≤ 18446744073709551615
-enough_most None m tree set q is live there held h = absurd h
-enough_most (Some s) m tree set q is live there held h =
+pub enough_most : (o : Option Start) (m : RunState) (tree : Tree) (q : ℕ × Bool) (count : ℕ) → option_map (λ (s : Start). (s.number, s.on_good)) o ≡ Some q → m.live ≡ tree
+    → count ≡ length (services_of (unwrap_or (set_of tree q.0) no_set)) → IsRunningBy o tree → enough_steps o m ≤ count + 4294967295 + 3
+enough_most None m tree q count is live many h = absurd h
+enough_most (Some s) m tree q count is live many h =
     let here : ℕ × Bool = (s.number, s.on_good) in
     let same : here ≡ q = cc in
     let number : s.number ≡ q.0 = ap (λ (p : ℕ × Bool). p.0) same in
-    let at : live_set m s.number ≡ set =
-    ap (λ (t : Tree). unwrap_or (set_of t s.number) no_set) live ∙ ap (λ (n : ℕ). unwrap_or (set_of tree n) no_set) number ∙ ap (λ (o : Option Tree). unwrap_or o no_set) there in
-    let P : Tree → Type 0 = λ t. length (services_of t) < 2 ^ 32 in
-    let few : length (services_of (live_set m s.number)) < 2 ^ 32 = subst P (sym at) (few_services set held) in
-    omega (arith, h.few, few)
+    let at : live_set m s.number ≡ unwrap_or (set_of tree q.0) no_set =
+    ap (λ (t : Tree). unwrap_or (set_of t s.number) no_set) live ∙ ap (λ (n : ℕ). unwrap_or (set_of tree n) no_set) number in
+    let services : length (services_of (live_set m s.number)) ≡ count = ap (λ (t : Tree). length (services_of t)) at ∙ sym many in
+    omega (arith, h.few, services)
 
 pub if_ok_map : {T E : Type 0} → (P Q : T → Type 0) (r : Result T E) → ((x : T) → P x → Q x) → IfOk r P → IfOk r Q
 if_ok_map P Q (Ok x) f h = f x h

@@ -14,6 +14,7 @@ pub mod SaveLemmas
 pub mod DueLemmas
 pub mod EditLemmas
 pub mod StartLemmas
+pub mod SetLemmas
 pub mod StepLemmas
 pub mod GoLemmas
 pub mod TurnLemmas

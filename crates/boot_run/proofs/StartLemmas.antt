@@ -2,8 +2,8 @@
 use Rattle.std.proofs.Common.{◌≡◌, ℕ, zero, suc, ◌+◌, ◌<◌, ◌≤◌, ◌^◌, Bool, true, false, not, cond, List, [], ◌∷◌, ◌++◌, length, map, Option, Some, None, refl, sym, ap, subst, ◌∙◌, arith, append-nil, append_assoc}
 use Rattle.std.proofs.lemmas.Bool.{false≢true}
 use Rattle.std.proofs.lemmas.List.Edits.{length-remove}
-use Rattle.std.specs.Prelude.{Result, Ok, Err, is_err, slice_get, remove, option_map, option_and_then, codes}
-use Rattle.std.specs.Option.{option_map_or, unwrap_or}
+use Rattle.std.specs.Prelude.{Result, Ok, Err, IfOk, OnOk, is_err, slice_get, remove, option_map, option_and_then, codes}
+use Rattle.std.specs.Option.{option_map_or, unwrap_or, is_some}
 use Rattle.hive_model.specs.Image.{Image}
 use Rattle.hive_model.specs.Tree.{Tree, key, listed, children, find_key}
 use Rattle.hive_model.specs.Valid.{HoldsKeys, IsKey}
@@ -15,6 +15,7 @@ use Rattle.hive_store.specs.Session.{Session}
 use Rattle.boot_report.specs.declared.words.Verdict.{Verdict as Word}
 use Rattle.boot_report.specs.Report.{verdict_of}
 use Rattle.start_model.specs.Entries.{Entry, Phase, Boot, System, Automatic, Done, services_of}
+use Rattle.start_model.specs.Order.{plan_of}
 use Rattle.start_model.specs.Judge.{Judgement, Ignore, Log, FallBack, Stop}
 use Rattle.start_model.specs.Lines as lines
 use Rattle.start_model.specs.Lines.{Line, VerdictLine, UnmetLine, Verdict, line_text}
@@ -23,7 +24,8 @@ use Rattle.start_model.specs.Fits.{outcomes_in, MayLoad}
 use Rattle.start_model.specs.Sets.{set_of}
 use Rattle.start_model.specs.Run.{Act, RunState, Possible, Woken, Outcome, behind, phase_line, phase_step, save_where_due, with_machine, done, say, say_all, no_set, live_set, start_over, end_with, judged, play}
 use Rattle.run_laws.proofs.CountLemmas.{plan_few}
-use Rattle.boot_machine.specs.Steps.{falls_back}
+use Rattle.start_laws.proofs.UsableLemmas.{usable_parts}
+use Rattle.boot_machine.specs.Steps.{falls_back, is_last_phase, is_in_last_phase, on_start}
 use Rattle.run_parts.specs.Parts.{Told, Tells, Goes, Breaks, PlaysOr, TellsOr, Stays}
 use Rattle.run_parts.proofs.CountLemmas.{still}
 use Rattle.run_parts.proofs.GoesLemmas.{outcomes_in-append, tells-nothing, tells-then}
@@ -131,6 +133,50 @@ phase_keeps (Some s) set tree held h = record {
   few = omega (arith, plan_few set (phase_after s.phase) s.tried, few_services set held);
   clone = h.clone;
 }
+
+-- behind the last phase
+
+none_waits : (set : Tree) (phase : Phase) (tried : List (List ℕ)) → is_last_phase phase ≡ true → length (plan_of set (phase_after phase) tried) ≡ 0
+none_waits set Boot tried last = absurd cc
+none_waits set System tried last = absurd cc
+none_waits set Automatic tried last = refl
+none_waits set Done tried last = refl
+
+over_keeps : (o : Option Start) (set tree : Tree) → is_in_last_phase o ≡ true → IsRunningBy o tree → IsRunningBy (option_map (after_phase set) o) tree
+over_keeps None set tree last h = h
+over_keeps (Some s) set tree last h = record {
+  there = h.there;
+  current = h.current;
+  few = omega (arith, none_waits set s.phase s.tried last);
+  clone = h.clone;
+}
+
+pub last_keeps : {E : Type 0} (r : Result (List (List ℕ)) E) (m m' : MachineState) (tree : Tree) → is_in_last_phase m.start ≡ true → IsRunningBy m.start tree
+    → IfOk r (λ _. (set : Tree) → m' ≡ on_start (after_phase set) m) → OnOk r (IsRunningBy m'.start tree)
+last_keeps (Ok names) m m' tree last h is =
+    let P : MachineState → Type 0 = λ k. IsRunningBy k.start tree in subst P (sym (is no_set)) (over_keeps m.start no_set tree last h)
+last_keeps (Err e) m m' tree last h is = tt
+
+the_set : (tree : Tree) (n : ℕ) (o : Option Tree) → set_of tree n ≡ o → is_some o ≡ true → (set : Tree) × (set_of tree n ≡ Some set)
+the_set tree n None is h = absurd cc
+the_set tree n (Some set) is h = (set, is)
+
+on_next : (o : Option Start) (m m' : MachineState) (tree : Tree) → m.start ≡ o → IsRunningBy o tree → ((set : Tree) → m' ≡ on_start (after_phase set) m) → NextPhase tree m m'
+on_next None m m' tree is h made = absurd h
+on_next (Some s) m m' tree is h made =
+    let set = the_set tree s.number (set_of tree s.number) refl (usable_parts tree s.number h.there).there in
+    record {
+      start = s;
+      set = set.0;
+      is = is;
+      there = set.1;
+      machine = made set.0 ∙ ap (λ (o : Option Start). record m { start = option_map (after_phase set.0) o }) is;
+    }
+
+pub last_next : {E : Type 0} (r : Result (List (List ℕ)) E) (m m' : MachineState) (tree : Tree) → IsRunningBy m.start tree
+    → IfOk r (λ _. (set : Tree) → m' ≡ on_start (after_phase set) m) → OnOk r (NextPhase tree m m')
+last_next (Ok names) m m' tree h is = on_next m.start m m' tree refl h is
+last_next (Err e) m m' tree h is = tt
 
 -- ---- lines that tell no outcome, one behind another
 

@@ -51,7 +51,7 @@ fn begin_on(
     ensures held { OnOk result (HoldsKeys (unwrap_or (set_of hive.now.tree number) no_set)) }
 {
     let set = live_set(alloc, hive, number)?;
-    machine.begin(alloc, &set, number, on_good)
+    machine.begin_with(alloc, set, number, on_good)
 }
 
 /// Begins the boot phase on the set of this number.

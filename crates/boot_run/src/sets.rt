@@ -1,14 +1,15 @@
 //! The control sets of a session, which lends no tree.
 
-ghost use Rattle.std.specs.Prelude.{◌≡◌, ◌∷◌, [], codes, true, Some, IfOk};
+ghost use Rattle.std.specs.Prelude.{◌≡◌, ◌∷◌, [], codes, true, length, Some, IfOk};
 ghost use Rattle.std.specs.Option.{unwrap_or};
 ghost use Rattle.hive_model.specs.Valid.{HoldsKeys};
 ghost use Rattle.hive_store.specs.Found.{found_dword};
+ghost use Rattle.start_model.specs.Entries.{services_of};
 ghost use Rattle.start_model.specs.Sets.{select_numbers_of, usable_numbers_of, taken_number, set_of, is_usable};
-ghost use Rattle.start_model.specs.Run.{good_is_usable};
+ghost use Rattle.start_model.specs.Run.{good_is_usable, no_set};
 
 use hive_store::Hive;
-use nt_bytes::Names;
+use nt_bytes::{Names, Units};
 use reg_tree::Key;
 use select_keys::{SelectNumbers, Taken, select_path, set_path, sets_named};
 use std::alloc::{AllocError, Global};
@@ -21,6 +22,9 @@ const DEFAULT: [u16; 7] = [0x44, 0x65, 0x66, 0x61, 0x75, 0x6c, 0x74];
 
 /// `Failed`.
 const FAILED: [u16; 6] = [0x46, 0x61, 0x69, 0x6c, 0x65, 0x64];
+
+/// `Services`.
+const SERVICES: [u16; 8] = [0x53, 0x65, 0x72, 0x76, 0x69, 0x63, 0x65, 0x73];
 
 /// `LastKnownGood`.
 const GOOD: [u16; 13] = [
@@ -97,4 +101,15 @@ pub(crate) fn live_set(alloc: Global, hive: &Hive, number: u32) -> Result<Key, A
         Some(set) => Ok(set),
         None => unreachable!(),
     }
+}
+
+/// How many keys stand below `Services` of the set of this number, which must be there. No key is copied.
+pub(crate) fn count_services(alloc: Global, hive: &Hive, number: u32) -> Result<usize, AllocError>
+    requires { is_usable hive.now.tree number ≡ true }
+    ensures { IfOk result (λ n. n ≡ length (services_of (unwrap_or (set_of hive.now.tree number) no_set))) }
+{
+    let mut path = set_path(alloc, number)?;
+    path.push(Units::from_slice(alloc, &SERVICES)?)?;
+    let names = hive.names_below(alloc, &path)?;
+    Ok(names.len())
 }

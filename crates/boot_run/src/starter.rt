@@ -2,11 +2,12 @@
 
 ghost use Rattle.std.specs.Prelude.{◌≡◌, ◌≤◌, true, false, [], Some, IfOk, IfErr, OnOk};
 ghost use Rattle.std.specs.Option.{option_map_or};
+ghost use Rattle.hive_model.specs.Tree.{Tree};
 ghost use Rattle.hive_store.specs.Session.{Session};
 ghost use Rattle.start_model.specs.Judge.{Judgement};
-ghost use Rattle.start_model.specs.Machine.{Start, MachineState, Tried, attempt_of, unmet_in};
+ghost use Rattle.start_model.specs.Machine.{Start, MachineState, Tried, attempt_of, after_phase, unmet_in};
 ghost use Rattle.start_model.specs.Run.{RunState, Act, good_is_usable, try_line, judged, starter_step, phase_step, stepping, go_steps, go_act, enough_steps};
-ghost use Rattle.boot_machine.specs.Steps.{is_at_end};
+ghost use Rattle.boot_machine.specs.Steps.{is_at_end, is_in_last_phase, on_start};
 ghost use Rattle.run_parts.specs.Parts.{Stays, TellsOr};
 ghost use Rattle.boot_run.specs.Agrees.{IsRunningBy, IsLive, IsSound, Counts, OnLeft, TurnLeft};
 ghost use Rattle.boot_run.specs.Hosts.{LeavesHost};
@@ -18,7 +19,7 @@ use crate::ending::end_with;
 use crate::runner::Runner;
 use crate::saving::save_where_due;
 use crate::saying::say;
-use crate::sets::{good_is_usable, live_set};
+use crate::sets::{count_services, good_is_usable, live_set};
 use crate::stop::RunStop;
 use crate::unmet::say_unmet;
 use crate::words::{phase_word, try_word, verdict_after};
@@ -113,8 +114,23 @@ fn try_next<H: Host, B: Bench>(
 
 // ---- a change of phase
 
+/// Goes on from the last phase, behind which nothing is taken of a set. Answers what was unmet.
+fn end_phases(alloc: Global, runner: &mut Runner) -> Result<Names, RunStop>
+    requires { is_in_last_phase runner.old.machine.start ≡ true }
+    ensures machine { IfOk result (λ _. (set : Tree) → runner.new.machine ≡ on_start (after_phase set) runner.old.machine) }
+    ensures unmet { IfOk result (λ names. names ≡ option_map_or unmet_in runner.old.machine.start []) }
+    ensures starts { runner.new.starts ≡ runner.old.starts }
+    ensures summary { runner.new.summary ≡ runner.old.summary }
+    ensures memory { IfErr result (λ stop. stop ≡ Memory) }
+{
+    match runner.machine.end_phases(alloc) {
+        Ok(unmet) => Ok(unmet),
+        Err(_) => Err(RunStop::Memory),
+    }
+}
+
 /// Goes on to the next phase, with the entries of the taken set as it is now. Answers what was unmet.
-fn next_phase(alloc: Global, hive: &Hive, runner: &mut Runner) -> Result<Names, RunStop>
+fn plan_phase(alloc: Global, hive: &Hive, runner: &mut Runner) -> Result<Names, RunStop>
     requires { IsRunningBy runner.old.machine.start hive.now.tree }
     ensures next { OnOk result (NextPhase hive.now.tree runner.old.machine runner.new.machine) }
     ensures unmet { IfOk result (λ names. names ≡ option_map_or unmet_in runner.old.machine.start []) }
@@ -133,6 +149,22 @@ fn next_phase(alloc: Global, hive: &Hive, runner: &mut Runner) -> Result<Names, 
         Ok(unmet) => Ok(unmet),
         Err(_) => Err(RunStop::Memory),
     }
+}
+
+/// Goes on to the next phase. Answers what was unmet.
+fn next_phase(alloc: Global, hive: &Hive, runner: &mut Runner) -> Result<Names, RunStop>
+    requires { IsRunningBy runner.old.machine.start hive.now.tree }
+    ensures next { OnOk result (NextPhase hive.now.tree runner.old.machine runner.new.machine) }
+    ensures unmet { IfOk result (λ names. names ≡ option_map_or unmet_in runner.old.machine.start []) }
+    ensures sound { OnOk result (IsRunningBy runner.new.machine.start hive.now.tree) }
+    ensures starts { runner.new.starts ≡ runner.old.starts }
+    ensures summary { runner.new.summary ≡ runner.old.summary }
+    ensures memory { IfErr result (λ stop. stop ≡ Memory) }
+{
+    if runner.machine.in_last_phase() {
+        return end_phases(alloc, runner);
+    }
+    plan_phase(alloc, hive, runner)
 }
 
 /// The phase ends and the next one begins: what still waits is said as unmet, and then the phase.
@@ -212,7 +244,7 @@ fn step<H: Host, B: Bench>(
 /// At most so many steps of the starter, while a start is under way.
 fn take_steps<H: Host, B: Bench>(
     alloc: Global,
-    most: u64,
+    most: u128,
     session: &mut Option<Hive>,
     runner: &mut Runner,
     host: &mut H,
@@ -237,8 +269,9 @@ fn take_steps<H: Host, B: Bench>(
     Ok(())
 }
 
-/// So many steps as are enough for all that the start can still do.
-fn enough(alloc: Global, hive: &Hive, runner: &Runner) -> Result<u64, RunStop>
+/// So many steps as are enough for all that the start can still do: one for each entry that waits or that the set could
+/// still give, and three for the phases.
+fn enough(alloc: Global, hive: &Hive, runner: &Runner) -> Result<u128, RunStop>
     requires { IsRunningBy runner.now.machine.start hive.now.tree }
     ensures memory { IfErr result (λ stop. stop ≡ Memory) }
     ensures steps { IfOk result (λ n. (m : RunState) → m.live ≡ hive.now.tree → enough_steps runner.now.machine.start m ≤ n) }
@@ -246,10 +279,10 @@ fn enough(alloc: Global, hive: &Hive, runner: &Runner) -> Result<u64, RunStop>
     let Some((number, _)) = runner.machine.running() else {
         unreachable!()
     };
-    let Ok(_) = live_set(alloc, hive, number) else {
+    let Ok(services) = count_services(alloc, hive, number) else {
         return Err(RunStop::Memory);
     };
-    Ok(u64::MAX)
+    Ok(services as u128 + u32::MAX as u128 + 3)
 }
 
 /// How many steps are taken at most: so many, or as many as there can be.
@@ -258,13 +291,13 @@ fn most_steps(
     steps: Option<u32>,
     hive: &Hive,
     runner: &Runner,
-) -> Result<u64, RunStop>
+) -> Result<u128, RunStop>
     requires { IsRunningBy runner.now.machine.start hive.now.tree }
     ensures memory { IfErr result (λ stop. stop ≡ Memory) }
     ensures steps { IfOk result (λ n. (m : RunState) → m.live ≡ hive.now.tree → m.machine ≡ runner.now.machine → go_steps n m ≡ go_act steps m) }
 {
     match steps {
-        Some(steps) => Ok(u64::from(steps)),
+        Some(steps) => Ok(u128::from(steps)),
         None => enough(alloc, hive, runner),
     }
 }

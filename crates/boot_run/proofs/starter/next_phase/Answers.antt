@@ -1,11 +1,12 @@
-use Rattle.std.proofs.Common.{sym, subst}
-use Rattle.start_model.specs.Machine.{MachineState}
-use Rattle.boot_run.specs.Agrees.{IsRunningBy}
-use Rattle.boot_run.proofs.StartLemmas.{phase_keeps}
+use Rattle.std.proofs.Common.{sym, ◌∙◌}
+use Rattle.boot_run.proofs.StartLemmas.{last_keeps, last_next}
 use Rattle.boot_run.proofs.starter.next_phase.Goals as goal
 
-pub returns-in-Ok-next_phase-clause-sound : goal.returns-in-Ok-next_phase-clause-sound
-returns-in-Ok-next_phase-clause-sound c =
-    let tree = c.args.hive.now.tree in
-    let P : MachineState → Type 0 = λ k. IsRunningBy k.start tree in
-    subst P (sym c.in-Ok-next_phase.ensures.machine) (phase_keeps c.args.runner.now.machine.start c.in-Ok.set tree c.in-Ok.ensures.held c.requires)
+pub returns-then-in_last_phase-clause-next : goal.returns-then-in_last_phase-clause-next
+returns-then-in_last_phase-clause-next c =
+    last_next c.end_phases.result c.args.runner.now.machine c.end_phases.new.runner.machine c.args.hive.now.tree c.requires c.end_phases.ensures.machine
+
+pub returns-then-in_last_phase-clause-sound : goal.returns-then-in_last_phase-clause-sound
+returns-then-in_last_phase-clause-sound c =
+    last_keeps c.end_phases.result c.args.runner.now.machine c.end_phases.new.runner.machine c.args.hive.now.tree (sym c.in_last_phase.ensures ∙ c.if-in_last_phase.true) c.requires
+    c.end_phases.ensures.machine
