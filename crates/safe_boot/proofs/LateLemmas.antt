@@ -19,7 +19,7 @@ use Rattle.dependencies.proofs.PulledLemmas.{is_taken-least_of_all}
 use Rattle.safe_boot.specs.declared.mode.SafeMode.{SafeMode}
 use Rattle.safe_boot.specs.Listed.{listed_names, is_left_out, is_listed, reduced_of}
 use Rattle.safe_boot.specs.Played.{Course, next_entry, tried_at, attempts_of, phase_ended, phase_played, course_begun, start_lines_of}
-use Rattle.safe_boot.specs.Laws.{HasListed, StartsListed, first_phase_of, LateIsListed}
+use Rattle.safe_boot.specs.Laws.{HasListed, StartsListed, first_phase_of, FirstIsInFront, LateIsListed}
 use Rattle.safe_boot.proofs.HeldLemmas.{each_kept}
 use Rattle.safe_boot.proofs.ListLemmas.{each_map, each_passes, each_given, each_at, each_append, each_left, some_is}
 use Rattle.safe_boot.proofs.PlayLemmas.{there}
@@ -323,6 +323,12 @@ begins r = refl
 late_of : (set r : Tree) (mode : SafeMode) (later : List Line) → Each (Stays set (listed_names set mode)) (entries_of r) → start_lines_of r ≡ first_phase_of r ++ later → All (StartsListed set mode) later
 late_of set r mode later stay is =
     behind_first set mode (phase_played r (course_begun r)) (phase_played r (phase_played r (phase_played r (course_begun r)))) later (late_lines set r mode (course_begun r) stay (begins r)) is
+
+pub first_in_front : FirstIsInFront
+first_in_front set mode =
+    let r : Tree = reduced_of set mode in
+    let behind = late_lines set r mode (course_begun r) (entries_stay set mode) (begins r) in
+    (behind.more, behind.lines)
 
 pub late_is_listed : LateIsListed
 late_is_listed set mode later is = late_of set (reduced_of set mode) mode later (entries_stay set mode) is

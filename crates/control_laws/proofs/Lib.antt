@@ -1,0 +1,5 @@
+pub mod CallLemmas
+pub mod AlikeLemmas
+pub mod BackLemmas
+pub mod DifferLemmas
+pub mod PartLemmas

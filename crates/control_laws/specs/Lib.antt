@@ -1,0 +1,4 @@
+pub mod Called
+pub mod Alike
+pub mod Backwards
+pub mod Parted
