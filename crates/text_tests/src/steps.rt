@@ -1,0 +1,158 @@
+//! The edits of a text, said one a line.
+
+use nt_bytes::{Bytes, HiveVersion, Names, Units};
+use reg_text::{RegFault, RegKind, RegStop, read_reg, reg_text};
+use reg_tree::{Key, Keys, TreeStep, Values};
+use std::alloc::{AllocError, Global};
+
+/// UTF-16LE behind its mark, a unit a byte.
+pub fn wide(alloc: Global, text: &[u8]) -> Result<Bytes, AllocError> {
+    let mut bytes = Bytes::from_slice(alloc, &[0xff, 0xfe])?;
+    for byte in text {
+        bytes.append(&[*byte, 0])?;
+    }
+    Ok(bytes)
+}
+
+fn push_units(out: &mut Bytes, units: &[u16]) -> Result<(), AllocError> {
+    for unit in units {
+        out.push((*unit % 256) as u8)?;
+    }
+    Ok(())
+}
+
+/// A backslash before each name.
+fn push_path(out: &mut Bytes, path: &[Units]) -> Result<(), AllocError> {
+    for name in path {
+        out.push(b'\\')?;
+        push_units(out, name.as_slice())?;
+    }
+    Ok(())
+}
+
+fn digit(value: u8) -> u8 {
+    let value = value % 16;
+    if value < 10 { 48 + value } else { 87 + value }
+}
+
+fn push_data(out: &mut Bytes, bytes: &[u8]) -> Result<(), AllocError> {
+    for byte in bytes {
+        out.push(digit(*byte / 16))?;
+        out.push(digit(*byte))?;
+    }
+    Ok(())
+}
+
+fn push_kind(alloc: Global, out: &mut Bytes, kind: u32) -> Result<(), AllocError> {
+    let text = format!(in alloc; " {kind} ")?;
+    out.append(text.as_bytes())
+}
+
+fn push_step(alloc: Global, out: &mut Bytes, step: &TreeStep) -> Result<(), AllocError> {
+    match step {
+        TreeStep::SetValue {
+            path,
+            name,
+            kind,
+            bytes,
+        } => {
+            out.append(b"set ")?;
+            push_path(out, path.as_slice())?;
+            out.append(b" ")?;
+            push_units(out, name.as_slice())?;
+            push_kind(alloc, out, *kind)?;
+            push_data(out, bytes.as_slice())
+        }
+        TreeStep::DeleteValue { path, name } => {
+            out.append(b"drop ")?;
+            push_path(out, path.as_slice())?;
+            out.append(b" ")?;
+            push_units(out, name.as_slice())
+        }
+        TreeStep::MakeKey { parent, name } => {
+            out.append(b"make ")?;
+            push_path(out, parent.as_slice())?;
+            out.append(b"\\")?;
+            push_units(out, name.as_slice())
+        }
+        TreeStep::DeleteKey { path } => {
+            out.append(b"delete ")?;
+            push_path(out, path.as_slice())
+        }
+        _ => out.append(b"other"),
+    }
+}
+
+fn push_steps(alloc: Global, out: &mut Bytes, steps: &[TreeStep]) -> Result<(), AllocError> {
+    for step in steps {
+        push_step(alloc, out, step)?;
+        out.append(b"\n")?;
+    }
+    Ok(())
+}
+
+fn kind_word(kind: RegKind) -> &'static str {
+    match kind {
+        RegKind::Mark => "mark",
+        RegKind::Header => "header",
+        RegKind::Root => "root",
+        RegKind::Line => "line",
+        RegKind::NotText => "not-text",
+    }
+}
+
+fn push_fault(alloc: Global, out: &mut Bytes, fault: RegFault) -> Result<(), AllocError> {
+    let word = kind_word(fault.kind);
+    let line = fault.line;
+    let text = format!(in alloc; "{line} {word}")?;
+    out.append(text.as_bytes())
+}
+
+/// The edits of a text one a line, or its first faulty line with the kind.
+pub fn told(alloc: Global, text: &[u8]) -> Result<Bytes, AllocError> {
+    let mut out = Bytes::new(alloc);
+    match read_reg(alloc, text) {
+        Ok(steps) => push_steps(alloc, &mut out, steps.as_slice())?,
+        Err(RegStop::Fault(fault)) => push_fault(alloc, &mut out, fault)?,
+        Err(RegStop::Memory) => return Err(AllocError),
+    }
+    Ok(out)
+}
+
+/// A root with nothing in it.
+fn root(alloc: Global) -> Key {
+    Key {
+        name: Units::new(alloc),
+        flags: 0,
+        stamp: 0,
+        class: Bytes::new(alloc),
+        security: Bytes::new(alloc),
+        values: Values::new(alloc),
+        children: Keys::new(alloc),
+    }
+}
+
+/// The text of a whole tree, or that it has none.
+fn written(alloc: Global, key: &Key) -> Result<Bytes, AllocError> {
+    match reg_text(alloc, key, &Names::new(alloc)) {
+        Ok(text) => Ok(text),
+        Err(RegStop::Fault(fault)) => {
+            let mut out = Bytes::new(alloc);
+            push_fault(alloc, &mut out, fault)?;
+            Ok(out)
+        }
+        Err(RegStop::Memory) => Err(AllocError),
+    }
+}
+
+/// The text of the tree that a text makes of an empty root; nothing where it is refused.
+pub fn rewritten(alloc: Global, text: &[u8]) -> Result<Bytes, AllocError> {
+    let Ok(steps) = read_reg(alloc, text) else {
+        return Ok(Bytes::new(alloc));
+    };
+    let mut key = root(alloc);
+    let Ok(()) = key.apply(alloc, steps, HiveVersion::V3) else {
+        return Ok(Bytes::new(alloc));
+    };
+    written(alloc, &key)
+}
