@@ -21,7 +21,7 @@ use Rattle.command_parts.specs.declared.status.Status.{Status}
 use Rattle.command_parts.specs.declared.status.Status.TheVariants as statuses
 use Rattle.command_parts.specs.Decides.{Decides, Ending}
 use Rattle.ntboot_cli.specs.Answer.{AsksAs, EndsInputs, EndsShown, EndsMade, EndsWords, LeavesFiles, MakesAlone, TopDecides, saves_of}
-use Rattle.command_parts.specs.Inputs.{file_in, hive_in, AsksSoMany}
+use Rattle.command_parts.specs.Inputs.{file_in, hive_in, asks_hive, AsksSoMany}
 use Rattle.ntboot_cli.specs.Inputs.{arguments_in, inputs_in, asks_run, asks_show}
 use Rattle.command_parts.specs.Leaves.{Leaves, stop_in}
 use Rattle.ntboot_cli.specs.Made.{usual_in}
@@ -35,6 +35,7 @@ use Rattle.control_command.specs.Answer.{DecidesControl, EndsControl}
 use Rattle.control_command.specs.Inputs.{asks_control, inputs_in as control_inputs_in}
 use Rattle.hive_alt.specs.Schemes.{Standing}
 use Rattle.twin_command.specs.Twinned.{DecidesTwin, EndsTwin, asks_twin, stands_by, twin_saves}
+use Rattle.text_commands.specs.Asks.{AsksImport, AsksText}
 use Rattle.text_commands.specs.Imported.{DecidesImport, EndsImport, IsPartImported, import_saves}
 use Rattle.text_commands.specs.Exported.{DecidesExport, EndsExported, PutsAs, asks_export, export_of, path_in}
 use Rattle.command_parts.proofs.AskLemmas.{asks_on}
@@ -176,14 +177,14 @@ module _ (asked : Option Asked) (status : Status) (old new : HostState) (disk : 
       })
 
   pub by_import : (words : ImportAsked) → asked ≡ Some (import words) → DecidesImport words status old new disk
-      → (status ≡ statuses.Usage → ⊥) → TopDecides asked status old new disk
-  by_import words is decides unused =
+      → AsksImport words status old new → (status ≡ statuses.Usage → ⊥) → TopDecides asked status old new disk
+  by_import words is decides asks unused =
       subst (λ (a : Option Asked). TopDecides a status old new disk) (sym is) (record {
         leaves = decides.leaves;
         files = decides.files;
         off = decides.off;
         untouched = decides.untouched;
-        asks = tt;
+        asks = asks;
         usage = λ e. absurd (unused e);
         refused = λ e. absurd cc;
       })
@@ -272,8 +273,13 @@ unread_words (Some (export words)) host disk fresh =
     (unread_export (hive_in host.files words.hive words.log) (path_in words.key) words.reg host.files host.said, fresh)
 
 -- no file was asked for
+unread_text : (wanted : Result HiveFiles Refusal) (n gets : ℕ) → AsksText wanted n statuses.Memory gets gets
+unread_text (Err r) n gets = record { asked = 0; not_less = omega arith; not_more = omega arith; gets = refl }
+unread_text (Ok files) n gets = inr (inr (inl refl, record { asked = 0; not_less = omega arith; not_more = omega arith; gets = refl }))
+
 unread_asks : (asked : Option Asked) (host : HostState) → AsksAs asked statuses.Memory host host
-unread_asks (Some (import words)) host = tt
+unread_asks (Some (import words)) host = λ tells.
+    unread_text (hive_in host.files words.hive words.log) (asks_hive host.files words.hive words.log) host.gets
 unread_asks asked host = λ tells. record { asked = 0; not_less = omega arith; not_more = omega arith; gets = refl }
 
 -- no file was changed

@@ -38,6 +38,7 @@ use Rattle.safe_command.specs.Inputs.{inputs_in as safe_inputs_in}
 use Rattle.control_command.specs.Answer.{EndsControl}
 use Rattle.control_command.specs.Inputs.{inputs_in as control_inputs_in}
 use Rattle.twin_command.specs.Twinned.{EndsTwin, stands_by, twin_saves}
+use Rattle.text_commands.specs.Asks.{AsksImport}
 use Rattle.text_commands.specs.Imported.{EndsImport, import_saves}
 use Rattle.text_commands.specs.Exported.{EndsExported, path_in}
 use Rattle.ntboot_cli.specs.Made.{told, usual_in, made_text, IsMade, IsPartMade}
@@ -174,9 +175,9 @@ EndsWords (Some (import words)) files after disk status old new =
 EndsWords (Some (export words)) files after disk status old new =
     EndsExported (hive_in files words.hive words.log) (path_in words.key) words.reg files after status old new × (disk ≡ new_state)
 
--- as many files are asked for as stand in the written order, up to the first obstacle; of `import` it is not said
+-- as many files are asked for as stand in the written order, up to the first obstacle; for `import` one more, where the hive has no fault
 abbrev pub AsksAs : Option Asked → Status → HostState → HostState → Type 0
-AsksAs (Some (import words)) status old new = Unit {0}
+AsksAs (Some (import words)) status old new = AsksImport words status old new
 AsksAs asked status old new = AsksSoMany (asks_in asked) status old new
 
 -- what becomes of the files: `export` changes the one that it puts alone, every other command those that it saves

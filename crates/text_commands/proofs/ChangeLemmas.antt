@@ -31,7 +31,7 @@ use Rattle.command_parts.specs.Placed.{image_in, placed_disk, IsUnrun}
 use Rattle.text_commands.specs.declared.changing.Done.{Done}
 use Rattle.text_commands.specs.declared.changing.Done.TheVariants as dones
 use Rattle.text_commands.specs.Imported.{Change, refusal_word, change_by, change_of, IsPartImported}
-use Rattle.text_commands.specs.Imports.{stop_word, Settles, Makes, Changes, ChangesHeld, ChangesAwake, Unmoved, ImportsOn}
+use Rattle.text_commands.specs.Imports.{stop_word, IsRefusedAs, Settles, Makes, Changes, ChangesHeld, ChangesAwake, Unmoved, ImportsOn}
 
 -- with nothing in flight only what is held may be left
 still_loads : (disk : DiskState) (s : HiveState) (dirty : Bool) → disk.flight ≡ [] → Loads disk.held s dirty → EachCrash disk (λ (c : Image). LoadsAs c s)
@@ -114,6 +114,13 @@ refused_changes s steps stops.TooDeep disk still loads is some = refused_by s st
 refused_changes s steps stops.DataTooLong disk still loads is some = refused_by s steps data_too_long stops.DataTooLong disk still loads refl is
 refused_changes s steps stops.Full disk still loads is some = refused_by s steps full stops.Full disk still loads refl is
 refused_changes s steps stops.Memory disk still loads is some = absurd (some refl)
+
+-- the edits were refused, or there was no memory
+pub refused_as : {E : Type 0} (s : HiveState) (steps : List Step) (stop : EditStop) (result : Result Done E) (disk : DiskState) → disk.flight ≡ []
+    → Loads disk.held s false → IsRefused (edited s.version s.tree steps) stop → IsRefusedAs stop result → IfOk result (Changes s steps disk)
+refused_as s steps stop (Ok done) disk still loads is told =
+    subst (Changes s steps disk) (sym told.0) (refused_changes s steps stop disk still loads is told.1)
+refused_as s steps stop (Err e) disk still loads is told = tt
 
 -- ---- what was done from outside
 

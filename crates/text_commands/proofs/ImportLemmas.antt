@@ -9,7 +9,7 @@ use Rattle.hive_model.specs.Load.{LoadFault, state_of}
 use Rattle.hive_model.specs.Tree.{Tree}
 use Rattle.hive_store.specs.Checks.{ChecksAs}
 use Rattle.nt_edge.specs.Disk.{DiskState, new_state}
-use Rattle.nt_edge.specs.Host.{HostState, Files, KeepsFiles, AsksNone}
+use Rattle.nt_edge.specs.Host.{HostState, Files, KeepsFiles, Asks, AsksNone}
 use Rattle.nt_edge.specs.declared.host.HostStop.{HostStop}
 use Rattle.nt_edge.specs.declared.host.HostStop.TheVariants.{Read, Write, Memory}
 use Rattle.reg_text.specs.declared.stop.RegFault.{RegFault}
@@ -27,8 +27,9 @@ use Rattle.command_parts.specs.Leaves.{Leaves, Looks, more, named, stop_in, stop
 use Rattle.command_parts.specs.Placed.{image_in, IsUntouchedBy}
 use Rattle.command_parts.specs.Refusals.{Answer, Ends, IsToldAs, refusal, refusal_status, refusal_text}
 use Rattle.command_parts.specs.Saves.{Saves, saved_count, FilesAs, Settles, FinishesAs}
-use Rattle.command_parts.proofs.DecideLemmas.{memory_decides, refusal_decides, untouched_by, new_off, unchanged, told_unused, told_unread, told_open, found_decides, refused_decides, stopped_decides}
+use Rattle.command_parts.proofs.DecideLemmas.{memory_decides, refusal_decides, untouched_by, new_off, unchanged, told_unused, told_unread, told_open, refused_unread, found_decides, refused_decides, stopped_decides}
 use Rattle.command_parts.proofs.LeaveLemmas.{keeps_then, counts_by, no_front}
+use Rattle.text_commands.proofs.ImportAskLemmas.{text_asked, stopped_text_asked, fault_asked, unchecked_asked}
 use Rattle.text_commands.specs.declared.changing.Done.{Done}
 use Rattle.text_commands.specs.Exported.{fault_text}
 use Rattle.text_commands.specs.Imported.{Change, change_of, IsImported, IsPartImported, EndsChange, EndsHive, EndsImport, import_saves, DecidesImport}
@@ -212,11 +213,13 @@ read_hive files saves (Ok steps) text disk status old new loads is (inl end) = i
 read_hive files saves (Ok steps) text disk status old new loads is (inr end) = inr (inr (inl end))
 
 pub found_file : (files : HiveFiles) (saves : Saves) (name text : List ℕ) (status : Status) (old mid new : HostState) (disk : DiskState) → IsLoadable files
-    → Looks (file_in name (old.files name)) (Ok text) old mid → DecidesText files saves text status mid new disk → DecidesFile files saves name status old new disk
-found_file files saves name text status old mid new disk loads a b = record {
+    → Looks (file_in name (old.files name)) (Ok text) old mid → Asks old mid → DecidesText files saves text status mid new disk
+    → DecidesFile files saves name status old new disk
+found_file files saves name text status old mid new disk loads a asks b = record {
   decides = found_decides (file_in name (old.files name)) (λ w s o n. EndsHive files saves w disk s o n) saves text (EndsRead files saves (reg_steps_of text) disk) status old mid new disk
       (λ o n end. read_hive files saves (reg_steps_of text) text disk status o n loads refl end) a b;
   kept = b.kept;
+  asks = text_asked files status old.gets mid.gets new.gets loads asks b.unasked b.unread;
 }
 
 usage_only : (why : Refusal) → (why ≡ refusals.Usage → ⊥) → refusal_status why ≡ statuses.Usage → ⊥
@@ -228,12 +231,13 @@ usage_only refusals.IniTooManyEntries never e = absurd cc
 usage_only (refusals.HiveFault fault) never e = absurd cc
 
 pub absent_file : (files : HiveFiles) (saves : Saves) (name : List ℕ) (why : Refusal) (status : Status) (old mid new : HostState) (disk : DiskState) → IsLoadable files → disk ≡ new_state
-    → Looks {A = List ℕ} (file_in name (old.files name)) (Err (Refused why)) old mid → (why ≡ refusals.Usage → ⊥) → Leaves (Ends (refusal why)) status mid new → KeepsFiles mid new
+    → Looks {A = List ℕ} (file_in name (old.files name)) (Err (Refused why)) old mid → Asks old mid → AsksNone mid new → (why ≡ refusals.Usage → ⊥) → Leaves (Ends (refusal why)) status mid new → KeepsFiles mid new
     → IsToldAs (refusal_status why) status → DecidesFile files saves name status old new disk
-absent_file files saves name why status old mid new disk loads fresh a used leaves kept told = record {
+absent_file files saves name why status old mid new disk loads fresh a asks unasked used leaves kept told = record {
   decides = refused_decides (file_in name (old.files name)) (λ w s o n. EndsHive files saves w disk s o n) saves why status old mid new disk fresh
       (λ o n end. inr (inl (loads.0, loads.1, (end, fresh)))) a leaves kept told;
   kept = told_unused (refusal_status why) status told (usage_only why used);
+  asks = text_asked files status old.gets mid.gets new.gets loads asks unasked (refused_unread why status told);
 }
 
 stopped_hive : (files : HiveFiles) (saves : Saves) (wanted : Result (List ℕ) Refusal) (stop : HostStop) (disk : DiskState) (old new : List ℕ) → disk ≡ new_state → new ≡ old
@@ -247,12 +251,14 @@ stopped_unused Read e = absurd cc
 stopped_unused Write e = absurd cc
 stopped_unused Memory e = absurd cc
 
-pub unfound_file : (files : HiveFiles) (saves : Saves) (name : List ℕ) (stop : HostStop) (old new : HostState) (disk : DiskState) → disk ≡ new_state
-    → Looks {A = List ℕ} (file_in name (old.files name)) (Err (Stopped stop)) old new → DecidesFile files saves name (stopped_as stop) old new disk
-unfound_file files saves name stop old new disk fresh a = record {
+pub unfound_file : (files : HiveFiles) (saves : Saves) (name : List ℕ) (stop : HostStop) (old new : HostState) (disk : DiskState) → IsLoadable files
+    → disk ≡ new_state → Looks {A = List ℕ} (file_in name (old.files name)) (Err (Stopped stop)) old new → Asks old new
+    → DecidesFile files saves name (stopped_as stop) old new disk
+unfound_file files saves name stop old new disk loads fresh a asks = record {
   decides = stopped_decides (file_in name (old.files name)) (λ w s o n. EndsHive files saves w disk s o n) saves stop old new disk fresh
       (λ o n same unwritten. stopped_hive files saves (file_in name (old.files name)) stop disk o n fresh same unwritten) a;
   kept = stopped_unused stop;
+  asks = stopped_text_asked files stop old.gets new.gets loads (λ e. a.unwritten (ap (λ (s : HostStop). Stopped s) e)) asks;
 }
 
 -- ---- behind the check of the hive
@@ -262,18 +268,19 @@ checked image x loads = (record { state = state_of x.0 x.1 x.2; dirty = loads.0 
 
 pub fault_hive : (files : HiveFiles) (saves : Saves) (name : List ℕ) (fault : HiveFault) (status : Status) (old new : HostState) (disk : DiskState) → disk ≡ new_state
     → LoadFault (image_in files) fault → Leaves (Ends (refusal (refusals.HiveFault fault))) status old new → KeepsFiles old new
-    → IsToldAs (refusal_status (refusals.HiveFault fault)) status → DecidesFile files saves name status old new disk
-fault_hive files saves name fault status old new disk fresh is leaves kept told = record {
+    → AsksNone old new → IsToldAs (refusal_status (refusals.HiveFault fault)) status → DecidesFile files saves name status old new disk
+fault_hive files saves name fault status old new disk fresh is leaves kept unasked told = record {
   decides = refusal_decides (EndsHive files saves (file_in name (old.files name)) disk) saves (refusals.HiveFault fault) status old new disk fresh leaves kept told
       (λ o n end. inl (fault, is, end, fresh));
   kept = told_unused statuses.HiveFault status told (λ e. absurd cc);
+  asks = fault_asked files fault status old.gets new.gets is unasked (told_unread statuses.HiveFault status told (λ e. absurd cc));
 }
 
 pub unchecked_hive : (files : HiveFiles) (saves : Saves) (name : List ℕ) (host : HostState) (disk : DiskState) → disk ≡ new_state
     → DecidesFile files saves name statuses.Memory host host disk
 unchecked_hive files saves name host disk fresh =
     let d = memory_decides (EndsHive files saves (file_in name (host.files name)) disk) saves host disk (new_off disk fresh) (inr (inr (inl (refl, refl, new_part files disk fresh)))) in
-    record { decides = d.decides; kept = d.kept }
+    record { decides = d.decides; kept = d.kept; asks = unchecked_asked files host.gets }
 
 -- ---- behind the search for the hive
 

@@ -1,4 +1,5 @@
 pub mod CountLemmas
 pub mod ExportLemmas
 pub mod ChangeLemmas
+pub mod ImportAskLemmas
 pub mod ImportLemmas

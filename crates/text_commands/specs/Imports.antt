@@ -30,6 +30,7 @@ use Rattle.hive_store.specs.Commits.{committed_state}
 use Rattle.hive_store.specs.Session.{Session}
 use Rattle.text_commands.specs.declared.changing.Done.{Done}
 use Rattle.text_commands.specs.declared.changing.Done.TheVariants as dones
+use Rattle.text_commands.specs.Asks.{AsksBehind}
 use Rattle.text_commands.specs.Exported.{fault_answer}
 use Rattle.text_commands.specs.Imported.{Change, change_of, IsImported, IsPartImported, EndsChange, EndsHive}
 
@@ -59,6 +60,11 @@ Settles s old new (dones.Refused stop) = ⊥
 Settles s old new dones.Nothing = (s.changed ≡ false) × (new ≡ old)
 Settles s old new (dones.Commit number) =
     (s.changed ≡ true) × (number ≡ next_number s.base.first) × (new.flight ≡ []) × Loads new.held (committed_state s) false
+
+-- a refusal is told, and want of memory is a stop
+abbrev pub IsRefusedAs : {E : Type 0} → EditStop → Result Done E → Type 0
+IsRefusedAs stop (Ok done) = (done ≡ dones.Refused stop) × (stop ≡ stops.Memory → ⊥)
+IsRefusedAs stop (Err e) = stop ≡ stops.Memory
 
 -- the change was made: its line is that of what was done, and whatever a loss of power leaves loads as its state
 pub record Makes (change : Change) (disk : DiskState) (done : Done) : Type 0 where
@@ -139,7 +145,8 @@ DecidesEdits files saves steps status old new disk = DecidesAlone (EndsEdits fil
 abbrev pub DecidesText : HiveFiles → Saves → List ℕ → Status → HostState → HostState → DiskState → Type 0
 DecidesText files saves text status old new disk = DecidesAlone (EndsRead files saves (reg_steps_of text) disk) saves status old new disk
 
--- what follows the getting of the hive leaves; bad usage is no answer any more
+-- what follows the getting of the hive leaves, and which files it asks for; bad usage is no answer any more
 pub record DecidesFile (files : HiveFiles) (saves : Saves) (name : List ℕ) (status : Status) (old new : HostState) (disk : DiskState) : Type 0 where
   pub decides : Decides (EndsHive files saves (file_in name (old.files name)) disk) saves status old new disk
   pub kept : status ≡ statuses.Usage → ⊥
+  pub asks : AsksBehind files 0 status old.gets new.gets

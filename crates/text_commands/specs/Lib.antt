@@ -1,3 +1,4 @@
+pub mod Asks
 pub mod Exported
 pub mod Exports
 pub mod Imported

@@ -10,7 +10,7 @@ ghost use Rattle.reg_tree.specs.Fitting.{Fits};
 ghost use Rattle.reg_tree.specs.Makes.{step_of};
 ghost use Rattle.command_parts.specs.declared.inputs.HiveFiles.{HiveFiles as FilesModel};
 ghost use Rattle.command_parts.specs.Placed.{placed_disk};
-ghost use Rattle.text_commands.specs.Imports.{Settles, Changes, ChangesHeld, ChangesAwake, ImportsOn, Unmoved};
+ghost use Rattle.text_commands.specs.Imports.{Settles, IsRefusedAs, Changes, ChangesHeld, ChangesAwake, ImportsOn, Unmoved};
 
 use command_parts::{HiveFiles, place};
 use hive_store::Hive;
@@ -46,6 +46,23 @@ fn settle<D: Disk>(hive: Hive, disk: &mut D) -> Result<Done, AllocError>
     }
 }
 
+/// What is answered where the edits were refused.
+fn refused(stop: EditStop) -> Result<Done, AllocError>
+    ensures { IsRefusedAs stop result }
+{
+    match stop {
+        EditStop::Memory => Err(AllocError),
+        EditStop::NoKey
+        | EditStop::NoValue
+        | EditStop::BadName
+        | EditStop::Exists
+        | EditStop::NameTooLong
+        | EditStop::TooDeep
+        | EditStop::DataTooLong
+        | EditStop::Full => Ok(Done::Refused(stop)),
+    }
+}
+
 /// Makes the edits in a loaded hive, all or none, and commits it.
 fn edit<D: Disk>(
     alloc: Global,
@@ -64,8 +81,7 @@ fn edit<D: Disk>(
 {
     match hive.apply(alloc, steps) {
         Ok(()) => settle(hive, disk),
-        Err(EditStop::Memory) => Err(AllocError),
-        Err(stop) => Ok(Done::Refused(stop)),
+        Err(stop) => refused(stop),
     }
 }
 

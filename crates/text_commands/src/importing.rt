@@ -9,6 +9,7 @@ ghost use Rattle.reg_tree.specs.Makes.{step_of};
 ghost use Rattle.command_words.specs.Views.{import_seen};
 ghost use Rattle.command_parts.specs.Placed.{image_in};
 ghost use Rattle.command_parts.specs.Views.{saves_seen};
+ghost use Rattle.text_commands.specs.Asks.{AsksImport};
 ghost use Rattle.text_commands.specs.Imported.{DecidesImport};
 ghost use Rattle.text_commands.specs.Imports.{stop_word, done_text, IsChecked, IsLoadable, TellsFault, DecidesEdits, DecidesText, DecidesFile};
 
@@ -174,6 +175,7 @@ pub fn import<H: Host, B: Bench>(
 ) -> Status
     requires fresh { B.state bench.old ≡ new_state }
     ensures decides { DecidesImport (import_seen words.entry) result (H.state host.old) (H.state host.new) (B.state bench.new) }
+    ensures asked { AsksImport (import_seen words.entry) result (H.state host.old) (H.state host.new) }
     ensures kept { result ≡ Status.Usage → ⊥ }
 {
     let saves = Saves {
