@@ -1,0 +1,3 @@
+pub mod Holding
+pub mod LoadingLemmas
+pub mod MendingLemmas

@@ -1,0 +1,29 @@
+use Rattle.std.proofs.Common.{subst}
+use Rattle.hive_mend.specs.Loaded.{Loaded}
+use Rattle.hive_mend.specs.Mending.{shorter}
+use Rattle.hive_mend.proofs.MendingLemmas.{HasItsTree, carried_state, crash_again, kept_crash, no_calls}
+use Rattle.hive_mend.proofs.hive.LoadedHive.mend.Goals as goal
+
+pub returns-in_err-hive-in-Ok-Some-clause-crash : goal.returns-in_err-hive-in-Ok-Some-clause-crash
+returns-in_err-hive-in-Ok-Some-clause-crash g c = λ tells.
+    let has = subst (λ (v : Loaded). HasItsTree v v.bins v.base.root) c.self.view_is c.self.invariant.has in
+    crash_again c.args.self has (g.D.Disk.state c.args.disk.now).held (c.requires.carries tells) (g.D.Disk.state c.replace.new.disk) (c.replace.ensures.crash tells)
+
+pub returns-in_ok-hive-in-Ok-Some-clause-crash : goal.returns-in_ok-hive-in-Ok-Some-clause-crash
+returns-in_ok-hive-in-Ok-Some-clause-crash g c = λ tells.
+    let has = subst (λ (v : Loaded). HasItsTree v v.bins v.base.root) c.self.view_is c.self.invariant.has in
+    crash_again c.args.self has (g.D.Disk.state c.args.disk.now).held (c.requires.carries tells) (g.D.Disk.state c.replace.new.disk) (c.replace.ensures.crash tells)
+
+pub returns-in-Ok-None-clause-loads : goal.returns-in-Ok-None-clause-loads
+returns-in-Ok-None-clause-loads g c = λ tells.
+    let has = subst (λ (v : Loaded). HasItsTree v v.bins v.base.root) c.self.view_is c.self.invariant.has in
+    carried_state c.args.self has (g.D.Disk.state c.args.disk.now).held (c.requires.carries tells)
+
+pub returns-in-Ok-None-clause-crash : goal.returns-in-Ok-None-clause-crash
+returns-in-Ok-None-clause-crash g c = λ tells. kept_crash (g.D.Disk.state c.args.disk.now) (c.requires.still tells)
+
+pub returns-in-Err-clause-made : goal.returns-in-Err-clause-made
+returns-in-Err-clause-made g c = no_calls _ _ (g.D.Disk.calls c.args.disk.now) c.args.self (shorter c.args.self) _
+
+pub returns-in-Err-clause-crash : goal.returns-in-Err-clause-crash
+returns-in-Err-clause-crash g c = λ tells. kept_crash (g.D.Disk.state c.args.disk.now) (c.requires.still tells)

@@ -1,0 +1,112 @@
+//! A hive loaded from a disk.
+
+ghost use Rattle.std.specs.Prelude.{◌≡◌, Bool, true, false, [], length, IfOk, OnOk, MatchResult};
+ghost use Rattle.nt_bytes.specs.declared.fault.HiveFault.{HiveFault as HiveFaultModel};
+ghost use Rattle.hive_model.specs.Base.{is_bins_size};
+ghost use Rattle.hive_model.specs.Image.{Image};
+ghost use Rattle.hive_model.specs.Carries.{Carries};
+ghost use Rattle.hive_model.specs.State.{HiveState};
+ghost use Rattle.hive_model.specs.Load.{Loads, LoadsAs, LoadFault};
+ghost use Rattle.hive_model.specs.Valid.{IsValid};
+ghost use Rattle.nt_edge.specs.Crash.{EachCrash};
+ghost use Rattle.hive_log.specs.Found.{Found};
+ghost use Rattle.hive_log.specs.Stops.{IsLookAt, IsLoadOn};
+ghost use Rattle.hive_commit.specs.Alone.{KeepsClean};
+ghost use Rattle.hive_commit.specs.Untouched.{IsUntouched, IsUnwritten};
+ghost use Rattle.hive_mend.specs.Loaded.{loaded_state};
+ghost use Rattle.hive_mend.specs.Loading.{HoldsAs, LoadsFrom, StopsFrom, IsLoadOf};
+
+use crate::LoadedHive;
+use hive_cells::read_cells;
+use hive_commit::restore;
+use hive_log::{LoadStop, Reading, Recovered, read_recovered};
+use hive_read::read_tree;
+use nt_bytes::{Bytes, ReadStop};
+use nt_edge::Disk;
+use reg_tree::Key;
+use std::alloc::Global;
+
+/// The tree of what was recovered, with the bins data given back, or the first fault of its bins, and then
+/// of the tree in them. The bins data are not copied.
+fn tree_in(alloc: Global, found: Recovered) -> Result<(Key, Bytes), ReadStop>
+    requires sized { is_bins_size (length found.bins) ≡ true }
+    ensures exact { HoldsAs found result }
+    ensures valid { IfOk result (λ x. IsValid x.0) }
+{
+    let base = found.base;
+    let cells = read_cells(alloc, found.bins)?;
+    let tree = read_tree(alloc, &cells, base.root, base.version())?;
+    Ok((tree, cells.into_bytes()))
+}
+
+/// What was read: the hive, whether the primary is dirty, and the bits of the log that it was read with
+/// (none where the primary is clean).
+#[derive(Drop)]
+struct Looked {
+    hive: LoadedHive,
+    dirty: bool,
+    bitmap: Bytes,
+}
+
+/// Reads the hive, and checks all of it. Nothing is written.
+fn look<D: Disk>(alloc: Global, disk: &mut D) -> Result<Looked, LoadStop>
+    requires on { (D.state disk.old).on ≡ true }
+    requires still { D.tells ≡ true → (D.state disk.old).flight ≡ [] }
+    ensures exact { D.tells ≡ true → MatchResult result
+        (λ x. IsLoadOf (D.state disk.old).held x.hive x.dirty) (StopsFrom (D.state disk.old).held) }
+    ensures carries { D.tells ≡ true → IfOk result (λ x. x.dirty ≡ false
+        → Carries (D.state disk.old).held x.hive.base x.hive.bins) }
+    ensures dirty { D.tells ≡ true → IfOk result (λ x. x.dirty ≡ true
+        → Found (D.state disk.old).held x.hive.base x.bitmap x.hive.bins) }
+    ensures sized { IfOk result (λ x. is_bins_size (length x.hive.bins) ≡ true) }
+    ensures look { IsLookAt D.tells (D.state disk.old) (D.state disk.new) result }
+{
+    let Reading { recovered, bitmap } = read_recovered(alloc, disk)?;
+    let (base, dirty) = (recovered.base, recovered.dirty);
+    match tree_in(alloc, recovered) {
+        Ok((tree, bins)) => Ok(Looked {
+            hive: LoadedHive { base, bins, tree },
+            dirty,
+            bitmap,
+        }),
+        Err(ReadStop::Fault(fault)) => Err(LoadStop::Fault(fault)),
+        Err(ReadStop::Memory) => Err(LoadStop::Memory),
+    }
+}
+
+impl LoadedHive {
+    /// The hive, and whether the primary was dirty. The disk is on and has nothing in flight. The whole
+    /// hive is checked before a dirty primary is recovered, so a `Fault` has written nothing. Out of memory
+    /// alone is free.
+    pub fn load<D: Disk>(alloc: Global, disk: &mut D) -> Result<(LoadedHive, bool), LoadStop>
+        requires on { (D.state disk.old).on ≡ true }
+        requires still { D.tells ≡ true → (D.state disk.old).flight ≡ [] }
+        // At Ok the hive is what the disk holds, and so is whether it was dirty; a fault is its first.
+        ensures exact { D.tells ≡ true → LoadsFrom (D.state disk.old).held result }
+        // Then the disk is clean, and carries the hive's base block and bins data.
+        ensures still { D.tells ≡ true → OnOk result ((D.state disk.new).flight ≡ []) }
+        ensures carries { D.tells ≡ true → IfOk result (λ x. Carries (D.state disk.new).held x.0.base x.0.bins) }
+        ensures loads { D.tells ≡ true → IfOk result (λ x. Loads (D.state disk.new).held (loaded_state x.0) false) }
+        // At every exit a cut leaves what loads as the disk did at entry.
+        ensures crash { D.tells ≡ true → (s : HiveState) (dirty : Bool)
+            → Loads (D.state disk.old).held s dirty
+            → EachCrash (D.state disk.new) (λ (c : Image). LoadsAs c s) }
+        // Where the primary was clean, all is as it was, whatever the answer.
+        ensures clean { D.tells ≡ true → KeepsClean (D.state disk.old) (D.state disk.new) }
+        // A hive with a fault is not written, whatever the answer.
+        ensures faulty { D.tells ≡ true → (fault : HiveFaultModel) → LoadFault (D.state disk.old).held fault
+            → IsUntouched (D.state disk.old) (D.state disk.new) }
+        ensures unwritten { D.tells ≡ true → IsUnwritten (D.state disk.old) (D.state disk.new) result }
+        ensures goes { IsLoadOn (D.state disk.old) (D.state disk.new) result }
+    {
+        let Looked {
+            hive,
+            dirty,
+            bitmap,
+        } = look(alloc, disk)?;
+        if dirty {
+            restore(disk, &hive.base, bitmap.as_slice(), hive.bins.as_slice())?;
+        }
+        Ok((hive, dirty))
+    }
+}

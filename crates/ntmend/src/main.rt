@@ -1,0 +1,116 @@
+//! A hive mended where it lies: `ntmend HIVE LOG`.
+//!
+//! The program opens both files, holds a lock on each, and makes the top call of `mend_command` over them.
+#![tactic(auto)]
+
+mod output;
+
+use file_disk::FileDisk;
+use mend_command::mend_hive;
+use nt_edge::Host;
+use output::Output;
+use std::env;
+use std::fs::{File, OpenOptions};
+use std::io::ErrorKind;
+use std::process::ExitCode;
+
+/// There was no memory.
+const MEMORY: u8 = 9;
+
+/// A line could not be said.
+const WRITE_FAULT: u8 = 7;
+
+/// Why there are not two words.
+enum NoWords {
+    /// There are fewer or more, or one is no UTF-8.
+    Usage,
+    Memory,
+}
+
+/// Why a file is not open.
+enum Unopened {
+    /// It is absent, is a folder, can't be read and written, or is locked.
+    Refused,
+    Memory,
+}
+
+/// The two words of the command line, behind the program's name.
+fn words(rt: &HostRuntime) -> Result<(String, String), NoWords> {
+    let mut args = match env::args(rt) {
+        Ok(args) => args,
+        Err(e) if e.kind() == ErrorKind::InvalidData => return Err(NoWords::Usage),
+        Err(_) => return Err(NoWords::Memory),
+    };
+    let _program = args.next();
+    let Some(hive) = args.next() else {
+        return Err(NoWords::Usage);
+    };
+    let Some(log) = args.next() else {
+        return Err(NoWords::Usage);
+    };
+    match args.next() {
+        None => Ok((hive, log)),
+        Some(_) => Err(NoWords::Usage),
+    }
+}
+
+/// Opens a file that is there, to be read and written, and takes it for this run alone.
+fn open(rt: &HostRuntime, name: &str) -> Result<File, Unopened> {
+    let file = match OpenOptions::new().read(true).write(true).open(rt, name) {
+        Ok(file) => file,
+        Err(e) if e.kind() == ErrorKind::OutOfMemory => return Err(Unopened::Memory),
+        Err(_) => return Err(Unopened::Refused),
+    };
+    match file.try_lock() {
+        Ok(()) => Ok(file),
+        Err(_) => Err(Unopened::Refused),
+    }
+}
+
+/// Says a line, and answers this exit.
+fn say(output: &mut Output<'_>, line: &[u8], exit: u8) -> u8 {
+    match output.say(line) {
+        Ok(()) => exit,
+        Err(_) => WRITE_FAULT,
+    }
+}
+
+/// Says that there is no such file.
+fn no_file(rt: &HostRuntime, output: &mut Output<'_>, name: &str) -> u8 {
+    match format!(in rt.alloc(); "no file {name}\n") {
+        Ok(line) => say(output, line.as_bytes(), 2),
+        Err(_) => MEMORY,
+    }
+}
+
+/// Ends where a file of this name is not open.
+fn end_without(rt: &HostRuntime, output: &mut Output<'_>, name: &str, why: Unopened) -> u8 {
+    match why {
+        Unopened::Refused => no_file(rt, output, name),
+        Unopened::Memory => MEMORY,
+    }
+}
+
+/// Mends the hive of these names.
+fn mend(rt: &HostRuntime, output: &mut Output<'_>, hive: &str, log: &str) -> u8 {
+    let primary = match open(rt, hive) {
+        Ok(file) => file,
+        Err(why) => return end_without(rt, output, hive, why),
+    };
+    let logged = match open(rt, log) {
+        Ok(file) => file,
+        Err(why) => return end_without(rt, output, log, why),
+    };
+    let mut disk = FileDisk::new(primary, logged);
+    mend_hive(rt.alloc(), output, &mut disk).code()
+}
+
+fn main(rt: HostRuntime) -> ExitCode {
+    let mut output = Output::new(&rt);
+    let exit = match words(&rt) {
+        Ok((hive, log)) => mend(&rt, &mut output, hive.as_str(), log.as_str()),
+        Err(NoWords::Usage) => say(&mut output, b"bad usage\n", 1),
+        Err(NoWords::Memory) => MEMORY,
+    };
+    ExitCode::from(exit)
+}
