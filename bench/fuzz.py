@@ -1,11 +1,12 @@
 #!/usr/bin/env python3
 """Runs the built program on mutated inputs: bench/fuzz.py PROGRAM [--count N] [--seed TEXT] [--jobs N] [--keep FOLDER].
 
-Each input is a folder of tests/runs with one to four changes of its hive, log, boot.ini or script: bytes turned, fields set to edges, blocks
+Each input is a folder of tests/runs with one to four changes of its hive, log, boot.ini or texts: bytes turned, fields set to edges, blocks
 of 512 bytes swapped, dropped or doubled, lines doubled or dropped, the end cut off. Where the base block changes its checksum is mostly
-made anew, so that later checks are reached too. Each run must end with an answer of the program within ten seconds, take no more memory
-than 64 MiB and eight times its files, and where it is done save files that load. What fails is kept as a folder with its inputs and words.
-The N-th input of a seed is always the same. No gate runs it."""
+made anew, so that later checks are reached too. Most inputs are for `run`, the others for each further command that reads a hive. Each run
+must end with an answer of the program within ten seconds, take no more memory than 64 MiB and eight times its files, and where it is done
+leave files that load. What fails is kept as a folder with its inputs and words. The N-th input of a seed is always the same. No gate runs
+it."""
 import argparse
 import multiprocessing
 import os
@@ -22,8 +23,18 @@ import hives
 
 TOP = os.path.join(os.path.dirname(os.path.abspath(__file__)), "..")
 RUNS = os.path.join(TOP, "tests", "runs")
-INPUTS = ("hive", "log", "boot.ini", "script")
-ANSWERS = {0: b"", 1: b"bad usage", 2: b"no file ", 3: b"script fault ", 4: b"boot.ini fault ", 5: b"hive fault "}
+TEXTS = ("boot.ini", "script", "commands", "reg")
+INPUTS = ("hive", "log", "alt", *TEXTS)
+ANSWERS = {0: b"", 1: b"bad usage", 2: b"no file ", 3: b"script fault ", 4: b"boot.ini fault ", 5: b"hive fault ", 10: b"reg fault "}
+# The further commands: what each reads beside the hive (and a log, or a boot.ini, where the folder has one), and what it saves.
+FURTHER = {
+    "show": ([], []),
+    "safe": ([], []),
+    "control": (["commands"], []),
+    "twin": ([], ["hive", "alt"]),
+    "export": ([], []),
+    "import": (["reg"], ["hive", "log"]),
+}
 EDGES = (0, 1, 2, 3, 4, 5, 7, 8, 0x20, 0x7F, 0x80, 0xFF, 0x1000, 0x7FFF, 0x8000, 0xFFFF, 0x7FFFFFFF, 0x80000000, 0x80000004, hives.NONE - 7, hives.NONE)
 
 
@@ -40,6 +51,11 @@ def seeds():
         if "hive" in parts:
             found.append((name, parts))
     return found
+
+
+def texts(found):
+    """The texts of one kind that the kept runs have, by kind."""
+    return {kind: [parts[kind] for _, parts in found if kind in parts] for kind in TEXTS}
 
 
 def turned(chance, data):
@@ -110,10 +126,10 @@ def mutated(chance, parts):
     for _ in range(chance.randint(1, 4)):
         name = chance.choice([*parts, "hive"])
         data = parts[name]
-        is_text = name in ("boot.ini", "script")
+        is_text = name in TEXTS
         change = chance.choice((turned, edged, lined, lined, ended) if is_text else (turned, edged, edged, edged, copied, moved, ended))
         change(chance, data)
-    for name in ("hive", "log"):
+    for name in ("hive", "log", "alt"):
         if name in parts and chance.random() < 0.9:
             summed(parts[name])
     return parts
@@ -134,50 +150,97 @@ def ran(program, words, room):
         return os.waitstatus_to_exitcode(status), f.read(), used.ru_maxrss
 
 
-def words_of(parts):
-    words = ["run", "--hive", "hive", "--script", "script", "--save-hive", "new", "--save-log", "newlog"]
-    if "log" in parts:
+def words_of(command, parts):
+    """The words of a command over these inputs."""
+    words = [command, "--hive", "hive"]
+    if command == "run":
+        words += ["--script", "script", "--save-hive", "new-hive", "--save-log", "new-log"]
+    if command == "export":
+        words += ["--reg", "out"]
+    for read in FURTHER.get(command, ([], []))[0]:
+        words += [f"--{read}", read]
+    for saved in FURTHER.get(command, ([], []))[1]:
+        words += [f"--save-{saved}", f"new-{saved}"]
+    if command == "twin":
+        words += ["--alt", "alt"] if "alt" in parts else ["--scheme", "log"] if "log" in parts else []
+    elif "log" in parts:
         words += ["--log", "log"]
-    if "boot.ini" in parts:
+    if command in ("run", "safe") and "boot.ini" in parts:
         words += ["--boot-ini", "boot.ini"]
     return words
 
 
-def wrong(program, parts, room):
+def reading_again(command, parts, room):
+    """The words that must read what a run saved, if it saved anything."""
+    has = {name for name in ("new-hive", "new-log", "new-alt", "out") if os.path.exists(os.path.join(room, name))}
+    if command == "run" and b"torn" in parts["script"]:
+        return None
+    if "out" in has:
+        return ["import", "--hive", "hive", "--reg", "out", *(["--log", "log"] if "log" in parts else [])]
+    if "new-alt" in has and "log" not in parts:
+        return ["twin", "--hive", "new-hive", "--alt", "new-alt"]
+    if "new-hive" in has:
+        return ["show", "--hive", "new-hive", *(["--log", "new-log"] if "new-log" in has else [])]
+    return None
+
+
+def wrong(program, command, parts, room):
     """What is wrong with the run on these inputs, if anything."""
     for name, data in parts.items():
         with open(os.path.join(room, name), "wb") as f:
             f.write(data)
-    status, said, memory = ran(program, words_of(parts), room)
+    words = words_of(command, parts)
+    with open(os.path.join(room, "words"), "w") as f:
+        f.writelines(f"{word}\n" for word in words)
+    status, said, memory = ran(program, words, room)
     if status not in ANSWERS:
         return f"exit {status}"
-    if not said.endswith(b"\n") or not said.startswith(ANSWERS[status]) or (status == 0 and not said.endswith(b"end\n")):
+    is_report = command in ("run", "twin") and status == 0
+    if not said.endswith(b"\n") or not said.startswith(ANSWERS[status]) or (is_report and not said.endswith(b"end\n")):
         return f"exit {status} says {said[-60:]!r}"
     if memory > 64 * 1024 + 8 * sum(map(len, parts.values())) // 1024:
         return f"{memory} KiB"
-    saved = os.path.join(room, "new")
-    if (status == 0) != os.path.exists(saved):
-        return f"exit {status}, and the hive is {'saved' if os.path.exists(saved) else 'not saved'}"
-    if status == 0 and b"torn" not in parts["script"]:
-        shown, text, _ = ran(program, ["show", "--hive", "new", "--log", "newlog"], room)
-        if shown != 0:
-            return f"what was saved: exit {shown}, {text[-60:]!r}"
+    saves = "--save-hive" in words
+    if (status == 0 and saves) != os.path.exists(os.path.join(room, "new-hive")):
+        return f"exit {status}, and the hive is {'not ' if saves and status == 0 else ''}saved"
+    if command == "export" and status != 0 and os.path.exists(os.path.join(room, "out")):
+        return f"exit {status}, and a text is put"
+    again = reading_again(command, parts, room)
+    if again:
+        status, said, _ = ran(program, again, room)
+        if status != 0:
+            return f"what was saved: {' '.join(again)}: exit {status}, {said[-60:]!r}"
     return None
 
 
+def chosen(chance, found, kinds):
+    """A command and its inputs, before they are changed."""
+    name, parts = chance.choice(found)
+    parts = dict(parts)
+    command = "run" if chance.random() < 0.6 else chance.choice([*FURTHER])
+    if command == "run":
+        parts.setdefault("script", b"boot\ngo\nlogon\noff\n")
+    for kind in FURTHER.get(command, ([], []))[0]:
+        if kind not in parts:
+            parts[kind] = chance.choice(kinds[kind])
+    if command == "twin" and "alt" not in parts and "log" not in parts and chance.random() < 0.8:
+        parts["alt"] = parts["hive"]
+    return name, command, parts
+
+
 def work(task):
-    """Tries the inputs of one range, and answers how many there were of each exit status of a first run, and what failed."""
+    """Tries the inputs of one range, and answers how many there were, and what failed."""
     program, seed, first, last, keep = task
     found, failed = seeds(), []
+    kinds = texts(found)
     for n in range(first, last):
         chance = random.Random(f"{seed} {n}")
-        name, parts = chance.choice(found)
-        parts.setdefault("script", bytearray(b"boot\ngo\nlogon\noff\n"))
+        name, command, parts = chosen(chance, found, kinds)
         parts = mutated(chance, parts)
         with tempfile.TemporaryDirectory() as room:
-            why = wrong(program, parts, room)
+            why = wrong(program, command, parts, room)
             if why:
-                failed.append(f"{seed} {n} (from {name}): {why}")
+                failed.append(f"{seed} {n} ({command}, from {name}): {why}")
                 shutil.copytree(room, os.path.join(keep, f"{seed}_{n}"), dirs_exist_ok=True)
     return last - first, failed
 

@@ -1,7 +1,8 @@
 #!/usr/bin/env python3
-"""Runs the built program: over each folder of tests/runs, which has `words` (one a line), the input files, what must be said (`stdout`),
-the exit status (`status`), and files that must be there then (`after`); over each example; and over files and an output that no folder can hold. Prints each run that differs, then
-'N passed, N failed'. tests/run_all.py [PROGRAM]"""
+"""Runs the built programs: ntboot over each folder of tests/runs, and ntmend over those whose name begins with `ntmend_`. A folder has `words`
+(one a line), the input files, what must be said (`stdout`), the exit status (`status`), and files that must be there then (`after`). Then
+ntboot over each example, and over files and an output that no folder can hold. Prints each run that differs, then 'N passed, N failed'.
+tests/run_all.py [PROGRAM [NTMEND]]"""
 import os
 import resource
 import shutil
@@ -15,10 +16,14 @@ import time
 
 TOP = os.path.join(os.path.dirname(os.path.abspath(__file__)), "..")
 PROGRAM = os.path.join(TOP, "crates", "ntboot", "out", "ntboot")
+MENDER = os.path.join(TOP, "crates", "ntmend", "out", "ntmend")
 RUNS = os.path.join(TOP, "tests", "runs")
 EXAMPLES = os.path.join(TOP, "examples")
 ONE_DRIVER = os.path.join(RUNS, "starts_one_boot_driver")
+DIRTY = os.path.join(RUNS, "hive_recovered_by_its_log")
 WORDS = ["run", "--hive", "hive", "--script", "script"]
+# So many bytes of a hive or a log count.
+COUNTED = 32 * 1024 * 1024
 UMASK = os.umask(0o022)
 os.umask(UMASK)
 
@@ -69,6 +74,35 @@ def in_room(program, change, words=WORDS, **more):
 def becomes_a_folder(room):
     os.remove(os.path.join(room, "script"))
     os.mkdir(os.path.join(room, "script"))
+
+
+def padded(room, name, size):
+    """A file with zeros behind it up to so many bytes, the last byte behind the first 32 MiB another one."""
+    path = os.path.join(room, name)
+    os.truncate(path, size)
+    if size > COUNTED:
+        with open(path, "r+b") as f:
+            f.seek(size - 1)
+            f.write(b"\xff")
+
+
+def saved_of_long(program, size):
+    """A run that saves a hive of so many bytes: what was said, the exit status, and whether the saved file has its first 32 MiB."""
+    with tempfile.TemporaryDirectory() as room:
+        for part in ("hive", "script"):
+            shutil.copy(os.path.join(ONE_DRIVER, part), room)
+        padded(room, "hive", size)
+        found = said(program, [*WORDS, "--save-hive", "saved"], room)
+        return *found, read(room, "saved") == read(room, "hive")[:COUNTED]
+
+
+def with_a_long_log(program, size):
+    """A dirty hive with its log, which has so many bytes."""
+    with tempfile.TemporaryDirectory() as room:
+        for part in ("hive", "script", "log"):
+            shutil.copy(os.path.join(DIRTY, part), room)
+        padded(room, "log", size)
+        return said(program, [*WORDS, "--log", "log"], room)
 
 
 def becomes_as_long_as_is_read(room):
@@ -194,11 +228,11 @@ def to_a_short_file(program):
         return read(path), done.returncode
 
 
-def cases(program):
+def cases(program, mender):
     """Each run: its name, what was said with the exit status, and what both must be."""
     for name in sorted(os.listdir(RUNS)):
         folder = os.path.join(RUNS, name)
-        yield name, of_folder(program, folder), (read(folder, "stdout"), int(read(folder, "status")))
+        yield name, of_folder(mender if name.startswith("ntmend_") else program, folder), (read(folder, "stdout"), int(read(folder, "status")))
     for name in sorted(os.listdir(EXAMPLES)):
         folder = os.path.join(EXAMPLES, name)
         for line, found, want in of_example(program, folder):
@@ -208,6 +242,11 @@ def cases(program):
     odd = [b"run", b"--hive", b"\xff", b"--script", b"script"]
     yield "a file that is a folder", in_room(program, becomes_a_folder), (b"", 6)
     yield "a path below a plain file", in_room(program, lambda room: None, below), (b"", 6)
+    recovered = (read(DIRTY, "stdout"), 0)
+    yield "a hive of 32 MiB", saved_of_long(program, COUNTED), (*whole, True)
+    yield "a hive of a byte more than 32 MiB", saved_of_long(program, COUNTED + 1), (*whole, True)
+    yield "a log of 32 MiB", with_a_long_log(program, COUNTED), recovered
+    yield "a log of a byte more than 32 MiB", with_a_long_log(program, COUNTED + 1), recovered
     yield "a hive of 256 MiB", in_room(program, becomes_as_long_as_is_read), whole
     yield "a hive of more than 256 MiB", in_room(program, becomes_too_long), (b"", 6)
     yield "a hive that comes in pieces", in_room(program, comes_in_pieces), whole
@@ -220,11 +259,12 @@ def cases(program):
 
 def main(words):
     program = os.path.abspath(words[0] if words else PROGRAM)
-    if not os.path.exists(program):
+    mender = os.path.abspath(words[1] if words[1:] else MENDER)
+    if not os.path.exists(program) or not os.path.exists(mender):
         print("no built program: run `rt ci` at the top first")
         return 1
     passed = failed = 0
-    for name, found, want in cases(program):
+    for name, found, want in cases(program, mender):
         if found == want:
             passed += 1
             continue
