@@ -15,6 +15,8 @@ import hives
 from timing import used
 
 TRIES = 3
+# A peer is stopped after so many seconds.
+PATIENCE = 60
 PREFIX = "HKEY_LOCAL_MACHINE\\SYSTEM"
 HEADER = "Windows Registry Editor Version 5.00"
 # Each form of data, names of each kind, and keys below one another; in 8-bit characters, which the peers can tell.
@@ -97,12 +99,19 @@ def export_times(program, room):
     write(room, "half", half)
     other, _ = least([program, "export", "--hive", "half", "--reg", "half.reg"], room)
     print(f"export of {len(half)} bytes: {other:.2f} s")
-    if shutil.which("reged"):
-        peer, _ = least(["reged", "-x", "large", PREFIX, "\\", "reged.reg"], room)
-        print(f"reged -x of the same: {peer:.2f} s; export takes {took / peer:.2f} of it")
-    if shutil.which("hivexregedit"):
-        peer, _ = least(["hivexregedit", "--export", "--prefix", PREFIX, "large", "\\"], room, "hivex.reg")
-        print(f"hivexregedit --export of the same: {peer:.2f} s; export takes {took / peer:.2f} of it")
+    for words in (["reged", "-x", "large", PREFIX, "\\", "reged.reg"], ["hivexregedit", "--export", "--prefix", PREFIX, "large", "\\"]):
+        if shutil.which(words[0]):
+            print(f"{words[0]}: {by_peer(words, room)}; export: {took:.2f} s")
+
+
+def by_peer(words, room):
+    """The processor seconds that a peer takes, or that it was stopped after so many."""
+    before = used()
+    try:
+        subprocess.run(words, cwd=room, capture_output=True, timeout=PATIENCE)
+    except subprocess.TimeoutExpired:
+        return f"not done in {PATIENCE} s"
+    return f"{used() - before:.2f} s"
 
 
 def import_times(program, room):
