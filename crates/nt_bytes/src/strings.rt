@@ -4,7 +4,8 @@ ghost use Rattle.std.specs.Prelude.{◌≡◌, ◌+◌, ◌*◌, ◌≤◌, leng
 ghost use Rattle.std.specs.List.{position_or_len, before_first, after_first};
 ghost use Rattle.nt_bytes.specs.Text.{wide_of, narrow_of, is_zero, sz_of, multi_sz_of};
 
-use crate::lists::{Names, Units};
+use crate::names::Names;
+use crate::units::Units;
 use std::alloc::{AllocError, Global};
 
 /// The little-endian units of the bytes. An odd last byte is left out.
