@@ -8,7 +8,13 @@ use Rattle.std.proofs.lemmas.Nat.{from_le_bytes-to_le_bytes_2, from_le_bytes-to_
 use Rattle.std.specs.Int.{w16, to_le_bytes}
 use Rattle.nt_bytes.specs.Fields.{u16_in, u32_in}
 use Rattle.nt_bytes.specs.Text.{wide_of}
-use Rattle.hive_model.specs.Forms.{wide_text, stored_name, name_text, has_half_unit, UnitsFit, key_name_at, value_name_at, KeyNode, is_narrow_key, key_node_in, key_node_at, key_node_text, IsKeyNode, KeyValue, is_narrow_value, is_overfull, key_value_in, key_value_at, key_value_text, IsKeyValue, bytes_in, SecurityCell, security_at, security_text, IsSecurityCell, BigData, big_data_in, big_data_at, big_data_text, IsBigData, Li, Lf, Lh, Ri, ListKind, numbers_in, list_of, list_at, offsets_text, entries_text, AreOffsets, AreHints, li_text, lf_text, lh_text, ri_text, offsets_in}
+use Rattle.hive_model.specs.Forms.{bytes_in}
+use Rattle.hive_model.specs.StoredNames.{wide_text, stored_name, name_text, has_half_unit, UnitsFit, key_name_at, value_name_at}
+use Rattle.hive_model.specs.KeyNode.{KeyNode, is_narrow_key, key_node_in, key_node_at, key_node_text, IsKeyNode}
+use Rattle.hive_model.specs.KeyValue.{KeyValue, is_narrow_value, is_overfull, key_value_in, key_value_at, key_value_text, IsKeyValue}
+use Rattle.hive_model.specs.BigData.{BigData, big_data_in, big_data_at, big_data_text, IsBigData}
+use Rattle.hive_model.specs.Security.{SecurityCell, security_at, security_text, IsSecurityCell}
+use Rattle.hive_model.specs.Lists.{Li, Lf, Lh, Ri, ListKind, numbers_in, list_of, list_at, offsets_text, entries_text, AreOffsets, AreHints, li_text, lf_text, lh_text, ri_text, offsets_in}
 
 -- a range of what a payload begins with
 pub in_range : (p a slack : List ℕ) (n : ℕ) → drop n p ≡ a ++ slack → slice_range p n (n + length a) ≡ a

@@ -15,7 +15,9 @@ use Rattle.hive_model.specs.Tree.{Item, Head, Tree, Trees, key, none, more, head
 use Rattle.hive_model.specs.Valid.{deepest_level}
 use Rattle.hive_model.specs.Size.{cell, name_bytes, data_sizes, class_size, security_size, node_size, part_count, count}
 use Rattle.hive_model.specs.Edit.{Step, set_value, delete_value, make_key, delete_key, copy_child, add_child, Refusal, has_child, after_step}
-use Rattle.hive_model.specs.Forms.{KeyNode, key_node_at, key_value_at, offsets_in}
+use Rattle.hive_model.specs.KeyNode.{KeyNode, key_node_at}
+use Rattle.hive_model.specs.KeyValue.{key_value_at}
+use Rattle.hive_model.specs.Lists.{offsets_in}
 use Rattle.hive_model.specs.Bins.{Cells}
 use Rattle.hive_model.specs.Walk.{reading, entries_at, Check, uses, tests, names_of, security_checks, value_checks, entries_checks, key_checks}
 use Rattle.hive_model.specs.Packed.{rounded}

@@ -8,7 +8,8 @@
 -- where that has its descriptor, and a copied key the cell of the one that it is a copy of; else a new cell is written for it.
 use Rattle.std.specs.Prelude.{◌≡◌, ◌≤◌, ◌<◌, ◌⊎◌, ℕ, ◌+◌, ◌-◌, min, Bool, if◌then◌else◌, List, [], ◌∷◌, ◌++◌, length, take, drop, Contains, Ok}
 use Rattle.hive_model.specs.Size.{part_count}
-use Rattle.hive_model.specs.Forms.{SecurityCell, security_at, ri_text}
+use Rattle.hive_model.specs.Security.{SecurityCell, security_at}
+use Rattle.hive_model.specs.Lists.{ri_text}
 use Rattle.hive_model.specs.Bins.{Cells}
 use Rattle.hive_model.specs.Walk.{reading, all_checks}
 use Rattle.hive_model.specs.Packed.{list_text}

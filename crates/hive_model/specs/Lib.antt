@@ -1,5 +1,11 @@
 pub mod Tree
 pub mod Forms
+pub mod StoredNames
+pub mod KeyNode
+pub mod KeyValue
+pub mod BigData
+pub mod Security
+pub mod Lists
 pub mod Bins
 pub mod Walk
 pub mod Stands

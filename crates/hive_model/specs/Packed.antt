@@ -21,7 +21,11 @@ use Rattle.nt_bytes.specs.declared.version.HiveVersion.TheVariants.{V3, V5}
 use Rattle.hive_model.specs.Tree.{Item, Head, Tree, Trees, key, none, more, listed, head}
 use Rattle.hive_model.specs.Size.{cell, is_narrow, name_bytes, segment_bytes, is_big, segment_count, item_size, items_size, class_size, has_own, security_size, node_size, part_count, list_size, count, size}
 use Rattle.hive_model.specs.Bins.{Cell, Bin, cell_bytes, spelled}
-use Rattle.hive_model.specs.Forms.{KeyNode, key_node_text, KeyValue, key_value_text, big_data_text, security_text, offsets_text, lf_text, lh_text, ri_text, hint_of, hash_of}
+use Rattle.hive_model.specs.KeyNode.{KeyNode, key_node_text}
+use Rattle.hive_model.specs.KeyValue.{KeyValue, key_value_text}
+use Rattle.hive_model.specs.BigData.{big_data_text}
+use Rattle.hive_model.specs.Security.{security_text}
+use Rattle.hive_model.specs.Lists.{offsets_text, lf_text, lh_text, ri_text, hint_of, hash_of}
 use Rattle.hive_model.specs.Walk.{nowhere}
 
 -- ---- cells in a row, each known by what is spelled in it

@@ -2,7 +2,11 @@
 use Rattle.std.specs.Prelude.{◌≡◌, ◌≤◌, ◌<◌, ℕ, ◌-◌, ◌==◌, if◌then◌else◌, MatchBool, List, [], ◌∷◌, ◌++◌, length, Option, Some, None, Result, Ok}
 use Rattle.std.specs.List.{All}
 use Rattle.nt_bytes.specs.declared.fault.HiveKind.{HiveKind}
-use Rattle.hive_model.specs.Forms.{◌>>=◌, KeyNode, key_node_at, is_narrow_key, KeyValue, key_value_at, data_inside, bytes_in, security_at, offsets_in}
+use Rattle.hive_model.specs.Forms.{◌>>=◌, bytes_in}
+use Rattle.hive_model.specs.KeyNode.{KeyNode, key_node_at, is_narrow_key}
+use Rattle.hive_model.specs.KeyValue.{KeyValue, key_value_at, data_inside}
+use Rattle.hive_model.specs.Security.{security_at}
+use Rattle.hive_model.specs.Lists.{offsets_in}
 use Rattle.hive_model.specs.Tree.{Tree, Trees, key, none, more, listed, Head, head, Item}
 use Rattle.hive_model.specs.Size.{segment_bytes, is_big, segment_part}
 use Rattle.hive_model.specs.Bins.{Cells}

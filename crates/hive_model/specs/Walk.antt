@@ -17,7 +17,12 @@ use Rattle.nt_bytes.specs.Folding.{folds_same}
 use Rattle.nt_bytes.specs.declared.fault.HiveKind.{HiveKind}
 use Rattle.nt_bytes.specs.declared.fault.HiveKind.TheVariants.{Shared, FormLength, FormName, FormKind, DoubleName, Count, TooDeep}
 use Rattle.nt_bytes.specs.declared.fault.HiveFault.{HiveFault}
-use Rattle.hive_model.specs.Forms.{◌>>=◌, KeyNode, key_node_at, KeyValue, key_value_at, data_inside, bytes_in, BigData, big_data_at, security_at, ListKind, Li, Lf, Lh, Ri, SubkeyList, list_at, offsets_in}
+use Rattle.hive_model.specs.Forms.{◌>>=◌, bytes_in}
+use Rattle.hive_model.specs.KeyNode.{KeyNode, key_node_at}
+use Rattle.hive_model.specs.KeyValue.{KeyValue, key_value_at, data_inside}
+use Rattle.hive_model.specs.BigData.{BigData, big_data_at}
+use Rattle.hive_model.specs.Security.{security_at}
+use Rattle.hive_model.specs.Lists.{ListKind, Li, Lf, Lh, Ri, SubkeyList, list_at, offsets_in}
 use Rattle.hive_model.specs.Valid.{deepest_level}
 use Rattle.hive_model.specs.Size.{segment_bytes, is_big, segment_count, segment_part}
 use Rattle.hive_model.specs.Bins.{Cells, or_else}

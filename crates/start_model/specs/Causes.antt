@@ -2,7 +2,8 @@
 --
 -- Numbers alone: which wake, and which counts. A disk counts the losses of power and the failed calls that it had.
 use Rattle.std.specs.Prelude.{◌≡◌, ◌⊎◌, ◌<◌, ℕ, List, [], ◌∷◌}
-use Rattle.start_model.specs.Run.{Outcome, Finished, PowerCut, DeviceFault, Note, Woke, Ended}
+use Rattle.start_model.specs.Possible.{Outcome, Finished, PowerCut, DeviceFault}
+use Rattle.start_model.specs.Act.{Note, Woke, Ended}
 
 -- how many losses of power and failed calls a disk had until a moment
 pub record Tally : Type 0 where

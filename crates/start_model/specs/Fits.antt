@@ -8,7 +8,9 @@ use Rattle.hive_model.specs.Load.{Loads}
 use Rattle.start_model.specs.Lines as lines
 use Rattle.start_model.specs.Lines.{Line, LoadLine, CommitLine, VerdictLine}
 use Rattle.start_model.specs.Sets.{set_of, select_numbers_of}
-use Rattle.start_model.specs.Run.{Possible, Woken, Outcome, Finished, PowerCut, DeviceFault, Note, Woke, Held, Saved, good_is_usable}
+use Rattle.start_model.specs.Possible.{Possible, Woken, Outcome, Finished, PowerCut, DeviceFault}
+use Rattle.start_model.specs.Act.{Note, Woke, Held, Saved}
+use Rattle.start_model.specs.Starter.{good_is_usable}
 
 -- ---- the outcomes that a report tells
 

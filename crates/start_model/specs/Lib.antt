@@ -7,7 +7,14 @@ pub mod Ready
 pub mod Sets
 pub mod Events
 pub mod Machine
+pub mod Possible
+pub mod Act
+pub mod Commit
+pub mod Starter
+pub mod Boot
+pub mod EventActs
 pub mod Run
+pub mod Quiet
 pub mod Fits
 pub mod Orders
 pub mod Causes

@@ -1,7 +1,7 @@
 -- Which stops of the disk did a run order, and how often did it cut the power itself? (this project's own)
 use Rattle.std.specs.Prelude.{ℕ, ◌+◌, List, [], ◌∷◌}
 use Rattle.hive_model.specs.Image.{Arming}
-use Rattle.start_model.specs.Run.{Note, Ordered, Cuts}
+use Rattle.start_model.specs.Act.{Note, Ordered, Cuts}
 
 -- the stops that were ordered, in their order
 abbrev pub ordered_in : List Note → List Arming

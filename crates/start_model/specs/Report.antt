@@ -6,7 +6,9 @@ use Rattle.std.specs.Prelude.{◌≡◌, ℕ, List, [], ◌∷◌, ◌++◌, Som
 use Rattle.nt_bytes.specs.Front.{IsFront}
 use Rattle.hive_model.specs.Image.{Image}
 use Rattle.start_model.specs.Lines.{text_of}
-use Rattle.start_model.specs.Run.{Woken, Outcome, Note, RunState, RunResult}
+use Rattle.start_model.specs.Possible.{Woken, Outcome}
+use Rattle.start_model.specs.Act.{Note, RunState}
+use Rattle.start_model.specs.Run.{RunResult}
 use Rattle.start_model.specs.Fits.{outcomes_of, woke_in, Fits, MayLoad}
 
 -- a run as a function of what the disk wakes up with and of how its operations end

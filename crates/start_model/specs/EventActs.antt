@@ -1,0 +1,109 @@
+-- What does an event of the script do?
+--
+-- The events are this project's own.
+use Rattle.std.specs.Prelude.{ℕ, true, false, ◌||◌, not, if◌then◌else◌, [], ◌∷◌, Option, None, Some, Result, Ok, Err}
+use Rattle.hive_model.specs.Image.{Arming, ArmedCut, ArmedFault}
+use Rattle.hive_model.specs.Tree.{Tree, same_tree}
+use Rattle.hive_model.specs.Edit.{Refusal, no_key, no_value, bad_name, exists, name_too_long, too_deep, data_too_long, full, edited}
+use Rattle.start_model.specs.Lines as lines
+use Rattle.start_model.specs.Lines.{RefusedWord, EventWord, LogonLine, EditOkLine, FlushNothingLine, RefusedLine}
+use Rattle.start_model.specs.Events.{Set, Delete, Make, Remove, Event, BootNow, Go, Fail, Edits, Flush, Logon, Off, CutNow, Arm, step_of}
+use Rattle.start_model.specs.Machine.{Start, failing, ending_of, with_start, refusal_of}
+use Rattle.start_model.specs.Act.{RunState, Ordered, Cuts, Act, done, say, ask, mark, with_machine, end_with}
+use Rattle.start_model.specs.Commit.{commit, save_where_due}
+use Rattle.start_model.specs.Starter.{go_act}
+use Rattle.start_model.specs.Boot.{Choice, boot_act}
+
+-- the first word of an event's line; of an ordered stop it is that of its kind
+abbrev pub event_word_of : Event → EventWord
+event_word_of (BootNow entry good) = lines.BootEvent
+event_word_of (Go steps) = lines.GoEvent
+event_word_of (Fail name count) = lines.FailEvent
+event_word_of (Edits (Set path name kind bytes)) = lines.SetEvent
+event_word_of (Edits (Delete path name)) = lines.DeleteEvent
+event_word_of (Edits (Make path)) = lines.MakeEvent
+event_word_of (Edits (Remove path)) = lines.RemoveEvent
+event_word_of Flush = lines.FlushEvent
+event_word_of Logon = lines.LogonEvent
+event_word_of Off = lines.OffEvent
+event_word_of (CutNow keep) = lines.CutEvent
+event_word_of (Arm (ArmedCut call n keep)) = lines.CutEvent
+event_word_of (Arm (ArmedFault call n)) = lines.FaultEvent
+
+-- the word of an edit's refusal; that a key is there already is none that an edit of a script meets
+abbrev pub reason_of : Refusal → RefusedWord
+reason_of no_key = lines.NoKeyReason
+reason_of no_value = lines.NoValueReason
+reason_of bad_name = lines.BadNameReason
+reason_of exists = lines.BadNameReason
+reason_of name_too_long = lines.NameTooLongReason
+reason_of too_deep = lines.TooDeepReason
+reason_of data_too_long = lines.DataTooLongReason
+reason_of full = lines.FullReason
+
+-- the edited tree is the live one, and is changed where it is unlike the one before; or the refusal is said
+abbrev pub edit_done : Event → RunState → Result Tree Refusal → Act
+edit_done e m (Ok tree) = say EditOkLine (done (record m { live = tree; changed = m.changed || not (same_tree m.live tree) }))
+edit_done e m (Err refusal) = say (RefusedLine (event_word_of e) (reason_of refusal)) (done m)
+
+-- a changed tree is committed; else a line says that there was nothing
+abbrev pub flush_act : RunState → Act
+flush_act m = if m.changed then commit lines.FlushCommit m.live m done else say FlushNothingLine (done m)
+
+-- a changed tree is committed, and the start ends with its verdict
+abbrev pub off_act : Start → RunState → Act
+off_act s m =
+    if m.changed then commit lines.OffCommit m.live m (end_with (ending_of s) false)
+    else end_with (ending_of s) false m
+
+-- the logon is said and noted, and a start that became good by it is saved
+abbrev pub logon_act : Start → RunState → Act
+logon_act s m =
+    let after : Start = record s { logged_on = true } in
+    say LogonLine (save_where_due (Some after) (with_machine (with_start after m.machine) m) done)
+
+-- the power is cut: one outcome is taken, whatever it is called, and the state stays the settled one
+abbrev pub cut_act : RunState → Act
+cut_act m = mark Cuts (ask m.disk (λ outcome. end_with lines.Cut false m))
+
+-- a stop of the disk is ordered, and nothing is said
+abbrev pub arm_act : Arming → RunState → Act
+arm_act arming m = mark (Ordered arming) (done m)
+
+-- an event that was not refused, while a start runs
+abbrev pub running_act : Start → Event → RunState → Act
+running_act s (BootNow entry good) m = done m
+running_act s (Go steps) m = go_act steps m
+running_act s (Fail name count) m = done (with_machine (failing name count m.machine) m)
+running_act s (Edits edit) m = edit_done (Edits edit) m (edited m.version m.live (step_of s.number edit ∷ []))
+running_act s Flush m = flush_act m
+running_act s Logon m = logon_act s m
+running_act s Off m = off_act s m
+running_act s (CutNow keep) m = cut_act m
+running_act s (Arm arming) m = arm_act arming m
+
+-- an event that was not refused, while no start runs
+abbrev pub idle_act : (Option ℕ → Choice) → Event → RunState → Act
+idle_act choice (BootNow entry good) m = boot_act choice entry good m
+idle_act choice (Go steps) m = done m
+idle_act choice (Fail name count) m = done (with_machine (failing name count m.machine) m)
+idle_act choice (Edits edit) m = done m
+idle_act choice Flush m = done m
+idle_act choice Logon m = done m
+idle_act choice Off m = done m
+idle_act choice (CutNow keep) m = done m
+idle_act choice (Arm arming) m = arm_act arming m
+
+-- an event that was not refused, with a start that runs or none
+abbrev pub accepted_act : (Option ℕ → Choice) → Option Start → Event → RunState → Act
+accepted_act choice None e m = idle_act choice e m
+accepted_act choice (Some s) e m = running_act s e m
+
+-- the line of a refusal, or else what the event does
+abbrev pub act_unless : (Option ℕ → Choice) → Event → RunState → Option RefusedWord → Act
+act_unless choice e m (Some reason) = say (RefusedLine (event_word_of e) reason) (done m)
+act_unless choice e m None = accepted_act choice m.machine.start e m
+
+-- what an event does
+unfoldable pub event_step_of : (Option ℕ → Choice) → Event → RunState → Act
+event_step_of choice e m = act_unless choice e m (refusal_of m.machine e)
