@@ -1,7 +1,7 @@
 -- Wakes that may be, as far as they were taken.
 use Rattle.std.proofs.Common.{List, [], ◌∷◌, ◌++◌, length, take}
 use Rattle.hive_model.specs.Tree.{Tree}
-use Rattle.start_model.specs.Run.{Possible, Woken}
+use Rattle.start_model.specs.Possible.{Possible, Woken}
 use Rattle.start_model.specs.Fits.{ArePossible, IsPossible}
 
 -- the first wakes are what the disk could load as then, and there are as many of them; more may be left over

@@ -10,7 +10,8 @@ use Rattle.nt_bytes.specs.declared.version.HiveVersion.{HiveVersion}
 use Rattle.hive_model.specs.Tree.{Tree}
 use Rattle.hive_model.specs.Edit.{renamed, after_steps}
 use Rattle.start_model.specs.Sets.{SelectNumbers, SetPlan, SetChange, set_name, set_of, numbers_in, select_numbers_of, usable_numbers_of, is_usable, has_number, deletions_of, writes_of, taken_number, begun, plan_with, begin_plan_of, stepped, begin_of, save_of}
-use Rattle.start_model.specs.Run.{Note, Held, Saved, good_is_usable}
+use Rattle.start_model.specs.Act.{Note, Held, Saved}
+use Rattle.start_model.specs.Starter.{good_is_usable}
 use Rattle.start_model.specs.Fits.{held_in, saved_in, good_set_of, first_good_in, IsGoodSet, NamesGood, IsGoodBehind}
 use Rattle.start_laws.proofs.UsableLemmas.{or_first, usable_parts, usable_is, small_among}
 use Rattle.start_laws.proofs.StepLemmas.{select_key, parted, steps_made}

@@ -18,8 +18,17 @@ use Rattle.start_model.specs.Sets.{SelectNumbers, SetChange, ChangeStop, NoPlan,
 use Rattle.start_model.specs.Events as events
 use Rattle.start_model.specs.Events.{Event, Edit, is_protected, step_of}
 use Rattle.start_model.specs.Machine.{Start, MachineState, Tried, attempt_at, attempt_in, attempt_of, next_in, after_phase, unmet_in, is_done, save_due, with_start, failing, ending_of, refusal_in, refusal_of}
-use Rattle.start_model.specs.Run as run
-use Rattle.start_model.specs.Run.{RunState, Possible, Act, Note, Woke, Held, Saved, Ordered, Cuts, Ended, Woken, Outcome, Finished, PowerCut, DeviceFault, Choice, next_state, settled_at, open_between, woken_at, committed_state, opened_state, loaded_state, woken_state, begun_state, accepted_state, say_all, commit, committed, end_with, with_machine, noted_saved, saved_by, save, save_where_due, no_set, live_set, good_is_usable, phase_line, judged, phase_step, starter_step, stepping, go_steps, enough_steps, go_act, begin_start, begin_with, begin_by, take_set, loaded, woken, chosen, boot_act, edit_done, flush_act, off_act, logon_act, running_act, idle_act, accepted_act, act_unless, event_step_of, verdict_first, closing_act}
+use Rattle.start_model.specs.Act as acts
+use Rattle.start_model.specs.Commit as commit_book
+use Rattle.start_model.specs.Boot as boot_book
+use Rattle.start_model.specs.EventActs as event_acts
+use Rattle.start_model.specs.Possible.{Possible, Woken, Outcome, Finished, PowerCut, DeviceFault, settled_at, open_between, woken_at}
+use Rattle.start_model.specs.Act.{RunState, Act, Note, Woke, Held, Saved, Ordered, Cuts, Ended, next_state, say_all, end_with, with_machine}
+use Rattle.start_model.specs.Commit.{committed_state, opened_state, commit, committed, noted_saved, saved_by, save, save_where_due}
+use Rattle.start_model.specs.Starter.{no_set, live_set, good_is_usable, phase_line, judged, phase_step, starter_step, stepping, go_steps, enough_steps, go_act}
+use Rattle.start_model.specs.Boot.{Choice, loaded_state, woken_state, begun_state, accepted_state, begin_start, begin_with, begin_by, take_set, loaded, woken, chosen, boot_act}
+use Rattle.start_model.specs.EventActs.{edit_done, flush_act, off_act, logon_act, running_act, idle_act, accepted_act, act_unless, event_step_of}
+use Rattle.start_model.specs.Run.{verdict_first, closing_act}
 use Rattle.start_model.specs.Fits.{IsPossible, held_in, saved_in}
 use Rattle.start_laws.proofs.BeginLemmas.{some_tree, without_steps, by_plan, begin_of-begins}
 use Rattle.good_laws.proofs.EditLemmas.{edited_keeps}
@@ -66,11 +75,11 @@ MarkFine h note = HeldFine h note
 
 -- an event keeps all that, whatever the wakes that may be and however the operations end
 abbrev pub Keeps : (Tree → Type 0) → List Note → Act → Type 0
-Keeps P h (run.done m) = KeepsGoing P h m
-Keeps P h (run.say l act) = Keeps P h act
-Keeps P h (run.ask disk next) = DiskFine h disk × ((o : Outcome) → Keeps P (push h (Ended o)) (next o))
-Keeps P h (run.wake disk next) = DiskFine h disk × ((w : Woken) → IsPossible disk w → P w.state.tree → Keeps P (push h (Woke disk)) (next w))
-Keeps P h (run.mark note act) = MarkFine h note × Keeps P (push h note) act
+Keeps P h (acts.done m) = KeepsGoing P h m
+Keeps P h (acts.say l act) = Keeps P h act
+Keeps P h (acts.ask disk next) = DiskFine h disk × ((o : Outcome) → Keeps P (push h (Ended o)) (next o))
+Keeps P h (acts.wake disk next) = DiskFine h disk × ((w : Woken) → IsPossible disk w → P w.state.tree → Keeps P (push h (Woke disk)) (next w))
+Keeps P h (acts.mark note act) = MarkFine h note × Keeps P (push h note) act
 
 abbrev Next : (Tree → Type 0) → (RunState → Act) → Type 0
 Next P next = (h : List Note) (x : RunState) → KeepsGoing P h x → Keeps P h (next x)
@@ -126,7 +135,7 @@ commit-keeps P what h m tree next fine disk then = (opened, λ o. by_case o)
     opened : DiskFine h (open_between m.disk.settled (next_state m tree))
     opened = record { settled = disk.settled; other = fine }
 
-    stopped : (o : Outcome) → KeepsGoing P (push h (Ended o)) (run.start_over false (opened_state m tree))
+    stopped : (o : Outcome) → KeepsGoing P (push h (Ended o)) (acts.start_over false (opened_state m tree))
     stopped o = record { disk = disk_note h (push h (Ended o)) (open_between m.disk.settled (next_state m tree)) (same_held h (Ended o) refl) (same_saved h (Ended o) refl) opened; runs = tt }
 
     by_case : (o : Outcome) → Keeps P (push h (Ended o)) (committed what tree m next o)
@@ -156,7 +165,7 @@ saved_by-keeps P s clone h m next (Ok change) is d r f =
     let after : List Note = push (push k (Ended Finished)) (Held change.tree) in
     let saved = save_runs m.version h m.live clone change s.number is r in
     let settled : IsRunning after change.tree s.number = run_committed k change.tree s.number saved in
-    let behind : RunState → Act = λ after. run.say (run.select_line change.numbers) (next (noted_saved true s after)) in (
+    let behind : RunState → Act = λ after. acts.say (commit_book.select_line change.numbers) (next (noted_saved true s after)) in (
       tt,
       commit-keeps P lines.SaveCommit k m change.tree behind saved.fine (disk_saved h clone m.disk d)
           (f after (noted_saved true s (committed_state m change.tree)) (noted_going P after true s (committed_state m change.tree) (disk_settled after (next_state m change.tree) settled.fine) settled)),
@@ -220,7 +229,7 @@ phase_step-keeps : (P : Tree → Type 0) (s : Start) (h : List Note) (m : RunSta
 phase_step-keeps P s h m next d r f =
     let after : Start = after_phase (live_set m s.number) s in
     let there : RunState = with_machine (with_start after m.machine) m in
-    say_all-keeps P h (map UnmetLine (unmet_in s)) (run.say (phase_line after.phase) (save_where_due (Some after) there next)) (due-keeps P after h m next d (record { on_set = r.on_set; clone = r.clone }) f)
+    say_all-keeps P h (map UnmetLine (unmet_in s)) (acts.say (phase_line after.phase) (save_where_due (Some after) there next)) (due-keeps P after h m next d (record { on_set = r.on_set; clone = r.clone }) f)
 
 starter_step-keeps : (P : Tree → Type 0) (s : Start) (h : List Note) (m : RunState) (next : RunState → Act) (o : Option (MachineState × Tried))
     → m.machine.start ≡ Some s → attempt_of m.machine (good_is_usable m.live) ≡ o → KeepsGoing P h m → Next P next → Keeps P h (starter_step s m next o)
@@ -237,7 +246,7 @@ stepping-keeps : (P : Tree → Type 0) (o : Option Start) (h : List Note) (m : R
 stepping-keeps P None h m next is g f = g
 stepping-keeps P (Some s) h m next is g f =
     let attempt : Option (MachineState × Tried) = attempt_of m.machine (good_is_usable m.live) in
-    either P h (is_done s.phase) (run.done m) (starter_step s m next attempt) g (starter_step-keeps P s h m next attempt is refl g f)
+    either P h (is_done s.phase) (acts.done m) (starter_step s m next attempt) g (starter_step-keeps P s h m next attempt is refl g f)
 
 go_steps-keeps : (P : Tree → Type 0) (n : ℕ) → Next P (go_steps n)
 unfolding go_steps
@@ -327,7 +336,7 @@ woken-keeps P h on_good m w p fine = (fine, (record { settled = now; other = tt 
         (let k : List Note = push h (Held w.state.tree) in
         fine_note k (push k (Ended o)) w.state.tree (same_held k (Ended o) refl) (same_saved k (Ended o) refl) now)
 
-    stopped : (o : Outcome) → KeepsGoing P (push (push h (Held w.state.tree)) (Ended o)) (run.start_over false (woken_state m w))
+    stopped : (o : Outcome) → KeepsGoing P (push (push h (Held w.state.tree)) (Ended o)) (acts.start_over false (woken_state m w))
     stopped o = record { disk = record { settled = ended o; other = tt }; runs = tt }
 
     by_case : (o : Outcome) → Keeps P (push (push h (Held w.state.tree)) (Ended o)) (loaded on_good m w o)
@@ -339,14 +348,14 @@ woken-keeps P h on_good m w p fine = (fine, (record { settled = now; other = tt 
     by_case DeviceFault = stopped DeviceFault
 
 chosen-keeps : (P : Tree → Type 0) (h : List Note) (on_good : Bool) (m : RunState) (choice : Choice) → DiskFine h m.disk → Keeps P h (chosen on_good m choice)
-chosen-keeps P h on_good m (run.EntryTaken number path entry_on_good) d = (
+chosen-keeps P h on_good m (boot_book.EntryTaken number path entry_on_good) d = (
   d,
   λ w may p. woken-keeps P (push h (Woke m.disk)) (on_good || entry_on_good) m w p
       (fine_note h (push h (Woke m.disk)) w.state.tree (same_held h (Woke m.disk) refl) (same_saved h (Woke m.disk) refl) (possible_fine h m.disk w d may)),
 )
-chosen-keeps P h on_good m run.NoEntry d = ended-keeps P h lines.NoEntry false m d
-chosen-keeps P h on_good m (run.OtherLoader number path) d = ended-keeps P h lines.OtherLoader false m d
-chosen-keeps P h on_good m (run.NoSystem number path) d = ended-keeps P h lines.NoSystem false m d
+chosen-keeps P h on_good m boot_book.NoEntry d = ended-keeps P h lines.NoEntry false m d
+chosen-keeps P h on_good m (boot_book.OtherLoader number path) d = ended-keeps P h lines.OtherLoader false m d
+chosen-keeps P h on_good m (boot_book.NoSystem number path) d = ended-keeps P h lines.NoSystem false m d
 
 -- ---- the other events
 
@@ -369,7 +378,7 @@ live-keeps P what s h m next is g f =
 
 flush_act-keeps : (P : Tree → Type 0) (s : Start) (h : List Note) (m : RunState) → m.machine.start ≡ Some s → KeepsGoing P h m → Keeps P h (flush_act m)
 flush_act-keeps P s h m is g =
-    either P h m.changed (commit lines.FlushCommit m.live m run.done) (run.say lines.FlushNothingLine (run.done m)) (live-keeps P lines.FlushCommit s h m run.done is g (λ h x k. k)) g
+    either P h m.changed (commit lines.FlushCommit m.live m acts.done) (acts.say lines.FlushNothingLine (acts.done m)) (live-keeps P lines.FlushCommit s h m acts.done is g (λ h x k. k)) g
 
 off_act-keeps : (P : Tree → Type 0) (s : Start) (h : List Note) (m : RunState) → m.machine.start ≡ Some s → KeepsGoing P h m → Keeps P h (off_act s m)
 off_act-keeps P s h m is g =
@@ -380,15 +389,15 @@ logon_act-keeps : (P : Tree → Type 0) (s : Start) (h : List Note) (m : RunStat
 logon_act-keeps P s h m is g =
     let after : Start = record s { logged_on = true } in
     let r = running_at P h m.live m.machine.start s is g.runs in
-    due-keeps P after h m run.done g.disk (record { on_set = r.on_set; clone = r.clone }) (λ h x k. k)
+    due-keeps P after h m acts.done g.disk (record { on_set = r.on_set; clone = r.clone }) (λ h x k. k)
 
-cut-keeps : (P : Tree → Type 0) (h : List Note) (m : RunState) → KeepsGoing P h m → Keeps P h (run.cut_act m)
+cut-keeps : (P : Tree → Type 0) (h : List Note) (m : RunState) → KeepsGoing P h m → Keeps P h (event_acts.cut_act m)
 cut-keeps P h m g =
     let k : List Note = push h Cuts in
     let d : DiskFine k m.disk = disk_note h k m.disk (same_held h Cuts refl) (same_saved h Cuts refl) g.disk in
     (tt, (d, λ o. ended-keeps P (push k (Ended o)) lines.Cut false m (disk_note k (push k (Ended o)) m.disk (same_held k (Ended o) refl) (same_saved k (Ended o) refl) d)))
 
-arm-keeps : (P : Tree → Type 0) (h : List Note) (m : RunState) (arming : Arming) → KeepsGoing P h m → Keeps P h (run.arm_act arming m)
+arm-keeps : (P : Tree → Type 0) (h : List Note) (m : RunState) (arming : Arming) → KeepsGoing P h m → Keeps P h (event_acts.arm_act arming m)
 arm-keeps P h m arming g = (tt, going_note P h (push h (Ordered arming)) m (same_held h (Ordered arming) refl) (same_saved h (Ordered arming) refl) g)
 
 not_refused : (b : Bool) (why : RefusedWord) → cond b (Some why) None ≡ None → b ≡ false
@@ -439,6 +448,6 @@ event_step_of-keeps P choice e h m g = unless-keeps P choice e h m (refusal_of m
 pub closing-keeps : (P : Tree → Type 0) (h : List Note) (m : RunState) → KeepsGoing P h m → Keeps P h (closing_act m)
 closing-keeps P h m g = by_start m.machine.start
   where
-    by_start : (o : Option Start) → Keeps P h (verdict_first o (run.say lines.EndLine (run.done m)))
+    by_start : (o : Option Start) → Keeps P h (verdict_first o (acts.say lines.EndLine (acts.done m)))
     by_start None = g
     by_start (Some s) = g

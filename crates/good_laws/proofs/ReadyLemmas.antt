@@ -10,7 +10,10 @@ use Rattle.hive_model.specs.Load.{Loads}
 use Rattle.start_model.specs.Sets.{SetPlan, set_name, set_of, select_numbers_of, usable_numbers_of, save_plan_of, stepped}
 use Rattle.start_model.specs.Machine.{Start}
 use Rattle.start_model.specs.Events.{Event}
-use Rattle.start_model.specs.Run.{Note, RunState, Possible, Woken, Outcome, Choice, run_of}
+use Rattle.start_model.specs.Possible.{Possible, Woken, Outcome}
+use Rattle.start_model.specs.Act.{Note, RunState}
+use Rattle.start_model.specs.Boot.{Choice}
+use Rattle.start_model.specs.Run.{run_of}
 use Rattle.start_model.specs.Fits.{Fits, woke_in}
 use Rattle.start_laws.proofs.StepLemmas.{select_key, set_found}
 use Rattle.start_laws.proofs.MadeLemmas.{save_only_full}

@@ -5,8 +5,13 @@ use Rattle.std.specs.Prelude.{IfSome}
 use Rattle.hive_model.specs.Tree.{Tree}
 use Rattle.hive_model.specs.State.{HiveState}
 use Rattle.start_model.specs.Events.{Event}
+use Rattle.start_model.specs.Act as acts
 use Rattle.start_model.specs.Run as run
-use Rattle.start_model.specs.Run.{RunState, Possible, Act, Note, Woke, Held, Saved, Ordered, Cuts, Ended, Woken, Outcome, Choice, RunResult, event_step_of, closing_act, play, then_run, run_from, run_of, first_state}
+use Rattle.start_model.specs.Possible.{Possible, Woken, Outcome}
+use Rattle.start_model.specs.Act.{RunState, Act, Note, Woke, Held, Saved, Ordered, Cuts, Ended}
+use Rattle.start_model.specs.Boot.{Choice}
+use Rattle.start_model.specs.EventActs.{event_step_of}
+use Rattle.start_model.specs.Run.{RunResult, closing_act, play, then_run, run_from, run_of, first_state}
 use Rattle.start_model.specs.Fits.{woke_in, IsGoodBehind, KeepsGood}
 use Rattle.start_laws.proofs.GoodLemmas.{woke_behind}
 use Rattle.good_laws.proofs.GoodLemmas.{push, IsFine, first_fine, fine_promised}
@@ -62,7 +67,7 @@ ran_out_fine P h disk more d = record {
 
 plays_fine : (P : Tree → Type 0) (act : Act) (h : List Note) → Keeps P h act → (wakes : List Woken) (outcomes : List Outcome) (more : List Possible)
     → FitsSoFar wakes (woke_in (play act wakes outcomes).notes ++ more) → EachWake P wakes → GoesFine P h (play act wakes outcomes) more
-plays_fine P (run.done m) h k wakes outcomes more fits each = record {
+plays_fine P (acts.done m) h k wakes outcomes more fits each = record {
   notes = tt;
   disk = (let Q : List Note → Type 0 = λ l. DiskFine l m.disk in subst Q (sym (append-nil h)) k.disk);
   rest = λ n ws os e.
@@ -70,15 +75,15 @@ plays_fine P (run.done m) h k wakes outcomes more fits each = record {
       let N : List Note → Type 0 = λ l. KeepsGoing P l m in
       subst Q (same_left (m, wakes, outcomes) (n, ws, os) e) (subst N (sym (append-nil h)) k, (fits, each)));
 }
-plays_fine P (run.say l act) h k wakes outcomes more fits each =
+plays_fine P (acts.say l act) h k wakes outcomes more fits each =
     let g = plays_fine P act h k wakes outcomes more fits each in record { notes = g.notes; disk = g.disk; rest = g.rest }
-plays_fine P (run.ask disk next) h k wakes [] more fits each = ran_out_fine P h disk more k.0
-plays_fine P (run.ask disk next) h k wakes (o ∷ outcomes) more fits each =
+plays_fine P (acts.ask disk next) h k wakes [] more fits each = ran_out_fine P h disk more k.0
+plays_fine P (acts.ask disk next) h k wakes (o ∷ outcomes) more fits each =
     goes_note P h (Ended o) (play (next o) wakes outcomes) more tt (plays_fine P (next o) (push h (Ended o)) (k.1 o) wakes outcomes more fits each)
-plays_fine P (run.wake disk next) h k [] outcomes more fits each = ran_out_fine P h disk more k.0
-plays_fine P (run.wake disk next) h k (w ∷ wakes) outcomes more fits each =
+plays_fine P (acts.wake disk next) h k [] outcomes more fits each = ran_out_fine P h disk more k.0
+plays_fine P (acts.wake disk next) h k (w ∷ wakes) outcomes more fits each =
     goes_note P h (Woke disk) (play (next w) wakes outcomes) more tt (plays_fine P (next w) (push h (Woke disk)) (k.1 w fits.0 each.0) wakes outcomes more fits.1 each.1)
-plays_fine P (run.mark note act) h k wakes outcomes more fits each =
+plays_fine P (acts.mark note act) h k wakes outcomes more fits each =
     by_note note k.0 fits (λ fits. plays_fine P act (push h note) k.1 wakes outcomes more fits each)
   where
     by_note : (n : Note) → MarkFine h n → FitsSoFar wakes (woke_in (n ∷ (play act wakes outcomes).notes) ++ more)

@@ -4,7 +4,8 @@ use Rattle.std.specs.Prelude.{Contains, codes, option_and_then, unwrap_or}
 use Rattle.std.proofs.lemmas.List.Elements.{All-contains, All-cons, All-nil}
 use Rattle.hive_model.specs.Tree.{Tree, find_key, find_dword}
 use Rattle.hive_model.specs.Edit.{renamed}
-use Rattle.start_model.specs.Run.{Possible, Note, Woke, Held, Ended, Finished, loads_as}
+use Rattle.start_model.specs.Possible.{Possible, Finished, loads_as}
+use Rattle.start_model.specs.Act.{Note, Woke, Held, Ended}
 use Rattle.start_model.specs.Fits.{NamesGood, KeepsGood, first_good_in}
 use Rattle.start_laws.specs.Written.{placed}
 use Rattle.start_laws.specs.TwoSets.{disk_only, unguarded}

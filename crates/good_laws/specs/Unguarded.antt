@@ -3,7 +3,8 @@ use Rattle.std.specs.Prelude.{[], ◌∷◌, ◌++◌, List, codes}
 use Rattle.hive_model.specs.Tree.{Tree}
 use Rattle.hive_model.specs.Edit.{Step, set_value}
 use Rattle.start_model.specs.Sets.{set_name}
-use Rattle.start_model.specs.Run.{Note, Woke, Held, Ended, Finished, loads_as}
+use Rattle.start_model.specs.Possible.{Finished, loads_as}
+use Rattle.start_model.specs.Act.{Note, Woke, Held, Ended}
 use Rattle.start_laws.specs.Written.{placed, select, system}
 use Rattle.start_laws.specs.TwoSets.{disk_only, unguarded}
 

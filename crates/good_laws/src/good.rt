@@ -3,7 +3,9 @@
 ghost use Rattle.std.specs.Prelude.{ℕ, List, Option, length, take};
 ghost use Rattle.hive_model.specs.Image.{Image, Write, IsCrashImage};
 ghost use Rattle.start_model.specs.Events as events;
-ghost use Rattle.start_model.specs.Run.{Woken, Outcome, Choice, run_of};
+ghost use Rattle.start_model.specs.Possible.{Woken, Outcome};
+ghost use Rattle.start_model.specs.Boot.{Choice};
+ghost use Rattle.start_model.specs.Run.{run_of};
 ghost use Rattle.start_model.specs.Fits.{ArePossible, woke_in, outcomes_of, KeepsGood};
 ghost use Rattle.start_model.specs.Report.{Report, ReportFront};
 
@@ -17,9 +19,11 @@ pub fn last_known_good_names_a_good_set()
     ensures taken { (choice : Option ℕ → Choice) (script : List events.Event) (placed : Woken) (wakes : List Woken) (outcomes : List Outcome)
         → let r = run_of choice script placed wakes outcomes in
         ArePossible (take (length (woke_in r.notes)) wakes) (woke_in r.notes) → KeepsGood r.notes r.disk }
-    ensures report { (choice : Option ℕ → Choice) (script : List events.Event) (placed : Woken) (images : List Image) (held : Image) (flight : List Write) (text : List ℕ) (r : Report (run_of choice script placed) images (IsCrashImage held flight) text)
+    ensures report { (choice : Option ℕ → Choice) (script : List events.Event) (placed : Woken) (images : List Image) (held : Image)
+        (flight : List Write) (text : List ℕ) (r : Report (run_of choice script placed) images (IsCrashImage held flight) text)
         → KeepsGood (run_of choice script placed r.woken (outcomes_of text)).notes (run_of choice script placed r.woken (outcomes_of text)).disk }
-    ensures front { (choice : Option ℕ → Choice) (script : List events.Event) (placed : Woken) (images : List Image) (held : Image) (flight : List Write) (text : List ℕ) (r : ReportFront (run_of choice script placed) images (IsCrashImage held flight) text)
+    ensures front { (choice : Option ℕ → Choice) (script : List events.Event) (placed : Woken) (images : List Image) (held : Image)
+        (flight : List Write) (text : List ℕ) (r : ReportFront (run_of choice script placed) images (IsCrashImage held flight) text)
         → KeepsGood (run_of choice script placed r.woken (outcomes_of text)).notes (run_of choice script placed r.woken (outcomes_of text)).disk }
     ensures whole { (choice : Option ℕ → Choice) (script : List events.Event) (placed : Woken) (wakes : List Woken) (outcomes : List Outcome)
         → let r = run_of choice script placed wakes outcomes in

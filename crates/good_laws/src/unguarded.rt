@@ -3,7 +3,8 @@
 ghost use Rattle.std.specs.Prelude.{◌≡◌, List, [], ◌∷◌, Ok};
 ghost use Rattle.nt_bytes.specs.declared.version.HiveVersion.TheVariants.{V3};
 ghost use Rattle.hive_model.specs.Edit.{edited};
-ghost use Rattle.start_model.specs.Run.{Possible, Note};
+ghost use Rattle.start_model.specs.Possible.{Possible};
+ghost use Rattle.start_model.specs.Act.{Note};
 ghost use Rattle.start_model.specs.Fits.{KeepsGood};
 ghost use Rattle.start_laws.specs.TwoSets.{unguarded};
 ghost use Rattle.good_laws.specs.Unguarded.{disabling, disabled, without_guard};

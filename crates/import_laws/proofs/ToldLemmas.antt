@@ -8,7 +8,7 @@ use Rattle.hive_model.specs.State.{HiveState}
 use Rattle.nt_edge.specs.Disk.{DiskState}
 use Rattle.nt_edge.specs.Host.{Files, HostState}
 use Rattle.run_parts.specs.Reports.{LeftOf}
-use Rattle.start_model.specs.Run.{Woken}
+use Rattle.start_model.specs.Possible.{Woken}
 use Rattle.saved_laws.specs.Saved.{HasUntornBlock}
 use Rattle.saved_laws.proofs.SavedLemmas.{files_load}
 use Rattle.reg_text.specs.declared.stop.RegFault.{RegFault}

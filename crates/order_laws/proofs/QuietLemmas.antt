@@ -7,7 +7,11 @@ use Rattle.start_model.specs.Lines.{text_of}
 use Rattle.start_model.specs.Summary.{with_lines}
 use Rattle.start_model.specs.Causes.{Tally, Rises, next_tally, Caused}
 use Rattle.start_model.specs.Events.{Event}
-use Rattle.start_model.specs.Run.{Note, Woke, Held, Saved, Ordered, Cuts, Ended, Woken, Outcome, Finished, PowerCut, DeviceFault, Choice, run_of, quiet_run_of}
+use Rattle.start_model.specs.Possible.{Woken, Outcome, Finished, PowerCut, DeviceFault}
+use Rattle.start_model.specs.Act.{Note, Woke, Held, Saved, Ordered, Cuts, Ended}
+use Rattle.start_model.specs.Boot.{Choice}
+use Rattle.start_model.specs.Run.{run_of}
+use Rattle.start_model.specs.Quiet.{quiet_run_of}
 use Rattle.start_model.specs.Fits.{outcomes_of, MayLoad}
 use Rattle.run_laws.specs.Quiet.{AllFinished}
 use Rattle.run_laws.specs.Told.{ended_in}

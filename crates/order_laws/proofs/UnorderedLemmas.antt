@@ -15,8 +15,16 @@ use Rattle.start_model.specs.Events as events
 use Rattle.start_model.specs.Events.{Event, step_of}
 use Rattle.start_model.specs.Machine.{Start, MachineState, Tried, attempt_of, after_phase, unmet_in, is_done, save_due, with_start, ending_of, refusal_of}
 use Rattle.start_model.specs.Orders.{ordered_in}
-use Rattle.start_model.specs.Run as run
-use Rattle.start_model.specs.Run.{RunState, Act, Note, Woke, Held, Saved, Ordered, Cuts, Ended, Woken, Outcome, Finished, PowerCut, DeviceFault, Choice, RunResult, next_state, committed_state, loaded_state, accepted_state, say_all, end_with, commit, committed, with_machine, noted_saved, saved_by, save, save_where_due, live_set, good_is_usable, phase_line, judged, phase_step, starter_step, stepping, go_steps, enough_steps, go_act, begin_start, begin_with, begin_by, loaded, woken, chosen, boot_act, edit_done, flush_act, off_act, logon_act, running_act, idle_act, accepted_act, act_unless, event_step_of, verdict_first, closing_act, play, then_run, run_from, run_of, first_state}
+use Rattle.start_model.specs.Act as acts
+use Rattle.start_model.specs.Commit as commit_book
+use Rattle.start_model.specs.Boot as boot_book
+use Rattle.start_model.specs.Possible.{Woken, Outcome, Finished, PowerCut, DeviceFault}
+use Rattle.start_model.specs.Act.{RunState, Act, Note, Woke, Held, Saved, Ordered, Cuts, Ended, next_state, say_all, end_with, with_machine}
+use Rattle.start_model.specs.Commit.{committed_state, commit, committed, noted_saved, saved_by, save, save_where_due}
+use Rattle.start_model.specs.Starter.{live_set, good_is_usable, phase_line, judged, phase_step, starter_step, stepping, go_steps, enough_steps, go_act}
+use Rattle.start_model.specs.Boot.{Choice, loaded_state, accepted_state, begin_start, begin_with, begin_by, loaded, woken, chosen, boot_act}
+use Rattle.start_model.specs.EventActs.{edit_done, flush_act, off_act, logon_act, running_act, idle_act, accepted_act, act_unless, event_step_of}
+use Rattle.start_model.specs.Run.{RunResult, verdict_first, closing_act, play, then_run, run_from, run_of, first_state}
 use Rattle.run_parts.specs.Parts.{cuts_behind, Grew}
 use Rattle.order_laws.specs.Unordered.{IsUnordered, AreUnordered}
 
@@ -67,11 +75,11 @@ front_notes whole front f a = notes-front front f.rest (subst AreNoOrders f.cut 
 
 -- whatever wakes and outcomes there are, the act marks no order and no cut
 abbrev pub OrdersNothing : Act → Type 0
-OrdersNothing (run.done m) = Unit {0}
-OrdersNothing (run.say l act) = OrdersNothing act
-OrdersNothing (run.ask disk next) = (o : Outcome) → OrdersNothing (next o)
-OrdersNothing (run.wake disk next) = (w : Woken) → OrdersNothing (next w)
-OrdersNothing (run.mark note act) = IsNoOrder note × OrdersNothing act
+OrdersNothing (acts.done m) = Unit {0}
+OrdersNothing (acts.say l act) = OrdersNothing act
+OrdersNothing (acts.ask disk next) = (o : Outcome) → OrdersNothing (next o)
+OrdersNothing (acts.wake disk next) = (w : Woken) → OrdersNothing (next w)
+OrdersNothing (acts.mark note act) = IsNoOrder note × OrdersNothing act
 
 abbrev pub Next : (RunState → Act) → Type 0
 Next next = (m : RunState) → OrdersNothing (next m)
@@ -97,7 +105,7 @@ commit-unordered what m tree next f = λ o. by_case o
 saved_by-unordered : (s : Start) (clone : Tree) (m : RunState) (next : RunState → Act) (r : Result SetChange ChangeStop)
     → Next next → OrdersNothing (saved_by s clone m next r)
 saved_by-unordered s clone m next (Ok change) f =
-    let behind : RunState → Act = λ after. run.say (run.select_line change.numbers) (next (noted_saved true s after)) in
+    let behind : RunState → Act = λ after. acts.say (commit_book.select_line change.numbers) (next (noted_saved true s after)) in
     (tt, commit-unordered lines.SaveCommit m change.tree behind (λ x. f (noted_saved true s x)))
 saved_by-unordered s clone m next (Err (NoPlan stop)) f = f (noted_saved false s m)
 saved_by-unordered s clone m next (Err sets.Full) f = f (noted_saved false s m)
@@ -122,7 +130,7 @@ phase_step-unordered : (s : Start) (m : RunState) (next : RunState → Act) → 
 phase_step-unordered s m next f =
     let after : Start = after_phase (live_set m s.number) s in
     let there : RunState = with_machine (with_start after m.machine) m in
-    let rest : Act = run.say (phase_line after.phase) (save_where_due (Some after) there next) in
+    let rest : Act = acts.say (phase_line after.phase) (save_where_due (Some after) there next) in
     say_all-unordered (map UnmetLine (unmet_in s)) rest (due-unordered (Some after) there next f)
 
 starter_step-unordered : (s : Start) (m : RunState) (next : RunState → Act) (o : Option (MachineState × Tried))
@@ -134,7 +142,7 @@ stepping-unordered : (o : Option Start) (m : RunState) (next : RunState → Act)
 stepping-unordered None m next f = tt
 stepping-unordered (Some s) m next f =
     let attempt : Option (MachineState × Tried) = attempt_of m.machine (good_is_usable m.live) in
-    either (is_done s.phase) (run.done m) (starter_step s m next attempt) tt (starter_step-unordered s m next attempt f)
+    either (is_done s.phase) (acts.done m) (starter_step s m next attempt) tt (starter_step-unordered s m next attempt f)
 
 go_steps-unordered : (n : ℕ) → Next (go_steps n)
 unfolding go_steps
@@ -168,10 +176,10 @@ woken-unordered on_good m w = (tt, λ o. by_case o)
     by_case DeviceFault = tt
 
 chosen-unordered : (on_good : Bool) (m : RunState) (choice : Choice) → OrdersNothing (chosen on_good m choice)
-chosen-unordered on_good m (run.EntryTaken number path entry_on_good) = λ w. woken-unordered (on_good || entry_on_good) m w
-chosen-unordered on_good m run.NoEntry = tt
-chosen-unordered on_good m (run.OtherLoader number path) = tt
-chosen-unordered on_good m (run.NoSystem number path) = tt
+chosen-unordered on_good m (boot_book.EntryTaken number path entry_on_good) = λ w. woken-unordered (on_good || entry_on_good) m w
+chosen-unordered on_good m boot_book.NoEntry = tt
+chosen-unordered on_good m (boot_book.OtherLoader number path) = tt
+chosen-unordered on_good m (boot_book.NoSystem number path) = tt
 
 boot_act-unordered : (choice : Option ℕ → Choice) (entry : Option ℕ) (good : Bool) (m : RunState) → OrdersNothing (boot_act choice entry good m)
 boot_act-unordered choice entry good m = chosen-unordered (m.machine.fallback_due || good) (accepted_state m) (choice entry)
@@ -184,8 +192,8 @@ edit_done-unordered e m (Err refusal) = tt
 
 flush_act-unordered : (m : RunState) → OrdersNothing (flush_act m)
 flush_act-unordered m =
-    let nothing : Act = run.say lines.FlushNothingLine (run.done m) in
-    either m.changed (commit lines.FlushCommit m.live m run.done) nothing (commit-unordered lines.FlushCommit m m.live run.done (λ x. tt)) tt
+    let nothing : Act = acts.say lines.FlushNothingLine (acts.done m) in
+    either m.changed (commit lines.FlushCommit m.live m acts.done) nothing (commit-unordered lines.FlushCommit m m.live acts.done (λ x. tt)) tt
 
 off_act-unordered : (s : Start) (m : RunState) → OrdersNothing (off_act s m)
 off_act-unordered s m =
@@ -195,7 +203,7 @@ off_act-unordered s m =
 logon_act-unordered : (s : Start) (m : RunState) → OrdersNothing (logon_act s m)
 logon_act-unordered s m =
     let after : Start = record s { logged_on = true } in
-    due-unordered (Some after) (with_machine (with_start after m.machine) m) run.done (λ x. tt)
+    due-unordered (Some after) (with_machine (with_start after m.machine) m) acts.done (λ x. tt)
 
 running_act-unordered : (s : Start) (e : Event) (m : RunState) → IsUnordered e → OrdersNothing (running_act s e m)
 running_act-unordered s (events.BootNow entry good) m none = tt
@@ -237,20 +245,20 @@ event_step_of-unordered choice e m none = act_unless-unordered choice e m (refus
 pub closing-unordered : (m : RunState) → OrdersNothing (closing_act m)
 closing-unordered m = by_start m.machine.start
   where
-    by_start : (o : Option Start) → OrdersNothing (verdict_first o (run.say lines.EndLine (run.done m)))
+    by_start : (o : Option Start) → OrdersNothing (verdict_first o (acts.say lines.EndLine (acts.done m)))
     by_start None = tt
     by_start (Some s) = tt
 
 -- ---- a run
 
 pub play-notes : (act : Act) → OrdersNothing act → (wakes : List Woken) (outcomes : List Outcome) → AreNoOrders (play act wakes outcomes).notes
-play-notes (run.done m) k wakes outcomes = tt
-play-notes (run.say l act) k wakes outcomes = play-notes act k wakes outcomes
-play-notes (run.ask disk next) k wakes [] = tt
-play-notes (run.ask disk next) k wakes (o ∷ outcomes) = (tt, play-notes (next o) (k o) wakes outcomes)
-play-notes (run.wake disk next) k [] outcomes = tt
-play-notes (run.wake disk next) k (w ∷ wakes) outcomes = (tt, play-notes (next w) (k w) wakes outcomes)
-play-notes (run.mark note act) k wakes outcomes = (k.0, play-notes act k.1 wakes outcomes)
+play-notes (acts.done m) k wakes outcomes = tt
+play-notes (acts.say l act) k wakes outcomes = play-notes act k wakes outcomes
+play-notes (acts.ask disk next) k wakes [] = tt
+play-notes (acts.ask disk next) k wakes (o ∷ outcomes) = (tt, play-notes (next o) (k o) wakes outcomes)
+play-notes (acts.wake disk next) k [] outcomes = tt
+play-notes (acts.wake disk next) k (w ∷ wakes) outcomes = (tt, play-notes (next w) (k w) wakes outcomes)
+play-notes (acts.mark note act) k wakes outcomes = (k.0, play-notes act k.1 wakes outcomes)
 
 then-notes : (go : RunState → List Woken → List Outcome → RunResult) (first : RunResult)
     → ((m : RunState) (w : List Woken) (o : List Outcome) → AreNoOrders (go m w o).notes)

@@ -5,7 +5,10 @@ ghost use Rattle.nt_bytes.specs.Front.{IsFront};
 ghost use Rattle.nt_edge.specs.Bench.{KeepsOrders};
 ghost use Rattle.nt_edge.specs.Disk.{DiskState, Wake};
 ghost use Rattle.start_model.specs.Events as events;
-ghost use Rattle.start_model.specs.Run.{Woken, Outcome, Choice, Note, run_of};
+ghost use Rattle.start_model.specs.Possible.{Woken, Outcome};
+ghost use Rattle.start_model.specs.Act.{Note};
+ghost use Rattle.start_model.specs.Boot.{Choice};
+ghost use Rattle.start_model.specs.Run.{run_of};
 ghost use Rattle.run_parts.specs.Parts.{Grew};
 ghost use Rattle.order_laws.specs.Unordered.{AreUnordered};
 

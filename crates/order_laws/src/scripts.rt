@@ -3,7 +3,9 @@
 ghost use Rattle.std.specs.Prelude.{◌≡◌, ℕ, List, [], Option};
 ghost use Rattle.start_model.specs.Events as events;
 ghost use Rattle.start_model.specs.Orders.{ordered_in};
-ghost use Rattle.start_model.specs.Run.{Woken, Outcome, Choice, run_of};
+ghost use Rattle.start_model.specs.Possible.{Woken, Outcome};
+ghost use Rattle.start_model.specs.Boot.{Choice};
+ghost use Rattle.start_model.specs.Run.{run_of};
 ghost use Rattle.run_parts.specs.Parts.{cuts_behind};
 ghost use Rattle.order_laws.specs.Unordered.{AreUnordered};
 

@@ -1,8 +1,13 @@
 -- What a law over the events of a run says of the whole run.
 use Rattle.std.proofs.Common.{◌≡◌, ◌⊎◌, inl, inr, ℕ, List, [], ◌∷◌, ◌++◌, Option, Some, None, refl, sym, ap, subst, ◌∙◌, append-nil, append_assoc}
 use Rattle.start_model.specs.Events.{Event}
+use Rattle.start_model.specs.Act as acts
 use Rattle.start_model.specs.Run as run
-use Rattle.start_model.specs.Run.{RunState, Possible, Act, Note, Woke, Held, Saved, Ordered, Cuts, Ended, Woken, Outcome, Choice, RunResult, play, then_run, run_from, event_step_of, closing_act}
+use Rattle.start_model.specs.Possible.{Possible, Woken, Outcome}
+use Rattle.start_model.specs.Act.{RunState, Act, Note, Woke, Held, Saved, Ordered, Cuts, Ended}
+use Rattle.start_model.specs.Boot.{Choice}
+use Rattle.start_model.specs.EventActs.{event_step_of}
+use Rattle.start_model.specs.Run.{RunResult, play, then_run, run_from, closing_act}
 use Rattle.run_laws.proofs.KeptLemmas.{Law, AtRest, IsMark, Keeps, push, event_step_of-keeps, closing-keeps}
 
 abbrev Left : Type 0
@@ -72,7 +77,7 @@ along_note law h n r front a = record {
 }
 
 pub play-along : (law : Law) (act : Act) (h : List Note) → Keeps law h act → (wakes : List Woken) (outcomes : List Outcome) → Along law h (play act wakes outcomes)
-play-along law (run.done m) h k wakes outcomes = record {
+play-along law (acts.done m) h k wakes outcomes = record {
   wakes = tt;
   rest = λ n ws os e.
       (let here : RunState × List Woken × List Outcome = (m, wakes, outcomes) in
@@ -83,22 +88,22 @@ play-along law (run.done m) h k wakes outcomes = record {
       subst P q (subst N (sym (append-nil h)) k));
   out = λ e. absurd cc;
 }
-play-along law (run.say l act) h k wakes outcomes = let a = play-along law act h k wakes outcomes in record { wakes = a.wakes; rest = a.rest; out = a.out }
-play-along law (run.ask disk next) h k wakes [] = record {
+play-along law (acts.say l act) h k wakes outcomes = let a = play-along law act h k wakes outcomes in record { wakes = a.wakes; rest = a.rest; out = a.out }
+play-along law (acts.ask disk next) h k wakes [] = record {
   wakes = tt;
   rest = λ n ws os e. absurd cc;
   out = λ e. (let P : List Note → Type 0 = λ l. Waits law l disk in subst P (sym (append-nil h)) (inl k.0));
 }
-play-along law (run.ask disk next) h k wakes (o ∷ outcomes) =
+play-along law (acts.ask disk next) h k wakes (o ∷ outcomes) =
     along_note law h (Ended o) (play (next o) wakes outcomes) (λ w. w) (play-along law (next o) (push h (Ended o)) (k.1 o) wakes outcomes)
-play-along law (run.wake disk next) h k [] outcomes = record {
+play-along law (acts.wake disk next) h k [] outcomes = record {
   wakes = tt;
   rest = λ n ws os e. absurd cc;
   out = λ e. (let P : List Note → Type 0 = λ l. Waits law l disk in subst P (sym (append-nil h)) (inr k.0));
 }
-play-along law (run.wake disk next) h k (w ∷ wakes) outcomes =
+play-along law (acts.wake disk next) h k (w ∷ wakes) outcomes =
     along_note law h (Woke disk) (play (next w) wakes outcomes) (λ more. (k.0, more)) (play-along law (next w) (push h (Woke disk)) (k.1 w) wakes outcomes)
-play-along law (run.mark note act) h k wakes outcomes =
+play-along law (acts.mark note act) h k wakes outcomes =
     along_note law h note (play act wakes outcomes) (front note k.0) (play-along law act (push h note) k.1 wakes outcomes)
   where
     front : (n : Note) → IsMark n → AllWakes law (push h n) (play act wakes outcomes).notes → AllWakes law h (n ∷ (play act wakes outcomes).notes)

@@ -11,8 +11,11 @@ use Rattle.start_model.specs.Sets as sets
 use Rattle.start_model.specs.Sets.{SetChange, ChangeStop, NoPlan, save_of}
 use Rattle.start_model.specs.Entries.{Entry, Phase, Boot, System, Automatic, Done, services_of}
 use Rattle.start_model.specs.Machine.{Start, MachineState, Tried, next_in, attempt_at, attempt_in, attempt_of, after_phase, unmet_in, is_done, save_due, with_start}
-use Rattle.start_model.specs.Run.{RunState, Act, say, ask, mark, Held, Saved, say_all, Outcome, Finished, PowerCut, DeviceFault, next_state, committed_state, committed, commit, open_between, with_machine, noted_saved, save_refused, saved_by, save, save_where_due, select_line, live_set, good_is_usable, phase_line, judged, phase_step, starter_step, stepping, go_steps, enough_steps, go_act, try_line}
-use Rattle.start_model.specs.Run as run
+use Rattle.start_model.specs.Possible.{Outcome, Finished, PowerCut, DeviceFault, open_between}
+use Rattle.start_model.specs.Act.{RunState, Act, say, ask, mark, Held, Saved, say_all, next_state, with_machine}
+use Rattle.start_model.specs.Commit.{committed_state, committed, commit, noted_saved, save_refused, saved_by, save, save_where_due, select_line}
+use Rattle.start_model.specs.Starter.{live_set, good_is_usable, phase_line, judged, phase_step, starter_step, stepping, go_steps, enough_steps, go_act, try_line}
+use Rattle.start_model.specs.Act as acts
 use Rattle.run_laws.proofs.CountLemmas.{system_count, late_count, system_plan, automatic_plan, all_counts}
 
 -- ---- how many steps may still come
@@ -173,7 +176,7 @@ starter_step-same s m next other (Some one) is more tried f =
 
 running-same : (b : Bool) (s : Start) (m : RunState) (next other : RunState → Act) → is_done s.phase ≡ b → m.machine.start ≡ Some s
     → ((x : RunState) → steps_left x < steps_left m → next x ≡ other x)
-    → cond b (run.done m) (starter_step s m next (attempt_of m.machine (good_is_usable m.live))) ≡ cond b (run.done m) (starter_step s m other (attempt_of m.machine (good_is_usable m.live)))
+    → cond b (acts.done m) (starter_step s m next (attempt_of m.machine (good_is_usable m.live))) ≡ cond b (acts.done m) (starter_step s m other (attempt_of m.machine (good_is_usable m.live)))
 running-same true s m next other e is f = refl
 running-same false s m next other e is f = starter_step-same s m next other (attempt_of m.machine (good_is_usable m.live)) is e refl f
 
@@ -182,15 +185,15 @@ stepping-same None m next other is f = refl
 stepping-same (Some s) m next other is f = running-same (is_done s.phase) s m next other refl is f
 
 none_left : (b : Bool) (s : Start) (m : RunState) (next : RunState → Act) → is_done s.phase ≡ b → cond b 0 (steps_in (live_set m s.number) s) ≡ 0
-    → cond b (run.done m) (starter_step s m next (attempt_of m.machine (good_is_usable m.live))) ≡ run.done m
+    → cond b (acts.done m) (starter_step s m next (attempt_of m.machine (good_is_usable m.live))) ≡ acts.done m
 none_left true s m next e z = refl
 none_left false s m next e z = absurd (omega (arith, some_left (live_set m s.number) s.phase e))
 
-at_end : (o : Option Start) (m : RunState) (next : RunState → Act) → steps_of m o ≡ 0 → stepping o m next ≡ run.done m
+at_end : (o : Option Start) (m : RunState) (next : RunState → Act) → steps_of m o ≡ 0 → stepping o m next ≡ acts.done m
 at_end None m next z = refl
 at_end (Some s) m next z = none_left (is_done s.phase) s m next refl z
 
-pub go_steps-end : (n : ℕ) (m : RunState) → steps_left m ≡ 0 → go_steps n m ≡ run.done m
+pub go_steps-end : (n : ℕ) (m : RunState) → steps_left m ≡ 0 → go_steps n m ≡ acts.done m
 unfolding go_steps
 go_steps-end zero m z = refl
 go_steps-end (suc n) m z = at_end m.machine.start m (go_steps n) z

@@ -12,8 +12,16 @@ use Rattle.start_model.specs.Sets.{SelectNumbers, SetChange, ChangeStop, NoPlan,
 use Rattle.start_model.specs.Events as events
 use Rattle.start_model.specs.Events.{Event, step_of}
 use Rattle.start_model.specs.Machine.{Start, MachineState, Tried, attempt_of, after_phase, unmet_in, is_done, save_due, with_start, ending_of, refusal_of}
-use Rattle.start_model.specs.Run as run
-use Rattle.start_model.specs.Run.{RunState, Possible, Act, Note, Woke, Held, Saved, Ordered, Cuts, Ended, Woken, Outcome, Finished, PowerCut, DeviceFault, Choice, next_state, open_between, woken_at, committed_state, opened_state, loaded_state, woken_state, accepted_state, start_over, say_all, end_with, commit, committed, with_machine, noted_saved, saved_by, save, save_where_due, live_set, good_is_usable, phase_line, judged, phase_step, starter_step, stepping, go_steps, enough_steps, go_act, begin_start, begin_with, begin_by, take_set, loaded, woken, chosen, boot_act, edit_done, flush_act, off_act, logon_act, running_act, idle_act, accepted_act, act_unless, event_step_of, verdict_first, closing_act}
+use Rattle.start_model.specs.Act as acts
+use Rattle.start_model.specs.Commit as commit_book
+use Rattle.start_model.specs.Boot as boot_book
+use Rattle.start_model.specs.Possible.{Possible, Woken, Outcome, Finished, PowerCut, DeviceFault, open_between, woken_at}
+use Rattle.start_model.specs.Act.{RunState, Act, Note, Woke, Held, Saved, Ordered, Cuts, Ended, next_state, start_over, say_all, end_with, with_machine}
+use Rattle.start_model.specs.Commit.{committed_state, opened_state, commit, committed, noted_saved, saved_by, save, save_where_due}
+use Rattle.start_model.specs.Starter.{live_set, good_is_usable, phase_line, judged, phase_step, starter_step, stepping, go_steps, enough_steps, go_act}
+use Rattle.start_model.specs.Boot.{Choice, loaded_state, woken_state, accepted_state, begin_start, begin_with, begin_by, take_set, loaded, woken, chosen, boot_act}
+use Rattle.start_model.specs.EventActs.{edit_done, flush_act, off_act, logon_act, running_act, idle_act, accepted_act, act_unless, event_step_of}
+use Rattle.start_model.specs.Run.{verdict_first, closing_act}
 
 -- one note more
 abbrev pub push : List Note → Note → List Note
@@ -71,11 +79,11 @@ IsMark (Ended o) = ⊥
 
 -- an act keeps the law, whatever wakes and outcomes there are
 abbrev pub Keeps : Law → List Note → Act → Type 0
-Keeps law h (run.done m) = AtRest law h m m.machine.start
-Keeps law h (run.say l act) = Keeps law h act
-Keeps law h (run.ask disk next) = law.Asks h disk × ((o : Outcome) → Keeps law (push h (Ended o)) (next o))
-Keeps law h (run.wake disk next) = law.Wakes h disk × ((w : Woken) → Keeps law (push h (Woke disk)) (next w))
-Keeps law h (run.mark note act) = IsMark note × Keeps law (push h note) act
+Keeps law h (acts.done m) = AtRest law h m m.machine.start
+Keeps law h (acts.say l act) = Keeps law h act
+Keeps law h (acts.ask disk next) = law.Asks h disk × ((o : Outcome) → Keeps law (push h (Ended o)) (next o))
+Keeps law h (acts.wake disk next) = law.Wakes h disk × ((w : Woken) → Keeps law (push h (Woke disk)) (next w))
+Keeps law h (acts.mark note act) = IsMark note × Keeps law (push h note) act
 
 abbrev pub Next : Law → (RunState → Act) → Type 0
 Next law next = (h : List Note) (x : RunState) → law.Up h x → Keeps law h (next x)
@@ -93,7 +101,7 @@ pub up_rests : (law : Law) (h : List Note) (m : RunState) (o : Option Start) →
 up_rests law h m None u = law.over h m u
 up_rests law h m (Some s) u = u
 
-pub done-keeps : (law : Law) → Next law run.done
+pub done-keeps : (law : Law) → Next law acts.done
 done-keeps law h m u = up_rests law h m m.machine.start u
 
 -- no start runs
@@ -126,7 +134,7 @@ noted-keeps law ok s h m next u f = f h (noted_saved ok s m) (machine_up law h m
 
 pub saved_by-keeps : (law : Law) (s : Start) (clone : Tree) (h : List Note) (m : RunState) (next : RunState → Act) (r : Result SetChange ChangeStop) → law.Up h m → Next law next → Keeps law h (saved_by s clone m next r)
 saved_by-keeps law s clone h m next (Ok change) u f =
-    let behind : RunState → Act = λ after. run.say (run.select_line change.numbers) (next (noted_saved true s after)) in
+    let behind : RunState → Act = λ after. acts.say (commit_book.select_line change.numbers) (next (noted_saved true s after)) in
     (tt, commit-keeps law lines.SaveCommit (push h (Saved clone)) m change.tree behind (law.saved h m clone u) (λ h x v. noted-keeps law true s h x next v f))
 saved_by-keeps law s clone h m next (Err (NoPlan stop)) u f = noted-keeps law false s h m next u f
 saved_by-keeps law s clone h m next (Err sets.Full) u f = noted-keeps law false s h m next u f
@@ -151,7 +159,7 @@ pub phase_step-keeps : (law : Law) (s : Start) (h : List Note) (m : RunState) (n
 phase_step-keeps law s h m next u f =
     let after : Start = after_phase (live_set m s.number) s in
     let there : RunState = with_machine (with_start after m.machine) m in
-    say_all-keeps law h (map UnmetLine (unmet_in s)) (run.say (phase_line after.phase) (save_where_due (Some after) there next))
+    say_all-keeps law h (map UnmetLine (unmet_in s)) (acts.say (phase_line after.phase) (save_where_due (Some after) there next))
     (due-keeps law (Some after) h there next (machine_up law h m (with_start after m.machine) u) f)
 
 pub starter_step-keeps : (law : Law) (s : Start) (h : List Note) (m : RunState) (next : RunState → Act) (o : Option (MachineState × Tried)) → law.Up h m → Next law next → Keeps law h (starter_step s m next o)
@@ -165,7 +173,7 @@ pub stepping-keeps : (law : Law) (o : Option Start) (h : List Note) (m : RunStat
 stepping-keeps law None h m next is r f = stays law h m is r
 stepping-keeps law (Some s) h m next is u f =
     let attempt : Option (MachineState × Tried) = attempt_of m.machine (good_is_usable m.live) in
-    either law h (is_done s.phase) (run.done m) (starter_step s m next attempt) (done-keeps law h m u) (starter_step-keeps law s h m next attempt u f)
+    either law h (is_done s.phase) (acts.done m) (starter_step s m next attempt) (done-keeps law h m u) (starter_step-keeps law s h m next attempt u f)
 
 pub go_steps-keeps : (law : Law) (n : ℕ) → Rests law (go_steps n)
 unfolding go_steps
@@ -179,7 +187,7 @@ go_act-keeps law (Some n) h m r = go_steps-keeps law n h m r
 -- ---- the boot event
 
 pub begin_start-keeps : (law : Law) (number : ℕ) (on_good : Bool) (numbers : SelectNumbers) → Next law (begin_start number on_good numbers)
-begin_start-keeps law number on_good numbers h m u = machine_up law h m (run.begun_state number on_good m).machine u
+begin_start-keeps law number on_good numbers h m u = machine_up law h m (boot_book.begun_state number on_good m).machine u
 
 pub begin_with-keeps : (law : Law) (on_good : Bool) (change : SetChange) (h : List Note) (m : RunState) → law.Up h m → Keeps law h (begin_with on_good change m)
 begin_with-keeps law on_good change h m u =
@@ -205,10 +213,10 @@ woken-keeps law on_good h m w d = (tt, (law.loading h m w d, λ o. by_case o))
     by_case DeviceFault = over-keeps law (push (with_wake h m.disk w) (Ended DeviceFault)) lines.Device false (woken_state m w) (law.stops h m w DeviceFault tt d)
 
 pub chosen-keeps : (law : Law) (on_good : Bool) (h : List Note) (m : RunState) (choice : Choice) → law.Down h m → Keeps law h (chosen on_good m choice)
-chosen-keeps law on_good h m (run.EntryTaken number path entry_on_good) d = (law.waking h m d, λ w. woken-keeps law (on_good || entry_on_good) h m w d)
-chosen-keeps law on_good h m run.NoEntry d = over-keeps law h lines.NoEntry false m d
-chosen-keeps law on_good h m (run.OtherLoader number path) d = over-keeps law h lines.OtherLoader false m d
-chosen-keeps law on_good h m (run.NoSystem number path) d = over-keeps law h lines.NoSystem false m d
+chosen-keeps law on_good h m (boot_book.EntryTaken number path entry_on_good) d = (law.waking h m d, λ w. woken-keeps law (on_good || entry_on_good) h m w d)
+chosen-keeps law on_good h m boot_book.NoEntry d = over-keeps law h lines.NoEntry false m d
+chosen-keeps law on_good h m (boot_book.OtherLoader number path) d = over-keeps law h lines.OtherLoader false m d
+chosen-keeps law on_good h m (boot_book.NoSystem number path) d = over-keeps law h lines.NoSystem false m d
 
 pub boot_act-keeps : (law : Law) (choice : Option ℕ → Choice) (entry : Option ℕ) (good : Bool) (h : List Note) (m : RunState) → law.Down h m → Keeps law h (boot_act choice entry good m)
 boot_act-keeps law choice entry good h m d =
@@ -222,7 +230,7 @@ edit_done-keeps law e h m (Err refusal) u = done-keeps law h m u
 
 pub flush_act-keeps : (law : Law) (h : List Note) (m : RunState) → law.Up h m → Keeps law h (flush_act m)
 flush_act-keeps law h m u =
-    either law h m.changed (commit lines.FlushCommit m.live m run.done) (run.say lines.FlushNothingLine (run.done m)) (commit-keeps law lines.FlushCommit h m m.live run.done u (done-keeps law)) (done-keeps law h m u)
+    either law h m.changed (commit lines.FlushCommit m.live m acts.done) (acts.say lines.FlushNothingLine (acts.done m)) (commit-keeps law lines.FlushCommit h m m.live acts.done u (done-keeps law)) (done-keeps law h m u)
 
 pub off_act-keeps : (law : Law) (s : Start) (h : List Note) (m : RunState) → law.Up h m → Keeps law h (off_act s m)
 off_act-keeps law s h m u =
@@ -232,7 +240,7 @@ off_act-keeps law s h m u =
 pub logon_act-keeps : (law : Law) (s : Start) (h : List Note) (m : RunState) → law.Up h m → Keeps law h (logon_act s m)
 logon_act-keeps law s h m u =
     let after : Start = record s { logged_on = true } in
-    due-keeps law (Some after) h (with_machine (with_start after m.machine) m) run.done (machine_up law h m (with_start after m.machine) u) (done-keeps law)
+    due-keeps law (Some after) h (with_machine (with_start after m.machine) m) acts.done (machine_up law h m (with_start after m.machine) u) (done-keeps law)
 
 pub running_act-keeps : (law : Law) (s : Start) (e : Event) (h : List Note) (m : RunState) → law.Up h m → Keeps law h (running_act s e m)
 running_act-keeps law s (events.BootNow entry good) h m u = done-keeps law h m u
@@ -272,7 +280,7 @@ event_step_of-keeps law choice e h m r = act_unless-keeps law choice e h m (refu
 pub closing-keeps : (law : Law) (h : List Note) (m : RunState) → AtRest law h m m.machine.start → Keeps law h (closing_act m)
 closing-keeps law h m r = by_start m.machine.start
   where
-    by_start : (o : Option Start) → Keeps law h (verdict_first o (run.say lines.EndLine (run.done m)))
+    by_start : (o : Option Start) → Keeps law h (verdict_first o (acts.say lines.EndLine (acts.done m)))
     by_start None = r
     by_start (Some s) = r
 

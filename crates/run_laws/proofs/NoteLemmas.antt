@@ -2,7 +2,8 @@
 use Rattle.std.proofs.Common.{◌≡◌, List, [], ◌∷◌, ◌++◌, refl, ap}
 use Rattle.hive_model.specs.Image.{Image}
 use Rattle.hive_model.specs.Tree.{Tree}
-use Rattle.start_model.specs.Run.{Possible, Woken, Outcome, Note, Woke, Held, Saved, Ordered, Cuts, Ended}
+use Rattle.start_model.specs.Possible.{Possible, Woken, Outcome}
+use Rattle.start_model.specs.Act.{Note, Woke, Held, Saved, Ordered, Cuts, Ended}
 use Rattle.start_model.specs.Fits.{ArePossible, Fits, woke_in, held_in, saved_in}
 use Rattle.run_laws.specs.Told.{ended_in}
 

@@ -3,8 +3,12 @@ use Rattle.std.proofs.Common.{◌≡◌, ℕ, List, [], ◌∷◌, ◌++◌, Opt
 use Rattle.std.proofs.lemmas.List.{append-nil}
 use Rattle.start_model.specs.Lines.{Line}
 use Rattle.start_model.specs.Events.{Event}
-use Rattle.start_model.specs.Run as run
-use Rattle.start_model.specs.Run.{RunState, Act, Note, Ended, Woke, Woken, Outcome, Choice, RunResult, play, then_run, behind, reached, run_from, event_step_of}
+use Rattle.start_model.specs.Act as acts
+use Rattle.start_model.specs.Possible.{Woken, Outcome}
+use Rattle.start_model.specs.Act.{RunState, Act, Note, Ended, Woke}
+use Rattle.start_model.specs.Boot.{Choice}
+use Rattle.start_model.specs.EventActs.{event_step_of}
+use Rattle.start_model.specs.Run.{RunResult, play, then_run, behind, reached, run_from}
 use Rattle.run_laws.specs.Parts.{run_until, part_of, ended}
 
 abbrev Left : Type 0
@@ -60,18 +64,18 @@ run_from-until choice (e ∷ es) m wakes outcomes =
 
 pub play-more : (act : Act) (wakes : List Woken) (outcomes : List Outcome) (m : RunState) (ws : List Woken) (os : List Outcome) (w : List Woken) (o : List Outcome) → (play act wakes outcomes).rest ≡ Some (m, ws, os)
     → play act (wakes ++ w) (outcomes ++ o) ≡ with_rest (play act wakes outcomes) (Some (m, ws ++ w, os ++ o))
-play-more (run.done n) wakes outcomes m ws os w o e =
+play-more (acts.done n) wakes outcomes m ws os w o e =
     let here : RunState × List Woken × List Outcome = (n, wakes, outcomes) in
     let there : RunState × List Woken × List Outcome = (m, ws, os) in
     let q : here ≡ there = cc in
     let P : RunState × List Woken × List Outcome → Type 0 = λ t. reached t.0 (t.1 ++ w) (t.2 ++ o) ≡ with_rest (reached t.0 t.1 t.2) (Some (m, ws ++ w, os ++ o)) in
     subst P (sym q) refl
-play-more (run.say l act) wakes outcomes m ws os w o e = ap (behind (l ∷ []) []) (play-more act wakes outcomes m ws os w o e)
-play-more (run.ask disk next) wakes [] m ws os w o e = absurd cc
-play-more (run.ask disk next) wakes (x ∷ outcomes) m ws os w o e = ap (behind [] (Ended x ∷ [])) (play-more (next x) wakes outcomes m ws os w o e)
-play-more (run.wake disk next) [] outcomes m ws os w o e = absurd cc
-play-more (run.wake disk next) (x ∷ wakes) outcomes m ws os w o e = ap (behind [] (Woke disk ∷ [])) (play-more (next x) wakes outcomes m ws os w o e)
-play-more (run.mark note act) wakes outcomes m ws os w o e = ap (behind [] (note ∷ [])) (play-more act wakes outcomes m ws os w o e)
+play-more (acts.say l act) wakes outcomes m ws os w o e = ap (behind (l ∷ []) []) (play-more act wakes outcomes m ws os w o e)
+play-more (acts.ask disk next) wakes [] m ws os w o e = absurd cc
+play-more (acts.ask disk next) wakes (x ∷ outcomes) m ws os w o e = ap (behind [] (Ended x ∷ [])) (play-more (next x) wakes outcomes m ws os w o e)
+play-more (acts.wake disk next) [] outcomes m ws os w o e = absurd cc
+play-more (acts.wake disk next) (x ∷ wakes) outcomes m ws os w o e = ap (behind [] (Woke disk ∷ [])) (play-more (next x) wakes outcomes m ws os w o e)
+play-more (acts.mark note act) wakes outcomes m ws os w o e = ap (behind [] (note ∷ [])) (play-more act wakes outcomes m ws os w o e)
 
 -- the same of events in order
 More : (Option ℕ → Choice) → List Event → Type 0
@@ -92,7 +96,7 @@ more_by choice es more act wakes outcomes m ws os w o (Some (n, us, vs)) is e =
 pub part_of-more : (choice : Option ℕ → Choice) (es : List Event) (n : RunState) (wakes : List Woken) (outcomes : List Outcome) (m : RunState) (ws : List Woken) (os : List Outcome) (w : List Woken) (o : List Outcome)
     → (part_of choice es n wakes outcomes).rest ≡ Some (m, ws, os) → part_of choice es n (wakes ++ w) (outcomes ++ o) ≡ with_rest (part_of choice es n wakes outcomes) (Some (m, ws ++ w, os ++ o))
 unfolding More
-part_of-more choice [] n wakes outcomes m ws os w o e = play-more (run.done n) wakes outcomes m ws os w o e
+part_of-more choice [] n wakes outcomes m ws os w o e = play-more (acts.done n) wakes outcomes m ws os w o e
 part_of-more choice (x ∷ es) n wakes outcomes m ws os w o e =
     more_by choice es (part_of-more choice es) (event_step_of choice x n) wakes outcomes m ws os w o (play (event_step_of choice x n) wakes outcomes).rest refl e
 
@@ -100,16 +104,16 @@ part_of-more choice (x ∷ es) n wakes outcomes m ws os w o e =
 
 -- where an event went on, the disk is that of the state
 pub play-disk : (act : Act) (wakes : List Woken) (outcomes : List Outcome) (m : RunState) (ws : List Woken) (os : List Outcome) → (play act wakes outcomes).rest ≡ Some (m, ws, os) → (play act wakes outcomes).disk ≡ m.disk
-play-disk (run.done n) wakes outcomes m ws os e =
+play-disk (acts.done n) wakes outcomes m ws os e =
     let here : RunState × List Woken × List Outcome = (n, wakes, outcomes) in
     let there : RunState × List Woken × List Outcome = (m, ws, os) in
     let q : here ≡ there = cc in ap (λ (t : RunState × List Woken × List Outcome). t.0.disk) q
-play-disk (run.say l act) wakes outcomes m ws os e = play-disk act wakes outcomes m ws os e
-play-disk (run.ask disk next) wakes [] m ws os e = absurd cc
-play-disk (run.ask disk next) wakes (x ∷ outcomes) m ws os e = play-disk (next x) wakes outcomes m ws os e
-play-disk (run.wake disk next) [] outcomes m ws os e = absurd cc
-play-disk (run.wake disk next) (x ∷ wakes) outcomes m ws os e = play-disk (next x) wakes outcomes m ws os e
-play-disk (run.mark note act) wakes outcomes m ws os e = play-disk act wakes outcomes m ws os e
+play-disk (acts.say l act) wakes outcomes m ws os e = play-disk act wakes outcomes m ws os e
+play-disk (acts.ask disk next) wakes [] m ws os e = absurd cc
+play-disk (acts.ask disk next) wakes (x ∷ outcomes) m ws os e = play-disk (next x) wakes outcomes m ws os e
+play-disk (acts.wake disk next) [] outcomes m ws os e = absurd cc
+play-disk (acts.wake disk next) (x ∷ wakes) outcomes m ws os e = play-disk (next x) wakes outcomes m ws os e
+play-disk (acts.mark note act) wakes outcomes m ws os e = play-disk act wakes outcomes m ws os e
 
 one_event : (act : Act) (wakes : List Woken) (outcomes : List Outcome) (rest : Option Left) → (play act wakes outcomes).rest ≡ rest → then_run reached (play act wakes outcomes) rest ≡ play act wakes outcomes
 one_event act wakes outcomes None e = refl

@@ -5,8 +5,14 @@ use Rattle.std.specs.Prelude.{IfSome, unwrap_or}
 use Rattle.hive_model.specs.State.{HiveState}
 use Rattle.start_model.specs.Lines.{Line}
 use Rattle.start_model.specs.Events.{Event}
-use Rattle.start_model.specs.Run as run
-use Rattle.start_model.specs.Run.{RunState, Possible, Act, Note, Woke, Held, Saved, Ordered, Cuts, Ended, Woken, Outcome, Finished, PowerCut, DeviceFault, Choice, RunResult, Quiet, quiet_wake, quiet_behind, play, quiet_play, then_run, run_from, quiet_from, run_of, quiet_run_of, event_step_of, first_state, closing_act, verdict_first}
+use Rattle.start_model.specs.Possible as possible_words
+use Rattle.start_model.specs.Act as acts
+use Rattle.start_model.specs.Possible.{Possible, Woken, Outcome, Finished, PowerCut, DeviceFault}
+use Rattle.start_model.specs.Act.{RunState, Act, Note, Woke, Held, Saved, Ordered, Cuts, Ended}
+use Rattle.start_model.specs.Boot.{Choice}
+use Rattle.start_model.specs.EventActs.{event_step_of}
+use Rattle.start_model.specs.Run.{RunResult, play, then_run, run_from, run_of, first_state, closing_act, verdict_first}
+use Rattle.start_model.specs.Quiet.{Quiet, quiet_wake, quiet_behind, quiet_play, quiet_from, quiet_run_of}
 use Rattle.start_model.specs.Machine.{Start}
 use Rattle.start_model.specs.Fits.{IsPossible, ArePossible, woke_in}
 use Rattle.run_laws.specs.Quiet.{AllFinished}
@@ -64,7 +70,7 @@ stop_undone h DeviceFault stop d = (done_parts h (Ended DeviceFault) d).1
 abbrev Certain : List Note → RunState → Type 0
 Certain h m = AllDone h → IsCertain m.disk
 
-certain_settled : (state : HiveState) → IsCertain (run.settled_at state)
+certain_settled : (state : HiveState) → IsCertain (possible_words.settled_at state)
 certain_settled state = record { closed = refl; dirty = false; known = refl }
 
 abbrev certain : Law
@@ -82,7 +88,7 @@ certain = record {
   cutting = λ h m c. tt;
   cut = λ h m o c d. c (done_parts h Cuts (done_parts (push h Cuts) (Ended o) d).0).0;
   committing = λ h m tree c. tt;
-  commits = λ h m tree c d. certain_settled (run.next_state m tree);
+  commits = λ h m tree c d. certain_settled (acts.next_state m tree);
   opens = λ h m tree o stop c d. absurd (stop_undone h o stop d);
   waking = λ h m c. c;
   loading = λ h m w c. tt;
@@ -121,22 +127,22 @@ the_wake p w c may =
 
 plays_quiet : (act : Act) (h : List Note) → Keeps certain h act → AllDone h → (wakes : List Woken) (outcomes : List Outcome) (more : List Possible) (left : Left) → (play act wakes outcomes).rest ≡ Some left
     → ArePossible wakes (woke_in (play act wakes outcomes).notes ++ more) → AllFinished outcomes → PlaysQuiet h act wakes outcomes more left
-plays_quiet (run.done m) h k d wakes outcomes more left e fits all =
+plays_quiet (acts.done m) h k d wakes outcomes more left e fits all =
     let here : RunState × List Woken × List Outcome = (m, wakes, outcomes) in
     let q : here ≡ left = cc in
-    let P : RunState × List Woken × List Outcome → Type 0 = λ l. PlaysQuiet h (run.done m) wakes outcomes more l in
+    let P : RunState × List Woken × List Outcome → Type 0 = λ l. PlaysQuiet h (acts.done m) wakes outcomes more l in
     subst P q (record { lines = refl; state = refl; behind = h; rests = k; all = d; finished = all; possible = fits })
-plays_quiet (run.say l act) h k d wakes outcomes more left e fits all =
+plays_quiet (acts.say l act) h k d wakes outcomes more left e fits all =
     let p = plays_quiet act h k d wakes outcomes more left e fits all in
     record { lines = ap (λ (ls : List Line). l ∷ ls) p.lines; state = p.state; behind = p.behind; rests = p.rests; all = p.all; finished = p.finished; possible = p.possible }
-plays_quiet (run.ask disk next) h k d wakes [] more left e fits all = absurd cc
-plays_quiet (run.ask disk next) h k d wakes (Finished ∷ outcomes) more left e fits all =
+plays_quiet (acts.ask disk next) h k d wakes [] more left e fits all = absurd cc
+plays_quiet (acts.ask disk next) h k d wakes (Finished ∷ outcomes) more left e fits all =
     let p = plays_quiet (next Finished) (push h (Ended Finished)) (k.1 Finished) (done_push h (Ended Finished) d tt) wakes outcomes more left e fits all in
     record { lines = p.lines; state = p.state; behind = p.behind; rests = p.rests; all = p.all; finished = p.finished; possible = p.possible }
-plays_quiet (run.ask disk next) h k d wakes (PowerCut ∷ outcomes) more left e fits all = absurd all
-plays_quiet (run.ask disk next) h k d wakes (DeviceFault ∷ outcomes) more left e fits all = absurd all
-plays_quiet (run.wake disk next) h k d [] outcomes more left e fits all = absurd cc
-plays_quiet (run.wake disk next) h k d (w ∷ wakes) outcomes more left e fits all =
+plays_quiet (acts.ask disk next) h k d wakes (PowerCut ∷ outcomes) more left e fits all = absurd all
+plays_quiet (acts.ask disk next) h k d wakes (DeviceFault ∷ outcomes) more left e fits all = absurd all
+plays_quiet (acts.wake disk next) h k d [] outcomes more left e fits all = absurd cc
+plays_quiet (acts.wake disk next) h k d (w ∷ wakes) outcomes more left e fits all =
     let p = plays_quiet (next w) (push h (Woke disk)) (k.1 w) (done_push h (Woke disk) d tt) wakes outcomes more left e fits.1 all in
     let same : w ≡ quiet_wake disk = the_wake disk w (k.0 d) fits.0 in
     record {
@@ -148,14 +154,14 @@ plays_quiet (run.wake disk next) h k d (w ∷ wakes) outcomes more left e fits a
       finished = p.finished;
       possible = p.possible;
     }
-plays_quiet (run.mark note act) h k d wakes outcomes more left e fits all =
+plays_quiet (acts.mark note act) h k d wakes outcomes more left e fits all =
     by_note note k.0 k.1 fits (λ (one : AllDone (note ∷ [])) fits. plays_quiet act (push h note) k.1 (done_push h note d one) wakes outcomes more left e fits all)
   where
-    over : (n : Note) → PlaysQuiet (push h n) act wakes outcomes more left → PlaysQuiet h (run.mark n act) wakes outcomes more left
+    over : (n : Note) → PlaysQuiet (push h n) act wakes outcomes more left → PlaysQuiet h (acts.mark n act) wakes outcomes more left
     over n p = record { lines = p.lines; state = p.state; behind = p.behind; rests = p.rests; all = p.all; finished = p.finished; possible = p.possible }
 
     by_note : (n : Note) → IsMark n → Keeps certain (push h n) act → ArePossible wakes (woke_in (n ∷ (play act wakes outcomes).notes) ++ more)
-        → (AllDone (n ∷ []) → ArePossible wakes (woke_in (play act wakes outcomes).notes ++ more) → PlaysQuiet (push h n) act wakes outcomes more left) → PlaysQuiet h (run.mark n act) wakes outcomes more left
+        → (AllDone (n ∷ []) → ArePossible wakes (woke_in (play act wakes outcomes).notes ++ more) → PlaysQuiet (push h n) act wakes outcomes more left) → PlaysQuiet h (acts.mark n act) wakes outcomes more left
     by_note (Woke p) mark k fits f = absurd mark
     by_note (Held t) mark k fits f = over (Held t) (f tt fits)
     by_note (Saved t) mark k fits f = over (Saved t) (f tt fits)

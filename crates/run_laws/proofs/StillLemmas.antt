@@ -5,8 +5,13 @@ use Rattle.hive_model.specs.Image.{Image}
 use Rattle.hive_model.specs.State.{HiveState}
 use Rattle.start_model.specs.Machine.{Start}
 use Rattle.start_model.specs.Events.{Event}
-use Rattle.start_model.specs.Run as run
-use Rattle.start_model.specs.Run.{RunState, Possible, Act, Note, Woke, Held, Saved, Ordered, Cuts, Ended, Woken, Outcome, Choice, RunResult, open_between, play, then_run, run_from, event_step_of, closing_act}
+use Rattle.start_model.specs.Possible as possible_words
+use Rattle.start_model.specs.Act as acts
+use Rattle.start_model.specs.Possible.{Possible, Woken, Outcome, open_between}
+use Rattle.start_model.specs.Act.{RunState, Act, Note, Woke, Held, Saved, Ordered, Cuts, Ended}
+use Rattle.start_model.specs.Boot.{Choice}
+use Rattle.start_model.specs.EventActs.{event_step_of}
+use Rattle.start_model.specs.Run.{RunResult, play, then_run, run_from, closing_act}
 use Rattle.start_model.specs.Fits.{IsPossible, MayLoad}
 use Rattle.run_laws.specs.Open.{IsClosed}
 use Rattle.run_laws.specs.Told.{IsStill}
@@ -72,12 +77,12 @@ may_load c = record {
   saved = λ h m clone u. record { closed = u.closed; may = λ s. u.may (still_before h (Saved clone) s) };
   cutting = λ h m u s. u.may (still_before h Cuts s);
   cut = λ h m o u s. absurd (not_ended (push h Cuts) o s);
-  committing = λ h m tree u s. opens m.disk.settled (run.next_state m tree) m.disk c refl u.closed (u.may s);
-  commits = λ h m tree u. record { closed = refl; may = λ s. absurd (not_ended h run.Finished (still_before (push h (Ended run.Finished)) (Held tree) s)) };
+  committing = λ h m tree u s. opens m.disk.settled (acts.next_state m tree) m.disk c refl u.closed (u.may s);
+  commits = λ h m tree u. record { closed = refl; may = λ s. absurd (not_ended h possible_words.Finished (still_before (push h (Ended possible_words.Finished)) (Held tree) s)) };
   opens = λ h m tree o stop u s. absurd (not_ended h o s);
   waking = λ h m d. d;
   loading = λ h m w d s. absurd (not_woken h m.disk w s);
-  loads = λ h m w d. record { closed = refl; may = λ s. absurd (not_ended (with_wake h m.disk w) run.Finished s) };
+  loads = λ h m w d. record { closed = refl; may = λ s. absurd (not_ended (with_wake h m.disk w) possible_words.Finished s) };
   stops = λ h m w o stop d s. absurd (not_ended (with_wake h m.disk w) o s);
 }
 
@@ -97,22 +102,22 @@ abbrev Left : Type 0
 Left = RunState × List Woken × List Outcome
 
 play-left : (act : Act) (m : RunState) (ws : List Woken) (os : List Outcome) → (play act [] []).rest ≡ Some (m, ws, os) → NothingLeft (play act [] []) m ws os
-play-left (run.done n) m ws os e =
+play-left (acts.done n) m ws os e =
     let here : RunState × List Woken × List Outcome = (n, [], []) in
     let there : RunState × List Woken × List Outcome = (m, ws, os) in
     let q : here ≡ there = cc in
     record { wakes = sym (ap (λ (t : RunState × List Woken × List Outcome). t.1) q); outcomes = sym (ap (λ (t : RunState × List Woken × List Outcome). t.2) q); disk = ap (λ (t : RunState × List Woken × List Outcome). t.0.disk) q }
-play-left (run.say l act) m ws os e = let p = play-left act m ws os e in record { wakes = p.wakes; outcomes = p.outcomes; disk = p.disk }
-play-left (run.ask disk next) m ws os e = absurd cc
-play-left (run.wake disk next) m ws os e = absurd cc
-play-left (run.mark note act) m ws os e = let p = play-left act m ws os e in record { wakes = p.wakes; outcomes = p.outcomes; disk = p.disk }
+play-left (acts.say l act) m ws os e = let p = play-left act m ws os e in record { wakes = p.wakes; outcomes = p.outcomes; disk = p.disk }
+play-left (acts.ask disk next) m ws os e = absurd cc
+play-left (acts.wake disk next) m ws os e = absurd cc
+play-left (acts.mark note act) m ws os e = let p = play-left act m ws os e in record { wakes = p.wakes; outcomes = p.outcomes; disk = p.disk }
 
 play-still : (law : Law) (act : Act) (h : List Note) → Keeps law h act → IsStill (play act [] []).notes
-play-still law (run.done m) h k = tt
-play-still law (run.say l act) h k = play-still law act h k
-play-still law (run.ask disk next) h k = tt
-play-still law (run.wake disk next) h k = tt
-play-still law (run.mark note act) h k = by_note note k.0 (play-still law act (push h note) k.1)
+play-still law (acts.done m) h k = tt
+play-still law (acts.say l act) h k = play-still law act h k
+play-still law (acts.ask disk next) h k = tt
+play-still law (acts.wake disk next) h k = tt
+play-still law (acts.mark note act) h k = by_note note k.0 (play-still law act (push h note) k.1)
   where
     by_note : (n : Note) → IsMark n → IsStill (play act [] []).notes → IsStill (n ∷ (play act [] []).notes)
     by_note (Woke p) mark s = mark
@@ -235,11 +240,11 @@ expects d = record {
   cutting = λ h m u. tt;
   cut = λ h m o u s. absurd (not_ended (push h Cuts) o s);
   committing = λ h m tree u. tt;
-  commits = λ h m tree u s. absurd (not_ended h run.Finished (still_before (push h (Ended run.Finished)) (Held tree) s));
+  commits = λ h m tree u s. absurd (not_ended h possible_words.Finished (still_before (push h (Ended possible_words.Finished)) (Held tree) s));
   opens = λ h m tree o stop u s. absurd (not_ended h o s);
   waking = λ h m d. d;
   loading = λ h m w d. tt;
-  loads = λ h m w d s. absurd (not_ended (with_wake h m.disk w) run.Finished s);
+  loads = λ h m w d s. absurd (not_ended (with_wake h m.disk w) possible_words.Finished s);
   stops = λ h m w o stop d s. absurd (not_ended (with_wake h m.disk w) o s);
 }
 

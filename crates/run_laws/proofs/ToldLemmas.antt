@@ -3,8 +3,12 @@ use Rattle.std.proofs.Common.{◌≡◌, ◌⊎◌, inl, inr, ℕ, Bool, true, f
 use Rattle.hive_model.specs.Tree.{Tree}
 use Rattle.start_model.specs.Machine.{Start}
 use Rattle.start_model.specs.Events.{Event}
-use Rattle.start_model.specs.Run as run
-use Rattle.start_model.specs.Run.{RunState, Possible, Act, Note, Woke, Held, Saved, Ordered, Cuts, Ended, Woken, Outcome, Finished, PowerCut, DeviceFault, Choice, RunResult, play, then_run, closing_act, event_step_of, run_from, run_of, first_state}
+use Rattle.start_model.specs.Commit as commit_book
+use Rattle.start_model.specs.Possible.{Possible, Woken, Outcome, Finished, PowerCut, DeviceFault}
+use Rattle.start_model.specs.Act.{RunState, Act, Note, Woke, Held, Saved, Ordered, Cuts, Ended}
+use Rattle.start_model.specs.Boot.{Choice}
+use Rattle.start_model.specs.EventActs.{event_step_of}
+use Rattle.start_model.specs.Run.{RunResult, play, then_run, closing_act, run_from, run_of, first_state}
 use Rattle.run_laws.specs.Told.{last_held, is_stop, stopped_last}
 use Rattle.run_laws.proofs.KeptLemmas.{Law, AtRest, IsStop, push, with_wake}
 use Rattle.run_laws.proofs.AlongLemmas.{Along, Waits, wake_split, run_from-along}
@@ -72,7 +76,7 @@ same_closed first h n p held t = record { held = t.held ∙ sym (held-push first
 pub told_woken : (first : Tree) (h : List Note) (disk : Possible) (w : Woken) → last_held first (with_wake h disk w) ≡ w.state.tree
 told_woken first h disk w = held-push first (push h (Woke disk)) (Held w.state.tree)
 
-pub told_opened : (first : Tree) (h : List Note) (m : RunState) (tree : Tree) (o : Outcome) → IsStop o → IsToldClosed first h m.disk → IsTold first (push h (Ended o)) (run.opened_state m tree).disk
+pub told_opened : (first : Tree) (h : List Note) (m : RunState) (tree : Tree) (o : Outcome) → IsStop o → IsToldClosed first h m.disk → IsTold first (push h (Ended o)) (commit_book.opened_state m tree).disk
 told_opened first h m tree o stop t = record {
   held = t.held ∙ sym (held-push first h (Ended o));
   by_stop = inr (stopped-push false h (Ended o) ∙ stop_is o stop);

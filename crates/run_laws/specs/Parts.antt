@@ -1,7 +1,11 @@
 -- What came of the first events of a script? (this project's own)
 use Rattle.std.specs.Prelude.{ℕ, List, [], ◌∷◌, Option}
 use Rattle.start_model.specs.Events.{Event}
-use Rattle.start_model.specs.Run.{RunState, Woken, Outcome, Choice, RunResult, play, then_run, reached, closing_act, event_step_of}
+use Rattle.start_model.specs.Possible.{Woken, Outcome}
+use Rattle.start_model.specs.Act.{RunState}
+use Rattle.start_model.specs.Boot.{Choice}
+use Rattle.start_model.specs.EventActs.{event_step_of}
+use Rattle.start_model.specs.Run.{RunResult, play, then_run, reached, closing_act}
 
 -- the events in order, and then what `last` makes of it
 abbrev pub run_until : (RunState → List Woken → List Outcome → RunResult) → (Option ℕ → Choice) → List Event → RunState → List Woken → List Outcome → RunResult

@@ -1,7 +1,8 @@
 -- What do the notes of a run tell of the disk? (this project's own)
 use Rattle.std.specs.Prelude.{Bool, true, false, List, [], ◌∷◌}
 use Rattle.hive_model.specs.Tree.{Tree}
-use Rattle.start_model.specs.Run.{Note, Woke, Held, Ended, Outcome, Finished}
+use Rattle.start_model.specs.Possible.{Outcome, Finished}
+use Rattle.start_model.specs.Act.{Note, Woke, Held, Ended}
 
 -- the tree that was loaded or committed last; this one where none was
 abbrev pub last_held : Tree → List Note → Tree

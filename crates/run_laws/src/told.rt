@@ -4,15 +4,21 @@ ghost use Rattle.std.specs.Prelude.{◌≡◌, ◌⊎◌, ℕ, true, false, List
 ghost use Rattle.hive_model.specs.Tree.{Tree};
 ghost use Rattle.start_model.specs.Lines.{CommitWord, CommitLine};
 ghost use Rattle.start_model.specs.Events as events;
-ghost use Rattle.start_model.specs.Run.{RunState, Act, Possible, Note, Woke, Held, Ended, Woken, Outcome, Finished, Choice, settled_at, next_state, committed_state, commit, play, behind, run_from, run_of};
+ghost use Rattle.start_model.specs.Possible.{Possible, Woken, Outcome, Finished, settled_at};
+ghost use Rattle.start_model.specs.Act.{RunState, Act, Note, Woke, Held, Ended, next_state};
+ghost use Rattle.start_model.specs.Commit.{committed_state, commit};
+ghost use Rattle.start_model.specs.Boot.{Choice};
+ghost use Rattle.start_model.specs.Run.{play, behind, run_from, run_of};
 ghost use Rattle.run_laws.specs.Told.{last_held, stopped_last, IsStill};
 
 /// The settled tree of each wake is the one that was loaded or committed last, and so it is of what the disk may load as
 /// in the end. Another one is possible only where the last operation was stopped.
 pub fn each_wake_has_every_acknowledged_change()
-    ensures settled { (choice : Option ℕ → Choice) (script : List events.Event) (placed : Woken) (wakes : List Woken) (outcomes : List Outcome) (before : List Note) (after : List Note) (p : Possible)
+    ensures settled { (choice : Option ℕ → Choice) (script : List events.Event) (placed : Woken) (wakes : List Woken) (outcomes : List Outcome)
+        (before : List Note) (after : List Note) (p : Possible)
         → (run_of choice script placed wakes outcomes).notes ≡ before ++ Woke p ∷ after → p.settled.tree ≡ last_held placed.state.tree before }
-    ensures other { (choice : Option ℕ → Choice) (script : List events.Event) (placed : Woken) (wakes : List Woken) (outcomes : List Outcome) (before : List Note) (after : List Note) (p : Possible)
+    ensures other { (choice : Option ℕ → Choice) (script : List events.Event) (placed : Woken) (wakes : List Woken) (outcomes : List Outcome)
+        (before : List Note) (after : List Note) (p : Possible)
         → (run_of choice script placed wakes outcomes).notes ≡ before ++ Woke p ∷ after → (p.other ≡ None) ⊎ (stopped_last false before ≡ true) }
     ensures end { (choice : Option ℕ → Choice) (script : List events.Event) (placed : Woken) (wakes : List Woken) (outcomes : List Outcome)
         → (run_of choice script placed wakes outcomes).disk.settled.tree ≡ last_held placed.state.tree (run_of choice script placed wakes outcomes).notes }
@@ -25,6 +31,7 @@ pub fn a_commit_line_settles_its_state()
         → play (commit what tree m next) wakes (Finished ∷ outcomes)
         ≡ behind (CommitLine what (next_state m tree).sequence ∷ []) (Ended Finished ∷ Held tree ∷ []) (play (next (committed_state m tree)) wakes outcomes) }
     ensures settled { (tree : Tree) (m : RunState) → (committed_state m tree).disk ≡ settled_at (next_state m tree) }
-    ensures next { (choice : Option ℕ → Choice) (script : List events.Event) (m : RunState) (wakes : List Woken) (outcomes : List Outcome) (before : List Note) (after : List Note) (p : Possible)
+    ensures next { (choice : Option ℕ → Choice) (script : List events.Event) (m : RunState) (wakes : List Woken) (outcomes : List Outcome)
+        (before : List Note) (after : List Note) (p : Possible)
         → (run_from choice script m wakes outcomes).notes ≡ before ++ Woke p ∷ after → IsStill before → p ≡ m.disk }
 {}

@@ -13,7 +13,9 @@ use Rattle.boot_report.proofs.TextLemmas.{body, text-body, no_lf-body, both}
 use Rattle.start_model.specs.Lines.{Line, line_text, text_of}
 use Rattle.start_model.specs.Fits.{outcomes_in, MayLoad}
 use Rattle.start_model.specs.Causes.{HasCause}
-use Rattle.start_model.specs.Run.{Act, say, ask, Possible, Outcome, Finished, play}
+use Rattle.start_model.specs.Possible.{Possible, Outcome, Finished}
+use Rattle.start_model.specs.Act.{Act, say, ask}
+use Rattle.start_model.specs.Run.{play}
 use Rattle.start_model.specs.Summary.{with_line}
 use Rattle.run_parts.specs.Parts.{Told, Tells, HasNoLineFeed, since_wake, tally_now, Goes, Breaks, PlaysOr}
 use Rattle.run_parts.proofs.CountLemmas.{Still, still}

@@ -5,7 +5,8 @@ use Rattle.hive_model.specs.Image.{Arming}
 use Rattle.nt_edge.specs.Disk.{DiskState, History, Wake, CountsGrow, next}
 use Rattle.start_model.specs.Causes.{Tally, Rises, HasCause, next_tally, Caused}
 use Rattle.start_model.specs.Orders.{ordered_in}
-use Rattle.start_model.specs.Run.{Note, Woke, Held, Saved, Ordered, Cuts, Ended, Outcome, Finished, PowerCut, DeviceFault}
+use Rattle.start_model.specs.Possible.{Outcome, Finished, PowerCut, DeviceFault}
+use Rattle.start_model.specs.Act.{Note, Woke, Held, Saved, Ordered, Cuts, Ended}
 use Rattle.run_parts.specs.Parts.{tally_at, tallies, tally_now, last_tally, since_wake, NoLess, NoneFell, Later, cuts_behind, Grew}
 
 -- ---- counts

@@ -8,7 +8,9 @@ use Rattle.start_model.specs.Lines as book
 use Rattle.start_model.specs.Lines.{Line, StartLine, EntryLine, LoadLine, SetLine, CommitLine, SelectLine, PhaseLine, TryLine, UnmetLine, LogonLine, SaveRefusedLine, EditOkLine, FlushNothingLine, RefusedLine, VerdictLine, EndLine, line_text, text_of}
 use Rattle.start_model.specs.Fits.{outcomes_in, verdict_outcome, woke_in, Fits}
 use Rattle.start_model.specs.Causes.{HasCause}
-use Rattle.start_model.specs.Run.{Act, say, ask, mark, Note, Woke, Held, Saved, Ordered, Cuts, Ended, Possible, Woken, Outcome, Finished, RunResult, play, behind}
+use Rattle.start_model.specs.Possible.{Possible, Woken, Outcome, Finished}
+use Rattle.start_model.specs.Act.{Act, say, ask, mark, Note, Woke, Held, Saved, Ordered, Cuts, Ended}
+use Rattle.start_model.specs.Run.{RunResult, play, behind}
 use Rattle.start_model.specs.Report.{Going}
 use Rattle.start_model.specs.Summary.{Summary, with_line, with_lines}
 use Rattle.run_parts.specs.Parts.{Told, Tells, tally_now, since_wake, Grew, Goes}

@@ -5,7 +5,9 @@ use Rattle.nt_edge.specs.Crash.{EachCrash}
 use Rattle.boot_report.proofs.TextLemmas.{outcomes_of-text}
 use Rattle.start_model.specs.Lines.{Line, text_of}
 use Rattle.start_model.specs.Fits.{outcomes_in, outcomes_of, woke_in, Fits, MayLoad}
-use Rattle.start_model.specs.Run.{Note, Possible, Woken, Outcome, RunState, RunResult, reached, behind}
+use Rattle.start_model.specs.Possible.{Possible, Woken, Outcome}
+use Rattle.start_model.specs.Act.{Note, RunState}
+use Rattle.start_model.specs.Run.{RunResult, reached, behind}
 use Rattle.start_model.specs.Report.{Going}
 use Rattle.start_model.specs.Summary.{with_lines}
 use Rattle.run_parts.specs.Parts.{Told, Goes, RunBreaks, Grew}

@@ -15,7 +15,9 @@ use Rattle.start_model.specs.Summary.{Summary, with_lines}
 use Rattle.start_model.specs.Fits.{outcomes_in, woke_in, Fits, MayLoad}
 use Rattle.start_model.specs.Orders.{ordered_in}
 use Rattle.start_model.specs.Causes.{Tally, Caused}
-use Rattle.start_model.specs.Run.{Act, Note, Cuts, Woken, Outcome, RunState, play, behind}
+use Rattle.start_model.specs.Possible.{Woken, Outcome}
+use Rattle.start_model.specs.Act.{Act, Note, Cuts, RunState}
+use Rattle.start_model.specs.Run.{play, behind}
 use Rattle.start_model.specs.Report.{Going}
 
 -- ---- the disk's counts

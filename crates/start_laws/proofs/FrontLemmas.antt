@@ -4,8 +4,12 @@ use Rattle.std.proofs.lemmas.List.{append-nil}
 use Rattle.nt_bytes.specs.Front.{IsFront}
 use Rattle.start_model.specs.Lines.{Line}
 use Rattle.start_model.specs.Events.{Event}
-use Rattle.start_model.specs.Run as run
-use Rattle.start_model.specs.Run.{RunState, Act, Note, Woken, Outcome, Choice, RunResult, play, then_run, behind, closing_act, run_from, run_of, event_step_of, first_state}
+use Rattle.start_model.specs.Act as acts
+use Rattle.start_model.specs.Possible.{Woken, Outcome}
+use Rattle.start_model.specs.Act.{RunState, Act, Note}
+use Rattle.start_model.specs.Boot.{Choice}
+use Rattle.start_model.specs.EventActs.{event_step_of}
+use Rattle.start_model.specs.Run.{RunResult, play, then_run, behind, closing_act, run_from, run_of, first_state}
 use Rattle.run_laws.specs.Parts.{run_until, part_of, ended}
 use Rattle.run_laws.proofs.PartLemmas.{with_rest, play-more, run_from-until, run_until-append}
 use Rattle.start_laws.specs.Fronts.{IsFrontOfRun}
@@ -34,13 +38,13 @@ behind-front lines notes r s f = record { lines = behind_one lines r.lines s.lin
 -- ---- an event
 
 play-front : (act : Act) (wakes : List Woken) (outcomes : List Outcome) (w : List Woken) (o : List Outcome) → IsFrontOfRun (play act wakes outcomes) (play act (wakes ++ w) (outcomes ++ o))
-play-front (run.done m) wakes outcomes w o = record { lines = all_of []; notes = all_of [] }
-play-front (run.say l act) wakes outcomes w o = behind-front (l ∷ []) [] _ _ (play-front act wakes outcomes w o)
-play-front (run.ask disk next) wakes [] w o = record { lines = nothing _; notes = nothing _ }
-play-front (run.ask disk next) wakes (x ∷ outcomes) w o = behind-front [] (run.Ended x ∷ []) _ _ (play-front (next x) wakes outcomes w o)
-play-front (run.wake disk next) [] outcomes w o = record { lines = nothing _; notes = nothing _ }
-play-front (run.wake disk next) (x ∷ wakes) outcomes w o = behind-front [] (run.Woke disk ∷ []) _ _ (play-front (next x) wakes outcomes w o)
-play-front (run.mark note act) wakes outcomes w o = behind-front [] (note ∷ []) _ _ (play-front act wakes outcomes w o)
+play-front (acts.done m) wakes outcomes w o = record { lines = all_of []; notes = all_of [] }
+play-front (acts.say l act) wakes outcomes w o = behind-front (l ∷ []) [] _ _ (play-front act wakes outcomes w o)
+play-front (acts.ask disk next) wakes [] w o = record { lines = nothing _; notes = nothing _ }
+play-front (acts.ask disk next) wakes (x ∷ outcomes) w o = behind-front [] (acts.Ended x ∷ []) _ _ (play-front (next x) wakes outcomes w o)
+play-front (acts.wake disk next) [] outcomes w o = record { lines = nothing _; notes = nothing _ }
+play-front (acts.wake disk next) (x ∷ wakes) outcomes w o = behind-front [] (acts.Woke disk ∷ []) _ _ (play-front (next x) wakes outcomes w o)
+play-front (acts.mark note act) wakes outcomes w o = behind-front [] (note ∷ []) _ _ (play-front act wakes outcomes w o)
 
 -- ---- a run
 

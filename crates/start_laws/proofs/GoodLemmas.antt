@@ -3,7 +3,8 @@ use Rattle.std.proofs.Common.{◌≡◌, inl, inr, List, [], ◌∷◌, ◌++◌
 use Rattle.std.specs.Prelude.{Contains}
 use Rattle.std.proofs.lemmas.List.Elements.{Contains-append_left}
 use Rattle.hive_model.specs.Tree.{Tree}
-use Rattle.start_model.specs.Run.{RunResult, Note}
+use Rattle.start_model.specs.Act.{Note}
+use Rattle.start_model.specs.Run.{RunResult}
 use Rattle.start_model.specs.Fits.{first_good_in, IsGoodSet, woke_in, held_in, saved_in}
 use Rattle.run_laws.proofs.NoteLemmas.{woke_in-append, held_in-append, saved_in-append}
 use Rattle.start_laws.specs.Fronts.{IsFrontOfRun}

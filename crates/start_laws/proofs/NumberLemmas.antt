@@ -7,8 +7,10 @@ use Rattle.start_model.specs.Lines as lines
 use Rattle.start_model.specs.Lines.{SetLine, SaveRefusedLine}
 use Rattle.start_model.specs.Machine.{Start}
 use Rattle.start_model.specs.Sets.{SelectNumbers, NoFreeNumber, has_number, select_numbers_of, usable_numbers_of, free_number_of, taken_number, begin_plan_of, saved_plan, save_plan_of, planned}
-use Rattle.start_model.specs.Run as run
-use Rattle.start_model.specs.Run.{RunState, Act, take_set, begin_by, end_with, save, saved_by, noted_saved}
+use Rattle.start_model.specs.Act as acts
+use Rattle.start_model.specs.Act.{RunState, Act, end_with}
+use Rattle.start_model.specs.Commit.{save, saved_by, noted_saved}
+use Rattle.start_model.specs.Boot.{take_set, begin_by}
 use Rattle.start_laws.specs.Taken.{AllTaken}
 
 find_none : (p : ℕ → Bool) (a n : ℕ) → ((k : ℕ) → a ≤ k → k < a + n → p k ≡ false) → find p (range_with_len a n) ≡ None
@@ -96,10 +98,10 @@ not_saved numbers usable clone all = ap (saved_plan numbers usable clone) (none_
 
 pub begins_not : (m : RunState) (on_good : Bool) → AllTaken (usable_numbers_of m.live) → has_number (usable_numbers_of m.live) (taken_number (select_numbers_of m.live) on_good) ≡ true
     → (select_numbers_of m.live).good ≡ taken_number (select_numbers_of m.live) on_good
-    → take_set on_good m ≡ run.say (SetLine (taken_number (select_numbers_of m.live) on_good) on_good) (end_with lines.NoNumber false m)
+    → take_set on_good m ≡ acts.say (SetLine (taken_number (select_numbers_of m.live) on_good) on_good) (end_with lines.NoNumber false m)
 begins_not m on_good all here same =
     ap (λ r. begin_by on_good m (planned m.version m.live r)) (not_guarded (select_numbers_of m.live) (usable_numbers_of m.live) on_good all here same)
 
 pub goes_on : (s : Start) (clone : Tree) (m : RunState) (next : RunState → Act) → AllTaken (usable_numbers_of m.live)
-    → save s (Some clone) m next ≡ run.say (SaveRefusedLine false) (next (noted_saved false s m))
+    → save s (Some clone) m next ≡ acts.say (SaveRefusedLine false) (next (noted_saved false s m))
 goes_on s clone m next all = ap (λ r. saved_by s clone m next (planned m.version m.live r)) (not_saved (select_numbers_of m.live) (usable_numbers_of m.live) clone all)

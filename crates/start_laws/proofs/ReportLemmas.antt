@@ -4,7 +4,11 @@ use Rattle.std.proofs.lemmas.List.{length-append}
 use Rattle.hive_model.specs.Image.{Image}
 use Rattle.start_model.specs.Lines.{text_of}
 use Rattle.start_model.specs.Events.{Event}
-use Rattle.start_model.specs.Run.{RunState, RunResult, Possible, Woken, Outcome, Choice, run_of, quiet_run_of}
+use Rattle.start_model.specs.Possible.{Possible, Woken, Outcome}
+use Rattle.start_model.specs.Act.{RunState}
+use Rattle.start_model.specs.Boot.{Choice}
+use Rattle.start_model.specs.Run.{RunResult, run_of}
+use Rattle.start_model.specs.Quiet.{quiet_run_of}
 use Rattle.start_model.specs.Fits.{outcomes_of, ArePossible, Fits, MayLoad, woke_in}
 use Rattle.start_model.specs.Report.{Report, ReportFront}
 use Rattle.run_laws.specs.Quiet.{AllFinished}

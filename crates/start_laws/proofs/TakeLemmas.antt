@@ -2,8 +2,12 @@
 use Rattle.std.proofs.Common.{◌≡◌, ◌≤◌, ℕ, suc, List, [], ◌∷◌, ◌++◌, length, Option, Some, None, refl, sym, ap, ◌∙◌, append_assoc, arith}
 use Rattle.std.proofs.lemmas.List.{length-append}
 use Rattle.start_model.specs.Events.{Event}
-use Rattle.start_model.specs.Run as run
-use Rattle.start_model.specs.Run.{RunState, Act, Note, Woke, Held, Saved, Ordered, Cuts, Ended, Woken, Outcome, Choice, RunResult, play, then_run, behind, closing_act, run_from, run_of, event_step_of, first_state}
+use Rattle.start_model.specs.Act as acts
+use Rattle.start_model.specs.Possible.{Woken, Outcome}
+use Rattle.start_model.specs.Act.{RunState, Act, Note, Woke, Held, Saved, Ordered, Cuts, Ended}
+use Rattle.start_model.specs.Boot.{Choice}
+use Rattle.start_model.specs.EventActs.{event_step_of}
+use Rattle.start_model.specs.Run.{RunResult, play, then_run, behind, closing_act, run_from, run_of, first_state}
 use Rattle.start_model.specs.Fits.{woke_in}
 use Rattle.run_laws.specs.Told.{ended_in}
 use Rattle.run_laws.proofs.KeptLemmas.{Keeps, IsMark, nothing, push, event_step_of-marks, closing-marks}
@@ -21,7 +25,7 @@ same_left a b e = cc
 
 play-takes : (act : Act) (h : List Note) → Keeps nothing h act → (wakes : List Woken) (outcomes : List Outcome) (m : RunState) (ws : List Woken) (os : List Outcome) → (play act wakes outcomes).rest ≡ Some (m, ws, os)
     → TakesInOrder (play act) wakes outcomes m ws os
-play-takes (run.done n) h k wakes outcomes m ws os e =
+play-takes (acts.done n) h k wakes outcomes m ws os e =
     let q = same_left (n, wakes, outcomes) (m, ws, os) e in
     record {
       used = [];
@@ -32,7 +36,7 @@ play-takes (run.done n) h k wakes outcomes m ws os e =
       noted = refl;
       alone = λ i. record { lines = []; notes = []; disk = n.disk; rest = Some ((q i).0, [], []) };
     }
-play-takes (run.say l act) h k wakes outcomes m ws os e =
+play-takes (acts.say l act) h k wakes outcomes m ws os e =
     let t = play-takes act h k wakes outcomes m ws os e in
     record {
       used = t.used;
@@ -43,8 +47,8 @@ play-takes (run.say l act) h k wakes outcomes m ws os e =
       noted = t.noted;
       alone = ap (behind (l ∷ []) []) t.alone;
     }
-play-takes (run.ask disk next) h k wakes [] m ws os e = absurd cc
-play-takes (run.ask disk next) h k wakes (x ∷ outcomes) m ws os e =
+play-takes (acts.ask disk next) h k wakes [] m ws os e = absurd cc
+play-takes (acts.ask disk next) h k wakes (x ∷ outcomes) m ws os e =
     let t = play-takes (next x) (push h (Ended x)) (k.1 x) wakes outcomes m ws os e in
     record {
       used = t.used;
@@ -55,8 +59,8 @@ play-takes (run.ask disk next) h k wakes (x ∷ outcomes) m ws os e =
       noted = ap (λ (l : List Outcome). x ∷ l) t.noted;
       alone = ap (behind [] (Ended x ∷ [])) t.alone;
     }
-play-takes (run.wake disk next) h k [] outcomes m ws os e = absurd cc
-play-takes (run.wake disk next) h k (x ∷ wakes) outcomes m ws os e =
+play-takes (acts.wake disk next) h k [] outcomes m ws os e = absurd cc
+play-takes (acts.wake disk next) h k (x ∷ wakes) outcomes m ws os e =
     let t = play-takes (next x) (push h (Woke disk)) (k.1 x) wakes outcomes m ws os e in
     record {
       used = x ∷ t.used;
@@ -67,10 +71,10 @@ play-takes (run.wake disk next) h k (x ∷ wakes) outcomes m ws os e =
       noted = t.noted;
       alone = ap (behind [] (Woke disk ∷ [])) t.alone;
     }
-play-takes (run.mark note act) h k wakes outcomes m ws os e = by_note note k.0 (play-takes act (push h note) k.1 wakes outcomes m ws os e)
+play-takes (acts.mark note act) h k wakes outcomes m ws os e = by_note note k.0 (play-takes act (push h note) k.1 wakes outcomes m ws os e)
   where
     with_note : (n : Note) → woke_in (n ∷ (play act wakes outcomes).notes) ≡ woke_in (play act wakes outcomes).notes → ended_in (n ∷ (play act wakes outcomes).notes) ≡ ended_in (play act wakes outcomes).notes
-        → TakesInOrder (play act) wakes outcomes m ws os → TakesInOrder (play (run.mark n act)) wakes outcomes m ws os
+        → TakesInOrder (play act) wakes outcomes m ws os → TakesInOrder (play (acts.mark n act)) wakes outcomes m ws os
     with_note n woke ended t = record {
       used = t.used;
       ended = t.ended;
@@ -81,7 +85,7 @@ play-takes (run.mark note act) h k wakes outcomes m ws os e = by_note note k.0 (
       alone = ap (behind [] (n ∷ [])) t.alone;
     }
 
-    by_note : (n : Note) → IsMark n → TakesInOrder (play act) wakes outcomes m ws os → TakesInOrder (play (run.mark n act)) wakes outcomes m ws os
+    by_note : (n : Note) → IsMark n → TakesInOrder (play act) wakes outcomes m ws os → TakesInOrder (play (acts.mark n act)) wakes outcomes m ws os
     by_note (Woke p) mark t = absurd mark
     by_note (Held u) mark t = with_note (Held u) refl refl t
     by_note (Saved u) mark t = with_note (Saved u) refl refl t
@@ -177,13 +181,13 @@ with_mark Cuts mark ns = refl
 with_mark (Ended o) mark ns = absurd mark
 
 play-few : (act : Act) (h : List Note) → Keeps nothing h act → (wakes : List Woken) (outcomes : List Outcome) → length (woke_in (play act wakes outcomes).notes) ≤ length wakes
-play-few (run.done n) h k wakes outcomes = omega arith
-play-few (run.say l act) h k wakes outcomes = play-few act h k wakes outcomes
-play-few (run.ask disk next) h k wakes [] = omega arith
-play-few (run.ask disk next) h k wakes (x ∷ outcomes) = play-few (next x) (push h (Ended x)) (k.1 x) wakes outcomes
-play-few (run.wake disk next) h k [] outcomes = omega arith
-play-few (run.wake disk next) h k (x ∷ wakes) outcomes = omega (arith, play-few (next x) (push h (Woke disk)) (k.1 x) wakes outcomes)
-play-few (run.mark note act) h k wakes outcomes =
+play-few (acts.done n) h k wakes outcomes = omega arith
+play-few (acts.say l act) h k wakes outcomes = play-few act h k wakes outcomes
+play-few (acts.ask disk next) h k wakes [] = omega arith
+play-few (acts.ask disk next) h k wakes (x ∷ outcomes) = play-few (next x) (push h (Ended x)) (k.1 x) wakes outcomes
+play-few (acts.wake disk next) h k [] outcomes = omega arith
+play-few (acts.wake disk next) h k (x ∷ wakes) outcomes = omega (arith, play-few (next x) (push h (Woke disk)) (k.1 x) wakes outcomes)
+play-few (acts.mark note act) h k wakes outcomes =
     let same : length (woke_in (note ∷ (play act wakes outcomes).notes)) ≡ length (woke_in (play act wakes outcomes).notes) = ap length (with_mark note k.0 (play act wakes outcomes).notes) in
     omega (arith, same, play-few act (push h note) k.1 wakes outcomes)
 

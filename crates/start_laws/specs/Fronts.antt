@@ -1,7 +1,9 @@
 -- What does a run have in common with one that had more to go on?
 use Rattle.std.specs.Prelude.{◌≡◌, List, [], ◌++◌, length, Some}
 use Rattle.nt_bytes.specs.Front.{IsFront}
-use Rattle.start_model.specs.Run.{RunState, Woken, Outcome, RunResult}
+use Rattle.start_model.specs.Possible.{Woken, Outcome}
+use Rattle.start_model.specs.Act.{RunState}
+use Rattle.start_model.specs.Run.{RunResult}
 use Rattle.start_model.specs.Fits.{woke_in}
 use Rattle.run_laws.specs.Told.{ended_in}
 

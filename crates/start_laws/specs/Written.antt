@@ -14,7 +14,12 @@ use Rattle.start_model.specs.Events.{Event}
 use Rattle.start_model.specs.Lines.{unit_text, line_text, text_of}
 use Rattle.start_model.specs.Machine.{attempt_of}
 use Rattle.start_model.specs.Sets.{SetChange, set_name, usable_numbers_of, free_number_of}
-use Rattle.start_model.specs.Run.{Choice, EntryTaken, Woken, Outcome, Finished, RunResult, go_steps, event_step_of, run_of, quiet_run_of}
+use Rattle.start_model.specs.Possible.{Woken, Outcome, Finished}
+use Rattle.start_model.specs.Starter.{go_steps}
+use Rattle.start_model.specs.Boot.{Choice, EntryTaken}
+use Rattle.start_model.specs.EventActs.{event_step_of}
+use Rattle.start_model.specs.Run.{RunResult, run_of}
+use Rattle.start_model.specs.Quiet.{quiet_run_of}
 
 -- the bytes of units, each low byte first
 abbrev pub wide : List ℕ → List ℕ

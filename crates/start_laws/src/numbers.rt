@@ -8,7 +8,10 @@ ghost use Rattle.hive_model.specs.Load.{state_of};
 ghost use Rattle.start_model.specs.Lines.{SetLine, SaveRefusedLine, NoNumber};
 ghost use Rattle.start_model.specs.Machine.{Start};
 ghost use Rattle.start_model.specs.Sets.{SelectNumbers, NoFreeNumber, has_number, select_numbers_of, usable_numbers_of, free_number_of, taken_number, begin_plan_of, save_plan_of, begin_of};
-ghost use Rattle.start_model.specs.Run.{RunState, Act, say, settled_at, take_set, end_with, save, noted_saved};
+ghost use Rattle.start_model.specs.Possible.{settled_at};
+ghost use Rattle.start_model.specs.Act.{RunState, Act, say, end_with};
+ghost use Rattle.start_model.specs.Commit.{save, noted_saved};
+ghost use Rattle.start_model.specs.Boot.{take_set};
 ghost use Rattle.start_laws.specs.Taken.{AllTaken};
 ghost use Rattle.start_laws.specs.Written.{begun_as, select, set_with, service, system, report, run_with, lines};
 ghost use Rattle.start_laws.specs.TwoSets.{unguarded, disables_the_disk, disk_only, left_behind, new_driver};
@@ -35,7 +38,8 @@ pub fn a_start_guards_what_it_takes()
 /// A set that one of the numbers named and none names any more is deleted, with or without the guard.
 pub fn a_set_that_no_number_names_retires()
     ensures alone { begin_of V3 (left_behind 2) false ≡ Ok (begun_as 1 1 1 0 2 (system (disk_only 1 0 ∷ disk_only 2 0 ∷ select 1 1 0 2 ∷ []))) }
-    ensures guarded { begin_of V3 (left_behind 1) false ≡ Ok (begun_as 1 1 1 0 4 (system (disk_only 1 0 ∷ disk_only 2 0 ∷ disk_only 4 0 ∷ select 1 1 0 4 ∷ []))) }
+    ensures guarded { begin_of V3 (left_behind 1) false
+        ≡ Ok (begun_as 1 1 1 0 4 (system (disk_only 1 0 ∷ disk_only 2 0 ∷ disk_only 4 0 ∷ select 1 1 0 4 ∷ []))) }
     ensures failed { begin_of V3 new_driver true ≡ Ok (begun_as 2 2 2 1 3 (system
         (set_with 1 (service (codes "Disk") 0 1 1 [] ∷ service (codes "New") 0 1 2 [] ∷ []) ∷ disk_only 2 0 ∷ disk_only 3 0 ∷ select 2 2 1 3 ∷ []))) }
 {}

@@ -46,9 +46,11 @@ pub fn the_order_of_a_phase_is_one()
 /// The plan of a phase has each entry that the phase takes exactly once, and no other: the places of its order are a
 /// rearrangement of those that the phase takes, of which no two are the same, and an entry stands at each.
 pub fn a_plan_has_each_taken_entry_once()
-    ensures places { (set : Tree) (phase : Phase) (tried : List (List ℕ)) → IsPermutation (taken_of (entries_of set) phase tried) (map (λ r. r.place) (ordered_of (ranks_of set phase tried))) }
+    ensures places { (set : Tree) (phase : Phase) (tried : List (List ℕ))
+        → IsPermutation (taken_of (entries_of set) phase tried) (map (λ r. r.place) (ordered_of (ranks_of set phase tried))) }
     ensures once { (set : Tree) (phase : Phase) (tried : List (List ℕ)) → AllPairs (λ a b. a < b) (taken_of (entries_of set) phase tried) }
-    ensures entries { (set : Tree) (phase : Phase) (tried : List (List ℕ)) → map (λ e. Some e) (plan_of set phase tried) ≡ map (λ r. slice_get (entries_of set) r.place) (ordered_of (ranks_of set phase tried)) }
+    ensures entries { (set : Tree) (phase : Phase) (tried : List (List ℕ))
+        → map (λ e. Some e) (plan_of set phase tried) ≡ map (λ r. slice_get (entries_of set) r.place) (ordered_of (ranks_of set phase tried)) }
     ensures count { (set : Tree) (phase : Phase) (tried : List (List ℕ)) → length (plan_of set phase tried) ≡ length (taken_of (entries_of set) phase tried) }
 {}
 

@@ -3,7 +3,7 @@
 ghost use Rattle.std.specs.Prelude.{◌≡◌, [], ◌∷◌, ◌++◌, codes};
 ghost use Rattle.nt_bytes.specs.declared.version.HiveVersion.TheVariants.{V3};
 ghost use Rattle.hive_model.specs.Load.{state_of};
-ghost use Rattle.start_model.specs.Run.{settled_at};
+ghost use Rattle.start_model.specs.Possible.{settled_at};
 ghost use Rattle.start_laws.specs.Written.{select, system, report, run_with, lines, first_lines};
 ghost use Rattle.start_laws.specs.TwoSets.{used, two_services, logs_on_and_edits};
 
