@@ -99,7 +99,7 @@ depth_is : (path : List (List ℕ)) (d : ℕ) → depth path d ≡ length path +
 depth_is [] d = omega arith
 depth_is (name ∷ path) d = omega (arith, depth_is path (suc d))
 
-name_kept : (path : List (List ℕ)) (change : Tree → Tree) → ((u : Tree) → key_name (change u) ≡ key_name u) → (u : Tree) → key_name (at_key path change u) ≡ key_name u
+pub name_kept : (path : List (List ℕ)) (change : Tree → Tree) → ((u : Tree) → key_name (change u) ≡ key_name u) → (u : Tree) → key_name (at_key path change u) ≡ key_name u
 name_kept [] change n u = n u
 name_kept (name ∷ path) change n (key h ts) = refl
 
@@ -169,7 +169,7 @@ key_put d name t g l s = go (has_child name t) refl
     go true e = s
     go false e = child_placed d (new_key name t) t (new_sound d name t g l s) g.named e s
 
-with_key_name : (name : List ℕ) (t : Tree) → key_name (with_key name t) ≡ key_name t
+pub with_key_name : (name : List ℕ) (t : Tree) → key_name (with_key name t) ≡ key_name t
 with_key_name name (key h ts) =
     elim (has_child name (key h ts)) as (λ b. key_name (cond b (key h ts) (of_children (placed (new_key name (key h ts))) (key h ts))) ≡ h.name) [ true ↦ refl | false ↦ refl ]
 
@@ -230,7 +230,7 @@ copied from to t g absent s = go (find (is_named from) (children t)) refl
     go None e = s
     go (Some k) e = child_put to k t g (each_find (Sound 2) (is_named from) (children t) k e (children_sound 1 t s)) absent s
 
-of_items_name : (change : List Item → List Item) (t : Tree) → key_name (of_items change t) ≡ key_name t
+pub of_items_name : (change : List Item → List Item) (t : Tree) → key_name (of_items change t) ≡ key_name t
 of_items_name change (key h ts) = refl
 
 step_sound : (step : Step) (t u : Tree) → Fits step → after_step step t ≡ Ok u → Sound 1 t → Sound 1 u

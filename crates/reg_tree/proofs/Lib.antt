@@ -1,6 +1,8 @@
 pub mod Trees
 pub mod Sums
 pub mod Places
+pub mod Halving
+pub mod Ordered
 pub mod Outcomes
 pub mod Changes
 pub mod Segments

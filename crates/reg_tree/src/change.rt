@@ -49,10 +49,16 @@ impl Key {
         })
     }
 
-    fn put_value(&mut self, name: Units, kind: u32, bytes: Bytes) -> Result<(), AllocError>
+    fn put_value(
+        &mut self,
+        alloc: Global,
+        name: Units,
+        kind: u32,
+        bytes: Bytes,
+    ) -> Result<(), AllocError>
         ensures { OnOk result (self.new ≡ of_items (with_item name kind bytes) self.old) }
     {
-        self.values.put(name, kind, bytes)
+        self.values.put(alloc, name, kind, bytes)
     }
 
     fn drop_value(&mut self, name: &[u16])
@@ -90,7 +96,7 @@ impl Key {
         ensures { OnOk result (self.new ≡ change_of change self.old) }
     {
         match change {
-            Change::PutValue { name, kind, bytes } => self.put_value(name, kind, bytes),
+            Change::PutValue { name, kind, bytes } => self.put_value(alloc, name, kind, bytes),
             Change::DropValue { name } => {
                 self.drop_value(name.as_slice());
                 Ok(())
@@ -139,6 +145,13 @@ impl Keys {
             return Ok(());
         };
         let found = &mut self.items[at];
-        found.change_at(alloc, path, change)
+        match found.change_at(alloc, path, change) {
+            Ok(()) => Ok(()),
+            Err(stop) => {
+                // No clause says what the child is called after a refusal.
+                self.rising = false;
+                Err(stop)
+            }
+        }
     }
 }

@@ -28,7 +28,11 @@ impl Values {
         for value in self.as_slice() {
             made.push(value.copy(alloc)?)?;
         }
-        Ok(Values { items: made })
+        Ok(Values {
+            items: made,
+            order: Vec::new(alloc),
+            orderly: true,
+        })
     }
 }
 
@@ -59,6 +63,9 @@ impl Keys {
         for child in &self.items {
             made.push(child.copy(alloc)?)?;
         }
-        Ok(Keys { items: made })
+        Ok(Keys {
+            items: made,
+            rising: self.rising,
+        })
     }
 }

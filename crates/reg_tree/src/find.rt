@@ -5,9 +5,11 @@ ghost use Rattle.std.specs.Option.{option_copied, is_some};
 ghost use Rattle.hive_model.specs.Edit.{has_child};
 ghost use Rattle.hive_model.specs.Tree.{head, children, is_named, is_item, find_key, find_item, find_dword, find_text, find_strings, find_data};
 
+use crate::halves::named_key;
 use crate::key::{Key, Keys};
 use crate::value::{Value, Values};
-use nt_bytes::{Names, Units, multi_sz, same_folded, sz, u32_at};
+use crate::value_places::named_value;
+use nt_bytes::{Names, Units, multi_sz, sz, u32_at};
 use std::alloc::{AllocError, Global};
 
 impl Values {
@@ -15,9 +17,7 @@ impl Values {
     pub fn find(&self, name: &[u16]) -> Option<&Value>
         ensures { option_copied result ≡ find (is_item name.now) self.now }
     {
-        self.items
-            .iter()
-            .find(|v| same_folded(name, v.name.as_slice()))
+        named_value(self.items.as_slice(), self.order.as_slice(), name)
     }
 }
 
@@ -26,9 +26,7 @@ impl Keys {
     pub fn find(&self, name: &[u16]) -> Option<&Key>
         ensures { option_copied result ≡ find (is_named name.now) self.now }
     {
-        self.items
-            .iter()
-            .find(|k| same_folded(name, k.name.as_slice()))
+        named_key(self.items.as_slice(), self.rising, name)
     }
 }
 

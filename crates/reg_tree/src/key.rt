@@ -2,6 +2,7 @@
 
 ghost use Rattle.std.specs.Prelude.{◌≡◌, [], ◌∷◌, ◌++◌, length, OnOk, OnErr};
 
+use crate::halves::still_rising;
 use crate::value::Values;
 use nt_bytes::{Bytes, Units};
 use std::alloc::{AllocError, Global};
@@ -26,6 +27,8 @@ pub struct Key {
 #[derive(Drop)]
 pub struct Keys {
     pub(crate) items: Vec<Key>,
+    /// Whether the names are known to rise, so that one is found by halves. A hive may have others.
+    pub(crate) rising: bool,
 }
 
 impl Model for Key {
@@ -44,15 +47,18 @@ impl Model for Key {
 }
 
 impl Model for Keys {
-    ghost use Rattle.std.specs.Prelude.{List};
+    ghost use Rattle.std.specs.Prelude.{IsTrue, List};
     ghost use Rattle.std.proofs.Common.{arith};
     ghost use Rattle.hive_model.specs.Tree.{Tree, coded_trees, weights, most_le-weights};
+    ghost use Rattle.reg_tree.specs.Rising.{AreRising};
 
     ghost Value = { List Tree };
 
     ghost coded = { coded_trees };
 
     ghost view = { λ a. a.items.items };
+
+    ghost invariant = { λ a. IsTrue a.rising → AreRising a.items.items };
 
     ghost size = { weights };
 
@@ -65,6 +71,7 @@ impl Keys {
     {
         Keys {
             items: Vec::new(alloc),
+            rising: true,
         }
     }
 
@@ -72,7 +79,9 @@ impl Keys {
         ensures ok { OnOk result (self.new ≡ self.old ++ child ∷ []) }
         ensures err { OnErr result (self.new ≡ self.old) }
     {
+        let rising = still_rising(self.items.as_slice(), self.rising, &child);
         self.items.push(child)?;
+        self.rising = rising;
         Ok(())
     }
 

@@ -9,6 +9,7 @@ mod bulk;
 mod change;
 mod copy;
 mod find;
+mod halves;
 mod key;
 mod laws;
 mod levels;
@@ -16,9 +17,8 @@ mod lists;
 mod same;
 mod steps;
 mod stop;
-#[cfg(test)]
-mod tests;
 mod value;
+mod value_places;
 
 pub use key::{Key, Keys};
 pub use laws::an_edited_tree_is_valid;

@@ -1,27 +1,36 @@
 //! Lists of keys and values with one item changed.
 
-ghost use Rattle.std.specs.Prelude.{◌≡◌, OnOk, position};
+ghost use Rattle.std.specs.Prelude.{◌≡◌, [], ◌∷◌, ◌++◌, OnOk, None, position};
 ghost use Rattle.hive_model.specs.Tree.{is_named, is_item};
 ghost use Rattle.hive_model.specs.Edit.{without_first, with_item, placed};
-ghost use Rattle.reg_tree.specs.Places.{folds_greater};
 
+use crate::halves::{gap, named_place};
 use crate::key::{Key, Keys};
 use crate::value::{Value, Values};
-use nt_bytes::{Bytes, Units, compare_folded, same_folded};
-use std::alloc::AllocError;
+use crate::value_places::{order_of, order_with, value_place};
+use nt_bytes::{Bytes, Units};
+use std::alloc::{AllocError, Global};
+use std::mem::replace;
+
+/// The least number of values for which an order is made.
+const SOME: usize = 8;
 
 impl Values {
     /// Where the first value with this name stands.
     fn place(&self, name: &[u16]) -> Option<usize>
         ensures { result ≡ position (is_item name.now) self.now }
     {
-        self.items
-            .iter()
-            .position(|v| same_folded(name, v.name.as_slice()))
+        value_place(self.items.as_slice(), self.order.as_slice(), name)
     }
 
     /// Sets type and data of the value of this name, or adds it as the last.
-    pub(crate) fn put(&mut self, name: Units, kind: u32, bytes: Bytes) -> Result<(), AllocError>
+    pub(crate) fn put(
+        &mut self,
+        alloc: Global,
+        name: Units,
+        kind: u32,
+        bytes: Bytes,
+    ) -> Result<(), AllocError>
         ensures { OnOk result (self.new ≡ with_item name kind bytes self.old) }
     {
         match self.place(name.as_slice()) {
@@ -31,18 +40,44 @@ impl Values {
                 value.bytes = bytes;
                 Ok(())
             }
-            None => {
-                self.items.push(Value { name, kind, bytes })?;
-                Ok(())
-            }
+            None => self.add(alloc, Value { name, kind, bytes }),
         }
     }
 
-    /// Takes out the first value with this name.
+    /// Adds a value as the last, whose name no other has.
+    fn add(&mut self, alloc: Global, value: Value) -> Result<(), AllocError>
+        requires { position (is_item value.name) self.old ≡ None }
+        ensures { OnOk result (self.new ≡ self.old ++ value ∷ []) }
+    {
+        self.make_order(alloc)?;
+        let order = replace(&mut self.order, Vec::new(alloc));
+        let order = order_with(self.items.as_slice(), order, value.name())?;
+        self.items.push(value)?;
+        self.order = order;
+        Ok(())
+    }
+
+    /// Makes the order where none is kept and one serves.
+    fn make_order(&mut self, alloc: Global) -> Result<(), AllocError>
+        ensures { self.new ≡ self.old }
+    {
+        if !self.order.is_empty() || !self.orderly || self.items.len() < SOME {
+            return Ok(());
+        }
+        let order = order_of(alloc, self.items.as_slice())?;
+        self.orderly = !order.is_empty();
+        self.order = order;
+        Ok(())
+    }
+
+    /// Takes out the first value with this name. No order is made after that, as one after each removal would
+    /// take longer than to go through the values.
     pub(crate) fn remove(&mut self, name: &[u16])
         ensures { self.new ≡ without_first (is_item name.now) self.old }
     {
         if let Some(at) = self.place(name) {
+            self.order.clear();
+            self.orderly = false;
             let _gone = self.items.remove(at);
         }
     }
@@ -53,28 +88,15 @@ impl Keys {
     pub(crate) fn place(&self, name: &[u16]) -> Option<usize>
         ensures { result ≡ position (is_named name.now) self.now }
     {
-        self.items
-            .iter()
-            .position(|k| same_folded(name, k.name.as_slice()))
-    }
-
-    /// Where the first child stands whose name folds greater.
-    fn greater_place(&self, name: &[u16]) -> Option<usize>
-        ensures { result ≡ position (folds_greater name.now) self.now }
-    {
-        self.items
-            .iter()
-            .position(|k| compare_folded(k.name.as_slice(), name).is_gt())
+        named_place(self.items.as_slice(), self.rising, name)
     }
 
     /// Puts a key before the first one that folds greater, else behind all.
     pub(crate) fn insert(&mut self, key: Key) -> Result<(), AllocError>
         ensures { OnOk result (self.new ≡ placed key self.old) }
     {
-        match self.greater_place(key.name.as_slice()) {
-            Some(at) => self.items.insert(at, key)?,
-            None => self.items.push(key)?,
-        }
+        let at = gap(self.items.as_slice(), self.rising, key.name());
+        self.items.insert(at, key)?;
         Ok(())
     }
 

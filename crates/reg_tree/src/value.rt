@@ -28,17 +28,24 @@ impl Model for Value {
 #[derive(Drop)]
 pub struct Values {
     pub(crate) items: Vec<Value>,
+    /// The places of the values by the folded order of their names, or none where no order is kept.
+    pub(crate) order: Vec<usize>,
+    /// Whether an order is to be made where none is kept.
+    pub(crate) orderly: bool,
 }
 
 impl Model for Values {
-    ghost use Rattle.std.specs.Prelude.{List};
+    ghost use Rattle.std.specs.Prelude.{◌<◌, List, length};
     ghost use Rattle.hive_model.specs.Tree.{Item, coded_items};
+    ghost use Rattle.reg_tree.specs.Order.{IsOrderOf};
 
     ghost Value = { List Item };
 
     ghost coded = { coded_items };
 
     ghost view = { λ a. a.items.items };
+
+    ghost invariant = { λ a. 0 < length a.order.items → IsOrderOf a.items.items a.order.items };
 }
 
 impl Values {
@@ -47,6 +54,8 @@ impl Values {
     {
         Values {
             items: Vec::new(alloc),
+            order: Vec::new(alloc),
+            orderly: true,
         }
     }
 
@@ -54,6 +63,7 @@ impl Values {
         ensures ok { OnOk result (self.new ≡ self.old ++ value ∷ []) }
         ensures err { OnErr result (self.new ≡ self.old) }
     {
+        self.order.clear();
         self.items.push(value)?;
         Ok(())
     }
