@@ -1,7 +1,9 @@
 -- Walks over the checks of big data.
 use Rattle.std.proofs.Common.{◌≡◌, ℕ, ◌-◌, false, List, ◌∷◌, ◌++◌, Ok, Err, refl, sym, ap, ◌∙◌, append_assoc}
 use Rattle.nt_bytes.specs.declared.fault.HiveFault.{HiveFault}
-use Rattle.hive_model.specs.Forms.{BigData, bytes_in, offsets_in}
+use Rattle.hive_model.specs.Forms.{bytes_in}
+use Rattle.hive_model.specs.BigData.{BigData}
+use Rattle.hive_model.specs.Lists.{offsets_in}
 use Rattle.hive_model.specs.Size.{segment_bytes, segment_part}
 use Rattle.hive_model.specs.Bins.{Cells}
 use Rattle.hive_model.specs.Walk.{Check, reading, below_of, use_as, big_data_of, segments_checks, big_checks}

@@ -8,7 +8,12 @@ use Rattle.std.proofs.lemmas.Bool.{eqb-true, eqb-false}
 use Rattle.nt_bytes.specs.declared.fault.HiveKind.{HiveKind}
 use Rattle.nt_bytes.specs.declared.fault.HiveKind.TheVariants.{FormShort, FormSign, FormLength, FormName}
 use Rattle.nt_bytes.specs.Fields.{u16_in, u32_in}
-use Rattle.hive_model.specs.Forms.{◌>>=◌, stored_name, has_half_unit, is_bad_key_name, is_bad_value_name, key_name_at, value_name_at, KeyNode, is_narrow_key, key_node_in, key_node_at, KeyValue, is_in_place, is_overfull, is_narrow_value, key_value_in, key_value_at, data_inside, bytes_in, SecurityCell, security_in, security_at, numbers_in, offsets_in}
+use Rattle.hive_model.specs.Forms.{◌>>=◌, bytes_in}
+use Rattle.hive_model.specs.StoredNames.{stored_name, has_half_unit, is_bad_key_name, is_bad_value_name, key_name_at, value_name_at}
+use Rattle.hive_model.specs.KeyNode.{KeyNode, is_narrow_key, key_node_in, key_node_at}
+use Rattle.hive_model.specs.KeyValue.{KeyValue, is_in_place, is_overfull, is_narrow_value, key_value_in, key_value_at, data_inside}
+use Rattle.hive_model.specs.Security.{SecurityCell, security_in, security_at}
+use Rattle.hive_model.specs.Lists.{numbers_in, offsets_in}
 use Rattle.hive_model.specs.Valid.{is_backslash}
 use Rattle.hive_model.specs.Stands.{tree_flags}
 
@@ -56,10 +61,10 @@ take-short (suc n) (x ∷ xs) = omega (arith, take-short n xs)
 
 -- ---- tests that were passed
 
-abbrev done : {A : Type 0} → A → Result A HiveKind
+abbrev pub done : {A : Type 0} → A → Result A HiveKind
 done x = Ok x
 
-unless : {A : Type 0} (b : Bool) (k : HiveKind) (r : Result A HiveKind) (x : A) → cond b (Err k) r ≡ done x → (b ≡ false) × (r ≡ done x)
+pub unless : {A : Type 0} (b : Bool) (k : HiveKind) (r : Result A HiveKind) (x : A) → cond b (Err k) r ≡ done x → (b ≡ false) × (r ≡ done x)
 unless true k r x e = absurd cc
 unless false k r x e = (refl, e)
 
@@ -67,7 +72,7 @@ only-if : {A : Type 0} (b : Bool) (k : HiveKind) (r : Result A HiveKind) (x : A)
 only-if true k r x e = e
 only-if false k r x e = absurd cc
 
-then-so : {A B : Type 0} (r : Result A HiveKind) (f : A → Result B HiveKind) (y : B) → (r >>= f) ≡ done y → (x : A) × (r ≡ done x) × (f x ≡ done y)
+pub then-so : {A B : Type 0} (r : Result A HiveKind) (f : A → Result B HiveKind) (y : B) → (r >>= f) ≡ done y → (x : A) × (r ≡ done x) × (f x ≡ done y)
 then-so (Ok x) f y e = (x, refl, e)
 then-so (Err k) f y e = absurd cc
 
@@ -77,7 +82,7 @@ neither false b e = (refl, e)
 
 -- ---- key nodes
 
-ok_same : {A : Type 0} (x y : A) → done x ≡ done y → x ≡ y
+pub ok_same : {A : Type 0} (x y : A) → done x ≡ done y → x ≡ y
 ok_same x y e = cc
 
 abbrev some : List ℕ → Option (List ℕ)
@@ -86,7 +91,7 @@ some x = Some x
 some_same : (x y : List ℕ) → some x ≡ some y → x ≡ y
 some_same x y e = cc
 
-not-above : (a b : ℕ) → nat_lt a b ≡ false → b ≤ a
+pub not-above : (a b : ℕ) → nat_lt a b ≡ false → b ≤ a
 not-above a b e = grind (arith, nat_tests)
 
 not-from : (a b : ℕ) → nat_le a b ≡ false → b < a

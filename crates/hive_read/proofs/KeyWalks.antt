@@ -5,7 +5,8 @@ use Rattle.std.proofs.lemmas.List.{map_push}
 use Rattle.nt_bytes.specs.declared.fault.HiveKind.{HiveKind}
 use Rattle.nt_bytes.specs.declared.fault.HiveKind.TheVariants.{FormName, TooDeep, Count}
 use Rattle.nt_bytes.specs.declared.fault.HiveFault.{HiveFault}
-use Rattle.hive_model.specs.Forms.{◌>>=◌, KeyNode, key_node_at}
+use Rattle.hive_model.specs.Forms.{◌>>=◌}
+use Rattle.hive_model.specs.KeyNode.{KeyNode, key_node_at}
 use Rattle.hive_model.specs.Bins.{Cells}
 use Rattle.hive_model.specs.Tree.{Tree, trees, head}
 use Rattle.hive_model.specs.Walk.{Check, tests, reading, node_at, below_of, use_as, failing, name_check, names_of, class_checks, security_checks, values_checks, entries_at, entries_checks, keys_in_turn, children_checks, below_node, key_checks}

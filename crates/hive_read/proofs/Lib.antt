@@ -15,3 +15,5 @@ pub mod Wellformed
 pub mod FormFacts
 pub mod ValidTrees
 pub mod Loading
+pub mod WeighingLemmas
+pub mod JudgingLemmas

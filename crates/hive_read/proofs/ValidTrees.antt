@@ -7,7 +7,11 @@ use Rattle.std.specs.Int.{w32, to_le_bytes}
 use Rattle.nt_bytes.specs.declared.fault.HiveKind.{HiveKind}
 use Rattle.nt_bytes.specs.declared.version.HiveVersion.{HiveVersion}
 use Rattle.nt_bytes.specs.declared.fault.HiveKind.TheVariants.{FreeCell}
-use Rattle.hive_model.specs.Forms.{◌>>=◌, KeyNode, key_node_at, KeyValue, key_value_at, data_inside, bytes_in, security_at, offsets_in}
+use Rattle.hive_model.specs.Forms.{◌>>=◌, bytes_in}
+use Rattle.hive_model.specs.KeyNode.{KeyNode, key_node_at}
+use Rattle.hive_model.specs.KeyValue.{KeyValue, key_value_at, data_inside}
+use Rattle.hive_model.specs.Security.{security_at}
+use Rattle.hive_model.specs.Lists.{offsets_in}
 use Rattle.hive_model.specs.Bins.{Cell, Bin, Cells, head_number, cell_size, bin_size, cell_bytes, head_bytes, bin_bytes, spelled, in_cells, in_bins, or_else, cell_at, payload_of, look_up}
 use Rattle.hive_model.specs.Tree.{Tree, Trees, key, none, more, listed, Item}
 use Rattle.hive_model.specs.Walk.{reading, nowhere, big_data_of, entries_at}
@@ -130,7 +134,7 @@ children-count cells node offsets l = go (node.child_count == 0) l
     go true l = rw l (omega arith)
     go false l = omega (arith, l.1)
 
-stand-as-many : (cells : Cells) (offsets : List ℕ) (ts : Trees) → AllStand cells offsets ts → length (listed ts) ≡ length offsets
+pub stand-as-many : (cells : Cells) (offsets : List ℕ) (ts : Trees) → AllStand cells offsets ts → length (listed ts) ≡ length offsets
 stand-as-many cells offsets none s = rw s refl
 stand-as-many cells offsets (more t ts) s = rw s.2 (omega (arith, stand-as-many cells s.1 ts s.4))
 

@@ -4,7 +4,10 @@ use Rattle.std.specs.Prelude.{◌==◌}
 use Rattle.std.proofs.lemmas.List.{map_push}
 use Rattle.nt_bytes.specs.declared.fault.HiveKind.{HiveKind}
 use Rattle.nt_bytes.specs.declared.fault.HiveFault.{HiveFault}
-use Rattle.hive_model.specs.Forms.{◌>>=◌, KeyValue, key_value_at, KeyNode, offsets_in}
+use Rattle.hive_model.specs.Forms.{◌>>=◌}
+use Rattle.hive_model.specs.KeyNode.{KeyNode}
+use Rattle.hive_model.specs.KeyValue.{KeyValue, key_value_at}
+use Rattle.hive_model.specs.Lists.{offsets_in}
 use Rattle.hive_model.specs.Bins.{Cells}
 use Rattle.hive_model.specs.Tree.{Item}
 use Rattle.hive_model.specs.Walk.{reading, below_of, use_as, name_check, names_of, data_checks, value_checks, values_in_turn, values_checks}

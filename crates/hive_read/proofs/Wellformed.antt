@@ -6,7 +6,11 @@ use Rattle.std.proofs.lemmas.Bool.{eqb-true}
 use Rattle.nt_bytes.specs.Folding.{folds_same}
 use Rattle.nt_bytes.specs.declared.fault.HiveKind.{HiveKind}
 use Rattle.nt_bytes.specs.declared.fault.HiveKind.TheVariants.{FormName, Count}
-use Rattle.hive_model.specs.Forms.{◌>>=◌, KeyNode, key_node_at, KeyValue, key_value_at, data_inside, bytes_in, security_at, SubkeyList, list_at, offsets_in}
+use Rattle.hive_model.specs.Forms.{◌>>=◌, bytes_in}
+use Rattle.hive_model.specs.KeyNode.{KeyNode, key_node_at}
+use Rattle.hive_model.specs.KeyValue.{KeyValue, key_value_at, data_inside}
+use Rattle.hive_model.specs.Security.{security_at}
+use Rattle.hive_model.specs.Lists.{SubkeyList, list_at, offsets_in}
 use Rattle.hive_model.specs.Bins.{Cells}
 use Rattle.hive_model.specs.Tree.{Tree, Trees, key, none, more, listed, Item}
 use Rattle.hive_model.specs.Walk.{Check, tests, reading, nowhere, node_at, leaf_at, is_list_of_lists, joined_at, entries_of, entries_at, below_of, use_as, failing, name_check, names_of, class_checks, security_checks, big_data_of, segments_checks, big_checks, data_checks, value_checks, values_in_turn, values_checks, leaves_checks, entries_checks, keys_in_turn, children_checks, below_node, key_checks, all_checks, first_fault}

@@ -4,3 +4,4 @@ pub mod Walked
 pub mod Payloads
 pub mod Sources
 pub mod Celled
+pub mod Judged

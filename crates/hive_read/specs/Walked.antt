@@ -7,7 +7,8 @@ use Rattle.nt_bytes.specs.declared.fault.HiveKind.TheVariants.{Shared}
 use Rattle.nt_bytes.specs.declared.fault.HiveFault.{HiveFault}
 use Rattle.nt_bytes.specs.declared.fault.ReadStop.{ReadStop}
 use Rattle.nt_bytes.specs.declared.fault.ReadStop.TheVariants as stops
-use Rattle.hive_model.specs.Forms.{◌>>=◌, KeyNode}
+use Rattle.hive_model.specs.Forms.{◌>>=◌}
+use Rattle.hive_model.specs.KeyNode.{KeyNode}
 use Rattle.hive_model.specs.Bins.{Cells, placed}
 use Rattle.hive_model.specs.Tree.{Tree, trees, head}
 use Rattle.hive_model.specs.Walk.{Check, uses, tests, reading, use_as, node_at, names_of, first_fault}

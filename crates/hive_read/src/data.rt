@@ -20,8 +20,8 @@ use std::alloc::Global;
 /// How many bytes a full segment of big data holds.
 pub(crate) const SEGMENT: u32 = 16_344;
 
-// Data of more bytes than a segment holds are big in version 1.5.
-fn is_big(version: HiveVersion, size: u32) -> bool
+/// Data of more bytes than a segment holds are big in version 1.5.
+pub(crate) fn is_big(version: HiveVersion, size: u32) -> bool
     ensures { result ≡ is_big_data version size }
 {
     match version {

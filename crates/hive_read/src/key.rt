@@ -2,7 +2,7 @@
 
 ghost use Rattle.std.specs.Prelude.{◌≡◌, ◌-◌, ◌<◌, ◌||◌, ℕ, false, List, [], Ok, IfOk, slice_index};
 ghost use Rattle.nt_bytes.specs.Folding.{folds_same};
-ghost use Rattle.hive_model.specs.Forms.{key_node_at};
+ghost use Rattle.hive_model.specs.KeyNode.{key_node_at};
 ghost use Rattle.hive_model.specs.Bins.{look_up};
 ghost use Rattle.hive_read.specs.Sources.{cells_of};
 ghost use Rattle.hive_model.specs.Tree.{head, trees};
@@ -170,8 +170,8 @@ fn read_in_turn(
     }
 }
 
-// Each is below 256.
-fn are_bytes(bytes: &[u8])
+/// Each is below 256.
+pub(crate) fn are_bytes(bytes: &[u8])
     ensures { (i : ℕ) → slice_index bytes.now i < 256 }
 {
     let _whole = bytes;

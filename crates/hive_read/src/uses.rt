@@ -2,7 +2,10 @@
 
 ghost use Rattle.std.specs.Prelude.{◌≡◌, ℕ, true, false, List, [], ◌∷◌, ◌||◌, Ok, Err, OnOk};
 ghost use Rattle.nt_bytes.specs.declared.fault.ReadStop.TheVariants.{Fault};
-ghost use Rattle.hive_model.specs.Forms.{Gives, key_value_at, security_at, list_at, offsets_in, bytes_in};
+ghost use Rattle.hive_model.specs.Forms.{Gives, bytes_in};
+ghost use Rattle.hive_model.specs.KeyValue.{key_value_at};
+ghost use Rattle.hive_model.specs.Security.{security_at};
+ghost use Rattle.hive_model.specs.Lists.{list_at, offsets_in};
 ghost use Rattle.nt_bytes.specs.Folding.{folds_same};
 ghost use Rattle.hive_model.specs.Bins.{Cells};
 ghost use Rattle.hive_read.specs.Sources.{cells_of};
@@ -11,6 +14,7 @@ ghost use Rattle.hive_model.specs.Walk.{uses, use_as, reading, node_at, big_data
 ghost use Rattle.cell_forms.specs.Views.{key_node_of, key_value_of, big_data_of as form_of, security_of, subkey_list_of};
 ghost use Rattle.hive_read.specs.Taken.{has_name, Knows};
 ghost use Rattle.hive_read.specs.Walked.{Seen, check, walk, Steps, Uses};
+ghost use Rattle.hive_read.specs.Judged.{security_seen};
 
 use crate::data::SEGMENT;
 use crate::source::Source;
@@ -20,7 +24,7 @@ use cell_forms::{
     DbForm, ListForm, ListKind, NkForm, Offsets, SkForm, VkForm, read_bytes, read_db, read_list,
     read_nk, read_offsets, read_sk, read_vk,
 };
-use nt_bytes::{Bytes, HiveFault, HiveKind, ReadStop};
+use nt_bytes::{Bytes, HiveFault, HiveKind, ReadStop, u16_at, u32_at};
 use std::alloc::Global;
 
 /// A fault of this kind at this offset.
@@ -121,6 +125,41 @@ fn front(payload: &[u8], count: u32, at: u32) -> Result<&[u8], ReadStop>
     Ok(&payload[..count])
 }
 
+/// A security cell, its descriptor not copied.
+#[derive(Drop)]
+pub struct SkSlice<'a> {
+    pub forward: u32,
+    pub backward: u32,
+    pub uses: u32,
+    pub descriptor: &'a [u8],
+}
+
+// A security cell as `read_sk` reads it.
+#[tactic(auto, unfolding(hive_model::specs::Security::security_at))]
+fn security_form(payload: &[u8], at: u32) -> Result<SkSlice<'_>, ReadStop>
+    ensures { Gives security_seen at result (security_at payload.now) }
+{
+    if payload.len() < 2 {
+        return Err(stop(HiveKind::FormShort, at));
+    }
+    if u16_at(payload, 0) != 0x6b73 {
+        return Err(stop(HiveKind::FormSign, at));
+    }
+    if payload.len() < 20 {
+        return Err(stop(HiveKind::FormShort, at));
+    }
+    let end = 20 + u32_at(payload, 16) as usize;
+    if payload.len() < end {
+        return Err(stop(HiveKind::FormShort, at));
+    }
+    Ok(SkSlice {
+        forward: u32_at(payload, 4),
+        backward: u32_at(payload, 8),
+        uses: u32_at(payload, 12),
+        descriptor: &payload[20..end],
+    })
+}
+
 pub(crate) fn use_node(
     alloc: Global,
     cells: &Source,
@@ -156,6 +195,18 @@ pub(crate) fn use_security(
 {
     let payload = use_cell(cells, used, at, true)?;
     read_sk(alloc, payload, at)
+}
+
+/// The same without a copy.
+pub(crate) fn use_security_slice<'a>(
+    cells: &Source<'a>,
+    used: &mut Used,
+    at: u32,
+) -> Result<SkSlice<'a>, ReadStop>
+    ensures { Uses true security_at security_seen (cells_of cells.now) at used.old used.new result }
+{
+    let payload = use_cell(cells, used, at, true)?;
+    security_form(payload, at)
 }
 
 pub(crate) fn use_list(

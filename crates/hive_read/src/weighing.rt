@@ -1,0 +1,212 @@
+//! What a key has but its children, judged: how many bytes its cells take, and no copy of what stands in them.
+
+ghost use Rattle.std.specs.Prelude.{◌≡◌, ℕ, List, [], Ok, is_some, sum_by};
+ghost use Rattle.hive_model.specs.KeyValue.{data_inside};
+ghost use Rattle.hive_model.specs.Size.{capped, class_size, data_size, item_size, items_size};
+ghost use Rattle.hive_model.specs.Walk.{big_checks, class_checks, data_checks, security_checks, segments_checks, value_checks, values_in_turn, values_checks};
+ghost use Rattle.hive_model.specs.Stands.{big_bytes_at, class_of, data_of, item_at, items_at, joined_segments, security_of, values_of};
+ghost use Rattle.cell_forms.specs.Views.{key_node_of, key_value_of};
+ghost use Rattle.hive_read.specs.Celled.{celled_bytes, celled_checks};
+ghost use Rattle.hive_read.specs.Judged.{AddsName, Counts, HasLength, value_list_size};
+ghost use Rattle.hive_read.specs.Sources.{cells_of};
+ghost use Rattle.hive_read.specs.Taken.{Knows};
+ghost use Rattle.hive_read.specs.Walked.{walk, Steps};
+
+use crate::data::{SEGMENT, is_big};
+use crate::sizes::{cell_size, class_len, data_len, named_size};
+use crate::source::Source;
+use crate::taken::Taken;
+use crate::used::Used;
+use crate::uses::{take_name, use_big_data, use_front, use_offsets, use_security_slice, use_value};
+use cell_forms::{NkForm, VkForm};
+use nt_bytes::ReadStop;
+use std::alloc::Global;
+
+// ---- a key's class and security
+
+/// The cell of a key's class.
+#[tactic(auto, unfolding(hive_model::specs::Walk::class_checks, hive_model::specs::Stands::class_of))]
+pub(crate) fn judge_class(cells: &Source, used: &mut Used, node: &NkForm) -> Result<u64, ReadStop>
+    ensures { Steps (Counts (λ b. class_of (cells_of cells.now) (key_node_of node.now) ≡ Ok b) class_size)
+        (walk (cells_of cells.now) used.old (class_checks (cells_of cells.now) (key_node_of node.now))) used.new result }
+{
+    if node.class_length == 0 {
+        return Ok(0);
+    }
+    let class = use_front(cells, used, u32::from(node.class_length), node.class)?;
+    Ok(class_len(class))
+}
+
+/// A key's security descriptor, empty where it has none.
+#[tactic(auto, unfolding(hive_model::specs::Walk::security_checks, hive_model::specs::Stands::security_of))]
+pub(crate) fn judge_security<'a>(
+    cells: &Source<'a>,
+    used: &mut Used,
+    node: &NkForm,
+) -> Result<&'a [u8], ReadStop>
+    ensures { Steps (λ d. security_of (cells_of cells.now) (key_node_of node.now) ≡ Ok d.now)
+        (walk (cells_of cells.now) used.old (security_checks (cells_of cells.now) (key_node_of node.now))) used.new result }
+{
+    if node.security == 0xffff_ffff {
+        return Ok(&[]);
+    }
+    let security = use_security_slice(cells, used, node.security)?;
+    Ok(security.descriptor)
+}
+
+// ---- a value's data
+
+// How many bytes the segments at these offsets hold.
+fn judge_segments(
+    cells: &Source,
+    used: &mut Used,
+    size: u32,
+    offsets: &[u32],
+) -> Result<u32, ReadStop>
+    ensures { Steps (HasLength (joined_segments (cells_of cells.now) size offsets.now))
+        (walk (cells_of cells.now) used.old (segments_checks (cells_of cells.now) size offsets.now)) used.new result }
+{
+    let mut left = size;
+    let mut rest = offsets;
+    'segments: loop {
+        let [at, more @ ..] = rest else {
+            return Ok(size - left);
+        };
+        let _part = use_front(cells, used, SEGMENT.min(left), *at)?;
+        left = left.saturating_sub(SEGMENT);
+        rest = more;
+    }
+}
+
+// How many bytes big data have.
+fn judge_big(
+    alloc: Global,
+    cells: &Source,
+    used: &mut Used,
+    size: u32,
+    at: u32,
+) -> Result<u32, ReadStop>
+    ensures { Steps (HasLength (big_bytes_at (cells_of cells.now) size at))
+        (walk (cells_of cells.now) used.old (big_checks (cells_of cells.now) size at)) used.new result }
+{
+    let big = use_big_data(cells, used, size, at)?;
+    let offsets = use_offsets(alloc, cells, used, u32::from(big.segments), big.list)?;
+    judge_segments(cells, used, size, offsets.as_slice())
+}
+
+// How many bytes data in a cell, or big data, have.
+fn judge_celled(
+    alloc: Global,
+    cells: &Source,
+    used: &mut Used,
+    size: u32,
+    at: u32,
+) -> Result<u32, ReadStop>
+    ensures { Steps (HasLength (celled_bytes (cells_of cells.now) size at))
+        (walk (cells_of cells.now) used.old (celled_checks (cells_of cells.now) size at)) used.new result }
+{
+    if is_big(cells.version, size) {
+        return judge_big(alloc, cells, used, size, at);
+    }
+    let _bytes = use_front(cells, used, size, at)?;
+    Ok(size)
+}
+
+// Does the value hold its data itself, in place or as none?
+fn holds_data(value: &VkForm) -> bool
+    ensures { result ≡ is_some (data_inside (key_value_of value.now)) }
+{
+    value.size >= 0x8000_0000 || value.size == 0
+}
+
+// The cells of a value's data.
+#[tactic(auto, unfolding(hive_model::specs::Walk::data_checks, hive_model::specs::Stands::data_of))]
+fn judge_data(
+    alloc: Global,
+    cells: &Source,
+    used: &mut Used,
+    value: &VkForm,
+) -> Result<u64, ReadStop>
+    ensures { Steps (Counts (λ b. data_of (cells_of cells.now) (key_value_of value.now) ≡ Ok b) (data_size cells.now.version))
+        (walk (cells_of cells.now) used.old (data_checks (cells_of cells.now) (key_value_of value.now))) used.new result }
+{
+    if holds_data(value) {
+        return Ok(0);
+    }
+    let size = judge_celled(alloc, cells, used, value.size, value.offset)?;
+    Ok(data_len(cells.version, size))
+}
+
+// ---- values
+
+// The cells of a value.
+fn judge_value(
+    alloc: Global,
+    cells: &Source,
+    used: &mut Used,
+    taken: &mut Taken,
+    at: u32,
+) -> Result<u64, ReadStop>
+    ensures { (names : List (List ℕ)) → Knows taken.old names →
+        Steps (Counts (λ v. (item_at (cells_of cells.now) at ≡ Ok v) × AddsName taken.old taken.new v.name) (item_size cells.now.version))
+        (walk (cells_of cells.now) used.old (value_checks (cells_of cells.now) names at)) used.new result }
+{
+    let form = use_value(alloc, cells, used, at)?;
+    take_name(alloc, taken, form.name.as_slice(), at)?;
+    let data = judge_data(alloc, cells, used, &form)?;
+    let own = named_size(20, form.name.as_slice());
+    Ok(own.saturating_add(data))
+}
+
+// The cells of the values at these offsets, one behind another.
+fn judge_in_turn(
+    alloc: Global,
+    cells: &Source,
+    used: &mut Used,
+    offsets: &[u32],
+) -> Result<u64, ReadStop>
+    ensures { Steps (Counts (λ vs. items_at (cells_of cells.now) offsets.now ≡ Ok vs) (sum_by (item_size cells.now.version)))
+        (walk (cells_of cells.now) used.old (values_in_turn (cells_of cells.now) [] offsets.now)) used.new result }
+{
+    let mut taken = Taken::new(alloc);
+    let mut total: u64 = 0;
+    let mut rest = offsets;
+    'values: loop {
+        let [at, more @ ..] = rest else {
+            return Ok(total);
+        };
+        let value = judge_value(alloc, cells, used, &mut taken, *at)?;
+        total = total.saturating_add(value);
+        rest = more;
+    }
+}
+
+// The cell of a list of so many values.
+fn value_list_len(count: u64) -> u64
+    ensures { result ≡ capped (value_list_size count) }
+{
+    if count == 0 {
+        return 0;
+    }
+    cell_size(count.saturating_mul(4))
+}
+
+/// The cells of a key's values, and of their list.
+pub(crate) fn judge_values(
+    alloc: Global,
+    cells: &Source,
+    used: &mut Used,
+    node: &NkForm,
+) -> Result<u64, ReadStop>
+    ensures { Steps (Counts (λ vs. values_of (cells_of cells.now) (key_node_of node.now) ≡ Ok vs) (items_size cells.now.version))
+        (walk (cells_of cells.now) used.old (values_checks (cells_of cells.now) (key_node_of node.now))) used.new result }
+{
+    if node.value_count == 0 {
+        return Ok(0);
+    }
+    let offsets = use_offsets(alloc, cells, used, node.value_count, node.value_list)?;
+    let found = offsets.as_slice();
+    let values = judge_in_turn(alloc, cells, used, found)?;
+    let list = value_list_len(found.len() as u64);
+    Ok(list.saturating_add(values))
+}
