@@ -2,7 +2,8 @@
 use Rattle.std.proofs.Common.{◌≡◌, ℕ, ◌+◌, ◌≤◌, Bool, List, length, Ok, sym, ap, ◌∙◌}
 use Rattle.std.specs.Prelude.{slice_range}
 use Rattle.nt_bytes.specs.Fields.{u16_in}
-use Rattle.hive_model.specs.Forms.{is_narrow_key, key_name_at, key_node_in, key_node_at, KeyNode}
+use Rattle.hive_model.specs.StoredNames.{key_name_at}
+use Rattle.hive_model.specs.KeyNode.{is_narrow_key, key_node_in, key_node_at, KeyNode}
 use Rattle.hive_model.proofs.Spelling.{key_node_is}
 
 pub node_read : (p name : List ℕ) (narrow : Bool) (node : KeyNode) (sign size flags : ℕ) → sign ≡ u16_in p 0 → sign ≡ 0x6b6e → size ≡ u16_in p 72 → 76 + size ≤ length p

@@ -1,6 +1,10 @@
 -- The forms of the code as those of the book.
-use Rattle.hive_model.specs.Forms.{KeyNode, KeyValue, SecurityCell, BigData, SubkeyList, Li, Lf, Lh, Ri}
-use Rattle.hive_model.specs.Forms.{ListKind as BookKind}
+use Rattle.hive_model.specs.KeyNode.{KeyNode}
+use Rattle.hive_model.specs.KeyValue.{KeyValue}
+use Rattle.hive_model.specs.BigData.{BigData}
+use Rattle.hive_model.specs.Security.{SecurityCell}
+use Rattle.hive_model.specs.Lists.{SubkeyList, Li, Lf, Lh, Ri}
+use Rattle.hive_model.specs.Lists.{ListKind as BookKind}
 use Rattle.cell_forms.specs.declared.key_node.NkForm.{NkForm}
 use Rattle.cell_forms.specs.declared.key_value.VkForm.{VkForm}
 use Rattle.cell_forms.specs.declared.security.SkForm.{SkForm}

@@ -1,7 +1,8 @@
 //! Cells of big data.
 
 ghost use Rattle.std.specs.Prelude.{◌≡◌, IfOk};
-ghost use Rattle.hive_model.specs.Forms.{Gives, big_data_at, big_data_text};
+ghost use Rattle.hive_model.specs.Forms.{Gives};
+ghost use Rattle.hive_model.specs.BigData.{big_data_at, big_data_text};
 ghost use Rattle.cell_forms.specs.Views.{big_data_of};
 
 use crate::names::fault;
@@ -18,7 +19,7 @@ pub struct DbForm {
 
 /// Reads a cell of big data. `FormShort` where the payload is shorter than its eight bytes,
 /// `FormSign` where it does not begin with `db`; each at `at`.
-#[tactic(auto, unfolding(hive_model::specs::Forms::big_data_at))]
+#[tactic(auto, unfolding(hive_model::specs::BigData::big_data_at))]
 pub fn read_db(payload: &[u8], at: u32) -> Result<DbForm, ReadStop>
     ensures { Gives big_data_of at result (big_data_at payload.now) }
 {
@@ -38,7 +39,7 @@ pub fn read_db(payload: &[u8], at: u32) -> Result<DbForm, ReadStop>
 }
 
 /// The payload that a cell of big data is spelled as.
-#[tactic(auto, unfolding(hive_model::specs::Forms::big_data_text))]
+#[tactic(auto, unfolding(hive_model::specs::BigData::big_data_text))]
 pub fn db_bytes(alloc: Global, form: &DbForm) -> Result<Bytes, AllocError>
     ensures { IfOk result (λ b. b ≡ big_data_text (big_data_of form.now)) }
 {

@@ -1,7 +1,8 @@
 //! Key nodes.
 
 ghost use Rattle.std.specs.Prelude.{◌≡◌, ◌<◌, ◌≤◌, ℕ, true, length, slice_index, IfOk};
-ghost use Rattle.hive_model.specs.Forms.{Gives, is_narrow_key, key_node_in, key_node_at, key_node_text};
+ghost use Rattle.hive_model.specs.Forms.{Gives};
+ghost use Rattle.hive_model.specs.KeyNode.{is_narrow_key, key_node_in, key_node_at, key_node_text};
 ghost use Rattle.cell_forms.specs.Views.{key_node_of};
 
 use crate::names::{append_name, fault, name_size, read_key_name};
@@ -41,7 +42,7 @@ fn is_narrow(flags: u16) -> bool
 /// Reads a key node. `FormShort` where the payload is shorter than the fixed part or the name,
 /// `FormSign` where it does not begin with `nk`, `FormLength` where a wide name has half a unit,
 /// `FormName` where the name is over 255 units or has a backslash; each at `at`.
-#[tactic(auto, unfolding(hive_model::specs::Forms::key_node_at))]
+#[tactic(auto, unfolding(hive_model::specs::KeyNode::key_node_at))]
 pub fn read_nk(alloc: Global, payload: &[u8], at: u32) -> Result<NkForm, ReadStop>
     ensures { Gives key_node_of at result (key_node_at payload.now) }
 {
@@ -90,7 +91,7 @@ fn fields(payload: &[u8], name: Units) -> NkForm
 }
 
 /// The payload that a key node is spelled as. The two fields without a name are zero.
-#[tactic(auto, unfolding(hive_model::specs::Forms::key_node_text))]
+#[tactic(auto, unfolding(hive_model::specs::KeyNode::key_node_text))]
 pub fn nk_bytes(alloc: Global, form: &NkForm) -> Result<Bytes, AllocError>
     requires short { length form.now.name ≤ 255 }
     requires narrow { is_narrow_key form.now.flags ≡ true → (k : ℕ) → slice_index form.now.name k < 256 }

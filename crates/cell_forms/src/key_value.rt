@@ -1,8 +1,9 @@
 //! Key values.
 
 ghost use Rattle.std.specs.Prelude.{◌≡◌, ◌<◌, ◌≤◌, ℕ, true, length, slice_index, IfOk};
-ghost use Rattle.hive_model.specs.Forms.{Gives, is_narrow_value, key_value_at, key_value_text};
-ghost use Rattle.hive_model.specs.Forms.{data_inside as data_inside_of};
+ghost use Rattle.hive_model.specs.Forms.{Gives};
+ghost use Rattle.hive_model.specs.KeyValue.{is_narrow_value, key_value_at, key_value_text};
+ghost use Rattle.hive_model.specs.KeyValue.{data_inside as data_inside_of};
 ghost use Rattle.cell_forms.specs.Views.{key_value_of};
 
 use crate::names::{append_name, fault, name_size, read_value_name};
@@ -31,7 +32,7 @@ fn is_narrow(flags: u16) -> bool
 /// Reads a value. `FormShort` where the payload is shorter than the fixed part or the name,
 /// `FormSign` where it does not begin with `vk`, `FormLength` where data in place are over 4 bytes
 /// or a wide name has half a unit, `FormName` where the name is over 16,383 units; each at `at`.
-#[tactic(auto, unfolding(hive_model::specs::Forms::key_value_at))]
+#[tactic(auto, unfolding(hive_model::specs::KeyValue::key_value_at))]
 pub fn read_vk(alloc: Global, payload: &[u8], at: u32) -> Result<VkForm, ReadStop>
     ensures { Gives key_value_of at result (key_value_at payload.now) }
 {
@@ -79,7 +80,7 @@ pub fn data_inside(alloc: Global, form: &VkForm) -> Result<Option<Bytes>, AllocE
 }
 
 /// The payload that a value is spelled as. The field without a name is zero.
-#[tactic(auto, unfolding(hive_model::specs::Forms::key_value_text))]
+#[tactic(auto, unfolding(hive_model::specs::KeyValue::key_value_text))]
 pub fn vk_bytes(alloc: Global, form: &VkForm) -> Result<Bytes, AllocError>
     requires short { length form.now.name ≤ 16383 }
     requires narrow { is_narrow_value form.now.flags ≡ true → (k : ℕ) → slice_index form.now.name k < 256 }

@@ -1,11 +1,12 @@
 //! What is spelled is read back, whatever fills the cell behind it.
 
 ghost use Rattle.std.specs.Prelude.{◌≡◌, ◌<◌, ◌^◌, ◌++◌, ℕ, List, length, Ok};
-ghost use Rattle.hive_model.specs.Forms.{KeyNode, IsKeyNode, key_node_at, key_node_text};
-ghost use Rattle.hive_model.specs.Forms.{KeyValue, IsKeyValue, key_value_at, key_value_text};
-ghost use Rattle.hive_model.specs.Forms.{SecurityCell, IsSecurityCell, security_at, security_text};
-ghost use Rattle.hive_model.specs.Forms.{BigData, IsBigData, big_data_at, big_data_text};
-ghost use Rattle.hive_model.specs.Forms.{AreOffsets, AreHints, Li, Lf, Lh, Ri, list_at, li_text, lf_text, lh_text, ri_text, offsets_in, offsets_text, bytes_in};
+ghost use Rattle.hive_model.specs.KeyNode.{KeyNode, IsKeyNode, key_node_at, key_node_text};
+ghost use Rattle.hive_model.specs.KeyValue.{KeyValue, IsKeyValue, key_value_at, key_value_text};
+ghost use Rattle.hive_model.specs.Security.{SecurityCell, IsSecurityCell, security_at, security_text};
+ghost use Rattle.hive_model.specs.BigData.{BigData, IsBigData, big_data_at, big_data_text};
+ghost use Rattle.hive_model.specs.Forms.{bytes_in};
+ghost use Rattle.hive_model.specs.Lists.{AreOffsets, AreHints, Li, Lf, Lh, Ri, list_at, li_text, lf_text, lh_text, ri_text, offsets_in, offsets_text};
 
 /// A key node.
 pub fn key_node_is_read_back()
@@ -29,12 +30,14 @@ pub fn security_is_read_back()
 
 /// A list of subkeys of each kind.
 pub fn list_is_read_back()
-    ensures li { (offsets slack : List ℕ) → length offsets < 2 ^ 16 → AreOffsets offsets → list_at (li_text offsets ++ slack) ≡ Ok (record { kind = Li; offsets = offsets }) }
+    ensures li { (offsets slack : List ℕ) → length offsets < 2 ^ 16 → AreOffsets offsets
+        → list_at (li_text offsets ++ slack) ≡ Ok (record { kind = Li; offsets = offsets }) }
     ensures lf { (offsets : List ℕ) (hints : List (List ℕ)) (slack : List ℕ) → length offsets ≡ length hints → length offsets < 2 ^ 16
         → AreOffsets offsets → AreHints hints → list_at (lf_text offsets hints ++ slack) ≡ Ok (record { kind = Lf; offsets = offsets }) }
     ensures lh { (offsets : List ℕ) (hints : List (List ℕ)) (slack : List ℕ) → length offsets ≡ length hints → length offsets < 2 ^ 16
         → AreOffsets offsets → AreHints hints → list_at (lh_text offsets hints ++ slack) ≡ Ok (record { kind = Lh; offsets = offsets }) }
-    ensures ri { (offsets slack : List ℕ) → length offsets < 2 ^ 16 → AreOffsets offsets → list_at (ri_text offsets ++ slack) ≡ Ok (record { kind = Ri; offsets = offsets }) }
+    ensures ri { (offsets slack : List ℕ) → length offsets < 2 ^ 16 → AreOffsets offsets
+        → list_at (ri_text offsets ++ slack) ≡ Ok (record { kind = Ri; offsets = offsets }) }
 {}
 
 /// A value list.

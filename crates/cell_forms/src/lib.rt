@@ -15,8 +15,6 @@ mod list_texts;
 mod lists;
 mod names;
 mod security;
-#[cfg(test)]
-mod tests;
 
 pub use big_data::{DbForm, db_bytes, read_db};
 pub use bytes::read_bytes;

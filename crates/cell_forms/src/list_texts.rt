@@ -3,7 +3,7 @@
 ghost use Rattle.std.specs.Prelude.{◌≡◌, ◌<◌, ◌+◌, ◌*◌, ◌%◌, ◌^◌, ◌++◌, length, map, IfOk, OnOk};
 ghost use Rattle.std.specs.Int.{w32, to_le_bytes};
 ghost use Rattle.nt_bytes.specs.Folding.{folded_unit};
-ghost use Rattle.hive_model.specs.Forms.{offsets_text, entries_text, lf_text, lh_text, ri_text, hash_of};
+ghost use Rattle.hive_model.specs.Lists.{offsets_text, entries_text, lf_text, lh_text, ri_text, hash_of};
 
 use nt_bytes::{Bytes, fold};
 use std::alloc::{AllocError, Global};
@@ -42,7 +42,7 @@ fn append_entries(out: &mut Bytes, offsets: &[u32], hints: &[[u8; 4]]) -> Result
 }
 
 /// The payload of a list of key nodes with four bytes of each name.
-#[tactic(auto, unfolding(hive_model::specs::Forms::lf_text))]
+#[tactic(auto, unfolding(hive_model::specs::Lists::lf_text))]
 pub fn lf_bytes(alloc: Global, offsets: &[u32], hints: &[[u8; 4]]) -> Result<Bytes, AllocError>
     requires same { length offsets.now ≡ length hints.now }
     requires few { length offsets.now < 2 ^ 16 }
@@ -100,7 +100,7 @@ fn append_hashed(out: &mut Bytes, offsets: &[u32], hashes: &[u32]) -> Result<(),
 }
 
 /// The payload of a list of key nodes with the hash of each name.
-#[tactic(auto, unfolding(hive_model::specs::Forms::lh_text))]
+#[tactic(auto, unfolding(hive_model::specs::Lists::lh_text))]
 pub fn lh_bytes(alloc: Global, offsets: &[u32], hashes: &[u32]) -> Result<Bytes, AllocError>
     requires same { length offsets.now ≡ length hashes.now }
     requires few { length offsets.now < 2 ^ 16 }
@@ -115,7 +115,7 @@ pub fn lh_bytes(alloc: Global, offsets: &[u32], hashes: &[u32]) -> Result<Bytes,
 }
 
 /// The payload of a list of lists.
-#[tactic(auto, unfolding(hive_model::specs::Forms::ri_text))]
+#[tactic(auto, unfolding(hive_model::specs::Lists::ri_text))]
 pub fn ri_bytes(alloc: Global, lists: &[u32]) -> Result<Bytes, AllocError>
     requires { length lists.now < 2 ^ 16 }
     ensures { IfOk result (λ b. b ≡ ri_text lists.now) }

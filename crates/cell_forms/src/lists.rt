@@ -1,7 +1,8 @@
 //! Lists of offsets.
 
 ghost use Rattle.std.specs.Prelude.{◌≡◌, ◌≤◌, ◌*◌, length, IfOk};
-ghost use Rattle.hive_model.specs.Forms.{Gives, list_at, list_of, numbers_in, offsets_in};
+ghost use Rattle.hive_model.specs.Forms.{Gives};
+ghost use Rattle.hive_model.specs.Lists.{list_at, list_of, numbers_in, offsets_in};
 ghost use Rattle.cell_forms.specs.Views.{subkey_list_of, kind_of};
 
 use crate::names::fault;
@@ -49,7 +50,7 @@ fn numbers(alloc: Global, step: usize, count: usize, bytes: &[u8]) -> Result<Off
 }
 
 /// The list of this kind, whose entries have `step` bytes.
-#[tactic(auto, unfolding(hive_model::specs::Forms::list_of))]
+#[tactic(auto, unfolding(hive_model::specs::Lists::list_of))]
 fn read_entries(
     alloc: Global,
     kind: ListKind,
@@ -74,7 +75,7 @@ fn read_entries(
 
 /// Reads a list of subkeys. `FormShort` where the payload is shorter than its entries, `FormSign`
 /// where it begins with none of `li`, `lf`, `lh` and `ri`; each at `at`.
-#[tactic(auto, unfolding(hive_model::specs::Forms::list_at))]
+#[tactic(auto, unfolding(hive_model::specs::Lists::list_at))]
 pub fn read_list(alloc: Global, payload: &[u8], at: u32) -> Result<ListForm, ReadStop>
     ensures { Gives subkey_list_of at result (list_at payload.now) }
 {
@@ -98,7 +99,7 @@ pub fn read_list(alloc: Global, payload: &[u8], at: u32) -> Result<ListForm, Rea
 }
 
 /// The offsets of a value list of `count` values. `FormShort` at `at` where the payload has fewer.
-#[tactic(auto, unfolding(hive_model::specs::Forms::offsets_in))]
+#[tactic(auto, unfolding(hive_model::specs::Lists::offsets_in))]
 pub fn read_offsets(alloc: Global, payload: &[u8], count: u32, at: u32) -> Result<Offsets, ReadStop>
     ensures { Gives (λ o. o) at result (offsets_in count payload.now) }
 {

@@ -2,7 +2,8 @@
 
 ghost use Rattle.std.specs.Prelude.{◌≡◌, ◌<◌, ◌≤◌, ◌*◌, ◌++◌, ℕ, true, length, slice_index, IfOk, OnOk};
 ghost use Rattle.nt_bytes.specs.declared.fault.ReadStop.TheVariants.{Fault};
-ghost use Rattle.hive_model.specs.Forms.{Gives, wide_text, stored_name, name_text, key_name_at, value_name_at};
+ghost use Rattle.hive_model.specs.Forms.{Gives};
+ghost use Rattle.hive_model.specs.StoredNames.{wide_text, stored_name, name_text, key_name_at, value_name_at};
 
 use nt_bytes::{Bytes, HiveFault, HiveKind, ReadStop, Units, narrow, wide};
 use std::alloc::{AllocError, Global};
@@ -26,7 +27,7 @@ fn stored(alloc: Global, is_narrow: bool, bytes: &[u8]) -> Result<Units, AllocEr
 
 /// The name of a key. `FormLength` where a wide name has half a unit, `FormName` where the name
 /// is over 255 units or has a backslash. It may be empty.
-#[tactic(auto, unfolding(hive_model::specs::Forms::key_name_at))]
+#[tactic(auto, unfolding(hive_model::specs::StoredNames::key_name_at))]
 pub(crate) fn read_key_name(
     alloc: Global,
     is_narrow: bool,
@@ -47,7 +48,7 @@ pub(crate) fn read_key_name(
 
 /// The name of a value. `FormLength` where a wide name has half a unit, `FormName` where the name
 /// is over 16,383 units.
-#[tactic(auto, unfolding(hive_model::specs::Forms::value_name_at))]
+#[tactic(auto, unfolding(hive_model::specs::StoredNames::value_name_at))]
 pub(crate) fn read_value_name(
     alloc: Global,
     is_narrow: bool,

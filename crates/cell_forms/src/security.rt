@@ -1,7 +1,8 @@
 //! Security cells.
 
 ghost use Rattle.std.specs.Prelude.{◌≡◌, ◌<◌, ◌^◌, length, IfOk};
-ghost use Rattle.hive_model.specs.Forms.{Gives, security_at, security_text};
+ghost use Rattle.hive_model.specs.Forms.{Gives};
+ghost use Rattle.hive_model.specs.Security.{security_at, security_text};
 ghost use Rattle.cell_forms.specs.Views.{security_of};
 
 use crate::names::fault;
@@ -19,7 +20,7 @@ pub struct SkForm {
 
 /// Reads a security cell. `FormShort` where the payload is shorter than the fixed part or the
 /// descriptor, `FormSign` where it does not begin with `sk`; each at `at`.
-#[tactic(auto, unfolding(hive_model::specs::Forms::security_at))]
+#[tactic(auto, unfolding(hive_model::specs::Security::security_at))]
 pub fn read_sk(alloc: Global, payload: &[u8], at: u32) -> Result<SkForm, ReadStop>
     ensures { Gives security_of at result (security_at payload.now) }
 {
@@ -45,7 +46,7 @@ pub fn read_sk(alloc: Global, payload: &[u8], at: u32) -> Result<SkForm, ReadSto
 }
 
 /// The payload that a security cell is spelled as. The field without a name is zero.
-#[tactic(auto, unfolding(hive_model::specs::Forms::security_text))]
+#[tactic(auto, unfolding(hive_model::specs::Security::security_text))]
 pub fn sk_bytes(alloc: Global, form: &SkForm) -> Result<Bytes, AllocError>
     requires { length form.now.descriptor < 2 ^ 32 }
     ensures { IfOk result (λ b. b ≡ security_text (security_of form.now)) }

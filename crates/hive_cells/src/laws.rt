@@ -21,5 +21,6 @@ pub fn one_fault()
 
 /// Each text has a list of bins or a fault.
 pub fn one_of_the_two()
-    ensures { (text : List ℕ) → ((i : ℕ) → slice_index_or text i 0 < 256) → length text ≤ 16777216 → ((bins : List Bin) × IsBins text bins) ⊎ ((fault : HiveFaultModel) × BinsFault text fault) }
+    ensures { (text : List ℕ) → ((i : ℕ) → slice_index_or text i 0 < 256) → length text ≤ 16777216
+        → ((bins : List Bin) × IsBins text bins) ⊎ ((fault : HiveFaultModel) × BinsFault text fault) }
 {}

@@ -13,12 +13,8 @@ mod laws;
 mod lookup;
 mod marks;
 mod open;
-#[cfg(test)]
-mod open_tests;
 mod pushes;
 mod read;
-#[cfg(test)]
-mod tests;
 
 pub use heap::CellHeap;
 pub use laws::{list_or_fault, one_fault, one_list, one_of_the_two};

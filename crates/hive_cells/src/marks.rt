@@ -22,7 +22,8 @@ pub(crate) fn mark_run(starts: &mut Vec<bool>, slot: usize, run: &[u8])
     requires run { IsRun run.now }
     requires within { slot + length run.now / 8 ≤ length starts.old.items }
     ensures long { length starts.new.items ≡ length starts.old.items }
-    ensures exact { starts.new.items ≡ take slot starts.old.items ++ (flat_map cell_marks (run_cells run.now) ++ drop (slot + length run.now / 8) starts.old.items) }
+    ensures exact { starts.new.items ≡ take slot starts.old.items
+        ++ (flat_map cell_marks (run_cells run.now) ++ drop (slot + length run.now / 8) starts.old.items) }
 {
     clear(starts, slot, slot + run.len() / 8);
     let mut at = 0;

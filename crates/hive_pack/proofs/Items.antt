@@ -13,7 +13,12 @@ use Rattle.hive_model.specs.Tree.{Item}
 use Rattle.hive_model.specs.Valid.{IsItem}
 use Rattle.hive_model.specs.Size.{cell, is_narrow, name_bytes, is_big, segment_count, segment_sizes, cells_sum, data_size, item_size, items_sum, items_size}
 use Rattle.hive_model.specs.Bins.{Cells}
-use Rattle.hive_model.specs.Forms.{KeyNode, KeyValue, IsKeyValue, UnitsFit, is_narrow_value, key_value_text, key_value_at, bytes_in, BigData, big_data_text, offsets_text, offsets_in, AreOffsets}
+use Rattle.hive_model.specs.Forms.{bytes_in}
+use Rattle.hive_model.specs.StoredNames.{UnitsFit}
+use Rattle.hive_model.specs.KeyNode.{KeyNode}
+use Rattle.hive_model.specs.KeyValue.{KeyValue, IsKeyValue, is_narrow_value, key_value_text, key_value_at}
+use Rattle.hive_model.specs.BigData.{BigData, big_data_text}
+use Rattle.hive_model.specs.Lists.{offsets_text, offsets_in, AreOffsets}
 use Rattle.hive_model.specs.Walk.{reading, big_data_of}
 use Rattle.hive_model.specs.Stands.{joined_segments, big_bytes_at, item_at, items_at, data_of, values_of}
 use Rattle.hive_model.specs.Packed.{filled, data_place, item_form, segments, segment_places, big_cells, data_cells, item_cells, cells_of_items, item_places, items_cells, place_of_some}

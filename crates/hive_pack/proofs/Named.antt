@@ -7,7 +7,8 @@ use Rattle.nt_bytes.specs.declared.version.HiveVersion.{HiveVersion}
 use Rattle.nt_bytes.specs.declared.version.HiveVersion.TheVariants.{V3, V5}
 use Rattle.hive_model.specs.Size.{cell, part_count, list_size}
 use Rattle.hive_model.specs.Bins.{Cells}
-use Rattle.hive_model.specs.Forms.{KeyNode, ListKind, Lf, Lh, Ri, AreOffsets, AreHints, list_at, ri_text}
+use Rattle.hive_model.specs.KeyNode.{KeyNode}
+use Rattle.hive_model.specs.Lists.{ListKind, Lf, Lh, Ri, AreOffsets, AreHints, list_at, ri_text}
 use Rattle.hive_model.specs.Walk.{reading, is_list_of_lists, leaf_at, joined_at, entries_at}
 use Rattle.hive_model.specs.Stands.{ListsChildren}
 use Rattle.hive_model.specs.Packed.{part_places, list_text, parts, list_cells, place_of_some}

@@ -6,7 +6,7 @@ use Rattle.std.proofs.lemmas.List.{take-map, drop-map}
 use Rattle.nt_bytes.specs.declared.version.HiveVersion.{HiveVersion}
 use Rattle.nt_bytes.specs.declared.version.HiveVersion.TheVariants.{V5}
 use Rattle.hive_model.specs.Tree.{Tree, head}
-use Rattle.hive_model.specs.Forms.{hash_of}
+use Rattle.hive_model.specs.Lists.{hash_of}
 use Rattle.hive_model.specs.Packed.{segment_places, segments, hint, part_places, list_text, parts}
 
 -- the first four bytes of a name, zeros behind a short one

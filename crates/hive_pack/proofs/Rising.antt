@@ -4,7 +4,7 @@ use Rattle.std.specs.Prelude.{if◌then◌else◌}
 use Rattle.nt_bytes.specs.declared.version.HiveVersion.{HiveVersion}
 use Rattle.hive_model.specs.Tree.{Tree, Trees, key, none, more}
 use Rattle.hive_model.specs.Size.{cell, has_own, security_size, count, size, size_of_all}
-use Rattle.hive_model.specs.Forms.{AreOffsets}
+use Rattle.hive_model.specs.Lists.{AreOffsets}
 use Rattle.hive_model.specs.Packed.{own_place, descriptor_place, children_place, ring, ring_of_all}
 use Rattle.hive_pack.specs.Writes.{IsRising}
 

@@ -9,7 +9,10 @@ use Rattle.hive_model.specs.Tree.{Item, Tree, Trees, key, none, more, listed, he
 use Rattle.hive_model.specs.Valid.{IsItem, HoldsKeys, AllHoldKeys, levels, most_levels}
 use Rattle.hive_model.specs.Size.{cell, is_narrow, name_bytes, is_big, segment_count, segment_sizes, cells_sum, data_size, item_size, items_sum, items_size, class_size, has_own, security_size, node_size, head_size, part_count, list_size, count, size, size_of_all}
 use Rattle.hive_model.specs.Bins.{Cells}
-use Rattle.hive_model.specs.Forms.{KeyNode, IsKeyNode, KeyValue, key_node_text, key_value_at, bytes_in, list_at, offsets_in, AreOffsets, AreHints}
+use Rattle.hive_model.specs.Forms.{bytes_in}
+use Rattle.hive_model.specs.KeyNode.{KeyNode, IsKeyNode, key_node_text}
+use Rattle.hive_model.specs.KeyValue.{KeyValue, key_value_at}
+use Rattle.hive_model.specs.Lists.{list_at, offsets_in, AreOffsets, AreHints}
 use Rattle.hive_model.specs.Walk.{reading, nowhere, big_data_of, segments_checks, big_checks, is_list_of_lists, node_at, leaf_at, entries_at, Check, names_of, name_check, class_checks, security_checks, data_checks, value_checks, values_in_turn, values_checks, leaves_checks, use_as, entries_checks, keys_in_turn, children_checks, below_node, key_checks, all_checks, AreUsedOnce}
 use Rattle.hive_model.specs.Packed.{data_place, item_form, segment_places, big_cells, data_cells, item_cells, cells_of_items, item_places, items_cells, descriptor_place, sharers_of_all, Above, below, security_place_of, values_place, list_place, children_place, place_of_some, node_of, head_cells, part_places, list_cells, places, hint, cells_of, cells_of_all}
 use Rattle.hive_model.proofs.Spelling.{key_node_again}

@@ -10,7 +10,11 @@ use Rattle.hive_model.specs.Tree.{Head, Tree, Trees, key, none, more, listed, tr
 use Rattle.hive_model.specs.Valid.{IsKey, HoldsKeys, AllHoldKeys}
 use Rattle.hive_model.specs.Size.{cell, is_narrow, has_own, items_size, class_size, security_size, node_size, head_size, list_size, count, size, size_of_all, bulk_of}
 use Rattle.hive_model.specs.Bins.{Cells, look_up}
-use Rattle.hive_model.specs.Forms.{◌>>=◌, KeyNode, IsKeyNode, UnitsFit, key_node_text, key_node_at, SecurityCell, IsSecurityCell, security_text, security_at, bytes_in, AreOffsets}
+use Rattle.hive_model.specs.Forms.{◌>>=◌, bytes_in}
+use Rattle.hive_model.specs.StoredNames.{UnitsFit}
+use Rattle.hive_model.specs.KeyNode.{KeyNode, IsKeyNode, key_node_text, key_node_at}
+use Rattle.hive_model.specs.Security.{SecurityCell, IsSecurityCell, security_text, security_at}
+use Rattle.hive_model.specs.Lists.{AreOffsets}
 use Rattle.hive_model.specs.Walk.{reading, nowhere}
 use Rattle.hive_model.specs.Stands.{tree_flags, class_of, security_of, Stands, AllStand}
 use Rattle.hive_model.specs.Packed.{first_or, last_or, behind, ahead, forward, backward, sharers_of_all, ring, Above, top, below, security_place_of, descriptor_place, values_place, list_place, children_place, place_of_some, stored_flags, node_of, class_cells, security_cells, items_cells, head_cells, list_cells, places, hint, cells_of, cells_of_all, packed_cells, packed_bins}

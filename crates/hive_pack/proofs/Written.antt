@@ -8,7 +8,10 @@ use Rattle.nt_bytes.specs.declared.version.HiveVersion.{HiveVersion}
 use Rattle.hive_model.specs.Tree.{Item, Head, Tree, Trees, key, none, more, listed, trees, head, children, weight, weights, weights-trees}
 use Rattle.hive_model.specs.Valid.{IsKey, HoldsKeys, AllHoldKeys}
 use Rattle.hive_model.specs.Size.{cell, item_size, items_sum, items_size, head_size, list_size, count, size, size_of_all}
-use Rattle.hive_model.specs.Forms.{key_node_text, key_value_text, big_data_text, offsets_text}
+use Rattle.hive_model.specs.KeyNode.{key_node_text}
+use Rattle.hive_model.specs.KeyValue.{key_value_text}
+use Rattle.hive_model.specs.BigData.{big_data_text}
+use Rattle.hive_model.specs.Lists.{offsets_text}
 use Rattle.hive_model.specs.Packed.{cell_text, text, data_place, item_form, segment_places, segments, big_cells, data_cells, item_cells, cells_of_items, item_places, items_cells, descriptor_place, own_place, ring, ring_of_all, sharers_of_all, Above, below, values_place, list_place, children_place, node_of, class_cells, security_cells, head_cells, list_cells, places, hint, cells_of, cells_of_all}
 use Rattle.reg_tree.proofs.Trees.{listed_trees, trees_listed}
 use Rattle.hive_pack.specs.Numbers.{HeadNumbers, HasNumbers, AllHaveNumbers}

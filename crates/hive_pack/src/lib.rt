@@ -14,8 +14,6 @@ mod numbers;
 mod ring;
 mod security;
 mod sizes;
-#[cfg(test)]
-mod tests;
 mod values;
 mod write;
 
@@ -24,3 +22,6 @@ pub use laws::{
     packed_cells_are_well_formed, packed_form_is_its_bins, packed_tree_stands,
     security_cells_are_a_ring, security_cells_count_their_keys,
 };
+pub use lists::part_starts;
+pub use sizes::{cell_size, list_len, part_count};
+pub use values::put_cell;

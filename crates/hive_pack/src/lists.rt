@@ -5,7 +5,7 @@ ghost use Rattle.std.specs.Prelude.{slice_index, true};
 ghost use Rattle.nt_bytes.specs.declared.version.HiveVersion.{HiveVersion};
 ghost use Rattle.hive_model.specs.Tree.{Tree, head};
 ghost use Rattle.hive_model.specs.Size.{is_narrow, part_count, list_size};
-ghost use Rattle.hive_model.specs.Forms.{hint_of, hash_of};
+ghost use Rattle.hive_model.specs.Lists.{hint_of, hash_of};
 ghost use Rattle.hive_model.specs.Packed.{text, cell_text, hint, part_places, list_text, parts, list_cells};
 
 use crate::sizes::{cell_size, is_narrow, part_count};
@@ -146,7 +146,7 @@ fn write_parts(
 }
 
 /// Where full lists begin that stand one behind another, so many of them.
-fn part_starts(alloc: Global, count: usize, at: usize) -> Result<Vec<u32>, AllocError>
+pub fn part_starts(alloc: Global, count: usize, at: usize) -> Result<Vec<u32>, AllocError>
     requires { at + 4008 * count < 4294967296 }
     ensures { IfOk result (λ v. v.items ≡ part_places count at) }
 {

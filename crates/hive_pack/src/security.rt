@@ -128,7 +128,8 @@ pub(crate) fn write_security(
     requires rising { IsRising up.ring.now }
     requires room { length out.old + security_size up.security.now security.now ≤ 16777216 }
     requires few { sharers_of_all security.now (trees keys.now) ≤ 16777216 }
-    ensures { OnOk result (out.new ≡ out.old ++ text (security_cells (above up.entry) (length out.old) security.now (sharers_of_all security.now (trees keys.now)))) }
+    ensures { OnOk result (out.new ≡ out.old
+        ++ text (security_cells (above up.entry) (length out.old) security.now (sharers_of_all security.now (trees keys.now)))) }
 {
     if is_own(up.security, security) {
         let at = out.len() as u32;

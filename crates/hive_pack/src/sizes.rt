@@ -14,7 +14,8 @@ pub(crate) const SEGMENT: usize = 16344;
 /// How many bytes the cell of a full segment takes.
 pub(crate) const SEGMENT_CELL: usize = 16352;
 
-pub(crate) fn cell_size(payload: usize) -> usize
+/// How many bytes a cell takes, by those of its payload.
+pub fn cell_size(payload: usize) -> usize
     requires { payload ≤ 16777216 }
     ensures { result ≡ cell payload }
 {
@@ -147,14 +148,15 @@ pub(crate) fn values_len(version: HiveVersion, values: &[Value]) -> usize
 }
 
 /// How many lists so many children fill.
-pub(crate) fn part_count(n: usize) -> usize
+pub fn part_count(n: usize) -> usize
     requires { n ≤ 16777216 }
     ensures { result ≡ part_count n }
 {
     (n + 499) / 500
 }
 
-pub(crate) fn list_len(n: usize) -> usize
+/// How many bytes the lists of so many children take.
+pub fn list_len(n: usize) -> usize
     requires { n ≤ 16777216 }
     ensures { result ≡ list_size n }
 {

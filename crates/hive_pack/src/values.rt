@@ -4,7 +4,7 @@ ghost use Rattle.std.specs.Prelude.{◌≡◌, ◌≤◌, ◌<◌, ◌+◌, ◌*
 ghost use Rattle.std.specs.List.{All};
 ghost use Rattle.hive_model.specs.Valid.{IsItem};
 ghost use Rattle.hive_model.specs.Size.{segment_count, data_size, item_size, items_sum, items_size, class_size};
-ghost use Rattle.hive_model.specs.Forms.{offsets_text};
+ghost use Rattle.hive_model.specs.Lists.{offsets_text};
 ghost use Rattle.hive_model.specs.Packed.{text, cell_text, segment_places, segments, big_cells, data_cells, item_cells, cells_of_items, item_places, items_cells, class_cells};
 ghost use Rattle.hive_pack.specs.Writes.{big_size};
 
@@ -17,7 +17,7 @@ use std::alloc::{AllocError, Global};
 
 /// Writes a cell with this payload, filled with zeros.
 #[tactic(auto, unfolding(hive_model::specs::Packed::filled), using(crate::proofs::Rows::cell_text_is))]
-pub(crate) fn put_cell(out: &mut Bytes, payload: &[u8]) -> Result<(), AllocError>
+pub fn put_cell(out: &mut Bytes, payload: &[u8]) -> Result<(), AllocError>
     requires { length payload.now ≤ 16777216 }
     ensures { OnOk result (out.new ≡ out.old ++ cell_text payload.now) }
 {

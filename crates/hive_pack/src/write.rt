@@ -4,7 +4,7 @@ ghost use Rattle.std.specs.Prelude.{◌≡◌, ◌+◌, ◌≤◌, ◌++◌, len
 ghost use Rattle.hive_model.specs.Tree.{head, children, trees};
 ghost use Rattle.hive_model.specs.Valid.{HoldsKeys, AllHoldKeys};
 ghost use Rattle.hive_model.specs.Size.{size, size_of_all};
-ghost use Rattle.hive_model.specs.Forms.{key_node_text};
+ghost use Rattle.hive_model.specs.KeyNode.{key_node_text};
 ghost use Rattle.hive_model.specs.Packed.{text, cell_text, node_of, head_cells, places, cells_of, cells_of_all};
 ghost use Rattle.hive_pack.specs.Writes.{above, IsRising};
 
@@ -28,7 +28,8 @@ fn write_node(
 ) -> Result<(), AllocError>
     requires valid { HoldsKeys key.now }
     requires room { length out.old + size version up.security.now key.now ≤ 16777216 }
-    ensures { OnOk result (out.new ≡ out.old ++ cell_text (key_node_text (node_of version (above up.entry) (length out.old) (head key.now) (children key.now)))) }
+    ensures { OnOk result (out.new ≡ out.old
+        ++ cell_text (key_node_text (node_of version (above up.entry) (length out.old) (head key.now) (children key.now)))) }
 {
     let form = node_form(alloc, version, up, out.len(), key)?;
     let cell = nk_bytes(alloc, &form)?;

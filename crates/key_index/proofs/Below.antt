@@ -7,7 +7,8 @@ use Rattle.std.proofs.lemmas.Bool.{ne_eqb}
 use Rattle.nt_bytes.specs.declared.fault.HiveKind.{HiveKind}
 use Rattle.nt_bytes.specs.declared.fault.HiveKind.TheVariants.{FormKind}
 use Rattle.hive_model.specs.Bins.{Cells}
-use Rattle.hive_model.specs.Forms.{◌>>=◌, SubkeyList, list_at}
+use Rattle.hive_model.specs.Forms.{◌>>=◌}
+use Rattle.hive_model.specs.Lists.{SubkeyList, list_at}
 use Rattle.hive_model.specs.Walk.{reading, below_of, leaves_checks, entries_checks, is_list_of_lists, leaf_at, joined_at, entries_of, entries_at}
 use Rattle.hive_model.specs.Footprint.{of_read, used_in}
 use Rattle.key_index.specs.Lists.{AreLists, AreRead, IsNode, ListsSiblings, NamesDiffer, children_at, lists_at, lists_lists, offsets_of, offsets_in_list, offsets_in_lists, payload_in}

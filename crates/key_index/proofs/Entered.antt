@@ -7,7 +7,7 @@ use Rattle.std.proofs.lemmas.Bool.{eqb-true, ltb-false}
 use Rattle.nt_bytes.specs.declared.fault.HiveKind.{HiveKind}
 use Rattle.nt_bytes.specs.declared.fault.HiveKind.TheVariants.{FormShort, FormSign}
 use Rattle.nt_bytes.specs.Fields.{u16_in, u32_in}
-use Rattle.hive_model.specs.Forms.{ListKind, Li, Lf, Lh, Ri, SubkeyList, numbers_in, list_of, list_at}
+use Rattle.hive_model.specs.Lists.{ListKind, Li, Lf, Lh, Ri, SubkeyList, numbers_in, list_of, list_at}
 use Rattle.hive_model.specs.Walk.{is_list_of_lists}
 use Rattle.hive_model.specs.Footprint.{of_read}
 use Rattle.key_index.specs.Lists.{offsets_of, entry_size, lists_lists}

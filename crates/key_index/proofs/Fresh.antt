@@ -5,7 +5,7 @@ use Rattle.std.specs.List.{Contains}
 use Rattle.std.proofs.lemmas.Bool.{ne_eqb, le-ltb, lt-ltb, cases_lt}
 use Rattle.hive_model.specs.Size.{cell, part_count, list_size}
 use Rattle.hive_model.specs.Bins.{Cells}
-use Rattle.hive_model.specs.Forms.{list_at, AreOffsets, AreHints}
+use Rattle.hive_model.specs.Lists.{list_at, AreOffsets, AreHints}
 use Rattle.hive_model.specs.Walk.{Check, uses, tests, is_list_of_lists, leaf_at, leaves_checks, entries_checks, AreUsedOnce}
 use Rattle.hive_model.specs.Packed.{part_places, list_cells}
 use Rattle.hive_model.specs.Footprint.{used_in}

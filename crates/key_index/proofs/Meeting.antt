@@ -7,7 +7,8 @@ use Rattle.std.proofs.lemmas.List.Elements.{All-cons, All-nil}
 use Rattle.nt_bytes.specs.declared.fault.HiveKind.{HiveKind}
 use Rattle.nt_bytes.specs.Folding.{folds_same}
 use Rattle.hive_model.specs.Bins.{Cells}
-use Rattle.hive_model.specs.Forms.{KeyNode, SubkeyList, key_node_at, list_at}
+use Rattle.hive_model.specs.KeyNode.{KeyNode, key_node_at}
+use Rattle.hive_model.specs.Lists.{SubkeyList, list_at}
 use Rattle.hive_model.specs.Tree.{Tree, Trees, key, none, more, listed, head}
 use Rattle.hive_model.specs.Walk.{Check, uses, tests, clash, clashes, reading, entries_at, below_of, is_list_of_lists, leaves_checks, entries_checks, AreUsedOnce}
 use Rattle.hive_model.specs.Footprint.{of_read, used_in}

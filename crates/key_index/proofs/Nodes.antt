@@ -6,7 +6,9 @@ use Rattle.std.proofs.lemmas.Bool.{ltb-false}
 use Rattle.nt_bytes.specs.declared.fault.HiveKind.{HiveKind}
 use Rattle.nt_bytes.specs.declared.fault.HiveKind.TheVariants.{FormShort, FormSign, FormLength, FormName}
 use Rattle.nt_bytes.specs.Fields.{u16_in}
-use Rattle.hive_model.specs.Forms.{◌>>=◌, stored_name, has_half_unit, is_bad_key_name, is_narrow_key, key_name_at, KeyNode, key_node_in, key_node_at}
+use Rattle.hive_model.specs.Forms.{◌>>=◌}
+use Rattle.hive_model.specs.StoredNames.{stored_name, has_half_unit, is_bad_key_name, key_name_at}
+use Rattle.hive_model.specs.KeyNode.{is_narrow_key, KeyNode, key_node_in, key_node_at}
 use Rattle.hive_model.specs.Footprint.{of_read}
 use Rattle.key_index.specs.Lists.{name_of}
 use Rattle.key_index.proofs.Tests.{done, value_of, unless, only_if, then_so, ok_same}

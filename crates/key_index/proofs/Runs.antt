@@ -17,7 +17,7 @@ use Rattle.nt_bytes.specs.declared.version.HiveVersion.TheVariants.{V3, V5}
 use Rattle.nt_bytes.specs.declared.fault.HiveKind.{HiveKind}
 use Rattle.hive_model.specs.Size.{cell, is_narrow, part_count, list_size}
 use Rattle.hive_model.specs.Bins.{Cell, Bin, Cells, cell_size, cells_size, bin_size, bins_size, cell_bytes, IsCell, in_cells, in_bins, or_else, payload_at, look_up}
-use Rattle.hive_model.specs.Forms.{AreOffsets, AreHints, list_at, offsets_text, ri_text}
+use Rattle.hive_model.specs.Lists.{AreOffsets, AreHints, list_at, offsets_text, ri_text}
 use Rattle.hive_model.specs.Packed.{filled, allocated_cell, cell_text, text, rounded, part_places, list_cells, name_hint, parts}
 use Rattle.hive_model.specs.Footprint.{of_read, list_sizes, room_of, list_strain_of}
 use Rattle.hive_model.proofs.Spelling.{length_offsets}

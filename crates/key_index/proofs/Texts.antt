@@ -3,7 +3,7 @@ use Rattle.std.proofs.Common.{◌≡◌, ◌<◌, ◌-◌, ◌++◌, ℕ, zero, 
 use Rattle.std.specs.Int.{w16, to_le_bytes}
 use Rattle.nt_bytes.specs.declared.version.HiveVersion.{HiveVersion}
 use Rattle.nt_bytes.specs.declared.version.HiveVersion.TheVariants.{V3, V5}
-use Rattle.hive_model.specs.Forms.{entries_text, lf_text, lh_text}
+use Rattle.hive_model.specs.Lists.{entries_text, lf_text, lh_text}
 use Rattle.hive_model.specs.Packed.{list_text, parts}
 use Rattle.key_index.specs.Lists.{second_of}
 

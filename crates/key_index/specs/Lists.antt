@@ -8,7 +8,8 @@ use Rattle.nt_bytes.specs.Folding.{folds_same, folded_order}
 use Rattle.nt_bytes.specs.declared.version.HiveVersion.{HiveVersion}
 use Rattle.nt_bytes.specs.declared.version.HiveVersion.TheVariants.{V3, V5}
 use Rattle.hive_model.specs.Bins.{Cells}
-use Rattle.hive_model.specs.Forms.{key_node_at, list_at}
+use Rattle.hive_model.specs.KeyNode.{key_node_at}
+use Rattle.hive_model.specs.Lists.{list_at}
 use Rattle.hive_model.specs.Walk.{entries_at, entries_checks}
 use Rattle.hive_model.specs.Packed.{name_hint}
 use Rattle.hive_model.specs.Footprint.{of_read, used_in, is_node_named}

@@ -5,7 +5,7 @@ ghost use Rattle.std.specs.Option.{IsSome};
 ghost use Rattle.std.specs.List.{All};
 ghost use Rattle.hive_model.specs.Bins.{bins_size, look_up};
 ghost use Rattle.hive_model.specs.Size.{list_size};
-ghost use Rattle.hive_model.specs.Forms.{AreHints, AreOffsets, offsets_text};
+ghost use Rattle.hive_model.specs.Lists.{AreHints, AreOffsets, offsets_text};
 ghost use Rattle.hive_model.specs.Packed.{text, part_places, list_cells};
 ghost use Rattle.hive_cells.specs.Held.{held_at};
 ghost use Rattle.hive_cells.specs.Holes.{IsHole};
@@ -15,10 +15,11 @@ ghost use Rattle.key_index.specs.Sources.{cells_of};
 
 use crate::children::{insert, read_children, read_list_cells, remove};
 use crate::hints::hints;
-use crate::lists::{first_part, list_len, part_count, write_lists};
+use crate::lists::{first_part, write_lists};
 use crate::removal::Removal;
 use crate::source::Source;
 use hive_cells::OpenHeap;
+use hive_pack::{list_len, part_count};
 use nt_bytes::{Bytes, HiveVersion};
 use std::alloc::{AllocError, Global};
 

@@ -2,7 +2,7 @@
 
 ghost use Rattle.std.specs.Prelude.{◌≡◌, ◌<◌, length, slice_index};
 ghost use Rattle.std.specs.Result.{IsOk};
-ghost use Rattle.hive_model.specs.Forms.{list_at};
+ghost use Rattle.hive_model.specs.Lists.{list_at};
 ghost use Rattle.key_index.specs.Lists.{entry_size, lists_lists, offsets_of};
 
 use nt_bytes::{u16_at, u32_at};

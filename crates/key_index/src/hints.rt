@@ -4,7 +4,7 @@ ghost use Rattle.std.specs.Prelude.{◌≡◌, map, true, slice_index, take, IfO
 ghost use Rattle.std.specs.List.{All};
 ghost use Rattle.nt_bytes.specs.declared.version.HiveVersion.{HiveVersion};
 ghost use Rattle.hive_model.specs.Size.{is_narrow};
-ghost use Rattle.hive_model.specs.Forms.{hint_of};
+ghost use Rattle.hive_model.specs.Lists.{hint_of};
 ghost use Rattle.hive_model.specs.Packed.{name_hint};
 ghost use Rattle.key_index.specs.Lists.{IsNode, hint_in, hints_in};
 ghost use Rattle.key_index.specs.Sources.{cells_of};

@@ -2,7 +2,7 @@
 
 ghost use Rattle.std.specs.Prelude.{◌≡◌, ℕ, Ok};
 ghost use Rattle.hive_model.specs.Bins.{Cells};
-ghost use Rattle.hive_model.specs.Forms.{KeyNode, key_node_at};
+ghost use Rattle.hive_model.specs.KeyNode.{KeyNode, key_node_at};
 ghost use Rattle.hive_model.specs.Tree.{Tree};
 ghost use Rattle.hive_model.specs.Walk.{reading, entries_checks, AreUsedOnce};
 ghost use Rattle.hive_model.specs.Stands.{Stands, HasApartNames};

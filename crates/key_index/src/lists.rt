@@ -1,60 +1,15 @@
 //! The subkey lists, written one behind another.
 
-ghost use Rattle.std.specs.Prelude.{◌≡◌, ◌≤◌, ◌<◌, ◌+◌, ◌*◌, ◌++◌, length, OnOk, IfOk};
+ghost use Rattle.std.specs.Prelude.{◌≡◌, ◌≤◌, ◌+◌, ◌*◌, ◌++◌, length, OnOk, IfOk};
 ghost use Rattle.hive_model.specs.Size.{cell, part_count, list_size};
-ghost use Rattle.hive_model.specs.Forms.{AreHints, entries_text, lf_text, lh_text};
+ghost use Rattle.hive_model.specs.Lists.{AreHints, entries_text, lf_text, lh_text};
 ghost use Rattle.key_index.specs.Lists.{second_of};
-ghost use Rattle.hive_model.specs.Packed.{text, cell_text, part_places, list_text, parts, list_cells};
+ghost use Rattle.hive_model.specs.Packed.{text, cell_text, list_text, parts, list_cells};
 
 use cell_forms::ri_bytes;
+use hive_pack::{cell_size, part_count, part_starts, put_cell};
 use nt_bytes::{Bytes, HiveVersion};
 use std::alloc::{AllocError, Global};
-
-fn cell_size(payload: usize) -> usize
-    requires { payload ≤ 16777216 }
-    ensures { result ≡ cell payload }
-{
-    (payload + 11) / 8 * 8
-}
-
-/// How many lists so many children fill.
-pub(crate) fn part_count(n: usize) -> usize
-    requires { n ≤ 16777216 }
-    ensures { result ≡ part_count n }
-{
-    (n + 499) / 500
-}
-
-/// How many bytes the lists of so many children take.
-pub(crate) fn list_len(n: usize) -> usize
-    requires { n ≤ 2097152 }
-    ensures { result ≡ list_size n }
-{
-    if n == 0 {
-        return 0;
-    }
-    if n < 501 {
-        return cell_size(4 + 8 * n);
-    }
-    let lists = cell_size(4 + 4 * part_count(n)) + n / 500 * 4008;
-    if n % 500 == 0 {
-        lists
-    } else {
-        lists + cell_size(4 + 8 * (n % 500))
-    }
-}
-
-/// Writes a cell with this payload, filled with zeros.
-#[tactic(auto, unfolding(hive_model::specs::Packed::filled), using(hive_pack::proofs::Rows::cell_text_is))]
-fn put_cell(out: &mut Bytes, payload: &[u8]) -> Result<(), AllocError>
-    requires { length payload.now ≤ 16777216 }
-    ensures { OnOk result (out.new ≡ out.old ++ cell_text payload.now) }
-{
-    let size = cell_size(payload.len());
-    out.put_u32((4294967296 - size as u64) as u32)?;
-    out.append(payload)?;
-    out.append_zeros(size - 4 - payload.len())
-}
 
 fn append_entries(out: &mut Bytes, offsets: &[u32], hints: &[[u8; 4]]) -> Result<(), AllocError>
     requires { length offsets.now ≡ length hints.now }
@@ -148,22 +103,6 @@ fn write_parts(
         left -= 1;
     }
     Ok(())
-}
-
-/// Where full lists begin that stand one behind another, so many of them.
-fn part_starts(alloc: Global, count: usize, at: usize) -> Result<Vec<u32>, AllocError>
-    requires { at + 4008 * count < 4294967296 }
-    ensures { IfOk result (λ v. v.items ≡ part_places count at) }
-{
-    let mut starts = Vec::new(alloc);
-    let mut left = count;
-    let mut place = at;
-    'starts: while left > 0 {
-        starts.push(place as u32)?;
-        place += 4008;
-        left -= 1;
-    }
-    Ok(starts)
 }
 
 /// Writes the list of lists and its lists.

@@ -5,7 +5,8 @@ ghost use Rattle.std.specs.Result.{IsOk};
 ghost use Rattle.nt_bytes.specs.Fields.{u16_in};
 ghost use Rattle.nt_bytes.specs.Folding.{folded_order};
 ghost use Rattle.nt_bytes.specs.Text.{wide_of};
-ghost use Rattle.hive_model.specs.Forms.{is_narrow_key, key_node_at, stored_name};
+ghost use Rattle.hive_model.specs.StoredNames.{stored_name};
+ghost use Rattle.hive_model.specs.KeyNode.{is_narrow_key, key_node_at};
 ghost use Rattle.key_index.specs.Lists.{IsNode, name_of, name_in};
 ghost use Rattle.key_index.specs.Sources.{cells_of};
 

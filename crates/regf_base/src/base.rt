@@ -37,9 +37,31 @@ impl Model for BaseBlock {
 
     ghost Value = { Base };
 
-    ghost view = { λ a. record { first = a.first; second = a.second; stamp = a.stamp; minor = a.minor; kind = a.kind; root = a.root; size = a.size; cluster = a.cluster; name = a.name; rest = a.rest } };
+    ghost view = { λ a. record {
+      first = a.first;
+      second = a.second;
+      stamp = a.stamp;
+      minor = a.minor;
+      kind = a.kind;
+      root = a.root;
+      size = a.size;
+      cluster = a.cluster;
+      name = a.name;
+      rest = a.rest;
+    } };
 
-    ghost inverse = { λ b. record { first = b.first; second = b.second; stamp = b.stamp; minor = b.minor; kind = b.kind; root = b.root; size = b.size; cluster = b.cluster; name = b.name; rest = b.rest } };
+    ghost inverse = { λ b. record {
+      first = b.first;
+      second = b.second;
+      stamp = b.stamp;
+      minor = b.minor;
+      kind = b.kind;
+      root = b.root;
+      size = b.size;
+      cluster = b.cluster;
+      name = b.name;
+      rest = b.rest;
+    } };
 }
 
 impl BaseBlock {

@@ -1,7 +1,7 @@
 use Rattle.std.proofs.Common.{◌≡◌, ◌++◌, length}
 use Rattle.std.specs.Prelude.{map}
 use Rattle.std.specs.Int.{w32, to_le_bytes}
-use Rattle.hive_model.specs.Forms.{entries_text}
+use Rattle.hive_model.specs.Lists.{entries_text}
 use Rattle.cell_forms.proofs.list_texts.append_hashed.Given as goal
 
 abbrev pub invariant-entries : goal.invariant-entries

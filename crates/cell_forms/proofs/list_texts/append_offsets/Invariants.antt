@@ -1,5 +1,5 @@
 use Rattle.std.proofs.Common.{◌≡◌, ◌++◌, length}
-use Rattle.hive_model.specs.Forms.{offsets_text}
+use Rattle.hive_model.specs.Lists.{offsets_text}
 use Rattle.cell_forms.proofs.list_texts.append_offsets.Given as goal
 
 abbrev pub invariant-entries : goal.invariant-entries

@@ -1,5 +1,5 @@
 use Rattle.std.proofs.Common.{◌≡◌, length}
-use Rattle.hive_model.specs.Forms.{hash_from, hash_of}
+use Rattle.hive_model.specs.Lists.{hash_from, hash_of}
 use Rattle.cell_forms.proofs.list_texts.name_hash.Given as goal
 
 abbrev pub invariant-units : goal.invariant-units

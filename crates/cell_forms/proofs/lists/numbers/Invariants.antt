@@ -1,5 +1,5 @@
 use Rattle.std.proofs.Common.{◌≡◌, ◌≤◌, ◌*◌, ◌++◌, length}
-use Rattle.hive_model.specs.Forms.{numbers_in}
+use Rattle.hive_model.specs.Lists.{numbers_in}
 use Rattle.cell_forms.proofs.lists.numbers.Given as goal
 
 abbrev pub invariant-loop-left : goal.invariant-loop-left

@@ -1,5 +1,5 @@
 use Rattle.std.proofs.Common.{◌≡◌, ◌++◌, length}
-use Rattle.hive_model.specs.Forms.{wide_text}
+use Rattle.hive_model.specs.StoredNames.{wide_text}
 use Rattle.cell_forms.proofs.names.append_wide.Given as goal
 
 abbrev pub invariant-pairs : goal.invariant-pairs

@@ -23,17 +23,17 @@ write_key-requires-clause-rising c =
 
 pub put_free-requires-clause-whole : goal.put_free-requires-clause-whole
 put_free-requires-clause-whole c =
-    let k = after_nothing c.new-out.result c.append_zeros.new.self (zeros 32) c.new-out.ensures c.in_ok-append_zeros.ensures in
+    let k = after_nothing c.new-out.result c.append_zeros.new.self (zeros 32) c.new-out.ensures c.in_ok-append_zeros.ensures.ok in
     omega (arith, length_whole c.args.version c.deref.result.now c.args.tree.now c.append_zeros.new.self c.write_key.new.out k c.in_ok-write_key.ensures, c.len-used.ensures, eights c.args.version [] c.args.tree.now)
 
 pub overflow_cast-size : goal.overflow_cast-size
 overflow_cast-size c =
-    let k = after_nothing c.new-out.result c.append_zeros.new.self (zeros 32) c.new-out.ensures c.in_ok-append_zeros.ensures in
+    let k = after_nothing c.new-out.result c.append_zeros.new.self (zeros 32) c.new-out.ensures c.in_ok-append_zeros.ensures.ok in
     omega (arith, length_whole c.args.version c.deref.result.now c.args.tree.now c.append_zeros.new.self c.write_key.new.out k c.in_ok-write_key.ensures, c.len-used.ensures, c.requires.room)
 
 pub overwrite-requires : goal.overwrite-requires
 overwrite-requires c =
-    let k = after_nothing c.new-out.result c.append_zeros.new.self (zeros 32) c.new-out.ensures c.in_ok-append_zeros.ensures in
+    let k = after_nothing c.new-out.result c.append_zeros.new.self (zeros 32) c.new-out.ensures c.in_ok-append_zeros.ensures.ok in
     let size = rounded c.len-used.result in
     omega (
       arith,
@@ -46,7 +46,7 @@ overwrite-requires c =
 
 pub returns-clause-bytes : goal.returns-clause-bytes
 returns-clause-bytes c =
-    let k = after_nothing c.new-out.result c.append_zeros.new.self (zeros 32) c.new-out.ensures c.in_ok-append_zeros.ensures in
+    let k = after_nothing c.new-out.result c.append_zeros.new.self (zeros 32) c.new-out.ensures c.in_ok-append_zeros.ensures.ok in
     let r = after_nothing c.new-ring.result.items c.ring_of.new.ring.items (ring c.args.version [] 32 c.args.tree.now) c.new-ring.ensures.items c.in_ok-_end.ensures.listed in
     whole_written c.args.version c.deref.result.now c.args.tree.now c.append_zeros.new.self c.write_key.new.out c.put_free.new.out c.as_slice.result.now c.overwrite.new.self _ _ (c.deref.ensures.value ∙ r) k c.in_ok-write_key.ensures
     (ap rounded c.len-used.ensures) (ap (λ (n : ℕ). rounded c.len-used.result - n) c.len-used.ensures) c.in_ok-put_free.ensures (c.as_slice.ensures ∙ c.in_ok-header.ensures) c.overwrite.ensures

@@ -1,6 +1,6 @@
 use Rattle.std.proofs.Common.{◌≡◌, take, map}
 use Rattle.hive_model.specs.Tree.{Tree, head}
-use Rattle.hive_model.specs.Forms.{hash_of}
+use Rattle.hive_model.specs.Lists.{hash_of}
 use Rattle.hive_pack.proofs.lists.hashes.Given as goal
 
 abbrev pub invariant-loop-key : goal.invariant-loop-key

@@ -1,6 +1,6 @@
 use Rattle.std.proofs.Common.{List, ℕ, map, ap, ◌∙◌}
 use Rattle.std.specs.Int.{w32, to_le_bytes}
-use Rattle.hive_model.specs.Forms.{lh_text}
+use Rattle.hive_model.specs.Lists.{lh_text}
 use Rattle.hive_pack.proofs.Parts.{hashes_are}
 use Rattle.hive_pack.proofs.Written.{if_ok}
 use Rattle.hive_pack.proofs.lists.lh_list.Goals as goal

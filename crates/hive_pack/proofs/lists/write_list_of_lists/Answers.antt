@@ -1,6 +1,6 @@
 use Rattle.std.proofs.Common.{◌≡◌, ◌+◌, ◌*◌, ◌++◌, List, ℕ, length, map, sym, ap, ◌∙◌, append_assoc, arith}
 use Rattle.hive_model.specs.Size.{cell, part_count}
-use Rattle.hive_model.specs.Forms.{ri_text}
+use Rattle.hive_model.specs.Lists.{ri_text}
 use Rattle.hive_model.specs.Packed.{cell_text, text, hint, part_places, parts}
 use Rattle.hive_model.proofs.Spelling.{length_ri}
 use Rattle.hive_pack.proofs.Rows.{length_part_places, many_lists, lists_many}

@@ -4,7 +4,7 @@ use Rattle.std.specs.List.{All}
 use Rattle.hive_model.specs.Tree.{Item}
 use Rattle.hive_model.specs.Valid.{IsItem}
 use Rattle.hive_model.specs.Size.{items_sum}
-use Rattle.hive_model.specs.Forms.{offsets_text}
+use Rattle.hive_model.specs.Lists.{offsets_text}
 use Rattle.hive_model.specs.Packed.{text, cells_of_items, item_places}
 use Rattle.reg_tree.proofs.Outcomes.{uncons}
 use Rattle.hive_pack.proofs.Written.{value_next, value_next_place}

@@ -2,7 +2,7 @@ use Rattle.std.proofs.Common.{◌≡◌, ◌≤◌, ◌+◌, ◌++◌, length}
 use Rattle.std.specs.List.{All}
 use Rattle.hive_model.specs.Valid.{IsItem}
 use Rattle.hive_model.specs.Size.{items_sum}
-use Rattle.hive_model.specs.Forms.{offsets_text}
+use Rattle.hive_model.specs.Lists.{offsets_text}
 use Rattle.hive_model.specs.Packed.{text, cells_of_items, item_places}
 use Rattle.hive_pack.proofs.values.write_each_value.Given as goal
 

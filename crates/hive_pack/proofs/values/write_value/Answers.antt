@@ -1,5 +1,5 @@
 use Rattle.std.proofs.Common.{◌++◌, List, ℕ, length, ap, ◌∙◌, arith}
-use Rattle.hive_model.specs.Forms.{key_value_text}
+use Rattle.hive_model.specs.KeyValue.{key_value_text}
 use Rattle.hive_model.specs.Size.{data_size}
 use Rattle.hive_model.specs.Packed.{text, cell_text, item_form, data_cells}
 use Rattle.hive_pack.proofs.Rows.{data_few}

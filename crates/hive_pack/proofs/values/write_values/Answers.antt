@@ -1,6 +1,6 @@
 use Rattle.std.proofs.Common.{◌≡◌, List, ℕ, length, refl, ap, ◌∙◌, arith}
 use Rattle.std.proofs.lemmas.List.{length-append}
-use Rattle.hive_model.specs.Forms.{offsets_text}
+use Rattle.hive_model.specs.Lists.{offsets_text}
 use Rattle.hive_model.specs.Packed.{text, cell_text, cells_of_items, item_places}
 use Rattle.hive_pack.proofs.Rows.{length_values_list, length_cell}
 use Rattle.hive_pack.proofs.Written.{values_written, values_room, length-zeros, zeros}
@@ -25,7 +25,7 @@ overwrite-requires c =
       length_values_list c.args.version (length kept) vs,
       ap (λ (x : List ℕ). length x) c.in_ok-places.ensures.written,
       length-append kept (text (cells_of_items c.args.version (length kept) vs)),
-      ap (λ (x : List ℕ). length x) c.in_ok-append_zeros.ensures,
+      ap (λ (x : List ℕ). length x) c.in_ok-append_zeros.ensures.ok,
       length-append c.args.out.now (zeros c.cell_size.result),
       length-zeros c.cell_size.result,
       c.cell_size.ensures,
@@ -38,5 +38,5 @@ returns c =
     let list : c.as_slice-2.result.now ≡ cell_text (offsets_text (item_places c.args.version (length c.append_zeros.new.self) vs)) =
     c.as_slice-2.ensures ∙ c.in_ok-put_cell.ensures
     ∙ rw (c.new-list.ensures, c.as_slice.ensures, c.in_ok-places.ensures.places) refl in
-    values_written c.args.version c.args.out.now c.append_zeros.new.self c.write_each_value.new.out c.as_slice-2.result.now c.overwrite.new.self c.len-at.result c.cell_size.result vs (omega arith) c.len-at.ensures c.cell_size.ensures c.in_ok-append_zeros.ensures
+    values_written c.args.version c.args.out.now c.append_zeros.new.self c.write_each_value.new.out c.as_slice-2.result.now c.overwrite.new.self c.len-at.result c.cell_size.result vs (omega arith) c.len-at.ensures c.cell_size.ensures c.in_ok-append_zeros.ensures.ok
     c.in_ok-places.ensures.written list c.overwrite.ensures

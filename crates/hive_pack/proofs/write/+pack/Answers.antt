@@ -44,7 +44,7 @@ write_key-write_children-requires m c =
     let f = holds_parted t c.requires.valid in
     let n : c.list_len.result ≡ list_size (count (trees cs)) =
     c.list_len.ensures ∙ ap (λ (ks : List Tree). list_size (length ks)) (c.subkeys-keys.ensures ∙ sym (listed_trees cs)) in
-    let first = first_place c.args.version up (head t) (trees cs) old c.write_head.new.out c.append_zeros.new.self c.list_len.result c.in_ok-write_head.ensures n c.in_ok-append_zeros.ensures in
+    let first = first_place c.args.version up (head t) (trees cs) old c.write_head.new.out c.append_zeros.new.self c.list_len.result c.in_ok-write_head.ensures n c.in_ok-append_zeros.ensures.ok in
     let security = ap (λ (u : Above). u.security) c.below_up-mine.ensures in (
       omega (arith, weight_parted t, ap weights c.subkeys-keys.ensures),
       (
@@ -118,7 +118,7 @@ write_key-overwrite-requires m c =
     ∙ space_lists c.args.version c.len-list_at.result (head t).security (length two) (trees cs) in
     omega (
       arith,
-      list_room c.args.version (above c.below_up-mine.result) (head t) (trees cs) 0 c.write_head.new.out two c.write_children.new.out c.as_slice.result.now c.list_len.result n c.in_ok-append_zeros.ensures
+      list_room c.args.version (above c.below_up-mine.result) (head t) (trees cs) 0 c.write_head.new.out two c.write_children.new.out c.as_slice.result.now c.list_len.result n c.in_ok-append_zeros.ensures.ok
           (c.in_ok-places.ensures.written ∙ ap (λ (us : List Tree). two ++ text (cells_of_all c.args.version (above c.below_up-mine.result) (length two) (trees us))) c.subkeys-keys.ensures) len,
       c.len-list_at.ensures,
     )
@@ -142,5 +142,5 @@ write_key-returns m c =
     let list = lists_are c.args.version c.len-list_at.result (length two) c.below_up-mine.result.security.now (head t).security ks cs c.new-lists.result c.write_lists.new.out c.as_slice.result.now c.deref.result.now
     c.subkeys-keys.ensures security (c.deref.ensures.value ∙ c.in_ok-places.ensures.places) c.new-lists.ensures c.in_ok-write_lists.ensures c.as_slice.ensures in
     key_written c.args.version up (head t) (trees cs) old c.write_head.new.out two c.write_children.new.out c.as_slice.result.now c.overwrite.new.self c.len-list_at.result c.list_len.result c.in_ok-write_head.ensures c.len-list_at.ensures n
-    c.in_ok-append_zeros.ensures three list c.overwrite.ensures
+    c.in_ok-append_zeros.ensures.ok three list c.overwrite.ensures
     ∙ ap (λ (u : Tree). old ++ text (cells_of c.args.version up (length old) u)) (parted t)

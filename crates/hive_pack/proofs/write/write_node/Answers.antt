@@ -1,6 +1,6 @@
 use Rattle.std.proofs.Common.{List, ℕ, length, ap, ◌∙◌, arith}
 use Rattle.hive_model.specs.Tree.{head, children}
-use Rattle.hive_model.specs.Forms.{key_node_text}
+use Rattle.hive_model.specs.KeyNode.{key_node_text}
 use Rattle.hive_pack.specs.Writes.{above}
 use Rattle.hive_pack.proofs.Rows.{length_node}
 use Rattle.hive_pack.proofs.Written.{size_parted}

@@ -1,6 +1,6 @@
 use Rattle.std.proofs.Common.{◌≡◌, ◌+◌, ◌*◌, ◌++◌, ℕ, length, take, drop, sym, ap, ◌∙◌, arith}
 use Rattle.hive_model.specs.Size.{cell, part_count}
-use Rattle.hive_model.specs.Forms.{offsets_text}
+use Rattle.hive_model.specs.Lists.{offsets_text}
 use Rattle.hive_model.specs.Packed.{text, part_places}
 use Rattle.key_index.proofs.Runs.{few_moved, moved_is}
 use Rattle.key_index.proofs.change.moved.Goals as goal

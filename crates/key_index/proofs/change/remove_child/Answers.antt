@@ -2,7 +2,7 @@ use Rattle.std.proofs.Common.{List, sym, ap, subst, ◌∙◌}
 use Rattle.std.specs.List.{All}
 use Rattle.std.specs.Option.{IsSome}
 use Rattle.hive_model.specs.Bins.{Bin, look_up}
-use Rattle.hive_model.specs.Forms.{AreHints}
+use Rattle.hive_model.specs.Lists.{AreHints}
 use Rattle.hive_cells.specs.Held.{held_at}
 use Rattle.key_index.specs.Lists.{lists_at}
 use Rattle.key_index.proofs.Runs.{lists_held, hints_four}

@@ -1,5 +1,5 @@
 use Rattle.std.proofs.Common.{◌≡◌, ◌++◌, length}
-use Rattle.hive_model.specs.Forms.{entries_text}
+use Rattle.hive_model.specs.Lists.{entries_text}
 use Rattle.key_index.proofs.lists.append_entries.Given as goal
 
 abbrev pub invariant-entries : goal.invariant-entries

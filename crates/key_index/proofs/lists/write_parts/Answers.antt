@@ -1,6 +1,6 @@
 use Rattle.std.proofs.Common.{◌≡◌, ◌-◌, ◌++◌, List, ◌∷◌, ℕ, length, sym, ap, subst, ◌∙◌, append_assoc, arith}
 use Rattle.std.proofs.lemmas.List.{length-drop}
-use Rattle.hive_model.specs.Forms.{AreHints}
+use Rattle.hive_model.specs.Lists.{AreHints}
 use Rattle.hive_model.specs.Packed.{cell_text, text, list_text, parts}
 use Rattle.hive_pack.proofs.Rows.{hints_take, hints_drop}
 use Rattle.key_index.proofs.Texts.{parts_next}

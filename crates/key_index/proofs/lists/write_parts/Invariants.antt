@@ -1,5 +1,5 @@
 use Rattle.std.proofs.Common.{◌≡◌, ◌++◌, length}
-use Rattle.hive_model.specs.Forms.{AreHints}
+use Rattle.hive_model.specs.Lists.{AreHints}
 use Rattle.hive_model.specs.Packed.{text, parts}
 use Rattle.key_index.proofs.lists.write_parts.Given as goal
 

@@ -1,6 +1,6 @@
 use Rattle.std.proofs.Common.{List, ℕ, sym, ap, ◌∙◌}
 use Rattle.nt_bytes.specs.Folding.{folded_order}
-use Rattle.hive_model.specs.Forms.{stored_name}
+use Rattle.hive_model.specs.StoredNames.{stored_name}
 use Rattle.key_index.proofs.Nodes.{name_is}
 use Rattle.key_index.proofs.node.compare_node.Goals as goal
 

@@ -1,5 +1,5 @@
 use Rattle.std.proofs.Common.{sym, ◌∙◌}
-use Rattle.hive_model.specs.Forms.{stored_name}
+use Rattle.hive_model.specs.StoredNames.{stored_name}
 use Rattle.hive_pack.proofs.Written.{if_ok}
 use Rattle.key_index.proofs.Nodes.{name_is}
 use Rattle.key_index.proofs.node.read_name.Goals as goal
