@@ -7,7 +7,9 @@ use Rattle.nt_bytes.specs.Folding.{folds_same}
 use Rattle.nt_bytes.specs.declared.fault.HiveKind.{HiveKind}
 use Rattle.nt_bytes.specs.declared.fault.HiveKind.TheVariants.{Count, DoubleName}
 use Rattle.hive_model.specs.Bins.{Cells}
-use Rattle.hive_model.specs.Forms.{KeyNode, key_node_at, KeyValue, key_value_at, offsets_in}
+use Rattle.hive_model.specs.KeyNode.{KeyNode, key_node_at}
+use Rattle.hive_model.specs.KeyValue.{KeyValue, key_value_at}
+use Rattle.hive_model.specs.Lists.{offsets_in}
 use Rattle.hive_model.specs.Walk.{Check, uses, tests, reading, node_at, entries_at, below_of, use_as, failing, name_check, names_of, class_checks, security_checks, value_checks, values_in_turn, values_checks, entries_checks, keys_in_turn, children_checks, below_node, key_checks, clash, AreUsedOnce}
 use Rattle.hive_model.proofs.UsedOnce.{OnceBehind, once_from_pairs}
 use Rattle.hive_model.specs.Footprint.{of_read, used_in, child_places, security_cell_at, list_cells_at}

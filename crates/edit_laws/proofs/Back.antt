@@ -7,7 +7,10 @@ use Rattle.nt_bytes.specs.Folding.{folds_same}
 use Rattle.nt_bytes.specs.declared.fault.HiveKind.{HiveKind}
 use Rattle.nt_bytes.specs.declared.fault.HiveKind.TheVariants.{Count}
 use Rattle.hive_model.specs.Bins.{Cells}
-use Rattle.hive_model.specs.Forms.{KeyNode, key_node_at, KeyValue, key_value_at, offsets_in, security_at}
+use Rattle.hive_model.specs.KeyNode.{KeyNode, key_node_at}
+use Rattle.hive_model.specs.KeyValue.{KeyValue, key_value_at}
+use Rattle.hive_model.specs.Security.{security_at}
+use Rattle.hive_model.specs.Lists.{offsets_in}
 use Rattle.hive_model.specs.Walk.{Check, uses, tests, reading, nowhere, node_at, entries_at, below_of, use_as, failing, name_check, names_of, class_checks, security_checks, value_checks, values_in_turn, values_checks, entries_checks, keys_in_turn, children_checks, below_node, key_checks}
 use Rattle.hive_model.specs.Footprint.{of_read, of_key, key_place, used_in, child_places, is_node_named, security_cell_at, list_cells_at}
 use Rattle.edit_laws.specs.Owned.{Role, node, class, security, value_list, value, lists, In, first_or_empty, node_name, value_places, value_list_at, class_cell_at, HasValue, HasRole, Reaches, Folds, Extends, IsSecurity}

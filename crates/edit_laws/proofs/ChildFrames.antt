@@ -5,7 +5,7 @@ use Rattle.nt_bytes.specs.Folding.{folds_same}
 use Rattle.nt_bytes.specs.declared.fault.HiveKind.{HiveKind}
 use Rattle.hive_model.specs.Bins.{Cells}
 use Rattle.hive_model.specs.Tree.{Tree, Trees, key, listed, Head, head}
-use Rattle.hive_model.specs.Forms.{KeyNode}
+use Rattle.hive_model.specs.KeyNode.{KeyNode}
 use Rattle.hive_model.specs.Edit.{Step, make_key, copy_child, add_child, after_step}
 use Rattle.hive_model.specs.Walk.{names_of, value_checks}
 use Rattle.hive_model.specs.Footprint.{step_cells, used_in, child_places, list_cells_at, security_cell_at, has_key}

@@ -5,7 +5,7 @@ use Rattle.nt_bytes.specs.Folding.{folds_same}
 use Rattle.nt_bytes.specs.declared.fault.HiveKind.{HiveKind}
 use Rattle.hive_model.specs.Bins.{Cells}
 use Rattle.hive_model.specs.Tree.{Tree, Trees, key, Head}
-use Rattle.hive_model.specs.Forms.{KeyNode}
+use Rattle.hive_model.specs.KeyNode.{KeyNode}
 use Rattle.hive_model.specs.Edit.{delete_key, after_step}
 use Rattle.hive_model.specs.Walk.{names_of}
 use Rattle.hive_model.specs.Footprint.{step_cells, child_places, list_cells_at, parent_of}
@@ -32,7 +32,7 @@ use Rattle.edit_laws.proofs.ChildFrames.{reach_kept}
 -- ---- a child goes
 
 -- a path on from one that folds to a path
-extends_on : (a p : List (List ℕ)) (n m : List ℕ) (r : List (List ℕ)) → Folds a p → folds_same n m ≡ true
+pub extends_on : (a p : List (List ℕ)) (n m : List ℕ) (r : List (List ℕ)) → Folds a p → folds_same n m ≡ true
     → Extends (a ++ n ∷ []) (p ++ m ∷ r)
 extends_on [] [] n m r f e = (e, tt)
 extends_on [] (y ∷ p) n m r f e = absurd f

@@ -7,7 +7,10 @@ use Rattle.nt_bytes.specs.declared.fault.HiveKind.{HiveKind}
 use Rattle.hive_model.specs.Bins.{Cells}
 use Rattle.hive_model.specs.Tree.{Tree, head}
 use Rattle.hive_model.specs.Edit.{new_key}
-use Rattle.hive_model.specs.Forms.{◌>>=◌, KeyNode, key_node_in, key_node_at, bytes_in, SecurityCell, offsets_in}
+use Rattle.hive_model.specs.Forms.{◌>>=◌, bytes_in}
+use Rattle.hive_model.specs.KeyNode.{KeyNode, key_node_in, key_node_at}
+use Rattle.hive_model.specs.Security.{SecurityCell}
+use Rattle.hive_model.specs.Lists.{offsets_in}
 use Rattle.hive_model.specs.Walk.{reading, use_as, entries_at, class_checks, entries_checks, key_checks, all_checks}
 use Rattle.hive_model.specs.Footprint.{used_in, security_used_in, of_read, child_places, list_cells_at, security_cell_at}
 use Rattle.hive_model.specs.InPlace.{KeepsSecurity}

@@ -5,7 +5,7 @@ use Rattle.hive_model.specs.Bins.{Cells}
 use Rattle.hive_model.specs.Valid.{levels}
 use Rattle.hive_model.specs.Tree.{Tree, find_key, children, is_named}
 use Rattle.hive_model.specs.Edit.{make_key, delete_key, new_key, after_step, add_child, copy_child, renamed}
-use Rattle.hive_model.specs.Forms.{KeyNode, key_node_at}
+use Rattle.hive_model.specs.KeyNode.{KeyNode, key_node_at}
 use Rattle.hive_model.specs.Walk.{reading}
 use Rattle.hive_model.specs.Footprint.{key_place, has_key, child_places, security_cell_at}
 use Rattle.hive_model.specs.Stands.{Stands, IsWellFormed, HasApartNames}

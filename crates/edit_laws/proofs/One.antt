@@ -2,7 +2,7 @@
 use Rattle.std.proofs.Common.{◌≡◌, ℕ, Bool, true, false, List, [], ◌∷◌, length, Result, Ok, refl, sym, ap, subst, ◌∙◌}
 use Rattle.std.specs.Prelude.{MatchBool, ◌==◌}
 use Rattle.nt_bytes.specs.declared.fault.HiveKind.{HiveKind}
-use Rattle.hive_model.specs.Forms.{KeyNode, key_node_at}
+use Rattle.hive_model.specs.KeyNode.{KeyNode, key_node_at}
 use Rattle.hive_model.specs.Bins.{Cells}
 use Rattle.hive_model.specs.Tree.{Tree, Trees, key, none, more, Head}
 use Rattle.hive_model.specs.Walk.{reading, entries_at}

@@ -8,7 +8,11 @@ use Rattle.nt_bytes.specs.declared.fault.HiveKind.{HiveKind}
 use Rattle.nt_bytes.specs.declared.fault.HiveKind.TheVariants.{TooDeep, FormName, Count, DoubleName}
 use Rattle.hive_model.specs.Bins.{Cells}
 use Rattle.hive_model.specs.Size.{segment_bytes, is_big, segment_part}
-use Rattle.hive_model.specs.Forms.{◌>>=◌, KeyNode, key_node_at, KeyValue, key_value_at, data_inside, bytes_in, BigData, SubkeyList, list_at, offsets_in}
+use Rattle.hive_model.specs.Forms.{◌>>=◌, bytes_in}
+use Rattle.hive_model.specs.KeyNode.{KeyNode, key_node_at}
+use Rattle.hive_model.specs.KeyValue.{KeyValue, key_value_at, data_inside}
+use Rattle.hive_model.specs.BigData.{BigData}
+use Rattle.hive_model.specs.Lists.{SubkeyList, list_at, offsets_in}
 use Rattle.hive_model.specs.Walk.{Check, uses, tests, reading, node_at, leaf_at, is_list_of_lists, entries_at, below_of, use_as, failing, name_check, names_of, class_checks, security_checks, big_data_of, segments_checks, big_checks, data_checks, value_checks, values_in_turn, values_checks, leaves_checks, entries_checks, keys_in_turn, children_checks, below_node, key_checks}
 use Rattle.hive_model.specs.Footprint.{of_read, of_node, of_key, key_place, used_in, child_places, is_node_named, security_cell_at, list_cells_at}
 use Rattle.edit_laws.specs.Owned.{Role, node, class, security, value_list, value, lists, In, first_or_empty, node_name, value_name, value_places, value_list_at, class_cell_at, HasRole, Reaches, Folds, IsSecurity, IsBelow}

@@ -8,7 +8,10 @@ use Rattle.std.proofs.lemmas.Nat.{from_le_bytes-to_le_bytes_4}
 use Rattle.nt_bytes.specs.Fields.{u16_in, u32_in}
 use Rattle.nt_bytes.specs.declared.fault.HiveKind.{HiveKind}
 use Rattle.nt_bytes.specs.declared.fault.HiveKind.TheVariants.{FormShort, FormSign, FormLength}
-use Rattle.hive_model.specs.Forms.{◌>>=◌, KeyNode, is_narrow_key, key_name_at, key_node_in, key_node_at, KeyValue, is_narrow_value, is_overfull, value_name_at, key_value_in, key_value_at}
+use Rattle.hive_model.specs.Forms.{◌>>=◌}
+use Rattle.hive_model.specs.StoredNames.{key_name_at, value_name_at}
+use Rattle.hive_model.specs.KeyNode.{KeyNode, is_narrow_key, key_node_in, key_node_at}
+use Rattle.hive_model.specs.KeyValue.{KeyValue, is_narrow_value, is_overfull, key_value_in, key_value_at}
 use Rattle.hive_model.proofs.Spelling.{key_node_is, key_value_is}
 use Rattle.edit_laws.specs.Revalues.{SaysTheSame}
 use Rattle.edit_laws.specs.Written.{with_part, two_numbers, three_numbers, HasNewValues}

@@ -3,7 +3,10 @@ use Rattle.std.proofs.Common.{◌≡◌, ℕ, Bool, true, false, cond, List, [],
 use Rattle.std.specs.Prelude.{◌⊎◌, ◌==◌, if◌then◌else◌}
 use Rattle.nt_bytes.specs.declared.fault.HiveKind.{HiveKind}
 use Rattle.hive_model.specs.Bins.{Cells}
-use Rattle.hive_model.specs.Forms.{KeyNode, key_node_at, bytes_in, security_at, offsets_in}
+use Rattle.hive_model.specs.Forms.{bytes_in}
+use Rattle.hive_model.specs.KeyNode.{KeyNode, key_node_at}
+use Rattle.hive_model.specs.Security.{security_at}
+use Rattle.hive_model.specs.Lists.{offsets_in}
 use Rattle.hive_model.specs.Walk.{reading, nowhere, use_as, class_checks, security_checks, value_checks, entries_checks, entries_at}
 use Rattle.hive_model.specs.Footprint.{of_read, used_in, child_places, security_cell_at, list_cells_at}
 use Rattle.edit_laws.specs.Owned.{Role, node, class, security, value_list, value, lists, In, node_name, value_places, value_list_at, class_cell_at, HasValue, HasRole, Owns}

@@ -4,7 +4,10 @@ use Rattle.std.specs.Prelude.{MatchBool, ◌==◌, if◌then◌else◌, flat_map
 use Rattle.nt_bytes.specs.Folding.{folds_same}
 use Rattle.nt_bytes.specs.declared.fault.HiveKind.{HiveKind}
 use Rattle.hive_model.specs.Bins.{Cells}
-use Rattle.hive_model.specs.Forms.{◌>>=◌, KeyNode, key_node_at, bytes_in, security_at, offsets_in}
+use Rattle.hive_model.specs.Forms.{◌>>=◌, bytes_in}
+use Rattle.hive_model.specs.KeyNode.{KeyNode, key_node_at}
+use Rattle.hive_model.specs.Security.{security_at}
+use Rattle.hive_model.specs.Lists.{offsets_in}
 use Rattle.hive_model.specs.Tree.{Tree, Trees, key, trees, listed, Head}
 use Rattle.hive_model.specs.Walk.{reading, nowhere, value_checks, entries_at}
 use Rattle.hive_model.specs.Footprint.{of_read, used_in, child_places, security_cell_at, list_cells_at}

@@ -7,7 +7,9 @@ use Rattle.hive_model.specs.Bins.{Cells}
 use Rattle.hive_model.specs.Size.{is_big}
 use Rattle.hive_model.specs.Tree.{Tree, key}
 use Rattle.hive_model.specs.Edit.{set_value, after_step}
-use Rattle.hive_model.specs.Forms.{◌>>=◌, KeyNode, key_node_at, KeyValue, key_value_at, data_inside, bytes_in, is_overfull}
+use Rattle.hive_model.specs.Forms.{◌>>=◌, bytes_in}
+use Rattle.hive_model.specs.KeyNode.{KeyNode, key_node_at}
+use Rattle.hive_model.specs.KeyValue.{KeyValue, key_value_at, data_inside, is_overfull}
 use Rattle.hive_model.specs.Walk.{reading, value_checks, data_checks}
 use Rattle.hive_model.specs.Footprint.{key_place, used_in, is_value_named}
 use Rattle.hive_model.specs.Stands.{data_of, Stands, IsWellFormed}

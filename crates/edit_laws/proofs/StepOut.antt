@@ -6,7 +6,9 @@ use Rattle.nt_bytes.specs.declared.fault.HiveKind.{HiveKind}
 use Rattle.hive_model.specs.Bins.{Cells}
 use Rattle.hive_model.specs.Tree.{Tree}
 use Rattle.hive_model.specs.Edit.{Step, set_value, delete_value, make_key, delete_key, copy_child, add_child}
-use Rattle.hive_model.specs.Forms.{KeyNode, KeyValue, key_node_at, key_value_at, offsets_in}
+use Rattle.hive_model.specs.KeyNode.{KeyNode, key_node_at}
+use Rattle.hive_model.specs.KeyValue.{KeyValue, key_value_at}
+use Rattle.hive_model.specs.Lists.{offsets_in}
 use Rattle.hive_model.specs.Walk.{uses, reading, value_checks, key_checks}
 use Rattle.hive_model.specs.Footprint.{of_read, of_key, key_place, used_in, security_used_in, is_value_named, named_value_cells, value_cells_at, list_cells_at, security_cell_at, adding_cells, checks_below, named_keys, named_nodes, changed_cells, step_cells, parent_of, has_key}
 use Rattle.edit_laws.specs.Owned.{Role, node, security, value_list, value, lists, In, value_name, value_places, value_list_at, HasRole, Reaches, Owns, Folds, Extends, IsNode, IsLists, IsSecurity, IsOfValue, IsAdding, Matches, IsMatched}

@@ -5,7 +5,8 @@ use Rattle.nt_bytes.specs.declared.fault.HiveKind.TheVariants.{FormName}
 use Rattle.hive_model.specs.Bins.{Cells}
 use Rattle.hive_model.specs.Tree.{Tree, key}
 use Rattle.hive_model.specs.Edit.{Step}
-use Rattle.hive_model.specs.Forms.{◌>>=◌, KeyNode, key_node_at}
+use Rattle.hive_model.specs.Forms.{◌>>=◌}
+use Rattle.hive_model.specs.KeyNode.{KeyNode, key_node_at}
 use Rattle.hive_model.specs.Walk.{reading, node_at, all_checks}
 use Rattle.hive_model.specs.Footprint.{step_cells}
 use Rattle.hive_model.specs.Stands.{Stands, IsWellFormed}

@@ -4,7 +4,7 @@ use Rattle.nt_bytes.specs.Folding.{folds_same}
 use Rattle.hive_model.specs.Bins.{Cells}
 use Rattle.hive_model.specs.Tree.{Tree}
 use Rattle.hive_model.specs.Edit.{set_value, delete_value, has_item, after_step}
-use Rattle.hive_model.specs.Forms.{KeyNode, key_node_at}
+use Rattle.hive_model.specs.KeyNode.{KeyNode, key_node_at}
 use Rattle.hive_model.specs.Walk.{reading}
 use Rattle.hive_model.specs.Footprint.{key_place}
 use Rattle.hive_model.specs.Stands.{IsWellFormed}

@@ -4,7 +4,8 @@ use Rattle.std.specs.Prelude.{find, is_some}
 use Rattle.nt_bytes.specs.Folding.{folds_same}
 use Rattle.nt_bytes.specs.declared.fault.HiveKind.{HiveKind}
 use Rattle.hive_model.specs.Bins.{Cells}
-use Rattle.hive_model.specs.Forms.{◌>>=◌, KeyValue}
+use Rattle.hive_model.specs.Forms.{◌>>=◌}
+use Rattle.hive_model.specs.KeyValue.{KeyValue}
 use Rattle.hive_model.specs.Tree.{Tree, head, Item, is_item, find_key}
 use Rattle.hive_model.specs.Edit.{at_first, without_first, of_items, at_key, with_item}
 use Rattle.hive_model.specs.Valid.{ItemsDiffer}

@@ -10,3 +10,5 @@ pub mod Written
 pub mod Sizes
 pub mod Changes
 pub mod Lists
+pub mod Takes
+pub mod Lessened

@@ -1,7 +1,7 @@
 -- How the lists of one key change, by the cells that were patched, written or freed (this project's own).
 use Rattle.std.specs.Prelude.{◌≡◌, ◌⊎◌, ℕ, Bool, true, List, ◌∷◌, ◌++◌, length, Ok}
 use Rattle.hive_model.specs.Bins.{Cells}
-use Rattle.hive_model.specs.Forms.{KeyNode, key_node_at}
+use Rattle.hive_model.specs.KeyNode.{KeyNode, key_node_at}
 use Rattle.hive_model.specs.Walk.{entries_at, entries_checks}
 use Rattle.hive_model.specs.Footprint.{used_in, list_cells_at}
 use Rattle.edit_laws.specs.Owned.{In}

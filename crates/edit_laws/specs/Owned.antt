@@ -2,7 +2,9 @@
 use Rattle.std.specs.Prelude.{◌≡◌, ◌⊎◌, ℕ, ◌==◌, Bool, true, false, if◌then◌else◌, List, [], ◌∷◌}
 use Rattle.nt_bytes.specs.Folding.{folds_same}
 use Rattle.hive_model.specs.Bins.{Cells}
-use Rattle.hive_model.specs.Forms.{KeyNode, KeyValue, key_node_at, key_value_at, offsets_in}
+use Rattle.hive_model.specs.KeyNode.{KeyNode, key_node_at}
+use Rattle.hive_model.specs.KeyValue.{KeyValue, key_value_at}
+use Rattle.hive_model.specs.Lists.{offsets_in}
 use Rattle.hive_model.specs.Walk.{reading, names_of, value_checks, class_checks}
 use Rattle.hive_model.specs.Footprint.{of_read, of_node, used_in, child_places, security_cell_at, list_cells_at, has_key, named_keys, parent_of}
 use Rattle.hive_model.specs.Tree.{Tree}

@@ -4,7 +4,9 @@ use Rattle.std.specs.Ordering.{is_gt}
 use Rattle.nt_bytes.specs.Folding.{folds_same, folded_order}
 use Rattle.nt_bytes.specs.declared.fault.HiveKind.{HiveKind}
 use Rattle.hive_model.specs.Bins.{Cells}
-use Rattle.hive_model.specs.Forms.{◌>>=◌, KeyNode, key_node_at, security_at}
+use Rattle.hive_model.specs.Forms.{◌>>=◌}
+use Rattle.hive_model.specs.KeyNode.{KeyNode, key_node_at}
+use Rattle.hive_model.specs.Security.{security_at}
 use Rattle.hive_model.specs.Walk.{reading}
 use Rattle.hive_model.specs.Footprint.{child_places, security_cell_at, list_cells_at}
 use Rattle.hive_model.specs.Stands.{ListsChildren}

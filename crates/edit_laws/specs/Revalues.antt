@@ -2,7 +2,8 @@
 use Rattle.std.specs.Prelude.{◌≡◌, ◌⊎◌, ℕ, ◌==◌, MatchBool, List, [], ◌++◌, flat_map, Ok}
 use Rattle.hive_model.specs.Bins.{Cells}
 use Rattle.hive_model.specs.Tree.{Item}
-use Rattle.hive_model.specs.Forms.{KeyNode, key_node_at, offsets_in}
+use Rattle.hive_model.specs.KeyNode.{KeyNode, key_node_at}
+use Rattle.hive_model.specs.Lists.{offsets_in}
 use Rattle.hive_model.specs.Walk.{reading, value_checks}
 use Rattle.hive_model.specs.Footprint.{used_in}
 use Rattle.hive_model.specs.Stands.{items_at, values_of}

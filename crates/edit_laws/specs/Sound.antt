@@ -2,7 +2,8 @@
 use Rattle.std.specs.Prelude.{◌≡◌, ◌<◌, ℕ, true, false, List, length, Ok}
 use Rattle.nt_bytes.specs.Folding.{folds_same}
 use Rattle.hive_model.specs.Bins.{Cells}
-use Rattle.hive_model.specs.Forms.{KeyNode, KeyValue, key_value_at}
+use Rattle.hive_model.specs.KeyNode.{KeyNode}
+use Rattle.hive_model.specs.KeyValue.{KeyValue, key_value_at}
 use Rattle.hive_model.specs.Walk.{reading, node_at}
 use Rattle.hive_model.specs.Footprint.{child_places}
 use Rattle.edit_laws.specs.Owned.{In, node_name, value_name, value_places, Reaches}

@@ -2,7 +2,7 @@
 -- and key value).
 use Rattle.std.specs.Prelude.{◌≡◌, ℕ, ◌+◌, List, ◌++◌, length, take, drop, Ok}
 use Rattle.std.specs.Int.{w32, to_le_bytes}
-use Rattle.hive_model.specs.Forms.{KeyNode, key_node_at}
+use Rattle.hive_model.specs.KeyNode.{KeyNode, key_node_at}
 use Rattle.edit_laws.specs.Revalues.{SaysTheSame}
 
 -- the payload with a part written over what stands from a place on

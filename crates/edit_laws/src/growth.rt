@@ -10,12 +10,14 @@ ghost use Rattle.edit_laws.specs.Sizes.{sizes_of};
 /// A tree grows by the size of the values that a key of it gets, less that of those that it had.
 pub fn other_values_change_the_size()
     ensures { (version : Version) (shared : List ℕ) (path : List (List ℕ)) (t k : Tree) (f : List Item → List Item) → find_key path t ≡ Some k
-        → size version shared (at_key path (of_items f) t) + items_size version (head k).values ≡ size version shared t + items_size version (f (head k).values) }
+        → size version shared (at_key path (of_items f) t) + items_size version (head k).values
+        ≡ size version shared t + items_size version (f (head k).values) }
 {}
 
 /// A tree grows by the size of the lists and the children that a key of it gets, less that of those that it had.
 pub fn other_children_change_the_size()
-    ensures { (version : Version) (shared : List ℕ) (path : List (List ℕ)) (t : Tree) (h : Head) (ts : Trees) (f : List Tree → List Tree) → find_key path t ≡ Some (key h ts)
+    ensures { (version : Version) (shared : List ℕ) (path : List (List ℕ)) (t : Tree) (h : Head) (ts : Trees) (f : List Tree → List Tree)
+        → find_key path t ≡ Some (key h ts)
         → size version shared (at_key path (of_children f) t) + (list_size (count ts) + sizes_of version h.security (listed ts))
         ≡ size version shared t + (list_size (length (f (listed ts))) + sizes_of version h.security (f (listed ts))) }
 {}

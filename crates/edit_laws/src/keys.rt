@@ -13,9 +13,11 @@ ghost use Rattle.edit_laws.specs.Done.{IsDone};
 
 /// A key is made where there is none of its name: it stands before the first sibling whose name folds greater, else last.
 pub fn a_key_is_made()
-    ensures { (b c : Cells) (root : ℕ) (t u k : Tree) (parent : List (List ℕ)) (name : List ℕ) (x y left : ℕ) (front back counted : List ℕ) → IsWellFormed b root t
+    ensures { (b c : Cells) (root : ℕ) (t u k : Tree) (parent : List (List ℕ)) (name : List ℕ) (x y left : ℕ) (front back counted : List ℕ)
+        → IsWellFormed b root t
         → after_step (make_key parent name) t ≡ Ok u → has_key parent name t ≡ false → key_place b parent root ≡ Some x → find_key parent t ≡ Some k
-        → length parent + suc left ≡ 512 → ChangesChildren b c root x left front [] (y ∷ []) back counted → ((o : ℕ) → In counted o → In (security_cell_at b x) o)
+        → length parent + suc left ≡ 512 → ChangesChildren b c root x left front [] (y ∷ []) back counted
+        → ((o : ℕ) → In counted o → In (security_cell_at b x) o)
         → Stands c y (new_key name k) → HasPlace b name front back → IsDone b c root t u (make_key parent name) }
 {}
 
@@ -23,7 +25,8 @@ pub fn a_key_is_made()
 pub fn a_child_is_added()
     ensures { (b c : Cells) (root : ℕ) (t u k : Tree) (name : List ℕ) (y : ℕ) (front back counted : List ℕ) → IsWellFormed b root t
         → after_step (add_child name k) t ≡ Ok u → HasApartNames k → ChangesChildren b c root root 511 front [] (y ∷ []) back counted
-        → ((o : ℕ) → In counted o → In (security_cell_at b root) o) → Stands c y (renamed name k) → HasPlace b name front back → IsDone b c root t u (add_child name k) }
+        → ((o : ℕ) → In counted o → In (security_cell_at b root) o) → Stands c y (renamed name k) → HasPlace b name front back
+        → IsDone b c root t u (add_child name k) }
 {}
 
 /// A child of the root is copied under a name that none has.
@@ -37,7 +40,9 @@ pub fn a_child_is_copied()
 
 /// A key is deleted with all below it.
 pub fn a_key_is_deleted()
-    ensures { (b c : Cells) (root : ℕ) (t u : Tree) (parent : List (List ℕ)) (name : List ℕ) (x y left : ℕ) (front back counted : List ℕ) → IsWellFormed b root t
+    ensures { (b c : Cells) (root : ℕ) (t u : Tree) (parent : List (List ℕ)) (name : List ℕ) (x y left : ℕ) (front back counted : List ℕ)
+        → IsWellFormed b root t
         → after_step (delete_key (parent ++ name ∷ [])) t ≡ Ok u → key_place b parent root ≡ Some x → length parent + suc left ≡ 512
-        → Deletes b root parent name y counted → ChangesChildren b c root x left front (y ∷ []) [] back counted → IsDone b c root t u (delete_key (parent ++ name ∷ [])) }
+        → Deletes b root parent name y counted → ChangesChildren b c root x left front (y ∷ []) [] back counted
+        → IsDone b c root t u (delete_key (parent ++ name ∷ [])) }
 {}

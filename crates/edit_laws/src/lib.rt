@@ -6,6 +6,7 @@
 //! tree, the step leaves all cells but its own, and so steps in order leave all that is outside their footprint.
 #![tactic(auto)]
 
+mod deletion;
 mod growth;
 mod keys;
 mod outside;
@@ -13,6 +14,7 @@ mod owners;
 mod rooms;
 mod values;
 
+pub use deletion::{a_key_is_taken_out, a_key_takes_its_size_along};
 pub use growth::{other_children_change_the_size, other_values_change_the_size};
 pub use keys::{a_child_is_added, a_child_is_copied, a_key_is_deleted, a_key_is_made};
 pub use outside::{

@@ -18,7 +18,8 @@ pub fn steps_grow_within_their_strain()
 /// Where a bin for cells that a step may need, one behind another, would make the bins data longer than a limit, behind steps
 /// that made them as long as they are, the strain of all is over the limit.
 pub fn a_step_without_room_is_strained()
-    ensures { (version : Version) (bytes now limit : ℕ) (t u v : Tree) (steps further : List Step) (step : Step) (asked : List ℕ) → AreGrown version bytes t steps now u
+    ensures { (version : Version) (bytes now limit : ℕ) (t u v : Tree) (steps further : List Step) (step : Step) (asked : List ℕ)
+        → AreGrown version bytes t steps now u
         → after_step step u ≡ Ok v → AreSome asked (needed_sizes version u step v) → 0 < total asked → limit < now + rounded (total asked + 32)
         → limit < strain_of version bytes t (steps ++ step ∷ further) }
 {}

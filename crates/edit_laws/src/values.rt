@@ -3,7 +3,8 @@
 ghost use Rattle.std.specs.Prelude.{◌≡◌, ◌<◌, ◌^◌, ℕ, false, true, List, [], ◌∷◌, find, Some, Ok};
 ghost use Rattle.nt_bytes.specs.Folding.{folds_same};
 ghost use Rattle.hive_model.specs.Bins.{Cells};
-ghost use Rattle.hive_model.specs.Forms.{KeyNode, key_node_at, KeyValue, key_value_at, data_inside, is_overfull};
+ghost use Rattle.hive_model.specs.KeyNode.{KeyNode, key_node_at};
+ghost use Rattle.hive_model.specs.KeyValue.{KeyValue, key_value_at, data_inside, is_overfull};
 ghost use Rattle.hive_model.specs.Tree.{Tree};
 ghost use Rattle.hive_model.specs.Edit.{set_value, delete_value, has_item, after_step};
 ghost use Rattle.hive_model.specs.Footprint.{key_place, is_value_named};
@@ -16,7 +17,8 @@ ghost use Rattle.edit_laws.specs.Written.{with_part, two_numbers, three_numbers,
 /// A value that is there gets another type and other data, in the cells where it stood or in others.
 pub fn a_value_is_set()
     ensures { (b c : Cells) (root : ℕ) (t u : Tree) (path : List (List ℕ)) (name : List ℕ) (kind : ℕ) (bytes : List ℕ) (x v : ℕ) (front put back : List ℕ)
-        → IsWellFormed b root t → after_step (set_value path name kind bytes) t ≡ Ok u → key_place b path root ≡ Some x → folds_same name (value_name b v) ≡ true
+        → IsWellFormed b root t → after_step (set_value path name kind bytes) t ≡ Ok u → key_place b path root ≡ Some x
+        → folds_same name (value_name b v) ≡ true
         → ChangesValues b c x front (v ∷ []) put back (item (value_name b v) kind bytes ∷ []) → IsDone b c root t u (set_value path name kind bytes) }
 {}
 
@@ -27,7 +29,8 @@ pub fn a_value_is_set_in_place()
         → find (is_value_named b name) (value_places b x) ≡ Some v → b.payload v ≡ Ok p → c.version ≡ b.version
         → c.payload v ≡ Ok (with_part 4 (three_numbers size offset kind) p) → ((o : ℕ) (q : List ℕ) → b.payload o ≡ Ok q → (o ≡ v → ⊥) → c.payload o ≡ Ok q)
         → size < 2 ^ 32 → offset < 2 ^ 32 → kind < 2 ^ 32 → is_overfull size ≡ false
-        → ((value : KeyValue) → data_inside (record value { size = size; offset = offset; kind = kind }) ≡ Some bytes) → IsDone b c root t u (set_value path name kind bytes) }
+        → ((value : KeyValue) → data_inside (record value { size = size; offset = offset; kind = kind }) ≡ Some bytes)
+        → IsDone b c root t u (set_value path name kind bytes) }
 {}
 
 /// A value of a name that none of the key's has comes last.
@@ -48,7 +51,8 @@ pub fn a_value_is_deleted()
 /// are read, and all else is read as it was.
 pub fn numbers_are_written_over()
     ensures value { (p : List ℕ) (v : KeyValue) (size offset kind : ℕ) → key_value_at p ≡ Ok v → size < 2 ^ 32 → offset < 2 ^ 32 → kind < 2 ^ 32
-        → is_overfull size ≡ false → key_value_at (with_part 4 (three_numbers size offset kind) p) ≡ Ok (record v { size = size; offset = offset; kind = kind }) }
+        → is_overfull size ≡ false → key_value_at (with_part 4 (three_numbers size offset kind) p)
+        ≡ Ok (record v { size = size; offset = offset; kind = kind }) }
     ensures node { (p : List ℕ) (n : KeyNode) (count list : ℕ) → key_node_at p ≡ Ok n → count < 2 ^ 32 → list < 2 ^ 32
         → HasNewValues (with_part 36 (two_numbers count list) p) n count list }
 {}
