@@ -5,7 +5,9 @@ use Rattle.std.specs.Int.{w32, to_le_bytes}
 use Rattle.std.proofs.lemmas.Bool.{eqb-true, eqb-false}
 use Rattle.nt_bytes.specs.declared.fault.HiveKind.{HiveKind}
 use Rattle.hive_model.specs.Bins.{Bin, Cells, bins_size, look_up, payload_at}
-use Rattle.hive_model.specs.Forms.{◌>>=◌, KeyNode, key_node_at, key_node_text, SecurityCell, security_at}
+use Rattle.hive_model.specs.Forms.{◌>>=◌}
+use Rattle.hive_model.specs.KeyNode.{KeyNode, key_node_at, key_node_text}
+use Rattle.hive_model.specs.Security.{SecurityCell, security_at}
 use Rattle.hive_model.specs.Tree.{Tree, head}
 use Rattle.hive_model.specs.Edit.{new_key}
 use Rattle.hive_model.specs.Walk.{reading, nowhere, entries_at, entries_checks, AreUsedOnce}

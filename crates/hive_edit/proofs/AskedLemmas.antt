@@ -4,7 +4,7 @@ use Rattle.std.specs.Prelude.{nat_lt, find, is_some}
 use Rattle.std.proofs.lemmas.Bool.{le-ltb, lt-ltb}
 use Rattle.nt_bytes.specs.declared.version.HiveVersion.{HiveVersion}
 use Rattle.hive_model.specs.Bins.{Bin, Cells, look_up}
-use Rattle.hive_model.specs.Forms.{KeyNode, key_node_at}
+use Rattle.hive_model.specs.KeyNode.{KeyNode, key_node_at}
 use Rattle.hive_model.specs.Tree.{Tree, children, find_key}
 use Rattle.hive_model.specs.Size.{cell, name_bytes, list_size, bulk_of}
 use Rattle.hive_model.specs.Edit.{Refusal, make_key, no_key, bad_name, name_too_long, too_deep, full, is_bad_name, most_bulk, edited}

@@ -14,7 +14,10 @@ use Rattle.hive_model.specs.Packed.{cell_text, text, segment_places, segments, b
 use Rattle.hive_pack.specs.Writes.{big_size}
 use Rattle.hive_model.specs.Size.{cell, is_big, segment_count, segment_sizes, segment_part, segment_bytes, data_sizes, data_size, cells_sum}
 use Rattle.hive_model.specs.Tree.{Item}
-use Rattle.hive_model.specs.Forms.{◌>>=◌, KeyValue, key_value_at, data_inside, is_in_place, bytes_in, offsets_in, BigData, big_data_at, big_data_text, offsets_text}
+use Rattle.hive_model.specs.Forms.{◌>>=◌, bytes_in}
+use Rattle.hive_model.specs.KeyValue.{KeyValue, key_value_at, data_inside, is_in_place}
+use Rattle.hive_model.specs.BigData.{BigData, big_data_at, big_data_text}
+use Rattle.hive_model.specs.Lists.{offsets_in, offsets_text}
 use Rattle.hive_model.specs.Walk.{reading, below_of, use_as, big_data_of, segments_checks, big_checks, data_checks}
 use Rattle.hive_model.specs.Footprint.{of_read, used_in}
 use Rattle.hive_model.specs.Stands.{joined_segments, big_bytes_at, data_of, item_at}

@@ -8,7 +8,8 @@ use Rattle.nt_bytes.specs.declared.fault.HiveKind.{HiveKind}
 use Rattle.nt_bytes.specs.declared.version.HiveVersion.{HiveVersion}
 use Rattle.nt_bytes.specs.Folding.{folded_unit, folds_same}
 use Rattle.hive_model.specs.Bins.{Bin, Cells, bins_size, look_up, IsBins}
-use Rattle.hive_model.specs.Forms.{KeyNode, key_node_at, offsets_in}
+use Rattle.hive_model.specs.KeyNode.{KeyNode, key_node_at}
+use Rattle.hive_model.specs.Lists.{offsets_in}
 use Rattle.hive_model.specs.Size.{cell, name_bytes, segment_count, segment_sizes, data_sizes, cells_sum, item_size, items_sum, items_size, size, bulk_of, capped}
 use Rattle.hive_model.specs.Tree.{Tree, Item, head, find_key, find_item, is_item}
 use Rattle.hive_model.specs.Edit.{Step, set_value, Refusal, no_key, name_too_long, data_too_long, full, unless, then_edit, at_first, with_item, of_items, at_key, value_set, after_step, after_steps, most_bulk, edited}

@@ -9,7 +9,8 @@ use Rattle.nt_bytes.specs.declared.fault.HiveKind.{HiveKind}
 use Rattle.nt_bytes.specs.declared.version.HiveVersion.{HiveVersion}
 use Rattle.hive_model.specs.Bins.{Cell, Bin, Cells, cells_size, bins_size, look_up, or_else}
 use Rattle.hive_model.specs.Size.{cell, is_big, segment_count, segment_sizes, cells_sum, data_size}
-use Rattle.hive_model.specs.Forms.{◌>>=◌, KeyValue, data_inside, is_in_place, is_overfull, bytes_in}
+use Rattle.hive_model.specs.Forms.{◌>>=◌, bytes_in}
+use Rattle.hive_model.specs.KeyValue.{KeyValue, data_inside, is_in_place, is_overfull}
 use Rattle.hive_model.specs.Packed.{allocated_cell, data_cells, segment_places, big_cells, text}
 use Rattle.hive_model.specs.Walk.{reading, big_checks, data_checks}
 use Rattle.hive_model.specs.Footprint.{used_in}
@@ -114,11 +115,11 @@ data_run_stands c place bytes long few room has = go (is_big c.version (length b
 
 -- ---- put, said by the value, and the old cells freed
 
-sizes_are : (ps : List (List ℕ)) → cells_size (map allocated_cell ps) ≡ space ps
+pub sizes_are : (ps : List (List ℕ)) → cells_size (map allocated_cell ps) ≡ space ps
 sizes_are [] = refl
 sizes_are (p ∷ ps) = omega (arith, length_filled p, sizes_are ps)
 
-none_some : (r : Option (List ℕ)) → r ≡ None → IsSome r → ⊥
+pub none_some : (r : Option (List ℕ)) → r ≡ None → IsSome r → ⊥
 none_some None e h = absurd cc
 none_some (Some x) e h = absurd cc
 

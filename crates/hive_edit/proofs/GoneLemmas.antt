@@ -11,7 +11,8 @@ use Rattle.nt_bytes.specs.declared.fault.HiveFault.{HiveFault}
 use Rattle.nt_bytes.specs.declared.fault.HiveKind.{HiveKind}
 use Rattle.nt_bytes.specs.declared.fault.HiveKind.TheVariants.{FormShort, FormSign}
 use Rattle.hive_model.specs.Bins.{Bin, Cell, cell_size, cells_size, bin_size, bins_size, in_cells, in_bins, cell_at, or_else, payload_at, placed, Sees}
-use Rattle.hive_model.specs.Forms.{numbers_in, offsets_in, BigData, big_data_in, big_data_at}
+use Rattle.hive_model.specs.BigData.{BigData, big_data_in, big_data_at}
+use Rattle.hive_model.specs.Lists.{numbers_in, offsets_in}
 use Rattle.hive_cells.specs.Held.{allocated_payload, held_at, patched}
 use Rattle.hive_cells.proofs.HeldLemmas.{held_payload}
 use Rattle.edit_laws.specs.Owned.{In}

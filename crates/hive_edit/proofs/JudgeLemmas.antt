@@ -9,7 +9,7 @@ use Rattle.std.proofs.lemmas.Slice.Eq.{bytes_eq-Decides}
 use Rattle.nt_bytes.specs.Folding.{folded_order}
 use Rattle.nt_bytes.specs.declared.version.HiveVersion.{HiveVersion}
 use Rattle.hive_model.specs.Bins.{Bin, Cells, look_up}
-use Rattle.hive_model.specs.Forms.{KeyNode, key_node_at}
+use Rattle.hive_model.specs.KeyNode.{KeyNode, key_node_at}
 use Rattle.hive_model.specs.Tree.{Tree, Trees, Head, key, none, more, head, listed, children, is_named, find_key}
 use Rattle.hive_model.specs.Size.{cell, name_bytes, has_own, part_count, list_size, count, size, bulk_of}
 use Rattle.hive_model.specs.Edit.{Step, make_key, Refusal, no_key, bad_name, name_too_long, too_deep, full, unless, then_edit, has_child, is_bad_name, of_children, placed, new_key, with_key, at_key, key_made, after_step, after_steps, most_bulk, edited}

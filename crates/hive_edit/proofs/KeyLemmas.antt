@@ -10,7 +10,9 @@ use Rattle.nt_bytes.specs.declared.fault.HiveKind.{HiveKind}
 use Rattle.nt_bytes.specs.Fields.{u32_in, u64_in}
 use Rattle.nt_bytes.specs.declared.version.HiveVersion.{HiveVersion}
 use Rattle.hive_model.specs.Bins.{Bin, Cells, bins_size, look_up}
-use Rattle.hive_model.specs.Forms.{◌>>=◌, KeyNode, key_node_at, key_node_text, security_at, is_narrow_key}
+use Rattle.hive_model.specs.Forms.{◌>>=◌}
+use Rattle.hive_model.specs.KeyNode.{KeyNode, key_node_at, key_node_text, is_narrow_key}
+use Rattle.hive_model.specs.Security.{security_at}
 use Rattle.hive_model.specs.Tree.{Tree, key, head, find_key}
 use Rattle.hive_model.specs.Size.{bulk_of}
 use Rattle.hive_model.specs.Valid.{is_backslash}

@@ -31,3 +31,9 @@ pub mod KeyLemmas
 pub mod PutLemmas
 pub mod AskedLemmas
 pub mod LinkLemmas
+pub mod NewRunLemmas
+pub mod NewCellsLemmas
+pub mod NewValueLemmas
+pub mod UsesLemmas
+pub mod DroppedLemmas
+pub mod RemovedLemmas

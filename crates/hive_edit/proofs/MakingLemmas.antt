@@ -11,7 +11,8 @@ use Rattle.nt_bytes.specs.declared.version.HiveVersion.{HiveVersion}
 use Rattle.nt_bytes.specs.Fields.{u32_in}
 use Rattle.nt_bytes.specs.Folding.{folded_order}
 use Rattle.hive_model.specs.Bins.{Bin, Cells, look_up}
-use Rattle.hive_model.specs.Forms.{◌>>=◌, KeyNode, key_node_at, key_node_text}
+use Rattle.hive_model.specs.Forms.{◌>>=◌}
+use Rattle.hive_model.specs.KeyNode.{KeyNode, key_node_at, key_node_text}
 use Rattle.hive_model.specs.Tree.{Tree, find_key}
 use Rattle.hive_model.specs.Edit.{make_key, after_step}
 use Rattle.hive_model.specs.Walk.{reading, nowhere, entries_checks}

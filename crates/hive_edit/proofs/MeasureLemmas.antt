@@ -13,7 +13,10 @@ use Rattle.nt_bytes.specs.declared.version.HiveVersion.{HiveVersion}
 use Rattle.nt_bytes.specs.Fields.{u16_in, u32_in}
 use Rattle.nt_bytes.specs.Text.{wide_of}
 use Rattle.hive_model.specs.Bins.{Cells}
-use Rattle.hive_model.specs.Forms.{◌>>=◌, stored_name, has_half_unit, is_bad_value_name, value_name_at, is_narrow_value, KeyValue, key_value_at, is_in_place, data_inside, bytes_in, offsets_in}
+use Rattle.hive_model.specs.Forms.{◌>>=◌, bytes_in}
+use Rattle.hive_model.specs.StoredNames.{stored_name, has_half_unit, is_bad_value_name, value_name_at}
+use Rattle.hive_model.specs.KeyValue.{is_narrow_value, KeyValue, key_value_at, is_in_place, data_inside}
+use Rattle.hive_model.specs.Lists.{offsets_in}
 use Rattle.hive_model.specs.Size.{segment_bytes, segment_count, segment_part, segment_sizes, data_sizes, cells_sum, cell, item_size, name_bytes, is_big, is_narrow}
 use Rattle.hive_model.specs.Tree.{Item}
 use Rattle.hive_model.specs.Walk.{reading, big_data_of}

@@ -8,7 +8,10 @@ use Rattle.nt_bytes.specs.declared.fault.HiveKind.{HiveKind}
 use Rattle.nt_bytes.specs.declared.fault.HiveKind.TheVariants.{FormShort, FormSign}
 use Rattle.nt_bytes.specs.Fields.{u16_in, u32_in}
 use Rattle.hive_model.specs.Bins.{Cells}
-use Rattle.hive_model.specs.Forms.{◌>>=◌, key_name_at, is_narrow_key, KeyNode, key_node_in, key_node_at, offsets_in, numbers_in}
+use Rattle.hive_model.specs.Forms.{◌>>=◌}
+use Rattle.hive_model.specs.StoredNames.{key_name_at}
+use Rattle.hive_model.specs.KeyNode.{is_narrow_key, KeyNode, key_node_in, key_node_at}
+use Rattle.hive_model.specs.Lists.{offsets_in, numbers_in}
 use Rattle.hive_model.specs.Tree.{Tree, Trees, key, none, more, head}
 use Rattle.hive_model.specs.Walk.{reading, entries_at}
 use Rattle.hive_model.specs.Footprint.{of_read, child_places}

@@ -8,7 +8,9 @@ use Rattle.nt_bytes.specs.declared.fault.HiveKind.{HiveKind}
 use Rattle.nt_bytes.specs.declared.fault.HiveKind.TheVariants.{FormShort, FormSign}
 use Rattle.hive_model.specs.Valid.{is_backslash}
 use Rattle.hive_model.specs.Size.{is_narrow}
-use Rattle.hive_model.specs.Forms.{KeyNode, IsKeyNode, key_node_at, key_node_text, SecurityCell, security_in, security_at, is_narrow_key, UnitsFit}
+use Rattle.hive_model.specs.StoredNames.{UnitsFit}
+use Rattle.hive_model.specs.KeyNode.{KeyNode, IsKeyNode, key_node_at, key_node_text, is_narrow_key}
+use Rattle.hive_model.specs.Security.{SecurityCell, security_in, security_at}
 use Rattle.hive_model.specs.Stands.{tree_flags}
 use Rattle.hive_model.proofs.Spelling.{key_node_again}
 use Rattle.edit_laws.specs.Written.{with_part}

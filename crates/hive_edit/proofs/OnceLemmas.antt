@@ -8,7 +8,8 @@ use Rattle.std.proofs.lemmas.List.Elements.{All-cons, All-nil}
 use Rattle.nt_bytes.specs.declared.fault.HiveKind.{HiveKind}
 use Rattle.nt_bytes.specs.declared.fault.HiveKind.TheVariants.{FormName, Count}
 use Rattle.hive_model.specs.Bins.{Cells}
-use Rattle.hive_model.specs.Forms.{◌>>=◌, KeyNode, key_node_at}
+use Rattle.hive_model.specs.Forms.{◌>>=◌}
+use Rattle.hive_model.specs.KeyNode.{KeyNode, key_node_at}
 use Rattle.hive_model.specs.Tree.{Head, Tree, Trees, key, none, more, listed, head}
 use Rattle.hive_model.specs.Valid.{levels, most_levels}
 use Rattle.hive_model.specs.Walk.{Check, uses, tests, clashes, reading, node_at, entries_at, below_of, failing, name_check, names_of, class_checks, security_checks, values_checks, entries_checks, keys_in_turn, children_checks, below_node, key_checks, all_checks, AreUsedOnce}

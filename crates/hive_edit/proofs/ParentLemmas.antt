@@ -4,7 +4,9 @@ use Rattle.std.specs.Prelude.{◌==◌, ◌⊎◌, flat_map, Contains, if◌then
 use Rattle.std.specs.Option.{IsSomeAnd}
 use Rattle.nt_bytes.specs.declared.fault.HiveKind.{HiveKind}
 use Rattle.hive_model.specs.Bins.{Cells}
-use Rattle.hive_model.specs.Forms.{◌>>=◌, KeyNode, key_node_at, SecurityCell, security_at}
+use Rattle.hive_model.specs.Forms.{◌>>=◌}
+use Rattle.hive_model.specs.KeyNode.{KeyNode, key_node_at}
+use Rattle.hive_model.specs.Security.{SecurityCell, security_at}
 use Rattle.hive_model.specs.Tree.{Tree, Trees, key, head}
 use Rattle.hive_model.specs.Walk.{reading, nowhere, entries_at, entries_checks, security_checks, use_as}
 use Rattle.hive_model.specs.Footprint.{of_read, of_node, used_in, child_places, security_cell_at, list_cells_at}

@@ -6,7 +6,10 @@ use Rattle.std.specs.List.{list_any}
 use Rattle.nt_bytes.specs.declared.fault.HiveKind.{HiveKind}
 use Rattle.nt_bytes.specs.Folding.{folds_same}
 use Rattle.hive_model.specs.Bins.{Cells}
-use Rattle.hive_model.specs.Forms.{◌>>=◌, KeyNode, KeyValue, key_value_at, offsets_in}
+use Rattle.hive_model.specs.Forms.{◌>>=◌}
+use Rattle.hive_model.specs.KeyNode.{KeyNode}
+use Rattle.hive_model.specs.KeyValue.{KeyValue, key_value_at}
+use Rattle.hive_model.specs.Lists.{offsets_in}
 use Rattle.hive_model.specs.Tree.{Head, Item, Tree, Trees, key, none, more, listed, head, children, is_named, is_item, find_key, find_item, find_dword, dword_in}
 use Rattle.hive_model.specs.Walk.{reading, names_of}
 use Rattle.hive_model.specs.Footprint.{of_read, child_places, is_node_named, is_value_named, key_place}

@@ -6,7 +6,9 @@ use Rattle.std.specs.Ordering.{is_gt}
 use Rattle.nt_bytes.specs.declared.fault.HiveKind.{HiveKind}
 use Rattle.nt_bytes.specs.Folding.{folded_order}
 use Rattle.hive_model.specs.Bins.{Cells}
-use Rattle.hive_model.specs.Forms.{◌>>=◌, KeyNode, key_node_at, SubkeyList, list_at}
+use Rattle.hive_model.specs.Forms.{◌>>=◌}
+use Rattle.hive_model.specs.KeyNode.{KeyNode, key_node_at}
+use Rattle.hive_model.specs.Lists.{SubkeyList, list_at}
 use Rattle.hive_model.specs.Walk.{reading, leaf_at, joined_at, entries_of, entries_at, is_list_of_lists, leaves_checks, entries_checks, below_of, names_of}
 use Rattle.hive_model.specs.Footprint.{used_in, of_read}
 use Rattle.edit_laws.specs.Owned.{In, first_or_empty, node_name}

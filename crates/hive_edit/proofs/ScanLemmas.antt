@@ -3,7 +3,7 @@ use Rattle.std.proofs.Common.{◌≡◌, ◌<◌, ◌≤◌, ◌-◌, ◌*◌, �
 use Rattle.std.specs.Prelude.{find}
 use Rattle.std.specs.List.{All}
 use Rattle.nt_bytes.specs.Fields.{u32_in}
-use Rattle.hive_model.specs.Forms.{numbers_in}
+use Rattle.hive_model.specs.Lists.{numbers_in}
 use Rattle.hive_edit.proofs.ResultLemmas.{some}
 
 abbrev nothing : Option ℕ

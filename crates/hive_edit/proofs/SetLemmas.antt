@@ -10,7 +10,9 @@ use Rattle.nt_bytes.specs.declared.fault.HiveKind.{HiveKind}
 use Rattle.nt_bytes.specs.declared.version.HiveVersion.{HiveVersion}
 use Rattle.nt_bytes.specs.Fields.{u32_in}
 use Rattle.hive_model.specs.Bins.{Bin, Cells, bins_size, look_up}
-use Rattle.hive_model.specs.Forms.{◌>>=◌, KeyNode, KeyValue, key_node_at, key_value_at, data_inside, is_in_place}
+use Rattle.hive_model.specs.Forms.{◌>>=◌}
+use Rattle.hive_model.specs.KeyNode.{KeyNode, key_node_at}
+use Rattle.hive_model.specs.KeyValue.{KeyValue, key_value_at, data_inside, is_in_place}
 use Rattle.hive_model.specs.Size.{bulk_of}
 use Rattle.hive_model.specs.Tree.{Tree, Item, find_item}
 use Rattle.hive_model.specs.Tree.{key as tree_key}

@@ -6,7 +6,8 @@ use Rattle.std.proofs.lemmas.List.Elements.{All-cons, All-nil, Contains-append_l
 use Rattle.nt_bytes.specs.declared.fault.HiveKind.{HiveKind}
 use Rattle.nt_bytes.specs.declared.version.HiveVersion.{HiveVersion}
 use Rattle.hive_model.specs.Bins.{Bin, Cells, bins_size, look_up}
-use Rattle.hive_model.specs.Forms.{KeyNode, key_node_at, KeyValue, key_value_at}
+use Rattle.hive_model.specs.KeyNode.{KeyNode, key_node_at}
+use Rattle.hive_model.specs.KeyValue.{KeyValue, key_value_at}
 use Rattle.hive_model.specs.Size.{bulk_of}
 use Rattle.hive_model.specs.Tree.{Tree}
 use Rattle.hive_model.specs.Tree.{key as tree_key}

@@ -9,7 +9,9 @@ use Rattle.nt_bytes.specs.declared.fault.HiveKind.{HiveKind}
 use Rattle.nt_bytes.specs.declared.version.HiveVersion.{HiveVersion}
 use Rattle.nt_bytes.specs.Folding.{folds_same}
 use Rattle.hive_model.specs.Bins.{Bin, Cells, bins_size, look_up}
-use Rattle.hive_model.specs.Forms.{◌>>=◌, KeyNode, key_node_at, KeyValue, key_value_at}
+use Rattle.hive_model.specs.Forms.{◌>>=◌}
+use Rattle.hive_model.specs.KeyNode.{KeyNode, key_node_at}
+use Rattle.hive_model.specs.KeyValue.{KeyValue, key_value_at}
 use Rattle.hive_model.specs.Size.{cell, name_bytes, data_size, item_size, items_size, size, bulk_of}
 use Rattle.hive_model.specs.Tree.{Tree, Item, head, find_key, find_item}
 use Rattle.hive_model.specs.Tree.{key as tree_key}

@@ -13,7 +13,11 @@ use Rattle.nt_bytes.specs.declared.version.HiveVersion.{HiveVersion}
 use Rattle.nt_bytes.specs.Fields.{u16_in, u32_in}
 use Rattle.nt_bytes.specs.Folding.{folds_same}
 use Rattle.hive_model.specs.Bins.{Bin, Cells, bins_size, look_up}
-use Rattle.hive_model.specs.Forms.{◌>>=◌, KeyNode, key_node_at, KeyValue, key_value_at, BigData, big_data_at, data_inside, is_in_place, bytes_in, offsets_in}
+use Rattle.hive_model.specs.Forms.{◌>>=◌, bytes_in}
+use Rattle.hive_model.specs.KeyNode.{KeyNode, key_node_at}
+use Rattle.hive_model.specs.KeyValue.{KeyValue, key_value_at, data_inside, is_in_place}
+use Rattle.hive_model.specs.BigData.{BigData, big_data_at}
+use Rattle.hive_model.specs.Lists.{offsets_in}
 use Rattle.hive_model.specs.Size.{is_big, segment_bytes, segment_count, cell, item_size, items_sum, items_size, size, bulk_of, capped}
 use Rattle.hive_model.specs.Tree.{Tree, Item, head, find_key, find_item, is_item}
 use Rattle.hive_model.specs.Tree.{key as tree_key}
@@ -120,7 +124,7 @@ pub record BigHere (version : HiveVersion) (bins : List Bin) (size place : ℕ) 
   pub segments : HasSegments bins place list offsets
   pub cells_are : data_cells (look_up version bins) size place ≡ place ∷ list ∷ offsets
 
-held_offsets : (version : HiveVersion) (bins : List Bin) (count at : ℕ) (offsets : List ℕ) → reading (offsets_in count) (look_up version bins) at ≡ done offsets → HasOffsets bins at count offsets
+pub held_offsets : (version : HiveVersion) (bins : List Bin) (count at : ℕ) (offsets : List ℕ) → reading (offsets_in count) (look_up version bins) at ≡ done offsets → HasOffsets bins at count offsets
 held_offsets version bins count at offsets e =
     let p = then_so ((look_up version bins).payload at) (offsets_in count) offsets e in
     record { text = p.0; there = payload_held bins at p.0 p.1; read = p.2 }
@@ -339,7 +343,7 @@ no_value_there version t k path name found none =
 
 -- ---- the bulk
 
-sized : (version : HiveVersion) (vs : List Item) → items_size version vs ≡ list_room (length vs) + items_sum version vs
+pub sized : (version : HiveVersion) (vs : List Item) → items_size version vs ≡ list_room (length vs) + items_sum version vs
 sized version [] = refl
 sized version (v ∷ vs) =
     ap (λ (b : Bool). cond b 0 (cell (4 * length (v ∷ vs))) + items_sum version (v ∷ vs)) (sym (ne_eqb (length (v ∷ vs)) 0 (λ e. omega (arith, e))))
@@ -353,7 +357,7 @@ length_less p (w ∷ vs) v e = go (p w) e (λ d. length_less p vs v d)
     go true e deep = omega arith
     go false e deep = let d = deep e in omega (arith, d)
 
-items_length : (cells : Cells) (offsets : List ℕ) (vs : List Item) → items_at cells offsets ≡ done vs → length offsets ≡ length vs
+pub items_length : (cells : Cells) (offsets : List ℕ) (vs : List Item) → items_at cells offsets ≡ done vs → length offsets ≡ length vs
 items_length cells [] vs e = ap length (ok_same [] vs e)
 items_length cells (at ∷ offsets) vs e =
     let one = then_so (item_at cells at) (λ v. items_at cells offsets >>= λ ws. Ok (v ∷ ws)) vs e in

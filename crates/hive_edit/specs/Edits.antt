@@ -4,7 +4,7 @@ use Rattle.std.specs.Option.{option_and_then}
 use Rattle.std.specs.Int.{w32, to_le_bytes}
 use Rattle.nt_bytes.specs.declared.fault.HiveKind.{HiveKind}
 use Rattle.hive_model.specs.Bins.{Bin, Cells, bins_size}
-use Rattle.hive_model.specs.Forms.{KeyValue, key_value_at, data_inside}
+use Rattle.hive_model.specs.KeyValue.{KeyValue, key_value_at, data_inside}
 use Rattle.hive_model.specs.Walk.{reading}
 use Rattle.hive_model.specs.Edit.{Step}
 use Rattle.hive_model.specs.Footprint.{IsInFootprint, key_place, strain_of}

@@ -3,7 +3,7 @@ use Rattle.std.specs.Prelude.{◌≡◌, ◌≤◌, ◌<◌, ◌+◌, ◌^◌, �
 use Rattle.std.specs.Option.{option_and_then, option_map}
 use Rattle.nt_bytes.specs.declared.version.HiveVersion.{HiveVersion}
 use Rattle.hive_model.specs.Bins.{Bin, Cells, bins_size, look_up}
-use Rattle.hive_model.specs.Forms.{KeyValue, is_overfull}
+use Rattle.hive_model.specs.KeyValue.{KeyValue, is_overfull}
 use Rattle.hive_model.specs.Size.{data_size}
 use Rattle.hive_model.specs.Walk.{data_checks}
 use Rattle.hive_model.specs.Footprint.{used_in, key_place}

@@ -5,7 +5,10 @@ use Rattle.std.specs.Result.{IsOk}
 use Rattle.nt_bytes.specs.Fields.{u32_in}
 use Rattle.nt_bytes.specs.declared.version.HiveVersion.{HiveVersion}
 use Rattle.hive_model.specs.Bins.{Bin, Cells, bins_size, look_up}
-use Rattle.hive_model.specs.Forms.{KeyNode, key_node_at, KeyValue, BigData, big_data_at, offsets_in}
+use Rattle.hive_model.specs.KeyNode.{KeyNode, key_node_at}
+use Rattle.hive_model.specs.KeyValue.{KeyValue}
+use Rattle.hive_model.specs.BigData.{BigData, big_data_at}
+use Rattle.hive_model.specs.Lists.{offsets_in}
 use Rattle.hive_model.specs.Tree.{Tree, is_item}
 use Rattle.hive_model.specs.Size.{cell}
 use Rattle.hive_model.specs.Edit.{at_key, of_items, without_first}

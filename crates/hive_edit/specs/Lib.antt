@@ -8,3 +8,5 @@ pub mod Runs
 pub mod Given
 pub mod Gone
 pub mod Making
+pub mod NewValue
+pub mod Dropped

@@ -6,7 +6,8 @@ use Rattle.hive_model.specs.Bins.{Cells}
 use Rattle.std.specs.Result.{IsOk}
 use Rattle.nt_bytes.specs.declared.version.HiveVersion.{HiveVersion}
 use Rattle.hive_model.specs.Size.{is_big, data_sizes, data_size, cells_sum}
-use Rattle.hive_model.specs.Forms.{key_value_at, is_in_place, offsets_in}
+use Rattle.hive_model.specs.KeyValue.{key_value_at, is_in_place}
+use Rattle.hive_model.specs.Lists.{offsets_in}
 use Rattle.hive_model.specs.Walk.{reading, big_checks, data_checks}
 use Rattle.hive_model.specs.Tree.{Item, Tree, dword_in}
 use Rattle.hive_model.specs.Footprint.{of_node, of_read, used_in, is_value_named}

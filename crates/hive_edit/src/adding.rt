@@ -6,7 +6,7 @@ ghost use Rattle.hive_model.specs.Edit.{edited, make_key, is_bad_name};
 ghost use Rattle.hive_model.specs.Size.{cell, list_size, name_bytes, part_count};
 ghost use Rattle.reg_tree.specs.Makes.{IsRefused};
 ghost use Rattle.reg_tree.specs.declared.stop.EditStop.TheVariants.{Memory};
-ghost use Rattle.hive_model.specs.Forms.{KeyNode, key_node_at};
+ghost use Rattle.hive_model.specs.KeyNode.{KeyNode, key_node_at};
 ghost use Rattle.hive_model.specs.Walk.{reading};
 ghost use Rattle.hive_edit.specs.Edits.{IsEditedInPlace};
 ghost use Rattle.hive_edit.specs.Making.{AboveIs, IsMade, IsUnmade, MayMake};

@@ -3,7 +3,7 @@
 ghost use Rattle.std.specs.Prelude.{◌≡◌, map, IfOk};
 ghost use Rattle.std.specs.Result.{IsOk};
 ghost use Rattle.std.specs.List.{All};
-ghost use Rattle.hive_model.specs.Forms.{list_at};
+ghost use Rattle.hive_model.specs.Lists.{list_at};
 ghost use Rattle.hive_model.specs.Footprint.{child_places};
 ghost use Rattle.key_index.specs.Lists.{AreRead, IsNode, ListsSiblings, children_at, lists_lists, name_in, offsets_of, offsets_in_lists};
 ghost use Rattle.hive_edit.specs.Places.{IsKeyAt};
@@ -16,7 +16,7 @@ use std::alloc::{AllocError, Global};
 
 /// The entries of the list in a payload.
 #[tactic(auto, unfolding(key_index::specs::Lists::offsets_of))]
-fn entries_in(alloc: Global, list: &[u8]) -> Result<Offsets, AllocError>
+pub(crate) fn entries_in(alloc: Global, list: &[u8]) -> Result<Offsets, AllocError>
     requires { IsOk (list_at list.now) }
     ensures { IfOk result (λ v. v ≡ offsets_of list.now) }
 {
@@ -28,7 +28,7 @@ fn entries_in(alloc: Global, list: &[u8]) -> Result<Offsets, AllocError>
 }
 
 /// Whether the list in a payload lists lists.
-fn is_list_of_lists(list: &[u8]) -> bool
+pub(crate) fn is_list_of_lists(list: &[u8]) -> bool
     requires { IsOk (list_at list.now) }
     ensures { result ≡ lists_lists list.now }
 {
@@ -67,7 +67,7 @@ fn listed(alloc: Global, cells: &Source, list: u32, count: u32) -> Result<Offset
 }
 
 /// The offsets of the children of the key at an offset, in order.
-fn children(alloc: Global, cells: &Source, at: u32) -> Result<Offsets, AllocError>
+pub(crate) fn children(alloc: Global, cells: &Source, at: u32) -> Result<Offsets, AllocError>
     requires { IsKeyAt (cells_of cells.now) at }
     ensures places { IfOk result (λ v. v ≡ child_places (cells_of cells.now) at) }
     ensures nodes { IfOk result (λ v. All (IsNode (cells_of cells.now)) v) }

@@ -4,7 +4,8 @@ ghost use Rattle.std.specs.Prelude.{◌≡◌, ◌<◌, ◌≤◌, [], ◌∷◌
 ghost use Rattle.std.specs.Result.{IsOk};
 ghost use Rattle.cell_forms.specs.Views.{big_data_of};
 ghost use Rattle.hive_model.specs.Size.{is_big};
-ghost use Rattle.hive_model.specs.Forms.{big_data_at, offsets_in};
+ghost use Rattle.hive_model.specs.BigData.{big_data_at};
+ghost use Rattle.hive_model.specs.Lists.{offsets_in};
 ghost use Rattle.hive_model.specs.Walk.{big_checks};
 ghost use Rattle.hive_model.specs.Footprint.{used_in};
 ghost use Rattle.hive_model.specs.Stands.{big_bytes_at};

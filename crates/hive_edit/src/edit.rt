@@ -1,9 +1,12 @@
 //! A value set, where it stands or with all cells packed anew, and steps in order.
 
-ghost use Rattle.std.specs.Prelude.{◌≡◌, ◌≤◌, ℕ, ◌+◌, ◌⊎◌, [], ◌∷◌, length, map, is_some, true, Some, Ok, IfOk, IfErr, OnOk, OnErr, MatchResult};
+ghost use Rattle.std.specs.Prelude.{◌≡◌, ◌≤◌, ◌<◌, ℕ, List, ◌+◌, ◌⊎◌, [], ◌∷◌, length, map, is_some, true, false, Some, Ok, IfOk, IfErr, OnOk, OnErr, MatchResult};
 ghost use Rattle.std.specs.List.{All};
 ghost use Rattle.std.specs.Int.{w32, from_le_bytes};
+ghost use Rattle.hive_model.specs.Bins.{bins_size};
 ghost use Rattle.hive_model.specs.Edit.{edited, set_value, make_key};
+ghost use Rattle.hive_model.specs.Footprint.{strain_of};
+ghost use Rattle.hive_model.specs.Tree.{Tree};
 ghost use Rattle.reg_tree.specs.Fitting.{Fits};
 ghost use Rattle.hive_model.specs.Size.{bulk_of};
 ghost use Rattle.hive_model.specs.Valid.{IsValid};
@@ -11,7 +14,6 @@ ghost use Rattle.reg_tree.specs.Makes.{IsRefused, Makes, step_of};
 ghost use Rattle.reg_tree.specs.declared.stop.EditStop.TheVariants.{Full, Memory};
 ghost use Rattle.hive_edit.specs.Hive.{cells_in};
 ghost use Rattle.hive_edit.specs.Edits.{inside_place, value_fields, IsEditedInPlace, IsPackedAnew, IsPackedForRoom, WritesFields};
-ghost use Rattle.hive_edit.specs.Given.{place_in};
 
 use crate::give::inside_fields;
 use crate::hive::HiveBytes;
@@ -158,6 +160,8 @@ impl HiveBytes {
         ensures refused { OnErr result (self.new ≡ self.old) }
         ensures version { self.new.version ≡ self.old.version }
         ensures cells { OnOk result (IsEditedInPlace self.old (map step_of steps) self.new ⊎ IsPackedAnew self.new) }
+        ensures one_value { (path : List (List ℕ)) (name : List ℕ) (kind : ℕ) (bytes : List ℕ) → map step_of steps ≡ set_value path name kind bytes ∷ []
+            → OnOk result (IsEditedInPlace self.old (map step_of steps) self.new ⊎ IsPackedForRoom self.old (map step_of steps) self.new) }
     {
         match steps.as_slice() {
             [
@@ -194,7 +198,34 @@ impl HiveBytes {
         self.apply_anew(alloc, steps)
     }
 
-    /// Sets one value where it is there and has room for its data, else packs the tree anew.
+    /// Sets one value in place. `false` where there is no room for it, and where it is refused for its key or its name; the
+    /// hive is as before then, and after an `Err`.
+    fn set_in_place(
+        &mut self,
+        alloc: Global,
+        path: &Names,
+        name: &[u16],
+        kind: u32,
+        bytes: &[u8],
+    ) -> Result<bool, EditStop>
+        requires few { length bytes.now ≤ 1048576 }
+        ensures made { MatchResult result
+            (λ done. done ≡ true → edited self.old.version self.old.tree (set_value path.now name.now kind bytes.now ∷ []) ≡ Ok self.new.tree)
+            (IsRefused (edited self.old.version self.old.tree (set_value path.now name.now kind bytes.now ∷ []))) }
+        ensures unmade { result ≡ Ok false → self.new ≡ self.old }
+        ensures refused { OnErr result (self.new ≡ self.old) }
+        ensures version { self.new.version ≡ self.old.version }
+        ensures done { result ≡ Ok true → IsEditedInPlace self.old (set_value path.now name.now kind bytes.now ∷ []) self.new }
+        ensures no_room { result ≡ Ok false → (u : Tree) → edited self.old.version self.old.tree (set_value path.now name.now kind bytes.now ∷ []) ≡ Ok u
+            → 16777216 < strain_of self.old.version (bins_size self.old.bins) self.old.tree (set_value path.now name.now kind bytes.now ∷ []) }
+    {
+        if self.set_there(alloc, path, name, kind, bytes)? {
+            return Ok(true);
+        }
+        self.set_new(alloc, path, name, kind, bytes)
+    }
+
+    /// Sets one value in place where there is room for it, else packs the tree anew.
     fn set_or_pack(
         &mut self,
         alloc: Global,
@@ -207,14 +238,13 @@ impl HiveBytes {
         ensures refused { OnErr result (self.new ≡ self.old) }
         ensures version { self.new.version ≡ self.old.version }
         ensures cells { OnOk result (IsEditedInPlace self.old (set_value path.now name.now kind bytes.now ∷ []) self.new ⊎ IsPackedAnew self.new) }
-        ensures room { (at : ℕ) → place_in (cells_in self.old) path.now name.now self.old.root ≡ Some at
-            → OnOk result (IsEditedInPlace self.old (set_value path.now name.now kind bytes.now ∷ []) self.new
+        ensures room { OnOk result (IsEditedInPlace self.old (set_value path.now name.now kind bytes.now ∷ []) self.new
             ⊎ IsPackedForRoom self.old (set_value path.now name.now kind bytes.now ∷ []) self.new) }
     {
         if bytes.len() > MOST_DATA {
             return self.set_anew(alloc, path, name, kind, bytes);
         }
-        if self.set_there(alloc, path, name, kind, bytes)? {
+        if self.set_in_place(alloc, path, name, kind, bytes)? {
             return Ok(());
         }
         self.set_anew(alloc, path, name, kind, bytes)
@@ -223,8 +253,9 @@ impl HiveBytes {
     /// Gives the key that a path leads to a value: in place of the one that has the name, letters of either case
     /// taken for one, which keeps its own, or as the last. Where the value is there, twelve bytes of its cell are
     /// written, new cells take data of over four bytes, and the cells of the old data are freed; where these were in the
-    /// value itself, and so are the new, no memory is wanted. A value of a new name, and data that there is no room for,
-    /// pack the tree anew. After an `Err` the hive is as before.
+    /// value itself, and so are the new, no memory is wanted. For a value of a new name one run of cells takes the list
+    /// with it, its own cell and those of its data, eight bytes of the key's node say so, and the old list is freed.
+    /// What there is no room for packs the tree anew. After an `Err` the hive is as before.
     pub fn set_value(
         &mut self,
         alloc: Global,
@@ -237,8 +268,7 @@ impl HiveBytes {
         ensures refused { OnErr result (self.new ≡ self.old) }
         ensures version { self.new.version ≡ self.old.version }
         ensures cells { OnOk result (IsEditedInPlace self.old (set_value path.now name.now kind bytes.now ∷ []) self.new ⊎ IsPackedAnew self.new) }
-        ensures room { (at : ℕ) → place_in (cells_in self.old) path.now name.now self.old.root ≡ Some at
-            → OnOk result (IsEditedInPlace self.old (set_value path.now name.now kind bytes.now ∷ []) self.new
+        ensures room { OnOk result (IsEditedInPlace self.old (set_value path.now name.now kind bytes.now ∷ []) self.new
             ⊎ IsPackedForRoom self.old (set_value path.now name.now kind bytes.now ∷ []) self.new) }
         ensures in_place { is_some (inside_place (cells_in self.old) path.now name.now self.old.root) ≡ true → length bytes.now ≤ 4
             → OnOk result (IsEditedInPlace self.old (set_value path.now name.now kind bytes.now ∷ []) self.new) }

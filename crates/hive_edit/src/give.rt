@@ -20,7 +20,7 @@ use nt_bytes::{Bytes, HiveVersion, put_u32};
 use std::alloc::{AllocError, Global};
 
 /// The number of up to four bytes, which stand in the offset field of a value.
-fn own_number(bytes: &[u8]) -> u32
+pub(crate) fn own_number(bytes: &[u8]) -> u32
     requires { length bytes.now ≤ 4 }
     ensures { result ≡ from_le_bytes w32 bytes.now }
 {

@@ -14,7 +14,7 @@ use crate::path::key_at;
 use crate::source::Source;
 use crate::values::dword_under;
 use hive_cells::{CellHeap, OpenHeap};
-use hive_read::read_tree;
+use hive_read::{judge, read_tree};
 use nt_bytes::{HiveVersion, Names, ReadStop};
 use reg_tree::Key;
 use std::alloc::{AllocError, Global};
@@ -43,7 +43,7 @@ impl Model for HiveBytes {
 
 impl HiveBytes {
     /// The hive of these cells, whose root's node is at an offset, or the first fault of its tree. The whole
-    /// tree is read once, and dropped. Out of memory alone is free.
+    /// tree is judged, and not made. Out of memory alone is free.
     pub fn from_cells(
         alloc: Global,
         cells: CellHeap,
@@ -53,8 +53,7 @@ impl HiveBytes {
         ensures exact { Takes cells root version result }
         ensures valid { IfOk result (λ h. IsValid h.tree) }
     {
-        let tree = read_tree(alloc, &cells, root, version)?;
-        let bulk = tree.bulk(version);
+        let bulk = judge(alloc, &cells, root, version)?;
         let heap = cells.opened(alloc)?;
         Ok(HiveBytes {
             cells: heap,

@@ -10,18 +10,19 @@ mod adding;
 mod cells;
 mod children;
 mod data;
+mod dropping;
 mod edit;
 mod give;
 mod hive;
 mod making;
 mod measure;
+mod new_value;
 mod path;
 mod runs;
 mod set;
 mod source;
-#[cfg(test)]
-mod tests;
 mod unset;
+mod uses;
 mod values;
 
 pub use hive::HiveBytes;

@@ -7,7 +7,7 @@ ghost use Rattle.hive_model.specs.Bins.{bins_size};
 ghost use Rattle.hive_model.specs.Footprint.{list_strain_of};
 ghost use Rattle.hive_model.specs.Packed.{cell_text};
 ghost use Rattle.hive_model.specs.Size.{cell, is_narrow, name_bytes};
-ghost use Rattle.hive_model.specs.Forms.{key_node_text};
+ghost use Rattle.hive_model.specs.KeyNode.{key_node_text};
 ghost use Rattle.hive_model.specs.Walk.{nowhere};
 ghost use Rattle.hive_cells.specs.Held.{held_at};
 ghost use Rattle.hive_edit.specs.Making.{child_fields, new_node, above_children, IsAddable, IsAdded, IsAlike, IsFreedAgain, IsLinkable, IsLinked, IsPutAt, IsRaised, IsWritten, LacksRoomFor, LacksListRoom};
@@ -31,7 +31,7 @@ pub(crate) struct Above {
 }
 
 /// Whether one byte is enough for each unit.
-fn is_narrow(name: &[u16]) -> bool
+pub(crate) fn is_narrow(name: &[u16]) -> bool
     ensures { result ≡ is_narrow name.now }
 {
     name.iter().all(|u| *u < 256)
@@ -117,8 +117,8 @@ fn put_cell(out: &mut Bytes, payload: &[u8]) -> Result<(), AllocError>
 }
 
 /// The bytes of an allocated cell with this payload.
-fn cell_bytes(alloc: Global, payload: &[u8]) -> Result<Bytes, AllocError>
-    requires { length payload.now ≤ 65536 }
+pub(crate) fn cell_bytes(alloc: Global, payload: &[u8]) -> Result<Bytes, AllocError>
+    requires { length payload.now ≤ 16777216 }
     ensures { IfOk result (λ b. b ≡ cell_text payload.now) }
 {
     let mut out = Bytes::new(alloc);
@@ -158,7 +158,7 @@ fn child_fields(count: u32, volatile: u32, list: u32) -> [u8; 12]
 }
 
 /// The node says how many children it has, and where their list is.
-fn note(heap: &mut OpenHeap, parent: u32, count: u32, volatile: u32, list: u32)
+pub(crate) fn note(heap: &mut OpenHeap, parent: u32, count: u32, volatile: u32, list: u32)
     requires { IsSomeAnd (held_at heap.old parent) (λ p. 76 ≤ length p) }
     ensures written { IsWritten parent 20 (child_fields count volatile list) heap.old heap.new }
     ensures small { list < 2 ^ 32 }
@@ -168,7 +168,7 @@ fn note(heap: &mut OpenHeap, parent: u32, count: u32, volatile: u32, list: u32)
 }
 
 /// How many keys use the security cell.
-fn uses_at(heap: &OpenHeap, at: u32) -> u32
+pub(crate) fn uses_at(heap: &OpenHeap, at: u32) -> u32
     requires { IsSomeAnd (held_at heap.now at) (λ p. 20 ≤ length p) }
     ensures { IsSomeAnd (held_at heap.now at) (λ p. result ≡ u32_in p 12) }
 {

@@ -3,7 +3,8 @@
 ghost use Rattle.std.specs.Prelude.{◌≡◌, ◌<◌, ◌≤◌, ◌%◌, ℕ, length, false, Ok};
 ghost use Rattle.std.specs.Result.{IsOk};
 ghost use Rattle.nt_bytes.specs.Text.{wide_of};
-ghost use Rattle.hive_model.specs.Forms.{key_value_at, stored_name};
+ghost use Rattle.hive_model.specs.StoredNames.{stored_name};
+ghost use Rattle.hive_model.specs.KeyValue.{key_value_at};
 ghost use Rattle.hive_model.specs.Size.{cell, cells_sum, data_sizes, is_big, is_narrow, item_size, name_bytes, segment_count, segment_sizes};
 ghost use Rattle.hive_model.specs.Stands.{item_at};
 ghost use Rattle.hive_model.specs.Tree.{Item};

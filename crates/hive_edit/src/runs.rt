@@ -2,7 +2,7 @@
 
 ghost use Rattle.std.specs.Prelude.{◌≡◌, ◌≤◌, ◌<◌, ◌+◌, ◌*◌, ◌++◌, length, OnOk, IfOk};
 ghost use Rattle.hive_model.specs.Size.{cell, is_big, segment_count, data_sizes, cells_sum, data_size};
-ghost use Rattle.hive_model.specs.Forms.{offsets_text};
+ghost use Rattle.hive_model.specs.Lists.{offsets_text};
 ghost use Rattle.hive_model.specs.Packed.{text, cell_text, segment_places, segments, big_cells, data_cells};
 ghost use Rattle.hive_pack.specs.Writes.{big_size};
 

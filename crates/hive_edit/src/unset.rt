@@ -7,7 +7,7 @@ ghost use Rattle.nt_bytes.specs.Fields.{u32_in};
 ghost use Rattle.hive_model.specs.Bins.{bins_size, look_up};
 ghost use Rattle.hive_model.specs.Edit.{edited, delete_value, after_step};
 ghost use Rattle.hive_model.specs.Size.{bulk_of};
-ghost use Rattle.hive_model.specs.Forms.{KeyNode, key_node_at};
+ghost use Rattle.hive_model.specs.KeyNode.{KeyNode, key_node_at};
 ghost use Rattle.hive_model.specs.Walk.{reading, value_checks};
 ghost use Rattle.hive_model.specs.Footprint.{key_place, used_in};
 ghost use Rattle.hive_cells.specs.Held.{held_at, patched};
@@ -61,7 +61,7 @@ fn free_listed(heap: &mut OpenHeap, list: u32, count: u32)
 }
 
 /// The bins data have at most 16 MiB.
-fn bins_fit(heap: &OpenHeap)
+pub(crate) fn bins_fit(heap: &OpenHeap)
     ensures { bins_size heap.now ≤ 16777216 }
 {
     let _bins = heap.bytes();
@@ -185,7 +185,7 @@ fn unlist(heap: &mut OpenHeap, list: u32, count: u32, offset: u32) -> u32
 }
 
 /// How many values a key has, and where their list is.
-fn values_of(heap: &OpenHeap, version: HiveVersion, key: u32) -> (u32, u32)
+pub(crate) fn values_of(heap: &OpenHeap, version: HiveVersion, key: u32) -> (u32, u32)
     requires { IsOk (reading key_node_at (look_up version heap.now) key) }
     ensures { (n : KeyNode) → reading key_node_at (look_up version heap.now) key ≡ Ok n → (result.0 ≡ n.value_count) × (result.1 ≡ n.value_list) }
 {
@@ -198,7 +198,7 @@ fn values_of(heap: &OpenHeap, version: HiveVersion, key: u32) -> (u32, u32)
 }
 
 /// Two numbers as the bytes of two fields.
-fn two_fields(a: u32, b: u32) -> [u8; 8]
+pub(crate) fn two_fields(a: u32, b: u32) -> [u8; 8]
     ensures { result ≡ two_numbers a b }
 {
     let mut fields = [0; 8];
@@ -222,7 +222,7 @@ fn take_out(heap: &mut OpenHeap, version: HiveVersion, key: u32, value: u32)
 // ---- the hive
 
 /// The cell of a value list of so many; none for none.
-fn list_len(count: u32) -> u64
+pub(crate) fn list_len(count: u32) -> u64
     ensures { result ≡ list_room count }
 {
     if count == 0 {

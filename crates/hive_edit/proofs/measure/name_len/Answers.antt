@@ -1,5 +1,5 @@
 use Rattle.std.proofs.Common.{sym, ap, ◌∙◌, arith}
-use Rattle.hive_model.specs.Forms.{stored_name}
+use Rattle.hive_model.specs.StoredNames.{stored_name}
 use Rattle.hive_model.specs.Size.{name_bytes}
 use Rattle.hive_edit.proofs.ItemLemmas.{value_name_is}
 use Rattle.hive_edit.proofs.MeasureLemmas.{stored_few, stored_even}

@@ -1,6 +1,6 @@
 use Rattle.std.proofs.Common.{◌-◌, ◌+◌, ◌++◌, List, ◌∷◌, [], ℕ, sym, ap, ◌∙◌, append_assoc, arith}
 use Rattle.std.specs.Int.{w32, to_le_bytes}
-use Rattle.hive_model.specs.Forms.{offsets_text}
+use Rattle.hive_model.specs.Lists.{offsets_text}
 use Rattle.hive_model.specs.Packed.{segment_places}
 use Rattle.hive_pack.proofs.Parts.{segment_starts_next}
 use Rattle.hive_edit.proofs.runs.segment_list.Goals as goal

@@ -1,7 +1,8 @@
 use Rattle.std.proofs.Common.{◌≡◌, ◌+◌, ◌*◌, ◌++◌, List, ℕ, length, refl, ap, ◌∙◌, arith}
 use Rattle.std.proofs.lemmas.List.{length-append}
 use Rattle.hive_model.specs.Size.{cell, segment_count}
-use Rattle.hive_model.specs.Forms.{BigData, big_data_text, offsets_text}
+use Rattle.hive_model.specs.BigData.{BigData, big_data_text}
+use Rattle.hive_model.specs.Lists.{offsets_text}
 use Rattle.hive_model.specs.Packed.{cell_text, segment_places}
 use Rattle.hive_model.proofs.Spelling.{length_big_data}
 use Rattle.hive_pack.proofs.Rows.{length_segment_list}

@@ -3,7 +3,7 @@ use Rattle.hive_edit.specs.Gone.{HasOffsets, Unlists}
 use Rattle.hive_edit.proofs.ResultLemmas.{is_ok_of}
 use Rattle.hive_edit.proofs.UnsetLemmas.{can_count, list_after, node_room, takes_out}
 use Rattle.hive_model.specs.Bins.{look_up}
-use Rattle.hive_model.specs.Forms.{key_node_at}
+use Rattle.hive_model.specs.KeyNode.{key_node_at}
 use Rattle.hive_model.specs.Walk.{reading}
 use Rattle.hive_edit.proofs.unset.take_out.Goals as goal
 

@@ -1,7 +1,7 @@
 use Rattle.std.proofs.Common.{◌≡◌, ◌≤◌, ◌*◌, length}
 use Rattle.std.specs.Prelude.{find}
 use Rattle.std.specs.List.{All}
-use Rattle.hive_model.specs.Forms.{numbers_in}
+use Rattle.hive_model.specs.Lists.{numbers_in}
 use Rattle.hive_model.specs.Footprint.{is_value_named}
 use Rattle.hive_edit.specs.Places.{IsItemHere}
 use Rattle.hive_edit.specs.Sources.{cells_of}

@@ -1,6 +1,6 @@
 use Rattle.std.proofs.Common.{sym, ap, ◌∙◌}
 use Rattle.nt_bytes.specs.Folding.{folds_same}
-use Rattle.hive_model.specs.Forms.{stored_name}
+use Rattle.hive_model.specs.StoredNames.{stored_name}
 use Rattle.hive_edit.proofs.ItemLemmas.{value_name_is}
 use Rattle.hive_edit.proofs.values.is_named.Goals as goal
 

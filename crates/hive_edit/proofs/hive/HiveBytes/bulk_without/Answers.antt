@@ -1,6 +1,6 @@
 use Rattle.std.proofs.Common.{List, ◌+◌, ◌-◌, sym, subst, arith}
 use Rattle.hive_model.specs.Bins.{Bin, look_up}
-use Rattle.hive_model.specs.Forms.{key_node_at}
+use Rattle.hive_model.specs.KeyNode.{key_node_at}
 use Rattle.hive_model.specs.Walk.{reading}
 use Rattle.hive_edit.specs.Places.{IsItemHere}
 use Rattle.hive_edit.proofs.ResultLemmas.{is_ok_of}

@@ -1,5 +1,5 @@
 use Rattle.std.proofs.Common.{◌≡◌, ◌∙◌, arith}
-use Rattle.hive_model.specs.Forms.{key_node_text}
+use Rattle.hive_model.specs.KeyNode.{key_node_text}
 use Rattle.hive_edit.specs.Making.{new_node, IsAlike, IsAdded}
 use Rattle.hive_edit.proofs.KeyLemmas.{at_there, ready, addable, is_made, is_unmade, if_done, if_undone, on_err_of}
 use Rattle.hive_edit.proofs.hive.HiveBytes.make_at.Goals as goal

@@ -1,6 +1,5 @@
-use Rattle.std.proofs.Common.{◌≡◌, ℕ, List, ◌+◌, length, subst, is_some, inl, refl, sym, ap, ◌∙◌, arith}
+use Rattle.std.proofs.Common.{◌≡◌, ℕ, ◌+◌, length, subst, is_some, inl, refl, sym, ap, ◌∙◌, arith}
 use Rattle.std.specs.Int.{w32, from_le_bytes}
-use Rattle.hive_model.specs.Bins.{Bin}
 use Rattle.hive_cells.specs.Changes.{at_cell, with_part}
 use Rattle.hive_edit.specs.Hive.{HiveCells}
 use Rattle.hive_edit.specs.Edits.{value_fields, WritesFields}
@@ -70,7 +69,7 @@ returns-else-bulk-gt-MOST_BULK-clause-twelve_bytes c = λ at there few.
     (record { exact = subst (λ (a : ℕ). new ≡ at_cell a (with_part 4 fields) c.self.inside.cells) same exact; long = c.patch.ensures.long })
 
 pub returns-else-bulk-gt-MOST_BULK-clause-room : goal.returns-else-bulk-gt-MOST_BULK-clause-room
-returns-else-bulk-gt-MOST_BULK-clause-room c = λ at there.
+returns-else-bulk-gt-MOST_BULK-clause-room c =
     let i = c.self.inside in
     inl (is_set i.cells c.patch.new.self i.root i.version i.bulk c.args.self.now c.args.path.now c.args.name.now c.args.kind c.args.bytes.now c.in-Some.at
     c.self.invariant c.self.view_is (sym c.in-Some.ensures) (omega arith) (λ k. omega (arith, c.type_inv.bytes k)) (omega arith) c.if-bulk-gt-MOST_BULK.false

@@ -1,0 +1,402 @@
+-- A value of a new name in a hive: where it goes, the edit, the bulk, the strain, and the hive after it.
+use Rattle.std.proofs.Common.{◌≡◌, ◌≤◌, ◌<◌, ◌⊎◌, inl, inr, ⊎_elim, ℕ, zero, suc, ◌+◌, ◌-◌, ◌*◌, Bool, true, false, eqb, cond, List, [], ◌∷◌, ◌++◌, length, Option, Some, None, Result, Ok, Err, refl, sym, ap, subst, ◌∙◌, arith}
+use Rattle.std.specs.Prelude.{nat_lt, min, find, is_some, OnOk}
+use Rattle.std.specs.Option.{is_none, option_and_then, option_map_or}
+use Rattle.std.proofs.lemmas.Bool.{ltb-false, ltb-true, le-ltb, lt-ltb, ne_eqb, eqb-true, eqb-false}
+use Rattle.nt_bytes.specs.declared.fault.HiveKind.{HiveKind}
+use Rattle.nt_bytes.specs.declared.version.HiveVersion.{HiveVersion}
+use Rattle.hive_model.specs.Bins.{Bin, Cells, bins_size, look_up}
+use Rattle.hive_model.specs.Forms.{◌>>=◌}
+use Rattle.hive_model.specs.KeyNode.{KeyNode, key_node_at}
+use Rattle.hive_model.specs.Lists.{offsets_in}
+use Rattle.hive_model.specs.Size.{cell, item_size, items_sum, items_size, size, bulk_of}
+use Rattle.hive_model.specs.Tree.{Tree, Item, head, find_key, find_item, is_item}
+use Rattle.hive_model.specs.Tree.{key as tree_key}
+use Rattle.hive_model.specs.Edit.{set_value, Refusal, no_key, name_too_long, data_too_long, full, unless, then_edit, with_item, of_items, has_item, after_step, after_steps, most_bulk, edited}
+use Rattle.hive_model.specs.Packed.{rounded}
+use Rattle.hive_model.specs.Walk.{reading}
+use Rattle.hive_model.specs.Footprint.{of_read, key_place, value_list_sizes, item_sizes, strain_of}
+use Rattle.hive_model.specs.Stands.{Stands, IsWellFormed, items_at, values_of}
+use Rattle.hive_cells.specs.Holes.{new_bin_size}
+use Rattle.edit_laws.specs.Owned.{In, value_list_at}
+use Rattle.edit_laws.specs.Owned.{value_places as owned_places}
+use Rattle.edit_laws.specs.Done.{item}
+use Rattle.edit_laws.specs.Revalues.{cells_of_values}
+use Rattle.edit_laws.specs.Sizes.{total}
+use Rattle.edit_laws.proofs.Ins.{in_left}
+use Rattle.edit_laws.proofs.Out.{placed_at}
+use Rattle.edit_laws.proofs.Patch.{folds_itself}
+use Rattle.edit_laws.proofs.ChangedValues.{values_apart}
+use Rattle.edit_laws.proofs.ItemSizes.{added_size as added_items}
+use Rattle.edit_laws.proofs.RoomLemmas.{some_all, no_room, found_changed, set_needs, item_total}
+use Rattle.edit_laws.proofs.Sizes.{revalued_size}
+use Rattle.edit_laws.proofs.ValueCells.{value_added}
+use Rattle.reg_tree.specs.declared.stop.EditStop.{EditStop}
+use Rattle.reg_tree.specs.Makes.{Makes}
+use Rattle.hive_edit.specs.Edits.{IsPackedAnew, IsPackedForRoom}
+use Rattle.hive_edit.specs.Given.{place_in}
+use Rattle.hive_edit.specs.Gone.{list_room, HasOffsets, TellsBulk}
+use Rattle.hive_edit.specs.Hive.{HiveCells, cells_in, hive_of, IsHive}
+use Rattle.hive_edit.specs.NewValue.{added_size, CanAdd, IsNewIn, LacksRoomForValue, NeverSets, PutsValue, set_tree}
+use Rattle.hive_edit.specs.Places.{value_place, value_places}
+use Rattle.hive_edit.specs.Standing.{tree_of}
+use Rattle.hive_edit.proofs.EditLemmas.{set_edited, made, the_tree}
+use Rattle.hive_edit.proofs.GoneLemmas.{list_facts}
+use Rattle.hive_edit.proofs.InPlaceLemmas.{places_same}
+use Rattle.hive_edit.proofs.PlaceLemmas.{key_there, no_place, items_stand}
+use Rattle.hive_edit.proofs.ResultLemmas.{done, some, ok_same, then_so}
+use Rattle.hive_edit.proofs.StepLemmas.{IsStepDone, step_done}
+use Rattle.hive_edit.proofs.UnsetLemmas.{held_offsets, items_length, sized, none_named, room_less}
+
+-- ---- the values of a key
+
+-- a key's values by its node: where it counts none there are none, else its list names them
+record ValuesListed (b : Cells) (x : ℕ) : Type 0 where
+  node : KeyNode
+  offsets : List ℕ
+  read : reading key_node_at b x ≡ done node
+  places : value_places b x ≡ offsets
+  lists : (node.value_count ≡ 0 → ⊥) → reading (offsets_in node.value_count) b node.value_list ≡ done offsets
+  none : node.value_count ≡ 0 → offsets ≡ []
+
+values_listed : (b : Cells) (x : ℕ) (t : Tree) → Stands b x t → ValuesListed b x
+unfolding value_places values_of
+values_listed b x (tree_key h ts) s = go (eqb n.value_count 0) refl s.1.values
+  where
+    n : KeyNode
+    n = s.1.node
+
+    at_node : value_places b x ≡ cond (eqb n.value_count 0) [] (of_read (reading (offsets_in n.value_count) b n.value_list) (λ os. os))
+    at_node = ap (λ (q : Result KeyNode HiveKind). of_read q (λ m. cond (eqb m.value_count 0) [] (of_read (reading (offsets_in m.value_count) b m.value_list) (λ os. os)))) s.1.read
+
+    go : (t : Bool) → eqb n.value_count 0 ≡ t → cond t (Ok []) (reading (offsets_in n.value_count) b n.value_list >>= items_at b) ≡ done h.values → ValuesListed b x
+    go true e v = record {
+      node = n;
+      offsets = [];
+      read = s.1.read;
+      places = at_node ∙ ap (λ (t : Bool). cond t [] (of_read (reading (offsets_in n.value_count) b n.value_list) (λ os. os))) e;
+      lists = λ z. absurd (z (eqb-true n.value_count 0 e));
+      none = λ z. refl;
+    }
+    go false e v =
+        let l = then_so (reading (offsets_in n.value_count) b n.value_list) (items_at b) h.values v in
+        record {
+          node = n;
+          offsets = l.0;
+          read = s.1.read;
+          places = at_node ∙ ap (λ (t : Bool). cond t [] (of_read (reading (offsets_in n.value_count) b n.value_list) (λ os. os))) e
+              ∙ ap (λ (q : Result (List ℕ) HiveKind). of_read q (λ os. os)) l.1;
+          lists = λ z. l.1;
+          none = λ z. absurd (eqb-false n.value_count 0 e z);
+        }
+
+-- the list is the key's where it counts some
+list_owned : (b : Cells) (x : ℕ) (n : KeyNode) → reading key_node_at b x ≡ done n → (n.value_count ≡ 0 → ⊥) → In (value_list_at b x) n.value_list
+unfolding value_list_at
+list_owned b x n r some_values =
+    let is : cond (eqb n.value_count 0) [] (n.value_list ∷ []) ≡ n.value_list ∷ [] = ap (λ (t : Bool). cond t [] (n.value_list ∷ [])) (ne_eqb n.value_count 0 some_values) in
+    let whole = ap (λ (q : Result KeyNode HiveKind). of_read q (λ m. cond (eqb m.value_count 0) [] (m.value_list ∷ []))) r ∙ is in
+    subst (λ (l : List ℕ). In l n.value_list) (sym whole) (inl refl)
+
+-- a value can be put behind those of a key that is there
+pub can_add : (version : HiveVersion) (bins : List Bin) (root : ℕ) (t : Tree) (path : List (List ℕ)) (x : ℕ) → IsWellFormed (look_up version bins) root t
+    → key_place (look_up version bins) path root ≡ some x → CanAdd (look_up version bins) bins x
+can_add version bins root t path x well k =
+    let b = look_up version bins in
+    let placed = placed_at b path root x k in
+    let there = key_there b path root t x well k in
+    let l = values_listed b x there.there there.well.stands in
+    let apart = values_apart b root t placed.stored x well placed.reached in
+    let has : (l.node.value_count ≡ 0 → ⊥) → HasOffsets bins l.node.value_list l.node.value_count l.offsets =
+    λ n. held_offsets version bins l.node.value_count l.node.value_list l.offsets (l.lists n) in
+    record {
+      node = l.node;
+      offsets = l.offsets;
+      read = l.read;
+      places = places_same b x ∙ l.places;
+      listed = record { number = by_count bins l.node.value_list l.offsets l.node.value_count l.node.value_count refl has l.none; there = has };
+      list = list_owned b x l.node l.read;
+      apart = λ n. apart.node l.node.value_list (in_left (value_list_at b x) (cells_of_values b (owned_places b x)) l.node.value_list (list_owned b x l.node l.read n));
+    }
+  where
+    by_count : (bins : List Bin) (list : ℕ) (os : List ℕ) (m n : ℕ) → m ≡ n → ((m ≡ 0 → ⊥) → HasOffsets bins list m os) → (m ≡ 0 → os ≡ []) → length os ≡ m
+    by_count bins list os m zero e h none = ap (λ (l : List ℕ). length l) (none e) ∙ sym e
+    by_count bins list os m (suc n) e h none = (list_facts bins list m os (h (λ z. omega (arith, e, z)))).number
+
+-- how many they are
+pub values_many : (version : HiveVersion) (bins : List Bin) (x : ℕ) (k : Tree) → IsWellFormed (look_up version bins) x k
+    → (can : CanAdd (look_up version bins) bins x) → can.node.value_count ≡ length (head k).values
+values_many version bins x k well can =
+    let b = look_up version bins in
+    sym can.listed.number
+    ∙ items_length b can.offsets (head k).values (subst (λ (os : List ℕ). items_at b os ≡ done (head k).values) (sym (places_same b x) ∙ can.places) (items_stand b x k well))
+
+-- ---- the edit
+
+-- it is refused for the bulk alone
+pub record EditNew (version : HiveVersion) (t : Tree) (path : List (List ℕ)) (name : List ℕ) (kind : ℕ) (bytes : List ℕ) : Type 0 where
+  pub absent : has_item path name t ≡ false
+  pub step : after_step (set_value path name kind bytes) t ≡ the_tree (set_tree path name kind bytes t)
+  pub edit : edited version t (set_value path name kind bytes ∷ [])
+      ≡ cond (nat_lt most_bulk (bulk_of version (set_tree path name kind bytes t))) (Err full) (Ok (set_tree path name kind bytes t))
+
+edit_new : (version : HiveVersion) (t k : Tree) (path : List (List ℕ)) (name : List ℕ) (kind : ℕ) (bytes : List ℕ) → find_key path t ≡ some k → find_item name k ≡ None
+    → length name ≤ 16383 → length bytes ≤ 1048576 → EditNew version t path name kind bytes
+edit_new version t k path name kind bytes found none short few = record {
+  absent = ap (λ (o : Option Tree). option_map_or (λ k. is_some (find_item name k)) o false) found ∙ ap (λ (o : Option Item). is_some o) none;
+  step = made path name kind bytes t (ap is_none found) (le-ltb 16383 (length name) short) (le-ltb 1048576 (length bytes) few);
+  edit = set_edited version t k path name kind bytes found short few;
+}
+
+-- what an edit that is made tells of the key and the name
+record IsSetIn (t : Tree) (path : List (List ℕ)) (name : List ℕ) : Type 0 where
+  found : is_none (find_key path t) ≡ false
+  short : length name ≤ 16383
+
+set_made : (version : HiveVersion) (t u : Tree) (path : List (List ℕ)) (name : List ℕ) (kind : ℕ) (bytes : List ℕ) → edited version t (set_value path name kind bytes ∷ []) ≡ the_tree u
+    → IsSetIn t path name
+unfolding edited
+set_made version t u path name kind bytes e = go (is_none (find_key path t)) (nat_lt 16383 (length name)) refl refl e
+  where
+    go : (a b : Bool) → is_none (find_key path t) ≡ a → nat_lt 16383 (length name) ≡ b
+        → then_edit (then_edit (unless ((a, no_key) ∷ (b, name_too_long) ∷ (nat_lt 1048576 (length bytes), data_too_long) ∷ []) (set_tree path name kind bytes t)) (λ w. after_steps w []))
+        (λ w. cond (nat_lt most_bulk (bulk_of version w)) (Err full) (Ok w)) ≡ the_tree u
+        → IsSetIn t path name
+    go true b p q f = absurd cc
+    go false true p q f = absurd cc
+    go false false p q f = record { found = p; short = ltb-false 16383 (length name) q }
+
+-- ---- the bulk
+
+sum_more : (s u r m : ℕ) → u + r ≡ s + m → r ≤ m → m ≤ 68719476736
+    → (r ≤ min (min (32 + s) 18446744073709551615 + m) 18446744073709551615)
+    × TellsBulk (min (min (32 + s) 18446744073709551615 + m) 18446744073709551615 - r) (min (32 + u) 18446744073709551615)
+sum_more s u r m e le few = (omega (arith, e, le, few), go (nat_lt 18446744073709551615 (32 + s + m)) refl)
+  where
+    go : (b : Bool) → nat_lt 18446744073709551615 (32 + s + m) ≡ b
+        → TellsBulk (min (min (32 + s) 18446744073709551615 + m) 18446744073709551615 - r) (min (32 + u) 18446744073709551615)
+    go true t = let l = ltb-true 18446744073709551615 (32 + s + m) t in inr (omega (arith, e, le, few, l), omega (arith, e, le, few, l))
+    go false t = let l = ltb-false 18446744073709551615 (32 + s + m) t in inl (omega (arith, e, le, few, l))
+
+size_more : (version : HiveVersion) (t k : Tree) (path : List (List ℕ)) (name : List ℕ) (kind : ℕ) (bytes : List ℕ) → find_key path t ≡ some k → find_item name k ≡ None
+    → size version [] (set_tree path name kind bytes t) + list_room (length (head k).values)
+    ≡ size version [] t + added_size version (length (head k).values) (item name kind bytes)
+size_more version t k path name kind bytes found none =
+    let vs = (head k).values in
+    sum (size version [] (set_tree path name kind bytes t)) (size version [] t) (items_size version vs) (items_size version (with_item name kind bytes vs)) (list_room (length vs)) (items_sum version vs)
+    (cell (4 * suc (length vs))) (item_size version (item name kind bytes)) (revalued_size version [] path t k (with_item name kind bytes) found) (sized version vs)
+    (added_items version name kind bytes vs (ap (λ (o : Option Item). is_some o) none))
+  where
+    sum : (x y i j r q c v : ℕ) → x + i ≡ y + j → i ≡ r + q → j ≡ c + q + v → x + r ≡ y + (c + v)
+    sum x y i j r q c v e f g = omega (arith, e, f, g)
+
+less_room : (n : ℕ) → list_room n ≤ cell (4 * suc n)
+less_room n =
+    let one : suc n - 1 ≡ n = omega arith in
+    let some_list : list_room (suc n) ≡ cell (4 * suc n) = ap (λ (b : Bool). cond b 0 (cell (4 * suc n))) (ne_eqb (suc n) 0 (λ e. omega (arith, e))) in
+    let less = subst (λ (k : ℕ). list_room k ≤ list_room (suc n)) one (room_less (suc n)) in
+    below (list_room n) (list_room (suc n)) (cell (4 * suc n)) less some_list
+  where
+    below : (x y z : ℕ) → x ≤ y → y ≡ z → x ≤ z
+    below x y z l e = omega (arith, l, e)
+
+-- ---- the hive
+
+-- the key in the tree
+record NewThere (b : Cells) (root : ℕ) (t : Tree) (path : List (List ℕ)) (name : List ℕ) (x : ℕ) : Type 0 where
+  place : key_place b path root ≡ some x
+  key : Tree
+  found : find_key path t ≡ some key
+  well : IsWellFormed b x key
+  none : find_item name key ≡ None
+  short : length name ≤ 16383
+
+new_there : (bins : List Bin) (root : ℕ) (version : HiveVersion) (bulk : ℕ) (h : HiveCells) (path : List (List ℕ)) (name : List ℕ) (x : ℕ) → IsHive bins root version bulk
+    → hive_of bins root version ≡ h → IsNewIn h path name x → NewThere (look_up version bins) root (tree_of (look_up version bins) root) path name x
+new_there bins root version bulk h path name x is view new =
+    let b = look_up version bins in
+    let n = subst (λ (g : HiveCells). IsNewIn g path name x) (sym view) new in
+    let there = key_there b path root (tree_of b root) x is.stands n.key in
+    record { place = n.key; key = there.there; found = there.found; well = there.well; none = none_named b name x there.there there.well n.absent; short = n.short }
+
+pub hive_can_add : (bins : List Bin) (root : ℕ) (version : HiveVersion) (bulk : ℕ) (h : HiveCells) (path : List (List ℕ)) (name : List ℕ) (x : ℕ) → IsHive bins root version bulk
+    → hive_of bins root version ≡ h → IsNewIn h path name x → CanAdd (look_up version bins) bins x
+hive_can_add bins root version bulk h path name x is view new =
+    can_add version bins root (tree_of (look_up version bins) root) path x is.stands (new_there bins root version bulk h path name x is view new).place
+
+-- the bulk with it
+pub new_bulk : (bins : List Bin) (root : ℕ) (version : HiveVersion) (bulk : ℕ) (h : HiveCells) (path : List (List ℕ)) (name : List ℕ) (x kind : ℕ) (bytes : List ℕ) (count more less : ℕ)
+    → IsHive bins root version bulk → hive_of bins root version ≡ h → IsNewIn h path name x
+    → ((n : KeyNode) → reading key_node_at (look_up version bins) x ≡ done n → count ≡ n.value_count)
+    → more ≡ added_size version count (item name kind bytes) → more ≤ 68719476736 → less ≡ list_room count
+    → (less ≤ min (bulk + more) 18446744073709551615) × TellsBulk (min (bulk + more) 18446744073709551615 - less) (bulk_of h.version (set_tree path name kind bytes h.tree))
+new_bulk bins root version bulk h path name x kind bytes count more less is view new counts m few l =
+    let b = look_up version bins in
+    let t = tree_of b root in
+    let n = new_there bins root version bulk h path name x is view new in
+    let can = can_add version bins root t path x is.stands n.place in
+    let counted : count ≡ length (head n.key).values = counts can.node can.read ∙ values_many version bins x n.key n.well can in
+    let s = size version [] t in
+    let u = size version [] (set_tree path name kind bytes t) in
+    let e : u + less ≡ s + more =
+    ap (λ (r : ℕ). u + r) (l ∙ ap list_room counted)
+    ∙ size_more version t n.key path name kind bytes n.found n.none
+    ∙ ap (λ (r : ℕ). s + r) (sym (m ∙ ap (λ (k : ℕ). added_size version k (item name kind bytes)) counted)) in
+    let less_is : less ≤ more = within less more (list_room count) (cell (4 * suc count)) (item_size version (item name kind bytes)) l m (less_room count) in
+    let d = sum_more s u less more e less_is few in
+    let told = subst (λ (k : ℕ). (less ≤ min (k + more) 18446744073709551615) × TellsBulk (min (k + more) 18446744073709551615 - less) (bulk_of version (set_tree path name kind bytes t)))
+    (sym is.counted) d in
+    (told.0, subst (λ (g : HiveCells). TellsBulk (min (bulk + more) 18446744073709551615 - less) (bulk_of g.version (set_tree path name kind bytes g.tree))) view told.1)
+  where
+    within : (a b r c v : ℕ) → a ≡ r → b ≡ c + v → r ≤ c → a ≤ b
+    within a b r c v e f g = omega (arith, e, f, g)
+
+abbrev refused : Refusal → Result Tree Refusal
+refused why = Err why
+
+-- over the greatest bulk the edit is refused
+pub new_full : (bins : List Bin) (root : ℕ) (version : HiveVersion) (bulk after : ℕ) (h : HiveCells) (path : List (List ℕ)) (name : List ℕ) (x kind : ℕ) (bytes : List ℕ)
+    → IsHive bins root version bulk → hive_of bins root version ≡ h → IsNewIn h path name x → length bytes ≤ 1048576
+    → TellsBulk after (bulk_of h.version (set_tree path name kind bytes h.tree)) → 16773120 < after → edited h.version h.tree (set_value path name kind bytes ∷ []) ≡ refused full
+new_full bins root version bulk after h path name x kind bytes is view new few tells big =
+    let t = tree_of (look_up version bins) root in
+    let u = set_tree path name kind bytes t in
+    let n = new_there bins root version bulk h path name x is view new in
+    let d = edit_new version t n.key path name kind bytes n.found n.none n.short few in
+    let told = subst (λ (g : HiveCells). TellsBulk after (bulk_of g.version (set_tree path name kind bytes g.tree))) (sym view) tells in
+    let more : 16773120 < bulk_of version u = ⊎_elim (λ (s : after ≡ bulk_of version u). subst (λ (m : ℕ). 16773120 < m) s big) (λ p. p.1) told in
+    subst (λ (g : HiveCells). edited g.version g.tree (set_value path name kind bytes ∷ []) ≡ refused full) view
+    (d.edit ∙ ap (λ (q : Bool). cond q (Err full) (Ok u)) (lt-ltb most_bulk (bulk_of version u) more))
+
+-- where the value was put
+pub new_set : (old new : List Bin) (root : ℕ) (version : HiveVersion) (bulk after : ℕ) (h : HiveCells) (path : List (List ℕ)) (name : List ℕ) (x kind : ℕ) (bytes : List ℕ)
+    → IsHive old root version bulk → hive_of old root version ≡ h → IsNewIn h path name x → length bytes ≤ 1048576
+    → TellsBulk after (bulk_of h.version (set_tree path name kind bytes h.tree)) → after ≤ 16773120 → PutsValue version old new x (item name kind bytes)
+    → IsStepDone h new root version after (set_value path name kind bytes)
+new_set old new root version bulk after h path name x kind bytes is view isnew few tells room put =
+    let b = look_up version old in
+    let c = look_up version new in
+    let t = tree_of b root in
+    let u = set_tree path name kind bytes t in
+    let n = new_there old root version bulk h path name x is view isnew in
+    let d = edit_new version t n.key path name kind bytes n.found n.none n.short few in
+    let told = subst (λ (g : HiveCells). TellsBulk after (bulk_of g.version (set_tree path name kind bytes g.tree))) (sym view) tells in
+    let counted : after ≡ bulk_of version u = ⊎_elim (λ (s : after ≡ bulk_of version u). s) (λ p. absurd (let l = p.0 in omega (arith, l, room))) told in
+    let within : nat_lt most_bulk (bulk_of version u) ≡ false = le-ltb most_bulk (bulk_of version u) (subst (λ (m : ℕ). m ≤ 16773120) counted room) in
+    let made_of = value_added b c root t u path name x put.node is.stands n.place put.read kind bytes put.offsets put.place put.text put.list d.step put.places d.absent put.adds in
+    step_done old new root version bulk after h u (set_value path name kind bytes) is view
+    (d.edit ∙ ap (λ (q : Bool). cond q (Err full) (Ok u)) within) tt made_of counted put.long
+
+-- ---- no room
+
+last_found : (name : List ℕ) (v : Item) (vs : List Item) → find (is_item name) vs ≡ None → is_item name v ≡ true → find (is_item name) (vs ++ v ∷ []) ≡ some v
+last_found name v [] none is = ap (λ (b : Bool). cond b (Some v) None) is
+last_found name v (w ∷ vs) none is = go (is_item name w) none (λ e. last_found name v vs e is)
+  where
+    go : (b : Bool) → cond b (Some w) (find (is_item name) vs) ≡ None → (find (is_item name) vs ≡ None → find (is_item name) (vs ++ v ∷ []) ≡ some v)
+        → cond b (Some w) (find (is_item name) (vs ++ v ∷ [])) ≡ some v
+    go true e deep = absurd cc
+    go false e deep = deep e
+
+-- the key's values then
+record ValuesThen (name : List ℕ) (kind : ℕ) (bytes : List ℕ) (k : Tree) : Type 0 where
+  found : find_item name (of_items (with_item name kind bytes) k) ≡ some (item name kind bytes)
+  many : length (head (of_items (with_item name kind bytes) k)).values ≡ suc (length (head k).values)
+
+values_then : (name : List ℕ) (kind : ℕ) (bytes : List ℕ) (k : Tree) → find_item name k ≡ None → ValuesThen name kind bytes k
+values_then name kind bytes (tree_key h ts) none =
+    let v = item name kind bytes in
+    let is : with_item name kind bytes h.values ≡ h.values ++ v ∷ [] =
+    ap (λ (o : Option Item). cond (is_some o) (Rattle.hive_model.specs.Edit.at_first (is_item name) (λ w. record w { kind = kind; bytes = bytes }) h.values) (h.values ++ v ∷ [])) none in
+    record {
+      found = ap (λ (l : List Item). find (is_item name) l) is ∙ last_found name v h.values none (folds_itself name);
+      many = ap (λ (l : List Item). length l) is ∙ pushed h.values v;
+    }
+  where
+    pushed : (vs : List Item) (v : Item) → length (vs ++ v ∷ []) ≡ suc (length vs)
+    pushed [] v = refl
+    pushed (w ∷ vs) v = let d = pushed vs v in omega (arith, d)
+
+kept_name : (name : List ℕ) (kind : ℕ) (bytes : List ℕ) (w : Tree) → (head (of_items (with_item name kind bytes) w)).name ≡ (head w).name
+kept_name name kind bytes (tree_key h ts) = refl
+
+-- where a new bin for the run is not to be had
+pub new_strained : (bins : List Bin) (root : ℕ) (version : HiveVersion) (bulk : ℕ) (h : HiveCells) (path : List (List ℕ)) (name : List ℕ) (x kind : ℕ) (bytes : List ℕ)
+    → IsHive bins root version bulk → hive_of bins root version ≡ h → IsNewIn h path name x → length bytes ≤ 1048576
+    → LacksRoomForValue version bins x (item name kind bytes) → 16777216 < strain_of h.version (bins_size h.bins) h.tree (set_value path name kind bytes ∷ [])
+new_strained bins root version bulk h path name x kind bytes is view isnew few lacks =
+    let b = look_up version bins in
+    let t = tree_of b root in
+    let u = set_tree path name kind bytes t in
+    let v = item name kind bytes in
+    let step = set_value path name kind bytes in
+    let n = new_there bins root version bulk h path name x is view isnew in
+    let can = can_add version bins root t path x is.stands n.place in
+    let d = edit_new version t n.key path name kind bytes n.found n.none n.short few in
+    let after = values_then name kind bytes n.key n.none in
+    let k = of_items (with_item name kind bytes) n.key in
+    let found : find_key path u ≡ Some k = found_changed (of_items (with_item name kind bytes)) path t n.key (kept_name name kind bytes) n.found in
+    let node : lacks.node ≡ can.node = ok_same lacks.node can.node (sym lacks.read ∙ can.read) in
+    let counted : lacks.node.value_count ≡ length (head n.key).values = ap (λ (m : KeyNode). m.value_count) node ∙ values_many version bins x n.key n.well can in
+    let many = length (head n.key).values in
+    let asked = cell (4 * suc many) ∷ item_sizes version v in
+    let list : value_list_sizes (length (head k).values) ≡ cell (4 * suc many) ∷ [] =
+    ap value_list_sizes after.many ∙ ap (λ (q : Bool). cond q [] (cell (4 * suc many) ∷ [])) (ne_eqb (suc many) 0 (λ e. omega (arith, e))) in
+    let needs = set_needs version t u k path name kind bytes v found after.found ∙ ap (λ (l : List ℕ). l ++ item_sizes version v) list in
+    let all : total asked ≡ added_size version many v = ap (λ (m : ℕ). cell (4 * suc many) + m) (item_total version v) in
+    let over : 16777216 < bins_size bins + rounded (total asked + 32) =
+    subst (λ (m : ℕ). 16777216 < bins_size bins + rounded (m + 32)) (sym all)
+    (subst (λ (m : ℕ). 16777216 < bins_size bins + new_bin_size (added_size version m v)) counted lacks.full) in
+    subst (λ (g : HiveCells). 16777216 < strain_of g.version (bins_size g.bins) g.tree (step ∷ [])) view
+    (no_room version (bins_size bins) 16777216 t u step [] asked d.step
+    (subst (Rattle.edit_laws.specs.Sizes.AreSome asked) (sym needs) (some_all asked)) (omega (arith, all)) over)
+
+-- an edit that packs the tree anew does so for want of room, where the strain of each edit that is made is over the limit
+pub packed_for_room : (h new : HiveCells) (step : Rattle.hive_model.specs.Edit.Step) (r : Result (Unit {0}) EditStop) (P : Type 0) → Makes h.tree new.tree r (edited h.version h.tree (step ∷ []))
+    → OnOk r (IsPackedAnew new) → ((u : Tree) → edited h.version h.tree (step ∷ []) ≡ the_tree u → 16777216 < strain_of h.version (bins_size h.bins) h.tree (step ∷ []))
+    → OnOk r (P ⊎ IsPackedForRoom h (step ∷ []) new)
+packed_for_room h new step (Ok x) P made anew strained = inr (record { packed = anew; strained = strained new.tree made })
+packed_for_room h new step (Err stop) P made anew strained = tt
+
+-- a value of the name is there, or there is none
+pub by_place : (o : Option ℕ) (P : Type 0) → ((at : ℕ) → o ≡ some at → P) → (o ≡ None → P) → P
+by_place None P there none = none refl
+by_place (Some at) P there none = there at refl
+
+-- ---- where the search for the key ends
+
+abbrev pub nowhere : Option ℕ
+nowhere = None
+
+-- a name that is too long is not set
+pub never_long : (h : HiveCells) (path : List (List ℕ)) (name : List ℕ) → 16383 < length name → NeverSets h path name
+never_long h path name long = λ kind bytes u e.
+    absurd (let m = (set_made h.version h.tree u path name kind bytes e).short in omega (arith, m, long))
+
+-- nor is a value of a key that is not there
+pub never_there : (bins heap : List Bin) (root : ℕ) (version : HiveVersion) (bulk : ℕ) (h : HiveCells) (path : List (List ℕ)) (name : List ℕ) → IsHive bins root version bulk
+    → heap ≡ bins → hive_of bins root version ≡ h → nowhere ≡ key_place (look_up version heap) path root → NeverSets h path name
+never_there bins heap root version bulk h path name is e view none =
+    subst (λ (g : HiveCells). NeverSets g path name) view
+    (λ kind bytes u f.
+    let b = look_up version bins in
+    let here : key_place b path root ≡ nowhere = sym (none ∙ ap (λ (bs : List Bin). key_place (look_up version bs) path root) e) in
+    let gone = no_place b path root (tree_of b root) is.stands here in
+    let found = (set_made version (tree_of b root) u path name kind bytes f).found in
+    absurd (let z = sym found ∙ ap is_none gone in cc))
+
+-- the key, and that it has no value of the name
+pub new_seen : (bins heap : List Bin) (root : ℕ) (version : HiveVersion) (h : HiveCells) (path : List (List ℕ)) (name : List ℕ) (x : ℕ) → heap ≡ bins → hive_of bins root version ≡ h
+    → some x ≡ key_place (look_up version heap) path root → nowhere ≡ value_place (look_up version heap) name x → length name ≤ 16383 → IsNewIn h path name x
+new_seen bins heap root version h path name x e view k n short = record {
+  key = sym (k ∙ ap (λ (bs : List Bin). key_place (look_up version bs) path root) e ∙ ap (λ (g : HiveCells). key_place (cells_in g) path g.root) view);
+  absent = sym (n ∙ ap (λ (bs : List Bin). value_place (look_up version bs) name x) e ∙ ap (λ (g : HiveCells). value_place (cells_in g) name x) view);
+  short = short;
+}
+
+-- a value of the name is there
+pub value_named_there : (bins heap : List Bin) (root : ℕ) (version : HiveVersion) (h : HiveCells) (path : List (List ℕ)) (name : List ℕ) (x v : ℕ) → heap ≡ bins → hive_of bins root version ≡ h
+    → some x ≡ key_place (look_up version heap) path root → some v ≡ value_place (look_up version heap) name x → place_in (cells_in h) path name h.root ≡ some v
+value_named_there bins heap root version h path name x v e view k n =
+    sym (n ∙ ap (option_and_then (value_place (look_up version heap) name)) k
+    ∙ ap (λ (bs : List Bin). place_in (look_up version bs) path name root) e ∙ ap (λ (g : HiveCells). place_in (cells_in g) path name g.root) view)

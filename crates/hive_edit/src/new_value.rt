@@ -1,0 +1,403 @@
+//! A value of a new name, put behind the others of its key: one run of the list with it, its cell and those of its data.
+
+ghost use Rattle.std.specs.Prelude.{◌≡◌, ◌≤◌, ◌<◌, ◌+◌, ◌-◌, ◌*◌, ◌++◌, ◌∷◌, [], ℕ, List, suc, true, false, nat_lt, if◌then◌else◌, length, take, None, Some, Ok, IfOk, OnErr, OnOk, MatchBool, MatchResult};
+ghost use Rattle.std.specs.Option.{IfSome, IsSome, IsSomeAnd};
+ghost use Rattle.hive_model.specs.Bins.{bins_size, look_up};
+ghost use Rattle.std.specs.Int.{w32, from_le_bytes};
+ghost use lib.ListN.{replicate};
+ghost use Rattle.hive_model.specs.Edit.{edited, set_value};
+ghost use Rattle.hive_model.specs.Size.{cell, cells_sum, data_sizes, bulk_of, item_size, name_bytes};
+ghost use Rattle.hive_model.specs.Tree.{Tree};
+ghost use Rattle.hive_model.specs.KeyNode.{KeyNode, key_node_at};
+ghost use Rattle.hive_model.specs.KeyValue.{key_value_text};
+ghost use Rattle.hive_model.specs.Lists.{AreOffsets, numbers_in, offsets_text};
+ghost use Rattle.hive_model.specs.Footprint.{strain_of};
+ghost use Rattle.hive_model.specs.Packed.{item_cells, item_form, text};
+ghost use Rattle.hive_model.specs.Walk.{reading};
+ghost use Rattle.cell_forms.specs.Views.{key_value_of};
+ghost use Rattle.hive_cells.specs.Held.{held_at, IsRun};
+ghost use Rattle.edit_laws.specs.Done.{item};
+ghost use Rattle.reg_tree.specs.Makes.{IsRefused};
+ghost use Rattle.hive_edit.specs.Edits.{IsEditedInPlace};
+ghost use Rattle.hive_edit.specs.Given.{place_in};
+ghost use Rattle.hive_edit.specs.Gone.{TellsBulk};
+ghost use Rattle.hive_edit.specs.Hive.{cells_in};
+ghost use Rattle.hive_edit.specs.NewValue.{added_cells, added_size, CanAdd, IsNewIn, IsRelistedAt, LacksRoomForValue, ListsThese, NeverSets, PutsValue, set_tree};
+ghost use Rattle.hive_edit.specs.Runs.{IsPlace};
+
+use crate::cells::{place_for, put_run};
+use crate::give::own_number;
+use crate::hive::HiveBytes;
+use crate::making::{cell_bytes, is_narrow, name_len};
+use crate::measure::{cell_len, data_len};
+use crate::path::key_at;
+use crate::runs::{cell_size, put_cell, write_data};
+use crate::source::Source;
+use crate::unset::{bins_fit, list_len, two_fields, values_of};
+use crate::values::value_at;
+use cell_forms::{VkForm, vk_bytes};
+use hive_cells::OpenHeap;
+use nt_bytes::{Bytes, HiveVersion, Names, Units};
+use reg_tree::EditStop;
+use std::alloc::{AllocError, Global};
+
+/// The greatest bulk of an edited tree, in bytes.
+const MOST_BULK: u64 = 16_773_120;
+
+/// How long bins data may be.
+const MOST_BINS: u64 = 16_777_216;
+
+// ---- the run
+
+/// The bytes of the value list of so many; none where there is none.
+fn list_bytes(heap: &OpenHeap, list: u32, count: u32) -> &[u8]
+    requires { (offsets : List ℕ) × ListsThese heap.now list count offsets }
+    ensures long { 4 * count ≤ length result.now }
+    ensures offsets { (offsets : List ℕ) → ListsThese heap.now list count offsets → numbers_in 4 count result.now ≡ offsets }
+{
+    if count == 0 {
+        return &[];
+    }
+    match heap.payload(list) {
+        Ok(bytes) => bytes,
+        Err(_) => unreachable!(),
+    }
+}
+
+/// The offsets of a list fit their fields.
+fn offsets_fit(list: &[u8], count: u32)
+    requires { 4 * count ≤ length list.now }
+    ensures { AreOffsets (numbers_in 4 count list.now) }
+{}
+
+/// The first so many bytes.
+fn first_bytes(bytes: &[u8], end: usize) -> &[u8]
+    requires { end ≤ length bytes.now }
+    ensures { result.now ≡ take end bytes.now }
+{
+    &bytes[..end]
+}
+
+/// The offsets of a list of so many, and one more behind them.
+fn longer_list(alloc: Global, list: &[u8], count: u32, more: u32) -> Result<Bytes, AllocError>
+    requires few { count ≤ 4194304 }
+    requires long { 4 * count ≤ length list.now }
+    ensures { IfOk result (λ b. b ≡ offsets_text (numbers_in 4 count list.now ++ more ∷ [])) }
+{
+    let first = first_bytes(list, 4 * count as usize);
+    let mut offsets = Bytes::from_slice(alloc, first)?;
+    offsets.put_u32(more)?;
+    Ok(offsets)
+}
+
+/// The size field of a value with these data.
+fn size_field(bytes: &[u8]) -> u32
+    requires { length bytes.now ≤ 1048576 }
+    ensures { result ≡ (if nat_lt 4 (length bytes.now) then length bytes.now else 2147483648 + length bytes.now) }
+{
+    let size = bytes.len() as u32;
+    if size > 4 { size } else { 0x8000_0000 + size }
+}
+
+/// The offset field of a value with these data, which stand here where they are over four bytes.
+fn offset_field(at: u32, bytes: &[u8]) -> u32
+    ensures { result ≡ (if nat_lt 4 (length bytes.now) then at else from_le_bytes w32 (bytes.now ++ replicate (4 - length bytes.now) 0)) }
+{
+    if bytes.len() > 4 {
+        at
+    } else {
+        own_number(bytes)
+    }
+}
+
+/// What the cell of a value says that stands here.
+fn value_form(
+    alloc: Global,
+    at: u32,
+    name: &[u16],
+    kind: u32,
+    bytes: &[u8],
+) -> Result<VkForm, AllocError>
+    requires place { at ≤ 16777216 }
+    requires short { length name.now ≤ 16383 }
+    requires few { length bytes.now ≤ 1048576 }
+    ensures { IfOk result (λ f. key_value_of f ≡ item_form at (item name.now kind bytes.now)) }
+{
+    let data = at + cell_size(20 + name_len(name)) as u32;
+    Ok(VkForm {
+        size: size_field(bytes),
+        offset: offset_field(data, bytes),
+        kind,
+        flags: if is_narrow(name) { 1 } else { 0 },
+        name: Units::from_slice(alloc, name)?,
+    })
+}
+
+/// The payload of the cell of a value that stands here.
+fn value_bytes(
+    alloc: Global,
+    at: u32,
+    name: &[u16],
+    kind: u32,
+    bytes: &[u8],
+) -> Result<Bytes, AllocError>
+    requires place { at ≤ 16777216 }
+    requires short { length name.now ≤ 16383 }
+    requires few { length bytes.now ≤ 1048576 }
+    ensures { IfOk result (λ b. b ≡ key_value_text (item_form at (item name.now kind bytes.now))) }
+{
+    let form = value_form(alloc, at, name, kind, bytes)?;
+    vk_bytes(alloc, &form)
+}
+
+/// Writes the cell of a value that stands here, and those of its data.
+fn write_value(
+    alloc: Global,
+    out: &mut Bytes,
+    version: HiveVersion,
+    at: u32,
+    name: &[u16],
+    kind: u32,
+    bytes: &[u8],
+) -> Result<(), AllocError>
+    requires room { at + item_size version (item name.now kind bytes.now) ≤ 16777216 }
+    requires short { length name.now ≤ 16383 }
+    requires few { length bytes.now ≤ 1048576 }
+    ensures { OnOk result (out.new ≡ out.old ++ text (item_cells version at (item name.now kind bytes.now))) }
+{
+    let value = value_bytes(alloc, at, name, kind, bytes)?;
+    put_cell(out, value.as_slice())?;
+    let data = at as usize + cell_size(20 + name_len(name));
+    write_data(alloc, out, version, data, bytes)
+}
+
+/// The run of a value that is put behind so many others, to stand at a place.
+fn added_run(
+    alloc: Global,
+    old: &[u8],
+    version: HiveVersion,
+    count: u32,
+    place: u32,
+    name: &[u16],
+    kind: u32,
+    bytes: &[u8],
+) -> Result<Bytes, AllocError>
+    requires list { 4 * count ≤ length old.now }
+    requires room { place + added_size version count (item name.now kind bytes.now) ≤ 16777216 }
+    requires short { length name.now ≤ 16383 }
+    requires few { length bytes.now ≤ 1048576 }
+    ensures { IfOk result (λ b. b ≡ text (added_cells version place (numbers_in 4 count old.now) (item name.now kind bytes.now))) }
+{
+    let at = place + cell_size(4 * (count as usize + 1)) as u32;
+    let offsets = longer_list(alloc, old, count, at)?;
+    let mut run = cell_bytes(alloc, offsets.as_slice())?;
+    write_value(alloc, &mut run, version, at, name, kind, bytes)?;
+    Ok(run)
+}
+
+/// How many bytes the run takes.
+fn added_len(version: HiveVersion, count: u32, name: &[u16], size: u32) -> u64
+    requires { length name.now ≤ 16383 }
+    ensures exact { result ≡ cell (4 * suc count) + (cell (20 + name_bytes name.now) + cells_sum (data_sizes version size)) }
+    ensures few { result ≤ 68719476736 }
+{
+    let list = cell_len(4 * (u64::from(count) + 1));
+    list + (cell_len(20 + name_len(name) as u64) + data_len(version, size))
+}
+
+// ---- the cells
+
+/// Frees the value list of so many, if there is one.
+fn free_list(heap: &mut OpenHeap, list: u32, count: u32)
+    requires { (count ≡ 0 → ⊥) → IsSome (held_at heap.old list) }
+    ensures freed { (count ≡ 0 → ⊥) → held_at heap.new list ≡ None }
+    ensures others { (o : ℕ) → ((count ≡ 0 → ⊥) → o ≡ list → ⊥) → held_at heap.new o ≡ held_at heap.old o }
+    ensures long { bins_size heap.new ≡ bins_size heap.old }
+{
+    if count > 0 {
+        heap.free(list);
+    }
+}
+
+/// Puts a run with a key's longer value list at a place; the key's node says so, and the old list is freed.
+fn relist(
+    heap: &mut OpenHeap,
+    key: u32,
+    list: u32,
+    count: u32,
+    place: u32,
+    run: &[u8],
+) -> Result<(), AllocError>
+    requires few { count ≤ 4194304 }
+    requires place { IsPlace (length run.now) heap.old place }
+    requires run { IsRun run.now }
+    requires node { IsSomeAnd (held_at heap.old key) (λ p. 76 ≤ length p) }
+    requires list { (count ≡ 0 → ⊥) → IsSome (held_at heap.old list) }
+    requires apart { (count ≡ 0 → ⊥) → list ≡ key → ⊥ }
+    ensures put { OnOk result (IsRelistedAt key list count place run.now heap.old heap.new) }
+    ensures refused { OnErr result (heap.new ≡ heap.old) }
+{
+    put_run(heap, place, run)?;
+    let fields = two_fields(count + 1, place);
+    heap.patch(key, 36, &fields);
+    free_list(heap, list, count);
+    Ok(())
+}
+
+/// Puts a value behind the others of a key at a place that has room for its run.
+fn add_at(
+    alloc: Global,
+    heap: &mut OpenHeap,
+    version: HiveVersion,
+    key: u32,
+    place: u32,
+    name: &[u16],
+    kind: u32,
+    bytes: &[u8],
+) -> Result<(), AllocError>
+    requires can { CanAdd (look_up version heap.old) heap.old key }
+    requires place { (n : KeyNode) → reading key_node_at (look_up version heap.old) key ≡ Ok n
+        → IsPlace (added_size version n.value_count (item name.now kind bytes.now)) heap.old place }
+    requires short { length name.now ≤ 16383 }
+    requires few { length bytes.now ≤ 1048576 }
+    ensures put { OnOk result (PutsValue version heap.old heap.new key (item name.now kind bytes.now)) }
+    ensures refused { OnErr result (heap.new ≡ heap.old) }
+{
+    bins_fit(heap);
+    let (count, list) = values_of(heap, version, key);
+    let old = list_bytes(heap, list, count);
+    offsets_fit(old, count);
+    let run = added_run(alloc, old, version, count, place, name, kind, bytes)?;
+    relist(heap, key, list, count, place, run.as_slice())
+}
+
+/// Puts a value behind the others of a key. `false` where there is no room for its run; the heap is as it was then, and
+/// where there is no memory.
+fn add_value(
+    alloc: Global,
+    heap: &mut OpenHeap,
+    version: HiveVersion,
+    key: u32,
+    name: &[u16],
+    kind: u32,
+    bytes: &[u8],
+) -> Result<bool, AllocError>
+    requires can { CanAdd (look_up version heap.old) heap.old key }
+    requires short { length name.now ≤ 16383 }
+    requires few { length bytes.now ≤ 1048576 }
+    ensures put { IfOk result (λ done. MatchBool done (PutsValue version heap.old heap.new key (item name.now kind bytes.now))
+        (LacksRoomForValue version heap.old key (item name.now kind bytes.now) × (heap.new ≡ heap.old))) }
+    ensures refused { OnErr result (heap.new ≡ heap.old) }
+{
+    let (count, _list) = values_of(heap, version, key);
+    let size = added_len(version, count, name, bytes.len() as u32);
+    if size > MOST_BINS {
+        return Ok(false);
+    }
+    match place_for(heap, size as u32) {
+        None => Ok(false),
+        Some(place) => {
+            add_at(alloc, heap, version, key, place, name, kind, bytes)?;
+            Ok(true)
+        }
+    }
+}
+
+// ---- the hive
+
+impl HiveBytes {
+    /// The key that a path leads to, where it has no value of a name, which is not too long for one.
+    fn new_in(&self, path: &Names, name: &[u16]) -> Option<u32>
+        ensures new { IfSome result (IsNewIn self.now path.now name.now) }
+        ensures none { result ≡ None → place_in (cells_in self.now) path.now name.now self.now.root ≡ None → NeverSets self.now path.now name.now }
+    {
+        if name.len() > 16383 {
+            return None;
+        }
+        let source = Source {
+            heap: self.cells.cells(),
+            version: self.version,
+        };
+        match key_at(&source, self.root, path) {
+            None => None,
+            Some(key) => match value_at(&source, key, name) {
+                None => Some(key),
+                Some(_) => None,
+            },
+        }
+    }
+
+    /// The bulk with a value of a new name in a key; over the greatest of an edited tree where that is.
+    fn bulk_with(&self, path: &Names, name: &[u16], key: u32, kind: u32, bytes: &[u8]) -> u64
+        requires new { IsNewIn self.now path.now name.now key }
+        requires few { length bytes.now ≤ 1048576 }
+        ensures { TellsBulk result (bulk_of self.now.version (set_tree path.now name.now kind bytes.now self.now.tree)) }
+    {
+        let (count, _list) = values_of(&self.cells, self.version, key);
+        let more = added_len(self.version, count, name, bytes.len() as u32);
+        self.bulk.saturating_add(more) - list_len(count)
+    }
+
+    /// Puts a value of a new name into a key in place. `false` where there is no room for it; the hive is as before then,
+    /// and after an `Err`.
+    fn add_new(
+        &mut self,
+        alloc: Global,
+        path: &Names,
+        name: &[u16],
+        key: u32,
+        kind: u32,
+        bytes: &[u8],
+    ) -> Result<bool, EditStop>
+        requires new { IsNewIn self.old path.now name.now key }
+        requires few { length bytes.now ≤ 1048576 }
+        ensures made { MatchResult result
+            (λ done. done ≡ true → edited self.old.version self.old.tree (set_value path.now name.now kind bytes.now ∷ []) ≡ Ok self.new.tree)
+            (IsRefused (edited self.old.version self.old.tree (set_value path.now name.now kind bytes.now ∷ []))) }
+        ensures unmade { result ≡ Ok false → self.new ≡ self.old }
+        ensures refused { OnErr result (self.new ≡ self.old) }
+        ensures version { self.new.version ≡ self.old.version }
+        ensures done { result ≡ Ok true → IsEditedInPlace self.old (set_value path.now name.now kind bytes.now ∷ []) self.new }
+        ensures no_room { result ≡ Ok false
+            → 16777216 < strain_of self.old.version (bins_size self.old.bins) self.old.tree (set_value path.now name.now kind bytes.now ∷ []) }
+    {
+        let bulk = self.bulk_with(path, name, key, kind, bytes);
+        if bulk > MOST_BULK {
+            return Err(EditStop::Full);
+        }
+        let version = self.version;
+        if add_value(alloc, &mut self.cells, version, key, name, kind, bytes)? {
+            self.bulk = bulk;
+            return Ok(true);
+        }
+        Ok(false)
+    }
+
+    /// Sets a value of a new name in place. `false` where there is no key for it, or a value of the name, or no room; the
+    /// hive is as before then, and after an `Err`.
+    pub(crate) fn set_new(
+        &mut self,
+        alloc: Global,
+        path: &Names,
+        name: &[u16],
+        kind: u32,
+        bytes: &[u8],
+    ) -> Result<bool, EditStop>
+        requires few { length bytes.now ≤ 1048576 }
+        ensures made { MatchResult result
+            (λ done. done ≡ true → edited self.old.version self.old.tree (set_value path.now name.now kind bytes.now ∷ []) ≡ Ok self.new.tree)
+            (IsRefused (edited self.old.version self.old.tree (set_value path.now name.now kind bytes.now ∷ []))) }
+        ensures unmade { result ≡ Ok false → self.new ≡ self.old }
+        ensures refused { OnErr result (self.new ≡ self.old) }
+        ensures version { self.new.version ≡ self.old.version }
+        ensures done { result ≡ Ok true → IsEditedInPlace self.old (set_value path.now name.now kind bytes.now ∷ []) self.new }
+        ensures no_room { result ≡ Ok false → place_in (cells_in self.old) path.now name.now self.old.root ≡ None
+            → (u : Tree) → edited self.old.version self.old.tree (set_value path.now name.now kind bytes.now ∷ []) ≡ Ok u
+            → 16777216 < strain_of self.old.version (bins_size self.old.bins) self.old.tree (set_value path.now name.now kind bytes.now ∷ []) }
+    {
+        match self.new_in(path, name) {
+            None => Ok(false),
+            Some(key) => self.add_new(alloc, path, name, key, kind, bytes),
+        }
+    }
+}
