@@ -40,7 +40,8 @@ impl Scheme for LogScheme {
         new: &[u8],
         root: u32,
     ) -> Result<BaseBlock, CommitStop> {
-        hive_commit::commit(disk, base, old, new, root)
+        let mut marks = [0; 4096];
+        hive_commit::commit(disk, base, old, new, root, &mut marks)
     }
 
     fn settled_is_clean() {}

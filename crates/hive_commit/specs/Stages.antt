@@ -4,6 +4,8 @@ use Rattle.hive_model.specs.Base.{Base, base_text}
 use Rattle.hive_model.specs.Image.{Primary, Log, Address, Image, Bytes, Write, IsLeftBy, same_file, same_address}
 use Rattle.hive_model.specs.Recovery.{primary_in, sector}
 use Rattle.hive_model.specs.Carries.{IsRecoveredAs}
+use Rattle.hive_model.specs.State.{HiveState}
+use Rattle.hive_model.specs.Load.{LoadsAs}
 use Rattle.hive_model.specs.Asked.{primary_at}
 
 -- an address in the log
@@ -41,3 +43,7 @@ closed_of base new root = record base { first = next_number base.first; second =
 -- the image is recovered as what was before the commit, or as what is after it
 abbrev pub IsBeforeOrAfter : Base → List ℕ → Base → List ℕ → Image → Type 0
 IsBeforeOrAfter base old closed new image = IsRecoveredAs image base old ⊎ IsRecoveredAs image closed new
+
+-- the image loads as the one state or as the other
+abbrev pub LoadsAsEither : HiveState → HiveState → Image → Type 0
+LoadsAsEither before after image = LoadsAs image before ⊎ LoadsAs image after

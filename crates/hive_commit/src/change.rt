@@ -1,11 +1,11 @@
 //! A commit: the log, the base block opened, the sectors, the base block closed.
 
-ghost use Rattle.std.specs.Prelude.{◌≡◌, true, [], length, IfOk, OnOk, IsOk};
+ghost use Rattle.std.specs.Prelude.{◌≡◌, ◌<◌, ◌/◌, ℕ, true, [], length, IfOk, OnOk, IsOk};
+ghost use Rattle.hive_model.specs.Recovery.{bit};
 ghost use Rattle.hive_model.specs.Base.{is_bins_size};
 ghost use Rattle.hive_model.specs.Carries.{Carries, HasLog};
 ghost use Rattle.hive_model.specs.Log.{dirty, log_of};
 ghost use Rattle.nt_edge.specs.Host.{Rises};
-ghost use Rattle.nt_edge.specs.Frames.{Goes};
 ghost use Rattle.nt_edge.specs.Calls.{MakesUntil};
 ghost use Rattle.nt_edge.specs.Crash.{EachCrash};
 ghost use Rattle.hive_commit.specs.Alone.{KeepsRest};
@@ -17,7 +17,7 @@ use crate::CommitStop;
 use crate::fitting::{numbers_fit, texts_fit};
 use crate::stages::{write_bins, write_block, write_log};
 use hive_log::mark_dirty;
-use nt_edge::{Disk, DiskStop};
+use nt_edge::Disk;
 use regf_base::BaseBlock;
 
 /// Puts new bins data with their root in the place of old ones. The disk is on, has nothing in flight and
@@ -29,6 +29,7 @@ pub fn commit<D: Disk>(
     old: &[u8],
     new: &[u8],
     root: u32,
+    marks: &mut [u8; 4096],
 ) -> Result<BaseBlock, CommitStop>
     requires on { (D.state disk.old).on ≡ true }
     requires still { D.tells ≡ true → (D.state disk.old).flight ≡ [] }
@@ -50,46 +51,19 @@ pub fn commit<D: Disk>(
     // At every exit a cut leaves sectors 1 to 7 of the primary, and those behind the new data, as they were.
     ensures rest { D.tells ≡ true → EachCrash (D.state disk.new) (KeepsRest (length new.now) (D.state disk.old).held) }
     ensures goes { IsCommitOn (D.state disk.old) (D.state disk.new) result }
+    // Whatever the answer, the bits of the sectors that differ are on in the marks, and the others are off.
+    ensures marked { (i : ℕ) → i < length new.now / 512 → bit marks.new i ≡ dirty old.now new.now i }
     // There is no other refusal: where no count rose, the commit is done.
-    ensures done { (Rises (D.state disk.old).cuts (D.state disk.new).cuts → ⊥) → (Rises (D.state disk.old).faults (D.state disk.new).faults → ⊥)
-        → (Rises (D.state disk.old).lacks (D.state disk.new).lacks → ⊥) → IsOk result }
-{
-    let closed = change(disk, base, old, new, root)?;
-    Ok(closed)
-}
-
-fn change<D: Disk>(
-    disk: &mut D,
-    base: &BaseBlock,
-    old: &[u8],
-    new: &[u8],
-    root: u32,
-) -> Result<BaseBlock, DiskStop>
-    requires on { (D.state disk.old).on ≡ true }
-    requires still { D.tells ≡ true → (D.state disk.old).flight ≡ [] }
-    requires carries { D.tells ≡ true → Carries (D.state disk.old).held base.now old.now }
-    requires sized { is_bins_size (length new.now) ≡ true }
-    ensures made { MakesUntil (D.calls disk.old) (D.calls disk.new) (change_calls base.now old.now new.now root) result }
-    ensures answered { IfOk result (λ b. b ≡ closed_of base.now new.now root) }
-    ensures still { D.tells ≡ true → OnOk result ((D.state disk.new).flight ≡ []) }
-    ensures carries { D.tells ≡ true → OnOk result (Carries (D.state disk.new).held (closed_of base.now new.now root) new.now) }
-    ensures crash { D.tells ≡ true → EachCrash (D.state disk.new)
-        (IsBeforeOrAfter base.now old.now (closed_of base.now new.now root) new.now) }
-    ensures logged { D.tells ≡ true → OnOk result (HasLog (D.state disk.new).held
-        (log_of (dirty old.now new.now) new.now (closed_of base.now new.now root))) }
-    ensures rest { D.tells ≡ true → EachCrash (D.state disk.new) (KeepsRest (length new.now) (D.state disk.old).held) }
-    ensures goes { Goes (D.state disk.old) (D.state disk.new) result }
     ensures done { (Rises (D.state disk.old).cuts (D.state disk.new).cuts → ⊥) → (Rises (D.state disk.old).faults (D.state disk.new).faults → ⊥)
         → (Rises (D.state disk.old).lacks (D.state disk.new).lacks → ⊥) → IsOk result }
 {
     numbers_fit(base);
     texts_fit(base);
     let closed = closed_block(base, new.len() as u32, root);
-    let mut bitmap = [0; 4096];
-    mark_dirty(old, new, &mut bitmap);
-    write_log(disk, &closed, &bitmap, new)?;
+    mark_dirty(old, new, marks);
+    write_log(disk, &closed, marks, new)?;
     write_block(disk, &opened_block(base))?;
-    write_bins(disk, &bitmap, new)?;
+    write_bins(disk, marks, new)?;
     write_block(disk, &closed)?;
     Ok(closed)
 }

@@ -7,8 +7,8 @@ use Rattle.hive_model.specs.Load.{Loads}
 use Rattle.hive_model.specs.State.{HiveState}
 use Rattle.hive_cells.proofs.Again.{one_list}
 use Rattle.hive_read.proofs.Loading.{one-load}
-use Rattle.hive_commit.specs.Stages.{IsBeforeOrAfter}
-use Rattle.hive_laws.specs.Cuts.{HoldsIn, LoadsAsEither, LoadsAsNoThird, ReadsAsEither}
+use Rattle.hive_commit.specs.Stages.{IsBeforeOrAfter, LoadsAsEither}
+use Rattle.hive_laws.specs.Cuts.{HoldsIn, LoadsAsNoThird, ReadsAsEither}
 
 loads_as : (image : Image) (base : Base) (bins : List ℕ) (state : HiveState) → HoldsIn base bins state → (is : IsRecoveredAs image base bins) → Loads image state is.dirty
 loads_as image base bins state holds is =
@@ -29,8 +29,8 @@ reads_as_either reading base closed old new image (inr is) =
 module _ (base closed : Base) (old new : List ℕ) (before after : HiveState)
     (held : HoldsIn base old before) (holds : HoldsIn closed new after) where
   pub loads_as_either : (image : Image) → IsBeforeOrAfter base old closed new image → LoadsAsEither before after image
-  loads_as_either image (inl is) = (is.dirty, inl (loads_as image base old before held is))
-  loads_as_either image (inr is) = (is.dirty, inr (loads_as image closed new after holds is))
+  loads_as_either image (inl is) = inl (is.dirty, loads_as image base old before held is)
+  loads_as_either image (inr is) = inr (is.dirty, loads_as image closed new after holds is)
 
   pub loads_as_no_third : (image : Image) → IsBeforeOrAfter base old closed new image → LoadsAsNoThird before after image
   loads_as_no_third image (inl is) found dirty loads =

@@ -10,7 +10,9 @@ use Rattle.nt_bytes.specs.declared.fault.HiveKind.{HiveKind}
 use Rattle.nt_bytes.specs.declared.fault.HiveKind.TheVariants.{Shared, TooDeep}
 use Rattle.hive_model.specs.Base.{fault_at}
 use Rattle.hive_model.specs.Bins.{Cells, or_else}
-use Rattle.hive_model.specs.Forms.{key_name_at, key_node_at, key_node_text, list_of, list_at, li_text}
+use Rattle.hive_model.specs.StoredNames.{key_name_at}
+use Rattle.hive_model.specs.KeyNode.{key_node_at, key_node_text}
+use Rattle.hive_model.specs.Lists.{list_of, list_at, li_text}
 use Rattle.hive_model.specs.Walk.{Check, uses, tests, found, at_place, failing, clash, first_among, first_fault, node_at, entries_at, class_checks, security_checks, values_checks, entries_checks, children_checks, key_checks, all_checks}
 use Rattle.hive_laws.specs.SmallCells.{endless}
 

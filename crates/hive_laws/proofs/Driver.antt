@@ -10,7 +10,11 @@ use Rattle.nt_bytes.specs.declared.version.HiveVersion.TheVariants.{V3}
 use Rattle.nt_bytes.specs.declared.fault.HiveFault.{HiveFault}
 use Rattle.nt_bytes.specs.declared.fault.HiveKind.{HiveKind}
 use Rattle.nt_bytes.specs.declared.fault.HiveKind.TheVariants.{Shared}
-use Rattle.hive_model.specs.Forms.{KeyNode, key_node_in, key_name_at, key_node_at, value_name_at, key_value_at, bytes_in, offsets_in, list_of, list_at}
+use Rattle.hive_model.specs.Forms.{bytes_in}
+use Rattle.hive_model.specs.StoredNames.{key_name_at, value_name_at}
+use Rattle.hive_model.specs.KeyNode.{KeyNode, key_node_in, key_node_at}
+use Rattle.hive_model.specs.KeyValue.{key_value_at}
+use Rattle.hive_model.specs.Lists.{offsets_in, list_of, list_at}
 use Rattle.hive_model.specs.Bins.{Cell, Bin, Cells, IsCell, IsBins, cell_size, cells_size, bins_size, spelled, payload_at, look_up, or_else}
 use Rattle.hive_model.specs.Tree.{Item, Tree, head, children}
 use Rattle.hive_model.specs.Valid.{KeysDiffer, ItemsDiffer}

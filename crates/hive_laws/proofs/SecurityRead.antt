@@ -5,7 +5,12 @@ use Rattle.std.proofs.lemmas.List.Elements.{All-cons, All-contains}
 use Rattle.nt_bytes.specs.declared.fault.HiveKind.{HiveKind}
 use Rattle.nt_bytes.specs.declared.fault.HiveKind.TheVariants.{Count}
 use Rattle.nt_bytes.specs.declared.fault.HiveFault.{HiveFault}
-use Rattle.hive_model.specs.Forms.{KeyNode, KeyValue, BigData, SecurityCell, SubkeyList, security_at, data_inside, bytes_in, key_value_at, offsets_in, list_at}
+use Rattle.hive_model.specs.Forms.{bytes_in}
+use Rattle.hive_model.specs.KeyNode.{KeyNode}
+use Rattle.hive_model.specs.KeyValue.{KeyValue, data_inside, key_value_at}
+use Rattle.hive_model.specs.BigData.{BigData}
+use Rattle.hive_model.specs.Security.{SecurityCell, security_at}
+use Rattle.hive_model.specs.Lists.{SubkeyList, offsets_in, list_at}
 use Rattle.hive_model.specs.Size.{segment_part, segment_bytes, is_big}
 use Rattle.hive_model.specs.Bins.{Cells, or_else}
 use Rattle.hive_model.specs.Walk.{Check, uses, tests, reading, found, below_of, use_as, failing, name_check, names_of, is_list_of_lists, big_data_of, class_checks, security_checks, segments_checks, big_checks, data_checks, value_checks, values_in_turn, values_checks, leaves_checks, entries_checks, entries_at, node_at, leaf_at, keys_in_turn, children_checks, below_node, key_checks, all_checks, first_among, first_fault}

@@ -6,7 +6,7 @@ use Rattle.nt_bytes.specs.declared.version.HiveVersion.{HiveVersion}
 use Rattle.nt_bytes.specs.declared.version.HiveVersion.TheVariants.{V3, V5}
 use Rattle.hive_model.specs.Size.{cell, part_count}
 use Rattle.hive_model.specs.Bins.{Cells}
-use Rattle.hive_model.specs.Forms.{AreHints, ri_text}
+use Rattle.hive_model.specs.Lists.{AreHints, ri_text}
 use Rattle.hive_model.specs.Packed.{list_text, part_places, parts, list_cells}
 use Rattle.hive_model.specs.InPlace.{PartsAt, PartedAt, IsPackedList}
 use Rattle.hive_model.proofs.Spelling.{length_lf, length_lh, length_ri}

@@ -10,10 +10,6 @@ use Rattle.hive_model.specs.State.{HiveState}
 abbrev pub HoldsIn : Base → List ℕ → HiveState → Type 0
 HoldsIn base bins state = Holds (record { base = base; bins = bins; dirty = false }) state
 
--- the image loads as the one state or the other
-abbrev pub LoadsAsEither : HiveState → HiveState → Image → Type 0
-LoadsAsEither first then image = (dirty : Bool) × (Loads image first dirty ⊎ Loads image then dirty)
-
 -- each state that it loads as is one of the two
 abbrev pub LoadsAsNoThird : HiveState → HiveState → Image → Type 0
 LoadsAsNoThird first then image =

@@ -4,7 +4,11 @@ use Rattle.nt_bytes.specs.declared.version.HiveVersion.{HiveVersion}
 use Rattle.nt_bytes.specs.declared.fault.HiveFault.{HiveFault}
 use Rattle.nt_bytes.specs.declared.fault.HiveKind.TheVariants.{OutOfRange}
 use Rattle.hive_model.specs.Bins.{Bin, Cells}
-use Rattle.hive_model.specs.Forms.{KeyNode, key_node_text, KeyValue, SecurityCell, big_data_text, security_text, offsets_text, li_text, lf_text}
+use Rattle.hive_model.specs.KeyNode.{KeyNode, key_node_text}
+use Rattle.hive_model.specs.KeyValue.{KeyValue}
+use Rattle.hive_model.specs.BigData.{big_data_text}
+use Rattle.hive_model.specs.Security.{SecurityCell, security_text}
+use Rattle.hive_model.specs.Lists.{offsets_text, li_text, lf_text}
 use Rattle.hive_model.specs.Packed.{allocated_cell}
 use Rattle.hive_model.specs.Walk.{nowhere, data_checks, first_among}
 

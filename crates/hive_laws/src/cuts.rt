@@ -7,8 +7,8 @@ ghost use Rattle.hive_model.specs.Base.{Base};
 ghost use Rattle.hive_model.specs.State.{HiveState};
 ghost use Rattle.nt_edge.specs.Disk.{DiskState};
 ghost use Rattle.nt_edge.specs.Crash.{EachCrash};
-ghost use Rattle.hive_commit.specs.Stages.{closed_of, IsBeforeOrAfter};
-ghost use Rattle.hive_laws.specs.Cuts.{HoldsIn, LoadsAsEither, LoadsAsNoThird, ReadsAsEither};
+ghost use Rattle.hive_commit.specs.Stages.{closed_of, IsBeforeOrAfter, LoadsAsEither};
+ghost use Rattle.hive_laws.specs.Cuts.{HoldsIn, LoadsAsNoThird, ReadsAsEither};
 
 /// By whatever reading of base blocks and bins data, a cut within a commit leaves what it makes of those from before,
 /// or of those from after.

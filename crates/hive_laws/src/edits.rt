@@ -13,7 +13,8 @@ ghost use Rattle.hive_laws.specs.Trees.{folder, number, root_with, tagged, a_key
 /// A value that is there keeps its name, whatever the case of the name that was given. A new one is the last.
 pub fn a_value_is_set()
     ensures there { LeadTo home (set_value [] (codes "TAG") 4 (2 ∷ 0 ∷ 0 ∷ 0 ∷ []) ∷ []) (Ok (root_with (number (codes "Tag") 2 ∷ []) (a_key ∷ d_key ∷ []))) }
-    ensures new { LeadTo home (set_value [] (codes "New") 4 (2 ∷ 0 ∷ 0 ∷ 0 ∷ []) ∷ []) (Ok (root_with (number (codes "Tag") 1 ∷ number (codes "New") 2 ∷ []) (a_key ∷ d_key ∷ []))) }
+    ensures new { LeadTo home (set_value [] (codes "New") 4 (2 ∷ 0 ∷ 0 ∷ 0 ∷ []) ∷ [])
+        (Ok (root_with (number (codes "Tag") 1 ∷ number (codes "New") 2 ∷ []) (a_key ∷ d_key ∷ []))) }
 {}
 
 /// A value goes by its name in any case.
@@ -117,5 +118,6 @@ pub fn a_full_hive_of_segments()
 
 /// Data have at most 1,048,576 bytes.
 pub fn too_many_bytes()
-    ensures { (version : Version) (bytes : List ℕ) → 1048576 < length bytes → edited version home (set_value [] (codes "Tag") 3 bytes ∷ []) ≡ Err data_too_long }
+    ensures { (version : Version) (bytes : List ℕ) → 1048576 < length bytes
+        → edited version home (set_value [] (codes "Tag") 3 bytes ∷ []) ≡ Err data_too_long }
 {}

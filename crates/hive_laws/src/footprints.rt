@@ -46,7 +46,8 @@ pub fn cells_of_new_keys()
 /// The nodes of key and parent, the parent's list, and all cells of the key and below it, with the descriptor
 /// that keys outside use too. What is made again is looked up where it was.
 pub fn cells_of_removed_keys()
-    ensures below { FootprintIs guarded (delete_key (codes "a" ∷ []) ∷ []) (168 ∷ 32 ∷ 152 ∷ 168 ∷ 256 ∷ 120 ∷ 264 ∷ 288 ∷ 376 ∷ 408 ∷ 416 ∷ 448 ∷ 464 ∷ 120 ∷ []) }
+    ensures below { FootprintIs guarded (delete_key (codes "a" ∷ []) ∷ [])
+        (168 ∷ 32 ∷ 152 ∷ 168 ∷ 256 ∷ 120 ∷ 264 ∷ 288 ∷ 376 ∷ 408 ∷ 416 ∷ 448 ∷ 464 ∷ 120 ∷ []) }
     ensures inner { FootprintIs guarded (delete_key (codes "a" ∷ codes "b" ∷ []) ∷ []) (288 ∷ 168 ∷ 264 ∷ 288 ∷ 376 ∷ 408 ∷ 416 ∷ 448 ∷ []) }
     ensures made_again { FootprintIs guarded (delete_key (codes "a" ∷ codes "b" ∷ []) ∷ make_key (codes "a" ∷ []) (codes "b") ∷ [])
         (288 ∷ 168 ∷ 264 ∷ 288 ∷ 376 ∷ 408 ∷ 416 ∷ 448 ∷ 288 ∷ 168 ∷ 264 ∷ 120 ∷ []) }

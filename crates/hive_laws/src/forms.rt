@@ -3,7 +3,11 @@
 ghost use Rattle.std.specs.Prelude.{◌≡◌, [], ◌∷◌, codes, replicate, take, slice_set, Ok, Err, true, false};
 ghost use Rattle.nt_bytes.specs.declared.fault.HiveKind.TheVariants.{FormShort, FormSign, FormLength, FormName, FormKind, BinSign, BinOffset, BinSize, CellSize, CellPastBin};
 ghost use Rattle.hive_model.specs.Bins.{header_at, size_at};
-ghost use Rattle.hive_model.specs.Forms.{key_node_at, key_node_text, key_value_at, key_value_text, security_at, security_text, big_data_at, big_data_text, list_at, li_text, lf_text, lh_text, ri_text, offsets_in};
+ghost use Rattle.hive_model.specs.KeyNode.{key_node_at, key_node_text};
+ghost use Rattle.hive_model.specs.KeyValue.{key_value_at, key_value_text};
+ghost use Rattle.hive_model.specs.BigData.{big_data_at, big_data_text};
+ghost use Rattle.hive_model.specs.Security.{security_at, security_text};
+ghost use Rattle.hive_model.specs.Lists.{list_at, li_text, lf_text, lh_text, ri_text, offsets_in};
 ghost use Rattle.hive_model.specs.Walk.{node_at, big_data_of, leaf_at};
 ghost use Rattle.hive_laws.specs.Samples.{root_alone};
 ghost use Rattle.hive_laws.specs.SmallCells.{plain_node, plain_value, plain_security};

@@ -42,7 +42,8 @@ pub fn values_of_one_driver()
     ensures more { LoadFault (driver_with ((400, 3) ∷ [])) (fault_at OutOfRange 0) }
     ensures too_many { LoadFault (driver_with ((400, 4) ∷ [])) (fault_at FormShort 448) }
     ensures in_place { LoadFault (driver_with ((472, 5) ∷ [])) (fault_at FormLength 464) }
-    ensures double { LoadFault (driver_with ((696, 0x43) ∷ (697, 0x75) ∷ (698, 0x72) ∷ (699, 0x72) ∷ (700, 0x65) ∷ (701, 0x6E) ∷ [])) (fault_at DoubleName 672) }
+    ensures double { LoadFault (driver_with ((696, 0x43) ∷ (697, 0x75) ∷ (698, 0x72) ∷ (699, 0x72) ∷ (700, 0x65) ∷ (701, 0x6E) ∷ []))
+        (fault_at DoubleName 672) }
 {}
 
 /// The bin's signature, offset and size; and the size of the root's cell, which is 0, no whole eights, or

@@ -5,7 +5,8 @@ ghost use Rattle.nt_bytes.specs.declared.version.HiveVersion.TheVariants.{V3, V5
 ghost use Rattle.nt_bytes.specs.Folding.{folds_same, folded};
 ghost use Rattle.nt_bytes.specs.Text.{sz_of, multi_sz_of};
 ghost use Rattle.hive_model.specs.Size.{is_narrow};
-ghost use Rattle.hive_model.specs.Forms.{name_text, hint_of, hash_of};
+ghost use Rattle.hive_model.specs.StoredNames.{name_text};
+ghost use Rattle.hive_model.specs.Lists.{hint_of, hash_of};
 ghost use Rattle.hive_model.specs.Packed.{stored_flags, name_hint};
 
 /// Only `a` to `z` fold: 0xE9 and 0xC9 are two names.

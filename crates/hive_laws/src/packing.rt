@@ -5,7 +5,9 @@ ghost use Rattle.nt_bytes.specs.declared.version.HiveVersion.{HiveVersion as Ver
 ghost use Rattle.nt_bytes.specs.declared.version.HiveVersion.TheVariants.{V3, V5};
 ghost use Rattle.hive_model.specs.Size.{bulk_of};
 ghost use Rattle.hive_model.specs.Bins.{Cells};
-ghost use Rattle.hive_model.specs.Forms.{AreHints, offsets_text, key_value_text, big_data_text};
+ghost use Rattle.hive_model.specs.KeyValue.{key_value_text};
+ghost use Rattle.hive_model.specs.BigData.{big_data_text};
+ghost use Rattle.hive_model.specs.Lists.{AreHints, offsets_text};
 ghost use Rattle.hive_model.specs.Packed.{list_cells, packed_cells, packed};
 ghost use Rattle.hive_model.specs.InPlace.{IsPackedList};
 ghost use Rattle.hive_laws.specs.Samples.{root_alone, changed};

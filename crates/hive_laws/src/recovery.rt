@@ -18,14 +18,16 @@ ghost use Rattle.hive_laws.specs.Whole.{AreSaved};
 
 /// An image that carries a base block and bins data is recovered as these, without its log.
 pub fn what_is_carried_is_recovered()
-    ensures { (image : Image) (base : Base) (bins : List ℕ) → Carries image base bins → recovered_of image ≡ Ok (record { base = base; bins = bins; dirty = false }) }
+    ensures { (image : Image) (base : Base) (bins : List ℕ) → Carries image base bins
+        → recovered_of image ≡ Ok (record { base = base; bins = bins; dirty = false }) }
 {}
 
 /// What is spelled as a log, with any bits, is read back: where the primary's base block is that of an unfinished commit or can't be
 /// read, and its sectors whose bit is off are those of the new bins data, the image is recovered as the new base block and the new
 /// bins data.
 pub fn a_log_is_read_back()
-    ensures { (image : Image) (opened : Option Base) (closed : Base) (bits : ℕ → Bool) (bins : List ℕ) → IsClosing opened closed bins → IsUnderWay image opened closed bits bins
+    ensures { (image : Image) (opened : Option Base) (closed : Base) (bits : ℕ → Bool) (bins : List ℕ) → IsClosing opened closed bins
+        → IsUnderWay image opened closed bits bins
         → recovered_of image ≡ Ok (record { base = closed; bins = bins; dirty = true }) }
 {}
 
@@ -61,20 +63,26 @@ pub fn a_hive_with_unreadable_sectors()
         ≡ Ok (record { base = block 6 6 0; bins = after; dirty = true }) }
     ensures logged { recovered_of (unreadable_at (primary_at 9) (image_of (file_of 6 5 before) (log_of (dirty before after) after (block 6 6 0))))
         ≡ Ok (record { base = block 6 6 0; bins = after; dirty = true }) }
-    ensures left_alone { recovered_of (unreadable_at (primary_at 7) (image_of (file_of 5 5 before) [])) ≡ Ok (record { base = block 5 5 0; bins = before; dirty = false }) }
+    ensures left_alone { recovered_of (unreadable_at (primary_at 7) (image_of (file_of 5 5 before) []))
+        ≡ Ok (record { base = block 5 5 0; bins = before; dirty = false }) }
 {}
 
 /// Faults of sectors that can't be read: of a clean primary; of a log that is needed, its base block, its bits and a sector whose bit is
 /// on; and of a sector whose bit is off, behind all of the log's. A log alone needs numbers that are equal.
 pub fn faults_of_unreadable_sectors()
     ensures bins { recovered_of (unreadable_at (primary_at 10) (image_of (file_of 5 5 before) [])) ≡ Err (fault_at Unreadable 5120) }
-    ensures base { recovered_of (unreadable_at (log_at 0) (image_of (file_of 6 5 before) (log_of (dirty before after) after (block 6 6 0)))) ≡ Err (fault_at LogUnreadable 0) }
-    ensures bits { recovered_of (unreadable_at (log_at 1) (image_of (file_of 6 5 before) (log_of (dirty before after) after (block 6 6 0)))) ≡ Err (fault_at LogUnreadable 512) }
-    ensures marked { recovered_of (unreadable_at (log_at 2) (unreadable_at (primary_at 8) (image_of (file_of 6 5 before) (log_of (dirty before after) after (block 6 6 0)))))
+    ensures base { recovered_of (unreadable_at (log_at 0) (image_of (file_of 6 5 before) (log_of (dirty before after) after (block 6 6 0))))
+        ≡ Err (fault_at LogUnreadable 0) }
+    ensures bits { recovered_of (unreadable_at (log_at 1) (image_of (file_of 6 5 before) (log_of (dirty before after) after (block 6 6 0))))
+        ≡ Err (fault_at LogUnreadable 512) }
+    ensures marked { recovered_of (unreadable_at (log_at 2)
+        (unreadable_at (primary_at 8) (image_of (file_of 6 5 before) (log_of (dirty before after) after (block 6 6 0)))))
         ≡ Err (fault_at LogUnreadable 1024) }
-    ensures unmarked { recovered_of (unreadable_at (primary_at 8) (image_of (file_of 6 5 before) (log_of (dirty before after) after (block 6 6 0)))) ≡ Err (fault_at Unreadable 4096) }
+    ensures unmarked { recovered_of (unreadable_at (primary_at 8) (image_of (file_of 6 5 before) (log_of (dirty before after) after (block 6 6 0))))
+        ≡ Err (fault_at Unreadable 4096) }
     ensures no_log { recovered_of (unreadable_at (primary_at 0) (image_of (file_of 6 5 before) [])) ≡ Err (fault_at LogAbsent 0) }
-    ensures numbers { recovered_of (unreadable_at (primary_at 0) (image_of (file_of 6 5 before) (log_of (dirty before after) after (block 6 5 0)))) ≡ Err (fault_at LogSequence 4) }
+    ensures numbers { recovered_of (unreadable_at (primary_at 0) (image_of (file_of 6 5 before) (log_of (dirty before after) after (block 6 5 0))))
+        ≡ Err (fault_at LogSequence 4) }
 {}
 
 /// Faults of the primary.

@@ -24,7 +24,8 @@ pub fn well_formed_cells_have_no_fault()
 /// An image loads as one state at most, dirty or not, and never beside a first fault. Where its sectors have 512 bytes, it has
 /// one first fault at most, and always loads or has one.
 pub fn an_image_loads_or_has_a_fault()
-    ensures one_state { (image : Image) (state other : HiveState) (dirty was : Bool) → Loads image state dirty → Loads image other was → (state ≡ other) × (dirty ≡ was) }
+    ensures one_state { (image : Image) (state other : HiveState) (dirty was : Bool) → Loads image state dirty → Loads image other was
+        → (state ≡ other) × (dirty ≡ was) }
     ensures not_both { (image : Image) (state : HiveState) (dirty : Bool) (fault : HiveFaultModel) → Loads image state dirty → LoadFault image fault → ⊥ }
     ensures one_fault { (image : Image) (fault other : HiveFaultModel) → HasWholeSectors image → LoadFault image fault → LoadFault image other → fault ≡ other }
     ensures one_of_the_two { (image : Image) → HasWholeSectors image → HasBytes image

@@ -59,7 +59,8 @@ impl LoadedHive {
         ensures goes { IsCommitOn (D.state disk.old) (D.state disk.new) result }
     {
         let LoadedHive { base, bins, tree } = self;
-        let closed = commit(disk, &base, bins.as_slice(), new.as_slice(), 32)?;
+        let mut marks = [0; 4096];
+        let closed = commit(disk, &base, bins.as_slice(), new.as_slice(), 32, &mut marks)?;
         let hive = LoadedHive {
             base: closed,
             bins: new,

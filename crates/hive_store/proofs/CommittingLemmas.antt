@@ -13,12 +13,12 @@ use Rattle.hive_model.specs.Stands.{IsWellFormed}
 use Rattle.hive_edit.specs.Hive.{HiveCells, cells_in}
 use Rattle.nt_edge.specs.Disk.{DiskState}
 use Rattle.nt_edge.specs.Crash.{EachCrash}
-use Rattle.hive_commit.specs.Stages.{closed_of, IsBeforeOrAfter}
+use Rattle.hive_commit.specs.Stages.{closed_of, IsBeforeOrAfter, LoadsAsEither}
 use Rattle.hive_commit.specs.Stops.{IsCommitOn}
 use Rattle.hive_commit.specs.declared.stops.CommitStop.{CommitStop}
 use Rattle.hive_commit.specs.declared.stops.CommitStop.TheVariants as commit
 use Rattle.hive_store.specs.Session.{Session, HasTree, IsSession, session_of, next_bins, next_root}
-use Rattle.hive_store.specs.Commits.{next_base, committed, committed_state, LoadsAsEither}
+use Rattle.hive_store.specs.Commits.{next_base, committed, committed_state}
 use Rattle.hive_store.proofs.SizedLemmas.{has_bytes}
 use Rattle.hive_store.proofs.Holding.{clean, held_again, held_by, carried, carried_loads}
 

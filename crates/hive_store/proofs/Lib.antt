@@ -4,3 +4,4 @@ pub mod CommittingLemmas
 pub mod LoadingCalls
 pub mod SizedLemmas
 pub mod KeepLemmas
+pub mod RoomLemmas

@@ -5,7 +5,7 @@ use Rattle.std.proofs.lemmas.Bool.{eq-eqb, le-leb}
 use Rattle.nt_bytes.specs.declared.version.HiveVersion.{HiveVersion}
 use Rattle.hive_model.specs.Base.{is_bins_size}
 use Rattle.hive_model.specs.Bins.{Bin, bins_size, spelled, IsBin, IsHeap, look_up}
-use Rattle.hive_model.specs.Forms.{KeyNode, key_node_at}
+use Rattle.hive_model.specs.KeyNode.{KeyNode, key_node_at}
 use Rattle.hive_model.specs.Tree.{Tree, key}
 use Rattle.hive_model.specs.Stands.{Stands, IsWellFormed}
 use Rattle.hive_model.specs.Walk.{reading}
@@ -39,11 +39,7 @@ has_bytes version bins root t heap stands =
       stands = stands;
     }
 
--- bytes of cells are no more than there is room for
-pub small_bytes : (bins : List Bin) (text : List ℕ) → IsHeap bins → text ≡ spelled 0 bins → length text ≤ 16777216
-small_bytes bins text heap e = omega (arith, ap (λ (l : List ℕ). length l) e, length_spelled 0 bins heap.each, heap.small)
-
--- and of a size that a commit takes
+-- the bytes of cells have a size that a commit takes
 pub sized_bytes : (version : HiveVersion) (bins : List Bin) (root : ℕ) (t : Tree) (text : List ℕ) → IsHeap bins → IsWellFormed (look_up version bins) root t
     → text ≡ spelled 0 bins → is_bins_size (length text) ≡ true
 sized_bytes version bins root t text heap stands e = ap (λ (l : List ℕ). is_bins_size (length l)) e ∙ (has_bytes version bins root t heap stands).sized

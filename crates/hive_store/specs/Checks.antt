@@ -40,3 +40,15 @@ abbrev pub ChecksAs : Image → Result (Tree × ℕ × HiveVersion) ReadStop →
 ChecksAs image (Ok x) = LoadsAs image (state_of x.0 x.1 x.2)
 ChecksAs image (Err (read.Fault f)) = LoadFault image f
 ChecksAs image (Err read.Memory) = Unit {0}
+
+-- of what was recovered: that it holds a tree, or its first fault
+abbrev pub HoldsSome : Recovered → Result (Unit {0}) ReadStop → Type 0
+HoldsSome found (Ok u) = (tree : Tree) × Holds found (held_state found tree)
+HoldsSome found (Err (read.Fault f)) = HeldFault found f
+HoldsSome found (Err read.Memory) = Unit {0}
+
+-- of an image: the number and the version of the state that it loads as, with some tree, or its first fault
+abbrev pub JudgesAs : Image → Result (ℕ × HiveVersion) ReadStop → Type 0
+JudgesAs image (Ok x) = (tree : Tree) × LoadsAs image (state_of tree x.0 x.1)
+JudgesAs image (Err (read.Fault f)) = LoadFault image f
+JudgesAs image (Err read.Memory) = Unit {0}

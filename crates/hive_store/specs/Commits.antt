@@ -1,10 +1,9 @@
 -- What does a commit of a session make? (This project's own.)
-use Rattle.std.specs.Prelude.{◌⊎◌, false, ℕ, List}
+use Rattle.std.specs.Prelude.{false, ℕ, List}
 use Rattle.hive_model.specs.Base.{Base, version_of}
-use Rattle.hive_model.specs.Image.{Image}
 use Rattle.hive_model.specs.Log.{dirty, log_of}
 use Rattle.hive_model.specs.State.{HiveState}
-use Rattle.hive_model.specs.Load.{LoadsAs, state_of}
+use Rattle.hive_model.specs.Load.{state_of}
 use Rattle.hive_commit.specs.Stages.{next_number, closed_of}
 use Rattle.hive_store.specs.Session.{Session, next_bins, next_root}
 
@@ -23,7 +22,3 @@ committed_state s = state_of s.tree (next_number s.base.first) (version_of s.bas
 -- the log of the session's commit: the sectors in which what it writes differs from what the disk carries
 abbrev pub session_log : Session → List ℕ
 session_log s = log_of (dirty s.bins (next_bins s)) (next_bins s) (next_base s)
-
--- the image loads as the one state or as the other
-abbrev pub LoadsAsEither : HiveState → HiveState → Image → Type 0
-LoadsAsEither before after image = LoadsAs image before ⊎ LoadsAs image after

@@ -4,13 +4,13 @@ ghost use Rattle.std.specs.Prelude.{◌≡◌, true, length, IfOk};
 ghost use Rattle.hive_model.specs.Base.{is_bins_size};
 ghost use Rattle.hive_model.specs.Image.{image_of};
 ghost use Rattle.hive_model.specs.Valid.{IsValid};
-ghost use Rattle.hive_store.specs.Checks.{HoldsAs, HoldsIn, ChecksAs};
+ghost use Rattle.hive_store.specs.Checks.{HoldsAs, HoldsIn, HoldsSome, ChecksAs, JudgesAs};
 
 use crate::room::Kept;
 use hive_cells::read_cells;
 use hive_edit::HiveBytes;
 use hive_log::{Recovered, recovered};
-use hive_read::read_tree;
+use hive_read::{judge, read_tree};
 use nt_bytes::{HiveVersion, ReadStop};
 use reg_tree::Key;
 use std::alloc::Global;
@@ -24,6 +24,17 @@ fn tree_in(alloc: Global, found: Recovered) -> Result<Key, ReadStop>
     let base = found.base;
     let cells = read_cells(alloc, found.bins)?;
     read_tree(alloc, &cells, base.root, base.version())
+}
+
+/// Judges what was recovered: its bins, and then the tree in them. No tree is made.
+fn judge_in(alloc: Global, found: Recovered) -> Result<(), ReadStop>
+    requires sized { is_bins_size (length found.bins) ≡ true }
+    ensures exact { HoldsSome found result }
+{
+    let base = found.base;
+    let cells = read_cells(alloc, found.bins)?;
+    let _bulk = judge(alloc, &cells, base.root, base.version())?;
+    Ok(())
 }
 
 /// The hive of what was recovered, and its bins data with room for others, or the first fault of its bins, and then
@@ -53,4 +64,19 @@ pub fn check_images(
     let base = found.base;
     let tree = tree_in(alloc, found)?;
     Ok((tree, base.first, base.version()))
+}
+
+/// The sequence number and the version of two files, or the first fault, as `check_images` answers them, but
+/// no tree is made. Out of memory alone is free.
+pub fn judge_images(
+    alloc: Global,
+    primary: &[u8],
+    log: &[u8],
+) -> Result<(u32, HiveVersion), ReadStop>
+    ensures exact { JudgesAs (image_of primary.now log.now) result }
+{
+    let found = recovered(alloc, primary, log)?;
+    let base = found.base;
+    judge_in(alloc, found)?;
+    Ok((base.first, base.version()))
 }

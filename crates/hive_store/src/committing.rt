@@ -8,10 +8,10 @@ ghost use Rattle.nt_edge.specs.Host.{Rises};
 ghost use Rattle.nt_edge.specs.Calls.{MakesUntil};
 ghost use Rattle.nt_edge.specs.Crash.{EachCrash};
 ghost use Rattle.hive_commit.specs.Calls.{change_calls};
-ghost use Rattle.hive_commit.specs.Stages.{next_number};
+ghost use Rattle.hive_commit.specs.Stages.{next_number, LoadsAsEither};
 ghost use Rattle.hive_commit.specs.Stops.{IsCommitOn};
 ghost use Rattle.hive_store.specs.Session.{next_bins, next_root};
-ghost use Rattle.hive_store.specs.Commits.{next_base, committed, committed_state, session_log, LoadsAsEither};
+ghost use Rattle.hive_store.specs.Commits.{next_base, committed, committed_state, session_log};
 
 use crate::Hive;
 use hive_commit::{CommitStop, commit};
@@ -51,8 +51,9 @@ impl Hive {
     {
         let (base, mut bins, cells) = (self.base, self.bins, self.cells);
         let new = cells.bytes();
-        let closed = commit(disk, &base, bins.as_slice(), new, cells.root())?;
-        bins.keep(new);
+        let mut marks = [0; 4096];
+        let closed = commit(disk, &base, bins.as_slice(), new, cells.root(), &mut marks)?;
+        bins.keep(new, &marks);
         let hive = Hive {
             base: closed,
             bins,

@@ -3,7 +3,11 @@ use Rattle.std.proofs.Common.{ℕ, true, false, [], ◌∷◌, refl, arith}
 use Rattle.std.proofs.lemmas.List.Elements.{All-cons, All-contains}
 use Rattle.nt_bytes.specs.declared.version.HiveVersion.{HiveVersion}
 use Rattle.hive_model.specs.Bins.{look_up}
-use Rattle.hive_model.specs.Forms.{key_name_at, key_node_at, key_node_text, bytes_in, security_at, security_text, list_of, list_at, li_text}
+use Rattle.hive_model.specs.Forms.{bytes_in}
+use Rattle.hive_model.specs.StoredNames.{key_name_at}
+use Rattle.hive_model.specs.KeyNode.{key_node_at, key_node_text}
+use Rattle.hive_model.specs.Security.{security_at, security_text}
+use Rattle.hive_model.specs.Lists.{list_of, list_at, li_text}
 use Rattle.hive_model.specs.Packed.{filled}
 use Rattle.hive_model.specs.Walk.{node_at, leaf_at, entries_at, class_checks, security_checks, data_checks, value_checks, values_checks, entries_checks, children_checks, key_checks, all_checks}
 use Rattle.hive_model.specs.InPlace.{IsKeptSecurity}

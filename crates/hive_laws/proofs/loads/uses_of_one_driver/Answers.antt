@@ -2,7 +2,12 @@ use Rattle.std.proofs.Common.{[], ◌∷◌, refl}
 use Rattle.nt_bytes.specs.declared.fault.HiveKind.TheVariants.{FreeCell, OutOfRange, Shared}
 use Rattle.hive_model.specs.Base.{mixed_words, head_text, summed_text, base_text, base_of, fields_of, fault_at}
 use Rattle.hive_model.specs.Recovery.{sector, recovered_of}
-use Rattle.hive_model.specs.Forms.{key_name_at, key_node_at, value_name_at, key_value_at, bytes_in, security_at, offsets_in, list_of, list_at}
+use Rattle.hive_model.specs.Forms.{bytes_in}
+use Rattle.hive_model.specs.StoredNames.{key_name_at, value_name_at}
+use Rattle.hive_model.specs.KeyNode.{key_node_at}
+use Rattle.hive_model.specs.KeyValue.{key_value_at}
+use Rattle.hive_model.specs.Security.{security_at}
+use Rattle.hive_model.specs.Lists.{offsets_in, list_of, list_at}
 use Rattle.hive_model.specs.Bins.{cell_bytes, head_bytes}
 use Rattle.hive_model.specs.Walk.{node_at, leaf_at, entries_at, all_checks, key_checks, class_checks, security_checks, data_checks, value_checks, values_checks, entries_checks, children_checks}
 use Rattle.hive_laws.specs.Samples.{file_of}

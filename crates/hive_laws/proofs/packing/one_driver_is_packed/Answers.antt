@@ -1,6 +1,9 @@
 use Rattle.std.proofs.Common.{refl}
 use Rattle.nt_bytes.specs.declared.version.HiveVersion.TheVariants.{V3, V5}
-use Rattle.hive_model.specs.Forms.{key_node_text, key_value_text, lf_text, lh_text, ri_text, security_text}
+use Rattle.hive_model.specs.KeyNode.{key_node_text}
+use Rattle.hive_model.specs.KeyValue.{key_value_text}
+use Rattle.hive_model.specs.Security.{security_text}
+use Rattle.hive_model.specs.Lists.{lf_text, lh_text, ri_text}
 use Rattle.hive_model.specs.Packed.{filled, cell_text, item_cells, items_cells, class_cells, security_cells, head_cells, list_cells, packed_bins, packed}
 use Rattle.hive_model.specs.Bins.{cell_bytes, head_bytes}
 use Rattle.hive_laws.specs.Samples.{root_alone}

@@ -1,7 +1,12 @@
 use Rattle.std.proofs.Common.{refl, [], ◌∷◌, codes}
 use Rattle.hive_model.specs.Stands.{class_of, security_of, values_of}
 use Rattle.hive_model.specs.Walk.{nowhere}
-use Rattle.hive_model.specs.Forms.{key_name_at, value_name_at, key_node_at, key_node_text, key_value_at, key_value_text, bytes_in, security_at, security_text, list_of, list_at, li_text, lf_text, ri_text, offsets_in}
+use Rattle.hive_model.specs.Forms.{bytes_in}
+use Rattle.hive_model.specs.StoredNames.{key_name_at, value_name_at}
+use Rattle.hive_model.specs.KeyNode.{key_node_at, key_node_text}
+use Rattle.hive_model.specs.KeyValue.{key_value_at, key_value_text}
+use Rattle.hive_model.specs.Security.{security_at, security_text}
+use Rattle.hive_model.specs.Lists.{list_of, list_at, li_text, lf_text, ri_text, offsets_in}
 use Rattle.hive_model.specs.Packed.{filled}
 use Rattle.hive_model.specs.Walk.{node_at, leaf_at, entries_at, class_checks, security_checks, data_checks, value_checks, values_checks, entries_checks, children_checks, key_checks, all_checks}
 use Rattle.hive_laws.specs.SmallCells.{family, plain_node}

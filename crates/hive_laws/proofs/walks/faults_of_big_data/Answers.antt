@@ -1,5 +1,7 @@
 use Rattle.std.proofs.Common.{refl}
-use Rattle.hive_model.specs.Forms.{bytes_in, big_data_at, big_data_text, offsets_in}
+use Rattle.hive_model.specs.Forms.{bytes_in}
+use Rattle.hive_model.specs.BigData.{big_data_at, big_data_text}
+use Rattle.hive_model.specs.Lists.{offsets_in}
 use Rattle.hive_model.specs.Walk.{big_data_of, big_checks, data_checks}
 use Rattle.hive_model.specs.Stands.{big_bytes_at, data_of}
 use Rattle.hive_laws.proofs.walks.faults_of_big_data.Goals as goal

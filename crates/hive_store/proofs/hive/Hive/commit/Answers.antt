@@ -1,4 +1,4 @@
-use Rattle.std.proofs.Common.{Bool, false, refl, ap, sym, subst, ◌∙◌}
+use Rattle.std.proofs.Common.{Bool, List, ℕ, false, refl, ap, sym, subst, ◌∙◌}
 use Rattle.std.proofs.lemmas.Result.{err_from_is_err_and}
 use Rattle.hive_model.specs.Base.{Base}
 use Rattle.hive_model.specs.Carries.{Carries, HasLog}
@@ -8,11 +8,11 @@ use Rattle.hive_model.specs.Load.{Loads}
 use Rattle.nt_edge.specs.Calls.{Makes, MakesFront}
 use Rattle.nt_edge.specs.Crash.{EachCrash}
 use Rattle.hive_commit.specs.Calls.{change_calls}
-use Rattle.hive_commit.specs.Stages.{next_number, closed_of, IsBeforeOrAfter}
+use Rattle.hive_commit.specs.Stages.{next_number, closed_of, IsBeforeOrAfter, LoadsAsEither}
 use Rattle.hive_store.specs.Session.{Session, session_of, next_bins, next_root}
-use Rattle.hive_store.specs.Commits.{next_base, committed, committed_state, session_log, LoadsAsEither}
+use Rattle.hive_store.specs.Commits.{next_base, committed, committed_state, session_log}
 use Rattle.hive_store.proofs.CommittingLemmas.{is_ready, stood, commit_loads, commit_crash, next_session, next_is, as_written, goes_again}
-use Rattle.hive_store.proofs.SizedLemmas.{small_bytes, sized_bytes}
+use Rattle.hive_store.proofs.SizedLemmas.{sized_bytes}
 use Rattle.hive_store.proofs.hive.Hive.commit.Goals as goal
 
 pub commit-requires-clause-sized : goal.commit-requires-clause-sized
@@ -20,8 +20,14 @@ commit-requires-clause-sized g c =
     let cells = c.self.inside.cells in
     sized_bytes cells.version cells.bins cells.root cells.tree c.bytes-new.result.now c.bytes-new.ensures.sound c.root.ensures.stands c.bytes-new.ensures.exact
 
-pub keep-requires : goal.keep-requires
-keep-requires g c = small_bytes c.self.inside.cells.bins c.bytes-new.result.now c.bytes-new.ensures.sound c.bytes-new.ensures.exact
+pub keep-requires-clause-sized : goal.keep-requires-clause-sized
+keep-requires-clause-sized g c =
+    let cells = c.self.inside.cells in
+    sized_bytes cells.version cells.bins cells.root cells.tree c.bytes-new.result.now c.bytes-new.ensures.sound c.root.ensures.stands c.bytes-new.ensures.exact
+
+pub keep-requires-clause-marked : goal.keep-requires-clause-marked
+keep-requires-clause-marked g c = λ i below.
+    c.commit.ensures.marked i below ∙ ap (λ (old : List ℕ). dirty old c.bytes-new.result.now i) c.as_slice.ensures
 
 pub invariant_of-hive : goal.invariant_of-hive
 invariant_of-hive g c =

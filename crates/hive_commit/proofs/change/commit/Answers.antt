@@ -11,7 +11,7 @@ use Rattle.hive_commit.proofs.Four.{asked, held_left, along_log, along_block, lo
 use Rattle.hive_commit.proofs.CallLemmas.{stopped}
 use Rattle.hive_commit.proofs.StageCalls as calls
 use Rattle.hive_commit.proofs.Rest.{rest_log, rest_base, rest_marked, rest_then}
-use Rattle.hive_commit.proofs.change.change.Goals as goal
+use Rattle.hive_commit.proofs.change.commit.Goals as goal
 
 pub returns-in_err-write_log-clause-made : goal.returns-in_err-write_log-clause-made
 returns-in_err-write_log-clause-made g c =

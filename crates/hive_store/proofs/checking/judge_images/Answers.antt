@@ -1,0 +1,15 @@
+use Rattle.std.proofs.Common.{◌∙◌, ap}
+use Rattle.hive_model.specs.Base.{Base, version_of}
+use Rattle.hive_model.specs.Image.{image_of}
+use Rattle.hive_model.specs.Recovery.{Recovered}
+use Rattle.hive_store.proofs.Holding.{found_loads}
+use Rattle.hive_store.proofs.checking.judge_images.Goals as goal
+
+pub returns : goal.returns
+returns c =
+    let number = ap (λ (b : Base). b.first) c.base.view_is ∙ ap (λ (r : Recovered). r.base.first) c.found.view_is in
+    let version = c.version.ensures ∙ ap (λ (r : Recovered). version_of r.base.minor) c.found.view_is in
+    let held = c.in_ok-judge_in.ensures.exact in
+    rw (number, version) (record {
+      exact = (held.0, found_loads (image_of c.args.primary.now c.args.log.now) c.in_ok-found.found held.0 c.in_ok-found.ensures.exact held.1);
+    })
