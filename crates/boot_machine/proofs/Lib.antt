@@ -1,4 +1,5 @@
 pub mod FewLemmas
+pub mod PartLemmas
 pub mod Places
 pub mod QueueLemmas
 pub mod StartLemmas

@@ -3,10 +3,10 @@ use Rattle.std.proofs.Common.{◌≡◌, ℕ, Bool, List, [], ◌∷◌, ◌++�
 use Rattle.std.specs.Prelude.{slice_get, remove, if◌then◌else◌}
 use Rattle.nt_bytes.specs.Folding.{folded}
 use Rattle.start_model.specs.Entries.{Entry, need_of}
-use Rattle.start_model.specs.Ready.{Label, next_of}
+use Rattle.start_model.specs.Ready.{next_of}
 use Rattle.start_model.specs.Machine.{Start, label_of}
 use Rattle.boot_machine.specs.Steps.{AttemptsNext}
-use Rattle.boot_machine.specs.Queue.{QueueState, next_among, TakesFirst}
+use Rattle.boot_machine.specs.Queue.{QueueState, TakesFirst}
 
 pub attempts : (s : Start) (q q' : QueueState) (e : Entry) (ok : Bool) (tried : List (List ℕ)) → TakesFirst q q' e ok → s.waiting ≡ q.waiting → s.started ≡ q.started
     → tried ≡ s.tried ++ folded e.name ∷ [] → AttemptsNext s (record s { waiting = q'.waiting; tried = tried; started = q'.started }) e ok

@@ -7,8 +7,9 @@ ghost use Rattle.start_model.specs.Lines.{EarlyReason, AgainReason, IdleReason, 
 ghost use Rattle.start_model.specs.Machine.{is_done, takes_logons, refused_off, refused_running};
 ghost use Rattle.boot_machine.specs.Views.{event_in, Answers};
 
+use crate::phases::{is_done, takes_logons};
 use crate::refusal::Refusal;
-use crate::start::{Start, is_done, takes_logons};
+use crate::start::Start;
 use boot_script::Event;
 use nt_bytes::{Units, same_folded};
 

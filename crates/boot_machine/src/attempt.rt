@@ -21,7 +21,8 @@ pub(crate) fn attempt(
     usable: bool,
 ) -> Result<Tried, AllocError>
     requires { is_there (next_in start.old) ≡ true }
-    ensures attempt { IfOk result (λ t. (m : MachineState) → m.failures ≡ failures.old → attempt_in m start.old usable ≡ Some (record m { start = Some start.new; failures = failures.new }, tried_in t)) }
+    ensures attempt { IfOk result (λ t. (m : MachineState) → m.failures ≡ failures.old → attempt_in m start.old usable
+        ≡ Some (record m { start = Some start.new; failures = failures.new }, tried_in t)) }
     ensures kept { OnErr result (start.new ≡ start.old) }
     ensures failures_kept { OnErr result (failures.new ≡ failures.old) }
 {

@@ -4,29 +4,29 @@ ghost use Rattle.std.specs.Prelude.{◌≡◌, ◌<◌, ◌^◌, true, length, m
 ghost use Rattle.std.specs.List.{filter_map};
 ghost use Rattle.std.specs.Option.{option_map};
 ghost use Rattle.start_model.specs.Demand.{member};
-ghost use Rattle.start_model.specs.Entries.{need_of};
 ghost use Rattle.dependencies.specs.Waiting.{next_place_in};
 ghost use Rattle.boot_machine.specs.Steps.{is_there};
 ghost use Rattle.boot_machine.specs.Queue.{next_among, IsFirst, TakesFirst};
 
-use boot_phases::need_of;
-use dependencies::{Needs, Started, TestCount, Waiting};
+use crate::parts::{Rest, join, split_all};
+use dependencies::{Need, Started, TestCount, Waiting};
 use nt_bytes::{Names, Units};
 use service_entries::Entry;
 use std::alloc::{AllocError, Global};
 use std::marker::Model;
 
-/// The entries of a phase, those of them that wait, and who was started.
+/// The entries of a phase, those of them that wait, and who was started. What an entry needs stands in
+/// `waiting`, and at the same place of `rests` what else it has.
 #[derive(Drop)]
 pub(crate) struct Queue {
-    entries: Vec<Entry>,
     waiting: Waiting,
+    rests: Vec<Rest>,
 }
 
 impl Model for Queue {
-    ghost use Rattle.std.specs.Prelude.{◌≡◌, map};
+    ghost use Rattle.std.specs.Prelude.{◌≡◌, length};
     ghost use Rattle.std.specs.List.{items_where_true};
-    ghost use Rattle.start_model.specs.Entries.{need_of};
+    ghost use Rattle.boot_machine.specs.Parts.{all_joined};
     ghost use Rattle.boot_machine.specs.Queue.{QueueState};
     ghost use Rattle.boot_machine.specs.Codes.{coded_queue};
 
@@ -34,13 +34,13 @@ impl Model for Queue {
 
     ghost coded = { coded_queue };
 
-    ghost view = { λ a. record { waiting = items_where_true a.waiting.waits a.entries.items; started = a.waiting.started } };
+    ghost view = { λ a. record { waiting = items_where_true a.waiting.waits (all_joined a.waiting.needs a.rests.items); started = a.waiting.started } };
 
-    ghost invariant = { λ a. a.waiting.needs ≡ map need_of a.entries.items };
+    ghost invariant = { λ a. length a.rests.items ≡ length a.waiting.needs };
 }
 
 impl Queue {
-    /// All entries of a phase wait.
+    /// All entries of a phase wait. None of their names is copied.
     pub(crate) fn new(
         alloc: Global,
         entries: Vec<Entry>,
@@ -49,10 +49,10 @@ impl Queue {
         requires { length entries.items < 2 ^ 32 }
         ensures { IfOk result (λ q. q ≡ record { waiting = entries.items; started = started.now }) }
     {
-        let needs = needs_of(alloc, entries.as_slice())?;
+        let (needs, rests) = split_all(alloc, entries)?;
         let mut tests = TestCount::new();
         let waiting = Waiting::new(alloc, needs, started, &mut tests)?;
-        Ok(Queue { entries, waiting })
+        Ok(Queue { waiting, rests })
     }
 
     /// Whether a waiting entry is ready.
@@ -62,13 +62,14 @@ impl Queue {
         self.waiting.next().is_some()
     }
 
-    /// The first waiting entry that is ready.
-    pub(crate) fn first(&self) -> &Entry
+    /// The first waiting entry that is ready, in memory of its own.
+    pub(crate) fn first(&self, alloc: Global) -> Result<Entry, AllocError>
         requires { is_there (next_among self.now) ≡ true }
-        ensures { IsFirst self.now result.now }
+        ensures { IfOk result (IsFirst self.now) }
     {
         let place = next_place(&self.waiting);
-        &self.entries[place as usize]
+        let need = need_at(&self.waiting, place).copy(alloc)?;
+        Ok(join(need, self.rests[place as usize]))
     }
 
     /// The first waiting entry that is ready waits no more, and was started where `ok`.
@@ -93,7 +94,7 @@ impl Queue {
         ensures { IfOk result (λ names. names ≡ map (λ e. e.name) self.now.waiting) }
     {
         let left = self.waiting.left(alloc)?;
-        names_at(alloc, self.entries.as_slice(), left.as_slice())
+        names_at(alloc, &self.waiting, left.as_slice())
     }
 }
 
@@ -106,35 +107,32 @@ fn next_place(waiting: &Waiting) -> u32
     waiting.next().unwrap()
 }
 
-/// What each entry needs.
-fn needs_of(alloc: Global, entries: &[Entry]) -> Result<Needs, AllocError>
-    ensures { IfOk result (λ n. n ≡ map need_of entries.now) }
+/// What the entry at a place needs.
+fn need_at(waiting: &Waiting, place: u32) -> &Need
+    requires { place < length waiting.now.needs }
+    ensures { Some result.now ≡ slice_get waiting.now.needs place }
 {
-    let mut needs = Needs::new(alloc);
-    for entry in entries {
-        needs.push(need_of(alloc, entry)?)?;
-    }
-    Ok(needs)
+    waiting.need(place).unwrap()
 }
 
 /// The names of the entries at these places.
-fn names_at(alloc: Global, entries: &[Entry], places: &[u32]) -> Result<Names, AllocError>
-    ensures { IfOk result (λ names. names ≡ filter_map (λ p. option_map (λ e. e.name) (slice_get entries.now p)) places.now) }
+fn names_at(alloc: Global, waiting: &Waiting, places: &[u32]) -> Result<Names, AllocError>
+    ensures { IfOk result (λ names. names ≡ filter_map (λ p. option_map (λ n. n.name) (slice_get waiting.now.needs p)) places.now) }
 {
     let mut names = Names::new(alloc);
     for place in places {
-        if let Some(name) = name_at(alloc, entries, *place)? {
+        if let Some(name) = name_at(alloc, waiting, *place)? {
             names.push(name)?;
         }
     }
     Ok(names)
 }
 
-fn name_at(alloc: Global, entries: &[Entry], place: u32) -> Result<Option<Units>, AllocError>
-    ensures { IfOk result (λ n. n ≡ option_map (λ e. e.name) (slice_get entries.now place)) }
+fn name_at(alloc: Global, waiting: &Waiting, place: u32) -> Result<Option<Units>, AllocError>
+    ensures { IfOk result (λ n. n ≡ option_map (λ n. n.name) (slice_get waiting.now.needs place)) }
 {
-    match entries.get(place as usize) {
-        Some(entry) => Ok(Some(entry.name.copy(alloc)?)),
+    match waiting.need(place) {
+        Some(need) => Ok(Some(need.name.copy(alloc)?)),
         None => Ok(None),
     }
 }

@@ -1,16 +1,17 @@
 //! A start that runs.
 
-ghost use Rattle.std.specs.Prelude.{◌≡◌, ℕ, List, ◌∷◌, [], ◌++◌, ◌==◌, ◌<◌, vec_len, vec_capacity, true, not, Some, None, map, IfOk, OnOk, OnErr, option_map, if◌then◌else◌};
-ghost use Rattle.nt_bytes.specs.Folding.{folded};
+ghost use Rattle.std.specs.Prelude.{◌≡◌, ℕ, List, ◌==◌, true, not, Some, None, IfOk, OnErr};
 ghost use Rattle.hive_model.specs.Tree.{Tree};
 ghost use Rattle.hive_model.specs.Valid.{HoldsKeys};
 ghost use Rattle.boot_phases.specs.Phases.{phase_in};
 ghost use Rattle.boot_report.specs.Report.{verdict_of};
 ghost use Rattle.start_model.specs.Order.{plan_of};
-ghost use Rattle.start_model.specs.Machine.{next_in, label_of, failures_of, one_failure_less, phase_after, unmet_in, after_phase, begun_with, is_done, takes_logons, is_good, save_due, ending_with, ending_of};
+ghost use Rattle.start_model.specs.Machine.{next_in, failures_of, one_failure_less, phase_after, unmet_in, after_phase, begun_with, is_good, save_due, ending_with, ending_of};
 ghost use Rattle.boot_machine.specs.Steps.{is_there, is_last_phase, AttemptsNext};
 
-use crate::failures::{Failures, folded_units};
+use crate::failures::Failures;
+use crate::names::note;
+use crate::phases::{is_done, phase_after};
 use crate::queue::Queue;
 use boot_phases::{Phase, plan};
 use boot_report::Verdict;
@@ -120,7 +121,7 @@ impl Start {
         ensures kept { OnErr result (self.new ≡ self.old) }
         ensures failures_kept { OnErr result (failures.new ≡ failures.old) }
     {
-        let entry = self.queue.first().copy(alloc)?;
+        let entry = self.queue.first(alloc)?;
         let ok = !failures.has(entry.name.as_slice());
         note(alloc, &mut self.tried, &entry)?;
         self.queue.take_first(ok);
@@ -233,75 +234,11 @@ fn planned(
 /// The entries behind a last phase, which are none, whatever the set is.
 fn nothing_planned(alloc: Global, last: Phase, started: &Started) -> Result<Queue, AllocError>
     requires { is_last_phase (phase_in last) ≡ true }
-    ensures { IfOk result (λ q. (set : Tree) (tried : List (List ℕ)) → q ≡ record { waiting = plan_of set (phase_after (phase_in last)) tried; started = started.now }) }
+    ensures { IfOk result (λ q. (set : Tree) (tried : List (List ℕ)) → q
+        ≡ record { waiting = plan_of set (phase_after (phase_in last)) tried; started = started.now }) }
 {
     match last {
         Phase::Automatic | Phase::Done => Queue::new(alloc, Vec::new(alloc), started),
         Phase::Boot | Phase::System => unreachable!(),
     }
-}
-
-// ---- phases
-
-fn phase_after(phase: Phase) -> Phase
-    ensures { phase_in result ≡ phase_after (phase_in phase) }
-{
-    match phase {
-        Phase::Boot => Phase::System,
-        Phase::System => Phase::Automatic,
-        Phase::Automatic | Phase::Done => Phase::Done,
-    }
-}
-
-pub(crate) fn is_done(phase: Phase) -> bool
-    ensures { result ≡ is_done (phase_in phase) }
-{
-    match phase {
-        Phase::Done => true,
-        Phase::Boot | Phase::System | Phase::Automatic => false,
-    }
-}
-
-/// Whether no entries are taken behind the phase.
-pub(crate) fn is_last(phase: Phase) -> bool
-    ensures { result ≡ is_last_phase (phase_in phase) }
-{
-    match phase {
-        Phase::Automatic | Phase::Done => true,
-        Phase::Boot | Phase::System => false,
-    }
-}
-
-/// Whether a user may log on in the phase.
-pub(crate) fn takes_logons(phase: Phase) -> bool
-    ensures { result ≡ takes_logons (phase_in phase) }
-{
-    match phase {
-        Phase::Automatic | Phase::Done => true,
-        Phase::Boot | Phase::System => false,
-    }
-}
-
-// ---- names
-
-/// Puts a name behind the others, where there is room.
-fn put(names: &mut Vec<Units>, name: Units)
-    requires { vec_len names.old < vec_capacity names.old }
-    ensures { names.new.items ≡ names.old.items ++ name ∷ [] }
-{
-    match names.push(name) {
-        Ok(()) => {}
-        Err(_) => unreachable!(),
-    }
-}
-
-/// Notes the name of an entry as tried.
-fn note(alloc: Global, tried: &mut Vec<Units>, entry: &Entry) -> Result<(), AllocError>
-    ensures tried { OnOk result (tried.new.items ≡ tried.old.items ++ folded entry.now.name ∷ []) }
-    ensures kept { OnErr result (tried.new.items ≡ tried.old.items) }
-{
-    let name = folded_units(alloc, entry.name.as_slice())?;
-    tried.reserve(1)?;
-    put(tried, name);
-    Ok(())
 }

@@ -67,7 +67,8 @@ pub(crate) fn in_order(ranks: &mut Vec<Rank>)
 
 /// Where the places of the ranks rise, as in the registry, as many ranks are before a rank as stand ahead of it.
 pub fn each_place_counts_those_before()
-    ensures { (ranks : List Rank) → AllPairs (λ a b. a.place < b.place) ranks → (k : ℕ) (d : Rank) → k < length (ordered_of ranks) → count_by (λ s. is_before s (slice_index_or (ordered_of ranks) k d)) ranks ≡ k }
+    ensures { (ranks : List Rank) → AllPairs (λ a b. a.place < b.place) ranks → (k : ℕ) (d : Rank) → k < length (ordered_of ranks)
+        → count_by (λ s. is_before s (slice_index_or (ordered_of ranks) k d)) ranks ≡ k }
 {}
 
 /// In the order of a phase each rank is before each later one, and ranks stand in it as often as among

@@ -9,6 +9,7 @@ ghost use Rattle.boot_phases.specs.Phases.{phase_in};
 use crate::phase::Phase;
 use crate::tried::Tried;
 use dependencies::{Need, Needs, Places, automatic};
+use nt_bytes::Units;
 use service_entries::{Entry, ServiceTable};
 use std::alloc::{AllocError, Global};
 
@@ -143,18 +144,26 @@ fn need_at(alloc: Global, table: &ServiceTable, place: u32) -> Result<Option<Nee
     }
 }
 
-/// What an entry needs.
+/// What an entry needs. Of the entry nothing else is copied.
 pub fn need_of(alloc: Global, entry: &Entry) -> Result<Need, AllocError>
     ensures { IfOk result (λ n. n ≡ need_of entry.now) }
 {
-    let copy = entry.copy(alloc)?;
     Ok(Need {
-        name: copy.name,
-        start: copy.start,
-        group: copy.group,
-        services: copy.services,
-        groups: copy.groups,
+        name: entry.name.copy(alloc)?,
+        start: entry.start,
+        group: group_of(alloc, entry)?,
+        services: entry.services.copy(alloc)?,
+        groups: entry.groups.copy(alloc)?,
     })
+}
+
+fn group_of(alloc: Global, entry: &Entry) -> Result<Option<Units>, AllocError>
+    ensures { IfOk result (λ g. g ≡ entry.now.group) }
+{
+    match &entry.group {
+        Some(name) => Ok(Some(name.copy(alloc)?)),
+        None => Ok(None),
+    }
 }
 
 /// The places that stand at these indices of a list of places.

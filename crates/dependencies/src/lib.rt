@@ -19,6 +19,3 @@ pub use next::{all_met, both_ways_try_the_same, groups_met, next_ready, ready, s
 pub use started::Started;
 pub use test_count::TestCount;
 pub use waiting::Waiting;
-
-#[cfg(test)]
-mod tests;

@@ -28,7 +28,8 @@ pub(crate) fn meet_group(
     requires together { AreMetTogether names.now wants.old.met }
     requires ready { AreReadyBut wants.old.count ready.old waits.now wants.old others.now }
     ensures nearer { IsNearer wants.old wants.new }
-    ensures met { (k : ℕ) → k < length names.now → member wants.new.met k ≡ (member wants.old.met k || option_map_or (λ g. folds_same g (slice_index_or names.now k [])) group.now false) }
+    ensures met { (k : ℕ) → k < length names.now → member wants.new.met k
+        ≡ (member wants.old.met k || option_map_or (λ g. folds_same g (slice_index_or names.now k [])) group.now false) }
     ensures ready { AreReadyBut wants.new.count ready.new waits.now wants.new others.now }
     ensures tests { tests.new ≡ raised tests.old (count_by not wants.old.met - count_by not wants.new.met) }
 {

@@ -52,7 +52,8 @@ pub fn next_ready(waiting: &Needs, started: &Started) -> Option<u32>
 /// The place that `Waiting::next` answers, and the one that `next_ready` answers among those that wait, are of
 /// the same entry, attempt after attempt, whatever each of them comes to.
 pub fn both_ways_try_the_same()
-    ensures { (needs : List Needed) (started : List Label) (oks : List Bool) → tried_by_place oks (all_waiting needs started) ≡ tried_plainly oks started needs }
+    ensures { (needs : List Needed) (started : List Label) (oks : List Bool)
+        → tried_by_place oks (all_waiting needs started) ≡ tried_plainly oks started needs }
 {}
 
 fn first_ready(waiting: &[Need], started: &Started) -> Option<usize>

@@ -5,6 +5,7 @@ ghost use Rattle.std.specs.List.{flat_map};
 ghost use Rattle.std.specs.Option.{option_to_list};
 ghost use Rattle.start_model.specs.Ready.{has_name, has_group};
 
+use crate::need::copied;
 use crate::order::NamesInOrder;
 use crate::runs::{carried, one_run, push_some, replace, stands_in, unlisted};
 use nt_bytes::Units;
@@ -133,15 +134,6 @@ fn put(entries: &mut Vec<(Units, Option<Units>)>, entry: (Units, Option<Units>))
     match entries.push(entry) {
         Ok(()) => {}
         Err(_) => unreachable!(),
-    }
-}
-
-fn copied(alloc: Global, name: &Option<Units>) -> Result<Option<Units>, AllocError>
-    ensures { IfOk result (λ n. n ≡ name.now) }
-{
-    match name {
-        Some(units) => Ok(Some(units.copy(alloc)?)),
-        None => Ok(None),
     }
 }
 

@@ -2,7 +2,7 @@
 
 ghost use Rattle.std.specs.Prelude.{◌≡◌, ◌<◌, ◌≤◌, ◌^◌, ◌+◌, ◌-◌, ◌∷◌, ◌++◌, [], true, length, replicate, slice_get, vec_len, vec_capacity, IfOk, IfSome, OnOk, OnErr};
 ghost use Rattle.std.specs.List.{flat_map, items_where_true, range_with_len};
-ghost use Rattle.std.specs.Option.{option_map, option_to_list};
+ghost use Rattle.std.specs.Option.{option_copied, option_map, option_to_list};
 ghost use Rattle.nt_bytes.specs.Folding.{folded};
 ghost use Rattle.start_model.specs.Demand.{member};
 ghost use Rattle.dependencies.specs.Wants.{AreReadyBut};
@@ -112,6 +112,13 @@ impl Waiting {
             Some(at) => Some(at as u32),
             None => None,
         }
+    }
+
+    /// What the entry at a place of the phase needs, also where it waits no more; none where that is past the end.
+    pub fn need(&self, place: u32) -> Option<&Need>
+        ensures { option_copied result ≡ slice_get self.now.needs place }
+    {
+        self.needs.get(place as usize)
     }
 
     /// The waiting entry at a place was attempted: it waits no more, and was started where `ok`. Each name

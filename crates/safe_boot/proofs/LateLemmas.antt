@@ -14,7 +14,7 @@ use Rattle.start_model.specs.Entries.{Entry, Phase, Boot, System, Automatic, Don
 use Rattle.start_model.specs.Order.{GroupOrder, Rank, is_before, placed, ordered_of, orders_of, rank_of, tags_count_in, plan_of}
 use Rattle.start_model.specs.Lines.{Line, TryLine, TryOk, UnmetLine}
 use Rattle.start_model.specs.Machine.{phase_after, after_phase}
-use Rattle.start_model.specs.Run.{phase_line}
+use Rattle.start_model.specs.Starter.{phase_line}
 use Rattle.dependencies.proofs.PulledLemmas.{is_taken-least_of_all}
 use Rattle.safe_boot.specs.declared.mode.SafeMode.{SafeMode}
 use Rattle.safe_boot.specs.Listed.{listed_names, is_left_out, is_listed, reduced_of}

@@ -9,7 +9,7 @@ use Rattle.start_model.specs.Entries.{Entry, Done}
 use Rattle.start_model.specs.Lines.{Line, TryLine, TryOk, UnmetLine}
 use Rattle.start_model.specs.Machine as machine
 use Rattle.start_model.specs.Machine.{Start, MachineState, off_machine, next_in, after_attempt, attempt_at, attempt_in, attempt_of, unmet_in, after_phase, begun_with, with_start}
-use Rattle.start_model.specs.Run.{phase_line}
+use Rattle.start_model.specs.Starter.{phase_line}
 use Rattle.boot_phases.specs.declared.phase.Phase as code_phase
 use Rattle.boot_phases.specs.declared.phase.Phase.TheVariants as phases
 use Rattle.boot_phases.specs.Phases.{phase_in}

@@ -1,6 +1,6 @@
 -- Which line of the report is each line of a start in safe mode?
 use Rattle.start_model.specs.Lines as book
-use Rattle.start_model.specs.Run.{phase_line}
+use Rattle.start_model.specs.Starter.{phase_line}
 use Rattle.boot_phases.specs.Phases.{phase_in}
 use Rattle.safe_boot.specs.declared.lines.SafeLine.{SafeLine}
 use Rattle.safe_boot.specs.declared.lines.SafeLine.TheVariants as code

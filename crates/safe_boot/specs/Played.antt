@@ -7,7 +7,7 @@ use Rattle.hive_model.specs.Tree.{Tree}
 use Rattle.start_model.specs.Entries.{Entry, Boot}
 use Rattle.start_model.specs.Lines.{Line, TryLine, TryOk, UnmetLine}
 use Rattle.start_model.specs.Machine.{Start, MachineState, off_machine, next_in, after_attempt, unmet_in, after_phase, begun_with, with_start}
-use Rattle.start_model.specs.Run.{phase_line}
+use Rattle.start_model.specs.Starter.{phase_line}
 use Rattle.safe_boot.specs.declared.mode.SafeMode.{SafeMode}
 use Rattle.safe_boot.specs.declared.lines.SafeLine.{SafeLine}
 use Rattle.safe_boot.specs.Lines.{line_of}

@@ -13,8 +13,6 @@ mod sets;
 mod steps;
 mod stop;
 mod taken;
-#[cfg(test)]
-mod tests;
 
 pub use name::{set_name, set_path};
 pub use numbers::{SelectNumbers, read_select};

@@ -13,13 +13,15 @@ ghost use Rattle.service_control.specs.Sets.{HasNeeds, is_needed};
 /// What a start needs is the least of the sets that have the service and, with each member that is not started, all that it names.
 pub fn needed_is_the_least_set()
     ensures closed { (table : List Need) (started : List Label) (name : List ℕ) → HasNeeds table started name (is_needed table started name) }
-    ensures least { (table : List Need) (started : List Label) (name : List ℕ) (set : ℕ → Bool) → HasNeeds table started name set → (q : ℕ) → q < length table → is_needed table started name q ≡ true → set q ≡ true }
+    ensures least { (table : List Need) (started : List Label) (name : List ℕ) (set : ℕ → Bool) → HasNeeds table started name set
+        → (q : ℕ) → q < length table → is_needed table started name q ≡ true → set q ≡ true }
 {}
 
 /// What leans on a service is the least of the closed sets.
 pub fn leaning_is_the_least_set()
     ensures closed { (running : List Need) (name : List ℕ) → IsClosed running name (is_leaning running name) }
-    ensures least { (running : List Need) (name : List ℕ) (set : ℕ → Bool) → IsClosed running name set → (q : ℕ) → q < length running → is_leaning running name q ≡ true → set q ≡ true }
+    ensures least { (running : List Need) (name : List ℕ) (set : ℕ → Bool) → IsClosed running name set
+        → (q : ℕ) → q < length running → is_leaning running name q ≡ true → set q ≡ true }
 {}
 
 /// Over every list of calls the needs of each started service are met, and what it names stands before it.

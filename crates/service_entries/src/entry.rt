@@ -39,7 +39,16 @@ impl Model for Entry {
 
     ghost Value = { Item };
 
-    ghost view = { λ a. record { name = a.name; start = a.start; kind = a.kind; control = a.control; group = a.group; tag = a.tag; services = a.services; groups = a.groups } };
+    ghost view = { λ a. record {
+      name = a.name;
+      start = a.start;
+      kind = a.kind;
+      control = a.control;
+      group = a.group;
+      tag = a.tag;
+      services = a.services;
+      groups = a.groups;
+    } };
 }
 
 const START: [u16; 5] = [0x53, 0x74, 0x61, 0x72, 0x74];

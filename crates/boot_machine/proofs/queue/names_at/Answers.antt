@@ -7,7 +7,7 @@ use Rattle.boot_machine.proofs.queue.names_at.Goals.{in-Some+in_ok-push, in_defa
 
 pub loop-place-preserved : goal.loop-place-preserved
 loop-place-preserved c =
-    let h : ℕ → Option (List ℕ) = λ p. option_map (λ e. e.name) (slice_get c.args.entries.now p) in
+    let h : ℕ → Option (List ℕ) = λ p. option_map (λ n. n.name) (slice_get c.args.waiting.now.needs p) in
     let places = c.args.places.now in
     let i = c.loop-place.place-index in
     elim c.match-branch-2.branch [

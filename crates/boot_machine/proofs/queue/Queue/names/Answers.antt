@@ -6,4 +6,4 @@ pub returns : goal.returns
 returns c =
     let s = c.self.inside in
     rw (← c.self.view_is)
-    (names_by s.waiting s.entries.items c.as_slice-2.result.now c.names_at.result c.self.invariant (c.as_slice-2.ensures ∙ c.in_ok-left.ensures) (rw c.as_slice.ensures.value at c.names_at.ensures))
+    (names_by s.waiting s.rests.items c.as_slice.result.now c.names_at.result c.self.invariant (c.as_slice.ensures ∙ c.in_ok-left.ensures) c.names_at.ensures)

@@ -1,7 +1,4 @@
-use Rattle.std.proofs.Common.{◌≡◌, true, not, refl}
-use Rattle.start_model.specs.Entries.{need_of}
-use Rattle.start_model.specs.Ready.{next_of}
-use Rattle.boot_machine.specs.Steps.{is_there}
+use Rattle.std.proofs.Common.{not, refl}
 use Rattle.boot_machine.specs.Queue.{IsFirst, TakesFirst}
 use Rattle.boot_machine.proofs.StartLemmas.{attempts}
 use Rattle.boot_machine.proofs.start.Start.attempt_next.Goals as goal
@@ -17,6 +14,6 @@ returns-clause-start c =
     let s = c.self.inside in
     let e = c.in_ok-entry.entry in
     let ok = not c.has-ok.result in
-    let first : IsFirst s.queue e = rw c.in_ok-entry.ensures c.first.ensures in
+    let first : IsFirst s.queue e = c.in_ok-entry.ensures in
     let takes : TakesFirst s.queue c.take_first.new.self e ok = c.take_first.ensures e first in
     rw (← c.self.view_is) (attempts _ s.queue c.take_first.new.self e ok c.note.new.tried.items takes refl refl c.in_ok-note.ensures.tried)

@@ -1,6 +1,0 @@
-use Rattle.std.proofs.Common.{◌≡◌, map, take}
-use Rattle.start_model.specs.Entries.{need_of}
-use Rattle.boot_machine.proofs.queue.needs_of.Given as goal
-
-abbrev pub invariant-loop-entry : goal.invariant-loop-entry
-invariant-loop-entry l = l.needs ≡ map need_of (take l.entry-index l.entries)

@@ -1,0 +1,49 @@
+//! The phases of a start: which is next, and what is taken or done in them.
+
+ghost use Rattle.std.specs.Prelude.{◌≡◌};
+ghost use Rattle.boot_phases.specs.Phases.{phase_in};
+ghost use Rattle.start_model.specs.Machine.{phase_after, is_done, takes_logons};
+ghost use Rattle.boot_machine.specs.Steps.{is_last_phase};
+
+use boot_phases::Phase;
+
+/// The phase behind a phase.
+pub(crate) fn phase_after(phase: Phase) -> Phase
+    ensures { phase_in result ≡ phase_after (phase_in phase) }
+{
+    match phase {
+        Phase::Boot => Phase::System,
+        Phase::System => Phase::Automatic,
+        Phase::Automatic | Phase::Done => Phase::Done,
+    }
+}
+
+/// Whether all phases are over.
+pub(crate) fn is_done(phase: Phase) -> bool
+    ensures { result ≡ is_done (phase_in phase) }
+{
+    match phase {
+        Phase::Done => true,
+        Phase::Boot | Phase::System | Phase::Automatic => false,
+    }
+}
+
+/// Whether no entries are taken behind the phase.
+pub(crate) fn is_last(phase: Phase) -> bool
+    ensures { result ≡ is_last_phase (phase_in phase) }
+{
+    match phase {
+        Phase::Automatic | Phase::Done => true,
+        Phase::Boot | Phase::System => false,
+    }
+}
+
+/// Whether a user may log on in the phase.
+pub(crate) fn takes_logons(phase: Phase) -> bool
+    ensures { result ≡ takes_logons (phase_in phase) }
+{
+    match phase {
+        Phase::Automatic | Phase::Done => true,
+        Phase::Boot | Phase::System => false,
+    }
+}
