@@ -3,12 +3,13 @@
 //! The program is the top call of `ntboot_cli` over real files, standard output and a disk in memory.
 #![tactic(auto)]
 
-mod real_host;
+mod real_files;
 mod whole_file;
 
 use mem_edge::MemDisk;
 use ntboot_cli::{Status, ntboot};
-use real_host::RealHost;
+use real_files::RealFiles;
+use standard_host::StandardHost;
 use std::env;
 use std::io::ErrorKind;
 use std::process::ExitCode;
@@ -39,7 +40,7 @@ fn words(rt: &HostRuntime) -> Result<Vec<String>, NoWords> {
 
 fn main(rt: HostRuntime) -> ExitCode {
     let alloc = rt.alloc();
-    let mut host = RealHost::new(&rt);
+    let mut host = StandardHost::new(&rt, RealFiles);
     let mut disk = MemDisk::new(alloc);
     let status = match words(&rt) {
         Ok(words) => ntboot(alloc, &words, &mut host, &mut disk),

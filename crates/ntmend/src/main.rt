@@ -3,16 +3,17 @@
 //! The program opens both files, holds a lock on each, and makes the top call of `mend_command` over them.
 #![tactic(auto)]
 
-mod output;
-
 use file_disk::FileDisk;
 use mend_command::mend_hive;
 use nt_edge::Host;
-use output::Output;
+use standard_host::{NoFiles, StandardHost};
 use std::env;
 use std::fs::{File, OpenOptions};
 use std::io::ErrorKind;
 use std::process::ExitCode;
+
+/// Standard output, without files.
+type Output<'a> = StandardHost<'a, NoFiles>;
 
 /// There was no memory.
 const MEMORY: u8 = 9;
@@ -106,7 +107,7 @@ fn mend(rt: &HostRuntime, output: &mut Output<'_>, hive: &str, log: &str) -> u8 
 }
 
 fn main(rt: HostRuntime) -> ExitCode {
-    let mut output = Output::new(&rt);
+    let mut output = StandardHost::new(&rt, NoFiles);
     let exit = match words(&rt) {
         Ok((hive, log)) => mend(&rt, &mut output, hive.as_str(), log.as_str()),
         Err(NoWords::Usage) => say(&mut output, b"bad usage\n", 1),

@@ -1,29 +1,31 @@
-//! Standard output, as a host that has no files.
-//!
-//! It tells no content, since no contract can say what standard output takes. It counts each error.
+//! The host over files and standard output.
 
 ghost use Rattle.nt_edge.specs.Host.{IsWithinEnds};
 
+use crate::files::{FileFault, Files};
 use nt_bytes::Bytes;
 use nt_edge::{Host, HostStop};
 use std::alloc::Global;
 use std::io;
 use std::io::Write;
 
-/// Standard output.
+/// Files, and standard output.
 #[derive(Drop)]
-pub struct Output<'a> {
+pub struct StandardHost<'a, F> {
     rt: &'a HostRuntime,
+    files: F,
     gets: u64,
     reads: u64,
     writes: u64,
     ghost ends: { IsWithinEnds reads writes },
 }
 
-impl<'a> Output<'a> {
-    pub fn new(rt: &'a HostRuntime) -> Output<'a> {
-        Output {
+impl<'a, F: Files + Drop> StandardHost<'a, F> {
+    /// The host over these files. Nothing is counted yet.
+    pub fn new(rt: &'a HostRuntime, files: F) -> StandardHost<'a, F> {
+        StandardHost {
             rt,
+            files,
             gets: 0,
             reads: 0,
             writes: 0,
@@ -31,7 +33,7 @@ impl<'a> Output<'a> {
     }
 }
 
-impl Host for Output<'_> {
+impl<F: Files + Drop> Host for StandardHost<'_, F> {
     ghost use Rattle.std.specs.Prelude.{false, None, []};
 
     ghost state = { λ h. record {
@@ -46,16 +48,29 @@ impl Host for Output<'_> {
 
     ghost bounded = { λ h. h.ends };
 
-    fn get(&mut self, _name: &str) -> Result<Option<Bytes>, HostStop> {
+    fn get(&mut self, name: &str) -> Result<Option<Bytes>, HostStop> {
         let (_reads, _writes) = (self.reads, self.writes);
         self.gets = self.gets.saturating_add(1);
-        Ok(None)
+        match self.files.get(self.rt, name) {
+            Ok(found) => Ok(found),
+            Err(FileFault::Memory) => Err(HostStop::Memory),
+            Err(FileFault::Failed) => {
+                self.reads = self.reads.saturating_add(1);
+                Err(HostStop::Read)
+            }
+        }
     }
 
-    fn put(&mut self, _name: &str, _bytes: &[u8]) -> Result<(), HostStop> {
+    fn put(&mut self, name: &str, bytes: &[u8]) -> Result<(), HostStop> {
         let (_reads, _writes) = (self.reads, self.writes);
-        self.writes = self.writes.saturating_add(1);
-        Err(HostStop::Write)
+        match self.files.put(self.rt, name, bytes) {
+            Ok(()) => Ok(()),
+            Err(FileFault::Memory) => Err(HostStop::Memory),
+            Err(FileFault::Failed) => {
+                self.writes = self.writes.saturating_add(1);
+                Err(HostStop::Write)
+            }
+        }
     }
 
     fn say(&mut self, bytes: &[u8]) -> Result<(), HostStop> {
