@@ -16,6 +16,3 @@ pub use choosing::{Chosen, choose, wants_last_known_good};
 pub use ini::{BootIni, IniStop, OsEntries, OsEntry, Switches};
 pub use laws::a_boot_ini_reads_as_what_it_spells;
 pub use reading::read_boot_ini;
-
-#[cfg(test)]
-mod tests;

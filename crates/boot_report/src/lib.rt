@@ -13,9 +13,7 @@ mod writing;
 
 pub use laws::a_report_tells_how_the_disk_fared;
 pub use line::Line;
+pub use name::push_name;
 pub use printing::verdict_text;
 pub use words::{CommitWord, EventWord, PhaseWord, RefusedWord, TryWord, Verdict};
 pub use writing::line_bytes;
-
-#[cfg(test)]
-mod tests;

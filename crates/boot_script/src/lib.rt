@@ -20,7 +20,5 @@ mod words;
 pub use event::{Event, Script};
 pub use laws::{a_script_reads_as_what_it_spells, words_are_those_written};
 pub use script::read_script;
-pub use stop::{ScriptFault, ScriptFaultKind, ScriptStop};
-
-#[cfg(test)]
-mod tests;
+pub use stop::{LineStop, ScriptFault, ScriptFaultKind, ScriptStop};
+pub use words::{after_spaces, words_in};

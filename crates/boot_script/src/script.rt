@@ -9,7 +9,7 @@ ghost use Rattle.boot_script.specs.Script.{trimmed_event, line_event, starts, ev
 use crate::commands::event;
 use crate::event::{Event, Script};
 use crate::stop::{LineStop, ScriptFault, ScriptFaultKind, ScriptStop};
-use crate::words::{after_spaces, words};
+use crate::words::{after_spaces, words_in};
 use nt_bytes::{Row, first_line};
 use std::alloc::Global;
 
@@ -27,7 +27,7 @@ fn event_of_trimmed(alloc: Global, line: &[u8]) -> Result<Option<Event>, LineSto
     match line {
         [] | [b'#', ..] => Ok(None),
         _ => {
-            let words = words(alloc, line)?;
+            let words = words_in(alloc, line)?;
             event(alloc, &words)
         }
     }

@@ -37,7 +37,7 @@ pub enum ScriptStop {
     Memory,
 }
 
-/// Why one line has no event.
+/// Why one line has no words, or no event.
 #[derive(Clone, Copy, Debug, PartialEq, Eq)]
 pub enum LineStop {
     Kind(ScriptFaultKind),

@@ -35,6 +35,7 @@ fn quotable_count(text: &[u8]) -> usize
     count
 }
 
+/// The text without the spaces at its front.
 pub fn after_spaces(text: &[u8]) -> &[u8]
     ensures rest { result.now ≡ without_spaces text.now }
     ensures bound { length result.now ≤ length text.now }
@@ -78,7 +79,7 @@ fn first_word(text: &[u8]) -> Result<(&[u8], &[u8]), ScriptFaultKind>
 }
 
 /// The words of a line.
-pub fn words(alloc: Global, line: &[u8]) -> Result<Vec<&[u8]>, LineStop>
+pub fn words_in(alloc: Global, line: &[u8]) -> Result<Vec<&[u8]>, LineStop>
     ensures { Gives (λ v. map (λ w. w.now) v.items) result (words_of line.now) }
 {
     let mut found = Vec::new(alloc);

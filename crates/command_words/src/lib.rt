@@ -34,6 +34,3 @@ pub use asked::{
 };
 pub use word_texts::texts;
 pub use words::{WordsStop, read_words};
-
-#[cfg(test)]
-mod tests;

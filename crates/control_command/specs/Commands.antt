@@ -14,8 +14,6 @@ use Rattle.boot_script.specs.declared.stop.ScriptStop.TheVariants as stops
 use Rattle.boot_script.specs.Words.{◌>>=◌, words_of, without_spaces}
 use Rattle.control_command.specs.declared.command.Command.{Command}
 use Rattle.control_command.specs.declared.command.Command.TheVariants.{Start, Stop, StopAll, Listing}
-use Rattle.control_command.specs.declared.stop.LineStop.{LineStop}
-use Rattle.control_command.specs.declared.stop.LineStop.TheVariants as line_stops
 
 -- the command of one word, or of a word and a name
 abbrev pub alone_of : List ℕ → Result Command ScriptFaultKind
@@ -65,14 +63,6 @@ unfoldable pub commands_of : List ℕ → Result (List Command) ScriptFault
 commands_of text = if nat_lt 65536 (length text) then at_line 0 TooLong else commands_from 1 (lines text)
 
 -- ---- what a function of the code returned, against what the grammar gives
-
-abbrev pub Fails : {Y : Type 0} → LineStop → Result Y ScriptFaultKind → Type 0
-Fails line_stops.Memory read = Unit {0}
-Fails (line_stops.Kind k) read = read ≡ Err k
-
-abbrev pub Gives : {X Y : Type 0} → (X → Y) → Result X LineStop → Result Y ScriptFaultKind → Type 0
-Gives view (Ok x) read = read ≡ Ok (view x)
-Gives view (Err e) read = Fails e read
 
 abbrev pub FailsBy : ScriptStop → Result (List Command) ScriptFault → Type 0
 FailsBy stops.Memory read = Unit {0}

@@ -1,11 +1,11 @@
 //! The command that the words of a line stand for.
 
 ghost use Rattle.std.specs.Prelude.{map};
-ghost use Rattle.control_command.specs.Commands.{Gives, alone_of, named_of, command_of};
+ghost use Rattle.boot_script.specs.Words.{Gives};
+ghost use Rattle.control_command.specs.Commands.{alone_of, named_of, command_of};
 
 use crate::command::Command;
-use crate::stop::LineStop;
-use boot_script::ScriptFaultKind;
+use boot_script::{LineStop, ScriptFaultKind};
 use nt_bytes::narrow;
 use std::alloc::Global;
 

@@ -11,8 +11,6 @@ mod controlling;
 mod inputs;
 mod printing;
 mod reading;
-mod stop;
-mod words;
 
 pub use answering::report;
 pub use command::{Command, Commands};

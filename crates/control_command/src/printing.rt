@@ -1,42 +1,14 @@
 //! The lines of the report.
 
 ghost use Rattle.std.specs.Prelude.{◌≡◌, ◌++◌, OnOk};
-ghost use Rattle.start_model.specs.Lines.{unit_text, name_text};
+ghost use Rattle.start_model.specs.Lines.{name_text};
 ghost use Rattle.service_control.specs.declared.stop.ControlStop.TheVariants as stops;
 ghost use Rattle.control_command.specs.Report.{name_line, name_lines, stop_text, refused_line};
 
-use nt_bytes::{Units, hex_digit};
+use boot_report::push_name;
+use nt_bytes::Units;
 use service_control::ControlStop;
 use std::alloc::AllocError;
-
-#[tactic(auto, unfolding(start_model::specs::Lines::unit_text))]
-fn push_unit(out: &mut Vec<u8>, unit: u16) -> Result<(), AllocError>
-    ensures { OnOk result (out.new.items ≡ out.old.items ++ unit_text unit) }
-{
-    if (0x20..=0x7e).contains(&unit) {
-        out.push(unit as u8)?;
-        return Ok(());
-    }
-    let value = u32::from(unit);
-    let text = [
-        b'\\',
-        b'u',
-        hex_digit(value / 4096),
-        hex_digit(value / 256 % 16),
-        hex_digit(value / 16 % 16),
-        hex_digit(value % 16),
-    ];
-    out.extend_from_slice(&text)
-}
-
-fn push_name(out: &mut Vec<u8>, name: &[u16]) -> Result<(), AllocError>
-    ensures { OnOk result (out.new.items ≡ out.old.items ++ name_text name.now) }
-{
-    for unit in name {
-        push_unit(out, *unit)?;
-    }
-    Ok(())
-}
 
 /// A word and a name.
 pub(crate) fn push_line(out: &mut Vec<u8>, word: &[u8], name: &[u16]) -> Result<(), AllocError>

@@ -3,13 +3,12 @@
 ghost use Rattle.std.specs.Prelude.{◌≡◌, ◌∷◌, ◌≤◌, length, IfErr, OnOk, Some};
 ghost use Rattle.std.specs.Str.Lines.{lines};
 ghost use Rattle.boot_script.specs.declared.stop.ScriptStop.TheVariants as stops;
-ghost use Rattle.control_command.specs.Commands.{Gives, command_of, trimmed_command, line_command, commands_from, commands_of, GivesCommands, TakesLine, RefusesLine};
+ghost use Rattle.boot_script.specs.Words.{Gives};
+ghost use Rattle.control_command.specs.Commands.{command_of, trimmed_command, line_command, commands_from, commands_of, GivesCommands, TakesLine, RefusesLine};
 
 use crate::command::{Command, Commands};
 use crate::commands::command;
-use crate::stop::LineStop;
-use crate::words::{after_spaces, words};
-use boot_script::{ScriptFault, ScriptFaultKind, ScriptStop};
+use boot_script::{LineStop, ScriptFault, ScriptFaultKind, ScriptStop, after_spaces, words_in};
 use nt_bytes::first_line;
 use std::alloc::Global;
 
@@ -24,7 +23,7 @@ fn command_of_trimmed(alloc: Global, line: &[u8]) -> Result<Option<Command>, Lin
     match line {
         [] | [b'#', ..] => Ok(None),
         _ => {
-            let words = words(alloc, line)?;
+            let words = words_in(alloc, line)?;
             Ok(Some(command(alloc, &words)?))
         }
     }

@@ -7,8 +7,6 @@
 mod laws;
 mod line;
 mod shown;
-#[cfg(test)]
-mod tests;
 mod walk;
 
 pub use laws::{a_system_with_one_driver_is_shown, each_key_and_value_is_a_line};

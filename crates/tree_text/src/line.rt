@@ -2,42 +2,13 @@
 
 ghost use Rattle.std.specs.Prelude.{◌≡◌, ◌++◌, codes, OnOk};
 ghost use Rattle.std.specs.Fmt.{decimal};
-ghost use Rattle.start_model.specs.Lines.{unit_text, name_text};
+ghost use Rattle.start_model.specs.Lines.{name_text};
 ghost use Rattle.tree_text.specs.TreeText.{data_text, value_text};
 
+use boot_report::push_name;
 use itoa::{Buffer, Integer};
-use nt_bytes::hex_digit;
 use reg_tree::Value;
 use std::alloc::{AllocError, Global};
-
-#[tactic(auto, unfolding(start_model::specs::Lines::unit_text))]
-fn push_unit(out: &mut Vec<u8>, unit: u16) -> Result<(), AllocError>
-    ensures { OnOk result (out.new.items ≡ out.old.items ++ unit_text unit) }
-{
-    if (0x20..=0x7e).contains(&unit) {
-        out.push(unit as u8)?;
-        return Ok(());
-    }
-    let value = u32::from(unit);
-    let text = [
-        b'\\',
-        b'u',
-        hex_digit(value / 4096),
-        hex_digit(value / 256 % 16),
-        hex_digit(value / 16 % 16),
-        hex_digit(value % 16),
-    ];
-    out.extend_from_slice(&text)
-}
-
-fn push_name(out: &mut Vec<u8>, name: &[u16]) -> Result<(), AllocError>
-    ensures { OnOk result (out.new.items ≡ out.old.items ++ name_text name.now) }
-{
-    for unit in name {
-        push_unit(out, *unit)?;
-    }
-    Ok(())
-}
 
 /// Puts a space and the number behind.
 fn push_number(out: &mut Vec<u8>, number: u64) -> Result<(), AllocError>

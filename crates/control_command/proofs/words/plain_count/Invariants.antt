@@ -1,7 +1,0 @@
-use Rattle.std.proofs.Common.{◌≡◌, ◌+◌, drop}
-use Rattle.std.specs.List.{prefix_len}
-use Rattle.boot_script.specs.Words.{is_plain}
-use Rattle.control_command.proofs.words.plain_count.Given as goal
-
-abbrev pub invariant-loop-c : goal.invariant-loop-c
-invariant-loop-c l = (l.count ≡ l.c-index) × (l.c-index + prefix_len is_plain (drop l.c-index l.text) ≡ prefix_len is_plain l.text)
