@@ -19,7 +19,12 @@ use Rattle.start_model.specs.Entries.{Boot}
 use Rattle.start_model.specs.Order.{plan_of}
 use Rattle.start_model.specs.Sets.{SelectNumbers, SetPlan, SetStop, SetChange, NoPlan, select_numbers_of, usable_numbers_of, taken_number, is_usable, set_of, begin_plan_of, stepped, planned, changed_by, begin_of}
 use Rattle.start_model.specs.Machine.{MachineState, with_start, begun_with}
-use Rattle.start_model.specs.Run.{RunState, Act, Possible, Woken, Outcome, Finished, PowerCut, DeviceFault, Choice, EntryTaken, NoEntry, OtherLoader, NoSystem, Held, done, say, ask, mark, wake, play, commit, end_with, start_over, opened_state, woken_at, woken_state, loaded, woken, chosen, no_set, begin_start, begin_by, begin_with, begun_state, take_set, set_line}
+use Rattle.start_model.specs.Possible.{Possible, Woken, Outcome, Finished, PowerCut, DeviceFault, woken_at}
+use Rattle.start_model.specs.Act.{RunState, Act, Held, done, say, ask, mark, wake, end_with, start_over}
+use Rattle.start_model.specs.Commit.{commit, opened_state}
+use Rattle.start_model.specs.Starter.{no_set}
+use Rattle.start_model.specs.Boot.{Choice, EntryTaken, NoEntry, OtherLoader, NoSystem, woken_state, loaded, woken, chosen, begin_start, begin_by, begin_with, begun_state, take_set, set_line}
+use Rattle.start_model.specs.Run.{play}
 use Rattle.start_model.proofs.HeldLemmas.{services_few}
 use Rattle.run_laws.proofs.CountLemmas.{plan_few}
 use Rattle.run_laws.proofs.KeptLemmas.{begin_with-keeps, begin_by-keeps}

@@ -11,7 +11,10 @@ use Rattle.start_model.specs.Lines as book
 use Rattle.start_model.specs.Lines.{VerdictLine, Verdict}
 use Rattle.start_model.specs.Machine.{Start, MachineState, ending_of, ending_with, is_good, ended}
 use Rattle.start_model.specs.Fits.{outcomes_in, MayLoad}
-use Rattle.start_model.specs.Run.{Act, RunState, done, say, committed_state, opened_state, start_over, end_with, commit, flush_act, off_act, play}
+use Rattle.start_model.specs.Act.{Act, RunState, done, say, start_over, end_with}
+use Rattle.start_model.specs.Commit.{committed_state, opened_state, commit}
+use Rattle.start_model.specs.EventActs.{flush_act, off_act}
+use Rattle.start_model.specs.Run.{play}
 use Rattle.boot_machine.specs.Steps.{is_there, falls_back}
 use Rattle.run_parts.specs.Parts.{Told, Tells, Goes, PlaysOr, TellsOr}
 use Rattle.run_parts.proofs.CountLemmas.{Still, still}

@@ -12,13 +12,16 @@ use Rattle.nt_edge.specs.Host.{SaysFront}
 use Rattle.nt_edge.specs.Bench.{turned_off}
 use Rattle.hive_store.specs.Session.{Session}
 use Rattle.hive_store.specs.Commits as store
-use Rattle.hive_store.specs.Commits.{LoadsAsEither}
+use Rattle.hive_commit.specs.Stages.{LoadsAsEither}
 use Rattle.hive_commit.specs.Stages.{next_number}
 use Rattle.start_model.specs.Lines.{CommitLine, VerdictLine, CommitWord, Verdict, line_text}
 use Rattle.start_model.specs.Fits.{outcomes_in, MayLoad}
 use Rattle.start_model.specs.Causes.{HasCause}
 use Rattle.start_model.specs.Machine.{ended}
-use Rattle.start_model.specs.Run.{Act, done, mark, Held, Outcome, Finished, RunState, settled_at, open_between, next_state, committed_state, opened_state, start_over, end_with, committed, commit, play}
+use Rattle.start_model.specs.Possible.{Outcome, Finished, settled_at, open_between}
+use Rattle.start_model.specs.Act.{Act, done, mark, Held, RunState, next_state, start_over, end_with}
+use Rattle.start_model.specs.Commit.{committed_state, opened_state, committed, commit}
+use Rattle.start_model.specs.Run.{play}
 use Rattle.run_parts.specs.Parts.{Told, Tells, Goes, Breaks, Stays, since_wake, tally_now}
 use Rattle.run_parts.proofs.CountLemmas.{Still, still-by}
 use Rattle.run_parts.proofs.GoesLemmas.{goes-then, goes-told, goes-held}

@@ -13,7 +13,10 @@ use Rattle.start_model.specs.Lines.{VerdictLine}
 use Rattle.start_model.specs.Machine.{ended}
 use Rattle.start_model.specs.Causes.{HasCause}
 use Rattle.start_model.specs.Fits.{MayLoad}
-use Rattle.start_model.specs.Run.{Act, RunState, Outcome, PowerCut, Cuts, Ordered, done, ask, mark, start_over, end_with, cut_act, arm_act, play}
+use Rattle.start_model.specs.Possible.{Outcome, PowerCut}
+use Rattle.start_model.specs.Act.{Act, RunState, Cuts, Ordered, done, ask, mark, start_over, end_with}
+use Rattle.start_model.specs.EventActs.{cut_act, arm_act}
+use Rattle.start_model.specs.Run.{play}
 use Rattle.run_parts.specs.Parts.{Told, Goes, Breaks, PlaysOr, TellsOr, IsMarked, NoLess, since_wake, tally_now}
 use Rattle.run_parts.proofs.CountLemmas.{Still, still, no_less-same, no_less-bounded, rises-since}
 use Rattle.run_parts.proofs.GoesLemmas.{tells-nothing, goes-told}

@@ -9,7 +9,7 @@ use Rattle.nt_edge.specs.Host.{Rises}
 use Rattle.nt_edge.specs.Bench.{turned_off, woken}
 use Rattle.start_model.specs.Causes.{Tally, HasCause}
 use Rattle.start_model.specs.Fits.{MayLoad}
-use Rattle.start_model.specs.Run.{Possible, PowerCut, DeviceFault, settled_at, open_between}
+use Rattle.start_model.specs.Possible.{Possible, PowerCut, DeviceFault, settled_at, open_between}
 use Rattle.run_parts.specs.Parts.{Later, IsMarked, NoLess, since_wake, tally_now, tallies, tally_at}
 use Rattle.run_parts.proofs.CountLemmas.{Still, still, later-then, later-same, no_less-then, no_less-bounded, rises-since, since-grown}
 

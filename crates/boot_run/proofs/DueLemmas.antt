@@ -11,7 +11,11 @@ use Rattle.start_model.specs.Lines.{CommitWord, SaveCommit, LogonLine}
 use Rattle.start_model.specs.Machine.{Start, MachineState, save_due, with_start}
 use Rattle.start_model.specs.Fits.{MayLoad}
 use Rattle.start_model.specs.Sets.{SetChange, ChangeStop, NoPlan, Full, save_of}
-use Rattle.start_model.specs.Run.{Act, RunState, Outcome, Finished, PowerCut, DeviceFault, Saved, done, say, ask, mark, open_between, next_state, committed, committed_state, commit, saved_by, save, save_where_due, logon_act, with_machine, play}
+use Rattle.start_model.specs.Possible.{Outcome, Finished, PowerCut, DeviceFault, open_between}
+use Rattle.start_model.specs.Act.{Act, RunState, Saved, done, say, ask, mark, next_state, with_machine}
+use Rattle.start_model.specs.Commit.{committed, committed_state, commit, saved_by, save, save_where_due}
+use Rattle.start_model.specs.EventActs.{logon_act}
+use Rattle.start_model.specs.Run.{play}
 use Rattle.boot_machine.specs.Steps.{on_start}
 use Rattle.run_parts.specs.Parts.{Told, Goes, Stays}
 use Rattle.run_parts.proofs.CountLemmas.{still}

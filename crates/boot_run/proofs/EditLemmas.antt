@@ -19,7 +19,9 @@ use Rattle.start_model.specs.Lines.{Line, EditOkLine, RefusedLine}
 use Rattle.start_model.specs.Machine.{Start, MachineState}
 use Rattle.start_model.specs.Fits.{MayLoad}
 use Rattle.start_model.specs.Sets.{numbers_in, set_of, select_numbers_of, SelectNumbers}
-use Rattle.start_model.specs.Run.{Act, RunState, done, say, event_word_of, reason_of, edit_done, play}
+use Rattle.start_model.specs.Act.{Act, RunState, done, say}
+use Rattle.start_model.specs.EventActs.{event_word_of, reason_of, edit_done}
+use Rattle.start_model.specs.Run.{play}
 use Rattle.start_laws.proofs.StepLemmas.{select_key}
 use Rattle.start_laws.proofs.UsableLemmas.{usable_parts, usable_from}
 use Rattle.good_laws.proofs.EditLemmas.{KeepsSets, edited_keeps}

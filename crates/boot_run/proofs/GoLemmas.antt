@@ -8,7 +8,9 @@ use Rattle.hive_store.specs.Session.{Session}
 use Rattle.start_model.specs.Entries.{services_of}
 use Rattle.start_model.specs.Machine.{Start, MachineState}
 use Rattle.start_model.specs.Sets.{set_of}
-use Rattle.start_model.specs.Run.{Act, RunState, done, no_set, live_set, stepping, go_steps, enough_steps, play}
+use Rattle.start_model.specs.Act.{Act, RunState, done}
+use Rattle.start_model.specs.Starter.{no_set, live_set, stepping, go_steps, enough_steps}
+use Rattle.start_model.specs.Run.{play}
 use Rattle.run_parts.specs.Parts.{Told, Goes, Breaks}
 use Rattle.run_parts.proofs.CountLemmas.{still}
 use Rattle.run_parts.proofs.GoesLemmas.{goes-nothing, goes-then}

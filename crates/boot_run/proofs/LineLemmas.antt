@@ -7,7 +7,8 @@ use Rattle.nt_edge.specs.Crash.{EachCrash}
 use Rattle.nt_edge.specs.Host.{SaysFront}
 use Rattle.start_model.specs.Lines.{Line, line_text}
 use Rattle.start_model.specs.Fits.{outcomes_in, MayLoad}
-use Rattle.start_model.specs.Run.{Act, say, play}
+use Rattle.start_model.specs.Act.{Act, say}
+use Rattle.start_model.specs.Run.{play}
 use Rattle.run_parts.specs.Parts.{Told, Tells, PlaysOr}
 use Rattle.run_parts.proofs.CountLemmas.{still}
 use Rattle.run_parts.proofs.GoesLemmas.{goes-line}

@@ -17,7 +17,10 @@ use Rattle.hive_store.specs.Loading as store
 use Rattle.start_model.specs.Lines.{Line, LoadLine, VerdictLine, Verdict, line_text}
 use Rattle.start_model.specs.Fits.{outcomes_in, MayLoad, IsPossible}
 use Rattle.start_model.specs.Causes.{HasCause}
-use Rattle.start_model.specs.Run.{Act, done, ask, mark, wake, Woke, Held, Note, Possible, RunState, Woken, Outcome, Finished, settled_at, woken_at, woken_state, loaded_state, start_over, end_with, play}
+use Rattle.start_model.specs.Possible.{Possible, Woken, Outcome, Finished, settled_at, woken_at}
+use Rattle.start_model.specs.Act.{Act, done, ask, mark, wake, Woke, Held, Note, RunState, start_over, end_with}
+use Rattle.start_model.specs.Boot.{woken_state, loaded_state}
+use Rattle.start_model.specs.Run.{play}
 use Rattle.run_parts.specs.Parts.{Told, Tells, Goes, Breaks, Stays, Grew, since_wake, tally_now}
 use Rattle.run_parts.proofs.CountLemmas.{Still, still-by, none_fell-same}
 use Rattle.run_parts.proofs.GoesLemmas.{tells-nothing, goes-then, goes-told, goes-held}

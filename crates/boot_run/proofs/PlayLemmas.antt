@@ -7,7 +7,9 @@ use Rattle.nt_edge.specs.Crash.{EachCrash}
 use Rattle.hive_store.specs.Session.{Session}
 use Rattle.start_model.specs.Lines.{Line, Verdict, line_text}
 use Rattle.start_model.specs.Fits.{outcomes_in, MayLoad}
-use Rattle.start_model.specs.Run.{Act, RunState, Possible, done, say, end_with, play}
+use Rattle.start_model.specs.Possible.{Possible}
+use Rattle.start_model.specs.Act.{Act, RunState, done, say, end_with}
+use Rattle.start_model.specs.Run.{play}
 use Rattle.run_parts.specs.Parts.{Told, Goes, Breaks, PlaysOr, TellsOr, Stays}
 use Rattle.run_parts.proofs.CountLemmas.{Still}
 use Rattle.run_parts.proofs.GoesLemmas.{goes-then, goes-line}

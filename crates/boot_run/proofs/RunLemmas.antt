@@ -17,8 +17,12 @@ use Rattle.start_model.specs.Machine.{Start, MachineState, ending_of}
 use Rattle.start_model.specs.Fits.{outcomes_in, MayLoad}
 use Rattle.start_model.specs.Events.{Event}
 use Rattle.start_model.specs.Report.{Going}
-use Rattle.start_model.specs.Run as run
-use Rattle.start_model.specs.Run.{Act, Note, Possible, RunState, RunResult, Woken, Outcome, Choice, event_step_of, reached, behind, play, then_run, closing_act, verdict_first, run_from, run_of, first_state, loads_as}
+use Rattle.start_model.specs.Act as acts
+use Rattle.start_model.specs.Possible.{Possible, Woken, Outcome, loads_as}
+use Rattle.start_model.specs.Act.{Act, Note, RunState}
+use Rattle.start_model.specs.Boot.{Choice}
+use Rattle.start_model.specs.EventActs.{event_step_of}
+use Rattle.start_model.specs.Run.{RunResult, reached, behind, play, then_run, closing_act, verdict_first, run_from, run_of, first_state}
 use Rattle.run_laws.specs.Open.{IsClosed}
 use Rattle.run_laws.proofs.PartLemmas.{then-behind}
 use Rattle.run_laws.proofs.StillLemmas.{run-may, event-closed}
@@ -52,7 +56,7 @@ record NothingLeft (act : Act) (m : RunState) (ws : List Woken) (os : List Outco
   disk : (play act [] []).disk ≡ m.disk
 
 play-left : (act : Act) (m : RunState) (ws : List Woken) (os : List Outcome) → (play act [] []).rest ≡ Some (m, ws, os) → NothingLeft act m ws os
-play-left (run.done n) m ws os e =
+play-left (acts.done n) m ws os e =
     let here : RunState × List Woken × List Outcome = (n, [], []) in
     let there : RunState × List Woken × List Outcome = (m, ws, os) in
     let q : here ≡ there = cc in
@@ -61,10 +65,10 @@ play-left (run.done n) m ws os e =
       outcomes = sym (ap (λ (t : RunState × List Woken × List Outcome). t.2) q);
       disk = ap (λ (t : RunState × List Woken × List Outcome). t.0.disk) q;
     }
-play-left (run.say l act) m ws os e = let p = play-left act m ws os e in record { wakes = p.wakes; outcomes = p.outcomes; disk = p.disk }
-play-left (run.ask disk next) m ws os e = absurd cc
-play-left (run.wake disk next) m ws os e = absurd cc
-play-left (run.mark note act) m ws os e = let p = play-left act m ws os e in record { wakes = p.wakes; outcomes = p.outcomes; disk = p.disk }
+play-left (acts.say l act) m ws os e = let p = play-left act m ws os e in record { wakes = p.wakes; outcomes = p.outcomes; disk = p.disk }
+play-left (acts.ask disk next) m ws os e = absurd cc
+play-left (acts.wake disk next) m ws os e = absurd cc
+play-left (acts.mark note act) m ws os e = let p = play-left act m ws os e in record { wakes = p.wakes; outcomes = p.outcomes; disk = p.disk }
 
 -- ---- the rest of the script behind an act, where nothing more happens
 
@@ -102,7 +106,7 @@ module _ (choice : Option ℕ → Choice) where
         ∙ then-behind (run_from choice es) p.lines p.notes (play b w o) (play b w o).rest;
   }
 
-  goes-event : (ev : Event) (es : List Event) (m after : RunState) (rest : Act) (x y : Told) (d e : DiskState) → rest ≡ run.done after
+  goes-event : (ev : Event) (es : List Event) (m after : RunState) (rest : Act) (x y : Told) (d e : DiskState) → rest ≡ acts.done after
       → Goes (play (event_step_of choice ev m)) (play rest) x y d e → Goes (run_from choice (ev ∷ es) m) (run_from choice es after) x y d e
   goes-event ev es m after rest x y d e is p =
       let P : Act → Type 0 = λ a. Goes (before es (event_step_of choice ev m)) (before es a) x y d e in
@@ -186,7 +190,7 @@ module _ (choice : Option ℕ → Choice) where
 
   -- the end of the script was played, or given up
   end_or : {E : Type 0} → (result : Result (Unit {0}) E) (whole : Going) (m : RunState) (x y z : Told) (d e : DiskState) → Goes whole (run_from choice [] m) x y d e → EachCrash e (MayLoad m.disk)
-      → PlaysOr (closing_act m) y z e e result (λ u a. a ≡ run.done m) → RunsOr whole x z d e result
+      → PlaysOr (closing_act m) y z e e result (λ u a. a ≡ acts.done m) → RunsOr whole x z d e result
   end_or (Ok u) whole m x y z d e g left p =
       let P : Act → Type 0 = λ a. Goes (play (closing_act m)) (play a) y z e e in
       record { last = m; goes = goes-then whole (play (closing_act m)) (reached m) x y z d e e g (subst P p.1.1 p.1.0); left = left }
@@ -204,7 +208,7 @@ module _ (choice : Option ℕ → Choice) where
 
   pub ended : {E : Type 0} → (result : Result (Unit {0}) E) (whole : Going) (evs : List code.Event) (x y z : Told) (d e : DiskState) (r : Runner) (hive : Option Session) → length evs < 1
       → ((m : RunState) → AgreesBy m e hive → EachCrash e (MayLoad m.disk)) → Progress whole (map event_in evs) x y d e r hive
-      → ((m : RunState) → Counts m r → EachCrash e (MayLoad m.disk) → PlaysOr (closing_act m) y z e e result (λ u a. a ≡ run.done m)) → RunsOr whole x z d e result
+      → ((m : RunState) → Counts m r → EachCrash e (MayLoad m.disk) → PlaysOr (closing_act m) y z e e result (λ u a. a ≡ acts.done m)) → RunsOr whole x z d e result
   ended result whole evs x y z d e r hive none may p close =
       let P : List code.Event → Type 0 = λ es. Progress whole (map event_in es) x y d e r hive in
       let q : Progress whole [] x y d e r hive = subst P (none_left evs none) p in
@@ -225,9 +229,9 @@ agrees_closed m r d (Some s) sound agrees = closed_by m.machine.start m (ap (λ 
 -- ---- the end
 
 verdict_on : (o : Option Start) (word : lines.Verdict) (rest : Act) → is_there o ≡ true → Some word ≡ option_map ending_of o
-    → run.say (lines.VerdictLine word) rest ≡ verdict_first o rest
+    → acts.say (lines.VerdictLine word) rest ≡ verdict_first o rest
 verdict_on None word rest there is = absurd cc
-verdict_on (Some s) word rest there is = let e : word ≡ ending_of s = cc in ap (λ (w : lines.Verdict). run.say (lines.VerdictLine w) rest) e
+verdict_on (Some s) word rest there is = let e : word ≡ ending_of s = cc in ap (λ (w : lines.Verdict). acts.say (lines.VerdictLine w) rest) e
 
 verdict_off : (o : Option Start) (rest : Act) → is_there o ≡ false → rest ≡ verdict_first o rest
 verdict_off None rest gone = refl
@@ -240,7 +244,7 @@ last_verdict result m r word rest x y d counts on is left said =
     let there : is_there m.machine.start ≡ true = ap (λ (k : MachineState). is_there k.start) counts.machine ∙ on in
     let same : Some word ≡ option_map ending_of m.machine.start = is ∙ ap (λ (k : MachineState). option_map ending_of k.start) (sym counts.machine) in
     let End : Unit {0} → Act → Type 0 = λ u a. a ≡ rest in
-    plays-as result End End (run.say (lines.VerdictLine word) rest) (verdict_first m.machine.start rest) x y d d (verdict_on m.machine.start word rest there same) (λ v a h. h)
+    plays-as result End End (acts.say (lines.VerdictLine word) rest) (verdict_first m.machine.start rest) x y d d (verdict_on m.machine.start word rest there same) (λ v a h. h)
     (plays-line result End (lines.VerdictLine word) rest x y d d (still d) (ending m.machine.start word there same).none said left (λ v. refl))
 
 pub no_verdict : (m : RunState) (r : Runner) (rest : Act) (x : Told) (d : DiskState) → Counts m r → is_there r.machine.start ≡ false
@@ -252,13 +256,13 @@ no_verdict m r rest x d counts off =
 
 -- the last line, behind the verdict
 pub closes : {E : Type 0} → (result : Result (Unit {0}) E) (m : RunState) (x y z : Told) (d : DiskState) → EachCrash d (MayLoad m.disk)
-    → ((a : Act) × (Goes (play (closing_act m)) (play a) x y d d × (a ≡ run.say lines.EndLine (run.done m)))) → TellsOr lines.EndLine y z result
-    → PlaysOr (closing_act m) x z d d result (λ u a. a ≡ run.done m)
+    → ((a : Act) × (Goes (play (closing_act m)) (play a) x y d d × (a ≡ acts.say lines.EndLine (acts.done m)))) → TellsOr lines.EndLine y z result
+    → PlaysOr (closing_act m) x z d d result (λ u a. a ≡ acts.done m)
 closes result m x y z d left p said =
-    let End : Unit {0} → Act → Type 0 = λ u a. a ≡ run.done m in
+    let End : Unit {0} → Act → Type 0 = λ u a. a ≡ acts.done m in
     let P : Act → Type 0 = λ a. Goes (play (closing_act m)) (play a) x y d d in
-    plays-then result End (closing_act m) (run.say lines.EndLine (run.done m)) x y z d d d (subst P p.1.1 p.1.0)
-    (plays-line result End lines.EndLine (run.done m) y z d d (still d) refl said left (λ v. refl))
+    plays-then result End (closing_act m) (acts.say lines.EndLine (acts.done m)) x y z d d d (subst P p.1.1 p.1.0)
+    (plays-line result End lines.EndLine (acts.done m) y z d d (still d) refl said left (λ v. refl))
 
 -- ---- the report
 

@@ -16,7 +16,11 @@ use Rattle.start_model.specs.Lines.{Line, SaveCommit, line_text}
 use Rattle.start_model.specs.Machine.{Start, MachineState}
 use Rattle.start_model.specs.Fits.{outcomes_in, MayLoad}
 use Rattle.start_model.specs.Sets.{SelectNumbers, SetPlan, SetChange, ChangeStop, NoPlan, Full, set_of, select_numbers_of, usable_numbers_of, stepped, changed_by, planned, save_of}
-use Rattle.start_model.specs.Run.{Act, RunState, Possible, Saved, reason_of, done, say, mark, commit, next_state, select_line, save_refused, saved_by, committed_state, opened_state, start_over, noted_saved, play}
+use Rattle.start_model.specs.Possible.{Possible}
+use Rattle.start_model.specs.Act.{Act, RunState, Saved, done, say, mark, next_state, start_over}
+use Rattle.start_model.specs.Commit.{commit, select_line, save_refused, saved_by, committed_state, opened_state, noted_saved}
+use Rattle.start_model.specs.EventActs.{reason_of}
+use Rattle.start_model.specs.Run.{play}
 use Rattle.boot_report.specs.Report.{refused_of}
 use Rattle.boot_report.specs.declared.words.RefusedWord.{RefusedWord as Word}
 use Rattle.reg_tree.specs.Makes.{IsRefused, refusal_of}

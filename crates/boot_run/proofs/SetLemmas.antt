@@ -7,7 +7,7 @@ use Rattle.hive_model.specs.Tree.{Tree, head, children, is_named, find_key}
 use Rattle.hive_store.specs.Found.{found_names}
 use Rattle.start_model.specs.Entries.{services_of}
 use Rattle.start_model.specs.Sets.{set_name, set_of}
-use Rattle.start_model.specs.Run.{no_set}
+use Rattle.start_model.specs.Starter.{no_set}
 
 as_many_names : (o : Option Tree) → length (option_map_or (λ t. map (λ child. (head child).name) (children t)) o []) ≡ length (option_map_or children o [])
 as_many_names None = refl

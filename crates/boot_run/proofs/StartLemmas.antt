@@ -22,7 +22,11 @@ use Rattle.start_model.specs.Lines.{Line, VerdictLine, UnmetLine, Verdict, line_
 use Rattle.start_model.specs.Machine.{Start, MachineState, Tried, next_in, attempt_at, attempt_in, attempt_of, after_phase, phase_after, unmet_in, is_done, with_start, ended}
 use Rattle.start_model.specs.Fits.{outcomes_in, MayLoad}
 use Rattle.start_model.specs.Sets.{set_of}
-use Rattle.start_model.specs.Run.{Act, RunState, Possible, Woken, Outcome, behind, phase_line, phase_step, save_where_due, with_machine, done, say, say_all, no_set, live_set, start_over, end_with, judged, play}
+use Rattle.start_model.specs.Possible.{Possible, Woken, Outcome}
+use Rattle.start_model.specs.Act.{Act, RunState, with_machine, done, say, say_all, start_over, end_with}
+use Rattle.start_model.specs.Commit.{save_where_due}
+use Rattle.start_model.specs.Starter.{phase_line, phase_step, no_set, live_set, judged}
+use Rattle.start_model.specs.Run.{behind, play}
 use Rattle.run_laws.proofs.CountLemmas.{plan_few}
 use Rattle.start_laws.proofs.UsableLemmas.{usable_parts}
 use Rattle.boot_machine.specs.Steps.{falls_back, is_last_phase, is_in_last_phase, on_start}

@@ -11,7 +11,10 @@ use Rattle.start_model.specs.Entries.{Entry, need_of}
 use Rattle.start_model.specs.Machine.{Start, MachineState, Tried, next_in, attempt_at, attempt_in, attempt_of, after_phase, is_done, with_start}
 use Rattle.start_model.specs.Fits.{MayLoad}
 use Rattle.start_model.specs.Sets.{set_of}
-use Rattle.start_model.specs.Run.{Act, RunState, done, no_set, live_set, good_is_usable, judged, starter_step, phase_step, stepping, go_steps, go_act, enough_steps, save_where_due, with_machine, play}
+use Rattle.start_model.specs.Act.{Act, RunState, done, with_machine}
+use Rattle.start_model.specs.Commit.{save_where_due}
+use Rattle.start_model.specs.Starter.{no_set, live_set, good_is_usable, judged, starter_step, phase_step, stepping, go_steps, go_act, enough_steps}
+use Rattle.start_model.specs.Run.{play}
 use Rattle.start_laws.proofs.NextLemmas.{next_is}
 use Rattle.run_laws.proofs.StillLemmas.{may_load, next-may}
 use Rattle.run_laws.proofs.KeptLemmas.{go_steps-keeps, up_rests}

@@ -17,15 +17,19 @@ use Rattle.start_model.specs.Events.{Event, Edit, BootNow, Go, Fail, Edits, Flus
 use Rattle.start_model.specs.Lines.{RefusedWord, RefusedLine, ProtectedReason}
 use Rattle.start_model.specs.Machine.{Start, MachineState, failing, refusal_in, refusal_of}
 use Rattle.start_model.specs.Fits.{MayLoad}
-use Rattle.start_model.specs.Run.{Act, Choice, RunState, done, say, with_machine, edit_done, go_act, flush_act, logon_act, off_act, cut_act, boot_act, idle_act, accepted_act, act_unless, event_step_of, event_word_of, play}
+use Rattle.start_model.specs.Act.{Act, RunState, done, say, with_machine}
+use Rattle.start_model.specs.Starter.{go_act}
+use Rattle.start_model.specs.Boot.{Choice, boot_act}
+use Rattle.start_model.specs.EventActs.{edit_done, flush_act, logon_act, off_act, cut_act, idle_act, accepted_act, act_unless, event_step_of, event_word_of}
+use Rattle.start_model.specs.Run.{play}
 use Rattle.start_laws.proofs.UsableLemmas.{usable_parts}
 use Rattle.boot_machine.specs.Steps.{is_there}
 use Rattle.boot_machine.specs.Views.{event_in}
 use Rattle.boot_script.specs.declared.event.Event as script
 use Rattle.boot_script.specs.declared.event.Event.TheVariants as code
-use Rattle.nt_bytes.specs.declared.lists.Bytes.{Bytes}
-use Rattle.nt_bytes.specs.declared.lists.Names.{Names}
-use Rattle.nt_bytes.specs.declared.lists.Units.{Units}
+use Rattle.nt_bytes.specs.declared.bytes.Bytes.{Bytes}
+use Rattle.nt_bytes.specs.declared.names.Names.{Names}
+use Rattle.nt_bytes.specs.declared.units.Units.{Units}
 use Rattle.nt_edge.specs.declared.disk.DiskCall as calls
 use Rattle.nt_edge.specs.declared.disk.Keep as keeps
 use Rattle.run_parts.specs.Parts.{Told, Goes, Breaks, PlaysOr, TellsOr}

@@ -1,6 +1,8 @@
 -- Acts of the book with what follows left open. (this project's own)
 use Rattle.std.specs.Prelude.{false}
-use Rattle.start_model.specs.Run.{Act, RunState, Woken, Outcome, Finished, PowerCut, DeviceFault, ask, say, mark, wake, Held, woken_at, woken_state, loaded_state, end_with}
+use Rattle.start_model.specs.Possible.{Woken, Outcome, Finished, PowerCut, DeviceFault, woken_at}
+use Rattle.start_model.specs.Act.{Act, RunState, ask, say, mark, wake, Held, end_with}
+use Rattle.start_model.specs.Boot.{woken_state, loaded_state}
 use Rattle.start_model.specs.Lines as lines
 use Rattle.start_model.specs.Lines.{LoadLine}
 

@@ -13,7 +13,10 @@ use Rattle.start_model.specs.Lines.{Verdict, VerdictLine}
 use Rattle.start_model.specs.Sets.{is_usable, select_numbers_of}
 use Rattle.start_model.specs.Machine.{Start}
 use Rattle.start_model.specs.Fits.{MayLoad, outcomes_in}
-use Rattle.start_model.specs.Run.{RunState, Act, Woken, done, settled_at, woken_at, committed_state, opened_state, woken_state, loaded_state, start_over}
+use Rattle.start_model.specs.Possible.{Woken, settled_at, woken_at}
+use Rattle.start_model.specs.Act.{RunState, Act, done, start_over}
+use Rattle.start_model.specs.Commit.{committed_state, opened_state}
+use Rattle.start_model.specs.Boot.{woken_state, loaded_state}
 use Rattle.boot_machine.specs.Steps.{is_there, falls_back}
 use Rattle.run_parts.specs.Parts.{IsMarked}
 use Rattle.boot_run.specs.declared.runner.Runner.{Runner}

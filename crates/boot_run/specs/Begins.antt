@@ -21,7 +21,10 @@ use Rattle.start_model.specs.Machine.{MachineState, failing}
 use Rattle.start_model.specs.Report.{Going}
 use Rattle.start_model.specs.Fits.{MayLoad}
 use Rattle.start_model.specs.Summary.{no_summary}
-use Rattle.start_model.specs.Run.{RunState, Act, done, begin_with, end_with, with_machine, arm_act, reached}
+use Rattle.start_model.specs.Act.{RunState, Act, done, end_with, with_machine}
+use Rattle.start_model.specs.Boot.{begin_with}
+use Rattle.start_model.specs.EventActs.{arm_act}
+use Rattle.start_model.specs.Run.{reached}
 use Rattle.run_parts.specs.Parts.{Told, Goes, RunBreaks}
 use Rattle.boot_run.specs.Agrees.{IsUp, IsDown, IsEnding}
 use Rattle.boot_run.specs.Views.{told_by}

@@ -7,7 +7,7 @@ use Rattle.boot_ini.specs.declared.ini.BootIni.{BootIni}
 use Rattle.boot_ini.specs.declared.choosing.Chosen.{Chosen}
 use Rattle.boot_ini.specs.declared.choosing.Chosen.TheVariants as chosen
 use Rattle.boot_ini.specs.Choice.{entry_at, choice_of, asks_for_last_known_good}
-use Rattle.start_model.specs.Run.{Choice, EntryTaken, NoEntry, OtherLoader, NoSystem}
+use Rattle.start_model.specs.Boot.{Choice, EntryTaken, NoEntry, OtherLoader, NoSystem}
 
 -- the path of an entry, and whether it is on LastKnownGood, by its number
 abbrev pub path_at : BootIni → ℕ → List ℕ

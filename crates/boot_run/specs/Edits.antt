@@ -5,7 +5,7 @@ use Rattle.reg_tree.specs.Makes.{refusal_of}
 use Rattle.reg_tree.specs.declared.stop.EditStop.{EditStop}
 use Rattle.start_model.specs.Events.{Event}
 use Rattle.start_model.specs.Lines.{Line, EditOkLine, RefusedLine}
-use Rattle.start_model.specs.Run.{event_word_of, reason_of}
+use Rattle.start_model.specs.EventActs.{event_word_of, reason_of}
 use Rattle.run_parts.specs.Parts.{Told, TellsOr}
 
 -- the line of an edit, by how it ended; want of memory has none

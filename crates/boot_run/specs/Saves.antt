@@ -3,7 +3,8 @@ use Rattle.std.specs.Prelude.{◌≡◌, true, Option, Some, None, Result, Ok, E
 use Rattle.hive_model.specs.Tree.{Tree}
 use Rattle.start_model.specs.Machine.{Start}
 use Rattle.start_model.specs.Sets.{SelectNumbers, SetPlan, SetStop, select_numbers_of, usable_numbers_of, save_plan_of}
-use Rattle.start_model.specs.Run.{RunState, Act, say, select_line, noted_saved}
+use Rattle.start_model.specs.Act.{RunState, Act, say}
+use Rattle.start_model.specs.Commit.{select_line, noted_saved}
 
 -- this start runs, whose clone was handed out
 abbrev pub HandedOut : RunState → Start → Type 0

@@ -10,7 +10,9 @@ use Rattle.start_model.specs.Machine.{Start, MachineState, Tried, attempt_of, ph
 use Rattle.start_model.specs.Sets.{set_of}
 use Rattle.nt_edge.specs.Disk.{DiskState}
 use Rattle.hive_store.specs.Session.{Session}
-use Rattle.start_model.specs.Run.{RunState, Act, phase_line, go_steps, play}
+use Rattle.start_model.specs.Act.{RunState, Act}
+use Rattle.start_model.specs.Starter.{phase_line, go_steps}
+use Rattle.start_model.specs.Run.{play}
 use Rattle.run_parts.specs.Parts.{Told, Goes}
 use Rattle.boot_run.specs.declared.runner.Runner.{Runner}
 use Rattle.boot_run.specs.Agrees.{OnLeft}

@@ -4,7 +4,7 @@ use Rattle.nt_edge.specs.Disk.{DiskState}
 use Rattle.nt_edge.specs.Host.{HostState, SaysFront}
 use Rattle.start_model.specs.Summary as book
 use Rattle.boot_report.specs.Report.{verdict_of}
-use Rattle.start_model.specs.Run.{Act}
+use Rattle.start_model.specs.Act.{Act}
 use Rattle.start_model.specs.Lines.{Line, line_text}
 use Rattle.run_parts.specs.Parts.{Told, Tells, PlaysOr}
 use Rattle.boot_run.specs.declared.summary.Summary.{Summary}

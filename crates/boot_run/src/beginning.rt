@@ -12,8 +12,10 @@ ghost use Rattle.reg_tree.specs.Makes.{step_of};
 ghost use Rattle.start_model.specs.Sets.{SetPlan as Plan, select_numbers_of, usable_numbers_of, taken_number as taken_of, set_of, begin_plan_of, stepped};
 ghost use Rattle.start_model.specs.Lines.{BeginCommit};
 ghost use Rattle.start_model.specs.Machine.{with_start, begun_with};
-ghost use Rattle.start_model.specs.Run.{RunState, Act, no_set};
-ghost use Rattle.start_model.specs.Run as book;
+ghost use Rattle.start_model.specs.Act.{RunState, Act};
+ghost use Rattle.start_model.specs.Starter.{no_set};
+ghost use Rattle.start_model.specs.Commit as commit_book;
+ghost use Rattle.start_model.specs.Boot as boot_book;
 ghost use Rattle.run_parts.specs.Parts.{PlaysOr};
 ghost use Rattle.boot_run.specs.Agrees.{IsUp, IsLive, IsStored, IsSound, Counts, CommitLeft, TurnLeft};
 ghost use Rattle.boot_run.specs.Hosts.{LeavesHost};
@@ -68,7 +70,7 @@ fn begin_start<H: Host>(
     requires taken { IsTaken hive.now.tree number }
     ensures sound { (d : DiskState) → IsUp hive.now d → OnOk result (IsSound runner.new d (Some hive.now)) }
     ensures plays { (m : RunState) (d : DiskState) → (H.state host.old).tells ≡ true → IsUp hive.now d → Counts m runner.old → IsLive m hive.now d
-        → PlaysOr (book.begin_start number on_good numbers m) (told_in (H.state host.old) runner.old) (told_in (H.state host.new) runner.new)
+        → PlaysOr (boot_book.begin_start number on_good numbers m) (told_in (H.state host.old) runner.old) (told_in (H.state host.new) runner.new)
         d d result (λ u rest. TurnLeft runner.new d (Some hive.now) rest) }
     ensures host { LeavesHost result (H.state host.old) (H.state host.new) }
 {
@@ -94,7 +96,7 @@ fn begin_behind<H: Host>(
     requires taken { IfSome left.now (λ (hive : Session). IsTaken hive.tree number) }
     ensures sound { (d : DiskState) → IsUpOrDown d left.now → OnOk result (IsSound runner.new d left.now) }
     ensures plays { (m : RunState) (tree : Tree) (d : DiskState) (rest : Act) → (H.state host.old).tells ≡ true → IsUpOrDown d left.now
-        → CommitLeft m tree (book.begin_start number on_good numbers) runner.old d left.now rest
+        → CommitLeft m tree (boot_book.begin_start number on_good numbers) runner.old d left.now rest
         → PlaysOr rest (told_in (H.state host.old) runner.old) (told_in (H.state host.new) runner.new)
         d d result (λ u a. TurnLeft runner.new d left.now a) }
     ensures host { LeavesHost result (H.state host.old) (H.state host.new) }
@@ -123,7 +125,7 @@ fn begin_committed<H: Host, B: Bench>(
     requires taken { IsTaken hive.tree number }
     ensures sound { IfOk result (IsSound runner.new (B.state bench.new)) }
     ensures plays { (m : RunState) → (H.state host.old).tells ≡ true → Counts m runner.old → IsStored m hive (B.state bench.old)
-        → RunsTo (book.commit BeginCommit hive.tree m (book.begin_start number on_good numbers)) (moment (H.state host.old) runner.old (B.state bench.old))
+        → RunsTo (commit_book.commit BeginCommit hive.tree m (boot_book.begin_start number on_good numbers)) (moment (H.state host.old) runner.old (B.state bench.old))
         (moment (H.state host.new) runner.new (B.state bench.new)) result (TurnLeft runner.new (B.state bench.new)) }
     ensures host { LeavesHost result (H.state host.old) (H.state host.new) }
 {
@@ -232,9 +234,10 @@ fn say_set<H: Host>(
     host: &mut H,
 ) -> Result<Result<SetPlan, Verdict>, RunStop>
     ensures plays { (m : RunState) (d : DiskState) → (H.state host.old).tells ≡ true → IsUp hive.now d → IsLive m hive.now d
-        → PlaysOr (book.take_set on_good m) (told_by (H.state host.old) summary.old) (told_by (H.state host.new) summary.new) d d
+        → PlaysOr (boot_book.take_set on_good m) (told_by (H.state host.old) summary.old) (told_by (H.state host.new) summary.new) d d
         result (SetLeft (λ n plan. begin_planned on_good n plan (stepped n.version n.live plan.steps)) m) }
-    ensures plan { IfOk result (λ found. IfOk found (λ plan. begin_plan_of (select_numbers_of hive.now.tree) (usable_numbers_of hive.now.tree) on_good ≡ Ok plan)) }
+    ensures plan { IfOk result (λ found. IfOk found (λ plan.
+        begin_plan_of (select_numbers_of hive.now.tree) (usable_numbers_of hive.now.tree) on_good ≡ Ok plan)) }
     ensures fits { IfOk result (λ found. IfOk found (λ (plan : Plan). All Fits plan.steps)) }
     ensures host { LeavesHost result (H.state host.old) (H.state host.new) }
 {
@@ -273,7 +276,7 @@ pub(crate) fn take_set<H: Host, B: Bench>(
     requires off { runner.old.machine.start ≡ None }
     ensures sound { IfOk result (IsSound runner.new (B.state bench.new)) }
     ensures plays { (m : RunState) → (H.state host.old).tells ≡ true → Counts m runner.old → IsLive m hive (B.state bench.old)
-        → RunsTo (book.take_set on_good m) (moment (H.state host.old) runner.old (B.state bench.old))
+        → RunsTo (boot_book.take_set on_good m) (moment (H.state host.old) runner.old (B.state bench.old))
         (moment (H.state host.new) runner.new (B.state bench.new)) result (TurnLeft runner.new (B.state bench.new)) }
     ensures host { LeavesHost result (H.state host.old) (H.state host.new) }
 {

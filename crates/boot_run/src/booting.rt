@@ -6,8 +6,10 @@ ghost use Rattle.boot_ini.specs.Choice.{entry_at, IsThere};
 ghost use Rattle.boot_report.specs.Report.{verdict_of};
 ghost use Rattle.start_model.specs.Fits.{MayLoad};
 ghost use Rattle.start_model.specs.Lines.{EntryLine};
-ghost use Rattle.start_model.specs.Run.{RunState, boot_act};
-ghost use Rattle.start_model.specs.Run as book;
+ghost use Rattle.start_model.specs.Act.{RunState};
+ghost use Rattle.start_model.specs.Boot.{boot_act};
+ghost use Rattle.start_model.specs.Act as acts;
+ghost use Rattle.start_model.specs.Boot as boot_book;
 ghost use Rattle.run_parts.specs.Parts.{TellsOr};
 ghost use Rattle.boot_run.specs.Agrees.{LoadsAny, IsDown, IsSound, Counts, IsEnding, TurnLeft};
 ghost use Rattle.boot_run.specs.Choices.{path_at, is_on_good, choice_in, choices};
@@ -80,7 +82,7 @@ fn load_and_take<H: Host, B: Bench>(
     requires off { runner.old.machine.start ≡ None }
     ensures sound { IfOk result (IsSound runner.new (B.state bench.new)) }
     ensures plays { (m : RunState) → (H.state host.old).tells ≡ true → Counts m runner.old → EachCrash (B.state bench.old) (MayLoad m.disk)
-        → RunsTo (book.wake m.disk (book.woken on_good m)) (moment (H.state host.old) runner.old (B.state bench.old))
+        → RunsTo (acts.wake m.disk (boot_book.woken on_good m)) (moment (H.state host.old) runner.old (B.state bench.old))
         (moment (H.state host.new) runner.new (B.state bench.new)) result (TurnLeft runner.new (B.state bench.new)) }
     ensures host { LeavesHost result (H.state host.old) (H.state host.new) }
 {
@@ -106,7 +108,7 @@ fn boot_by<H: Host, B: Bench>(
     requires there { IsThere ini.now.entries chosen }
     ensures sound { IfOk result (IsSound runner.new (B.state bench.new)) }
     ensures plays { (m : RunState) → (H.state host.old).tells ≡ true → Counts m runner.old → EachCrash (B.state bench.old) (MayLoad m.disk)
-        → RunsTo (book.chosen on_good m (choice_in ini.now chosen)) (moment (H.state host.old) runner.old (B.state bench.old))
+        → RunsTo (boot_book.chosen on_good m (choice_in ini.now chosen)) (moment (H.state host.old) runner.old (B.state bench.old))
         (moment (H.state host.new) runner.new (B.state bench.new)) result (TurnLeft runner.new (B.state bench.new)) }
     ensures host { LeavesHost result (H.state host.old) (H.state host.new) }
 {

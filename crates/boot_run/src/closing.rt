@@ -4,8 +4,9 @@ ghost use Rattle.std.specs.Prelude.{◌≡◌, true, false, None, Some, IfOk, On
 ghost use Rattle.std.specs.Option.{option_map_or};
 ghost use Rattle.hive_model.specs.Tree.{Tree};
 ghost use Rattle.boot_report.specs.Report.{verdict_of};
-ghost use Rattle.start_model.specs.Run.{RunState, Act, flush_act, off_act, done};
-ghost use Rattle.start_model.specs.Run as book;
+ghost use Rattle.start_model.specs.Act.{RunState, Act, done};
+ghost use Rattle.start_model.specs.EventActs.{flush_act, off_act};
+ghost use Rattle.start_model.specs.Act as book;
 ghost use Rattle.boot_run.specs.Agrees.{IsUp, IsLive, IsSound, Counts, CommitLeft, IsEnding, OffLeft, TurnLeft};
 ghost use Rattle.boot_run.specs.Hosts.{LeavesHost};
 ghost use Rattle.boot_run.specs.Views.{moment, RunsTo};

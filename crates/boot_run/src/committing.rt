@@ -2,8 +2,8 @@
 
 ghost use Rattle.std.specs.Prelude.{◌≡◌, true, IfOk};
 ghost use Rattle.boot_report.specs.Report.{commit_of};
-ghost use Rattle.start_model.specs.Run.{RunState, Act};
-ghost use Rattle.start_model.specs.Run as book;
+ghost use Rattle.start_model.specs.Act.{RunState, Act};
+ghost use Rattle.start_model.specs.Commit as book;
 ghost use Rattle.run_parts.specs.Parts.{Stays};
 ghost use Rattle.boot_run.specs.Agrees.{IsUp, IsStored, Counts, LeavesUp, CommitLeft};
 ghost use Rattle.boot_run.specs.Hosts.{LeavesHost};

@@ -3,8 +3,8 @@
 ghost use Rattle.std.specs.Prelude.{◌≡◌, true, false, IfOk};
 ghost use Rattle.nt_edge.specs.Crash.{EachCrash};
 ghost use Rattle.start_model.specs.Fits.{MayLoad};
-ghost use Rattle.start_model.specs.Run.{RunState};
-ghost use Rattle.start_model.specs.Run as book;
+ghost use Rattle.start_model.specs.Act.{RunState};
+ghost use Rattle.start_model.specs.Act as book;
 ghost use Rattle.start_model.specs.Lines.{VerdictLine};
 ghost use Rattle.start_model.specs.Machine.{ended};
 ghost use Rattle.boot_report.specs.Report.{verdict_of};

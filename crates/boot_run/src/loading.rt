@@ -3,7 +3,7 @@
 ghost use Rattle.std.specs.Prelude.{◌≡◌, true, IfOk};
 ghost use Rattle.nt_edge.specs.Crash.{EachCrash};
 ghost use Rattle.start_model.specs.Fits.{MayLoad};
-ghost use Rattle.start_model.specs.Run.{RunState, Act};
+ghost use Rattle.start_model.specs.Act.{RunState, Act};
 ghost use Rattle.run_parts.specs.Parts.{Stays};
 ghost use Rattle.boot_run.specs.Agrees.{Counts, IsDown, LoadsUp, LoadLeft};
 ghost use Rattle.boot_run.specs.Acts.{load};

@@ -12,8 +12,10 @@ ghost use Rattle.boot_machine.specs.Steps.{on_start};
 ghost use Rattle.start_model.specs.Lines.{SaveCommit};
 ghost use Rattle.start_model.specs.Machine.{Start};
 ghost use Rattle.start_model.specs.Sets.{SetPlan as Plan, planned, save_of, save_plan_of, select_numbers_of, usable_numbers_of};
-ghost use Rattle.start_model.specs.Run.{RunState, Act, saved_by, logon_act, done};
-ghost use Rattle.start_model.specs.Run as book;
+ghost use Rattle.start_model.specs.Act.{RunState, Act, done};
+ghost use Rattle.start_model.specs.Commit.{saved_by};
+ghost use Rattle.start_model.specs.EventActs.{logon_act};
+ghost use Rattle.start_model.specs.Commit as book;
 ghost use Rattle.run_parts.specs.Parts.{Stays, TellsOr, PlaysOr};
 ghost use Rattle.boot_run.specs.Agrees.{IsStored, IsLive, IsSound, Counts, CommitLeft, OnLeft, TurnLeft};
 ghost use Rattle.boot_run.specs.Hosts.{LeavesHost};
@@ -106,7 +108,8 @@ fn refuse<H: Host>(
     ensures sound { (d : DiskState) → IsSound runner.old d (Some hive) → IfOk result (IsSound runner.new d) }
     ensures plays { (m : RunState) (s : Start) (next : RunState → Act) (d : DiskState) → (H.state host.old).tells ≡ true → HandedOut m s → Counts m runner.old
         → IsSound runner.old d (Some hive) → IsLive m hive d → Stays next
-        → PlaysOr (book.save_refused full s m next) (told_in (H.state host.old) runner.old) (told_in (H.state host.new) runner.new) d d result (OnLeft next runner.new d) }
+        → PlaysOr (book.save_refused full s m next) (told_in (H.state host.old) runner.old) (told_in (H.state host.new) runner.new) d d
+        result (OnLeft next runner.new d) }
     ensures host { LeavesHost result (H.state host.old) (H.state host.new) }
 {
     note(alloc, Line::SaveRefused { full }, false, runner, host)?;
@@ -197,7 +200,8 @@ pub(crate) fn save_where_due<H: Host, B: Bench>(
 ) -> Result<Option<Hive>, RunStop>
     requires sound { IsSound runner.old (B.state bench.old) (Some hive) }
     ensures sound { IfOk result (IsSound runner.new (B.state bench.new)) }
-    ensures plays { (m : RunState) (next : RunState → Act) → (H.state host.old).tells ≡ true → Counts m runner.old → IsLive m hive (B.state bench.old) → Stays next
+    ensures plays { (m : RunState) (next : RunState → Act) → (H.state host.old).tells ≡ true → Counts m runner.old → IsLive m hive (B.state bench.old)
+        → Stays next
         → RunsTo (book.save_where_due m.machine.start m next) (moment (H.state host.old) runner.old (B.state bench.old))
         (moment (H.state host.new) runner.new (B.state bench.new)) result (OnLeft next runner.new (B.state bench.new)) }
     ensures host { LeavesHost result (H.state host.old) (H.state host.new) }

@@ -6,7 +6,7 @@ ghost use Rattle.hive_model.specs.Valid.{HoldsKeys};
 ghost use Rattle.hive_store.specs.Found.{found_dword};
 ghost use Rattle.start_model.specs.Entries.{services_of};
 ghost use Rattle.start_model.specs.Sets.{select_numbers_of, usable_numbers_of, taken_number, set_of, is_usable};
-ghost use Rattle.start_model.specs.Run.{good_is_usable, no_set};
+ghost use Rattle.start_model.specs.Starter.{good_is_usable, no_set};
 
 use hive_store::Hive;
 use nt_bytes::{Names, Units};

@@ -5,7 +5,9 @@ ghost use Rattle.boot_machine.specs.Views.{event_in, refusal_in, tried_in};
 ghost use Rattle.boot_phases.specs.Phases.{phase_in};
 ghost use Rattle.boot_report.specs.Report.{event_of, refused_of, phase_of, try_of, verdict_of, line_of};
 ghost use Rattle.reg_tree.specs.Makes.{refusal_of};
-ghost use Rattle.start_model.specs.Run.{event_word_of, phase_line, try_line, select_line, reason_of};
+ghost use Rattle.start_model.specs.Commit.{select_line};
+ghost use Rattle.start_model.specs.Starter.{phase_line, try_line};
+ghost use Rattle.start_model.specs.EventActs.{event_word_of, reason_of};
 ghost use Rattle.start_model.specs.Lines.{PhaseLine, TryLine};
 ghost use Rattle.boot_run.specs.Ends.{EndsAs, missing};
 

@@ -2,7 +2,7 @@
 //!
 //! - `inputs`: the files that words name, each asked for once, up to the first obstacle.
 //! - `refusal`, `kinds`, `status`: how the first obstacle is said, and which status the program then has.
-//! - `placing`: a hive with its log, read whole, and placed on a disk.
+//! - `placing`: a hive with its log, read whole or judged, and placed on a disk.
 //! - `saving`: the two files of a disk, saved under the names that the words have for them.
 #![tactic(auto)]
 
@@ -14,7 +14,7 @@ mod saving;
 mod status;
 
 pub use inputs::{HiveFiles, bytes_in, file_in, hive_in, ini_in, no_memory, system_in};
-pub use placing::{place, read};
+pub use placing::{judge, place, read};
 pub use refusal::{Obstacle, Refusal, refuse, stopped, tell};
 pub use saving::{Saves, finish, save, saved};
 pub use status::Status;

@@ -1,12 +1,12 @@
 //! A hive and its log, checked and placed on the disk.
 
 ghost use Rattle.std.specs.Prelude.{◌≡◌, false, [], length, min, take, unwrap_or, OnOk, OnErr};
-ghost use Rattle.hive_store.specs.Checks.{ChecksAs};
+ghost use Rattle.hive_store.specs.Checks.{ChecksAs, JudgesAs};
 ghost use Rattle.nt_edge.specs.Disk.{new_state};
 ghost use Rattle.command_parts.specs.Placed.{image_in, placed_disk, with_log, IsUnrun};
 
 use crate::inputs::HiveFiles;
-use hive_store::check_images;
+use hive_store::{check_images, judge_images};
 use nt_bytes::{Bytes, HiveVersion, ReadStop};
 use nt_edge::{Bench, DiskStop, HiveFile};
 use reg_tree::Key;
@@ -37,6 +37,13 @@ pub fn read(alloc: Global, files: &HiveFiles) -> Result<(Key, u32, HiveVersion),
     ensures { ChecksAs (image_in files.now) result }
 {
     check_images(alloc, files.primary.as_slice(), log_bytes(&files.log))
+}
+
+/// Judges a whole hive with its log, as a start will load it, and makes no tree: its sequence number and its version.
+pub fn judge(alloc: Global, files: &HiveFiles) -> Result<(u32, HiveVersion), ReadStop>
+    ensures { JudgesAs (image_in files.now) result }
+{
+    judge_images(alloc, files.primary.as_slice(), log_bytes(&files.log))
 }
 
 /// Places the log on the disk, where there is one.

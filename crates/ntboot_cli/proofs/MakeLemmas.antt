@@ -10,7 +10,9 @@ use Rattle.nt_edge.specs.declared.host.HostStop.{HostStop}
 use Rattle.nt_edge.specs.declared.host.HostStop.TheVariants.{Read, Write, Memory}
 use Rattle.start_model.specs.Fits.{outcomes_of}
 use Rattle.start_model.specs.Orders.{ordered_in}
-use Rattle.start_model.specs.Run.{Woken, Note, Outcome, Choice}
+use Rattle.start_model.specs.Possible.{Woken, Outcome}
+use Rattle.start_model.specs.Act.{Note}
+use Rattle.start_model.specs.Boot.{Choice}
 use Rattle.start_model.specs.Summary.{Summary, no_summary, summary_of}
 use Rattle.run_parts.specs.Parts.{Grew, cuts_behind}
 use Rattle.run_parts.specs.Reports.{Reports, ReportsFront}

@@ -1,7 +1,7 @@
 -- What a run leaves: the report, the files that are saved, and the disk.
 use Rattle.nt_bytes.specs.declared.version.HiveVersion.{HiveVersion}
 use Rattle.hive_model.specs.Tree.{Tree}
-use Rattle.hive_store.specs.Checks.{ChecksAs}
+use Rattle.hive_store.specs.Checks.{JudgesAs}
 use Rattle.std.proofs.Common.{◌≡◌, ◌⊎◌, inl, inr, ℕ, true, false, List, map, Some, refl, sym, ap, subst, ◌∙◌}
 use Rattle.std.specs.Prelude.{Result, Ok, Err}
 use Rattle.std.specs.Option.{IsSome}
@@ -15,7 +15,8 @@ use Rattle.nt_edge.specs.declared.host.HostStop.{HostStop}
 use Rattle.nt_edge.specs.declared.host.HostStop.TheVariants.{Read, Write, Memory}
 use Rattle.boot_machine.specs.Views.{event_in}
 use Rattle.boot_script.specs.declared.event.Event.{Event}
-use Rattle.start_model.specs.Run.{Woken, run_of}
+use Rattle.start_model.specs.Possible.{Woken}
+use Rattle.start_model.specs.Run.{run_of}
 use Rattle.start_model.specs.Summary.{no_summary}
 use Rattle.run_parts.specs.Reports.{Reports, ReportsFront, ReportsOr}
 use Rattle.order_laws.proofs.QuietLemmas.{reports-said}
@@ -252,5 +253,5 @@ well_formed_runs inputs saves placed disk status old new loads (inl (inr (inr en
 
 -- ---- a hive that was checked
 
-pub checked : (image : Image) (x : Tree × ℕ × HiveVersion) → ChecksAs image (Ok x) → IsChecked image (Ok tt)
-checked image x loads = (record { state = state_of x.0 x.1 x.2; dirty = loads.0 }, loads.1)
+pub checked : (image : Image) (x : ℕ × HiveVersion) → JudgesAs image (Ok x) → IsChecked image (Ok tt)
+checked image x judged = (record { state = state_of judged.0 x.0 x.1; dirty = judged.1.0 }, judged.1.1)

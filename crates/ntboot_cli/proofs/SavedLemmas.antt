@@ -3,7 +3,7 @@ use Rattle.std.proofs.Common.{inl, ℕ, List, refl}
 use Rattle.hive_model.specs.Image.{Image, Primary, Log, IsFileOf, image_of}
 use Rattle.nt_edge.specs.Disk.{DiskState}
 use Rattle.start_model.specs.Fits.{MayLoad}
-use Rattle.start_model.specs.Run.{Woken, Possible}
+use Rattle.start_model.specs.Possible.{Woken, Possible}
 use Rattle.run_parts.specs.Reports.{LeftOf}
 use Rattle.saved_laws.specs.Saved.{HasUntornBlock}
 use Rattle.saved_laws.proofs.SavedLemmas.{files_load}

@@ -14,7 +14,9 @@ use Rattle.hive_model.specs.Size.{bulk_of}
 use Rattle.boot_machine.specs.Views.{event_in}
 use Rattle.start_model.specs.Lines.{text_of}
 use Rattle.start_model.specs.Report.{Going}
-use Rattle.start_model.specs.Run.{Woken, Quiet, run_of, quiet_run_of}
+use Rattle.start_model.specs.Possible.{Woken}
+use Rattle.start_model.specs.Run.{run_of}
+use Rattle.start_model.specs.Quiet.{Quiet, quiet_run_of}
 use Rattle.start_model.specs.Summary.{Summary, no_summary}
 use Rattle.run_parts.specs.Reports.{Reports, ReportsFront}
 use Rattle.boot_run.specs.Agrees.{LoadsAny}

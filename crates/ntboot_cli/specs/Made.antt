@@ -11,7 +11,9 @@ use Rattle.start_model.specs.Events.{Event, BootNow, Go, Logon, Off}
 use Rattle.start_model.specs.Fits.{MayLoad}
 use Rattle.start_model.specs.Lines.{Verdict, verdict_word}
 use Rattle.start_model.specs.Report.{Going}
-use Rattle.start_model.specs.Run.{Woken, Quiet, run_of, quiet_run_of}
+use Rattle.start_model.specs.Possible.{Woken}
+use Rattle.start_model.specs.Run.{run_of}
+use Rattle.start_model.specs.Quiet.{Quiet, quiet_run_of}
 use Rattle.start_model.specs.Summary.{Summary, summary_of, no_summary}
 use Rattle.run_parts.specs.Parts.{Told}
 use Rattle.run_parts.specs.Reports.{LeftOf, Reports, ReportsFront}

@@ -9,7 +9,7 @@ ghost use Rattle.hive_model.specs.Load.{Loads};
 ghost use Rattle.boot_run.specs.Agrees.{IsDown};
 ghost use Rattle.boot_run.specs.Views.{summary_in};
 ghost use Rattle.boot_report.specs.Report.{verdict_of};
-ghost use Rattle.start_model.specs.Run.{Woken};
+ghost use Rattle.start_model.specs.Possible.{Woken};
 ghost use Rattle.start_model.specs.Summary.{summary_of};
 ghost use Rattle.command_words.specs.Views.{make_seen};
 ghost use Rattle.ntboot_cli.specs.Answer.{MakesAlone};

@@ -17,7 +17,7 @@ ghost use Rattle.command_parts.specs.Views.{saves_seen};
 use crate::inputs::{Inputs, inputs_in};
 use boot_run::RunStop;
 use command_parts::{
-    HiveFiles, Obstacle, Refusal, Saves, Status, place, read, refuse, save, saved, stopped,
+    HiveFiles, Obstacle, Refusal, Saves, Status, judge, place, refuse, save, saved, stopped,
 };
 use command_words::RunWords;
 use nt_bytes::ReadStop;
@@ -28,7 +28,7 @@ use std::alloc::Global;
 fn check(alloc: Global, files: &HiveFiles) -> Result<(), ReadStop>
     ensures { IsChecked (image_in files.now) result }
 {
-    let _read = read(alloc, files)?;
+    let _judged = judge(alloc, files)?;
     Ok(())
 }
 

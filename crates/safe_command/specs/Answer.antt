@@ -7,7 +7,7 @@ use Rattle.nt_edge.specs.Disk.{new_state}
 use Rattle.nt_edge.specs.Host.{HostState}
 use Rattle.nt_edge.specs.declared.host.HostStop.TheVariants.{Memory as NoMemory}
 use Rattle.hive_model.specs.Load.{Loads, LoadFault}
-use Rattle.start_model.specs.Run.{Woken}
+use Rattle.start_model.specs.Possible.{Woken}
 use Rattle.command_words.specs.Words.{SafeAsked}
 use Rattle.command_parts.specs.declared.status.Status.{Status}
 use Rattle.command_parts.specs.declared.status.Status.TheVariants as statuses

@@ -7,7 +7,7 @@ use Rattle.hive_model.specs.Edit.{Step}
 use Rattle.hive_model.specs.Image.{Image}
 use Rattle.hive_model.specs.Load.{LoadFault, state_of}
 use Rattle.hive_model.specs.Tree.{Tree}
-use Rattle.hive_store.specs.Checks.{ChecksAs}
+use Rattle.hive_store.specs.Checks.{JudgesAs}
 use Rattle.nt_edge.specs.Disk.{DiskState, new_state}
 use Rattle.nt_edge.specs.Host.{HostState, Files, KeepsFiles, Asks, AsksNone}
 use Rattle.nt_edge.specs.declared.host.HostStop.{HostStop}
@@ -263,8 +263,8 @@ unfound_file files saves name stop old new disk loads fresh a asks = record {
 
 -- ---- behind the check of the hive
 
-pub checked : (image : Image) (x : Tree × ℕ × HiveVersion) → ChecksAs image (Ok x) → IsChecked image (Ok tt)
-checked image x loads = (record { state = state_of x.0 x.1 x.2; dirty = loads.0 }, loads.1)
+pub checked : (image : Image) (x : ℕ × HiveVersion) → JudgesAs image (Ok x) → IsChecked image (Ok tt)
+checked image x judged = (record { state = state_of judged.0 x.0 x.1; dirty = judged.1.0 }, judged.1.1)
 
 pub fault_hive : (files : HiveFiles) (saves : Saves) (name : List ℕ) (fault : HiveFault) (status : Status) (old new : HostState) (disk : DiskState) → disk ≡ new_state
     → LoadFault (image_in files) fault → Leaves (Ends (refusal (refusals.HiveFault fault))) status old new → KeepsFiles old new

@@ -5,7 +5,7 @@ use Rattle.std.specs.Prelude.{◌≡◌, ◌⊎◌, ◌+◌, ℕ, true, Result, 
 use Rattle.nt_bytes.specs.declared.fault.HiveFault.{HiveFault}
 use Rattle.hive_model.specs.Load.{Loads, LoadFault}
 use Rattle.nt_edge.specs.Host.{HostState}
-use Rattle.start_model.specs.Run.{Woken}
+use Rattle.start_model.specs.Possible.{Woken}
 use Rattle.command_words.specs.Words.{ImportAsked}
 use Rattle.command_parts.specs.declared.inputs.HiveFiles.{HiveFiles}
 use Rattle.command_parts.specs.declared.refusal.Refusal.{Refusal as Why}

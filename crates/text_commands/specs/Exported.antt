@@ -12,7 +12,7 @@ use Rattle.nt_edge.specs.Host.{Files, HostState, Puts, KeepsOthers}
 use Rattle.hive_model.specs.Load.{Loads, LoadFault}
 use Rattle.hive_model.specs.Tree.{Tree, Trees, key, none, more, key_count, find_key}
 use Rattle.hive_model.specs.Valid.{is_backslash}
-use Rattle.start_model.specs.Run.{Woken}
+use Rattle.start_model.specs.Possible.{Woken}
 use Rattle.reg_text.specs.declared.stop.RegFault.{RegFault}
 use Rattle.reg_text.specs.declared.stop.RegKind.{RegKind}
 use Rattle.reg_text.specs.declared.stop.RegKind.TheVariants.{Mark, Header, Root, Line, NotText}

@@ -6,7 +6,7 @@ use Rattle.nt_edge.specs.declared.host.HostStop.TheVariants.{Memory as NoMemory}
 use Rattle.hive_model.specs.Image.{Image}
 use Rattle.hive_model.specs.Load.{Loads, LoadFault}
 use Rattle.hive_model.specs.Tree.{Tree}
-use Rattle.start_model.specs.Run.{Woken}
+use Rattle.start_model.specs.Possible.{Woken}
 use Rattle.command_parts.specs.declared.status.Status.{Status}
 use Rattle.command_parts.specs.declared.status.Status.TheVariants as statuses
 use Rattle.command_parts.specs.declared.refusal.Refusal.TheVariants.{HiveFault as BadHive}

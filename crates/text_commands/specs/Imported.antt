@@ -12,7 +12,7 @@ use Rattle.hive_model.specs.Load.{Loads, LoadsAs, LoadFault}
 use Rattle.hive_model.specs.State.{HiveState}
 use Rattle.hive_model.specs.Tree.{Tree, same_tree}
 use Rattle.hive_commit.specs.Stages.{next_number}
-use Rattle.start_model.specs.Run.{Woken}
+use Rattle.start_model.specs.Possible.{Woken}
 use Rattle.run_parts.specs.Reports.{LeftOf}
 use Rattle.reg_text.specs.declared.stop.RegFault.{RegFault}
 use Rattle.reg_text.specs.Reading.{reg_steps_of}

@@ -13,7 +13,7 @@ use Rattle.nt_edge.specs.Bench.{turned_off}
 use Rattle.nt_edge.specs.Crash.{EachCrash}
 use Rattle.reg_tree.specs.declared.stop.EditStop.{EditStop}
 use Rattle.reg_tree.specs.declared.stop.EditStop.TheVariants as stops
-use Rattle.start_model.specs.Run.{Woken}
+use Rattle.start_model.specs.Possible.{Woken}
 use Rattle.reg_text.specs.declared.stop.RegFault.{RegFault}
 use Rattle.reg_text.specs.Reading.{reg_steps_of}
 use Rattle.command_parts.specs.declared.inputs.HiveFiles.{HiveFiles}

@@ -16,7 +16,7 @@ ghost use Rattle.text_commands.specs.Imports.{stop_word, done_text, IsChecked, I
 use crate::changing::{Done, import_into};
 use crate::fault::fault_line;
 use command_parts::{
-    HiveFiles, Obstacle, Refusal, Saves, Status, file_in, finish, hive_in, read, refuse, stopped,
+    HiveFiles, Obstacle, Refusal, Saves, Status, file_in, finish, hive_in, judge, refuse, stopped,
     tell,
 };
 use command_words::ImportWords;
@@ -142,7 +142,7 @@ fn import_file<H: Host, B: Bench>(
 fn check(alloc: Global, files: &HiveFiles) -> Result<(), ReadStop>
     ensures { IsChecked (image_in files.now) result }
 {
-    let _read = read(alloc, files)?;
+    let _judged = judge(alloc, files)?;
     Ok(())
 }
 

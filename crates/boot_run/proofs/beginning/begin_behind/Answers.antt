@@ -1,7 +1,9 @@
 use Rattle.std.proofs.Common.{◌≡◌, Some, None, sym, subst}
 use Rattle.std.specs.Prelude.{Option}
 use Rattle.hive_store.specs.Session.{Session}
-use Rattle.start_model.specs.Run.{begin_start, committed_state, opened_state, start_over}
+use Rattle.start_model.specs.Act.{start_over}
+use Rattle.start_model.specs.Commit.{committed_state, opened_state}
+use Rattle.start_model.specs.Boot.{begin_start}
 use Rattle.run_parts.proofs.CountLemmas.{still}
 use Rattle.run_parts.proofs.GoesLemmas.{goes-nothing}
 use Rattle.start_model.specs.Run.{play}

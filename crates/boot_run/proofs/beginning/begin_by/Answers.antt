@@ -1,9 +1,10 @@
 use Rattle.std.proofs.Common.{◌≡◌, ◌∙◌, ap, sym, subst}
 use Rattle.hive_model.specs.Base.{version_of}
 use Rattle.start_model.specs.Sets.{SetPlan}
-use Rattle.start_model.specs.Run.{begin_start}
+use Rattle.start_model.specs.Boot.{begin_start}
 use Rattle.run_parts.specs.Parts.{Goes, Breaks}
-use Rattle.start_model.specs.Run.{Act, play}
+use Rattle.start_model.specs.Act.{Act}
+use Rattle.start_model.specs.Run.{play}
 use Rattle.boot_run.specs.Begins.{IsTaken}
 use Rattle.boot_run.specs.Views.{told_in}
 use Rattle.boot_run.proofs.BeginLemmas.{steps_none, steps_some, taken_none, begin_none}

@@ -2,7 +2,8 @@ use Rattle.std.proofs.Common.{◌≡◌, ◌∙◌}
 use Rattle.std.specs.Prelude.{Option, Result, Ok, Err}
 use Rattle.hive_store.specs.Session.{Session}
 use Rattle.start_model.specs.Lines as book
-use Rattle.start_model.specs.Run.{begin_start, commit}
+use Rattle.start_model.specs.Commit.{commit}
+use Rattle.start_model.specs.Boot.{begin_start}
 use Rattle.run_parts.proofs.BreakLemmas.{or-breaks, breaks-then}
 use Rattle.run_parts.proofs.GoesLemmas.{goes-then}
 use Rattle.boot_run.specs.Views.{told_in}

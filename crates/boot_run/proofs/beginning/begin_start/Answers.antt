@@ -2,7 +2,9 @@ use Rattle.std.proofs.Common.{◌≡◌, ◌∙◌, ◌∷◌, [], refl, subst}
 use Rattle.nt_edge.specs.Host.{SaysFront}
 use Rattle.start_model.specs.Lines as book
 use Rattle.start_model.specs.Lines.{Line, line_text}
-use Rattle.start_model.specs.Run.{Act, done, say, begin_start, begun_state, select_line}
+use Rattle.start_model.specs.Act.{Act, done, say}
+use Rattle.start_model.specs.Commit.{select_line}
+use Rattle.start_model.specs.Boot.{begin_start, begun_state}
 use Rattle.run_parts.specs.Parts.{Tells}
 use Rattle.run_parts.proofs.CountLemmas.{still}
 use Rattle.run_parts.proofs.GoesLemmas.{goes-line}

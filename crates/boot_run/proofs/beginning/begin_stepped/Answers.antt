@@ -7,7 +7,9 @@ use Rattle.reg_tree.specs.Makes.{refusal_of}
 use Rattle.start_model.specs.Lines as lines
 use Rattle.start_model.specs.Lines.{BeginCommit}
 use Rattle.start_model.specs.Sets.{SetPlan, stepped}
-use Rattle.start_model.specs.Run.{commit, end_with, begin_start}
+use Rattle.start_model.specs.Act.{end_with}
+use Rattle.start_model.specs.Commit.{commit}
+use Rattle.start_model.specs.Boot.{begin_start}
 use Rattle.run_parts.proofs.CountLemmas.{still}
 use Rattle.run_parts.proofs.BreakLemmas.{breaks-silent}
 use Rattle.run_parts.specs.Parts.{PlaysOr}

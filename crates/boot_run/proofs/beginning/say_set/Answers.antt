@@ -5,7 +5,9 @@ use Rattle.start_model.specs.Lines as book
 use Rattle.start_model.specs.Lines.{Line, line_text}
 use Rattle.select_keys.specs.declared.stop.SelectStop.{SelectStop}
 use Rattle.start_model.specs.Sets.{NoControlSet, NoLastKnownGood, NoFreeNumber, select_numbers_of, usable_numbers_of, begin_plan_of, stepped}
-use Rattle.start_model.specs.Run.{Act, say, end_with, set_line, take_set, play}
+use Rattle.start_model.specs.Act.{Act, say, end_with}
+use Rattle.start_model.specs.Boot.{set_line, take_set}
+use Rattle.start_model.specs.Run.{play}
 use Rattle.run_parts.specs.Parts.{Tells, Goes, Breaks}
 use Rattle.run_parts.proofs.CountLemmas.{still}
 use Rattle.run_parts.proofs.GoesLemmas.{goes-nothing, goes-line}

@@ -1,7 +1,8 @@
 use Rattle.std.proofs.Common.{◌≡◌, ◌∙◌, false, sym, subst}
 use Rattle.std.specs.Prelude.{Result}
 use Rattle.start_model.specs.Sets.{SetPlan, stepped}
-use Rattle.start_model.specs.Run.{take_set, end_with}
+use Rattle.start_model.specs.Act.{end_with}
+use Rattle.start_model.specs.Boot.{take_set}
 use Rattle.boot_report.specs.declared.words.Verdict.{Verdict}
 use Rattle.boot_report.specs.Report.{verdict_of}
 use Rattle.run_parts.proofs.BreakLemmas.{or-breaks}

@@ -4,7 +4,9 @@ use Rattle.nt_edge.specs.Host.{SaysFront}
 use Rattle.boot_ini.specs.declared.choosing.Chosen.{Chosen}
 use Rattle.start_model.specs.Lines.{Line, StartLine, line_text}
 use Rattle.start_model.specs.Machine.{MachineState}
-use Rattle.start_model.specs.Run.{Act, Choice, Possible, chosen, accepted_state, boot_act}
+use Rattle.start_model.specs.Possible.{Possible}
+use Rattle.start_model.specs.Act.{Act}
+use Rattle.start_model.specs.Boot.{Choice, chosen, accepted_state, boot_act}
 use Rattle.start_model.specs.Fits.{MayLoad}
 use Rattle.run_parts.specs.Parts.{Tells}
 use Rattle.run_parts.proofs.CountLemmas.{still}

@@ -1,8 +1,9 @@
 use Rattle.std.proofs.Common.{◌≡◌, ◌∙◌, Option, Some, None, sym, ap, subst, refl}
 use Rattle.hive_store.specs.Session.{Session}
 use Rattle.start_model.specs.Machine.{MachineState}
-use Rattle.start_model.specs.Run.{take_set, wake, woken, loaded_state}
-use Rattle.start_model.specs.Run as book
+use Rattle.start_model.specs.Act.{wake}
+use Rattle.start_model.specs.Boot.{take_set, woken, loaded_state}
+use Rattle.start_model.specs.Act as book
 use Rattle.start_model.specs.Run.{play}
 use Rattle.run_parts.specs.Parts.{Goes}
 use Rattle.run_parts.proofs.BreakLemmas.{or-breaks}

@@ -2,7 +2,7 @@ use Rattle.std.proofs.Common.{◌≡◌, Some, None, subst, false}
 use Rattle.std.specs.Prelude.{Option}
 use Rattle.boot_report.specs.Report.{verdict_of}
 use Rattle.hive_store.specs.Session.{Session}
-use Rattle.start_model.specs.Run.{end_with}
+use Rattle.start_model.specs.Act.{end_with}
 use Rattle.boot_run.specs.Agrees.{IsSound, CommitLeft}
 use Rattle.boot_run.specs.Views.{told_in}
 use Rattle.boot_run.proofs.CloseLemmas.{end_done, end_stopped}

@@ -1,6 +1,8 @@
 use Rattle.std.proofs.Common.{◌≡◌, ◌∙◌, true, false, sym, refl, Some}
 use Rattle.start_model.specs.Lines as book
-use Rattle.start_model.specs.Run.{done, say, commit, flush_act}
+use Rattle.start_model.specs.Act.{done, say}
+use Rattle.start_model.specs.Commit.{commit}
+use Rattle.start_model.specs.EventActs.{flush_act}
 use Rattle.run_parts.proofs.CountLemmas.{still}
 use Rattle.run_parts.proofs.BreakLemmas.{breaks-line, or-breaks}
 use Rattle.boot_run.specs.Agrees.{CommitLeft, TurnLeft}

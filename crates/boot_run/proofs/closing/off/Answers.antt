@@ -5,7 +5,9 @@ use Rattle.boot_machine.specs.Steps.{is_there}
 use Rattle.boot_report.specs.Report.{verdict_of}
 use Rattle.start_model.specs.Lines as book
 use Rattle.start_model.specs.Machine.{MachineState, ending_of}
-use Rattle.start_model.specs.Run.{done, commit, end_with, off_act}
+use Rattle.start_model.specs.Act.{done, end_with}
+use Rattle.start_model.specs.Commit.{commit}
+use Rattle.start_model.specs.EventActs.{off_act}
 use Rattle.run_parts.proofs.BreakLemmas.{or-breaks}
 use Rattle.boot_run.specs.Agrees.{CommitLeft, OffLeft, IsEnding}
 use Rattle.boot_run.specs.Views.{told_in}

@@ -7,7 +7,9 @@ use Rattle.hive_commit.specs.declared.stops.CommitStop.TheVariants as stops
 use Rattle.hive_store.specs.Session.{Session}
 use Rattle.hive_store.specs.Commits as store
 use Rattle.start_model.specs.Lines as book
-use Rattle.start_model.specs.Run.{PowerCut, DeviceFault, done, commit, committed_state, opened_state, start_over}
+use Rattle.start_model.specs.Possible.{PowerCut, DeviceFault}
+use Rattle.start_model.specs.Act.{done, start_over}
+use Rattle.start_model.specs.Commit.{commit, committed_state, opened_state}
 use Rattle.run_parts.proofs.BreakLemmas.{or-breaks}
 use Rattle.boot_run.specs.Views.{told_in, told_by}
 use Rattle.boot_run.proofs.DiskLemmas.{marked-by, cut-cause, fault-cause}

@@ -7,7 +7,7 @@ use Rattle.reg_tree.specs.Fitting.{Fits}
 use Rattle.reg_tree.specs.Makes.{Makes, step_of}
 use Rattle.start_model.specs.Events.{Event, Edits}
 use Rattle.start_model.specs.Events as book
-use Rattle.start_model.specs.Run.{edit_done}
+use Rattle.start_model.specs.EventActs.{edit_done}
 use Rattle.run_parts.proofs.CountLemmas.{still}
 use Rattle.run_parts.proofs.BreakLemmas.{breaks-silent, or-breaks}
 use Rattle.boot_machine.specs.Views.{event_in}

@@ -10,7 +10,9 @@ use Rattle.hive_store.specs.Loading.{StopsFrom}
 use Rattle.hive_store.specs.Loading as store
 use Rattle.start_model.specs.Fits.{MayLoad}
 use Rattle.start_model.specs.Lines as book
-use Rattle.start_model.specs.Run.{PowerCut, DeviceFault, done, loaded_state, woken_state, start_over}
+use Rattle.start_model.specs.Possible.{PowerCut, DeviceFault}
+use Rattle.start_model.specs.Act.{done, start_over}
+use Rattle.start_model.specs.Boot.{loaded_state, woken_state}
 use Rattle.run_parts.proofs.CountLemmas.{Still, still}
 use Rattle.run_parts.proofs.BreakLemmas.{breaks-silent, or-breaks}
 use Rattle.boot_run.specs.Acts.{load}

@@ -1,6 +1,7 @@
 use Rattle.std.proofs.Common.{◌∙◌}
 use Rattle.start_model.specs.Lines.{SaveCommit}
-use Rattle.start_model.specs.Run.{commit, play}
+use Rattle.start_model.specs.Commit.{commit}
+use Rattle.start_model.specs.Run.{play}
 use Rattle.run_parts.proofs.GoesLemmas.{goes-then}
 use Rattle.run_parts.proofs.BreakLemmas.{breaks-then, or-breaks}
 use Rattle.boot_run.specs.Saves.{noting}

@@ -2,7 +2,9 @@ use Rattle.std.proofs.Common.{◌≡◌, ◌∙◌, refl, sym, ap, subst}
 use Rattle.std.specs.Option.{option_map_or}
 use Rattle.start_model.specs.Lines.{LogonLine}
 use Rattle.start_model.specs.Machine.{MachineState, Start}
-use Rattle.start_model.specs.Run.{say, done, logon_act, save_where_due}
+use Rattle.start_model.specs.Act.{say, done}
+use Rattle.start_model.specs.Commit.{save_where_due}
+use Rattle.start_model.specs.EventActs.{logon_act}
 use Rattle.boot_machine.specs.Steps.{on_start}
 use Rattle.run_parts.proofs.CountLemmas.{still}
 use Rattle.run_parts.proofs.GoesLemmas.{goes-line}

@@ -1,6 +1,6 @@
 use Rattle.std.proofs.Common.{refl, Some}
 use Rattle.start_model.specs.Lines.{SaveRefusedLine}
-use Rattle.start_model.specs.Run.{save_refused, noted_saved}
+use Rattle.start_model.specs.Commit.{save_refused, noted_saved}
 use Rattle.std.proofs.Common.{false}
 use Rattle.run_parts.proofs.CountLemmas.{still}
 use Rattle.run_parts.proofs.GoesLemmas.{goes-line}

@@ -1,4 +1,4 @@
-use Rattle.start_model.specs.Run.{saved_by}
+use Rattle.start_model.specs.Commit.{saved_by}
 use Rattle.start_model.specs.Sets.{SetPlan, save_of, save_plan_of, select_numbers_of, usable_numbers_of}
 use Rattle.std.proofs.Common.{Option, subst}
 use Rattle.boot_run.specs.Saves.{PlansOr}

@@ -4,7 +4,7 @@ use Rattle.hive_model.specs.Edit.{Step, edited}
 use Rattle.hive_model.specs.Base.{version_of}
 use Rattle.reg_tree.specs.Fitting.{Fits}
 use Rattle.start_model.specs.Sets.{SetPlan, save_of}
-use Rattle.start_model.specs.Run.{saved_by, commit}
+use Rattle.start_model.specs.Commit.{saved_by, commit}
 use Rattle.run_parts.proofs.CountLemmas.{still}
 use Rattle.run_parts.proofs.BreakLemmas.{breaks-silent}
 use Rattle.hive_store.specs.Session.{Session}

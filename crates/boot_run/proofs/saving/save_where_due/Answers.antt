@@ -2,7 +2,7 @@ use Rattle.std.proofs.Common.{◌≡◌, ◌∙◌, true, false, sym, refl, ap, 
 use Rattle.std.specs.Prelude.{option_and_then}
 use Rattle.std.specs.Option.{option_map_or}
 use Rattle.start_model.specs.Machine.{MachineState, Start, save_due}
-use Rattle.start_model.specs.Run.{save_where_due, saved_by}
+use Rattle.start_model.specs.Commit.{save_where_due, saved_by}
 use Rattle.start_model.specs.Sets.{save_of}
 use Rattle.boot_machine.specs.Steps.{on_start}
 use Rattle.boot_run.specs.Agrees.{Counts, OnLeft}

@@ -1,6 +1,8 @@
 use Rattle.std.proofs.Common.{◌≡◌, ◌∙◌, ap, sym, subst, refl, Some}
 use Rattle.start_model.specs.Machine.{MachineState, after_phase, with_start}
-use Rattle.start_model.specs.Run.{Act, say_all, phase_step, live_set, save_where_due, with_machine}
+use Rattle.start_model.specs.Act.{Act, say_all, with_machine}
+use Rattle.start_model.specs.Commit.{save_where_due}
+use Rattle.start_model.specs.Starter.{phase_step, live_set}
 use Rattle.run_parts.specs.Parts.{Breaks}
 use Rattle.run_parts.proofs.BreakLemmas.{or-breaks}
 use Rattle.boot_run.specs.Agrees.{OnLeft}

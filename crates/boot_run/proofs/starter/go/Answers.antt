@@ -1,10 +1,11 @@
 use Rattle.std.proofs.Common.{◌≡◌, refl}
-use Rattle.start_model.specs.Run.{go_steps, go_act}
+use Rattle.start_model.specs.Starter.{go_steps, go_act}
 use Rattle.run_parts.proofs.CountLemmas.{still}
 use Rattle.run_parts.proofs.BreakLemmas.{breaks-silent, or-breaks}
 use Rattle.run_parts.specs.Parts.{Breaks, Goes}
 use Rattle.std.proofs.Common.{subst}
-use Rattle.start_model.specs.Run.{Act, play}
+use Rattle.start_model.specs.Act.{Act}
+use Rattle.start_model.specs.Run.{play}
 use Rattle.boot_run.specs.Views.{told_in}
 use Rattle.boot_run.proofs.PlayLemmas.{live_left}
 use Rattle.boot_run.proofs.SaveLemmas.{live_closed}

@@ -1,6 +1,7 @@
 use Rattle.std.proofs.Common.{◌≡◌, ◌≤◌, ◌∙◌, ℕ, ap, sym, subst, Option, None}
 use Rattle.start_model.specs.Machine.{MachineState}
-use Rattle.start_model.specs.Run.{RunState, go_steps, go_act, enough_steps}
+use Rattle.start_model.specs.Act.{RunState}
+use Rattle.start_model.specs.Starter.{go_steps, go_act, enough_steps}
 use Rattle.run_laws.proofs.GoLemmas.{enough}
 use Rattle.boot_run.proofs.GoLemmas.{if_ok_map}
 use Rattle.boot_run.proofs.starter.most_steps.Goals as goal

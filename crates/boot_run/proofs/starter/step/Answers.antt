@@ -1,6 +1,6 @@
 use Rattle.std.proofs.Common.{◌≡◌, ◌∙◌, ap, sym, true}
 use Rattle.start_model.specs.Machine.{MachineState, attempt_of}
-use Rattle.start_model.specs.Run.{good_is_usable, phase_step, starter_step, stepping}
+use Rattle.start_model.specs.Starter.{good_is_usable, phase_step, starter_step, stepping}
 use Rattle.boot_machine.specs.Steps.{is_at_end}
 use Rattle.boot_run.specs.Agrees.{OnLeft}
 use Rattle.boot_run.specs.Starts.{is_under_way}

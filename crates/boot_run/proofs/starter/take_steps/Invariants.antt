@@ -1,6 +1,6 @@
 use Rattle.std.proofs.Common.{◌≡◌, true, Some}
 use Rattle.hive_store.specs.Session.{Session}
-use Rattle.start_model.specs.Run.{RunState}
+use Rattle.start_model.specs.Act.{RunState}
 use Rattle.boot_run.specs.Agrees.{IsSound, IsLive, Counts}
 use Rattle.boot_run.specs.Hosts.{StillHost}
 use Rattle.boot_run.specs.Starts.{StepsTo}

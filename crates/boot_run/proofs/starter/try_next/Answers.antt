@@ -1,6 +1,7 @@
 use Rattle.std.proofs.Common.{◌≡◌, ◌∙◌, ap, sym, subst, refl, Option, Some}
 use Rattle.start_model.specs.Machine.{Start, MachineState, Tried, attempt_of}
-use Rattle.start_model.specs.Run.{say, judged, starter_step, good_is_usable, try_line, with_machine}
+use Rattle.start_model.specs.Act.{say, with_machine}
+use Rattle.start_model.specs.Starter.{judged, starter_step, good_is_usable, try_line}
 use Rattle.run_parts.specs.Parts.{Breaks}
 use Rattle.run_parts.proofs.CountLemmas.{still}
 use Rattle.run_parts.proofs.GoesLemmas.{goes-line}

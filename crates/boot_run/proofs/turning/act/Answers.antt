@@ -3,7 +3,7 @@ use Rattle.std.specs.Prelude.{Option}
 use Rattle.boot_machine.specs.Views.{event_in}
 use Rattle.hive_store.specs.Session.{Session}
 use Rattle.start_model.specs.Machine.{Start}
-use Rattle.start_model.specs.Run.{idle_act, accepted_act}
+use Rattle.start_model.specs.EventActs.{idle_act, accepted_act}
 use Rattle.boot_run.specs.Agrees.{IsSound, Agrees, TurnLeft}
 use Rattle.boot_run.specs.Choices.{choices}
 use Rattle.boot_run.specs.Views.{told_in}

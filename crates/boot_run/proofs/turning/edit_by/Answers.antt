@@ -5,7 +5,8 @@ use Rattle.boot_machine.specs.Views.{event_in}
 use Rattle.start_model.specs.Events.{Edits}
 use Rattle.start_model.specs.Events as book
 use Rattle.start_model.specs.Machine.{Start}
-use Rattle.start_model.specs.Run.{Act, edit_done, accepted_act}
+use Rattle.start_model.specs.Act.{Act}
+use Rattle.start_model.specs.EventActs.{edit_done, accepted_act}
 use Rattle.run_parts.proofs.CountLemmas.{still}
 use Rattle.run_parts.proofs.BreakLemmas.{breaks-silent}
 use Rattle.boot_run.specs.Agrees.{RunsOnBy, TurnLeft}

@@ -3,7 +3,9 @@ use Rattle.std.specs.Option.{option_map_or}
 use Rattle.nt_edge.specs.Book.{keep_of}
 use Rattle.boot_machine.specs.Views.{event_in}
 use Rattle.start_model.specs.Events.{Go, Flush, Logon, Off, CutNow}
-use Rattle.start_model.specs.Run.{Act, done, go_act, flush_act, logon_act, off_act, cut_act, accepted_act}
+use Rattle.start_model.specs.Act.{Act, done}
+use Rattle.start_model.specs.Starter.{go_act}
+use Rattle.start_model.specs.EventActs.{flush_act, logon_act, off_act, cut_act, accepted_act}
 use Rattle.run_parts.specs.Parts.{PlaysOr}
 use Rattle.boot_run.specs.Agrees.{TurnLeft}
 use Rattle.boot_run.specs.Begins.{aside_act}

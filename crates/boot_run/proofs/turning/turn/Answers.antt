@@ -2,7 +2,8 @@ use Rattle.std.proofs.Common.{◌≡◌, refl}
 use Rattle.std.specs.Prelude.{Result, Ok, Err}
 use Rattle.boot_machine.specs.Views.{event_in, refusal_in}
 use Rattle.start_model.specs.Lines.{RefusedLine}
-use Rattle.start_model.specs.Run.{Act, done, say, accepted_act, event_step_of, event_word_of}
+use Rattle.start_model.specs.Act.{Act, done, say}
+use Rattle.start_model.specs.EventActs.{accepted_act, event_step_of, event_word_of}
 use Rattle.boot_run.specs.Agrees.{TurnLeft}
 use Rattle.boot_run.specs.Choices.{choices}
 use Rattle.boot_run.specs.Views.{told_in, told_by}

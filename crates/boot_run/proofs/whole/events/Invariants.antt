@@ -4,7 +4,8 @@ use Rattle.nt_edge.specs.Crash.{EachCrash}
 use Rattle.boot_machine.specs.Views.{event_in}
 use Rattle.boot_script.specs.Script.{HasCounts}
 use Rattle.start_model.specs.Fits.{MayLoad}
-use Rattle.start_model.specs.Run.{RunState, run_from}
+use Rattle.start_model.specs.Act.{RunState}
+use Rattle.start_model.specs.Run.{run_from}
 use Rattle.boot_run.specs.Agrees.{IsSound, Counts}
 use Rattle.boot_run.specs.Choices.{choices}
 use Rattle.boot_run.specs.Hosts.{StillHost}
