@@ -132,87 +132,158 @@ type Row = (
     &'static str,
 );
 
+static IN_ORDER: [Row; 7] = [
+    (
+        6,
+        b"DIRT\xff",
+        8,
+        &[1, 2, 3, 4, 5, 6, 7, 8],
+        "rP0 rP8 rP9 rP10 rP11 rP12 rP13 rP14 rP15",
+        "",
+    ),
+    (
+        6,
+        b"DIRT\xff\xff",
+        16,
+        &[1, 2, 3, 4, 5, 6, 7, 8, 9, 10, 11, 12, 13, 14, 15, 16],
+        "rP0 rP8 rP9 rP10 rP11 rP12 rP13 rP14 rP15 rP16 rP17 rP18 rP19 rP20 rP21 rP22 rP23",
+        "",
+    ),
+    (
+        5,
+        b"DIRT\x00",
+        0,
+        &[1, 2, 3, 4, 5, 6, 7, 8],
+        "rP0 rL0 rL1 rP8 rP9 rP10 rP11 rP12 rP13 rP14 rP15",
+        "s wP0 s",
+    ),
+    (
+        5,
+        b"DIRT\x02",
+        1,
+        &[1, 100, 3, 4, 5, 6, 7, 8],
+        "rP0 rL0 rL1 rL2 rP8 rP10 rP11 rP12 rP13 rP14 rP15",
+        "wP9 s wP0 s",
+    ),
+    (
+        5,
+        b"DIRT\x91",
+        3,
+        &[100, 2, 3, 4, 101, 6, 7, 102],
+        "rP0 rL0 rL1 rL2 rL3 rL4 rP9 rP10 rP11 rP13 rP14",
+        "wP8 wP12 wP15 s wP0 s",
+    ),
+    (
+        5,
+        b"DIRT\xff",
+        8,
+        &[100, 101, 102, 103, 104, 105, 106, 107],
+        "rP0 rL0 rL1 rL2 rL3 rL4 rL5 rL6 rL7 rL8 rL9",
+        "wP8 wP9 wP10 wP11 wP12 wP13 wP14 wP15 s wP0 s",
+    ),
+    (
+        5,
+        b"DIRT\x07\x81",
+        5,
+        &[
+            100, 101, 102, 4, 5, 6, 7, 8, 103, 10, 11, 12, 13, 14, 15, 104,
+        ],
+        "rP0 rL0 rL1 rL2 rL3 rL4 rL5 rL6 rP11 rP12 rP13 rP14 rP15 rP17 rP18 rP19 rP20 rP21 rP22",
+        "wP8 wP9 wP10 wP16 wP23 s wP0 s",
+    ),
+];
+
+/// The files of a row: the primary, whose bins data have a mark in each sector, and the log.
+fn files(alloc: Global, row: &Row, size: u32) -> Result<(Bytes, Bytes), AllocError> {
+    let (second, front, run, _, _, _) = row;
+    let primary = primary(alloc, &block(6, *second, 0, size), size / 512)?;
+    let log = log(alloc, &block(6, 6, 1, size), front, *run)?;
+    Ok((primary, log))
+}
+
+fn has_written(
+    rt: &impl Abort,
+    alloc: Global,
+    seen: &Seen,
+    row: &Row,
+    size: u32,
+) -> Result<(), Fail> {
+    if row.0 == 5 {
+        let expected = restored(alloc, row.2, size)?;
+        assert_eq!(rt; seen.written.as_slice(), expected.as_slice(), "{}", row.2);
+    }
+    Ok(())
+}
+
+/// What was found are these bins data.
+fn has_found(rt: &impl Abort, seen: &Seen, row: &Row, bins: &Bytes) {
+    let (second, _, run, _, reads, behind) = row;
+    match &seen.found {
+        Ok((dirty, found)) => {
+            assert_eq!(rt;
+                (*dirty, found.as_slice()),
+                (*second == 5, bins.as_slice()),
+                "{second} {run}"
+            )
+        }
+        Err(_) => assert!(rt; false, "{second} {run}"),
+    }
+    assert_eq!(rt; seen.reads.as_str(), *reads, "{second} {run}");
+    assert_eq!(rt; seen.behind.as_str(), *behind, "{second} {run}");
+}
+
+fn in_order(rt: &impl Abort, alloc: Global, row: &Row) -> Result<(), Fail> {
+    let bins = with_marks(alloc, row.3)?;
+    let size = u32::try_from(bins.len()).unwrap_or(0);
+    let (primary, log) = files(alloc, row, size)?;
+    let seen = looked_and_recovered(rt, alloc, primary.as_slice(), log.as_slice())?;
+    has_found(rt, &seen, row, &bins);
+    has_written(rt, alloc, &seen, row, size)
+}
+
 /// A sector whose bit is on is the log's, and a recovery writes it. A clean primary is not written.
 #[test]
 fn a_hive_is_read_and_recovered_in_order(rt: HostRuntime) -> Result<(), Fail> {
-    let rows: [Row; 7] = [
-        (
-            6,
-            b"DIRT\xff",
-            8,
-            &[1, 2, 3, 4, 5, 6, 7, 8],
-            "rP0 rP8 rP9 rP10 rP11 rP12 rP13 rP14 rP15",
-            "",
-        ),
-        (
-            6,
-            b"DIRT\xff\xff",
-            16,
-            &[1, 2, 3, 4, 5, 6, 7, 8, 9, 10, 11, 12, 13, 14, 15, 16],
-            "rP0 rP8 rP9 rP10 rP11 rP12 rP13 rP14 rP15 rP16 rP17 rP18 rP19 rP20 rP21 rP22 rP23",
-            "",
-        ),
-        (
-            5,
-            b"DIRT\x00",
-            0,
-            &[1, 2, 3, 4, 5, 6, 7, 8],
-            "rP0 rL0 rL1 rP8 rP9 rP10 rP11 rP12 rP13 rP14 rP15",
-            "s wP0 s",
-        ),
-        (
-            5,
-            b"DIRT\x02",
-            1,
-            &[1, 100, 3, 4, 5, 6, 7, 8],
-            "rP0 rL0 rL1 rL2 rP8 rP10 rP11 rP12 rP13 rP14 rP15",
-            "wP9 s wP0 s",
-        ),
-        (
-            5,
-            b"DIRT\x91",
-            3,
-            &[100, 2, 3, 4, 101, 6, 7, 102],
-            "rP0 rL0 rL1 rL2 rL3 rL4 rP9 rP10 rP11 rP13 rP14",
-            "wP8 wP12 wP15 s wP0 s",
-        ),
-        (
-            5,
-            b"DIRT\xff",
-            8,
-            &[100, 101, 102, 103, 104, 105, 106, 107],
-            "rP0 rL0 rL1 rL2 rL3 rL4 rL5 rL6 rL7 rL8 rL9",
-            "wP8 wP9 wP10 wP11 wP12 wP13 wP14 wP15 s wP0 s",
-        ),
-        (
-            5,
-            b"DIRT\x07\x81",
-            5,
-            &[
-                100, 101, 102, 4, 5, 6, 7, 8, 103, 10, 11, 12, 13, 14, 15, 104,
-            ],
-            "rP0 rL0 rL1 rL2 rL3 rL4 rL5 rL6 rP11 rP12 rP13 rP14 rP15 rP17 rP18 rP19 rP20 rP21 rP22",
-            "wP8 wP9 wP10 wP16 wP23 s wP0 s",
-        ),
-    ];
-    for (second, front, run, marks, reads, behind) in rows {
-        let bins = with_marks(rt.alloc(), marks)?;
-        let size = u32::try_from(bins.len()).unwrap_or(0);
-        let primary = primary(rt.alloc(), &block(6, second, 0, size), size / 512)?;
-        let log = log(rt.alloc(), &block(6, 6, 1, size), front, run)?;
-        let seen = looked_and_recovered(&rt, rt.alloc(), primary.as_slice(), log.as_slice())?;
-        assert_eq!(rt;
-            seen.found,
-            Ok((second == 5, bins.into_vec())),
-            "{second} {run}"
-        );
-        assert_eq!(rt; seen.reads.as_str(), reads, "{second} {run}");
-        assert_eq!(rt; seen.behind.as_str(), behind, "{second} {run}");
-        if second == 5 {
-            let expected = restored(rt.alloc(), run, size)?;
-            assert_eq!(rt; seen.written.as_slice(), expected.as_slice(), "{run}");
-        }
+    for row in IN_ORDER.iter() {
+        in_order(&rt, rt.alloc(), row)?;
     }
+    Ok(())
+}
+
+/// The second number of the primary and how many sectors its bins data have; the numbers of the log, the front of its bits
+/// and how many sectors it has behind them; and the reads.
+type Faulty = (u32, u32, u32, &'static [u8], u32, &'static str);
+
+static FAULTY: [Faulty; 7] = [
+    (6, 3, 6, b"DIRT\xff", 8, "rP0 rP8 rP9 rP10 rP11"),
+    (5, 8, 7, b"DIRT\xff", 8, "rP0 rL0"),
+    (5, 8, 6, b"", 0, "rP0 rL0 rL1"),
+    (5, 8, 6, b"DIRU\xff", 8, "rP0 rL0 rL1"),
+    (5, 8, 6, b"DIRT\x07", 0, "rP0 rL0 rL1 rL2"),
+    (5, 8, 6, b"DIRT\x07", 2, "rP0 rL0 rL1 rL2 rL3 rL4"),
+    (5, 2, 6, b"DIRT\x02", 1, "rP0 rL0 rL1 rL2 rP8 rP10"),
+];
+
+/// The files of a row: the primary, and the log.
+fn faulty_files(alloc: Global, row: &Faulty) -> Result<(Bytes, Bytes), AllocError> {
+    let (second, sectors, number, front, run, _) = row;
+    let primary = primary(alloc, &block(6, *second, 0, 4096), *sectors)?;
+    let log = log(alloc, &block(*number, *number, 1, 4096), front, *run)?;
+    Ok((primary, log))
+}
+
+/// The reads end with the fault, and nothing was done behind them.
+fn has_stopped(rt: &impl Abort, seen: &Seen, row: &Faulty) {
+    let (_, sectors, number, _, run, reads) = row;
+    assert!(rt; seen.found.is_err(), "{sectors} {number} {run}");
+    assert_eq!(rt; seen.reads.as_str(), *reads, "{sectors} {number} {run}");
+    assert_eq!(rt; seen.behind.as_str(), "", "{sectors} {number} {run}");
+}
+
+fn up_to_a_fault(rt: &impl Abort, alloc: Global, row: &Faulty) -> Result<(), Fail> {
+    let (primary, log) = faulty_files(alloc, row)?;
+    let seen = looked_and_recovered(rt, alloc, primary.as_slice(), log.as_slice())?;
+    has_stopped(rt, &seen, row);
     Ok(())
 }
 
@@ -220,22 +291,8 @@ fn a_hive_is_read_and_recovered_in_order(rt: HostRuntime) -> Result<(), Fail> {
 /// written.
 #[test]
 fn nothing_is_read_behind_a_fault(rt: HostRuntime) -> Result<(), Fail> {
-    let rows: [(u32, u32, u32, &[u8], u32, &str); 7] = [
-        (6, 3, 6, b"DIRT\xff", 8, "rP0 rP8 rP9 rP10 rP11"),
-        (5, 8, 7, b"DIRT\xff", 8, "rP0 rL0"),
-        (5, 8, 6, b"", 0, "rP0 rL0 rL1"),
-        (5, 8, 6, b"DIRU\xff", 8, "rP0 rL0 rL1"),
-        (5, 8, 6, b"DIRT\x07", 0, "rP0 rL0 rL1 rL2"),
-        (5, 8, 6, b"DIRT\x07", 2, "rP0 rL0 rL1 rL2 rL3 rL4"),
-        (5, 2, 6, b"DIRT\x02", 1, "rP0 rL0 rL1 rL2 rP8 rP10"),
-    ];
-    for (second, sectors, number, front, run, reads) in rows {
-        let primary = primary(rt.alloc(), &block(6, second, 0, 4096), sectors)?;
-        let log = log(rt.alloc(), &block(number, number, 1, 4096), front, run)?;
-        let seen = looked_and_recovered(&rt, rt.alloc(), primary.as_slice(), log.as_slice())?;
-        assert!(rt; seen.found.is_err(), "{sectors} {number} {run}");
-        assert_eq!(rt; seen.reads.as_str(), reads, "{sectors} {number} {run}");
-        assert_eq!(rt; seen.behind.as_str(), "", "{sectors} {number} {run}");
+    for row in FAULTY.iter() {
+        up_to_a_fault(&rt, rt.alloc(), row)?;
     }
     Ok(())
 }
@@ -265,40 +322,72 @@ fn committed(
     Ok((stop, disk))
 }
 
+/// What a whole commit of this sector writes.
+fn all_written(alloc: Global, sector: &[u8]) -> Result<Bytes, AllocError> {
+    let opened = file(alloc, &block(6, 5, 0, 4096))?;
+    let closed = file(alloc, &block(6, 6, 0, 4096))?;
+    let mut expected = log(alloc, &block(6, 6, 1, 4096), b"DIRT\x02", 0)?;
+    for part in [sector, opened.as_slice(), sector, closed.as_slice()] {
+        expected.append(part)?;
+    }
+    Ok(expected)
+}
+
+fn writes_all(rt: &impl Abort, alloc: Global, calls: &[Call], sector: &[u8]) -> Result<(), Fail> {
+    let text = words(alloc, calls)?;
+    assert_eq!(rt; text.as_str(), COMMIT);
+    let expected = all_written(alloc, sector)?;
+    let bytes = written(alloc, calls)?;
+    assert_eq!(rt; bytes.as_slice(), expected.as_slice());
+    Ok(())
+}
+
+fn whole_commit(rt: &impl Abort, alloc: Global, change: &Change) -> Result<(), Fail> {
+    let (stop, disk) = committed(rt, alloc, change, DiskCall::Sync, 5)?;
+    assert_eq!(rt; stop, None);
+    assert!(rt; change.new.len() == 4096);
+    let sector = &change.new.as_slice()[512..1024];
+    writes_all(rt, alloc, disk.calls.as_slice(), sector)
+}
+
+/// The call that is refused, and how many calls were made with it.
+static STOPS: [(DiskCall, u32, usize); 9] = [
+    (DiskCall::Write, 1, 1),
+    (DiskCall::Write, 3, 3),
+    (DiskCall::Sync, 1, 4),
+    (DiskCall::Write, 4, 5),
+    (DiskCall::Sync, 2, 6),
+    (DiskCall::Write, 5, 7),
+    (DiskCall::Sync, 3, 8),
+    (DiskCall::Write, 6, 9),
+    (DiskCall::Sync, 4, 10),
+];
+
+fn stopped_commit(
+    rt: &impl Abort,
+    alloc: Global,
+    change: &Change,
+    (call, n, count): (DiskCall, u32, usize),
+) -> Result<(), Fail> {
+    let (stop, disk) = committed(rt, alloc, change, call, n)?;
+    assert_eq!(rt; stop, Some(CommitStop::Device), "{call:?} {n}");
+    assert_eq!(rt; disk.calls.len(), count, "{call:?} {n}");
+    let front = words(alloc, disk.calls.as_slice())?;
+    assert!(rt; COMMIT.starts_with(front.as_str()), "{call:?} {n}");
+    Ok(())
+}
+
+fn commits(rt: &impl Abort, alloc: Global, change: &Change) -> Result<(), Fail> {
+    whole_commit(rt, alloc, change)?;
+    for stop in STOPS.iter() {
+        stopped_commit(rt, alloc, change, *stop)?;
+    }
+    Ok(())
+}
+
 /// A commit reads nothing. At a stop it has made the calls up to the one that was refused.
 #[test]
 fn a_commit_writes_in_order(rt: HostRuntime) -> Result<(), Fail> {
     let change = Change::new(rt.alloc(), 1, 1)?;
-    let (stop, disk) = committed(&rt, rt.alloc(), &change, DiskCall::Sync, 5)?;
-    assert_eq!(rt; stop, None);
-    assert!(rt; change.new.len() == 4096);
-    assert_eq!(rt; words(rt.alloc(), &disk.calls)?.as_str(), COMMIT);
-    let sector = &change.new.as_slice()[512..1024];
-    let mut expected = log(rt.alloc(), &block(6, 6, 1, 4096), b"DIRT\x02", 0)?;
-    expected.append(sector)?;
-    let opened = file(rt.alloc(), &block(6, 5, 0, 4096))?;
-    expected.append(opened.as_slice())?;
-    expected.append(sector)?;
-    let closed = file(rt.alloc(), &block(6, 6, 0, 4096))?;
-    expected.append(closed.as_slice())?;
-    let bytes = written(rt.alloc(), &disk.calls)?;
-    assert_eq!(rt; bytes.as_slice(), expected.as_slice());
-    for (call, n, count) in [
-        (DiskCall::Write, 1, 1),
-        (DiskCall::Write, 3, 3),
-        (DiskCall::Sync, 1, 4),
-        (DiskCall::Write, 4, 5),
-        (DiskCall::Sync, 2, 6),
-        (DiskCall::Write, 5, 7),
-        (DiskCall::Sync, 3, 8),
-        (DiskCall::Write, 6, 9),
-        (DiskCall::Sync, 4, 10),
-    ] {
-        let (stop, disk) = committed(&rt, rt.alloc(), &change, call, n)?;
-        assert_eq!(rt; stop, Some(CommitStop::Device), "{call:?} {n}");
-        assert_eq!(rt; disk.calls.len(), count, "{call:?} {n}");
-        let front = words(rt.alloc(), &disk.calls)?;
-        assert!(rt; COMMIT.starts_with(front.as_str()), "{call:?} {n}");
-    }
-    Ok(())
+    commits(&rt, rt.alloc(), &change)
 }

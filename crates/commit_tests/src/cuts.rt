@@ -40,11 +40,24 @@ fn found(number: u32, dirty: bool) -> Found {
     }
 }
 
-/// The log is whole at the first sync, the base block is opened at the second, the sectors are whole at the
-/// third, and the block is closed at the fourth. The one write in flight at the second and at the fourth is
-/// kept with all and with the odd ones; where it is torn, the log says what the hive is.
-#[test]
-fn a_cut_at_a_sync_leaves_the_old_or_the_new(rt: HostRuntime) -> Result<(), Fail> {
+/// A cut at this call in each way, and what is left.
+fn cut_each_way(
+    rt: &impl Abort,
+    alloc: Global,
+    change: &Change,
+    (call, n): (DiskCall, u32),
+    left: [Found; 4],
+) -> Result<(), Fail> {
+    for (keep, left) in KEEPS.iter().zip(left.iter()) {
+        let ends = cut_at(rt, alloc, change, call, n, *keep)?;
+        let expected = (Err(CommitStop::PowerLost), Ok(*left));
+        assert_eq!(rt; ends, expected, "{call:?} {n} {keep:?}");
+    }
+    Ok(())
+}
+
+/// A cut at each sync of a change from so many pages to so many.
+fn cut_each_sync(rt: &impl Abort, alloc: Global, from: u32, to: u32) -> Result<(), Fail> {
     let old = found(5, false);
     let open = found(6, true);
     let new = found(6, false);
@@ -54,16 +67,34 @@ fn a_cut_at_a_sync_leaves_the_old_or_the_new(rt: HostRuntime) -> Result<(), Fail
         (3, [open, open, open, open]),
         (4, [open, new, new, open]),
     ];
-    for (from, to) in [(2, 2), (1, 2), (2, 1)] {
-        let change = Change::new(rt.alloc(), from, to)?;
-        for (n, left) in rows {
-            for (keep, left) in KEEPS.into_iter().zip(left) {
-                let ends = cut_at(&rt, rt.alloc(), &change, DiskCall::Sync, n, keep)?;
-                let expected = (Err(CommitStop::PowerLost), Ok(left));
-                assert_eq!(rt; ends, expected, "{n} {keep:?} {from} {to}");
-            }
-        }
+    let change = Change::new(alloc, from, to)?;
+    for (n, left) in rows.iter() {
+        cut_each_way(rt, alloc, &change, (DiskCall::Sync, *n), *left)?;
     }
+    Ok(())
+}
+
+/// The log is whole at the first sync, the base block is opened at the second, the sectors are whole at the
+/// third, and the block is closed at the fourth. The one write in flight at the second and at the fourth is
+/// kept with all and with the odd ones; where it is torn, the log says what the hive is.
+#[test]
+fn a_cut_at_a_sync_leaves_the_old_or_the_new(rt: HostRuntime) -> Result<(), Fail> {
+    cut_each_sync(&rt, rt.alloc(), 2, 2)?;
+    cut_each_sync(&rt, rt.alloc(), 1, 2)?;
+    cut_each_sync(&rt, rt.alloc(), 2, 1)
+}
+
+fn cut_each_write(rt: &impl Abort, alloc: Global, change: &Change) -> Result<(), Fail> {
+    for n in 1..23 {
+        let left = if n < 13 {
+            found(5, false)
+        } else {
+            found(6, true)
+        };
+        cut_each_way(rt, alloc, change, (DiskCall::Write, n), [left; 4])?;
+    }
+    let ends = cut_at(rt, alloc, change, DiskCall::Write, 23, Keep::Torn)?;
+    assert_eq!(rt; ends, (Ok(6), Ok(found(6, false))));
     Ok(())
 }
 
@@ -72,21 +103,7 @@ fn a_cut_at_a_sync_leaves_the_old_or_the_new(rt: HostRuntime) -> Result<(), Fail
 #[test]
 fn a_cut_at_a_write_leaves_the_old_or_the_new(rt: HostRuntime) -> Result<(), Fail> {
     let change = Change::new(rt.alloc(), 1, 2)?;
-    for n in 1..23 {
-        let left = if n < 13 {
-            found(5, false)
-        } else {
-            found(6, true)
-        };
-        for keep in KEEPS {
-            let ends = cut_at(&rt, rt.alloc(), &change, DiskCall::Write, n, keep)?;
-            let expected = (Err(CommitStop::PowerLost), Ok(left));
-            assert_eq!(rt; ends, expected, "{n} {keep:?}");
-        }
-    }
-    let ends = cut_at(&rt, rt.alloc(), &change, DiskCall::Write, 23, Keep::Torn)?;
-    assert_eq!(rt; ends, (Ok(6), Ok(found(6, false))));
-    Ok(())
+    cut_each_write(&rt, rt.alloc(), &change)
 }
 
 /// Tears what is in flight at this sync of a commit, and then cuts the recovery. Answers what the start behind it
@@ -121,18 +138,18 @@ fn cut_again_at(
     call: DiskCall,
     n: u32,
 ) -> Result<(), LoadStop> {
-    for keep in KEEPS {
+    for keep in KEEPS.iter() {
         let order = Order {
             call,
             n,
-            keep: Some(keep),
+            keep: Some(*keep),
         };
         let closed = call == DiskCall::Sync && n == 2;
-        let kept = keep == Keep::Everything || keep == Keep::OddOnes;
-        let (stop, left) = cut_again(rt, alloc, change, sync, order)?;
+        let kept = *keep == Keep::Everything || *keep == Keep::OddOnes;
+        let ends = cut_again(rt, alloc, change, sync, order)?;
         let expected = found(6, !(closed && kept));
         assert_eq!(rt;
-            (stop, left),
+            ends,
             (Some(LoadStop::PowerLost), expected),
             "{sync} {order:?}"
         );
@@ -140,22 +157,54 @@ fn cut_again_at(
     Ok(())
 }
 
+/// Cuts the recovery at each call of this kind before the one that is past it.
+fn cut_again_each(
+    rt: &impl Abort,
+    alloc: Global,
+    change: &Change,
+    sync: u32,
+    (call, past): (DiskCall, u32),
+) -> Result<(), Fail> {
+    for n in 1..past {
+        cut_again_at(rt, alloc, change, sync, call, n)?;
+    }
+    Ok(())
+}
+
+fn cut_again_after(rt: &impl Abort, alloc: Global, change: &Change, sync: u32) -> Result<(), Fail> {
+    cut_again_each(rt, alloc, change, sync, (DiskCall::Read, 20))?;
+    cut_again_each(rt, alloc, change, sync, (DiskCall::Write, 11))?;
+    cut_again_each(rt, alloc, change, sync, (DiskCall::Sync, 3))
+}
+
+fn cut_twice(rt: &impl Abort, alloc: Global, change: &Change) -> Result<(), Fail> {
+    cut_again_after(rt, alloc, change, 2)?;
+    cut_again_after(rt, alloc, change, 3)?;
+    cut_again_after(rt, alloc, change, 4)
+}
+
 /// A recovery makes 19 reads, writes the nine sectors of the log, syncs, writes the base block and syncs, be that
 /// block, its sectors or the block again torn before. It is done only where the last sync's write is kept.
 #[test]
 fn a_second_cut_leaves_the_new(rt: HostRuntime) -> Result<(), Fail> {
     let change = Change::new(rt.alloc(), 1, 2)?;
-    for sync in [2, 3, 4] {
-        for (call, past) in [
-            (DiskCall::Read, 20),
-            (DiskCall::Write, 11),
-            (DiskCall::Sync, 3),
-        ] {
-            for n in 1..past {
-                cut_again_at(&rt, rt.alloc(), &change, sync, call, n)?;
-            }
-        }
-    }
+    cut_twice(&rt, rt.alloc(), &change)
+}
+
+fn is_whole(
+    rt: &impl Abort,
+    alloc: Global,
+    change: &Change,
+    call: DiskCall,
+    n: u32,
+) -> Result<(), Fail> {
+    let order = Order {
+        call,
+        n,
+        keep: Some(Keep::Torn),
+    };
+    let ends = cut_again(rt, alloc, change, 2, order)?;
+    assert_eq!(rt; ends, (None, found(6, false)), "{call:?}");
     Ok(())
 }
 
@@ -163,14 +212,6 @@ fn a_second_cut_leaves_the_new(rt: HostRuntime) -> Result<(), Fail> {
 #[test]
 fn a_recovery_makes_no_other_call(rt: HostRuntime) -> Result<(), Fail> {
     let change = Change::new(rt.alloc(), 1, 2)?;
-    for (call, n) in [(DiskCall::Write, 11), (DiskCall::Sync, 3)] {
-        let order = Order {
-            call,
-            n,
-            keep: Some(Keep::Torn),
-        };
-        let ends = cut_again(&rt, rt.alloc(), &change, 2, order)?;
-        assert_eq!(rt; ends, (None, found(6, false)), "{call:?}");
-    }
-    Ok(())
+    is_whole(&rt, rt.alloc(), &change, DiskCall::Write, 11)?;
+    is_whole(&rt, rt.alloc(), &change, DiskCall::Sync, 3)
 }

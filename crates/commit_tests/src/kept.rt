@@ -47,5 +47,6 @@ pub fn commit_kept(
     requires sized { is_bins_size (length new.now) ≡ true }
     ensures { OnOk result (KeepsMore disk.old disk.new (change_calls base.now old.now new.now root)) }
 {
-    commit(disk, base, old, new, root)
+    let mut marks = [0; 4096];
+    commit(disk, base, old, new, root, &mut marks)
 }

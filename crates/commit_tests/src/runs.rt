@@ -89,7 +89,15 @@ fn change<B: Bench>(
 {
     let found = recover(alloc, bench)?;
     give(bench, order)?;
-    match commit(bench, &found.base, found.bins.as_slice(), new, 32) {
+    let mut marks = [0; 4096];
+    match commit(
+        bench,
+        &found.base,
+        found.bins.as_slice(),
+        new,
+        32,
+        &mut marks,
+    ) {
         Ok(base) => Ok(Ok(base.first)),
         Err(stop) => Ok(Err(stop)),
     }

@@ -6,7 +6,8 @@ use Rattle.std.proofs.lemmas.List.{get_or_append_left, get_or-append-add}
 use Rattle.nt_bytes.specs.declared.fault.HiveKind.{HiveKind}
 use Rattle.nt_bytes.specs.declared.fault.HiveKind.TheVariants.{FormName, Count}
 use Rattle.hive_model.specs.Bins.{Cells}
-use Rattle.hive_model.specs.Forms.{◌>>=◌, KeyNode, key_node_at}
+use Rattle.hive_model.specs.Forms.{◌>>=◌}
+use Rattle.hive_model.specs.KeyNode.{KeyNode, key_node_at}
 use Rattle.hive_model.specs.Tree.{Tree}
 use Rattle.hive_model.specs.Walk.{Check, reading, node_at, below_of, use_as, name_check, class_checks, security_checks, values_checks, children_checks, entries_checks, entries_at, keys_in_turn, failing, tests, below_node, key_checks, all_checks, clashes, AreUsedOnce}
 use Rattle.hive_model.specs.Footprint.{used_in}

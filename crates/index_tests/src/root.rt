@@ -2,7 +2,7 @@
 
 ghost use Rattle.std.specs.Prelude.{◌≡◌, ◌≤◌, ℕ, Ok, IfOk, IfSome};
 ghost use Rattle.hive_model.specs.Bins.{Cells, look_up};
-ghost use Rattle.hive_model.specs.Forms.{KeyNode, key_node_at};
+ghost use Rattle.hive_model.specs.KeyNode.{KeyNode, key_node_at};
 ghost use Rattle.hive_model.specs.Size.{bulk_of};
 ghost use Rattle.hive_model.specs.Stands.{IsWellFormed};
 ghost use Rattle.hive_model.specs.Tree.{Tree};

@@ -1,6 +1,6 @@
 //! The calls of a disk in memory.
 
-ghost use Rattle.std.specs.Prelude.{◌≡◌, ◌&&◌, not, true, false, [], Some, None, if◌then◌else◌};
+ghost use Rattle.std.specs.Prelude.{◌≡◌, ◌&&◌, not, true, false, [], length, Some, None, if◌then◌else◌};
 ghost use Rattle.hive_model.specs.Image.{Bytes, Unreadable};
 ghost use Rattle.nt_edge.specs.Disk.{new_state, now_of, next};
 ghost use Rattle.nt_edge.specs.declared.disk.DiskStop.TheVariants.{PowerLost, Failed};
@@ -56,6 +56,34 @@ impl MemDisk {
             DiskCall::Write => self.writes,
             DiskCall::Sync => self.syncs,
         }
+    }
+
+    /// How many cuts came since the disk was made, up to the same end.
+    pub fn cuts(&self) -> u64
+        ensures { result ≡ (state_of self.now).cuts }
+    {
+        self.cuts
+    }
+
+    /// How many faults came, up to the same end.
+    pub fn faults(&self) -> u64
+        ensures { result ≡ (state_of self.now).faults }
+    {
+        self.faults
+    }
+
+    /// How many calls of `cut` there were, up to the same end.
+    pub fn cut_calls(&self) -> u64
+        ensures { result ≡ (state_of self.now).history.cut_calls }
+    {
+        self.cut_calls
+    }
+
+    /// How many times it was turned on.
+    pub fn wakes(&self) -> usize
+        ensures { result ≡ length (state_of self.now).history.wakes }
+    {
+        self.wakes.len()
     }
 
     /// One more call of this kind.

@@ -9,8 +9,6 @@ mod mem_host;
 mod orders;
 mod quiet_host;
 mod store;
-#[cfg(test)]
-mod tests;
 mod writes;
 
 pub use mem_host::MemHost;

@@ -113,6 +113,20 @@ impl MemHost {
             Some(bytes) => Some(bytes.as_slice()),
         }
     }
+
+    /// How many calls of `get` failed so far.
+    pub fn reads(&self) -> u64
+        ensures { result ≡ self.now.reads }
+    {
+        self.reads
+    }
+
+    /// How many calls of `put` and `say` failed so far.
+    pub fn writes(&self) -> u64
+        ensures { result ≡ self.now.writes }
+    {
+        self.writes
+    }
 }
 
 /// Counts a call, and tells whether it is the one that fails.

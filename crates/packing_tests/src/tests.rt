@@ -3,7 +3,7 @@
 ghost use Rattle.std.specs.Prelude.{◌≡◌, ◌≤◌, length};
 
 use super::*;
-use hive_cells::read_cells;
+use hive_cells::{CellHeap, read_cells};
 use hive_pack::pack;
 use hive_read::read_tree;
 use nt_bytes::{Bytes, HiveVersion, Names, Row, narrow};
@@ -206,24 +206,48 @@ fn full_bytes(rt: &impl Abort, bytes: &[u8])
     assert_eq!(rt; bytes[16_773_112..], [0, 0, 0, 0, 1, 2, 3, 4][..]);
 }
 
+/// A value of 1,043,653 bytes is one byte too long.
+fn is_refused(rt: &impl Abort, alloc: Global, tree: &mut Key) -> Result<(), Fail> {
+    let over = one_more(alloc, 1_043_653)?;
+    let answer = tree.apply(alloc, over, HiveVersion::V3);
+    assert_eq!(rt; answer, Err(EditStop::Full));
+    Ok(())
+}
+
+fn is_set(rt: &impl Abort, alloc: Global, tree: &mut Key) -> Result<(), Fail> {
+    let up_to = one_more(alloc, 1_043_652)?;
+    let answer = tree.apply(alloc, up_to, HiveVersion::V3);
+    assert_eq!(rt; answer, Ok(()));
+    Ok(())
+}
+
+fn grows(rt: &impl Abort, alloc: Global, tree: &mut Key) -> Result<(), Fail> {
+    assert_eq!(rt; tree.bulk(HiveVersion::V3), 15_729_424);
+    is_refused(rt, alloc, tree)?;
+    assert_eq!(rt; tree.bulk(HiveVersion::V3), 15_729_424);
+    is_set(rt, alloc, tree)?;
+    assert_eq!(rt; tree.bulk(HiveVersion::V3), 16_773_120);
+    Ok(())
+}
+
+fn is_full(rt: &impl Abort, alloc: Global, tree: &Key) -> Result<(), Fail> {
+    let bins = there_and_back(rt, alloc, tree, HiveVersion::V3)?;
+    assert_eq!(rt; bins.len(), 16_773_120);
+    full_bytes(rt, bins.as_slice());
+    Ok(())
+}
+
+fn up_to_the_limit(rt: &impl Abort, alloc: Global) -> Result<(), Fail> {
+    let values = fifteen_values(alloc)?;
+    let mut tree = root_with(alloc, values)?;
+    grows(rt, alloc, &mut tree)?;
+    is_full(rt, alloc, &tree)
+}
+
 /// The greatest bulk is 16 MiB less a page, so in version 1.3 a value more can have 1,043,652 bytes and none further.
 #[test]
 fn a_tree_grows_up_to_the_limit(rt: HostRuntime) -> Result<(), Fail> {
-    let mut tree = root_with(rt.alloc(), fifteen_values(rt.alloc())?)?;
-    assert_eq!(rt; tree.bulk(HiveVersion::V3), 15_729_424);
-    let over = one_more(rt.alloc(), 1_043_653)?;
-    assert_eq!(rt;
-        tree.apply(rt.alloc(), over, HiveVersion::V3),
-        Err(EditStop::Full)
-    );
-    assert_eq!(rt; tree.bulk(HiveVersion::V3), 15_729_424);
-    let up_to = one_more(rt.alloc(), 1_043_652)?;
-    assert_eq!(rt; tree.apply(rt.alloc(), up_to, HiveVersion::V3), Ok(()));
-    assert_eq!(rt; tree.bulk(HiveVersion::V3), 16_773_120);
-    let bins = there_and_back(&rt, rt.alloc(), &tree, HiveVersion::V3)?;
-    assert_eq!(rt; bins.len(), 16_773_120);
-    full_bytes(&rt, bins.as_slice());
-    Ok(())
+    up_to_the_limit(&rt, rt.alloc())
 }
 
 // The packed cells of a system with one driver, in hexadecimal, up to the free cell that fills the bin.
@@ -259,24 +283,39 @@ fn digit(c: u8) -> u8 {
 
 fn one_driver(alloc: Global) -> Result<Bytes, AllocError> {
     let mut bins = Bytes::new(alloc);
-    let mut rest = CELLS;
-    'pairs: while let [high, low, more @ ..] = rest {
-        bins.push(digit(*high) % 16 * 16 + digit(*low) % 16)?;
-        rest = more;
+    for pair in CELLS.chunks(2) {
+        if let [high, low] = pair {
+            bins.push(digit(*high) % 16 * 16 + digit(*low) % 16)?;
+        }
     }
     bins.append_zeros(3316)?;
     Ok(bins)
 }
 
+/// The tree of these cells is packed to these bytes.
+fn packed_again(
+    rt: &impl Abort,
+    alloc: Global,
+    cells: &CellHeap,
+    bytes: &[u8],
+) -> Result<(), Fail> {
+    let tree = read_tree(alloc, cells, 32, HiveVersion::V3)?;
+    assert_eq!(rt; tree.bulk(HiveVersion::V3), 776);
+    let packed = there_and_back(rt, alloc, &tree, HiveVersion::V3)?;
+    assert_eq!(rt; packed.as_slice(), bytes);
+    Ok(())
+}
+
+fn stays(rt: &impl Abort, alloc: Global) -> Result<(), Fail> {
+    let bins = one_driver(alloc)?;
+    assert_eq!(rt; bins.len(), 4096);
+    let copy = bins.copy(alloc)?;
+    let cells = read_cells(alloc, copy)?;
+    packed_again(rt, alloc, &cells, bins.as_slice())
+}
+
 /// A hive that is packed already is packed to the same bytes.
 #[test]
 fn a_packed_hive_stays_as_it_is(rt: HostRuntime) -> Result<(), Fail> {
-    let bins = one_driver(rt.alloc())?;
-    assert_eq!(rt; bins.len(), 4096);
-    let cells = read_cells(rt.alloc(), bins.copy(rt.alloc())?)?;
-    let tree = read_tree(rt.alloc(), &cells, 32, HiveVersion::V3)?;
-    assert_eq!(rt; tree.bulk(HiveVersion::V3), 776);
-    let packed = there_and_back(&rt, rt.alloc(), &tree, HiveVersion::V3)?;
-    assert_eq!(rt; packed.as_slice(), bins.as_slice());
-    Ok(())
+    stays(&rt, rt.alloc())
 }

@@ -1,7 +1,7 @@
 //! A start, attempt by attempt, to its end.
 
 use super::*;
-use crate::plans::put;
+use crate::plans::{is_text, put};
 use boot_machine::{Judgement, Machine, Phase};
 use boot_report::Verdict;
 use nt_bytes::{Units, narrow};
@@ -39,8 +39,8 @@ fn tries(
 ) -> Result<(), Fail> {
     assert!(rt; !machine.at_phase_end());
     let tried = machine.attempt(alloc, usable)?;
-    assert_eq!(rt; tried.name.as_slice(), narrow(alloc, name)?.as_slice());
     assert_eq!(rt; (tried.ok, tried.judgement), wanted);
+    is_text(rt, alloc, tried.name.as_slice(), name)?;
     Ok(())
 }
 
@@ -69,7 +69,7 @@ fn goes_on(
     assert!(rt; can_be_held(set));
     let names = machine.next_phase(alloc, set)?;
     let line = line_of(alloc, names.as_slice())?;
-    assert_eq!(rt; line.as_slice(), narrow(alloc, unmet)?.as_slice());
+    is_text(rt, alloc, line.as_slice(), unmet)?;
     Ok(())
 }
 

@@ -1,10 +1,12 @@
 //! What a phase takes, in its order.
 
+ghost use Rattle.hive_model.specs.Valid.{HoldsKeys};
+
 use super::*;
 use boot_phases::{Phase, plan};
 use nt_bytes::{Names, Units, narrow};
 use reg_tree::Key;
-use service_entries::Entry;
+use service_entries::{Entries, Entry};
 use std::alloc::{AllocError, Global};
 use std::process::Abort;
 use std::test::Fail;
@@ -25,6 +27,26 @@ fn names_of(alloc: Global, entries: &[Entry]) -> Result<Units, AllocError> {
     Ok(line)
 }
 
+/// The units are those of this text.
+pub(crate) fn is_text(
+    rt: &impl Abort,
+    alloc: Global,
+    units: &[u16],
+    text: &[u8],
+) -> Result<(), AllocError> {
+    let wanted = narrow(alloc, text)?;
+    assert_eq!(rt; units, wanted.as_slice());
+    Ok(())
+}
+
+/// The entries of a phase, where one name was tried, or none.
+fn planned(alloc: Global, set: &Key, phase: Phase, before: &[u8]) -> Result<Entries, AllocError>
+    requires { HoldsKeys set.now }
+{
+    let tried = [narrow(alloc, before)?];
+    plan(alloc, set, phase, tried.as_slice())
+}
+
 /// Sees that the phase takes the entries of these names, where one name was tried, or none.
 fn takes(
     rt: &impl Abort,
@@ -35,10 +57,9 @@ fn takes(
     wanted: &[u8],
 ) -> Result<(), Fail> {
     assert!(rt; can_be_held(set));
-    let tried = [narrow(alloc, before)?];
-    let entries = plan(alloc, set, phase, tried.as_slice())?;
+    let entries = planned(alloc, set, phase, before)?;
     let line = names_of(alloc, entries.as_slice())?;
-    assert_eq!(rt; line.as_slice(), narrow(alloc, wanted)?.as_slice());
+    is_text(rt, alloc, line.as_slice(), wanted)?;
     Ok(())
 }
 

@@ -1,6 +1,7 @@
 //! The table of a set's services.
 
 use super::*;
+use crate::plans::is_text;
 use nt_bytes::narrow;
 use reg_tree::Key;
 use service_entries::{Entry, ServiceTable, entries, folded};
@@ -40,8 +41,8 @@ fn says(
 ) -> Result<(), Fail> {
     let entry = table.get(place).ok_or("an entry")?.copy(alloc)?;
     assert_eq!(rt; (entry.start, entry.kind, entry.control), numbers);
-    assert_eq!(rt; group_of(&entry), narrow(alloc, group)?.as_slice());
     assert_eq!(rt; entry.tag, tag);
+    is_text(rt, alloc, group_of(&entry), group)?;
     Ok(())
 }
 

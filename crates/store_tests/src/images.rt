@@ -3,7 +3,7 @@
 use super::*;
 use crate::cuts::cut;
 use crate::sessions::edited;
-use hive_store::check_images;
+use hive_store::{check_images, judge_images};
 use mem_edge::MemDisk;
 use nt_bytes::{Bytes, HiveFault, HiveKind, HiveVersion, ReadStop};
 use nt_edge::{Bench, HiveFile, Keep};
@@ -66,5 +66,29 @@ fn a_clean_file_holds_its_tree_and_a_short_one_none(rt: HostRuntime) -> Result<(
 fn the_files_of_a_cut_commit_hold_the_new_tree(rt: HostRuntime) -> Result<(), Fail> {
     let seen = left(&rt, rt.alloc())?;
     assert_eq!(rt; seen, Ok((Which::New, 6, HiveVersion::V3)));
+    Ok(())
+}
+
+/// What two files are judged as: the sequence number and the version.
+type Judged = Result<(u32, HiveVersion), ReadStop>;
+
+fn judged(rt: &impl Abort, alloc: Global) -> Result<[Judged; 2], Fail> {
+    let edit = edited(rt, alloc, HiveVersion::V5)?;
+    let clean = judge_images(alloc, edit.file.as_slice(), &[]);
+    let short = judge_images(alloc, stub(alloc)?.as_slice(), &[]);
+    Ok([clean, short])
+}
+
+#[test]
+fn files_are_judged_as_they_are_checked(rt: HostRuntime) -> Result<(), Fail> {
+    let fault = HiveFault {
+        kind: HiveKind::Checksum,
+        at: 508,
+    };
+    let seen = judged(&rt, rt.alloc())?;
+    assert_eq!(rt;
+        seen,
+        [Ok((5, HiveVersion::V5)), Err(ReadStop::Fault(fault))]
+    );
     Ok(())
 }

@@ -1,10 +1,9 @@
-//! Each call of the traits through their bounds, with each kind of stop ordered before each kind of call.
+//! Each call of the disk and of its bench through their bounds, with each kind of stop ordered before each kind of call.
 
 ghost use Rattle.std.specs.Prelude.{◌≡◌, ◌≤◌, [], true, false, OnOk};
 
-use crate::{MemDisk, MemHost, QuietHost};
-use nt_bytes::Bytes;
-use nt_edge::{Address, Bench, DiskCall, DiskStop, HiveFile, Host, HostStop, Keep, Presence};
+use mem_edge::MemDisk;
+use nt_edge::{Address, Bench, DiskCall, DiskStop, HiveFile, Keep, Presence};
 use std::alloc::Global;
 use std::process::Abort;
 use std::test::Fail;
@@ -110,12 +109,11 @@ fn stops(
     requires { 1 ≤ order.n }
 {
     let mut disk = MemDisk::new(alloc);
-    assert_eq!(rt; run(&mut disk, order)?, (Err(stop), left), "{order:?}");
-    assert_eq!(rt;
-        (disk.cuts, disk.faults, disk.wakes.len()),
-        (u64::from(order.cut), u64::from(order.fault), 1),
-        "{order:?}"
-    );
+    let ends = run(&mut disk, order)?;
+    assert_eq!(rt; ends, (Err(stop), left), "{order:?}");
+    let counts = (disk.cuts(), disk.faults(), disk.wakes());
+    let wanted = (u64::from(order.cut), u64::from(order.fault), 1);
+    assert_eq!(rt; counts, wanted, "{order:?}");
     Ok(())
 }
 
@@ -168,6 +166,19 @@ fn each_stop_comes_at_its_call_and_keeps_what_it_should(rt: HostRuntime) -> Resu
     stops_each_way(&rt, rt.alloc(), DiskCall::Sync, 1, late)
 }
 
+fn unstopped(rt: &impl Abort, alloc: Global, order: Order) -> Result<(), Fail>
+    requires { 1 ≤ order.n }
+{
+    let mut disk = MemDisk::new(alloc);
+    let ends = run(&mut disk, order)?;
+    assert_eq!(rt; ends, (Ok((Presence::Whole, 2)), firsts(1, 3, 2)));
+    let reads = disk.calls(DiskCall::Read);
+    let writes = disk.calls(DiskCall::Write);
+    let syncs = disk.calls(DiskCall::Sync);
+    assert_eq!(rt; (reads, writes, syncs), (1, 3, 1));
+    Ok(())
+}
+
 #[test]
 fn without_an_order_nothing_stops(rt: HostRuntime) -> Result<(), Fail> {
     let order = Order {
@@ -177,20 +188,7 @@ fn without_an_order_nothing_stops(rt: HostRuntime) -> Result<(), Fail> {
         n: 1,
         keep: Keep::Nothing,
     };
-    let mut disk = MemDisk::new(rt.alloc());
-    assert_eq!(rt;
-        run(&mut disk, order)?,
-        (Ok((Presence::Whole, 2)), firsts(1, 3, 2))
-    );
-    assert_eq!(rt;
-        (
-            disk.calls(DiskCall::Read),
-            disk.calls(DiskCall::Write),
-            disk.calls(DiskCall::Sync)
-        ),
-        (1, 3, 1)
-    );
-    Ok(())
+    unstopped(&rt, rt.alloc(), order)
 }
 
 fn cut_now<B: Bench>(bench: &mut B, keep: Keep) -> Result<Firsts, DiskStop>
@@ -209,22 +207,27 @@ fn cut_now<B: Bench>(bench: &mut B, keep: Keep) -> Result<Firsts, DiskStop>
     settle(bench)
 }
 
+fn is_cut(rt: &impl Abort, alloc: Global, keep: Keep, left: Firsts) -> Result<(), Fail> {
+    let mut disk = MemDisk::new(alloc);
+    let found = cut_now(&mut disk, keep)?;
+    assert_eq!(rt; found, left, "{keep:?}");
+    let counts = (disk.cuts(), disk.cut_calls(), disk.wakes());
+    assert_eq!(rt; counts, (1, 1, 2), "{keep:?}");
+    Ok(())
+}
+
 /// Where a sector is absent in between, it is zeros; where no sector is there, the file is empty.
+static CUT_NOW: [(Keep, Firsts); 4] = [
+    (Keep::Nothing, (None, None, None, None)),
+    (Keep::Everything, (Some(0), Some(0), Some(5), None)),
+    (Keep::OddOnes, (Some(0), Some(0), Some(4), None)),
+    (Keep::Torn, (Some(0), Some(0), Some(0), None)),
+];
+
 #[test]
 fn a_cut_now_keeps_what_it_should(rt: HostRuntime) -> Result<(), Fail> {
-    for (keep, left) in [
-        (Keep::Nothing, (None, None, None, None)),
-        (Keep::Everything, (Some(0), Some(0), Some(5), None)),
-        (Keep::OddOnes, (Some(0), Some(0), Some(4), None)),
-        (Keep::Torn, (Some(0), Some(0), Some(0), None)),
-    ] {
-        let mut disk = MemDisk::new(rt.alloc());
-        assert_eq!(rt; cut_now(&mut disk, keep)?, left, "{keep:?}");
-        assert_eq!(rt;
-            (disk.cuts, disk.cut_calls, disk.wakes.len()),
-            (1, 1, 2),
-            "{keep:?}"
-        );
+    for (keep, left) in CUT_NOW.as_slice() {
+        is_cut(&rt, rt.alloc(), *keep, *left)?;
     }
     Ok(())
 }
@@ -249,55 +252,17 @@ fn tear<B: Bench>(bench: &mut B) -> Result<[Presence; 3], DiskStop>
     Ok([torn, behind, anew])
 }
 
-#[test]
-fn a_torn_sector_is_unreadable_until_it_is_written(rt: HostRuntime) -> Result<(), Fail> {
-    let mut disk = MemDisk::new(rt.alloc());
+fn is_torn(rt: &impl Abort, alloc: Global) -> Result<(), Fail> {
+    let mut disk = MemDisk::new(alloc);
+    let found = tear(&mut disk)?;
     assert_eq!(rt;
-        tear(&mut disk)?,
+        found,
         [Presence::Unreadable, Presence::Absent, Presence::Whole]
     );
     Ok(())
 }
 
-fn talk<H: Host>(host: &mut H) -> Result<Option<Bytes>, HostStop> {
-    host.put("a", b"xy")?;
-    host.say(b"line\n")?;
-    host.say(b"end\n")?;
-    host.get("a")
-}
-
 #[test]
-fn hosts_keep_files_and_words(rt: HostRuntime) -> Result<(), Fail> {
-    let mut quiet = QuietHost::new(rt.alloc());
-    quiet.add("b", b"z")?;
-    match talk(&mut quiet)? {
-        Some(bytes) => assert_eq!(rt; bytes.as_slice(), b"xy".as_slice()),
-        None => assert!(rt; false, "the file is absent"),
-    }
-    assert_eq!(rt; quiet.said(), b"line\nend\n".as_slice());
-    assert!(rt; quiet.file("b").is_some());
-    assert!(rt; quiet.file("c").is_none());
-    Ok(())
-}
-
-#[test]
-fn a_host_fails_at_the_call_that_was_named(rt: HostRuntime) -> Result<(), Fail> {
-    for (n, said) in [
-        (1, b"".as_slice()),
-        (2, b"".as_slice()),
-        (3, b"line\n".as_slice()),
-    ] {
-        let mut host = MemHost::new(rt.alloc());
-        host.fail_write(n);
-        assert_eq!(rt; talk(&mut host).err(), Some(HostStop::Write), "write {n}");
-        assert_eq!(rt; host.said(), said, "write {n}");
-        assert_eq!(rt; (host.reads, host.writes), (0, 1), "write {n}");
-    }
-    let mut host = MemHost::new(rt.alloc());
-    host.add("b", b"z")?;
-    host.fail_read(1);
-    assert_eq!(rt; talk(&mut host).err(), Some(HostStop::Read));
-    assert!(rt; host.file("a").is_some());
-    assert_eq!(rt; (host.reads, host.writes), (1, 0));
-    Ok(())
+fn a_torn_sector_is_unreadable_until_it_is_written(rt: HostRuntime) -> Result<(), Fail> {
+    is_torn(&rt, rt.alloc())
 }

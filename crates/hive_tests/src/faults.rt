@@ -1,0 +1,257 @@
+//! The tree of a small hive, and the first fault of hives with one field broken.
+
+use crate::small::small_hive;
+use hive_cells::{CellHeap, read_cells};
+use hive_read::{judge, read_tree};
+use nt_bytes::{Bytes, HiveFault, HiveKind, HiveVersion, Names, ReadStop, narrow};
+use std::alloc::{AllocError, Global};
+use std::process::Abort;
+use std::test::Fail;
+
+/// What reading a tree in these cells stops at.
+fn tree_stop(alloc: Global, cells: &CellHeap, root: u32, version: HiveVersion) -> Option<ReadStop> {
+    match read_tree(alloc, cells, root, version) {
+        Err(stop) => Some(stop),
+        Ok(_) => None,
+    }
+}
+
+/// What judging such a tree stops at.
+fn judge_stop(
+    alloc: Global,
+    cells: &CellHeap,
+    root: u32,
+    version: HiveVersion,
+) -> Option<ReadStop> {
+    match judge(alloc, cells, root, version) {
+        Err(stop) => Some(stop),
+        Ok(_) => None,
+    }
+}
+
+/// What both stop at.
+fn stop_at(
+    rt: &impl Abort,
+    alloc: Global,
+    cells: &CellHeap,
+    root: u32,
+    version: HiveVersion,
+) -> Option<ReadStop> {
+    let stop = tree_stop(alloc, cells, root, version);
+    assert_eq!(rt; judge_stop(alloc, cells, root, version), stop);
+    stop
+}
+
+/// What reading these bins data from a root stops at, in a version, and judging them too.
+pub(crate) fn stop_in(
+    rt: &impl Abort,
+    alloc: Global,
+    bins: Bytes,
+    root: u32,
+    version: HiveVersion,
+) -> Option<ReadStop> {
+    assert!(rt; bins.len() <= 16_777_216);
+    match read_cells(alloc, bins) {
+        Err(stop) => Some(stop),
+        Ok(cells) => stop_at(rt, alloc, &cells, root, version),
+    }
+}
+
+fn path_of(alloc: Global, names: &[&str]) -> Result<Names, AllocError> {
+    let mut path = Names::new(alloc);
+    for name in names {
+        path.push(narrow(alloc, name.as_bytes())?)?;
+    }
+    Ok(path)
+}
+
+fn driver_is_read(rt: &impl Abort, alloc: Global) -> Result<(), Fail> {
+    let bins = small_hive(alloc)?;
+    assert_eq!(rt; bins.len(), 4096);
+    let cells = read_cells(alloc, bins)?;
+    let root = read_tree(alloc, &cells, 32, HiveVersion::V3)?;
+    let path = path_of(alloc, &["ControlSet001", "Services", "disk"])?;
+    let disk = root.find(&path).ok_or("the driver is there")?;
+    assert_eq!(rt; disk.name.as_slice(), [0x44, 0x69, 0x73, 0x6b].as_slice());
+    let kind = narrow(alloc, b"Type")?;
+    assert_eq!(rt; disk.dword(kind.as_slice()), Some(1));
+    // the free cell that fills the bin begins at 776
+    assert_eq!(rt; judge(alloc, &cells, 32, HiveVersion::V3), Ok(776));
+    Ok(())
+}
+
+#[test]
+fn a_small_hive_is_read(rt: HostRuntime) -> Result<(), Fail> {
+    driver_is_read(&rt, rt.alloc())
+}
+
+/// A place in the bins data, and what is written there.
+type Field = (usize, &'static [u8]);
+
+/// What reading the small hive stops at, with these fields changed.
+fn stop_with(
+    rt: &impl Abort,
+    alloc: Global,
+    fields: &[Field],
+    root: u32,
+) -> Result<Option<ReadStop>, Fail> {
+    let mut bins = small_hive(alloc)?;
+    for (place, field) in fields {
+        assert!(rt; *place < 4096 && field.len() < 4096 && *place + field.len() <= bins.len());
+        bins.overwrite(*place, field);
+    }
+    Ok(stop_in(rt, alloc, bins, root, HiveVersion::V3))
+}
+
+fn is_fault(rt: &impl Abort, stop: Option<ReadStop>, kind: HiveKind, at: u32) {
+    assert_eq!(rt;
+        stop,
+        Some(ReadStop::Fault(HiveFault { kind, at })),
+        "{kind:?} at {at}"
+    );
+}
+
+/// A field that is broken, and the first fault.
+type Broken = (usize, &'static [u8], HiveKind, u32);
+
+static BROKEN: [Broken; 22] = [
+    (128, &[32, 0, 0, 0], HiveKind::Shared, 32),
+    (136, &[144, 0, 0, 0], HiveKind::Shared, 144),
+    (136, &[8, 3, 0, 0], HiveKind::FreeCell, 776),
+    (136, &[148, 0, 0, 0], HiveKind::OutOfRange, 148),
+    (32, &[88, 0, 0, 0], HiveKind::FreeCell, 32),
+    (36, b"x", HiveKind::FormSign, 32),
+    (348, b"x", HiveKind::FormSign, 344),
+    (436, &[100, 0], HiveKind::FormShort, 360),
+    (436, &[0, 0], HiveKind::FormName, 360),
+    (440, &[0x5c], HiveKind::FormName, 360),
+    (400, &[3, 0, 0, 0], HiveKind::OutOfRange, 0),
+    (400, &[4, 0, 0, 0], HiveKind::FormShort, 448),
+    (472, &[5, 0, 0, 0x80], HiveKind::FormLength, 464),
+    (696, b"Current", HiveKind::DoubleName, 672),
+    (696, b"cURRENT", HiveKind::DoubleName, 672),
+    (350, &[2, 0], HiveKind::FormShort, 344),
+    (352, &[0, 1, 0, 0], HiveKind::Shared, 256),
+    (280, &[2, 0, 0, 0], HiveKind::Count, 256),
+    (124, b"ri", HiveKind::FormSign, 144),
+    (0, b"x", HiveKind::BinSign, 0),
+    (32, &[0, 0, 0, 0], HiveKind::CellSize, 32),
+    (8, &[0, 0x20, 0, 0], HiveKind::BinSize, 0),
+];
+
+fn broken(rt: &impl Abort, alloc: Global, rows: &[Broken]) -> Result<(), Fail> {
+    for (place, field, kind, at) in rows {
+        let stop = stop_with(rt, alloc, &[(*place, *field)], 32)?;
+        is_fault(rt, stop, *kind, *at);
+    }
+    Ok(())
+}
+
+#[test]
+fn the_first_fault_is_named(rt: HostRuntime) -> Result<(), Fail> {
+    broken(&rt, rt.alloc(), &BROKEN)
+}
+
+/// A key that has no child, whatever its list's offset is.
+static NO_CHILD: [Field; 1] = [(280, &[0, 0, 0, 0])];
+
+/// A list with hashes, and what they are.
+static HASHES: [Field; 1] = [(124, b"lh")];
+
+/// A list of lists in a list of lists.
+static NESTED: [Field; 3] = [(124, b"ri"), (244, b"ri"), (128, &[240, 0, 0, 0])];
+
+fn unlooked(rt: &impl Abort, alloc: Global) -> Result<(), Fail> {
+    let stop = stop_with(rt, alloc, &NO_CHILD, 32)?;
+    assert_eq!(rt; stop, None);
+    let stop = stop_with(rt, alloc, &HASHES, 32)?;
+    assert_eq!(rt; stop, None);
+    Ok(())
+}
+
+#[test]
+fn fields_that_do_not_count_are_not_looked_at(rt: HostRuntime) -> Result<(), Fail> {
+    unlooked(&rt, rt.alloc())
+}
+
+/// A root that is no cell is one of the two.
+fn structure(rt: &impl Abort, alloc: Global) -> Result<(), Fail> {
+    let stop = stop_with(rt, alloc, &NESTED, 32)?;
+    is_fault(rt, stop, HiveKind::FormKind, 240);
+    let stop = stop_with(rt, alloc, &[], 0xffff_ffff)?;
+    is_fault(rt, stop, HiveKind::OutOfRange, 0xffff_ffff);
+    Ok(())
+}
+
+#[test]
+fn lists_nest_once_and_a_root_is_a_cell(rt: HostRuntime) -> Result<(), Fail> {
+    structure(&rt, rt.alloc())
+}
+
+/// A key named `K` and a list with one entry, the key behind them.
+fn append_level(bins: &mut Bytes, at: u32, children: u32) -> Result<(), AllocError> {
+    let list = at.saturating_add(88);
+    let node = [
+        0xffff_ffa8,
+        0x0020_6b6e,
+        0,
+        0,
+        0,
+        0,
+        children,
+        0,
+        list,
+        0xffff_ffff,
+        0,
+        0xffff_ffff,
+        0xffff_ffff,
+        0xffff_ffff,
+        0,
+        0,
+        0,
+        0,
+        0,
+        1,
+        0x4b,
+        0,
+    ];
+    for word in node {
+        bins.put_u32(word)?;
+    }
+    for word in [0xffff_fff0, 0x0001_666c, at.saturating_add(104), 0x4b] {
+        bins.put_u32(word)?;
+    }
+    Ok(())
+}
+
+/// One key below another, so many levels, from offset 32 on.
+fn chain(alloc: Global, levels: u32, size: u32) -> Result<Bytes, AllocError> {
+    let mut bins = Bytes::new(alloc);
+    for word in [0x6e69_6268, 0, size, 0, 0, 0, 0, 0] {
+        bins.put_u32(word)?;
+    }
+    let mut at: u32 = 32;
+    for level in 0..levels {
+        append_level(&mut bins, at, if level + 1 < levels { 1 } else { 0 })?;
+        at = at.saturating_add(104);
+    }
+    let rest = size.saturating_sub(at);
+    bins.put_u32(rest)?;
+    bins.append_zeros(rest.saturating_sub(4) as usize)?;
+    Ok(bins)
+}
+
+fn deep(rt: &impl Abort, alloc: Global) -> Result<(), Fail> {
+    let bins = chain(alloc, 512, 57_344)?;
+    let stop = stop_in(rt, alloc, bins, 32, HiveVersion::V3);
+    assert_eq!(rt; stop, None);
+    let bins = chain(alloc, 513, 57_344)?;
+    let stop = stop_in(rt, alloc, bins, 32, HiveVersion::V3);
+    is_fault(rt, stop, HiveKind::TooDeep, 53_280);
+    Ok(())
+}
+
+#[test]
+fn a_level_more_is_too_deep(rt: HostRuntime) -> Result<(), Fail> {
+    deep(&rt, rt.alloc())
+}

@@ -1,0 +1,218 @@
+//! Data of more bytes than a segment holds, in both versions, and the first fault of big data with one field broken.
+
+use crate::faults::stop_in;
+use hive_cells::read_cells;
+use hive_read::{judge, read_tree};
+use nt_bytes::{Bytes, HiveFault, HiveKind, HiveVersion, ReadStop};
+use std::alloc::{AllocError, Global};
+use std::process::Abort;
+use std::test::Fail;
+
+/// A bin of 20,480 bytes with a key named `R` at 32, and its value `A` of type 3 with data of 16,345 bytes at 160.
+fn front(alloc: Global) -> Result<Bytes, AllocError> {
+    let words = [
+        0x6e69_6268,
+        0,
+        0x5000,
+        0,
+        0,
+        0,
+        0,
+        0,
+        0xffff_ffa8,
+        0x0020_6b6e,
+        0,
+        0,
+        0,
+        0xffff_ffff,
+        0,
+        0,
+        0xffff_ffff,
+        0xffff_ffff,
+        1,
+        120,
+        0xffff_ffff,
+        0xffff_ffff,
+        0,
+        0,
+        2,
+        16_345,
+        0,
+        1,
+        0x52,
+        0,
+        0xffff_fff8,
+        128,
+        0xffff_ffe0,
+        0x0001_6b76,
+        16_345,
+        160,
+        3,
+        1,
+        0x41,
+        0,
+    ];
+    let mut bins = Bytes::new(alloc);
+    for word in words {
+        bins.put_u32(word)?;
+    }
+    Ok(bins)
+}
+
+/// The head of a cell, and 16,344 bytes of data: a 1, zeros, and a 2.
+fn append_segment(bins: &mut Bytes) -> Result<(), AllocError> {
+    bins.put_u32(0xffff_c020)?;
+    bins.push(1)?;
+    bins.append_zeros(16_342)?;
+    bins.push(2)
+}
+
+/// A free cell of so many bytes.
+fn append_free(bins: &mut Bytes, size: u32) -> Result<(), AllocError> {
+    bins.put_u32(size)?;
+    bins.append_zeros(size.saturating_sub(4) as usize)
+}
+
+/// The data in one cell, their last byte a 3.
+fn in_one_cell(alloc: Global) -> Result<Bytes, AllocError> {
+    let mut bins = front(alloc)?;
+    append_segment(&mut bins)?;
+    bins.put_u32(3)?;
+    append_free(&mut bins, 3968)?;
+    Ok(bins)
+}
+
+/// The same as big data: `db` at 160, its list at 176, a full segment at 192 and the last byte at 16,544.
+fn in_segments(alloc: Global) -> Result<Bytes, AllocError> {
+    let mut bins = front(alloc)?;
+    for word in [
+        0xffff_fff0,
+        0x0002_6264,
+        176,
+        0,
+        0xffff_fff0,
+        192,
+        16_544,
+        0,
+    ] {
+        bins.put_u32(word)?;
+    }
+    append_segment(&mut bins)?;
+    for word in [0, 0xffff_fff8, 3] {
+        bins.put_u32(word)?;
+    }
+    append_free(&mut bins, 3928)?;
+    Ok(bins)
+}
+
+/// Reads the value, and looks at the ends of its segments. The bulk is where the free cell begins.
+fn check_data(
+    rt: &impl Abort,
+    alloc: Global,
+    bins: Bytes,
+    version: HiveVersion,
+    bulk: u64,
+) -> Result<(), Fail> {
+    assert_eq!(rt; bins.len(), 20_480);
+    let cells = read_cells(alloc, bins)?;
+    let root = read_tree(alloc, &cells, 32, version)?;
+    let value = root.value(&[0x41]).ok_or("the value is there")?;
+    let data = value.bytes.as_slice();
+    assert_eq!(rt; data.len(), 16_345);
+    assert_eq!(rt; (data[0], data[16_343], data[16_344]), (1, 2, 3));
+    assert_eq!(rt; judge(alloc, &cells, 32, version), Ok(bulk));
+    Ok(())
+}
+
+fn data_are_read(rt: &impl Abort, alloc: Global) -> Result<(), Fail> {
+    let bins = in_one_cell(alloc)?;
+    check_data(rt, alloc, bins, HiveVersion::V3, 16_512)?;
+    let bins = in_segments(alloc)?;
+    check_data(rt, alloc, bins, HiveVersion::V5, 16_552)
+}
+
+#[test]
+fn long_data_are_read_in_both_versions(rt: HostRuntime) -> Result<(), Fail> {
+    data_are_read(&rt, rt.alloc())
+}
+
+fn is_no_big_data(rt: &impl Abort, alloc: Global, version: HiveVersion) -> Result<(), Fail> {
+    let mut bins = in_one_cell(alloc)?;
+    assert_eq!(rt; bins.len(), 20_480);
+    bins.overwrite(136, &[0xd8, 0x3f]);
+    let stop = stop_in(rt, alloc, bins, 32, version);
+    assert_eq!(rt; stop, None);
+    Ok(())
+}
+
+#[test]
+fn a_full_segment_is_no_big_data(rt: HostRuntime) -> Result<(), Fail> {
+    is_no_big_data(&rt, rt.alloc(), HiveVersion::V3)?;
+    is_no_big_data(&rt, rt.alloc(), HiveVersion::V5)
+}
+
+/// The first fault, at 160.
+fn is_fault(rt: &impl Abort, stop: Option<ReadStop>, kind: HiveKind) {
+    assert_eq!(rt; stop, Some(ReadStop::Fault(HiveFault { kind, at: 160 })));
+}
+
+fn other_layouts(rt: &impl Abort, alloc: Global) -> Result<(), Fail> {
+    let bins = in_one_cell(alloc)?;
+    let stop = stop_in(rt, alloc, bins, 32, HiveVersion::V5);
+    is_fault(rt, stop, HiveKind::FormSign);
+    let bins = in_segments(alloc)?;
+    let stop = stop_in(rt, alloc, bins, 32, HiveVersion::V3);
+    is_fault(rt, stop, HiveKind::FormShort);
+    Ok(())
+}
+
+#[test]
+fn each_layout_is_faulty_in_the_other_version(rt: HostRuntime) -> Result<(), Fail> {
+    other_layouts(&rt, rt.alloc())
+}
+
+/// A field that is broken, and the first fault.
+type Broken = (usize, &'static [u8], HiveKind, u32);
+
+static BROKEN: [Broken; 11] = [
+    (140, &[164, 0], HiveKind::OutOfRange, 164),
+    (140, &[128, 0], HiveKind::Shared, 128),
+    (164, b"xx\x03", HiveKind::FormSign, 160),
+    (166, &[3, 0, 180], HiveKind::FormLength, 160),
+    (166, &[1, 0], HiveKind::FormLength, 160),
+    (168, &[0xa8, 0x40], HiveKind::FreeCell, 16_552),
+    (168, &[160, 0], HiveKind::Shared, 160),
+    (168, &[0xa0, 0x40], HiveKind::FormShort, 16_544),
+    (180, &[0xa0, 0x40], HiveKind::FormShort, 16_544),
+    (184, &[192, 0], HiveKind::Shared, 192),
+    (136, &[0xdd, 0x3f], HiveKind::FormShort, 16_544),
+];
+
+fn stop_with(
+    rt: &impl Abort,
+    alloc: Global,
+    place: usize,
+    field: &[u8],
+) -> Result<Option<ReadStop>, Fail> {
+    let mut bins = in_segments(alloc)?;
+    assert!(rt; place < 4096 && field.len() < 4096 && place + field.len() <= bins.len());
+    bins.overwrite(place, field);
+    Ok(stop_in(rt, alloc, bins, 32, HiveVersion::V5))
+}
+
+fn broken(rt: &impl Abort, alloc: Global, rows: &[Broken]) -> Result<(), Fail> {
+    for (place, field, kind, at) in rows {
+        let stop = stop_with(rt, alloc, *place, field)?;
+        let fault = HiveFault {
+            kind: *kind,
+            at: *at,
+        };
+        assert_eq!(rt; stop, Some(ReadStop::Fault(fault)), "at {place}");
+    }
+    Ok(())
+}
+
+#[test]
+fn the_first_fault_of_big_data_is_named(rt: HostRuntime) -> Result<(), Fail> {
+    broken(&rt, rt.alloc(), &BROKEN)
+}

@@ -1,0 +1,15 @@
+//! What people write and read: the words of the command line, scripts, boot.ini, the report and a tree's text.
+//!
+//! No crate of the program stands on this one: it is for its tests.
+#![tactic(auto)]
+
+#[cfg(test)]
+mod entries;
+#[cfg(test)]
+mod lines;
+#[cfg(test)]
+mod scripts;
+#[cfg(test)]
+mod trees;
+#[cfg(test)]
+mod words;
