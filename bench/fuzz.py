@@ -1,5 +1,5 @@
 #!/usr/bin/env python3
-"""Runs the built program on mutated inputs: bench/fuzz.py PROGRAM [--count N] [--seed TEXT] [--jobs N] [--keep FOLDER].
+"""Runs the built program on mutated inputs: bench/fuzz.py PROGRAM [--first N] [--count N] [--seed TEXT] [--jobs N] [--keep FOLDER].
 
 Each input is a folder of tests/runs with one to four changes of its hive, log, boot.ini or texts: bytes turned, fields set to edges, blocks
 of 512 bytes swapped, dropped or doubled, lines doubled or dropped, the end cut off. Where the base block changes its checksum is mostly
@@ -21,7 +21,7 @@ import tempfile
 sys.path.insert(0, os.path.dirname(os.path.abspath(__file__)))
 import hives
 
-TOP = os.path.join(os.path.dirname(os.path.abspath(__file__)), "..")
+TOP = os.path.dirname(os.path.dirname(os.path.abspath(__file__)))
 RUNS = os.path.join(TOP, "tests", "runs")
 TEXTS = ("boot.ini", "script", "commands", "reg")
 INPUTS = ("hive", "log", "alt", *TEXTS)
@@ -135,18 +135,15 @@ def mutated(chance, parts):
     return parts
 
 
-def ran(program, words, room):
-    """The exit status, or minus the signal's number, the output, and the greatest memory in KiB."""
-    with open(os.path.join(room, "said"), "wb") as out:
-        child = os.fork()
-        if child == 0:
-            os.chdir(room)
-            os.dup2(out.fileno(), 1)
-            os.dup2(out.fileno(), 2)
-            signal.alarm(10)
-            os.execv(program, [program, *words])
-        _, status, used = os.wait4(child, 0)
-    with open(os.path.join(room, "said"), "rb") as f:
+def ran(program, words):
+    """The exit status, or minus the signal's number, the output, and the greatest memory in KiB. A run over ten seconds is killed."""
+    out = [(os.POSIX_SPAWN_OPEN, 1, "said", os.O_WRONLY | os.O_CREAT | os.O_TRUNC, 0o600), (os.POSIX_SPAWN_DUP2, 1, 2)]
+    child = os.posix_spawn(program, [program, *words], os.environ, file_actions=out)
+    signal.signal(signal.SIGALRM, lambda *_: os.kill(child, signal.SIGKILL))
+    signal.alarm(10)
+    _, status, used = os.wait4(child, 0)
+    signal.alarm(0)
+    with open("said", "rb") as f:
         return os.waitstatus_to_exitcode(status), f.read(), used.ru_maxrss
 
 
@@ -170,9 +167,9 @@ def words_of(command, parts):
     return words
 
 
-def reading_again(command, parts, room):
+def reading_again(command, parts):
     """The words that must read what a run saved, if it saved anything."""
-    has = {name for name in ("new-hive", "new-log", "new-alt", "out") if os.path.exists(os.path.join(room, name))}
+    has = {name for name in ("new-hive", "new-log", "new-alt", "out") if os.path.exists(name)}
     if command == "run" and b"torn" in parts["script"]:
         return None
     if "out" in has:
@@ -184,15 +181,14 @@ def reading_again(command, parts, room):
     return None
 
 
-def wrong(program, command, parts, room):
-    """What is wrong with the run on these inputs, if anything."""
+def wrong(program, words, command, parts):
+    """What is wrong with the run on these inputs in this folder, if anything."""
+    for name in os.listdir():
+        os.unlink(name)
     for name, data in parts.items():
-        with open(os.path.join(room, name), "wb") as f:
+        with open(name, "wb") as f:
             f.write(data)
-    words = words_of(command, parts)
-    with open(os.path.join(room, "words"), "w") as f:
-        f.writelines(f"{word}\n" for word in words)
-    status, said, memory = ran(program, words, room)
+    status, said, memory = ran(program, words)
     if status not in ANSWERS:
         return f"exit {status}"
     is_report = command in ("run", "twin") and status == 0
@@ -201,13 +197,13 @@ def wrong(program, command, parts, room):
     if memory > 64 * 1024 + 8 * sum(map(len, parts.values())) // 1024:
         return f"{memory} KiB"
     saves = "--save-hive" in words
-    if (status == 0 and saves) != os.path.exists(os.path.join(room, "new-hive")):
+    if (status == 0 and saves) != os.path.exists("new-hive"):
         return f"exit {status}, and the hive is {'not ' if saves and status == 0 else ''}saved"
-    if command == "export" and status != 0 and os.path.exists(os.path.join(room, "out")):
+    if command == "export" and status != 0 and os.path.exists("out"):
         return f"exit {status}, and a text is put"
-    again = reading_again(command, parts, room)
+    again = reading_again(command, parts)
     if again:
-        status, said, _ = ran(program, again, room)
+        status, said, _ = ran(program, again)
         if status != 0:
             return f"what was saved: {' '.join(again)}: exit {status}, {said[-60:]!r}"
     return None
@@ -233,15 +229,21 @@ def work(task):
     program, seed, first, last, keep = task
     found, failed = seeds(), []
     kinds = texts(found)
-    for n in range(first, last):
-        chance = random.Random(f"{seed} {n}")
-        name, command, parts = chosen(chance, found, kinds)
-        parts = mutated(chance, parts)
-        with tempfile.TemporaryDirectory() as room:
-            why = wrong(program, command, parts, room)
+    with tempfile.TemporaryDirectory() as room:
+        os.chdir(room)
+        for n in range(first, last):
+            chance = random.Random(f"{seed} {n}")
+            name, command, parts = chosen(chance, found, kinds)
+            parts = mutated(chance, parts)
+            words = words_of(command, parts)
+            why = wrong(program, words, command, parts)
             if why:
                 failed.append(f"{seed} {n} ({command}, from {name}): {why}")
-                shutil.copytree(room, os.path.join(keep, f"{seed}_{n}"), dirs_exist_ok=True)
+                kept = os.path.join(keep, f"{seed}_{n}")
+                shutil.copytree(room, kept, dirs_exist_ok=True)
+                with open(os.path.join(kept, "words"), "w") as f:
+                    f.writelines(f"{word}\n" for word in words)
+        os.chdir(TOP)
     return last - first, failed
 
 
@@ -249,13 +251,14 @@ def main():
     asked = argparse.ArgumentParser()
     asked.add_argument("program")
     asked.add_argument("--count", type=int, default=10_000)
+    asked.add_argument("--first", type=int, default=0)
     asked.add_argument("--seed", default="a")
     asked.add_argument("--jobs", type=int, default=1)
     asked.add_argument("--keep", default="fuzz-failures")
     asked = asked.parse_args()
     resource.setrlimit(resource.RLIMIT_CORE, (0, 0))
     step = 200
-    tasks = [(os.path.abspath(asked.program), asked.seed, n, min(n + step, asked.count), asked.keep) for n in range(0, asked.count, step)]
+    tasks = [(os.path.abspath(asked.program), asked.seed, n, min(n + step, asked.count), os.path.abspath(asked.keep)) for n in range(asked.first, asked.count, step)]
     done = failed = 0
     with multiprocessing.Pool(asked.jobs) as pool:
         for count, why in pool.imap_unordered(work, tasks):

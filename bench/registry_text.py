@@ -99,7 +99,10 @@ def export_times(program, room):
     write(room, "half", half)
     other, _ = least([program, "export", "--hive", "half", "--reg", "half.reg"], room)
     print(f"export of {len(half)} bytes: {other:.2f} s")
-    for words in (["reged", "-x", "large", PREFIX, "\\", "reged.reg"], ["hivexregedit", "--export", "--prefix", PREFIX, "large", "\\"]):
+    # hivexregedit wants each key's parent in its node, which packing writes: so a key with a value is imported first.
+    write(room, "one.reg", text_of([f"[{PREFIX}\\One]", '"Start"=dword:00000001', ""]))
+    least([program, "import", "--hive", "large", "--reg", "one.reg", "--save-hive", "packed"], room)
+    for words in (["reged", "-x", "packed", PREFIX, "\\", "reged.reg"], ["hivexregedit", "--export", "--prefix", PREFIX, "packed", "\\"]):
         if shutil.which(words[0]):
             print(f"{words[0]}: {by_peer(words, room)}; export: {took:.2f} s")
 
@@ -108,10 +111,10 @@ def by_peer(words, room):
     """The processor seconds that a peer takes, or that it was stopped after so many."""
     before = used()
     try:
-        subprocess.run(words, cwd=room, capture_output=True, timeout=PATIENCE)
+        done = subprocess.run(words, cwd=room, capture_output=True, timeout=PATIENCE)
     except subprocess.TimeoutExpired:
         return f"not done in {PATIENCE} s"
-    return f"{used() - before:.2f} s"
+    return f"{used() - before:.2f} s, exit {done.returncode}"
 
 
 def import_times(program, room):
