@@ -1,22 +1,24 @@
 -- Values found by an order of their places, and what keeps it.
-use Rattle.std.proofs.Common.{◌≡◌, ℕ, zero, suc, ◌+◌, ◌≤◌, ◌<◌, true, false, List, [], ◌∷◌, ◌++◌, length, get_or, Some, None, refl, sym, ap, subst, ◌∙◌, arith, inl, inr}
-use Rattle.std.specs.Prelude.{position}
-use Rattle.std.specs.List.{All, AllPairs, AllAdjacentBelow, Contains, insert, range_with_len}
+use Rattle.std.proofs.Common.{◌≡◌, ℕ, zero, suc, ◌+◌, ◌-◌, ◌≤◌, ◌<◌, ◌⊎◌, Bool, true, false, not, List, [], ◌∷◌, ◌++◌, length, get_or, Some, None, refl, sym, ap, subst, ◌∙◌, arith, inl, inr}
+use Rattle.std.specs.Prelude.{◌==◌, map, position}
+use Rattle.std.specs.List.{All, AllPairs, AllAdjacentBelow, Contains, filter, insert, remove, range_with_len}
 use Rattle.std.specs.List.Sorted.{IsPermutation}
 use Rattle.std.specs.Cmp.Lexicographic.{nat_list_cmp_total}
 use Rattle.std.specs.Ordering.{is_eq, is_gt, is_lt}
 use Rattle.std.specs.declared.cmp.Ordering.{Ordering}
 use Rattle.std.specs.declared.cmp.Ordering.TheVariants.{Less, Equal, Greater}
 use Rattle.std.proofs.Math.ListN.{set}
-use Rattle.std.proofs.lemmas.Bool.{cases_Bool, cases_lt, both_ways}
-use Rattle.std.proofs.lemmas.List.{length-set, length-append, get_or_default}
-use Rattle.std.proofs.lemmas.List.Edits.{length-insert, get_or-insert_at, get_or-insert_below, get_or-insert_above}
+use Rattle.std.proofs.lemmas.Bool.{cases_Bool, cases_lt, both_ways, lt-ltb, le-ltb, eq-eqb, ne_eqb}
+use Rattle.std.proofs.lemmas.List.{length-set, length-append, length-map, get_or-map, get_or_default}
+use Rattle.std.proofs.lemmas.List.Edits.{length-insert, length-remove, get_or-insert_at, get_or-insert_below, get_or-insert_above, get_or-remove_below, get_or-remove_above}
+use Rattle.std.proofs.lemmas.List.Elements.{All-filter, All-map, filter_passes}
+use Rattle.std.proofs.lemmas.List.Kept.{AllPairs-filter}
 use Rattle.std.proofs.lemmas.List.Sorted.{All-permutation, Contains-permutation}
 use Rattle.std.proofs.lemmas.List.FromFn.{length-range_with_len, get_or-range_with_len}
 use Rattle.nt_bytes.specs.Folding.{folded, folds_same, folded_order}
 use Rattle.name_places.proofs.FoldLemmas.{same_from_order, alike}
 use Rattle.hive_model.specs.Tree.{Item, is_item}
-use Rattle.reg_tree.specs.Order.{no_item, name_at, IsOrderOf}
+use Rattle.reg_tree.specs.Order.{no_item, name_at, is_other, lowered, IsOrderOf}
 use Rattle.reg_tree.proofs.Halving.{folds, greater_is_less, greater_left, Rising, EndsAt, less, none_pass, position_found, position_absent, pairs_insert}
 use Rattle.reg_tree.proofs.Unlike.{Each, each_from, each_all}
 
@@ -198,3 +200,108 @@ order_pushed items order v at o most ends none = record {
           ]
       | inr past ↦ (at, omega (arith, most, length-insert order at new most), get_or-insert_at order at new k most ∙ omega (arith, longer, lt, past))
     ]
+
+-- ---- a value that goes
+
+below_kept : (at k : ℕ) → k < at → lowered at k ≡ k
+below_kept at k lt = rw (le-ltb at k (omega (arith, lt))) refl
+
+behind_lower : (at k : ℕ) → at < k → lowered at k ≡ k - 1
+behind_lower at k lt = rw (lt-ltb at k lt) refl
+
+-- at another place: before it, or behind it
+before_or_behind : (at k : ℕ) → is_other at k ≡ true → (k < at) ⊎ (at < k)
+before_or_behind at k other = elim (cases_lt k at) [
+  | inl lt ↦ inl lt
+  | inr from ↦ elim (cases_lt at k) [
+    | inl lt ↦ inr lt
+    | inr upto ↦
+        let same : k ≡ at = omega (arith, from, upto) in
+        absurd (both_ways (k == at) (not_true (k == at) other) (eq-eqb k at same))
+  ]
+]
+  where
+    not_true : (b : Bool) → not b ≡ true → b ≡ false
+    not_true true h = sym h
+    not_true false h = refl
+
+other_before : (at k : ℕ) → k < at → is_other at k ≡ true
+other_before at k lt = rw (ne_eqb k at (λ e. omega (arith, lt, e))) refl
+
+other_behind : (at k : ℕ) → at < k → is_other at k ≡ true
+other_behind at k lt = rw (ne_eqb k at (λ e. omega (arith, lt, e))) refl
+
+name_left : (items : List Item) (at k : ℕ) → at < length items → is_other at k ≡ true → name_at (remove items at) (lowered at k) ≡ name_at items k
+name_left items at k within other = elim (before_or_behind at k other) [
+  | inl before ↦ ap (name_at (remove items at)) (below_kept at k before) ∙ ap (λ (v : Item). v.name) (get_or-remove_below items at no_item k before within)
+  | inr behind ↦
+      let back : (k - 1) + 1 ≡ k = omega (arith, behind) in
+      ap (name_at (remove items at)) (behind_lower at k behind)
+      ∙ ap (λ (v : Item). v.name) (get_or-remove_above items at no_item (k - 1) (omega (arith, behind)) within ∙ ap (λ (n : ℕ). get_or items n no_item) back)
+]
+
+contains_filter : (p : ℕ → Bool) (xs : List ℕ) (x : ℕ) → Contains xs x → p x ≡ true → Contains (filter p xs) x
+contains_filter p [] x (i, lt, here) pass = absurd (omega (arith, lt))
+contains_filter p (y ∷ ys) x (zero, lt, here) pass = rw (ap p here ∙ pass) (zero, omega arith, here)
+contains_filter p (y ∷ ys) x (suc i, lt, here) pass =
+    let m = contains_filter p ys x (i, omega (arith, lt), here) pass in
+    elim (cases_Bool (p y)) [
+      | inl kept ↦ rw kept (suc m.0, omega (arith, m.1), m.2)
+      | inr gone ↦ rw gone m
+    ]
+
+contains_map : (f : ℕ → ℕ) (xs : List ℕ) (x : ℕ) → Contains xs x → Contains (map f xs) (f x)
+contains_map f xs x m = (m.0, omega (arith, m.1, length-map xs f), get_or-map f xs m.0 x (f x) m.1 ∙ ap f m.2)
+
+-- the place of a value that goes is taken out, and those behind it are one lower
+pub order_removed : (items : List Item) (order : List ℕ) (at : ℕ) → IsOrderOf items order → at < length items
+    → IsOrderOf (remove items at) (map (lowered at) (filter (is_other at) order))
+order_removed items order at o within = record {
+  inside = All-map (λ k. k < length less) (lowered at) left inside;
+  each = each;
+  rises = rises;
+}
+  where
+    less : List Item
+    less = remove items at
+
+    left : List ℕ
+    left = filter (is_other at) order
+
+    shorter : length less + 1 ≡ length items
+    shorter = length-remove items at within
+
+    others : All (λ k. is_other at k ≡ true) left
+    others = filter_passes (is_other at) order
+
+    inside : All (λ k. lowered at k < length less) left
+    inside i d lt =
+        let k = get_or left i d in
+        let there : k < length items = All-filter (is_other at) (λ n. n < length items) order o.inside i d lt in
+        elim (before_or_behind at k (others i d lt)) [
+          | inl before ↦ omega (arith, below_kept at k before, before, within, shorter)
+          | inr behind ↦ omega (arith, behind_lower at k behind, behind, there, shorter)
+        ]
+
+    each : (k : ℕ) → k < length less → Contains (map (lowered at) left) k
+    each k lt = elim (cases_lt k at) [
+      | inl before ↦
+          let m = contains_filter (is_other at) order k (o.each k (omega (arith, lt, shorter))) (other_before at k before) in
+          subst (Contains (map (lowered at) left)) (below_kept at k before) (contains_map (lowered at) left k m)
+      | inr from ↦
+          let behind : at < k + 1 = omega (arith, from) in
+          let m = contains_filter (is_other at) order (k + 1) (o.each (k + 1) (omega (arith, lt, shorter))) (other_behind at (k + 1) behind) in
+          let down : lowered at (k + 1) ≡ k = behind_lower at (k + 1) behind ∙ omega arith in
+          subst (Contains (map (lowered at) left)) down (contains_map (lowered at) left (k + 1) m)
+    ]
+
+    Less_at : ℕ → ℕ → Type 0
+    Less_at a b = is_lt (folded_order (name_at items a) (name_at items b)) ≡ true
+
+    rises : Ascends less (map (lowered at) left)
+    rises i j d lt inside =
+        let few : j < length left = omega (arith, inside, length-map left (lowered at)) in
+        let first : i < length left = omega (arith, lt, few) in
+        let a = name_left items at (get_or left i d) within (others i d first) in
+        let b = name_left items at (get_or left j d) within (others j d few) in
+        rw (get_or-map (lowered at) left i d d first, get_or-map (lowered at) left j d d few, a, b) (AllPairs-filter Less_at (is_other at) order o.rises i j d lt few)

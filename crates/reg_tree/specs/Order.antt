@@ -1,5 +1,5 @@
 -- How are the places of values kept, so that one is found without a scan? (this project's own)
-use Rattle.std.specs.Prelude.{◌≡◌, ◌<◌, ℕ, true, List, [], length, slice_index_or}
+use Rattle.std.specs.Prelude.{◌≡◌, ◌<◌, ◌-◌, ◌==◌, ℕ, Bool, true, not, nat_lt, if◌then◌else◌, List, [], length, slice_index_or}
 use Rattle.std.specs.List.{All, AllPairs, Contains}
 use Rattle.std.specs.Ordering.{is_lt}
 use Rattle.nt_bytes.specs.Folding.{folded_order}
@@ -18,3 +18,11 @@ pub record IsOrderOf (items : List Item) (order : List ℕ) : Type 0 where
   pub inside : All (λ k. k < length items) order
   pub each : (k : ℕ) → k < length items → Contains order k
   pub rises : AllPairs (λ a b. is_lt (folded_order (name_at items a) (name_at items b)) ≡ true) order
+
+-- a place is not this one
+abbrev pub is_other : ℕ → ℕ → Bool
+is_other at k = not (k == at)
+
+-- a place once the value at another is gone
+abbrev pub lowered : ℕ → ℕ → ℕ
+lowered at k = if nat_lt at k then k - 1 else k

@@ -15,6 +15,7 @@ mod laws;
 mod levels;
 mod lists;
 mod same;
+pub mod sizes;
 mod steps;
 mod stop;
 mod value;

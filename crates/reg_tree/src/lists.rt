@@ -7,7 +7,7 @@ ghost use Rattle.hive_model.specs.Edit.{without_first, with_item, placed};
 use crate::halves::{gap, named_place};
 use crate::key::{Key, Keys};
 use crate::value::{Value, Values};
-use crate::value_places::{order_of, order_with, value_place};
+use crate::value_places::{close_up, order_of, order_with, value_place};
 use nt_bytes::{Bytes, Units};
 use std::alloc::{AllocError, Global};
 use std::mem::replace;
@@ -33,6 +33,20 @@ impl Values {
     ) -> Result<(), AllocError>
         ensures { OnOk result (self.new ≡ with_item name kind bytes self.old) }
     {
+        self.make_order(alloc)?;
+        self.put_found(alloc, name, kind, bytes)
+    }
+
+    /// The same, by the order that is kept.
+    fn put_found(
+        &mut self,
+        alloc: Global,
+        name: Units,
+        kind: u32,
+        bytes: Bytes,
+    ) -> Result<(), AllocError>
+        ensures { OnOk result (self.new ≡ with_item name kind bytes self.old) }
+    {
         match self.place(name.as_slice()) {
             Some(at) => {
                 let value = &mut self.items[at];
@@ -49,7 +63,6 @@ impl Values {
         requires { position (is_item value.name) self.old ≡ None }
         ensures { OnOk result (self.new ≡ self.old ++ value ∷ []) }
     {
-        self.make_order(alloc)?;
         let order = replace(&mut self.order, Vec::new(alloc));
         let order = order_with(self.items.as_slice(), order, value.name())?;
         self.items.push(value)?;
@@ -70,15 +83,13 @@ impl Values {
         Ok(())
     }
 
-    /// Takes out the first value with this name. No order is made after that, as one after each removal would
-    /// take longer than to go through the values.
+    /// Takes out the first value with this name.
     pub(crate) fn remove(&mut self, name: &[u16])
         ensures { self.new ≡ without_first (is_item name.now) self.old }
     {
         if let Some(at) = self.place(name) {
-            self.order.clear();
-            self.orderly = false;
             let _gone = self.items.remove(at);
+            close_up(&mut self.order, at);
         }
     }
 }

@@ -1,11 +1,11 @@
 //! Places of values of a key: found by an order of their names where one is kept, else by a scan.
 
-ghost use Rattle.std.specs.Prelude.{◌≡◌, ◌<◌, ℕ, [], ◌∷◌, ◌++◌, IfOk, None, find, length, position};
-ghost use Rattle.std.specs.List.{range_with_len};
+ghost use Rattle.std.specs.Prelude.{◌≡◌, ◌<◌, ℕ, [], ◌∷◌, ◌++◌, IfOk, None, find, length, map, position};
+ghost use Rattle.std.specs.List.{filter, range_with_len};
 ghost use Rattle.std.specs.List.Sorted.{IsPermutation};
 ghost use Rattle.std.specs.Option.{option_copied};
 ghost use Rattle.hive_model.specs.Tree.{Item, is_item};
-ghost use Rattle.reg_tree.specs.Order.{name_at, IsOrderOf};
+ghost use Rattle.reg_tree.specs.Order.{name_at, is_other, lowered, IsOrderOf};
 
 use crate::value::Value;
 use nt_bytes::{compare_folded, same_folded};
@@ -84,6 +84,37 @@ pub(crate) fn order_with(
         .partition_point(|k| compare_folded(name_at(items, *k), name).is_lt());
     order.insert(at, items.len())?;
     Ok(order)
+}
+
+/// The order without a place, and each place behind it one lower.
+pub(crate) fn close_up(order: &mut Vec<usize>, at: usize)
+    ensures { order.new.items ≡ map (lowered at) (filter (is_other at) order.old.items) }
+{
+    drop_place(order, at);
+    lower_behind(order, at);
+}
+
+/// The order without a place.
+fn drop_place(order: &mut Vec<usize>, at: usize)
+    ensures { order.new.items ≡ filter (is_other at) order.old.items }
+{
+    order.retain(|k| *k != at);
+}
+
+/// The order with each place behind one a place lower.
+fn lower_behind(order: &mut Vec<usize>, at: usize)
+    ensures { order.new.items ≡ map (lowered at) order.old.items }
+{
+    for k in 0..order.len() {
+        order[k] = lowered(at, order[k]);
+    }
+}
+
+/// A place once the value at another is gone.
+fn lowered(at: usize, k: usize) -> usize
+    ensures { result ≡ lowered at k }
+{
+    if at < k { k - 1 } else { k }
 }
 
 /// The order of these values, or none where two names fold to one.

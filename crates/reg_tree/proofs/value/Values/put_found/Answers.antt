@@ -8,7 +8,7 @@ use Rattle.reg_tree.specs.Order.{name_at}
 use Rattle.reg_tree.proofs.Ordered.{name_read, order_changed}
 use Rattle.reg_tree.proofs.Outcomes.{on_ok}
 use Rattle.reg_tree.proofs.Places.{item_set, item_added}
-use Rattle.reg_tree.proofs.value.Values.put.Goals as goal
+use Rattle.reg_tree.proofs.value.Values.put_found.Goals as goal
 
 pub returns-in-Some : goal.returns-in-Some
 returns-in-Some c =

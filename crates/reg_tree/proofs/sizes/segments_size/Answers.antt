@@ -1,6 +1,6 @@
 use Rattle.std.proofs.Common.{arith}
 use Rattle.reg_tree.proofs.Segments.{full_segments, rest_segments}
-use Rattle.reg_tree.proofs.bulk.segments_size.Goals as goal
+use Rattle.reg_tree.proofs.sizes.segments_size.Goals as goal
 
 pub returns-then-rest-eq0 : goal.returns-then-rest-eq0
 returns-then-rest-eq0 c =
