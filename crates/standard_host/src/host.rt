@@ -1,5 +1,6 @@
 //! The host over files and standard output.
 
+ghost use Rattle.std.specs.Prelude.{◌≡◌};
 ghost use Rattle.nt_edge.specs.Host.{IsWithinEnds};
 
 use crate::files::{FileFault, Files};
@@ -22,7 +23,11 @@ pub struct StandardHost<'a, F> {
 
 impl<'a, F: Files + Drop> StandardHost<'a, F> {
     /// The host over these files. Nothing is counted yet.
-    pub fn new(rt: &'a HostRuntime, files: F) -> StandardHost<'a, F> {
+    pub fn new(rt: &'a HostRuntime, files: F) -> StandardHost<'a, F>
+        ensures gets { result.gets ≡ 0 }
+        ensures reads { result.reads ≡ 0 }
+        ensures writes { result.writes ≡ 0 }
+    {
         StandardHost {
             rt,
             files,
