@@ -13,7 +13,8 @@ both false b e = absurd (false≢true e)
 
 -- ---- the front
 
-pub all_from : (p : ℕ → Bool) (xs : List ℕ) → ((i : ℕ) → i < length xs → p (get_or xs i 0) ≡ true) → list_all p xs ≡ true
+pub all_from : (p : ℕ → Bool) (xs : List ℕ) → ((i : ℕ) → i < length xs → p (get_or xs i 0) ≡ true)
+    → list_all p xs ≡ true
 all_from p [] each = refl
 all_from p (x ∷ xs) each = rw (each 0 (omega arith), all_from p xs (λ i lt. each (suc i) (omega arith))) refl
 
@@ -21,7 +22,8 @@ all_from p (x ∷ xs) each = rw (each 0 (omega arith), all_from p xs (λ i lt. e
 pub prefix_whole : (p : ℕ → Bool) (front rest : List ℕ) → list_all p front ≡ true
     → prefix_len p (front ++ rest) ≡ length front + prefix_len p rest
 prefix_whole p [] rest e = omega arith
-prefix_whole p (c ∷ front) rest e = let q = both (p c) (list_all p front) e in rw (q.0, prefix_whole p front rest q.1) (omega arith)
+prefix_whole p (c ∷ front) rest e = let q = both (p c) (list_all p front) e in
+    rw (q.0, prefix_whole p front rest q.1) (omega arith)
 
 -- a list of which each passes is its own front
 pub whole_front : (p : ℕ → Bool) (text : List ℕ) → list_all p text ≡ true → prefix_len p text ≡ length text
@@ -70,14 +72,16 @@ before_stop p text some =
     rw at (rw (get_or-reverse text (prefix_len p (reverse text)) 0 lt) at stop)
 
 -- a list less its end has none
-pub no_suffix : (p : ℕ → Bool) (text : List ℕ) (k : ℕ) → k ≡ length text - suffix_len p text → suffix_len p (take k text) ≡ 0
+pub no_suffix : (p : ℕ → Bool) (text : List ℕ) (k : ℕ) → k ≡ length text - suffix_len p text
+    → suffix_len p (take k text) ≡ 0
 no_suffix p text zero e = refl
 no_suffix p text (suc k) e =
     let stop : p (get_or text (suc k - 1) 0) ≡ false = rw e (before_stop p text (omega arith)) in
     suffix_len-take_no p text (suc k) 0 (omega arith) (omega arith) stop
 
 -- each element of the end passes
-pub all_behind : (p : ℕ → Bool) (text : List ℕ) (k : ℕ) → k ≡ length text - suffix_len p text → list_all p (drop k text) ≡ true
+pub all_behind : (p : ℕ → Bool) (text : List ℕ) (k : ℕ) → k ≡ length text - suffix_len p text
+    → list_all p (drop k text) ≡ true
 all_behind p text k e =
     all_from p (drop k text)
     (λ i lt.
@@ -92,14 +96,16 @@ all_behind p text k e =
     rw (get_or-drop k text i 0) (rw (get_or-reverse text m 0 within, back) at passes))
 
 -- a list that has no end that passes doesn't end with an element that does
-pub last_fails : (p : ℕ → Bool) (text front : List ℕ) (c : ℕ) → suffix_len p text ≡ 0 → text ≡ front ++ c ∷ [] → p c ≡ false
+pub last_fails : (p : ℕ → Bool) (text front : List ℕ) (c : ℕ) → suffix_len p text ≡ 0 → text ≡ front ++ c ∷ []
+    → p c ≡ false
 last_fails p text front c none is = by_test (p c) refl
   where
     back : suffix_len p text ≡ prefix_len p (c ∷ reverse front)
     back = ap (suffix_len p) is ∙ ap (prefix_len p) (reverse-append front (c ∷ []))
 
     by_test : (b : Bool) → p c ≡ b → b ≡ false
-    by_test true e = let some : prefix_len p (c ∷ reverse front) ≡ 1 + prefix_len p (reverse front) = rw e refl in absurd (omega (arith, back))
+    by_test true e = let some : prefix_len p (c ∷ reverse front) ≡ 1 + prefix_len p (reverse front) = rw e refl in
+        absurd (omega (arith, back))
     by_test false e = refl
 
 -- and the other way
@@ -112,7 +118,8 @@ no_end p (c ∷ text) ends =
     let cut : c ∷ text ≡ take (length text) (c ∷ text) ++ get_or (c ∷ text) (length text) 0 ∷ [] =
     sym all ∙ take_more (c ∷ text) (length text) 0 (omega arith) in
     ap (suffix_len p) (sym all)
-    ∙ suffix_len-take_no p (c ∷ text) (length text + 1) 0 (omega arith) (omega arith) (rw last (ends (take (length text) (c ∷ text)) (get_or (c ∷ text) (length text) 0) cut))
+    ∙ suffix_len-take_no p (c ∷ text) (length text + 1) 0 (omega arith) (omega arith)
+    (rw last (ends (take (length text) (c ∷ text)) (get_or (c ∷ text) (length text) 0) cut))
 
 all_back : (p : ℕ → Bool) (xs : List ℕ) → list_all p xs ≡ true → list_all p (reverse xs) ≡ true
 all_back p [] e = refl

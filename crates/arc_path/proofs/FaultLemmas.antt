@@ -27,7 +27,8 @@ record Faulty (pieces : List Piece) (e : Early) (text : List ℕ) : Type 0 where
   is : IsFaultIn pieces e.kind place text
   left : place + e.left ≡ length text
 
-here : (piece : Piece) (pieces : List Piece) (e : Early) (text : List ℕ) → Lacks piece e.kind text → e.left ≡ length text
+here : (piece : Piece) (pieces : List Piece) (e : Early) (text : List ℕ) → Lacks piece e.kind text
+    → e.left ≡ length text
     → Faulty (piece ∷ pieces) e text
 here piece pieces e text lacks left = record { place = 0; is = inl (lacks, refl); left = omega arith }
 
@@ -51,29 +52,35 @@ fails_by : {A : Type 0} (b : Bool) (x : A) (what : ArcFaultKind) (text : List �
     → cond b (Ok x) (fault_at what text) ≡ Err e → (b ≡ false) × (e.kind ≡ what) × (e.left ≡ length text)
 fails_by true x what text e h = absurd cc
 fails_by false x what text e h =
-    let same : e ≡ record { kind = what; left = length text } = cc in (refl, ap (λ (x : Early). x.kind) same, ap (λ (x : Early). x.left) same)
+    let same : e ≡ record { kind = what; left = length text } = cc in
+    (refl, ap (λ (x : Early). x.kind) same, ap (λ (x : Early). x.left) same)
 
 guards_by : {A : Type 0} (b : Bool) (x : A) (what : ArcFaultKind) (text : List ℕ) (e : Early)
     → cond b (fault_at what text) (Ok x) ≡ Err e → (b ≡ true) × (e.kind ≡ what) × (e.left ≡ length text)
 guards_by false x what text e h = absurd cc
 guards_by true x what text e h =
-    let same : e ≡ record { kind = what; left = length text } = cc in (refl, ap (λ (x : Early). x.kind) same, ap (λ (x : Early). x.left) same)
+    let same : e ≡ record { kind = what; left = length text } = cc in
+    (refl, ap (λ (x : Early). x.kind) same, ap (λ (x : Early). x.left) same)
 
 -- ---- words
 
-no_beginning : (word text : List ℕ) → str_eq_ignore_ascii_case (take (length word) text) word ≡ false → BeginsNot word text
+no_beginning : (word text : List ℕ) → str_eq_ignore_ascii_case (take (length word) text) word ≡ false
+    → BeginsNot word text
 no_beginning word text other name rest is named =
     let front : take (length word) text ≡ name =
     ap (take (length word)) is ∙ take_at name rest (length word) (same_length name word named) in
     false≢true (sym other ∙ ap (λ (t : List ℕ). str_eq_ignore_ascii_case t word) front ∙ named)
 
-word_lacks : (word text : List ℕ) (pieces : List Piece) (e : Early) → word_at word text ≡ Err e → Faulty (Name word ∷ pieces) e text
+word_lacks : (word text : List ℕ) (pieces : List Piece) (e : Early) → word_at word text ≡ Err e
+    → Faulty (Name word ∷ pieces) e text
 unfolding word_at
 word_lacks word text pieces e h =
-    let f = fails_by (str_eq_ignore_ascii_case (take (length word) text) word) (drop (length word) text) Word text e h in
+    let f = fails_by (str_eq_ignore_ascii_case (take (length word) text) word) (drop (length word) text)
+    Word text e h in
     here (Name word) pieces e text (f.1, no_beginning word text f.0) f.2
 
-word_stands : (word text rest : List ℕ) (pieces : List Piece) (e : Early) → word_at word text ≡ Ok rest → Faulty pieces e rest
+word_stands : (word text rest : List ℕ) (pieces : List Piece) (e : Early) → word_at word text ≡ Ok rest
+    → Faulty pieces e rest
     → Faulty (Name word ∷ pieces) e text
 word_stands word text rest pieces e h behind =
     let w = word_front word text rest h in there (Name word) pieces e text w.0 rest w.1 w.2 behind
@@ -100,7 +107,8 @@ record LacksNumber (radix most : ℕ) (text : List ℕ) (e : Early) : Type 0 whe
   none : HasNoNumber radix most text
   left_is : e.left ≡ length text
 
-number_lacks : (radix most : ℕ) (text : List ℕ) (e : Early) → number_at radix most text ≡ Err e → LacksNumber radix most text e
+number_lacks : (radix most : ℕ) (text : List ℕ) (e : Early) → number_at radix most text ≡ Err e
+    → LacksNumber radix most text e
 unfolding number_at
 number_lacks radix most text e h =
     let n : ℕ = digit_count radix text in
@@ -119,7 +127,8 @@ number_lacks radix most text e h =
       left_is = g.2;
     }
 
-number_behind : (radix most : ℕ) (text : List ℕ) (x : ℕ × List ℕ) → number_at radix most text ≡ Ok x → StartsNoDigit radix x.1
+number_behind : (radix most : ℕ) (text : List ℕ) (x : ℕ × List ℕ) → number_at radix most text ≡ Ok x
+    → StartsNoDigit radix x.1
 unfolding number_at
 number_behind radix most text x h =
     let n : ℕ = digit_count radix text in
@@ -152,10 +161,12 @@ item_lacks word text pieces e h =
     after (word_at word text) _ e P (λ bad. word_lacks word text _ e bad)
     (λ inside ok rest_h.
     word_stands word text inside _ e ok
-    (after (number_at 10 9 inside) _ e (Faulty (Digits 10 9 ∷ Name (codes ")") ∷ pieces) e inside) (λ bad. digits_lack 10 9 inside _ e bad)
+    (after (number_at 10 9 inside) _ e (Faulty (Digits 10 9 ∷ Name (codes ")") ∷ pieces) e inside)
+    (λ bad. digits_lack 10 9 inside _ e bad)
     (λ number ok rest_h.
     digits_stand 10 9 inside number _ e ok
-    (after (word_at (codes ")") number.1) _ e (Faulty (Name (codes ")") ∷ pieces) e number.1) (λ bad. word_lacks (codes ")") number.1 _ e bad) (λ rest ok rest_h. absurd cc) rest_h)) rest_h)) h
+    (after (word_at (codes ")") number.1) _ e (Faulty (Name (codes ")") ∷ pieces) e number.1)
+    (λ bad. word_lacks (codes ")") number.1 _ e bad) (λ rest ok rest_h. absurd cc) rest_h)) rest_h)) h
 
 item_stands : (word text : List ℕ) (x : ℕ × List ℕ) (pieces : List Piece) (e : Early) → item_at word text ≡ Ok x
     → Faulty pieces e x.1 → Faulty (item_pieces word pieces) e text
@@ -167,7 +178,8 @@ item_stands word text x pieces e h behind =
     let made : ℕ × List ℕ = (b.0.0, c.0) in
     let same : made ≡ x = cc in
     let rest : Faulty pieces e c.0 = subst (Faulty pieces e) (sym (ap (λ (y : ℕ × List ℕ). y.1) same)) behind in
-    word_stands word text a.0 _ e a.1 (digits_stand 10 9 a.0 b.0 _ e b.1 (word_stands (codes ")") b.0.1 c.0 pieces e c.1 rest))
+    word_stands word text a.0 _ e a.1
+    (digits_stand 10 9 a.0 b.0 _ e b.1 (word_stands (codes ")") b.0.1 c.0 pieces e c.1 rest))
 
 -- ---- the partition
 
@@ -192,18 +204,22 @@ counted_lacks text x pieces e ok h = by_test (eqb x.0 0) refl h
     by_test false some f =
         let n = number_front 10 9 text x ok in
         let one : 0 < x.0 = omega (arith, eqb-false x.0 0 some) in
-        there Counted _ e text n.0 x.1 n.1 (x.0, n.2, one, number_behind 10 9 text x ok) (word_lacks (codes ")") x.1 pieces e f)
+        there Counted _ e text n.0 x.1 n.1 (x.0, n.2, one, number_behind 10 9 text x ok)
+        (word_lacks (codes ")") x.1 pieces e f)
 
 partition_lacks : (text : List ℕ) (pieces : List Piece) (e : Early) → partition_at text ≡ Err e
     → Faulty (partition_pieces pieces) e text
 unfolding partition_at
 partition_lacks text pieces e h =
-    after (word_at (codes "partition(") text) _ e (Faulty (partition_pieces pieces) e text) (λ bad. word_lacks (codes "partition(") text _ e bad)
+    after (word_at (codes "partition(") text) _ e (Faulty (partition_pieces pieces) e text)
+    (λ bad. word_lacks (codes "partition(") text _ e bad)
     (λ inside ok rest_h.
     word_stands (codes "partition(") text inside _ e ok
-    (after (number_at 10 9 inside) _ e (Faulty (Counted ∷ Name (codes ")") ∷ pieces) e inside) (λ bad. let l = number_lacks 10 9 inside e bad in here Counted _ e inside (inl (l.kind_is, l.none)) l.left_is)
+    (after (number_at 10 9 inside) _ e (Faulty (Counted ∷ Name (codes ")") ∷ pieces) e inside)
+    (λ bad. let l = number_lacks 10 9 inside e bad in here Counted _ e inside (inl (l.kind_is, l.none)) l.left_is)
     (λ number ok rest_h.
-    after (cond (eqb number.0 0) (fault_at Partition inside) (word_at (codes ")") number.1)) (λ rest. Ok (number.0, rest)) e (Faulty (Counted ∷ Name (codes ")") ∷ pieces) e inside)
+    after (cond (eqb number.0 0) (fault_at Partition inside) (word_at (codes ")") number.1))
+    (λ rest. Ok (number.0, rest)) e (Faulty (Counted ∷ Name (codes ")") ∷ pieces) e inside)
     (λ bad. counted_lacks inside number pieces e ok bad) (λ rest ok rest_h. absurd cc) rest_h) rest_h)) h
 
 partition_stands : (text : List ℕ) (x : ℕ × List ℕ) (pieces : List Piece) (e : Early) → partition_at text ≡ Ok x
@@ -220,7 +236,8 @@ partition_stands text x pieces e h behind =
     let same : made ≡ x = cc in
     let rest : Faulty pieces e c.0 = subst (Faulty pieces e) (sym (ap (λ (y : ℕ × List ℕ). y.1) same)) behind in
     word_stands (codes "partition(") text a.0 _ e a.1
-    (there Counted _ e a.0 n.0 b.0.1 n.1 (b.0.0, n.2, one, number_behind 10 9 a.0 b.0 b.1) (word_stands (codes ")") b.0.1 c.0 pieces e d.1 rest))
+    (there Counted _ e a.0 n.0 b.0.1 n.1 (b.0.0, n.2, one, number_behind 10 9 a.0 b.0 b.1)
+    (word_stands (codes ")") b.0.1 c.0 pieces e d.1 rest))
 
 -- ---- the directory
 
@@ -229,7 +246,8 @@ unprintable : (c : ℕ) (text rest : List ℕ) (d n : ℕ) (e : Early) → c ≡
     → drop n text ≡ d ∷ rest → e.kind ≡ Tail → e.left ≡ length (drop n text) → Faulty [] e (c ∷ text)
 unprintable c text rest d n e slash count behind tail left =
     let front : List ℕ = take n text in
-    let few : length front ≡ n = ap (λ (k : ℕ). length (take k text)) count ∙ length-prefix_len is_printable text ∙ sym count in
+    let few : length front ≡ n =
+    ap (λ (k : ℕ). length (take k text)) count ∙ length-prefix_len is_printable text ∙ sym count in
     let parts : text ≡ front ++ d ∷ rest = sym (take-append-drop n text) ∙ ap (λ (t : List ℕ). front ++ t) behind in
     let printable : list_all is_printable front ≡ true =
     ap (λ (k : ℕ). list_all is_printable (take k text)) count ∙ front_passes is_printable text in
@@ -239,7 +257,19 @@ unprintable c text rest d n e slash count behind tail left =
     let more : length (drop n text) ≡ length (d ∷ rest) = ap length behind in
     record {
       place = n + 1;
-      is = (tail, inr (front, d, rest, ap (λ (k : ℕ). k ∷ text) slash ∙ ap (λ (t : List ℕ). 92 ∷ t) parts, printable, first_fails is_printable d rest none, omega arith));
+      is = (
+        tail,
+        inr (
+          front,
+          d,
+          rest,
+          ap (λ (k : ℕ). k ∷ text) slash
+              ∙ ap (λ (t : List ℕ). 92 ∷ t) parts,
+          printable,
+          first_fails is_printable d rest none,
+          omega arith,
+        ),
+      );
       left = omega arith;
     }
 
@@ -253,11 +283,14 @@ tail_lacks (c ∷ text) e h = by_test (is_backslash c) refl h
 
     by_rest : (t : List ℕ) → drop n text ≡ t → c ≡ 92 → n < length text → e.kind ≡ Tail → e.left ≡ length (drop n text)
         → Faulty [] e (c ∷ text)
-    by_rest [] none slash lt tail left = let empty : length (drop n text) ≡ 0 = ap length none in absurd (omega (arith, length-drop n text))
+    by_rest [] none slash lt tail left = let empty : length (drop n text) ≡ 0 = ap length none in
+        absurd (omega (arith, length-drop n text))
     by_rest (d ∷ rest) behind slash lt tail left = unprintable c text rest d n e slash refl behind tail left
 
     by_test : (b : Bool) → is_backslash c ≡ b
-        → cond (not b) (fault_at Tail (c ∷ text)) (cond (ltb n (length text)) (fault_at Tail (drop n text)) (Ok (without_last_backslashes text))) ≡ Err e → Faulty [] e (c ∷ text)
+        → cond (not b) (fault_at Tail (c ∷ text))
+        (cond (ltb n (length text)) (fault_at Tail (drop n text)) (Ok (without_last_backslashes text))) ≡ Err e
+        → Faulty [] e (c ∷ text)
     by_test true slash f =
         let g = guards_by (ltb n (length text)) (without_last_backslashes text) Tail (drop n text) e f in
         by_rest (drop n text) refl (eqb-true c 92 slash) (ltb-true _ _ g.0) g.1 g.2
@@ -271,7 +304,8 @@ tail_lacks (c ∷ text) e h = by_test (is_backslash c) refl h
 
 -- ---- the whole text
 
-other_kind : {A : Type 0} (b : Bool) (x : A) (r : Result A Early) (e : Early) → cond b (Ok x) r ≡ Err e → (b ≡ false) × (r ≡ Err e)
+other_kind : {A : Type 0} (b : Bool) (x : A) (r : Result A Early) (e : Early) → cond b (Ok x) r ≡ Err e
+    → (b ≡ false) × (r ≡ Err e)
 other_kind true x r e h = absurd cc
 other_kind false x r e h = (refl, h)
 
@@ -282,7 +316,8 @@ kind_lacks text e h =
     let multi = other_kind (str_eq_ignore_ascii_case (take 6 text) (codes "multi(")) (Multi, drop 6 text) _ e h in
     let scsi = other_kind (str_eq_ignore_ascii_case (take 5 text) (codes "scsi(")) (Scsi, drop 5 text) _ e multi.1 in
     let signature =
-    fails_by (str_eq_ignore_ascii_case (take 10 text) (codes "signature(")) (Signature, drop 10 text) Kind text e scsi.1 in
+    fails_by (str_eq_ignore_ascii_case (take 10 text) (codes "signature(")) (Signature, drop 10 text)
+    Kind text e scsi.1 in
     let none : (k : ArcKind) → BeginsNot (word_of k) text =
     λ k. elim k as (λ k. BeginsNot (word_of k) text) [
       | Multi ↦ no_beginning (codes "multi(") text multi.0
@@ -316,7 +351,8 @@ numbers_lack text e h =
     behind_kind text kind e ok
     (let radix : ℕ = radix_of kind.0 in
     let most : ℕ = most_of kind.0 in
-    after (number_at radix most kind.1) _ e (Faulty (pieces_of kind.0) e kind.1) (λ bad. digits_lack radix most kind.1 _ e bad)
+    after (number_at radix most kind.1) _ e (Faulty (pieces_of kind.0) e kind.1)
+    (λ bad. digits_lack radix most kind.1 _ e bad)
     (λ controller ok more.
     digits_stand radix most kind.1 controller _ e ok
     (after (word_at (codes ")") controller.1) _ e _ (λ bad. word_lacks (codes ")") controller.1 _ e bad)
@@ -328,9 +364,11 @@ numbers_lack text e h =
     (after (item_at (codes "rdisk(") disk.1) _ e _ (λ bad. item_lacks (codes "rdisk(") disk.1 _ e bad)
     (λ rdisk ok more.
     item_stands (codes "rdisk(") disk.1 rdisk _ e ok
-    (after (partition_at rdisk.1) _ e _ (λ bad. partition_lacks rdisk.1 [] e bad) (λ partition ok more. absurd cc) more)) more)) more)) more)) more)) h
+    (after (partition_at rdisk.1) _ e _ (λ bad. partition_lacks rdisk.1 [] e bad) (λ partition ok more. absurd cc)
+    more)) more)) more)) more)) more)) h
 
-numbers_stand : (text : List ℕ) (x : Numbers × List ℕ) (e : Early) → numbers_at text ≡ Ok x → Faulty [] e x.1 → FirstFault text e
+numbers_stand : (text : List ℕ) (x : Numbers × List ℕ) (e : Early) → numbers_at text ≡ Ok x → Faulty [] e x.1
+    → FirstFault text e
 unfolding numbers_at done
 numbers_stand text x e h tail =
     let a = bind_ok (kind_at text) _ x h in
@@ -361,7 +399,8 @@ unfolding parts_at
 parts_lack text e h =
     after (numbers_at text) _ e (FirstFault text e) (λ bad. numbers_lack text e bad)
     (λ numbers ok more.
-    after (directory_at numbers.1) _ e (FirstFault text e) (λ bad. numbers_stand text numbers e ok (tail_lacks numbers.1 e bad)) (λ dir ok rest. absurd cc) more) h
+    after (directory_at numbers.1) _ e (FirstFault text e)
+    (λ bad. numbers_stand text numbers e ok (tail_lacks numbers.1 e bad)) (λ dir ok rest. absurd cc) more) h
 
 pub first_fault : (text : List ℕ) (fault : ArcFault) → arc_of text ≡ Err fault → IsFirstFault fault text
 unfolding arc_of

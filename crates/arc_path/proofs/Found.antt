@@ -34,7 +34,8 @@ test_ok : {A : Type 0} (b : Bool) (d : Early) (x y : A) → cond b (Ok x) (Err d
 test_ok true d x y e = (refl, cc)
 test_ok false d x y e = absurd cc
 
-pub passed : {A : Type 0} (b : Bool) (d : Early) (r : Result A Early) (y : A) → cond b (Err d) r ≡ Ok y → (b ≡ false) × (r ≡ Ok y)
+pub passed : {A : Type 0} (b : Bool) (d : Early) (r : Result A Early) (y : A) → cond b (Err d) r ≡ Ok y
+    → (b ≡ false) × (r ≡ Ok y)
 passed true d r y e = absurd cc
 passed false d r y e = (refl, e)
 
@@ -113,7 +114,8 @@ lower_closing c e = grind (arith, ltb-true, ltb-false)
 
 only_closing : (name : List ℕ) → IsNamed (codes ")") name → name ≡ codes ")"
 only_closing [] e = absurd (false≢true e)
-only_closing (c ∷ []) e = ap (λ (d : ℕ). d ∷ []) (lower_closing c (eqb-true (to_ascii_lowercase c) 41 (both _ true e).0))
+only_closing (c ∷ []) e =
+    ap (λ (d : ℕ). d ∷ []) (lower_closing c (eqb-true (to_ascii_lowercase c) 41 (both _ true e).0))
 only_closing (c ∷ d ∷ name) e = absurd (false≢true (both (eqb (to_ascii_lowercase c) 41) false e).1)
 
 -- what stands behind a number: `)`, and the rest
@@ -129,9 +131,16 @@ item_of : (word : List ℕ) (radix most : ℕ) (text inside : List ℕ) (x : ℕ
 item_of word radix most text inside x rest name number closing =
     let name_text : List ℕ = name.0 in
     let number_text : List ℕ = number.0 in
-    let behind : inside ≡ number_text ++ (codes ")" ++ rest) = number.1 ∙ ap (λ (t : List ℕ). number_text ++ t) closing in
-    let whole : text ≡ name_text ++ (number_text ++ (codes ")" ++ rest)) = name.1 ∙ ap (λ (t : List ℕ). name_text ++ t) behind in
-    (name_text ++ (number_text ++ codes ")"), whole ∙ simp append_assoc, record { name = name_text; number = number_text; spelled = refl; named = name.2; numeral = number.2 })
+    let behind : inside ≡ number_text ++ (codes ")" ++ rest) =
+    number.1 ∙ ap (λ (t : List ℕ). number_text ++ t) closing in
+    let whole : text ≡ name_text ++ (number_text ++ (codes ")" ++ rest)) =
+    name.1 ∙ ap (λ (t : List ℕ). name_text ++ t) behind in (
+      name_text ++ (number_text ++ codes ")"),
+      whole
+          ∙ simp append_assoc,
+      record
+          { name = name_text; number = number_text; spelled = refl; named = name.2; numeral = number.2 },
+    )
 
 item_front : (word text : List ℕ) (x : ℕ × List ℕ) → item_at word text ≡ Ok x → Front (IsItem word 10 9 x.0) text x.1
 unfolding item_at done
@@ -141,7 +150,8 @@ item_front word text x e =
     let c = bind_ok (word_at (codes ")") b.0.1) (λ rest. Ok (b.0.0, rest)) x b.2 in
     let made : ℕ × List ℕ = (b.0.0, c.0) in
     subst (λ (y : ℕ × List ℕ). Front (IsItem word 10 9 y.0) text y.1) {x = made} (ok_is made x c.2)
-    (item_of word 10 9 text a.0 b.0 c.0 (word_front word text a.0 a.1) (number_front 10 9 a.0 b.0 b.1) (closing_behind b.0.1 c.0 c.1))
+    (item_of word 10 9 text a.0 b.0 c.0 (word_front word text a.0 a.1) (number_front 10 9 a.0 b.0 b.1)
+    (closing_behind b.0.1 c.0 c.1))
 
 partition_front : (text : List ℕ) (x : ℕ × List ℕ) → partition_at text ≡ Ok x
     → Front (IsItem (codes "partition(") 10 9 x.0) text x.1 × (0 < x.0)
@@ -152,18 +162,25 @@ partition_front text x e =
     let c = bind_ok (cond (eqb b.0.0 0) _ (word_at (codes ")") b.0.1)) (λ rest. Ok (b.0.0, rest)) x b.2 in
     let d = passed (eqb b.0.0 0) _ (word_at (codes ")") b.0.1) c.0 c.1 in
     let made : ℕ × List ℕ = (b.0.0, c.0) in
-    subst (λ (y : ℕ × List ℕ). Front (IsItem (codes "partition(") 10 9 y.0) text y.1 × (0 < y.0)) {x = made} (ok_is made x c.2)
-    (item_of (codes "partition(") 10 9 text a.0 b.0 c.0 (word_front (codes "partition(") text a.0 a.1) (number_front 10 9 a.0 b.0 b.1) (closing_behind b.0.1 c.0 d.1), not_zero b.0.0 d.0)
+    subst (λ (y : ℕ × List ℕ). Front (IsItem (codes "partition(") 10 9 y.0) text y.1 × (0 < y.0)) {x = made}
+    (ok_is made x c.2) (
+      item_of (codes "partition(") 10 9 text a.0 b.0 c.0 (word_front (codes "partition(") text a.0 a.1)
+          (number_front 10 9 a.0 b.0 b.1) (closing_behind b.0.1 c.0 d.1),
+      not_zero b.0.0 d.0,
+    )
 
 -- ---- the first word
 
-kind_is : (b : Bool) (kind : ArcKind) (k : ℕ) (text : List ℕ) (other : Result (ArcKind × List ℕ) Early) (x : ArcKind × List ℕ)
-    → str_eq_ignore_ascii_case (take k text) (word_of kind) ≡ b → (other ≡ Ok x → Front (IsNamed (word_of x.0)) text x.1)
+kind_is : (b : Bool) (kind : ArcKind) (k : ℕ) (text : List ℕ) (other : Result (ArcKind × List ℕ) Early)
+    (x : ArcKind × List ℕ)
+    → str_eq_ignore_ascii_case (take k text) (word_of kind) ≡ b
+    → (other ≡ Ok x → Front (IsNamed (word_of x.0)) text x.1)
     → cond b (Ok (kind, drop k text)) other ≡ Ok x
     → Front (IsNamed (word_of x.0)) text x.1
 unfolding done
 kind_is true kind k text other x is more e =
-    subst (λ (y : ArcKind × List ℕ). Front (IsNamed (word_of y.0)) text y.1) (ok_is (kind, drop k text) x e) (front_at (IsNamed (word_of kind)) k text (drop k text) refl is)
+    subst (λ (y : ArcKind × List ℕ). Front (IsNamed (word_of y.0)) text y.1) (ok_is (kind, drop k text) x e)
+    (front_at (IsNamed (word_of kind)) k text (drop k text) refl is)
 kind_is false kind k text other x is more e = more e
 
 pub kind_front : (text : List ℕ) (x : ArcKind × List ℕ) → kind_at text ≡ Ok x → Front (IsNamed (word_of x.0)) text x.1
@@ -199,7 +216,8 @@ numbers_front text x e =
     let radix : ℕ = radix_of a.0.0 in
     let most : ℕ = most_of a.0.0 in
     let controller =
-    item_of (word_of a.0.0) radix most text a.0.1 b.0 c.0 (kind_front text a.0 a.1) (number_front radix most a.0.1 b.0 b.1) (closing_behind b.0.1 c.0 c.1) in
+    item_of (word_of a.0.0) radix most text a.0.1 b.0 c.0 (kind_front text a.0 a.1)
+    (number_front radix most a.0.1 b.0 b.1) (closing_behind b.0.1 c.0 c.1) in
     let disk = item_front (codes "disk(") c.0 d.0 d.1 in
     let rdisk = item_front (codes "rdisk(") d.0.1 f.0 f.1 in
     let partition = partition_front f.0.1 g.0 g.1 in
@@ -212,7 +230,8 @@ numbers_front text x e =
       disk = disk.0;
       rdisk = rdisk.0;
       partition = partition.0.0;
-      spelled = controller.1 ∙ before controller.0 _ _ (disk.1 ∙ before disk.0 _ _ (rdisk.1 ∙ before rdisk.0 _ _ partition.0.1));
+      spelled = controller.1 ∙ before controller.0 _ _
+          (disk.1 ∙ before disk.0 _ _ (rdisk.1 ∙ before rdisk.0 _ _ partition.0.1));
       is_controller = controller.2;
       is_disk = disk.2;
       is_rdisk = rdisk.2;
@@ -234,7 +253,8 @@ found_dir : (text dir : List ℕ) (k : ℕ) → k ≡ length text - suffix_len i
     → list_all is_printable text ≡ true → IsBehindBackslash dir (92 ∷ text)
 found_dir text dir k at is all =
     let parts : text ≡ take k text ++ drop k text = sym (take-append-drop k text) in
-    let none : suffix_len is_backslash dir ≡ 0 = ap (suffix_len is_backslash) (sym is) ∙ no_suffix is_backslash text k at in
+    let none : suffix_len is_backslash dir ≡ 0 =
+    ap (suffix_len is_backslash) (sym is) ∙ no_suffix is_backslash text k at in
     let printable : (list_all is_printable (take k text) && list_all is_printable (drop k text)) ≡ true =
     sym (list_all-append is_printable (take k text) (drop k text)) ∙ ap (list_all is_printable) (sym parts) ∙ all in
     record {
@@ -250,7 +270,8 @@ unfolding directory_at done
 directory_front [] dir e = inl (sym (ok_is [] dir e), refl)
 directory_front (c ∷ text) dir e =
     let n : ℕ = prefix_len is_printable text in
-    let first = passed (not (is_backslash c)) _ (cond (ltb n (length text)) _ (Ok (without_last_backslashes text))) dir e in
+    let first = passed (not (is_backslash c)) _ (cond (ltb n (length text)) _ (Ok (without_last_backslashes text)))
+    dir e in
     let g = guard_ok (ltb n (length text)) _ (without_last_backslashes text) dir first.1 in
     let le : length text ≤ n = ltb-false _ _ g.0 in
     let all : list_all is_printable text ≡ true =
@@ -265,7 +286,8 @@ placed_ok : (text : List ℕ) (r : Result (Numbers × List ℕ) Early) (a : Arc)
 placed_ok text (Ok x) a e = (x, refl, cc)
 placed_ok text (Err f) a e = absurd cc
 
-parts_spelled : (n : Numbers) (dir text rest : List ℕ) → Items n text rest → IsDirectory dir rest → IsSpelled text (arc_from n dir)
+parts_spelled : (n : Numbers) (dir text rest : List ℕ) → Items n text rest → IsDirectory dir rest
+    → IsSpelled text (arc_from n dir)
 parts_spelled n dir text rest items is = record {
   controller = items.controller;
   disk = items.disk;
@@ -289,12 +311,14 @@ read_is_spelled text a e =
     let b = bind_ok (numbers_at text) _ p.0 p.1 in
     let c = bind_ok (directory_at b.0.1) _ p.0 b.2 in
     let made : Numbers × List ℕ = (b.0.0, c.0) in
-    subst (IsSpelled text) p.2 (subst (λ (y : Numbers × List ℕ). IsSpelled text (arc_from y.0 y.1)) {x = made} (ok_is made p.0 c.2)
+    subst (IsSpelled text) p.2
+    (subst (λ (y : Numbers × List ℕ). IsSpelled text (arc_from y.0 y.1)) {x = made} (ok_is made p.0 c.2)
     (parts_spelled b.0.0 c.0 text b.0.1 (numbers_front text b.0 b.1) (directory_front b.0.1 c.0 c.1)))
 
 -- ---- what is spelled is a path
 
-numeral_below : (radix most value : ℕ) (shown : List ℕ) → 2 ≤ radix → IsNumeral radix most value shown → value < radix ^ most
+numeral_below : (radix most value : ℕ) (shown : List ℕ) → 2 ≤ radix → IsNumeral radix most value shown
+    → value < radix ^ most
 numeral_below radix most value shown low is =
     let below : digits_value radix shown < radix ^ length shown = digits_value-lt radix shown is.digits in
     let up : radix ^ length shown ≤ radix ^ most = pow-le-pow_right (omega arith) is.few in
@@ -307,7 +331,8 @@ two_le_radix Scsi = omega arith
 two_le_radix Signature = omega arith
 
 -- a directory that ends with no `\` has no end to drop
-pub no_backslashes : (dir : List ℕ) → ((front : List ℕ) → dir ≡ front ++ codes "\\" → ⊥) → suffix_len is_backslash dir ≡ 0
+pub no_backslashes : (dir : List ℕ) → ((front : List ℕ) → dir ≡ front ++ codes "\\" → ⊥)
+    → suffix_len is_backslash dir ≡ 0
 no_backslashes dir ends =
     no_end is_backslash dir
     (λ front c is.

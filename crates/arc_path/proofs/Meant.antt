@@ -25,7 +25,8 @@ pub same_length : (name word : List ℕ) → IsNamed word name → length name �
 same_length [] [] e = refl
 same_length [] (d ∷ word) e = absurd (false≢true e)
 same_length (c ∷ name) [] e = absurd (false≢true e)
-same_length (c ∷ name) (d ∷ word) e = let same : length name ≡ length word = same_length name word (both (eqb (to_ascii_lowercase c) (to_ascii_lowercase d)) _ e).1 in omega arith
+same_length (c ∷ name) (d ∷ word) e = let same : length name ≡ length word =
+    same_length name word (both (eqb (to_ascii_lowercase c) (to_ascii_lowercase d)) _ e).1 in omega arith
 
 pub word_found : (word name rest : List ℕ) → IsNamed word name → word_at word (name ++ rest) ≡ Ok rest
 unfolding word_at
@@ -42,7 +43,8 @@ other_word : (d e k : ℕ) (ds es name rest : List ℕ) → eqb (to_ascii_lowerc
     → IsNamed (d ∷ ds) name
     → str_eq_ignore_ascii_case (take (suc k) (name ++ rest)) (e ∷ es) ≡ false
 other_word d e k ds es [] rest differ is = absurd (false≢true is)
-other_word d e k ds es (c ∷ name) rest differ is = rw (eqb-true (to_ascii_lowercase c) (to_ascii_lowercase d) (both _ _ is).0, differ) refl
+other_word d e k ds es (c ∷ name) rest differ is =
+    rw (eqb-true (to_ascii_lowercase c) (to_ascii_lowercase d) (both _ _ is).0, differ) refl
 
 -- so much of the text as another word has is the word's own beginning
 same_front : (k : ℕ) (name rest word other : List ℕ) → IsNamed word name → k ≤ length word
@@ -54,7 +56,8 @@ same_front (suc k) (c ∷ name) rest [] other is le = absurd (false≢true is)
 same_front (suc k) (c ∷ name) rest (d ∷ word) [] is le = refl
 same_front (suc k) (c ∷ name) rest (d ∷ word) (o ∷ other) is le =
     let q = both (eqb (to_ascii_lowercase c) (to_ascii_lowercase d)) _ is in
-    rw (eqb-true (to_ascii_lowercase c) (to_ascii_lowercase d) q.0, same_front k name rest word other q.1 (omega arith)) refl
+    rw (eqb-true (to_ascii_lowercase c) (to_ascii_lowercase d) q.0, same_front k name rest word other q.1 (omega arith))
+    refl
 
 pub kind_found : (k : ArcKind) (name rest : List ℕ) → IsNamed (word_of k) name → kind_at (name ++ rest) ≡ Ok (k, rest)
 unfolding kind_at
@@ -62,7 +65,12 @@ kind_found Multi name rest e =
     let n = same_length name (codes "multi(") e in rw (take_at name rest 6 n, e, drop_at name rest 6 n) refl
 kind_found Scsi name rest e =
     let n = same_length name (codes "scsi(") e in
-    rw (other_word 115 109 5 (codes "csi(") (codes "ulti(") name rest refl e, take_at name rest 5 n, e, drop_at name rest 5 n) refl
+    rw (
+      other_word 115 109 5 (codes "csi(") (codes "ulti(") name rest refl e,
+      take_at name rest 5 n,
+      e,
+      drop_at name rest 5 n,
+    ) refl
 kind_found Signature name rest e =
     let n = same_length name (codes "signature(") e in
     let no_multi = same_front 6 name rest (codes "signature(") (codes "multi(") e (omega arith) in
@@ -74,9 +82,11 @@ kind_found Signature name rest e =
 digits_counted : (radix : ℕ) (ds rest : List ℕ) → AllDigits radix ds → is_digit 41 radix ≡ false
     → prefix_len (λ c. is_digit c radix) (ds ++ 41 ∷ rest) ≡ length ds
 digits_counted radix [] rest all none = rw none refl
-digits_counted radix (d ∷ ds) rest all none = rw (lt-ltb _ _ all.0, digits_counted radix ds rest all.1 none) (omega arith)
+digits_counted radix (d ∷ ds) rest all none =
+    rw (lt-ltb _ _ all.0, digits_counted radix ds rest all.1 none) (omega arith)
 
-numeral_found : (radix most value : ℕ) (shown rest : List ℕ) → is_digit 41 radix ≡ false → IsNumeral radix most value shown
+numeral_found : (radix most value : ℕ) (shown rest : List ℕ) → is_digit 41 radix ≡ false
+    → IsNumeral radix most value shown
     → number_at radix most (shown ++ (codes ")" ++ rest)) ≡ Ok (value, codes ")" ++ rest)
 unfolding number_at
 numeral_found radix most value shown rest none is =
@@ -95,7 +105,11 @@ item_found : (word : List ℕ) (value : ℕ) (shown rest : List ℕ) → IsItem 
 unfolding item_at
 item_found word value shown rest is =
     ap (item_at word) (item_parts word 10 9 value shown rest is)
-    ∙ rw (word_found word is.name _ is.named, numeral_found 10 9 value is.number rest refl is.numeral, closing_found rest) refl
+    ∙ rw (
+      word_found word is.name _ is.named,
+      numeral_found 10 9 value is.number rest refl is.numeral,
+      closing_found rest,
+    ) refl
 
 partition_found : (value : ℕ) (shown rest : List ℕ) → IsItem (codes "partition(") 10 9 value shown → 0 < value
     → partition_at (shown ++ rest) ≡ Ok (value, rest)
@@ -103,7 +117,12 @@ unfolding partition_at
 partition_found value shown rest is some =
     let ne : eqb value 0 ≡ false = ne_eqb _ 0 (λ z. absurd (omega arith)) in
     ap partition_at (item_parts (codes "partition(") 10 9 value shown rest is)
-    ∙ rw (word_found (codes "partition(") is.name _ is.named, numeral_found 10 9 value is.number rest refl is.numeral, ne, closing_found rest) refl
+    ∙ rw (
+      word_found (codes "partition(") is.name _ is.named,
+      numeral_found 10 9 value is.number rest refl is.numeral,
+      ne,
+      closing_found rest,
+    ) refl
 
 no_digit : (k : ArcKind) → is_digit 41 (radix_of k) ≡ false
 no_digit Multi = refl
@@ -114,7 +133,8 @@ no_digit Signature = refl
 
 backslashes_print : (more : List ℕ) → list_all is_backslash more ≡ true → list_all is_printable more ≡ true
 backslashes_print [] e = refl
-backslashes_print (c ∷ more) e = let q = both (is_backslash c) (list_all is_backslash more) e in rw (eqb-true c 92 q.0, backslashes_print more q.1) refl
+backslashes_print (c ∷ more) e = let q = both (is_backslash c) (list_all is_backslash more) e in
+    rw (eqb-true c 92 q.0, backslashes_print more q.1) refl
 
 directory_behind : (dir more : List ℕ) → list_all is_backslash more ≡ true → list_all is_printable dir ≡ true
     → suffix_len is_backslash dir ≡ 0 → directory_at (92 ∷ (dir ++ more)) ≡ Ok dir
@@ -122,7 +142,11 @@ unfolding directory_at
 directory_behind dir more dropped printable none =
     let all : list_all is_printable (dir ++ more) ≡ true =
     list_all-append is_printable dir more ∙ rw (printable, backslashes_print more dropped) refl in
-    rw (whole_front is_printable (dir ++ more) all, le-ltb (length (dir ++ more)) (length (dir ++ more)) (omega arith), end_dropped is_backslash dir more dropped none) refl
+    rw (
+      whole_front is_printable (dir ++ more) all,
+      le-ltb (length (dir ++ more)) (length (dir ++ more)) (omega arith),
+      end_dropped is_backslash dir more dropped none,
+    ) refl
 
 no_directory : directory_at [] ≡ Ok []
 unfolding directory_at
@@ -136,7 +160,11 @@ directory_found dir shown (inr is) =
 -- ---- the whole text
 
 numbers_found : (text : List ℕ) (a : Arc) (is : IsSpelled text a)
-    → numbers_at text ≡ Ok (record { kind = a.kind; controller = a.controller; disk = a.disk; rdisk = a.rdisk; partition = a.partition }, is.directory)
+    → numbers_at text ≡ Ok (
+      record
+          { kind = a.kind; controller = a.controller; disk = a.disk; rdisk = a.rdisk; partition = a.partition },
+      is.directory,
+    )
 unfolding numbers_at
 numbers_found text a is =
     let radix : ℕ = radix_of a.kind in
@@ -168,10 +196,28 @@ eight_read n small =
     let g : (k : ℕ) → digit_value (digit_glyph false (k % 16)) ≡ k % 16 = λ k. glyph_value (k % 16) (omega arith) in
     let b : (k : ℕ) → digit_value (digit_glyph false (k % 16)) < 16 = λ k. rw (g k) (omega arith) in
     record {
-      digits = (b (n / 268435456), (b (n / 16777216), (b (n / 1048576), (b (n / 65536), (b (n / 4096), (b (n / 256), (b (n / 16), (b n, tt))))))));
+      digits = (
+        b (n / 268435456),
+        (
+          b (n / 16777216),
+          (
+            b (n / 1048576),
+            (b (n / 65536), (b (n / 4096), (b (n / 256), (b (n / 16), (b n, tt))))),
+          ),
+        ),
+      );
       some = omega arith;
       few = omega arith;
-      writes = rw (g (n / 268435456), g (n / 16777216), g (n / 1048576), g (n / 65536), g (n / 4096), g (n / 256), g (n / 16), g n) (omega arith);
+      writes = rw (
+        g (n / 268435456),
+        g (n / 16777216),
+        g (n / 1048576),
+        g (n / 65536),
+        g (n / 4096),
+        g (n / 256),
+        g (n / 16),
+        g n,
+      ) (omega arith);
     }
 
 decimal_read : (n : ℕ) → n < 10 ^ 9 → IsNumeral 10 9 n (decimal n)
@@ -185,7 +231,8 @@ number_text Multi n = decimal n
 number_text Scsi n = decimal n
 number_text Signature n = eight_digits n
 
-number_read : (k : ArcKind) (n : ℕ) → n < radix_of k ^ most_of k → IsNumeral (radix_of k) (most_of k) n (number_text k n)
+number_read : (k : ArcKind) (n : ℕ) → n < radix_of k ^ most_of k
+    → IsNumeral (radix_of k) (most_of k) n (number_text k n)
 unfolding number_text
 number_read Multi n small = decimal_read n small
 number_read Scsi n small = decimal_read n small
@@ -202,12 +249,17 @@ same_word Multi = refl
 same_word Scsi = refl
 same_word Signature = refl
 
-item_text : (word : List ℕ) (radix most value : ℕ) (digits : List ℕ) → IsNamed word word → IsNumeral radix most value digits
+item_text : (word : List ℕ) (radix most value : ℕ) (digits : List ℕ) → IsNamed word word
+    → IsNumeral radix most value digits
     → IsItem word radix most value (word ++ (digits ++ codes ")"))
-item_text word radix most value digits named is = record { name = word; number = digits; spelled = refl; named = named; numeral = is }
+item_text word radix most value digits named is =
+    record { name = word; number = digits; spelled = refl; named = named; numeral = is }
 
 parts_text : (k : ArcKind) (c d r n : ℕ) (dir : List ℕ) → first_text k c ++ numbers_text d r n ++ directory_text dir
-    ≡ (word_of k ++ (number_text k c ++ codes ")")) ++ ((codes "disk(" ++ (decimal d ++ codes ")")) ++ ((codes "rdisk(" ++ (decimal r ++ codes ")")) ++ ((codes "partition(" ++ (decimal n ++ codes ")")) ++ directory_text dir)))
+    ≡ (word_of k ++ (number_text k c ++ codes ")"))
+    ++ ((codes "disk(" ++ (decimal d ++ codes ")"))
+    ++ ((codes "rdisk(" ++ (decimal r ++ codes ")"))
+    ++ ((codes "partition(" ++ (decimal n ++ codes ")")) ++ directory_text dir)))
 parts_text k c d r n dir = rw (first_is k c) (simp append_assoc)
 
 ends_so : (dir front : List ℕ) → without_last_backslashes dir ≡ dir → dir ≡ front ++ codes "\\" → ⊥
@@ -241,10 +293,12 @@ text_spells a p =
       partition = codes "partition(" ++ (decimal a.partition ++ codes ")");
       directory = directory_text a.dir;
       spelled = parts_text k a.controller a.disk a.rdisk a.partition a.dir;
-      is_controller = item_text (word_of k) (radix_of k) (most_of k) a.controller digits (same_word k) (number_read k a.controller p.controller);
+      is_controller = item_text (word_of k) (radix_of k) (most_of k) a.controller digits (same_word k)
+          (number_read k a.controller p.controller);
       is_disk = item_text (codes "disk(") 10 9 a.disk (decimal a.disk) refl (decimal_read a.disk p.disk);
       is_rdisk = item_text (codes "rdisk(") 10 9 a.rdisk (decimal a.rdisk) refl (decimal_read a.rdisk p.rdisk);
-      is_partition = item_text (codes "partition(") 10 9 a.partition (decimal a.partition) refl (decimal_read a.partition p.partition);
+      is_partition = item_text (codes "partition(") 10 9 a.partition (decimal a.partition) refl
+          (decimal_read a.partition p.partition);
       some_partition = p.some_partition;
       is_directory = directory_is a.dir p.printable p.trimmed;
     }

@@ -25,15 +25,18 @@ trim_found text =
       back_blank = all_behind is_blank behind m refl;
       starts = λ c rest is.
           let begins : behind ≡ c ∷ (rest ++ drop m behind) = parts ∙ ap (λ (t : List ℕ). t ++ drop m behind) is in
-          first_fails is_blank c (rest ++ drop m behind) (ap (prefix_len is_blank) (sym begins) ∙ no_front is_blank text);
+          first_fails is_blank c (rest ++ drop m behind)
+          (ap (prefix_len is_blank) (sym begins) ∙ no_front is_blank text);
       ends = λ front c is. last_fails is_blank (take m behind) front c (no_suffix is_blank behind m refl) is;
     }
 
 -- the front blanks are dropped
-front_dropped : (front : List ℕ) (c : ℕ) (rest : List ℕ) → list_all is_blank front ≡ true → is_blank c ≡ false → without_front_blanks (front ++ c ∷ rest) ≡ c ∷ rest
+front_dropped : (front : List ℕ) (c : ℕ) (rest : List ℕ) → list_all is_blank front ≡ true → is_blank c ≡ false
+    → without_front_blanks (front ++ c ∷ rest) ≡ c ∷ rest
 front_dropped front c rest all none =
     let here : prefix_len is_blank (c ∷ rest) ≡ 0 = rw none refl in
-    let n : prefix_len is_blank (front ++ c ∷ rest) ≡ length front = prefix_whole is_blank front (c ∷ rest) all ∙ rw here (omega arith) in
+    let n : prefix_len is_blank (front ++ c ∷ rest) ≡ length front =
+    prefix_whole is_blank front (c ∷ rest) all ∙ rw here (omega arith) in
     drop_at front (c ∷ rest) _ (sym n)
 
 all_dropped : (text : List ℕ) → list_all is_blank text ≡ true → trimmed text ≡ []
@@ -41,15 +44,19 @@ all_dropped text all =
     let none : without_front_blanks text ≡ [] = drop_all _ text (omega (arith, whole_front is_blank text all)) in
     ap without_last_blanks none
 
-trim_between : (front inner back : List ℕ) → list_all is_blank front ≡ true → list_all is_blank back ≡ true → ((c : ℕ) (rest : List ℕ) → inner ≡ c ∷ rest → is_blank c ≡ false)
-    → ((front : List ℕ) (c : ℕ) → inner ≡ front ++ c ∷ [] → is_blank c ≡ false) → trimmed (front ++ (inner ++ back)) ≡ inner
-trim_between front [] back all_front all_back starts ends = all_dropped (front ++ back) (list_all-append is_blank front back ∙ rw (all_front, all_back) refl)
+trim_between : (front inner back : List ℕ) → list_all is_blank front ≡ true → list_all is_blank back ≡ true
+    → ((c : ℕ) (rest : List ℕ) → inner ≡ c ∷ rest → is_blank c ≡ false)
+    → ((front : List ℕ) (c : ℕ) → inner ≡ front ++ c ∷ [] → is_blank c ≡ false)
+    → trimmed (front ++ (inner ++ back)) ≡ inner
+trim_between front [] back all_front all_back starts ends =
+    all_dropped (front ++ back) (list_all-append is_blank front back ∙ rw (all_front, all_back) refl)
 trim_between front (c ∷ inner) back all_front all_back starts ends =
     ap without_last_blanks (front_dropped front c (inner ++ back) all_front (starts c inner refl))
     ∙ end_dropped is_blank (c ∷ inner) back all_back (no_end is_blank (c ∷ inner) ends)
 
 pub trim_read : (inner text : List ℕ) → IsBetweenBlanks inner text → trimmed text ≡ inner
-trim_read inner text is = ap trimmed is.spelled ∙ trim_between is.front inner is.back is.front_blank is.back_blank is.starts is.ends
+trim_read inner text is =
+    ap trimmed is.spelled ∙ trim_between is.front inner is.back is.front_blank is.back_blank is.starts is.ends
 
 -- ---- what a line says
 
@@ -68,8 +75,17 @@ line_says line e = record {
 }
 
 silent_by : (inner line : List ℕ) → says_something inner ≡ false → IsBetweenBlanks inner line → IsSilent line
-silent_by [] line e is = inl (ap (list_all is_blank) is.spelled ∙ list_all-append is_blank is.front is.back ∙ rw (is.front_blank, is.back_blank) refl)
-silent_by (c ∷ inner) line e is = inr (is.front, inner ++ is.back, is.front_blank, is.spelled ∙ ap (λ (d : ℕ). is.front ++ d ∷ (inner ++ is.back)) (by_test (eqb c 59) refl e))
+silent_by [] line e is = inl
+    (ap (list_all is_blank) is.spelled ∙ list_all-append is_blank is.front is.back
+    ∙ rw (is.front_blank, is.back_blank) refl)
+silent_by (c ∷ inner) line e is =
+    inr (
+      is.front,
+      inner ++ is.back,
+      is.front_blank,
+      is.spelled
+          ∙ ap (λ (d : ℕ). is.front ++ d ∷ (inner ++ is.back)) (by_test (eqb c 59) refl e),
+    )
   where
     by_test : (b : Bool) → eqb c 59 ≡ b → not b ≡ false → c ≡ 59
     by_test true same e = eqb-true c 59 same
@@ -79,11 +95,13 @@ pub said_found : (raw : List (List ℕ)) → AreSaid (said_lines raw) raw
 said_found [] = refl
 said_found (line ∷ raw) = by_test (says_something (trimmed line)) refl (said_found raw)
   where
-    by_test : (b : Bool) → says_something (trimmed line) ≡ b → AreSaid (said_lines raw) raw → AreSaid (cond b (trimmed line ∷ said_lines raw) (said_lines raw)) (line ∷ raw)
+    by_test : (b : Bool) → says_something (trimmed line) ≡ b → AreSaid (said_lines raw) raw
+        → AreSaid (cond b (trimmed line ∷ said_lines raw) (said_lines raw)) (line ∷ raw)
     by_test true e more = inl (trimmed line, said_lines raw, line_says line e, refl, more)
     by_test false e more = inr (silent_by (trimmed line) line e (trim_found line), more)
 
-says_so : (said : List ℕ) → 0 < length said → ((rest : List ℕ) → said ≡ codes ";" ++ rest → ⊥) → says_something said ≡ true
+says_so : (said : List ℕ) → 0 < length said → ((rest : List ℕ) → said ≡ codes ";" ++ rest → ⊥)
+    → says_something said ≡ true
 says_so [] some no_comment = absurd (omega arith)
 says_so (c ∷ said) some no_comment = by_test (eqb c 59) refl
   where
@@ -98,7 +116,8 @@ comment_taken (suc m) rest = refl
 silent_read : (line : List ℕ) → IsSilent line → says_something (trimmed line) ≡ false
 silent_read line (inl all) = ap says_something (all_dropped line all)
 silent_read line (inr h) =
-    let begins : without_front_blanks line ≡ 59 ∷ h.1 = ap without_front_blanks h.3 ∙ front_dropped h.0 59 h.1 h.2 refl in
+    let begins : without_front_blanks line ≡ 59 ∷ h.1 =
+    ap without_front_blanks h.3 ∙ front_dropped h.0 59 h.1 h.2 refl in
     ap (λ (t : List ℕ). says_something (without_last_blanks t)) begins ∙ comment_taken _ h.1
 
 pub said_read : (raw said : List (List ℕ)) → AreSaid said raw → said_lines raw ≡ said

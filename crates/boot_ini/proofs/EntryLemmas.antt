@@ -10,7 +10,8 @@ use Rattle.nt_bytes.specs.Text.{is_blank}
 use Rattle.boot_ini.specs.Entries.{is_switch, switches_in}
 
 no_blank : (text : List ℕ) → length text ≤ position_or_len is_blank text → All (λ c. is_blank c ≡ false) text
-no_blank text all = All-from_get_or (λ c. is_blank c ≡ false) text 0 (λ i lt. fails_before_first is_blank text i 0 (omega arith))
+no_blank text all = All-from_get_or (λ c. is_blank c ≡ false) text 0
+    (λ i lt. fails_before_first is_blank text i 0 (omega arith))
 
 -- a word is a switch or no part of the answer, and the rest comes behind it
 abbrev WithWord : List ℕ → List (List ℕ) → List (List ℕ)
@@ -25,18 +26,23 @@ next_by text false e =
     let none : after_first is_blank text ≡ [] = drop_all _ text (omega arith) in
     ap (filter is_switch) (slice_split_none is_blank text (no_blank text le)) ∙ rw (whole, none) refl
 
-pub next_word : (text : List ℕ) → switches_in text ≡ WithWord (before_first is_blank text) (switches_in (after_first is_blank text))
+pub next_word : (text : List ℕ)
+    → switches_in text ≡ WithWord (before_first is_blank text) (switches_in (after_first is_blank text))
 next_word text = next_by text (ltb (position_or_len is_blank text) (length text)) refl
 
 -- a word that is a switch was added
-pub switch_found : (text word behind : List ℕ) (found more total : List (List ℕ)) (b : Bool) → word ≡ before_first is_blank text → behind ≡ after_first is_blank text
-    → b ≡ is_switch word → b ≡ true → more ≡ found ++ word ∷ [] → found ++ switches_in text ≡ total → more ++ switches_in behind ≡ total
+pub switch_found : (text word behind : List ℕ) (found more total : List (List ℕ)) (b : Bool)
+    → word ≡ before_first is_blank text → behind ≡ after_first is_blank text
+    → b ≡ is_switch word → b ≡ true → more ≡ found ++ word ∷ [] → found ++ switches_in text ≡ total
+    → more ++ switches_in behind ≡ total
 switch_found text word behind found more total b is after test holds pushed so_far =
     let one : switches_in text ≡ word ∷ switches_in behind = next_word text ∙ rw (← is, ← after, ← test, holds) refl in
-    rw pushed (append_assoc found (word ∷ []) (switches_in behind)) ∙ ap (λ (xs : List (List ℕ)). found ++ xs) (sym one) ∙ so_far
+    rw pushed (append_assoc found (word ∷ []) (switches_in behind)) ∙ ap (λ (xs : List (List ℕ)). found ++ xs) (sym one)
+    ∙ so_far
 
 -- a word that is no switch was passed by
-pub word_passed : (text word behind : List ℕ) (found total : List (List ℕ)) (b : Bool) → word ≡ before_first is_blank text → behind ≡ after_first is_blank text
+pub word_passed : (text word behind : List ℕ) (found total : List (List ℕ)) (b : Bool)
+    → word ≡ before_first is_blank text → behind ≡ after_first is_blank text
     → b ≡ is_switch word → b ≡ false → found ++ switches_in text ≡ total → found ++ switches_in behind ≡ total
 word_passed text word behind found total b is after test fails so_far =
     let one : switches_in text ≡ switches_in behind = next_word text ∙ rw (← is, ← after, ← test, fails) refl in

@@ -37,7 +37,8 @@ pub record Says (said line : List ℕ) : Type 0 where
 
 -- the line says nothing: blanks alone, or `;` first behind them
 abbrev pub IsSilent : List ℕ → Type 0
-IsSilent line = (list_all is_blank line ≡ true) ⊎ ((front : List ℕ) × (rest : List ℕ) × (list_all is_blank front ≡ true) × (line ≡ front ++ (codes ";" ++ rest)))
+IsSilent line = (list_all is_blank line ≡ true)
+    ⊎ ((front : List ℕ) × (rest : List ℕ) × (list_all is_blank front ≡ true) × (line ≡ front ++ (codes ";" ++ rest)))
 
 -- what the lines say, one after the other
 abbrev pub AreSaid : List (List ℕ) → List (List ℕ) → Type 0

@@ -47,8 +47,10 @@ no_lf-bool false x y e f = f
 no_lf-digits_onto : (k n : ℕ) (acc : List ℕ) → has_no_lf acc ≡ true → has_no_lf (digits_onto k 10 false n acc) ≡ true
 no_lf-digits_onto zero n acc e = e
 no_lf-digits_onto (suc k) n acc e =
-    no_lf-bool (eqb (n / 10) 0) (digit_glyph false (n % 10) ∷ acc) (digits_onto k 10 false (n / 10) (digit_glyph false (n % 10) ∷ acc))
-    (joined _ _ (glyph (n % 10)) e) (no_lf-digits_onto k (n / 10) (digit_glyph false (n % 10) ∷ acc) (joined _ _ (glyph (n % 10)) e))
+    no_lf-bool (eqb (n / 10) 0) (digit_glyph false (n % 10) ∷ acc)
+    (digits_onto k 10 false (n / 10) (digit_glyph false (n % 10) ∷ acc))
+    (joined _ _ (glyph (n % 10)) e)
+    (no_lf-digits_onto k (n / 10) (digit_glyph false (n % 10) ∷ acc) (joined _ _ (glyph (n % 10)) e))
 
 no_lf-decimal : (n : ℕ) → has_no_lf (decimal n) ≡ true
 unfolding digits
@@ -60,7 +62,8 @@ no_lf-unit u = by_shape (is_printable u) refl
   where
     by_shape : (b : Bool) → is_printable u ≡ b → has_no_lf (cond b (u ∷ []) (escaped u)) ≡ true
     by_shape true e = joined _ _ (above_lf u (grind (arith, nat_tests))) refl
-    by_shape false e = joined _ _ (glyph (u / 4096)) (joined _ _ (glyph (u / 256 % 16)) (joined _ _ (glyph (u / 16 % 16)) (joined _ _ (glyph (u % 16)) refl)))
+    by_shape false e = joined _ _ (glyph (u / 4096))
+        (joined _ _ (glyph (u / 256 % 16)) (joined _ _ (glyph (u / 16 % 16)) (joined _ _ (glyph (u % 16)) refl)))
 
 no_lf-name : (units : List ℕ) → has_no_lf (name_text units) ≡ true
 no_lf-name [] = refl
@@ -86,7 +89,8 @@ body (LoadLine sequence recovered) = codes "load " ++ decimal sequence ++ codes 
 body (SetLine number on_good) = codes "set " ++ decimal number ++ codes " " ++ set_word on_good
 body (CommitLine what sequence) = codes "commit " ++ commit_word what ++ codes " " ++ decimal sequence
 body (SelectLine current default failed good) =
-    codes "select " ++ decimal current ++ codes " " ++ decimal default ++ codes " " ++ decimal failed ++ codes " " ++ decimal good
+    codes "select " ++ decimal current ++ codes " " ++ decimal default ++ codes " " ++ decimal failed ++ codes " "
+    ++ decimal good
 body (PhaseLine word) = codes "phase " ++ phase_word word
 body (TryLine name outcome) = codes "try " ++ name_text name ++ codes " " ++ try_word outcome
 body (UnmetLine name) = codes "unmet " ++ name_text name
@@ -187,24 +191,41 @@ with_blank a b e f = no_lf-append (a ++ codes " ") b (no_lf-append a (codes " ")
 
 pub no_lf-body : (l : Line) → has_no_lf (body l) ≡ true
 no_lf-body (StartLine number) = no_lf-append (codes "start ") (decimal number) refl (no_lf-decimal number)
-no_lf-body (EntryLine number path) = with_blank (codes "entry " ++ decimal number) (path_text path) (no_lf-append (codes "entry ") (decimal number) refl (no_lf-decimal number)) (no_lf-path path)
+no_lf-body (EntryLine number path) =
+    with_blank (codes "entry " ++ decimal number) (path_text path)
+    (no_lf-append (codes "entry ") (decimal number) refl (no_lf-decimal number)) (no_lf-path path)
 no_lf-body (LoadLine sequence recovered) =
-    with_blank (codes "load " ++ decimal sequence) (load_word recovered) (no_lf-append (codes "load ") (decimal sequence) refl (no_lf-decimal sequence)) (no_lf-bool recovered (codes "recovered") (codes "clean") refl refl)
+    with_blank (codes "load " ++ decimal sequence) (load_word recovered)
+    (no_lf-append (codes "load ") (decimal sequence) refl (no_lf-decimal sequence))
+    (no_lf-bool recovered (codes "recovered") (codes "clean") refl refl)
 no_lf-body (SetLine number on_good) =
-    with_blank (codes "set " ++ decimal number) (set_word on_good) (no_lf-append (codes "set ") (decimal number) refl (no_lf-decimal number)) (no_lf-bool on_good (codes "last-known-good") (codes "default") refl refl)
-no_lf-body (CommitLine what sequence) = with_blank (codes "commit " ++ commit_word what) (decimal sequence) (no_lf-append (codes "commit ") (commit_word what) refl (no_lf-commit what)) (no_lf-decimal sequence)
+    with_blank (codes "set " ++ decimal number) (set_word on_good)
+    (no_lf-append (codes "set ") (decimal number) refl (no_lf-decimal number))
+    (no_lf-bool on_good (codes "last-known-good") (codes "default") refl refl)
+no_lf-body (CommitLine what sequence) =
+    with_blank (codes "commit " ++ commit_word what) (decimal sequence)
+    (no_lf-append (codes "commit ") (commit_word what) refl (no_lf-commit what)) (no_lf-decimal sequence)
 no_lf-body (SelectLine current default failed good) =
-    with_blank (codes "select " ++ decimal current ++ codes " " ++ decimal default ++ codes " " ++ decimal failed) (decimal good)
+    with_blank (codes "select " ++ decimal current ++ codes " " ++ decimal default ++ codes " " ++ decimal failed)
+    (decimal good)
     (with_blank (codes "select " ++ decimal current ++ codes " " ++ decimal default) (decimal failed)
-    (with_blank (codes "select " ++ decimal current) (decimal default) (no_lf-append (codes "select ") (decimal current) refl (no_lf-decimal current)) (no_lf-decimal default)) (no_lf-decimal failed)) (no_lf-decimal good)
+    (with_blank (codes "select " ++ decimal current) (decimal default)
+    (no_lf-append (codes "select ") (decimal current) refl (no_lf-decimal current)) (no_lf-decimal default))
+    (no_lf-decimal failed)) (no_lf-decimal good)
 no_lf-body (PhaseLine word) = no_lf-append (codes "phase ") (phase_word word) refl (no_lf-phase word)
-no_lf-body (TryLine name outcome) = with_blank (codes "try " ++ name_text name) (try_word outcome) (no_lf-append (codes "try ") (name_text name) refl (no_lf-name name)) (no_lf-try outcome)
+no_lf-body (TryLine name outcome) =
+    with_blank (codes "try " ++ name_text name) (try_word outcome)
+    (no_lf-append (codes "try ") (name_text name) refl (no_lf-name name)) (no_lf-try outcome)
 no_lf-body (UnmetLine name) = no_lf-append (codes "unmet ") (name_text name) refl (no_lf-name name)
 no_lf-body LogonLine = refl
-no_lf-body (SaveRefusedLine full) = no_lf-append (codes "save refused ") (save_word full) refl (no_lf-bool full (codes "full") (codes "no-number") refl refl)
+no_lf-body (SaveRefusedLine full) =
+    no_lf-append (codes "save refused ") (save_word full) refl
+    (no_lf-bool full (codes "full") (codes "no-number") refl refl)
 no_lf-body EditOkLine = refl
 no_lf-body FlushNothingLine = refl
-no_lf-body (RefusedLine event why) = with_blank (codes "refused " ++ event_word event) (refused_word why) (no_lf-append (codes "refused ") (event_word event) refl (no_lf-event event)) (no_lf-refused why)
+no_lf-body (RefusedLine event why) =
+    with_blank (codes "refused " ++ event_word event) (refused_word why)
+    (no_lf-append (codes "refused ") (event_word event) refl (no_lf-event event)) (no_lf-refused why)
 no_lf-body (VerdictLine word) = no_lf-append (codes "verdict ") (verdict_word word) refl (no_lf-verdict word)
 no_lf-body EndLine = refl
 
@@ -213,7 +234,8 @@ no_lf-body EndLine = refl
 abbrev is_lf : ℕ → Bool
 is_lf c = c == 10
 
-split_line : (line rest : List ℕ) → has_no_lf line ≡ true → slice_split is_lf (line ++ 10 ∷ rest) ≡ line ∷ slice_split is_lf rest
+split_line : (line rest : List ℕ) → has_no_lf line ≡ true
+    → slice_split is_lf (line ++ 10 ∷ rest) ≡ line ∷ slice_split is_lf rest
 split_line [] rest e = refl
 split_line (c ∷ line) rest e =
     let p = both (is_no_lf c) (has_no_lf line) e in
@@ -241,7 +263,8 @@ abbrev told_before : Option Outcome → List Outcome → List Outcome
 told_before None more = more
 told_before (Some o) more = o ∷ more
 
-verdict_tells : (w : book.Verdict) (more : List Outcome) → verdict_outcome w more ≡ told_before (outcome_of (body (VerdictLine w))) more
+verdict_tells : (w : book.Verdict) (more : List Outcome)
+    → verdict_outcome w more ≡ told_before (outcome_of (body (VerdictLine w))) more
 verdict_tells book.Good more = refl
 verdict_tells book.GoodUnsaved more = refl
 verdict_tells book.Running more = refl
@@ -279,7 +302,8 @@ told_is : (o : Option Outcome) (more : List Outcome) → cons_option o more ≡ 
 told_is None more = refl
 told_is (Some o) more = refl
 
-filtered : (line : List ℕ) (more : List (List ℕ)) → filter_map outcome_of (line ∷ more) ≡ told_before (outcome_of line) (filter_map outcome_of more)
+filtered : (line : List ℕ) (more : List (List ℕ))
+    → filter_map outcome_of (line ∷ more) ≡ told_before (outcome_of line) (filter_map outcome_of more)
 filtered line more = told_is (outcome_of line) (filter_map outcome_of more)
 
 -- the text of lines, and a line in part behind it
@@ -287,7 +311,8 @@ front_of : (l : Line) (ls : List Line) (rest : List ℕ) → text_of (l ∷ ls) 
 front_of l ls rest = rw (text-body l) (simp append_assoc)
 
 -- how the disk operations ended, by the text of lines and of one more in part, is what the lines tell
-pub outcomes_of-text : (ls : List Line) (rest : List ℕ) → has_no_lf rest ≡ true → outcomes_of (text_of ls ++ rest) ≡ outcomes_in ls
+pub outcomes_of-text : (ls : List Line) (rest : List ℕ) → has_no_lf rest ≡ true
+    → outcomes_of (text_of ls ++ rest) ≡ outcomes_in ls
 unfolding outcomes_of
 outcomes_of-text [] rest e = ap (filter_map outcome_of) (whole-end rest e)
 outcomes_of-text (l ∷ ls) rest e =

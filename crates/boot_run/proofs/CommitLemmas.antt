@@ -31,20 +31,25 @@ use Rattle.boot_run.specs.declared.runner.Runner.{Runner}
 use Rattle.boot_run.proofs.DiskLemmas.{still_leaves, settled_loads, open_loads, still-off, left-off}
 
 -- the state that the session commits is the book's
-pub next_is : (m : RunState) (s : Session) (d : DiskState) → IsStored m s d → store.committed_state s ≡ next_state m s.tree
-next_is m s d live = λ i. record { tree = s.tree; sequence = (sym live.sequence i + 1) % 4294967296; version = sym live.version i }
+pub next_is : (m : RunState) (s : Session) (d : DiskState) → IsStored m s d
+    → store.committed_state s ≡ next_state m s.tree
+next_is m s d live = λ i. record
+    { tree = s.tree; sequence = (sym live.sequence i + 1) % 4294967296; version = sym live.version i }
 
 -- what the session's commit says, whatever its answer
 pub record Committed (s : Session) (d e : DiskState) : Type 0 where
-  pub crash : (before : HiveState) (dirty : Bool) → Loads d.held before dirty → EachCrash e (LoadsAsEither before (store.committed_state s))
+  pub crash : (before : HiveState) (dirty : Bool) → Loads d.held before dirty
+      → EachCrash e (LoadsAsEither before (store.committed_state s))
   pub history : e.history ≡ d.history
   pub counts : CountsGrow d e
 
-module _ (m : RunState) (next : RunState → Act) (what : CommitWord) (s : Session) (d e : DiskState) (live : IsStored m s d) (c : Committed s d e) where
+module _ (m : RunState) (next : RunState → Act) (what : CommitWord) (s : Session) (d e : DiskState)
+    (live : IsStored m s d) (c : Committed s d e) where
   pub commit_open : EachCrash e (MayLoad (open_between m.disk.settled (next_state m s.tree)))
   commit_open image crash =
       let P : HiveState → Type 0 = λ t. LoadsAsEither m.disk.settled t image in
-      open_loads m.disk.settled (next_state m s.tree) image (subst P (next_is m s d live) (c.crash m.disk.settled false live.loads image crash))
+      open_loads m.disk.settled (next_state m s.tree) image
+      (subst P (next_is m s d live) (c.crash m.disk.settled false live.loads image crash))
 
   pub commit_still : Still d e
   commit_still = still-by d e c.history c.counts
@@ -54,7 +59,8 @@ module _ (m : RunState) (next : RunState → Act) (what : CommitWord) (s : Sessi
   commit_memory x = breaks-silent (commit what s.tree m next) x d e commit_still commit_open
 
   -- the commit is done
-  module _ (after : Session) (number : ℕ) (is : after ≡ store.committed s) (raised : number ≡ next_number s.base.first) (none : e.flight ≡ []) (loads : Loads e.held (store.committed_state s) false) where
+  module _ (after : Session) (number : ℕ) (is : after ≡ store.committed s) (raised : number ≡ next_number s.base.first)
+      (none : e.flight ≡ []) (loads : Loads e.held (store.committed_state s) false) where
     commit_number : number ≡ (next_state m s.tree).sequence
     commit_number = raised ∙ ap (λ (t : HiveState). t.sequence) (next_is m s d live)
 
@@ -71,27 +77,33 @@ module _ (m : RunState) (next : RunState → Act) (what : CommitWord) (s : Sessi
       loads = commit_loads;
     }
 
-    pub commit_goes : (x y : Told) → Tells x y (CommitLine what number ∷ []) → Goes (play (commit what s.tree m next)) (play (next (committed_state m s.tree))) x y d e
+    pub commit_goes : (x y : Told) → Tells x y (CommitLine what number ∷ [])
+        → Goes (play (commit what s.tree m next)) (play (next (committed_state m s.tree))) x y d e
     commit_goes x y said =
         let r : Act = mark (Held s.tree) (next (committed_state m s.tree)) in
         let P : ℕ → Type 0 = λ n. Tells x y (CommitLine what n ∷ []) in
         goes-then (play (commit what s.tree m next)) (play r) (play (next (committed_state m s.tree))) x y y d e e
-        (goes-told (open_between m.disk.settled (next_state m s.tree)) (committed what s.tree m next) (CommitLine what (next_state m s.tree).sequence) Finished r x y d e
+        (goes-told (open_between m.disk.settled (next_state m s.tree)) (committed what s.tree m next)
+        (CommitLine what (next_state m s.tree).sequence) Finished r x y d e
         commit_still tt refl refl (subst P commit_number said))
         (goes-held s.tree (next (committed_state m s.tree)) y e)
 
-    pub commit_breaks : Stays next → (x : Told) (y : List ℕ) → SaysFront x.said y (line_text (CommitLine what number)) → Breaks (commit what s.tree m next) x y d e
+    pub commit_breaks : Stays next → (x : Told) (y : List ℕ) → SaysFront x.said y (line_text (CommitLine what number))
+        → Breaks (commit what s.tree m next) x y d e
     commit_breaks stays x y f =
         let r : Act = mark (Held s.tree) (next (committed_state m s.tree)) in
         let P : ℕ → Type 0 = λ n. SaysFront x.said y (line_text (CommitLine what n)) in
-        breaks-told (open_between m.disk.settled (next_state m s.tree)) (committed what s.tree m next) (CommitLine what (next_state m s.tree).sequence) Finished r x y d e
+        breaks-told (open_between m.disk.settled (next_state m s.tree)) (committed what s.tree m next)
+        (CommitLine what (next_state m s.tree).sequence) Finished r x y d e
         commit_still tt refl refl (subst P commit_number f) commit_open
         (λ image crash. stays (committed_state m s.tree) image refl
-        (still_leaves e (MayLoad (settled_at (next_state m s.tree))) none (settled_loads e.held (next_state m s.tree) commit_loads) image crash))
+        (still_leaves e (MayLoad (settled_at (next_state m s.tree))) none
+        (settled_loads e.held (next_state m s.tree) commit_loads) image crash))
 
   -- a stop, and its verdict: the start is over
   module _ (verdict : Verdict) (u : Outcome) (told : outcomes_in (VerdictLine verdict ∷ []) ≡ u ∷ [])
-      (is : committed what s.tree m next u ≡ end_with verdict false (opened_state m s.tree)) (f : DiskState) (off : f ≡ turned_off e)
+      (is : committed what s.tree m next u ≡ end_with verdict false (opened_state m s.tree)) (f : DiskState)
+      (off : f ≡ turned_off e)
       (cause : HasCause u (since_wake d) (tally_now e)) where
     stop_cause : HasCause u (since_wake d) (tally_now f)
     stop_cause = let P : DiskState → Type 0 = λ t. HasCause u (since_wake d) (tally_now t) in subst P (sym off) cause
@@ -99,21 +111,30 @@ module _ (m : RunState) (next : RunState → Act) (what : CommitWord) (s : Sessi
     pub stop_open : EachCrash f (MayLoad (open_between m.disk.settled (next_state m s.tree)))
     stop_open = left-off e f (MayLoad (open_between m.disk.settled (next_state m s.tree))) off commit_open
 
-    pub stop_goes : (x y : Told) → Tells x y (VerdictLine verdict ∷ []) → Goes (play (commit what s.tree m next)) (play (done (start_over false (opened_state m s.tree)))) x y d f
+    pub stop_goes : (x y : Told) → Tells x y (VerdictLine verdict ∷ [])
+        → Goes (play (commit what s.tree m next)) (play (done (start_over false (opened_state m s.tree)))) x y d f
     stop_goes x y said =
-        goes-told (open_between m.disk.settled (next_state m s.tree)) (committed what s.tree m next) (VerdictLine verdict) u
-        (done (start_over false (opened_state m s.tree))) x y d f (still-off d e f commit_still off) stop_cause told is said
+        goes-told (open_between m.disk.settled (next_state m s.tree)) (committed what s.tree m next)
+        (VerdictLine verdict) u
+        (done (start_over false (opened_state m s.tree))) x y d f (still-off d e f commit_still off)
+        stop_cause told is said
 
-    pub stop_breaks : (x : Told) (y : List ℕ) → SaysFront x.said y (line_text (VerdictLine verdict)) → Breaks (commit what s.tree m next) x y d f
+    pub stop_breaks : (x : Told) (y : List ℕ) → SaysFront x.said y (line_text (VerdictLine verdict))
+        → Breaks (commit what s.tree m next) x y d f
     stop_breaks x y front =
-        breaks-told (open_between m.disk.settled (next_state m s.tree)) (committed what s.tree m next) (VerdictLine verdict) u
-        (done (start_over false (opened_state m s.tree))) x y d f (still-off d e f commit_still off) stop_cause told is front stop_open stop_open
+        breaks-told (open_between m.disk.settled (next_state m s.tree)) (committed what s.tree m next)
+        (VerdictLine verdict) u
+        (done (start_over false (opened_state m s.tree))) x y d f (still-off d e f commit_still off)
+        stop_cause told is front stop_open stop_open
 
 -- the runner counts the state in which a start is over
 pub counts_over : (m n : RunState) (r r' : Runner) → Counts m r → n.machine ≡ m.machine → n.starts ≡ m.starts
     → r'.machine ≡ ended false r.machine → r'.starts ≡ r.starts → Counts (start_over false n) r'
 counts_over m n r r' counts machine starts over kept =
-    record { machine = ap (ended false) (machine ∙ counts.machine) ∙ sym over; starts = starts ∙ counts.starts ∙ sym kept }
+    record {
+      machine = ap (ended false) (machine ∙ counts.machine) ∙ sym over;
+      starts = starts ∙ counts.starts ∙ sym kept;
+    }
 
 -- ---- that the disk loads, whatever it wakes up with
 
@@ -126,9 +147,11 @@ commit_down s d e f loads c off =
     let P : DiskState → Type 0 = λ t. IsDown t in
     subst P (sym off) (record {
       off = refl;
-      loads = λ image crash. either_any loads.0.state (store.committed_state s) image (c.crash loads.0.state loads.0.dirty loads.1 image crash);
+      loads = λ image crash. either_any loads.0.state (store.committed_state s) image
+          (c.crash loads.0.state loads.0.dirty loads.1 image crash);
     })
 
 pub loads_down : (d f : DiskState) → d.flight ≡ [] → LoadsAny d.held → f ≡ turned_off d → IsDown f
 loads_down d f none loads off =
-    let P : DiskState → Type 0 = λ t. IsDown t in subst P (sym off) (record { off = refl; loads = still_leaves d LoadsAny none loads })
+    let P : DiskState → Type 0 = λ t. IsDown t in
+    subst P (sym off) (record { off = refl; loads = still_leaves d LoadsAny none loads })

@@ -32,7 +32,8 @@ next_rises n h = ⊎_elim (λ e. inr (omega arith)) (λ l. inl (omega arith)) (e
 next_no_less : (n : ℕ) → n ≤ 18446744073709551615 → NoLess n (next n)
 next_no_less n h = no_less-bounded n (next n) (omega arith) (omega arith)
 
-goes-cut : (r : Act) (x : Told) (d f : DiskState) → IsBounded d → f ≡ turned_off (cut_off d) → Goes (play (mark Cuts r)) (play r) x x d f
+goes-cut : (r : Act) (x : Told) (d f : DiskState) → IsBounded d → f ≡ turned_off (cut_off d)
+    → Goes (play (mark Cuts r)) (play r) x x d f
 goes-cut r x d f bounded is =
     let P : DiskState → Type 0 = λ t. Goes (play (mark Cuts r)) (play r) x x d t in
     subst P (sym is) (record {
@@ -55,42 +56,51 @@ goes-cut r x d f bounded is =
     })
 
 -- the power is cut, and the verdict is told or not
-told_plays : {E : Type 0} → (result : Result (Unit {0}) E) (m : RunState) (r' : Runner) (x y : Told) (f : DiskState) → HasCause PowerCut (since_wake f) (tally_now f)
+told_plays : {E : Type 0} → (result : Result (Unit {0}) E) (m : RunState) (r' : Runner) (x y : Told) (f : DiskState)
+    → HasCause PowerCut (since_wake f) (tally_now f)
     → Counts (start_over false m) r' → EachCrash f (MayLoad m.disk) → TellsOr (VerdictLine book.Cut) x y result
     → PlaysOr (ask m.disk (λ outcome. end_with book.Cut false m)) x y f f result (OffLeft r' f)
 told_plays (Ok v) m r' x y f cause counts left said =
     let act : Outcome → Act = λ outcome. end_with book.Cut false m in (
       done (start_over false m),
       (
-        goes-told m.disk act (VerdictLine book.Cut) PowerCut (done (start_over false m)) x y f f (still f) cause refl refl said,
+        goes-told m.disk act (VerdictLine book.Cut) PowerCut (done (start_over false m)) x y f f (still f)
+            cause refl refl said,
         here_turn (start_over false m) r' f None counts left,
       ),
     )
 told_plays (Err e) m r' x y f cause counts left said =
     let act : Outcome → Act = λ outcome. end_with book.Cut false m in
-    breaks-told m.disk act (VerdictLine book.Cut) PowerCut (done (start_over false m)) x y.said f f (still f) cause refl refl said left left
+    breaks-told m.disk act (VerdictLine book.Cut) PowerCut (done (start_over false m)) x y.said f f (still f)
+    cause refl refl said left left
 
 -- a cut has its cause, the count that rose
-cut_cause : (d f : DiskState) → IsBounded d → IsMarked d → f ≡ turned_off (cut_off d) → HasCause PowerCut (since_wake f) (tally_now f)
+cut_cause : (d f : DiskState) → IsBounded d → IsMarked d → f ≡ turned_off (cut_off d)
+    → HasCause PowerCut (since_wake f) (tally_now f)
 cut_cause d f bounded marked is =
     let P : DiskState → Type 0 = λ t. HasCause PowerCut (since_wake t) (tally_now t) in
     subst P (sym is) (rises-since (since_wake d).cuts d.cuts (next d.cuts) marked.cuts (next_rises d.cuts bounded.cuts))
 
-pub cut_plays : {E : Type 0} → (result : Result (Unit {0}) E) (m : RunState) (s : Session) (r r' : Runner) (x y : Told) (d e f : DiskState) → IsBounded d → IsUp s d → IsLive m s d → Counts m r
-    → e ≡ cut_off d → f ≡ turned_off e → r'.machine ≡ ended false r.machine → r'.starts ≡ r.starts → TellsOr (VerdictLine book.Cut) x y result
+pub cut_plays : {E : Type 0}
+    → (result : Result (Unit {0}) E) (m : RunState) (s : Session) (r r' : Runner) (x y : Told) (d e f : DiskState)
+    → IsBounded d → IsUp s d → IsLive m s d → Counts m r
+    → e ≡ cut_off d → f ≡ turned_off e → r'.machine ≡ ended false r.machine → r'.starts ≡ r.starts
+    → TellsOr (VerdictLine book.Cut) x y result
     → PlaysOr (cut_act m) x y d f result (OffLeft r' f)
 cut_plays result m s r r' x y d e f bounded up live counts is off machine starts said =
     let all : f ≡ turned_off (cut_off d) = off ∙ ap turned_off is in
     let Q : DiskState → Type 0 = λ t. EachCrash t (MayLoad m.disk) in
     let left : EachCrash f (MayLoad m.disk) = subst Q (sym all) (live_left m s d up live) in
-    let over : Counts (start_over false m) r' = record { machine = ap (ended false) counts.machine ∙ sym machine; starts = counts.starts ∙ sym starts } in
+    let over : Counts (start_over false m) r' =
+    record { machine = ap (ended false) counts.machine ∙ sym machine; starts = counts.starts ∙ sym starts } in
     let rest : Act = ask m.disk (λ outcome. end_with book.Cut false m) in
     plays-then result (OffLeft r' f) (cut_act m) rest x x y d f f (goes-cut rest x d f bounded all)
     (told_plays result m r' x y f (cut_cause d f bounded up.marked all) over left said)
 
 -- ---- orders
 
-pub armed_goes : (arming : Arming) (m : RunState) (x : Told) (d e : DiskState) → e ≡ armed arming d → (a : Act) × (Goes (play (arm_act arming m)) (play a) x x d e × (a ≡ done m))
+pub armed_goes : (arming : Arming) (m : RunState) (x : Told) (d e : DiskState) → e ≡ armed arming d
+    → (a : Act) × (Goes (play (arm_act arming m)) (play a) x x d e × (a ≡ done m))
 armed_goes arming m x d e is =
     let P : DiskState → Type 0 = λ t. Goes (play (arm_act arming m)) (play (done m)) x x d t in (
       done m,
@@ -117,7 +127,8 @@ armed_goes arming m x d e is =
       ),
     )
 
-pub armed_breaks : (arming : Arming) (m : RunState) (x : Told) (d e : DiskState) → e ≡ d → EachCrash d (MayLoad m.disk) → Breaks (arm_act arming m) x x.said d e
+pub armed_breaks : (arming : Arming) (m : RunState) (x : Told) (d e : DiskState) → e ≡ d → EachCrash d (MayLoad m.disk)
+    → Breaks (arm_act arming m) x x.said d e
 armed_breaks arming m x d e is left =
     let P : DiskState → Type 0 = λ t. Breaks (arm_act arming m) x x.said d t in
     subst P (sym is) (breaks-silent (arm_act arming m) x d d (still d) left)

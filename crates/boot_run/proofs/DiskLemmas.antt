@@ -25,14 +25,27 @@ still_leaves d P none here c crash =
 -- an image that loads clean as a state is one that the disk may load as
 pub settled_loads : (image : Image) (s : HiveState) → Loads image s false → MayLoad (settled_at s) image
 settled_loads image s loads =
-    record { woken = record { state = s; dirty = false }; loads = loads; possible = record { state = inl refl; dirty = refl } }
+    record {
+      woken = record { state = s; dirty = false };
+      loads = loads;
+      possible = record { state = inl refl; dirty = refl };
+    }
 
 -- the same of either state of an open change
-pub open_loads : (before after : HiveState) (image : Image) → LoadsAs image before ⊎ LoadsAs image after → MayLoad (open_between before after) image
+pub open_loads : (before after : HiveState) (image : Image) → LoadsAs image before ⊎ LoadsAs image after
+    → MayLoad (open_between before after) image
 open_loads before after image =
     λ (either : LoadsAs image before ⊎ LoadsAs image after). ⊎_elim
-    (λ l. record { woken = record { state = before; dirty = l.0 }; loads = l.1; possible = record { state = inl refl; dirty = tt } })
-    (λ l. record { woken = record { state = after; dirty = l.0 }; loads = l.1; possible = record { state = inr refl; dirty = tt } })
+    (λ l. record {
+      woken = record { state = before; dirty = l.0 };
+      loads = l.1;
+      possible = record { state = inl refl; dirty = tt };
+    })
+    (λ l. record {
+      woken = record { state = after; dirty = l.0 };
+      loads = l.1;
+      possible = record { state = inr refl; dirty = tt };
+    })
     either
 
 -- nothing more was done to a disk that is turned off
@@ -59,8 +72,10 @@ marked-by d e same counts m =
     let P : Tally → Type 0 = λ t. Later t [] (tally_now e) in
     let since : since_wake d ≡ since_wake e = ap (λ (h : History). since_wake (record d { history = h })) (sym same) in
     subst P since (record {
-      cuts = no_less-then (since_wake d).cuts d.cuts e.cuts m.cuts (no_less-bounded d.cuts e.cuts counts.cuts counts.cuts_end);
-      faults = no_less-then (since_wake d).faults d.faults e.faults m.faults (no_less-bounded d.faults e.faults counts.faults counts.faults_end);
+      cuts = no_less-then (since_wake d).cuts d.cuts e.cuts m.cuts
+          (no_less-bounded d.cuts e.cuts counts.cuts counts.cuts_end);
+      faults = no_less-then (since_wake d).faults d.faults e.faults m.faults
+          (no_less-bounded d.faults e.faults counts.faults counts.faults_end);
     })
 
 -- a disk that just woke up is counted as at its wake
@@ -76,5 +91,6 @@ marked-woken i d e is =
 pub cut-cause : (d e : DiskState) → IsMarked d → Rises d.cuts e.cuts → HasCause PowerCut (since_wake d) (tally_now e)
 cut-cause d e m r = rises-since (since_wake d).cuts d.cuts e.cuts m.cuts r
 
-pub fault-cause : (d e : DiskState) → IsMarked d → Rises d.faults e.faults → HasCause DeviceFault (since_wake d) (tally_now e)
+pub fault-cause : (d e : DiskState) → IsMarked d → Rises d.faults e.faults
+    → HasCause DeviceFault (since_wake d) (tally_now e)
 fault-cause d e m r = rises-since (since_wake d).faults d.faults e.faults m.faults r

@@ -27,16 +27,23 @@ use Rattle.boot_run.proofs.SaveLemmas.{live_machine, saved_may}
 
 -- ---- nothing is due
 
-pub not_due : (o : Option Start) (m : RunState) (next : RunState → Act) → option_map_or save_due o false ≡ false → next m ≡ save_where_due o m next
+pub not_due : (o : Option Start) (m : RunState) (next : RunState → Act) → option_map_or save_due o false ≡ false
+    → next m ≡ save_where_due o m next
 not_due None m next is = refl
 not_due (Some s) m next is = ap (λ (b : Bool). cond b (save s s.clone m next) (next m)) (sym is)
 
 -- the run goes on at once
-pub goes_on : (act : Act) (m : RunState) (next : RunState → Act) (r : Runner) (h : Session) (x : Told) (d : DiskState) → next m ≡ act → Counts m r → IsLive m h d
+pub goes_on : (act : Act) (m : RunState) (next : RunState → Act) (r : Runner) (h : Session) (x : Told) (d : DiskState)
+    → next m ≡ act → Counts m r → IsLive m h d
     → (rest : Act) × (Goes (play act) (play rest) x x d d × OnLeft next r d (Some h) rest)
 goes_on act m next r h x d is counts live =
-    let P : Act → Type 0 = λ a. Goes (play a) (play (next m)) x x d d in
-    (next m, (subst P is (goes-nothing (play (next m)) x d d (still d)), (m, (refl, record { counts = counts; by = live }))))
+    let P : Act → Type 0 = λ a. Goes (play a) (play (next m)) x x d d in (
+      next m,
+      (
+        subst P is (goes-nothing (play (next m)) x d d (still d)),
+        (m, (refl, record { counts = counts; by = live })),
+      ),
+    )
 
 -- ---- the clone is handed out
 
@@ -47,14 +54,21 @@ without_clone t = record t { clone = None }
 abbrev pub taken : RunState → RunState
 taken m = record m { machine = on_start without_clone m.machine }
 
-same_commit : (what : CommitWord) (tree : Tree) (m n : RunState) (next : RunState → Act) → open_between m.disk.settled (next_state m tree) ≡ open_between n.disk.settled (next_state n tree)
-    → ((o : Outcome) → committed what tree m next o ≡ committed what tree n next o) → commit what tree m next ≡ commit what tree n next
+same_commit : (what : CommitWord) (tree : Tree) (m n : RunState) (next : RunState → Act)
+    → open_between m.disk.settled (next_state m tree) ≡ open_between n.disk.settled (next_state n tree)
+    → ((o : Outcome) → committed what tree m next o ≡ committed what tree n next o)
+    → commit what tree m next ≡ commit what tree n next
 same_commit what tree m n next disk same = λ i. ask (disk i) (λ o. same o i)
 
-same_saved : (s : Start) (clone : Tree) (m : RunState) (next : RunState → Act) (r : Result SetChange ChangeStop) → saved_by s clone (taken m) next r ≡ saved_by s clone m next r
-same_saved s clone m next (Ok change) = ap (mark (Saved clone)) (same_commit SaveCommit change.tree (taken m) m (noting change.numbers s next) refl by_outcome)
+same_saved : (s : Start) (clone : Tree) (m : RunState) (next : RunState → Act) (r : Result SetChange ChangeStop)
+    → saved_by s clone (taken m) next r ≡ saved_by s clone m next r
+same_saved s clone m next (Ok change) =
+    ap (mark (Saved clone)) (same_commit SaveCommit change.tree (taken m) m (noting change.numbers s next)
+    refl by_outcome)
   where
-    by_outcome : (o : Outcome) → committed SaveCommit change.tree (taken m) (noting change.numbers s next) o ≡ committed SaveCommit change.tree m (noting change.numbers s next) o
+    by_outcome : (o : Outcome)
+        → committed SaveCommit change.tree (taken m) (noting change.numbers s next) o
+        ≡ committed SaveCommit change.tree m (noting change.numbers s next) o
     by_outcome Finished = refl
     by_outcome PowerCut = refl
     by_outcome DeviceFault = refl
@@ -65,9 +79,11 @@ same_saved s clone m next (Err Full) = refl
 pub record IsDue (o : Option Start) (m : RunState) (next : RunState → Act) (clone : Tree) : Type 0 where
   pub start : Start
   pub out : HandedOut (taken m) start
-  pub act : saved_by start clone (taken m) next (save_of (taken m).version (taken m).live clone) ≡ save_where_due o m next
+  pub act : saved_by start clone (taken m) next (save_of (taken m).version (taken m).live clone)
+      ≡ save_where_due o m next
 
-pub due : (o : Option Start) (m : RunState) (next : RunState → Act) (clone : Tree) → m.machine.start ≡ o → option_map_or save_due o false ≡ true → option_and_then (λ (s : Start). s.clone) o ≡ Some clone
+pub due : (o : Option Start) (m : RunState) (next : RunState → Act) (clone : Tree) → m.machine.start ≡ o
+    → option_map_or save_due o false ≡ true → option_and_then (λ (s : Start). s.clone) o ≡ Some clone
     → IsDue o m next clone
 due None m next clone at is has = absurd cc
 due (Some s) m next clone at is has = record {
@@ -79,7 +95,8 @@ due (Some s) m next clone at is has = record {
 }
 
 -- no clone is left
-pub due_none : (o : Option Start) (m : RunState) (next : RunState → Act) → option_and_then (λ (s : Start). s.clone) o ≡ None → next m ≡ save_where_due o m next
+pub due_none : (o : Option Start) (m : RunState) (next : RunState → Act)
+    → option_and_then (λ (s : Start). s.clone) o ≡ None → next m ≡ save_where_due o m next
 due_none None m next has = refl
 due_none (Some s) m next has = by_due (save_due s) refl
   where
@@ -96,17 +113,21 @@ pub taken_on : (o : Option Start) (tree : Tree) → IsRunningBy o tree → IsRun
 taken_on None tree h = h
 taken_on (Some s) tree h = record { there = h.there; current = h.current; few = h.few; clone = tt }
 
-pub clone_held : (o : Option Start) (tree clone : Tree) → IsRunningBy o tree → option_and_then (λ (s : Start). s.clone) o ≡ Some clone → HoldsKeys clone
+pub clone_held : (o : Option Start) (tree clone : Tree) → IsRunningBy o tree
+    → option_and_then (λ (s : Start). s.clone) o ≡ Some clone → HoldsKeys clone
 clone_held None tree clone h has = absurd h
 clone_held (Some s) tree clone h has = let P : Option Tree → Type 0 = λ c. IfSome c HoldsKeys in subst P has h.clone
 
-pub start_by : (change : Start → Start) (r r' : Runner) (d : DiskState) (h : Session) → ((o : Option Start) → IsRunningBy o h.tree → IsRunningBy (option_map change o) h.tree)
+pub start_by : (change : Start → Start) (r r' : Runner) (d : DiskState) (h : Session)
+    → ((o : Option Start) → IsRunningBy o h.tree → IsRunningBy (option_map change o) h.tree)
     → r'.machine ≡ on_start change r.machine → IsSound r d (Some h) → IsSound r' d (Some h)
 start_by change r r' d h keeps machine sound =
-    let P : MachineState → Type 0 = λ k. IsRunningBy k.start h.tree in (sound.0, subst P (sym machine) (keeps r.machine.start sound.1))
+    let P : MachineState → Type 0 = λ k. IsRunningBy k.start h.tree in
+    (sound.0, subst P (sym machine) (keeps r.machine.start sound.1))
 
 -- whatever is due, nothing of it is said yet
-pub due_may : (o : Option Start) (m : RunState) (next : RunState → Act) (c : Image) → m.disk.other ≡ None → Stays next → MayLoad m.disk c → MayLoad (play (save_where_due o m next) [] []).disk c
+pub due_may : (o : Option Start) (m : RunState) (next : RunState → Act) (c : Image) → m.disk.other ≡ None → Stays next
+    → MayLoad m.disk c → MayLoad (play (save_where_due o m next) [] []).disk c
 due_may None m next c none stays h = stays m c none h
 due_may (Some s) m next c none stays h = by_due (save_due s) s.clone
   where
@@ -129,12 +150,17 @@ logged_state m = with_machine (on_start logged m.machine) m
 
 -- the logon's line, and a save where it is due then
 pub logon_is : (o : Option Start) (tree : Tree) (m : RunState) → m.machine.start ≡ o → IsRunningBy o tree
-    → say LogonLine (save_where_due (logged_state m).machine.start (logged_state m) done) ≡ option_map_or (λ s. logon_act s m) m.machine.start (done m)
+    → say LogonLine (save_where_due (logged_state m).machine.start (logged_state m) done)
+    ≡ option_map_or (λ s. logon_act s m) m.machine.start (done m)
 logon_is None tree m at h = absurd h
 logon_is (Some s) tree m at h =
-    let P : Option Start → Type 0 = λ o. say LogonLine (save_where_due (option_map logged o) (with_machine (record m.machine { start = option_map logged o }) m) done) ≡ option_map_or (λ t. logon_act t m) o (done m) in
+    let P : Option Start → Type 0 =
+    λ o. say LogonLine (save_where_due (option_map logged o)
+    (with_machine (record m.machine { start = option_map logged o }) m) done)
+    ≡ option_map_or (λ t. logon_act t m) o (done m) in
     subst P (sym at) refl
 
-pub done_left : (r : Runner) (d : DiskState) (o : Option Session) (rest : Act) → OnLeft done r d o rest → TurnLeft r d o rest
+pub done_left : (r : Runner) (d : DiskState) (o : Option Session) (rest : Act) → OnLeft done r d o rest
+    → TurnLeft r d o rest
 done_left r d None rest h = h
 done_left r d (Some s) rest h = record { after = h.0; is = h.1.0; agrees = h.1.1 }

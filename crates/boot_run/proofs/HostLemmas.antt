@@ -20,7 +20,8 @@ keeps-then a b c p q = record { tells = q.tells ∙ p.tells; quiet = λ e. q.qui
 files-then : (a b c : HostState) → KeepsHost a b → KeepsFiles a b → KeepsFiles b c → KeepsFiles a c
 files-then a b c k p q = λ tells. q (k.tells ∙ tells) ∙ p tells
 
-counts-then : {T : Type 0} → (r : Result T RunStop) (a b c : HostState) → KeepsHost a b → KeepsCounts a b → CountsStop r b c → CountsStop r a c
+counts-then : {T : Type 0} → (r : Result T RunStop) (a b c : HostState) → KeepsHost a b → KeepsCounts a b
+    → CountsStop r b c → CountsStop r a c
 counts-then (Ok x) a b c k p q = record { reads = q.reads ∙ p.reads; writes = q.writes ∙ p.writes }
 counts-then (Err stops.Memory) a b c k p q = record { reads = q.reads ∙ p.reads; writes = q.writes ∙ p.writes }
 counts-then (Err stops.Write) a b c k p q =
@@ -28,7 +29,8 @@ counts-then (Err stops.Write) a b c k p q =
     record { reads = q.reads ∙ p.reads; writes = subst P p.writes q.writes; loud = λ e. q.loud (k.quiet e) }
 
 -- a call that is done, and one behind it
-pub leaves-then : {U : Type 0} → (r : Result U RunStop) (a b c : HostState) → StillHost a b → LeavesHost r b c → LeavesHost r a c
+pub leaves-then : {U : Type 0} → (r : Result U RunStop) (a b c : HostState) → StillHost a b → LeavesHost r b c
+    → LeavesHost r a c
 leaves-then r a b c p q = record {
   keeps = keeps-then a b c p.keeps q.keeps;
   files = files-then a b c p.keeps p.files q.files;
@@ -37,7 +39,12 @@ leaves-then r a b c p q = record {
 }
 
 pub still-host : (a : HostState) → StillHost a a
-still-host a = record { keeps = record { tells = refl; quiet = λ e. e }; files = λ e. refl; unasked = refl; counts = record { reads = refl; writes = refl } }
+still-host a = record {
+  keeps = record { tells = refl; quiet = λ e. e };
+  files = λ e. refl;
+  unasked = refl;
+  counts = record { reads = refl; writes = refl };
+}
 
 -- one more call that is done
 pub still-then : {T : Type 0} → (x : T) (a b c : HostState) → StillHost a b → LeavesHost (as_done x) b c → StillHost a c
@@ -48,7 +55,8 @@ still-then x a b c p q = record {
   counts = record { reads = q.counts.reads ∙ p.counts.reads; writes = q.counts.writes ∙ p.counts.writes };
 }
 
-counts_on : {T U : Type 0} → (r : Result T RunStop) (q : Result U RunStop) (e : RunStop) (a b : HostState) → r ≡ Err e → q ≡ Err e → CountsStop q a b → CountsStop r a b
+counts_on : {T U : Type 0} → (r : Result T RunStop) (q : Result U RunStop) (e : RunStop) (a b : HostState) → r ≡ Err e
+    → q ≡ Err e → CountsStop q a b → CountsStop r a b
 counts_on (Ok x) q e a b is was c = absurd cc
 counts_on (Err f) (Ok y) e a b is was c = absurd cc
 counts_on (Err stops.Write) (Err stops.Write) e a b is was c = c
@@ -57,5 +65,7 @@ counts_on (Err stops.Memory) (Err stops.Write) e a b is was c = absurd cc
 counts_on (Err stops.Memory) (Err stops.Memory) e a b is was c = c
 
 -- a refusal that is handed on
-pub leaves-on : {T U : Type 0} → (r : Result T RunStop) (q : Result U RunStop) (e : RunStop) (a b : HostState) → r ≡ Err e → q ≡ Err e → LeavesHost q a b → LeavesHost r a b
-leaves-on r q e a b is was h = record { keeps = h.keeps; files = h.files; unasked = h.unasked; counts = counts_on r q e a b is was h.counts }
+pub leaves-on : {T U : Type 0} → (r : Result T RunStop) (q : Result U RunStop) (e : RunStop) (a b : HostState)
+    → r ≡ Err e → q ≡ Err e → LeavesHost q a b → LeavesHost r a b
+leaves-on r q e a b is was h =
+    record { keeps = h.keeps; files = h.files; unasked = h.unasked; counts = counts_on r q e a b is was h.counts }

@@ -31,11 +31,13 @@ use Rattle.boot_run.specs.Agrees.{IsDown, LoadsAny, IsLive}
 use Rattle.boot_run.proofs.DiskLemmas.{still_leaves, settled_loads, still-off, left-off}
 
 -- an image that loads has no fault
-pub no_fault : (image : Image) (state : HiveState) (dirty : Bool) (fault : HiveFault) → Loads image state dirty → LoadFault image fault → ⊥
+pub no_fault : (image : Image) (state : HiveState) (dirty : Bool) (fault : HiveFault) → Loads image state dirty
+    → LoadFault image fault → ⊥
 no_fault = load-or-fault one_list (λ bins fault is fails. not_both (spelled 0 bins) bins fault is refl fails)
 
 -- the disk woke up
-pub goes-wake : (disk : Possible) (next : Woken → Act) (w : Woken) (i : Image) (x : Told) (d e : DiskState) → e ≡ woken i d → Loads i w.state w.dirty → IsPossible disk w
+pub goes-wake : (disk : Possible) (next : Woken → Act) (w : Woken) (i : Image) (x : Told) (d e : DiskState)
+    → e ≡ woken i d → Loads i w.state w.dirty → IsPossible disk w
     → Goes (play (wake disk next)) (play (next w)) x x d e
 goes-wake disk next w i x d e is loads possible =
     let P : DiskState → Type 0 = λ t. Goes (play (wake disk next)) (play (next w)) x x d t in
@@ -66,18 +68,25 @@ pub record Loaded (i : Image) (d d1 e : DiskState) : Type 0 where
   pub history : e.history ≡ d1.history
   pub counts : CountsGrow d1 e
 
-module _ (m : RunState) (next : RunState → Act) (i : Image) (d d1 e : DiskState) (may : MayLoad m.disk i) (c : Loaded i d d1 e) where
+module _ (m : RunState) (next : RunState → Act) (i : Image) (d d1 e : DiskState) (may : MayLoad m.disk i)
+    (c : Loaded i d d1 e) where
   pub load_still : Still d1 e
   load_still = still-by d1 e c.history c.counts
 
   pub load_may : EachCrash e (MayLoad (woken_at may.woken))
   load_may image crash =
       let l = c.crash may.woken.state may.woken.dirty may.loads image crash in
-      record { woken = record { state = may.woken.state; dirty = l.0 }; loads = l.1; possible = record { state = inl refl; dirty = tt } }
+      record {
+        woken = record { state = may.woken.state; dirty = l.0 };
+        loads = l.1;
+        possible = record { state = inl refl; dirty = tt };
+      }
 
-  pub load_begins : (x : Told) → Goes (play (load m next)) (play (ask (woken_at may.woken) (loaded m next may.woken))) x x d d1
+  pub load_begins : (x : Told)
+      → Goes (play (load m next)) (play (ask (woken_at may.woken) (loaded m next may.woken))) x x d d1
   load_begins x =
-      goes-then (play (load m next)) (play (acts.woken m next may.woken)) (play (ask (woken_at may.woken) (loaded m next may.woken))) x x x d d1 d1
+      goes-then (play (load m next)) (play (acts.woken m next may.woken))
+      (play (ask (woken_at may.woken) (loaded m next may.woken))) x x x d d1 d1
       (goes-wake m.disk (acts.woken m next) may.woken i x d d1 c.woke may.loads may.possible)
       (goes-held may.woken.state.tree (ask (woken_at may.woken) (loaded m next may.woken)) x d1)
 
@@ -87,7 +96,8 @@ module _ (m : RunState) (next : RunState → Act) (i : Image) (d d1 e : DiskStat
       (breaks-silent (ask (woken_at may.woken) (loaded m next may.woken)) x d1 e load_still load_may)
 
   -- the load is done
-  module _ (s : Session) (dirty : Bool) (exact : Loads i (store.loaded_state s) dirty) (unchanged : s.changed ≡ false) (none : e.flight ≡ [])
+  module _ (s : Session) (dirty : Bool) (exact : Loads i (store.loaded_state s) dirty) (unchanged : s.changed ≡ false)
+      (none : e.flight ≡ [])
       (loads : Loads e.held (store.loaded_state s) false) where
     same : (may.woken.state ≡ store.loaded_state s) × (may.woken.dirty ≡ dirty)
     same = one-load one_list i may.woken.state (store.loaded_state s) may.woken.dirty dirty may.loads exact
@@ -105,34 +115,43 @@ module _ (m : RunState) (next : RunState → Act) (i : Image) (d d1 e : DiskStat
       loads = load_loads;
     }
 
-    load_line : (number : ℕ) → number ≡ s.base.first → LoadLine number dirty ≡ LoadLine may.woken.state.sequence may.woken.dirty
+    load_line : (number : ℕ) → number ≡ s.base.first
+        → LoadLine number dirty ≡ LoadLine may.woken.state.sequence may.woken.dirty
     load_line number is =
-        ap (λ (n : ℕ). LoadLine n dirty) (is ∙ sym (ap (λ (t : HiveState). t.sequence) same.0)) ∙ ap (λ (b : Bool). LoadLine may.woken.state.sequence b) (sym same.1)
+        ap (λ (n : ℕ). LoadLine n dirty) (is ∙ sym (ap (λ (t : HiveState). t.sequence) same.0))
+        ∙ ap (λ (b : Bool). LoadLine may.woken.state.sequence b) (sym same.1)
 
     pub load_goes : (number : ℕ) → number ≡ s.base.first → (x y : Told) → Tells x y (LoadLine number dirty ∷ [])
         → Goes (play (load m next)) (play (next (loaded_state m may.woken))) x y d e
     load_goes number is x y said =
         let P : Line → Type 0 = λ l. Tells x y (l ∷ []) in
-        goes-then (play (load m next)) (play (ask (woken_at may.woken) (loaded m next may.woken))) (play (next (loaded_state m may.woken))) x x y d d1 e (load_begins x)
-        (goes-told (woken_at may.woken) (loaded m next may.woken) (LoadLine may.woken.state.sequence may.woken.dirty) Finished (next (loaded_state m may.woken)) x y d1 e
+        goes-then (play (load m next)) (play (ask (woken_at may.woken) (loaded m next may.woken)))
+        (play (next (loaded_state m may.woken))) x x y d d1 e (load_begins x)
+        (goes-told (woken_at may.woken) (loaded m next may.woken) (LoadLine may.woken.state.sequence may.woken.dirty)
+        Finished (next (loaded_state m may.woken)) x y d1 e
         load_still tt refl refl (subst P (load_line number is) said))
 
-    pub load_breaks : Stays next → (number : ℕ) → number ≡ s.base.first → (x : Told) (y : List ℕ) → SaysFront x.said y (line_text (LoadLine number dirty))
+    pub load_breaks : Stays next → (number : ℕ) → number ≡ s.base.first → (x : Told) (y : List ℕ)
+        → SaysFront x.said y (line_text (LoadLine number dirty))
         → Breaks (load m next) x y d e
     load_breaks stays number is x y f =
         let P : Line → Type 0 = λ l. SaysFront x.said y (line_text l) in
         breaks-then (load m next) (ask (woken_at may.woken) (loaded m next may.woken)) x x y d d1 e (load_begins x)
-        (breaks-told (woken_at may.woken) (loaded m next may.woken) (LoadLine may.woken.state.sequence may.woken.dirty) Finished (next (loaded_state m may.woken)) x y d1 e
+        (breaks-told (woken_at may.woken) (loaded m next may.woken) (LoadLine may.woken.state.sequence may.woken.dirty)
+        Finished (next (loaded_state m may.woken)) x y d1 e
         load_still tt refl refl (subst P (load_line number is) f) load_may
         (λ image crash. stays (loaded_state m may.woken) image refl
-        (still_leaves e (MayLoad (settled_at may.woken.state)) none (settled_loads e.held may.woken.state load_loads) image crash)))
+        (still_leaves e (MayLoad (settled_at may.woken.state)) none (settled_loads e.held may.woken.state load_loads)
+        image crash)))
 
   -- a stop, and its verdict
   module _ (verdict : Verdict) (u : Outcome) (told : outcomes_in (VerdictLine verdict ∷ []) ≡ u ∷ [])
-      (is : loaded m next may.woken u ≡ end_with verdict false (woken_state m may.woken)) (f : DiskState) (off : f ≡ turned_off e)
+      (is : loaded m next may.woken u ≡ end_with verdict false (woken_state m may.woken)) (f : DiskState)
+      (off : f ≡ turned_off e)
       (cause : HasCause u (since_wake d1) (tally_now e)) where
     stopped_cause : HasCause u (since_wake d1) (tally_now f)
-    stopped_cause = let P : DiskState → Type 0 = λ t. HasCause u (since_wake d1) (tally_now t) in subst P (sym off) cause
+    stopped_cause = let P : DiskState → Type 0 = λ t. HasCause u (since_wake d1) (tally_now t) in
+        subst P (sym off) cause
 
     pub stopped_may : EachCrash f (MayLoad (woken_at may.woken))
     stopped_may = left-off e f (MayLoad (woken_at may.woken)) off load_may
@@ -140,15 +159,19 @@ module _ (m : RunState) (next : RunState → Act) (i : Image) (d d1 e : DiskStat
     pub stopped_goes : (x y : Told) → Tells x y (VerdictLine verdict ∷ [])
         → Goes (play (load m next)) (play (done (start_over false (woken_state m may.woken)))) x y d f
     stopped_goes x y said =
-        goes-then (play (load m next)) (play (ask (woken_at may.woken) (loaded m next may.woken))) (play (done (start_over false (woken_state m may.woken)))) x x y d d1 f
+        goes-then (play (load m next)) (play (ask (woken_at may.woken) (loaded m next may.woken)))
+        (play (done (start_over false (woken_state m may.woken)))) x x y d d1 f
         (load_begins x)
-        (goes-told (woken_at may.woken) (loaded m next may.woken) (VerdictLine verdict) u (done (start_over false (woken_state m may.woken))) x y d1 f
+        (goes-told (woken_at may.woken) (loaded m next may.woken) (VerdictLine verdict) u
+        (done (start_over false (woken_state m may.woken))) x y d1 f
         (still-off d1 e f load_still off) stopped_cause told is said)
 
-    pub stopped_breaks : (x : Told) (y : List ℕ) → SaysFront x.said y (line_text (VerdictLine verdict)) → Breaks (load m next) x y d f
+    pub stopped_breaks : (x : Told) (y : List ℕ) → SaysFront x.said y (line_text (VerdictLine verdict))
+        → Breaks (load m next) x y d f
     stopped_breaks x y front =
         breaks-then (load m next) (ask (woken_at may.woken) (loaded m next may.woken)) x x y d d1 f (load_begins x)
-        (breaks-told (woken_at may.woken) (loaded m next may.woken) (VerdictLine verdict) u (done (start_over false (woken_state m may.woken))) x y d1 f
+        (breaks-told (woken_at may.woken) (loaded m next may.woken) (VerdictLine verdict) u
+        (done (start_over false (woken_state m may.woken))) x y d1 f
         (still-off d1 e f load_still off) stopped_cause told is front stopped_may stopped_may)
 
 -- the disk is down behind a load that was stopped

@@ -2,7 +2,8 @@
 use Rattle.std.proofs.Common.{◌≡◌, ◌≤◌, ◌-◌, ◌+◌, ℕ, zero, suc, List, [], ◌∷◌, length, get_or, refl, ap, ◌∙◌, arith}
 use Rattle.start_model.specs.Events.{last_of}
 
-pub last_of-item : (path : List (List ℕ)) (d : List ℕ) → 1 ≤ length path → get_or path (length path - 1) d ≡ last_of path
+pub last_of-item : (path : List (List ℕ)) (d : List ℕ) → 1 ≤ length path
+    → get_or path (length path - 1) d ≡ last_of path
 last_of-item [] d h = absurd (omega (arith, h))
 last_of-item (x ∷ []) d h = refl
 last_of-item (x ∷ y ∷ more) d h =

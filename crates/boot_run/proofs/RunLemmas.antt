@@ -55,7 +55,8 @@ record NothingLeft (act : Act) (m : RunState) (ws : List Woken) (os : List Outco
   outcomes : os ≡ []
   disk : (play act [] []).disk ≡ m.disk
 
-play-left : (act : Act) (m : RunState) (ws : List Woken) (os : List Outcome) → (play act [] []).rest ≡ Some (m, ws, os) → NothingLeft act m ws os
+play-left : (act : Act) (m : RunState) (ws : List Woken) (os : List Outcome) → (play act [] []).rest ≡ Some (m, ws, os)
+    → NothingLeft act m ws os
 play-left (acts.done n) m ws os e =
     let here : RunState × List Woken × List Outcome = (n, [], []) in
     let there : RunState × List Woken × List Outcome = (m, ws, os) in
@@ -65,15 +66,19 @@ play-left (acts.done n) m ws os e =
       outcomes = sym (ap (λ (t : RunState × List Woken × List Outcome). t.2) q);
       disk = ap (λ (t : RunState × List Woken × List Outcome). t.0.disk) q;
     }
-play-left (acts.say l act) m ws os e = let p = play-left act m ws os e in record { wakes = p.wakes; outcomes = p.outcomes; disk = p.disk }
+play-left (acts.say l act) m ws os e = let p = play-left act m ws os e in
+    record { wakes = p.wakes; outcomes = p.outcomes; disk = p.disk }
 play-left (acts.ask disk next) m ws os e = absurd cc
 play-left (acts.wake disk next) m ws os e = absurd cc
-play-left (acts.mark note act) m ws os e = let p = play-left act m ws os e in record { wakes = p.wakes; outcomes = p.outcomes; disk = p.disk }
+play-left (acts.mark note act) m ws os e = let p = play-left act m ws os e in
+    record { wakes = p.wakes; outcomes = p.outcomes; disk = p.disk }
 
 -- ---- the rest of the script behind an act, where nothing more happens
 
-then-may : (go : RunState → List Woken → List Outcome → RunResult) (c : Image) → ((m : RunState) → IsClosed m → MayLoad m.disk c → MayLoad (go m [] []).disk c) → (act : Act)
-    → ((m : RunState) (ws : List Woken) (os : List Outcome) → (play act [] []).rest ≡ Some (m, ws, os) → IsClosed m) → (rest : Option Left) → (play act [] []).rest ≡ rest
+then-may : (go : RunState → List Woken → List Outcome → RunResult) (c : Image)
+    → ((m : RunState) → IsClosed m → MayLoad m.disk c → MayLoad (go m [] []).disk c) → (act : Act)
+    → ((m : RunState) (ws : List Woken) (os : List Outcome) → (play act [] []).rest ≡ Some (m, ws, os) → IsClosed m)
+    → (rest : Option Left) → (play act [] []).rest ≡ rest
     → MayLoad (play act [] []).disk c → MayLoad (then_run go (play act [] []) rest).disk c
 then-may go c more act closed None e may = may
 then-may go c more act closed (Some (m, ws, os)) e may =
@@ -92,7 +97,8 @@ module _ (choice : Option ℕ → Choice) where
   before es act = λ w o. then_run (run_from choice es) (play act w o) (play act w o).rest
 
   -- what an act plays, it plays before the rest of the script too
-  goes-before : (es : List Event) (a b : Act) (x y : Told) (d e : DiskState) → Goes (play a) (play b) x y d e → Goes (before es a) (before es b) x y d e
+  goes-before : (es : List Event) (a b : Act) (x y : Told) (d e : DiskState) → Goes (play a) (play b) x y d e
+      → Goes (before es a) (before es b) x y d e
   goes-before es a b x y d e p = record {
     lines = p.lines;
     notes = p.notes;
@@ -106,13 +112,16 @@ module _ (choice : Option ℕ → Choice) where
         ∙ then-behind (run_from choice es) p.lines p.notes (play b w o) (play b w o).rest;
   }
 
-  goes-event : (ev : Event) (es : List Event) (m after : RunState) (rest : Act) (x y : Told) (d e : DiskState) → rest ≡ acts.done after
-      → Goes (play (event_step_of choice ev m)) (play rest) x y d e → Goes (run_from choice (ev ∷ es) m) (run_from choice es after) x y d e
+  goes-event : (ev : Event) (es : List Event) (m after : RunState) (rest : Act) (x y : Told) (d e : DiskState)
+      → rest ≡ acts.done after
+      → Goes (play (event_step_of choice ev m)) (play rest) x y d e
+      → Goes (run_from choice (ev ∷ es) m) (run_from choice es after) x y d e
   goes-event ev es m after rest x y d e is p =
       let P : Act → Type 0 = λ a. Goes (before es (event_step_of choice ev m)) (before es a) x y d e in
       subst P is (goes-before es (event_step_of choice ev m) rest x y d e p)
 
-  front-then : (part : List ℕ) (go : RunState → List Woken → List Outcome → RunResult) (r : RunResult) (rest : Option (RunState × List Woken × List Outcome)) → IsFront (text_of r.lines) part
+  front-then : (part : List ℕ) (go : RunState → List Woken → List Outcome → RunResult) (r : RunResult)
+      (rest : Option (RunState × List Woken × List Outcome)) → IsFront (text_of r.lines) part
       → IsFront (text_of (then_run go r rest).lines) part
   front-then part go r None f = f
   front-then part go r (Some (m, ws, os)) f = record {
@@ -122,11 +131,14 @@ module _ (choice : Option ℕ → Choice) where
   }
 
   -- an event that was given up: so is the script
-  breaks-event : (ev : Event) (es : List Event) (m : RunState) (x : Told) (y : List ℕ) (d e : DiskState) → IsClosed m → Breaks (event_step_of choice ev m) x y d e
+  breaks-event : (ev : Event) (es : List Event) (m : RunState) (x : Told) (y : List ℕ) (d e : DiskState) → IsClosed m
+      → Breaks (event_step_of choice ev m) x y d e
       → RunBreaks (run_from choice (ev ∷ es) m) x y d e
   breaks-event ev es m x y d e closed b =
-      let ends : (n : RunState) (ws : List Woken) (os : List Outcome) → (play b.rest [] []).rest ≡ Some (n, ws, os) → IsClosed n = λ n ws os is.
-      event-closed choice ev m closed (b.plays.woken ++ []) (outcomes_in b.plays.lines ++ []) n ws os (ap (λ (r : RunResult). r.rest) (b.plays.goes [] []) ∙ is) in
+      let ends : (n : RunState) (ws : List Woken) (os : List Outcome) → (play b.rest [] []).rest ≡ Some (n, ws, os)
+      → IsClosed n = λ n ws os is.
+      event-closed choice ev m closed (b.plays.woken ++ []) (outcomes_in b.plays.lines ++ []) n ws os
+      (ap (λ (r : RunResult). r.rest) (b.plays.goes [] []) ∙ is) in
       record {
         rest = before es b.rest;
         mid = b.mid;
@@ -135,25 +147,32 @@ module _ (choice : Option ℕ → Choice) where
         part = b.part;
         said_is = b.said_is;
         cut_off = b.cut_off;
-        front = front-then b.part (run_from choice es) (play b.rest [] (b.outcome ∷ [])) (play b.rest [] (b.outcome ∷ [])).rest b.front;
-        left = λ c crash. then-may (run_from choice es) c (run-may c choice es) b.rest ends (play b.rest [] []).rest refl (b.left c crash);
+        front = front-then b.part (run_from choice es) (play b.rest [] (b.outcome ∷ []))
+            (play b.rest [] (b.outcome ∷ [])).rest b.front;
+        left = λ c crash. then-may (run_from choice es) c (run-may c choice es) b.rest ends
+            (play b.rest [] []).rest refl (b.left c crash);
       }
 
   -- ---- the loop
 
   -- how far a run came
-  pub record Progress (whole : Going) (rest : List Event) (x y : Told) (old new : DiskState) (r : Runner) (hive : Option Session) : Type 0 where
+  pub record Progress (whole : Going) (rest : List Event) (x y : Told) (old new : DiskState) (r : Runner)
+      (hive : Option Session) : Type 0 where
     pub state : RunState
     pub goes : Goes whole (run_from choice rest state) x y old new
     pub agrees : Agrees state r new hive
 
   -- before the first event
-  pub started : (m : RunState) (es : List Event) (r : Runner) (hive : Option Session) (x : Told) (d : DiskState) → Agrees m r d hive → Progress (run_from choice es m) es x x d d r hive
-  started m es r hive x d agrees = record { state = m; goes = goes-nothing (run_from choice es m) x d d (still d); agrees = agrees }
+  pub started : (m : RunState) (es : List Event) (r : Runner) (hive : Option Session) (x : Told) (d : DiskState)
+      → Agrees m r d hive → Progress (run_from choice es m) es x x d d r hive
+  started m es r hive x d agrees =
+      record { state = m; goes = goes-nothing (run_from choice es m) x d d (still d); agrees = agrees }
 
   -- an event more
-  pub went_on : (whole : Going) (ev : Event) (es : List Event) (x y z : Told) (d e f : DiskState) (r r' : Runner) (hive hive' : Option Session) → (p : Progress whole (ev ∷ es) x y d e r hive)
-      → ((rest : Act) × (Goes (play (event_step_of choice ev p.state)) (play rest) y z e f × TurnLeft r' f hive' rest)) → Progress whole es x z d f r' hive'
+  pub went_on : (whole : Going) (ev : Event) (es : List Event) (x y z : Told) (d e f : DiskState) (r r' : Runner)
+      (hive hive' : Option Session) → (p : Progress whole (ev ∷ es) x y d e r hive)
+      → ((rest : Act) × (Goes (play (event_step_of choice ev p.state)) (play rest) y z e f × TurnLeft r' f hive' rest))
+      → Progress whole es x z d f r' hive'
   went_on whole ev es x y z d e f r r' hive hive' p q = record {
     state = q.1.1.after;
     goes = goes-then whole (run_from choice (ev ∷ es) p.state) (run_from choice es q.1.1.after) x y z d e f p.goes
@@ -162,7 +181,8 @@ module _ (choice : Option ℕ → Choice) where
   }
 
   -- an event that was given up
-  pub gave_up : (whole : Going) (ev : Event) (es : List Event) (x y : Told) (z : List ℕ) (d e f : DiskState) (r : Runner) (hive : Option Session) → (p : Progress whole (ev ∷ es) x y d e r hive)
+  pub gave_up : (whole : Going) (ev : Event) (es : List Event) (x y : Told) (z : List ℕ) (d e f : DiskState)
+      (r : Runner) (hive : Option Session) → (p : Progress whole (ev ∷ es) x y d e r hive)
       → IsClosed p.state → Breaks (event_step_of choice ev p.state) y z e f → RunBreaks whole x z d f
   gave_up whole ev es x y z d e f r hive p closed b =
       let q = breaks-event ev es p.state y z e f closed b in
@@ -178,8 +198,10 @@ module _ (choice : Option ℕ → Choice) where
         left = q.left;
       }
 
-  pub first_event : (whole : Going) (evs : List code.Event) (ev : code.Event) (x y : Told) (d e : DiskState) (r : Runner) (hive : Option Session) → 1 ≤ length evs → ev ≡ get_or evs 0 ev
-      → Progress whole (map event_in evs) x y d e r hive → Progress whole (event_in ev ∷ map event_in (take (length evs - 1) (drop 1 evs))) x y d e r hive
+  pub first_event : (whole : Going) (evs : List code.Event) (ev : code.Event) (x y : Told) (d e : DiskState)
+      (r : Runner) (hive : Option Session) → 1 ≤ length evs → ev ≡ get_or evs 0 ev
+      → Progress whole (map event_in evs) x y d e r hive
+      → Progress whole (event_in ev ∷ map event_in (take (length evs - 1) (drop 1 evs))) x y d e r hive
   first_event whole evs ev x y d e r hive some is p =
       let P : List code.Event → Type 0 = λ es. Progress whole (map event_in es) x y d e r hive in
       subst P (uncons evs ev some is) p
@@ -189,11 +211,16 @@ module _ (choice : Option ℕ → Choice) where
   none_left (e ∷ evs) h = absurd (omega arith)
 
   -- the end of the script was played, or given up
-  end_or : {E : Type 0} → (result : Result (Unit {0}) E) (whole : Going) (m : RunState) (x y z : Told) (d e : DiskState) → Goes whole (run_from choice [] m) x y d e → EachCrash e (MayLoad m.disk)
+  end_or : {E : Type 0} → (result : Result (Unit {0}) E) (whole : Going) (m : RunState) (x y z : Told) (d e : DiskState)
+      → Goes whole (run_from choice [] m) x y d e → EachCrash e (MayLoad m.disk)
       → PlaysOr (closing_act m) y z e e result (λ u a. a ≡ acts.done m) → RunsOr whole x z d e result
   end_or (Ok u) whole m x y z d e g left p =
       let P : Act → Type 0 = λ a. Goes (play (closing_act m)) (play a) y z e e in
-      record { last = m; goes = goes-then whole (play (closing_act m)) (reached m) x y z d e e g (subst P p.1.1 p.1.0); left = left }
+      record {
+        last = m;
+        goes = goes-then whole (play (closing_act m)) (reached m) x y z d e e g (subst P p.1.1 p.1.0);
+        left = left;
+      }
   end_or (Err stop) whole m x y z d e g left b = record {
     rest = play b.rest;
     mid = b.mid;
@@ -206,9 +233,12 @@ module _ (choice : Option ℕ → Choice) where
     left = b.left;
   }
 
-  pub ended : {E : Type 0} → (result : Result (Unit {0}) E) (whole : Going) (evs : List code.Event) (x y z : Told) (d e : DiskState) (r : Runner) (hive : Option Session) → length evs < 1
-      → ((m : RunState) → AgreesBy m e hive → EachCrash e (MayLoad m.disk)) → Progress whole (map event_in evs) x y d e r hive
-      → ((m : RunState) → Counts m r → EachCrash e (MayLoad m.disk) → PlaysOr (closing_act m) y z e e result (λ u a. a ≡ acts.done m)) → RunsOr whole x z d e result
+  pub ended : {E : Type 0} → (result : Result (Unit {0}) E) (whole : Going) (evs : List code.Event) (x y z : Told)
+      (d e : DiskState) (r : Runner) (hive : Option Session) → length evs < 1
+      → ((m : RunState) → AgreesBy m e hive → EachCrash e (MayLoad m.disk))
+      → Progress whole (map event_in evs) x y d e r hive
+      → ((m : RunState) → Counts m r → EachCrash e (MayLoad m.disk)
+      → PlaysOr (closing_act m) y z e e result (λ u a. a ≡ acts.done m)) → RunsOr whole x z d e result
   ended result whole evs x y z d e r hive none may p close =
       let P : List code.Event → Type 0 = λ es. Progress whole (map event_in es) x y d e r hive in
       let q : Progress whole [] x y d e r hive = subst P (none_left evs none) p in
@@ -220,34 +250,45 @@ closed_by None m e = tt
 closed_by (Some s) m e = e
 
 -- where a runner stands for a state, nothing is open, or no start runs
-pub agrees_closed : (m : RunState) (r : Runner) (d : DiskState) (hive : Option Session) → IsSound r d hive → Agrees m r d hive → IsClosed m
+pub agrees_closed : (m : RunState) (r : Runner) (d : DiskState) (hive : Option Session) → IsSound r d hive
+    → Agrees m r d hive → IsClosed m
 agrees_closed m r d None sound agrees =
     let gone : m.machine.start ≡ None = ap (λ (k : MachineState). k.start) agrees.counts.machine ∙ sound.1 in
     let P : Option Start → Type 0 = λ o. IfSome o (λ s. m.disk.other ≡ None) in subst P (sym gone) tt
-agrees_closed m r d (Some s) sound agrees = closed_by m.machine.start m (ap (λ (p : Possible). p.other) agrees.by.settled)
+agrees_closed m r d (Some s) sound agrees =
+    closed_by m.machine.start m (ap (λ (p : Possible). p.other) agrees.by.settled)
 
 -- ---- the end
 
-verdict_on : (o : Option Start) (word : lines.Verdict) (rest : Act) → is_there o ≡ true → Some word ≡ option_map ending_of o
+verdict_on : (o : Option Start) (word : lines.Verdict) (rest : Act) → is_there o ≡ true
+    → Some word ≡ option_map ending_of o
     → acts.say (lines.VerdictLine word) rest ≡ verdict_first o rest
 verdict_on None word rest there is = absurd cc
-verdict_on (Some s) word rest there is = let e : word ≡ ending_of s = cc in ap (λ (w : lines.Verdict). acts.say (lines.VerdictLine w) rest) e
+verdict_on (Some s) word rest there is = let e : word ≡ ending_of s = cc in
+    ap (λ (w : lines.Verdict). acts.say (lines.VerdictLine w) rest) e
 
 verdict_off : (o : Option Start) (rest : Act) → is_there o ≡ false → rest ≡ verdict_first o rest
 verdict_off None rest gone = refl
 verdict_off (Some s) rest gone = absurd cc
 
-pub last_verdict : {E : Type 0} → (result : Result (Unit {0}) E) (m : RunState) (r : Runner) (word : lines.Verdict) (rest : Act) (x y : Told) (d : DiskState) → Counts m r → is_there r.machine.start ≡ true
-    → Some word ≡ option_map ending_of r.machine.start → EachCrash d (MayLoad (play rest [] []).disk) → TellsOr (lines.VerdictLine word) x y result
+pub last_verdict : {E : Type 0}
+    → (result : Result (Unit {0}) E) (m : RunState) (r : Runner) (word : lines.Verdict) (rest : Act) (x y : Told)
+    (d : DiskState) → Counts m r → is_there r.machine.start ≡ true
+    → Some word ≡ option_map ending_of r.machine.start → EachCrash d (MayLoad (play rest [] []).disk)
+    → TellsOr (lines.VerdictLine word) x y result
     → PlaysOr (verdict_first m.machine.start rest) x y d d result (λ u a. a ≡ rest)
 last_verdict result m r word rest x y d counts on is left said =
     let there : is_there m.machine.start ≡ true = ap (λ (k : MachineState). is_there k.start) counts.machine ∙ on in
-    let same : Some word ≡ option_map ending_of m.machine.start = is ∙ ap (λ (k : MachineState). option_map ending_of k.start) (sym counts.machine) in
+    let same : Some word ≡ option_map ending_of m.machine.start =
+    is ∙ ap (λ (k : MachineState). option_map ending_of k.start) (sym counts.machine) in
     let End : Unit {0} → Act → Type 0 = λ u a. a ≡ rest in
-    plays-as result End End (acts.say (lines.VerdictLine word) rest) (verdict_first m.machine.start rest) x y d d (verdict_on m.machine.start word rest there same) (λ v a h. h)
-    (plays-line result End (lines.VerdictLine word) rest x y d d (still d) (ending m.machine.start word there same).none said left (λ v. refl))
+    plays-as result End End (acts.say (lines.VerdictLine word) rest) (verdict_first m.machine.start rest) x y d d
+    (verdict_on m.machine.start word rest there same) (λ v a h. h)
+    (plays-line result End (lines.VerdictLine word) rest x y d d (still d)
+    (ending m.machine.start word there same).none said left (λ v. refl))
 
-pub no_verdict : (m : RunState) (r : Runner) (rest : Act) (x : Told) (d : DiskState) → Counts m r → is_there r.machine.start ≡ false
+pub no_verdict : (m : RunState) (r : Runner) (rest : Act) (x : Told) (d : DiskState) → Counts m r
+    → is_there r.machine.start ≡ false
     → (a : Act) × (Goes (play (verdict_first m.machine.start rest)) (play a) x x d d × (a ≡ rest))
 no_verdict m r rest x d counts off =
     let gone : is_there m.machine.start ≡ false = ap (λ (k : MachineState). is_there k.start) counts.machine ∙ off in
@@ -255,8 +296,10 @@ no_verdict m r rest x d counts off =
     (rest, (subst P (verdict_off m.machine.start rest gone) (goes-nothing (play rest) x d d (still d)), refl))
 
 -- the last line, behind the verdict
-pub closes : {E : Type 0} → (result : Result (Unit {0}) E) (m : RunState) (x y z : Told) (d : DiskState) → EachCrash d (MayLoad m.disk)
-    → ((a : Act) × (Goes (play (closing_act m)) (play a) x y d d × (a ≡ acts.say lines.EndLine (acts.done m)))) → TellsOr lines.EndLine y z result
+pub closes : {E : Type 0} → (result : Result (Unit {0}) E) (m : RunState) (x y z : Told) (d : DiskState)
+    → EachCrash d (MayLoad m.disk)
+    → ((a : Act) × (Goes (play (closing_act m)) (play a) x y d d × (a ≡ acts.say lines.EndLine (acts.done m))))
+    → TellsOr lines.EndLine y z result
     → PlaysOr (closing_act m) x z d d result (λ u a. a ≡ acts.done m)
 closes result m x y z d left p said =
     let End : Unit {0} → Act → Type 0 = λ u a. a ≡ acts.done m in
@@ -267,18 +310,22 @@ closes result m x y z d left p said =
 -- ---- the report
 
 -- a run that was played, on a disk that is turned off behind it
-pub reports_off : (whole : Going) (x y : Told) (d e f : DiskState) → f ≡ turned_off e → Played whole x y d e → Reports whole x y d f
+pub reports_off : (whole : Going) (x y : Told) (d e f : DiskState) → f ≡ turned_off e → Played whole x y d e
+    → Reports whole x y d f
 reports_off whole x y d e f off p =
     reports_of whole p.last x y d f
-    (goes-then whole (reached p.last) (reached p.last) x y y d e f p.goes (goes-nothing (reached p.last) y e f (still-off e e f (still e) off)))
+    (goes-then whole (reached p.last) (reached p.last) x y y d e f p.goes
+    (goes-nothing (reached p.last) y e f (still-off e e f (still e) off)))
     (left-off e f (MayLoad p.last.disk) off p.left)
 
 -- a run that was given up
-pub reports_front_off : (whole : Going) (x : Told) (y : List ℕ) (d e f : DiskState) → f ≡ turned_off e → RunBreaks whole x y d e → RunBreaks whole x y d f
+pub reports_front_off : (whole : Going) (x : Told) (y : List ℕ) (d e f : DiskState) → f ≡ turned_off e
+    → RunBreaks whole x y d e → RunBreaks whole x y d f
 reports_front_off whole x y d e f off b = record {
   rest = b.rest;
   mid = b.mid;
-  goes = goes-then whole b.rest b.rest x b.mid b.mid d e f b.goes (goes-nothing b.rest b.mid e f (still-off e e f (still e) off));
+  goes = goes-then whole b.rest b.rest x b.mid b.mid d e f b.goes
+      (goes-nothing b.rest b.mid e f (still-off e e f (still e) off));
   outcome = b.outcome;
   part = b.part;
   said_is = b.said_is;
@@ -288,19 +335,27 @@ reports_front_off whole x y d e f off b = record {
 }
 
 -- the disk of a placed hive may load as it does
-pub placed_loads : (placed : Woken) (d : DiskState) → EachCrash d (λ (c : Image). Loads c placed.state placed.dirty) → EachCrash d (MayLoad (loads_as placed))
-placed_loads placed d loads image crash = record { woken = placed; loads = loads image crash; possible = record { state = inl refl; dirty = refl } }
+pub placed_loads : (placed : Woken) (d : DiskState) → EachCrash d (λ (c : Image). Loads c placed.state placed.dirty)
+    → EachCrash d (MayLoad (loads_as placed))
+placed_loads placed d loads image crash =
+    record { woken = placed; loads = loads image crash; possible = record { state = inl refl; dirty = refl } }
 
 -- the whole run: what was told before it is nothing
-pub whole_report : (choice : Option ℕ → Choice) (script : List Event) (placed : Woken) (host : HostState) (s : Summary) (y : Told) (d e f : DiskState) → f ≡ turned_off e → summary_in s ≡ no_summary
-    → Played (run_from choice script (first_state placed)) (told_by host s) y d e → Reports (run_of choice script placed) (untold host) y d f
+pub whole_report : (choice : Option ℕ → Choice) (script : List Event) (placed : Woken) (host : HostState) (s : Summary)
+    (y : Told) (d e f : DiskState) → f ≡ turned_off e → summary_in s ≡ no_summary
+    → Played (run_from choice script (first_state placed)) (told_by host s) y d e
+    → Reports (run_of choice script placed) (untold host) y d f
 unfolding run_of
 whole_report choice script placed host s y d e f off none p =
-    let P : book.Summary → Type 0 = λ t. Played (run_from choice script (first_state placed)) (record { said = host.said; summary = t }) y d e in
+    let P : book.Summary → Type 0 =
+    λ t. Played (run_from choice script (first_state placed)) (record { said = host.said; summary = t }) y d e in
     reports_off (run_from choice script (first_state placed)) (untold host) y d e f off (subst P none p)
 
-pub whole_front : (choice : Option ℕ → Choice) (script : List Event) (placed : Woken) (host : HostState) (s : Summary) (y : List ℕ) (d e f : DiskState) → f ≡ turned_off e → summary_in s ≡ no_summary
-    → RunBreaks (run_from choice script (first_state placed)) (told_by host s) y d e → ReportsFront (run_of choice script placed) host.said y d f
+pub whole_front : (choice : Option ℕ → Choice) (script : List Event) (placed : Woken) (host : HostState) (s : Summary)
+    (y : List ℕ) (d e f : DiskState) → f ≡ turned_off e → summary_in s ≡ no_summary
+    → RunBreaks (run_from choice script (first_state placed)) (told_by host s) y d e
+    → ReportsFront (run_of choice script placed) host.said y d f
 unfolding run_of
 whole_front choice script placed host s y d e f off none b =
-    reports_front_of (run_from choice script (first_state placed)) (told_by host s) y d f (reports_front_off (run_from choice script (first_state placed)) (told_by host s) y d e f off b)
+    reports_front_of (run_from choice script (first_state placed)) (told_by host s) y d f
+    (reports_front_off (run_from choice script (first_state placed)) (told_by host s) y d e f off b)

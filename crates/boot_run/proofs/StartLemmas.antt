@@ -55,7 +55,8 @@ record Ends (word : Verdict) (j : Judgement) (m : RunState) (next : RunState →
   act : end_with word (falls_back word) m ≡ judged j m next
   none : outcomes_in (VerdictLine word ∷ []) ≡ []
 
-judged_ends : (j : Judgement) (word : Word) (m : RunState) (next : RunState → Act) → EndsBy (Some word) j → Ends (verdict_of word) j m next
+judged_ends : (j : Judgement) (word : Word) (m : RunState) (next : RunState → Act) → EndsBy (Some word) j
+    → Ends (verdict_of word) j m next
 judged_ends Ignore word m next e = absurd cc
 judged_ends Log word m next e = absurd cc
 judged_ends FallBack word m next e =
@@ -67,20 +68,27 @@ judged_ends Stop word m next e =
     let P : Verdict → Type 0 = λ w. Ends w Stop m next in
     subst P (sym is) (record { act = refl; none = refl })
 
-pub judged_plays : {E : Type 0} → (result : Result (Unit {0}) E) (word : Word) (j : Judgement) (m : RunState) (next : RunState → Act) (r r' : Runner) (x y : Told) (d e : DiskState)
-    → EndsBy (Some word) j → Counts m r → r'.machine ≡ ended (falls_back (verdict_of word)) r.machine → r'.starts ≡ r.starts → e ≡ turned_off d → EachCrash d (MayLoad m.disk)
-    → TellsOr (VerdictLine (verdict_of word)) x y result → PlaysOr (judged j m next) x y d e result (λ u rest. TurnLeft r' e None rest)
+pub judged_plays : {E : Type 0}
+    → (result : Result (Unit {0}) E) (word : Word) (j : Judgement) (m : RunState) (next : RunState → Act)
+    (r r' : Runner) (x y : Told) (d e : DiskState)
+    → EndsBy (Some word) j → Counts m r → r'.machine ≡ ended (falls_back (verdict_of word)) r.machine
+    → r'.starts ≡ r.starts → e ≡ turned_off d → EachCrash d (MayLoad m.disk)
+    → TellsOr (VerdictLine (verdict_of word)) x y result
+    → PlaysOr (judged j m next) x y d e result (λ u rest. TurnLeft r' e None rest)
 judged_plays result word j m next r r' x y d e ends counts machine starts off left said =
     let falls : Bool = falls_back (verdict_of word) in
     let q = judged_ends j word m next ends in
     let Left : Unit {0} → Act → Type 0 = λ u rest. TurnLeft r' e None rest in
     let kept : EachCrash e (MayLoad m.disk) = left-off d e (MayLoad m.disk) off left in
-    let over : Counts (start_over falls m) r' = record { machine = ap (ended falls) counts.machine ∙ sym machine; starts = counts.starts ∙ sym starts } in
+    let over : Counts (start_over falls m) r' =
+    record { machine = ap (ended falls) counts.machine ∙ sym machine; starts = counts.starts ∙ sym starts } in
     plays-as result Left Left (end_with (verdict_of word) falls m) (judged j m next) x y d e q.act (λ v a k. k)
-    (plays-line result Left (VerdictLine (verdict_of word)) (done (start_over falls m)) x y d e (still-off d d e (still d) off) q.none said kept
+    (plays-line result Left (VerdictLine (verdict_of word)) (done (start_over falls m)) x y d e
+    (still-off d d e (still d) off) q.none said kept
     (λ v. here_turn (start_over falls m) r' e None over kept))
 
-pub judged_may : (j : Judgement) (m : RunState) (next : RunState → Act) (c : Image) → m.disk.other ≡ None → Stays next → MayLoad m.disk c → MayLoad (play (judged j m next) [] []).disk c
+pub judged_may : (j : Judgement) (m : RunState) (next : RunState → Act) (c : Image) → m.disk.other ≡ None → Stays next
+    → MayLoad m.disk c → MayLoad (play (judged j m next) [] []).disk c
 judged_may Ignore m next c none stays h = stays m c none h
 judged_may Log m next c none stays h = stays m c none h
 judged_may FallBack m next c none stays h = h
@@ -93,26 +101,33 @@ slice_get-within [] i x e = absurd cc
 slice_get-within (y ∷ xs) zero x e = omega arith
 slice_get-within (y ∷ xs) (suc i) x e = omega (arith, slice_get-within xs i x e)
 
-attempted_at : (m : MachineState) (s : Start) (usable : Bool) (place : ℕ) (o : Option Entry) (one : MachineState × Tried) (tree : Tree) → slice_get s.waiting place ≡ o
+attempted_at : (m : MachineState) (s : Start) (usable : Bool) (place : ℕ) (o : Option Entry)
+    (one : MachineState × Tried) (tree : Tree) → slice_get s.waiting place ≡ o
     → option_map (attempt_at m s usable place) o ≡ Some one → IsOnSet s tree → IsRunningBy one.0.start tree
 attempted_at m s usable place None one tree is e h = absurd cc
 attempted_at m s usable place (Some entry) one tree is e h =
     let made : MachineState × Tried = attempt_at m s usable place entry in
     let P : MachineState × Tried → Type 0 = λ x. IsRunningBy x.0.start tree in
     let q : made ≡ one = cc in
-    let fewer : length (remove s.waiting place) + 1 ≡ length s.waiting = length-remove s.waiting place (slice_get-within s.waiting place entry is) in
+    let fewer : length (remove s.waiting place) + 1 ≡ length s.waiting =
+    length-remove s.waiting place (slice_get-within s.waiting place entry is) in
     subst P q (record { there = h.there; current = h.current; few = omega (arith, fewer, h.few); clone = h.clone })
 
-attempted_in : (m : MachineState) (s : Start) (usable : Bool) (place : Option ℕ) (one : MachineState × Tried) (tree : Tree)
-    → option_and_then (λ place. option_map (attempt_at m s usable place) (slice_get s.waiting place)) place ≡ Some one → IsOnSet s tree → IsRunningBy one.0.start tree
+attempted_in : (m : MachineState) (s : Start) (usable : Bool) (place : Option ℕ) (one : MachineState × Tried)
+    (tree : Tree)
+    → option_and_then (λ place. option_map (attempt_at m s usable place) (slice_get s.waiting place)) place ≡ Some one
+    → IsOnSet s tree → IsRunningBy one.0.start tree
 attempted_in m s usable None one tree e h = absurd cc
-attempted_in m s usable (Some place) one tree e h = attempted_at m s usable place (slice_get s.waiting place) one tree refl e h
+attempted_in m s usable (Some place) one tree e h =
+    attempted_at m s usable place (slice_get s.waiting place) one tree refl e h
 
-attempted : (m : MachineState) (usable : Bool) (o : Option Start) (one : MachineState × Tried) (tree : Tree) → option_and_then (λ s. attempt_in m s usable) o ≡ Some one → IsRunningBy o tree → IsRunningBy one.0.start tree
+attempted : (m : MachineState) (usable : Bool) (o : Option Start) (one : MachineState × Tried) (tree : Tree)
+    → option_and_then (λ s. attempt_in m s usable) o ≡ Some one → IsRunningBy o tree → IsRunningBy one.0.start tree
 attempted m usable None one tree e h = absurd h
 attempted m usable (Some s) one tree e h = attempted_in m s usable (next_in s) one tree e h
 
-pub attempt_keeps : (m : MachineState) (usable : Bool) (one : MachineState × Tried) (tree : Tree) → attempt_of m usable ≡ Some one → IsRunningBy m.start tree → IsRunningBy one.0.start tree
+pub attempt_keeps : (m : MachineState) (usable : Bool) (one : MachineState × Tried) (tree : Tree)
+    → attempt_of m usable ≡ Some one → IsRunningBy m.start tree → IsRunningBy one.0.start tree
 unfolding attempt_of
 attempt_keeps m usable one tree e h = attempted m usable m.start one tree e h
 
@@ -121,7 +136,8 @@ attempt_keeps m usable one tree e h = attempted m usable m.start one tree e h
 few_children : (t : Tree) → HoldsKeys t → length (children t) < 2 ^ 32
 few_children (key h ts) held = held.0.key_count
 
-few_at : (set : Tree) (o : Option Tree) → find_key (codes "Services" ∷ []) set ≡ o → HoldsKeys set → length (option_map_or children o []) < 2 ^ 32
+few_at : (set : Tree) (o : Option Tree) → find_key (codes "Services" ∷ []) set ≡ o → HoldsKeys set
+    → length (option_map_or children o []) < 2 ^ 32
 few_at set None is held = omega arith
 few_at set (Some k) is held = few_children k (held_key (codes "Services" ∷ []) set k held is)
 
@@ -129,7 +145,8 @@ few_at set (Some k) is held = few_children k (held_key (codes "Services" ∷ [])
 pub few_services : (set : Tree) → HoldsKeys set → length (services_of set) < 2 ^ 32
 few_services set held = few_at set (find_key (codes "Services" ∷ []) set) refl held
 
-pub phase_keeps : (o : Option Start) (set tree : Tree) → HoldsKeys set → IsRunningBy o tree → IsRunningBy (option_map (after_phase set) o) tree
+pub phase_keeps : (o : Option Start) (set tree : Tree) → HoldsKeys set → IsRunningBy o tree
+    → IsRunningBy (option_map (after_phase set) o) tree
 phase_keeps None set tree held h = h
 phase_keeps (Some s) set tree held h = record {
   there = h.there;
@@ -140,13 +157,15 @@ phase_keeps (Some s) set tree held h = record {
 
 -- behind the last phase
 
-none_waits : (set : Tree) (phase : Phase) (tried : List (List ℕ)) → is_last_phase phase ≡ true → length (plan_of set (phase_after phase) tried) ≡ 0
+none_waits : (set : Tree) (phase : Phase) (tried : List (List ℕ)) → is_last_phase phase ≡ true
+    → length (plan_of set (phase_after phase) tried) ≡ 0
 none_waits set Boot tried last = absurd cc
 none_waits set System tried last = absurd cc
 none_waits set Automatic tried last = refl
 none_waits set Done tried last = refl
 
-over_keeps : (o : Option Start) (set tree : Tree) → is_in_last_phase o ≡ true → IsRunningBy o tree → IsRunningBy (option_map (after_phase set) o) tree
+over_keeps : (o : Option Start) (set tree : Tree) → is_in_last_phase o ≡ true → IsRunningBy o tree
+    → IsRunningBy (option_map (after_phase set) o) tree
 over_keeps None set tree last h = h
 over_keeps (Some s) set tree last h = record {
   there = h.there;
@@ -155,17 +174,21 @@ over_keeps (Some s) set tree last h = record {
   clone = h.clone;
 }
 
-pub last_keeps : {E : Type 0} (r : Result (List (List ℕ)) E) (m m' : MachineState) (tree : Tree) → is_in_last_phase m.start ≡ true → IsRunningBy m.start tree
+pub last_keeps : {E : Type 0} (r : Result (List (List ℕ)) E) (m m' : MachineState) (tree : Tree)
+    → is_in_last_phase m.start ≡ true → IsRunningBy m.start tree
     → IfOk r (λ _. (set : Tree) → m' ≡ on_start (after_phase set) m) → OnOk r (IsRunningBy m'.start tree)
 last_keeps (Ok names) m m' tree last h is =
-    let P : MachineState → Type 0 = λ k. IsRunningBy k.start tree in subst P (sym (is no_set)) (over_keeps m.start no_set tree last h)
+    let P : MachineState → Type 0 = λ k. IsRunningBy k.start tree in
+    subst P (sym (is no_set)) (over_keeps m.start no_set tree last h)
 last_keeps (Err e) m m' tree last h is = tt
 
-the_set : (tree : Tree) (n : ℕ) (o : Option Tree) → set_of tree n ≡ o → is_some o ≡ true → (set : Tree) × (set_of tree n ≡ Some set)
+the_set : (tree : Tree) (n : ℕ) (o : Option Tree) → set_of tree n ≡ o → is_some o ≡ true
+    → (set : Tree) × (set_of tree n ≡ Some set)
 the_set tree n None is h = absurd cc
 the_set tree n (Some set) is h = (set, is)
 
-on_next : (o : Option Start) (m m' : MachineState) (tree : Tree) → m.start ≡ o → IsRunningBy o tree → ((set : Tree) → m' ≡ on_start (after_phase set) m) → NextPhase tree m m'
+on_next : (o : Option Start) (m m' : MachineState) (tree : Tree) → m.start ≡ o → IsRunningBy o tree
+    → ((set : Tree) → m' ≡ on_start (after_phase set) m) → NextPhase tree m m'
 on_next None m m' tree is h made = absurd h
 on_next (Some s) m m' tree is h made =
     let set = the_set tree s.number (set_of tree s.number) refl (usable_parts tree s.number h.there).there in
@@ -177,7 +200,8 @@ on_next (Some s) m m' tree is h made =
       machine = made set.0 ∙ ap (λ (o : Option Start). record m { start = option_map (after_phase set.0) o }) is;
     }
 
-pub last_next : {E : Type 0} (r : Result (List (List ℕ)) E) (m m' : MachineState) (tree : Tree) → IsRunningBy m.start tree
+pub last_next : {E : Type 0} (r : Result (List (List ℕ)) E) (m m' : MachineState) (tree : Tree)
+    → IsRunningBy m.start tree
     → IfOk r (λ _. (set : Tree) → m' ≡ on_start (after_phase set) m) → OnOk r (NextPhase tree m m')
 last_next (Ok names) m m' tree h is = on_next m.start m m' tree refl h is
 last_next (Err e) m m' tree h is = tt
@@ -191,17 +215,20 @@ AreQuiet (l ∷ ls) = (outcomes_in (l ∷ []) ≡ []) × AreQuiet ls
 
 quiet_none : (ls : List Line) → AreQuiet ls → outcomes_in ls ≡ []
 quiet_none [] q = refl
-quiet_none (l ∷ ls) q = outcomes_in-append (l ∷ []) ls ∙ ap (λ (os : List Outcome). os ++ outcomes_in ls) q.0 ∙ quiet_none ls q.1
+quiet_none (l ∷ ls) q = outcomes_in-append (l ∷ []) ls ∙ ap (λ (os : List Outcome). os ++ outcomes_in ls) q.0
+    ∙ quiet_none ls q.1
 
 quiet_parts : (a b : List Line) → AreQuiet (a ++ b) → AreQuiet a × AreQuiet b
 quiet_parts [] b q = (tt, q)
 quiet_parts (l ∷ a) b q = let p = quiet_parts a b q.1 in ((q.0, p.0), p.1)
 
-play_all : (ls : List Line) (act : Act) (w : List Woken) (o : List Outcome) → play (say_all ls act) w o ≡ behind ls [] (play act w o)
+play_all : (ls : List Line) (act : Act) (w : List Woken) (o : List Outcome)
+    → play (say_all ls act) w o ≡ behind ls [] (play act w o)
 play_all [] act w o = refl
 play_all (l ∷ ls) act w o = ap (behind (l ∷ []) []) (play_all ls act w o)
 
-pub goes_all : (ls : List Line) (act : Act) (x y : Told) (d : DiskState) → AreQuiet ls → Tells x y ls → Goes (play (say_all ls act)) (play act) x y d d
+pub goes_all : (ls : List Line) (act : Act) (x y : Told) (d : DiskState) → AreQuiet ls → Tells x y ls
+    → Goes (play (say_all ls act)) (play act) x y d d
 goes_all ls act x y d quiet told = record {
   lines = ls;
   notes = [];
@@ -210,7 +237,8 @@ goes_all ls act x y d quiet told = record {
   tells = told;
   grew = still d;
   fits = tt;
-  goes = λ w o. ap (λ (os : List Outcome). play (say_all ls act) w (os ++ o)) (quiet_none ls quiet) ∙ play_all ls act w o;
+  goes = λ w o. ap (λ (os : List Outcome). play (say_all ls act) w (os ++ o)) (quiet_none ls quiet)
+      ∙ play_all ls act w o;
 }
 
 all_disk : (ls : List Line) (act : Act) → (play (say_all ls act) [] []).disk ≡ (play act [] []).disk
@@ -222,23 +250,42 @@ say_all-append [] b act = refl
 say_all-append (l ∷ a) b act = ap (say l) (say_all-append a b act)
 
 -- some were told, and of the next one a front
-pub breaks_all : (ls : List Line) (act : Act) (x : Told) (y : List ℕ) (d : DiskState) → AreQuiet ls → SaysPart ls x y → EachCrash d (MayLoad (play act [] []).disk) → Breaks (say_all ls act) x y d d
+pub breaks_all : (ls : List Line) (act : Act) (x : Told) (y : List ℕ) (d : DiskState) → AreQuiet ls → SaysPart ls x y
+    → EachCrash d (MayLoad (play act [] []).disk) → Breaks (say_all ls act) x y d d
 breaks_all ls act x y d quiet p left =
     let P : List Line → Type 0 = λ ks. AreQuiet ks in
     let q = quiet_parts p.first (p.line ∷ p.rest) (subst P p.parts quiet) in
     let more : Act = say_all p.rest act in
-    let is : say_all p.first (say p.line more) ≡ say_all ls act = sym (say_all-append p.first (p.line ∷ p.rest) act) ∙ ap (λ (ks : List Line). say_all ks act) (sym p.parts) in
+    let is : say_all p.first (say p.line more) ≡ say_all ls act =
+    sym (say_all-append p.first (p.line ∷ p.rest) act) ∙ ap (λ (ks : List Line). say_all ks act) (sym p.parts) in
     let Q : Act → Type 0 = λ a. Breaks a x y d d in
     let L : Possible → Type 0 = λ o. EachCrash d (MayLoad o) in
-    subst Q is (breaks-then (say_all p.first (say p.line more)) (say p.line more) x p.mid y d d d (goes_all p.first (say p.line more) x p.mid d q.0 p.told)
+    subst Q is (breaks-then (say_all p.first (say p.line more)) (say p.line more) x p.mid y d d d
+    (goes_all p.first (say p.line more) x p.mid d q.0 p.told)
     (breaks-line p.line more p.mid y d d (still d) q.1.0 p.front (subst L (sym (all_disk p.rest act)) left)))
 
 -- ---- what is said, one part behind another
 
 pub says_none : (ls : List Line) (l : Line) (x : Told) → SaysPart (ls ++ l ∷ []) x x.said
-says_none [] l x = record { first = []; line = l; rest = []; parts = refl; mid = x; told = tells-nothing x; front = record { front = []; rest = line_text l; cut = refl; said = sym (append-nil x.said) } }
+says_none [] l x = record {
+  first = [];
+  line = l;
+  rest = [];
+  parts = refl;
+  mid = x;
+  told = tells-nothing x;
+  front = record { front = []; rest = line_text l; cut = refl; said = sym (append-nil x.said) };
+}
 says_none (k ∷ ls) l x =
-    record { first = []; line = k; rest = ls ++ l ∷ []; parts = refl; mid = x; told = tells-nothing x; front = record { front = []; rest = line_text k; cut = refl; said = sym (append-nil x.said) } }
+    record {
+      first = [];
+      line = k;
+      rest = ls ++ l ∷ [];
+      parts = refl;
+      mid = x;
+      told = tells-nothing x;
+      front = record { front = []; rest = line_text k; cut = refl; said = sym (append-nil x.said) };
+    }
 
 pub says_more : (ls more : List Line) (x : Told) (y : List ℕ) → SaysPart ls x y → SaysPart (ls ++ more) x y
 says_more ls more x y p = record {
@@ -251,9 +298,11 @@ says_more ls more x y p = record {
   front = p.front;
 }
 
-pub says_then : {T : Type 0} → (r : Result T RunStop) (ls : List Line) (l : Line) (x y z : Told) → Tells x y ls → TellsOr l y z r → SaysAll (ls ++ l ∷ []) x z r
+pub says_then : {T : Type 0} → (r : Result T RunStop) (ls : List Line) (l : Line) (x y z : Told) → Tells x y ls
+    → TellsOr l y z r → SaysAll (ls ++ l ∷ []) x z r
 says_then (Ok v) ls l x y z p q = tells-then x y z ls (l ∷ []) p q
-says_then (Err e) ls l x y z p q = record { first = ls; line = l; rest = []; parts = refl; mid = y; told = p; front = q }
+says_then (Err e) ls l x y z p q =
+    record { first = ls; line = l; rest = []; parts = refl; mid = y; told = p; front = q }
 
 -- the lines of a change of phase
 pub phase_quiet : (s : Start) → AreQuiet (phase_lines s)
@@ -270,7 +319,9 @@ phase_quiet s = by_names (unmet_in s)
     by_names (n ∷ names) = (refl, by_names names)
 
 pub phase_act : (s : Start) (m : RunState) (next : RunState → Act)
-    → say_all (phase_lines s) (save_where_due (Some (after_phase (live_set m s.number) s)) (with_machine (with_start (after_phase (live_set m s.number) s) m.machine) m) next) ≡ phase_step s m next
+    → say_all (phase_lines s)
+    (save_where_due (Some (after_phase (live_set m s.number) s))
+    (with_machine (with_start (after_phase (live_set m s.number) s) m.machine) m) next) ≡ phase_step s m next
 phase_act s m next = say_all-append (map UnmetLine (unmet_in s)) (phase_line (phase_after s.phase) ∷ []) _
 
 -- ---- a verdict that is there, or none
@@ -283,20 +334,24 @@ ends_some v word j is h = let P : Option Word → Type 0 = λ o. EndsBy o j in s
 
 -- nothing of a change of phase is said yet
 pub all_may : (s : Start) (m : RunState) (next : RunState → Act) (c : Image)
-    → MayLoad (play (save_where_due (Some (after_phase (live_set m s.number) s)) (with_machine (with_start (after_phase (live_set m s.number) s) m.machine) m) next) [] []).disk c
+    → MayLoad (play (save_where_due (Some (after_phase (live_set m s.number) s))
+    (with_machine (with_start (after_phase (live_set m s.number) s) m.machine) m) next) [] []).disk c
     → MayLoad (play (phase_step s m next) [] []).disk c
 all_may s m next c h =
     let P : Possible → Type 0 = λ p. MayLoad p c in
-    let more : Act = save_where_due (Some (after_phase (live_set m s.number) s)) (with_machine (with_start (after_phase (live_set m s.number) s) m.machine) m) next in
+    let more : Act = save_where_due (Some (after_phase (live_set m s.number) s))
+    (with_machine (with_start (after_phase (live_set m s.number) s) m.machine) m) next in
     subst P (sym (all_disk (phase_lines s) more) ∙ ap (λ (a : Act). (play a [] []).disk) (phase_act s m next)) h
 
 -- ---- answers
 
 -- a call that was refused told a part
-pub says_err : {T : Type 0} → (r : Result T RunStop) → is_err r ≡ true → (ls : List Line) (x y : Told) → SaysPart ls x y.said → SaysAll ls x y r
+pub says_err : {T : Type 0} → (r : Result T RunStop) → is_err r ≡ true → (ls : List Line) (x y : Told)
+    → SaysPart ls x y.said → SaysAll ls x y r
 says_err (Ok v) h ls x y p = absurd (false≢true h)
 says_err (Err e) h ls x y p = p
 
 -- the line in other words
-pub tells_line : {T : Type 0} → (r : Result T RunStop) (l k : Line) (x y : Told) → l ≡ k → TellsOr l x y r → TellsOr k x y r
+pub tells_line : {T : Type 0} → (r : Result T RunStop) (l k : Line) (x y : Told) → l ≡ k → TellsOr l x y r
+    → TellsOr k x y r
 tells_line r l k x y is h = let P : Line → Type 0 = λ q. TellsOr q x y r in subst P is h

@@ -35,24 +35,28 @@ got (x ∷ xs) (suc i) lt = got xs i (omega (arith, lt))
 
 at_place : (m : MachineState) (s : Start) (usable : Bool) (place : ℕ) → place < length s.waiting
     → (one : MachineState × Tried) × (option_map (attempt_at m s usable place) (slice_get s.waiting place) ≡ Some one)
-at_place m s usable place lt = let e = got s.waiting place lt in (attempt_at m s usable place e.0, ap (option_map (attempt_at m s usable place)) e.1)
+at_place m s usable place lt = let e = got s.waiting place lt in
+    (attempt_at m s usable place e.0, ap (option_map (attempt_at m s usable place)) e.1)
 
 needs_as_many : (es : List Entry) → length (map need_of es) ≡ length es
 needs_as_many [] = refl
 needs_as_many (e ∷ es) = ap suc (needs_as_many es)
 
 at_next : (m : MachineState) (s : Start) (usable : Bool) (o : Option ℕ) → next_in s ≡ o → not (is_there o) ≡ false
-    → (one : MachineState × Tried) × (option_and_then (λ place. option_map (attempt_at m s usable place) (slice_get s.waiting place)) o ≡ Some one)
+    → (one : MachineState × Tried)
+    × (option_and_then (λ place. option_map (attempt_at m s usable place) (slice_get s.waiting place)) o ≡ Some one)
 at_next m s usable None is end = absurd (false≢true (sym end))
 at_next m s usable (Some place) is end =
     let within : place < length (map need_of s.waiting) = (next_is s.started (map need_of s.waiting) place is).within in
     at_place m s usable place (omega (arith, within, needs_as_many s.waiting))
 
-at_start : (m : MachineState) (usable : Bool) (o : Option Start) → is_at_end o ≡ false → (one : MachineState × Tried) × (option_and_then (λ s. attempt_in m s usable) o ≡ Some one)
+at_start : (m : MachineState) (usable : Bool) (o : Option Start) → is_at_end o ≡ false
+    → (one : MachineState × Tried) × (option_and_then (λ s. attempt_in m s usable) o ≡ Some one)
 at_start m usable None end = absurd (false≢true (sym end))
 at_start m usable (Some s) end = at_next m s usable (next_in s) refl end
 
-pub attempt_there : (m : MachineState) (usable : Bool) → is_at_end m.start ≡ false → (one : MachineState × Tried) × (attempt_of m usable ≡ Some one)
+pub attempt_there : (m : MachineState) (usable : Bool) → is_at_end m.start ≡ false
+    → (one : MachineState × Tried) × (attempt_of m usable ≡ Some one)
 unfolding attempt_of
 attempt_there m usable end = at_start m usable m.start end
 
@@ -61,7 +65,8 @@ none_next : (m : MachineState) (s : Start) (usable : Bool) (o : Option ℕ) → 
 none_next m s usable None end = refl
 none_next m s usable (Some place) end = absurd (false≢true end)
 
-none_at : (m : MachineState) (usable : Bool) (o : Option Start) → is_at_end o ≡ true → option_and_then (λ s. attempt_in m s usable) o ≡ None
+none_at : (m : MachineState) (usable : Bool) (o : Option Start) → is_at_end o ≡ true
+    → option_and_then (λ s. attempt_in m s usable) o ≡ None
 none_at m usable None end = refl
 none_at m usable (Some s) end = none_next m s usable (next_in s) end
 
@@ -87,7 +92,8 @@ steps (Some s) m next way = by_done (is_done s.phase) refl
     by_done true is = absurd (false≢true (ap not (sym is) ∙ way))
     by_done false is = record { start = s; is = refl; act = ap (λ (b : Bool). cond b (done m) act) (sym is) }
 
-pub not_stepping : (o : Option Start) (m : RunState) (next : RunState → Act) → is_under_way o ≡ false → stepping o m next ≡ done m
+pub not_stepping : (o : Option Start) (m : RunState) (next : RunState → Act) → is_under_way o ≡ false
+    → stepping o m next ≡ done m
 not_stepping None m next way = refl
 not_stepping (Some s) m next way = by_done (is_done s.phase) refl
   where
@@ -112,15 +118,18 @@ unfolding go_steps
 go_next n m = refl
 
 pub go_stays : (n : ℕ) → Stays (go_steps n)
-go_stays n m c none h = next-may c (go_steps n) (λ k x u. go_steps-keeps (may_load c) n k x (up_rests (may_load c) k x x.machine.start u)) m none h
+go_stays n m c none h = next-may c (go_steps n)
+    (λ k x u. go_steps-keeps (may_load c) n k x (up_rests (may_load c) k x x.machine.start u)) m none h
 
 -- the same of all steps
-pub go_may : (steps : Option ℕ) (m : RunState) (c : Image) → m.disk.other ≡ None → MayLoad m.disk c → MayLoad (play (go_act steps m) [] []).disk c
+pub go_may : (steps : Option ℕ) (m : RunState) (c : Image) → m.disk.other ≡ None → MayLoad m.disk c
+    → MayLoad (play (go_act steps m) [] []).disk c
 go_may None m c none h = go_stays (enough_steps m.machine.start m) m c none h
 go_may (Some n) m c none h = go_stays n m c none h
 
 -- whatever the step is, nothing of it is said yet
-pub step_may : (s : Start) (m : RunState) (next : RunState → Act) (c : Image) (o : Option (MachineState × Tried)) → m.disk.other ≡ None → Stays next → MayLoad m.disk c
+pub step_may : (s : Start) (m : RunState) (next : RunState → Act) (c : Image) (o : Option (MachineState × Tried))
+    → m.disk.other ≡ None → Stays next → MayLoad m.disk c
     → MayLoad (play (starter_step s m next o) [] []).disk c
 step_may s m next c None none stays h =
     let after : Start = after_phase (live_set m s.number) s in
@@ -130,14 +139,19 @@ step_may s m next c (Some one) none stays h = judged_may one.1.judgement (with_m
 -- ---- a change of phase
 
 -- the book's state behind it is what the runner counts
-pub next_counts : (tree : Tree) (m : RunState) (s : Start) (r r' : Runner) → m.live ≡ tree → m.machine.start ≡ Some s → Counts m r → r'.starts ≡ r.starts → NextPhase tree r.machine r'.machine
+pub next_counts : (tree : Tree) (m : RunState) (s : Start) (r r' : Runner) → m.live ≡ tree → m.machine.start ≡ Some s
+    → Counts m r → r'.starts ≡ r.starts → NextPhase tree r.machine r'.machine
     → Counts (with_machine (with_start (after_phase (live_set m s.number) s) m.machine) m) r'
 next_counts tree m s r r' live at counts starts p =
     let there : Some s ≡ Some p.start = sym at ∙ ap (λ (k : MachineState). k.start) counts.machine ∙ p.is in
     let same : s ≡ p.start = cc in
-    let set : live_set m s.number ≡ p.set = ap (λ (t : Tree). unwrap_or (set_of t s.number) no_set) live ∙ ap (λ (t : Start). unwrap_or (set_of tree t.number) no_set) same ∙ ap (λ (o : Option Tree). unwrap_or o no_set) p.there in
+    let set : live_set m s.number ≡ p.set =
+    ap (λ (t : Tree). unwrap_or (set_of t s.number) no_set) live
+    ∙ ap (λ (t : Start). unwrap_or (set_of tree t.number) no_set) same
+    ∙ ap (λ (o : Option Tree). unwrap_or o no_set) p.there in
     record {
       machine = ap (λ (k : MachineState). with_start (after_phase (live_set m s.number) s) k) counts.machine
-          ∙ ap (λ (t : Tree). with_start (after_phase t s) r.machine) set ∙ ap (λ (t : Start). with_start (after_phase p.set t) r.machine) same ∙ sym p.machine;
+          ∙ ap (λ (t : Tree). with_start (after_phase t s) r.machine) set
+          ∙ ap (λ (t : Start). with_start (after_phase p.set t) r.machine) same ∙ sym p.machine;
       starts = counts.starts ∙ sym starts;
     }

@@ -43,9 +43,11 @@ use Rattle.boot_run.proofs.PlayLemmas.{plays-line, agrees_left, here_turn}
 
 -- ---- the same act by another name
 
-pub goes_as : (a b : Act) (x y : Told) (d e : DiskState) (Left : Act → Type 0) → a ≡ b → ((rest : Act) × (Goes (play a) (play rest) x y d e × Left rest))
+pub goes_as : (a b : Act) (x y : Told) (d e : DiskState) (Left : Act → Type 0) → a ≡ b
+    → ((rest : Act) × (Goes (play a) (play rest) x y d e × Left rest))
     → (rest : Act) × (Goes (play b) (play rest) x y d e × Left rest)
-goes_as a b x y d e Left is p = let P : Act → Type 0 = λ t. Goes (play t) (play p.0) x y d e in (p.0, (subst P is p.1.0, p.1.1))
+goes_as a b x y d e Left is p = let P : Act → Type 0 = λ t. Goes (play t) (play p.0) x y d e in
+    (p.0, (subst P is p.1.0, p.1.1))
 
 pub breaks_as : (a b : Act) (x : Told) (y : List ℕ) (d e : DiskState) → a ≡ b → Breaks a x y d e → Breaks b x y d e
 breaks_as a b x y d e is p = let P : Act → Type 0 = λ t. Breaks t x y d e in subst P is p
@@ -75,7 +77,14 @@ aside_same : (d : DiskState) → Aside d d
 aside_same d = record {
   up = λ s h. h;
   down = λ h. h;
-  live = λ m k s h. record { live = h.live; changed = h.changed; sequence = h.sequence; version = h.version; settled = h.settled; loads = h.loads };
+  live = λ m k s h. record {
+    live = h.live;
+    changed = h.changed;
+    sequence = h.sequence;
+    version = h.version;
+    settled = h.settled;
+    loads = h.loads;
+  };
   left = λ m h. h;
 }
 
@@ -89,9 +98,22 @@ aside_by Logon d = aside_same d
 aside_by Off d = aside_same d
 aside_by (CutNow keep) d = aside_same d
 aside_by (Arm arming) d = record {
-  up = λ s h. record { on = h.on; still = h.still; carries = h.carries; loads = h.loads; marked = record { cuts = h.marked.cuts; faults = h.marked.faults } };
+  up = λ s h. record {
+    on = h.on;
+    still = h.still;
+    carries = h.carries;
+    loads = h.loads;
+    marked = record { cuts = h.marked.cuts; faults = h.marked.faults };
+  };
   down = λ h. record { off = h.off; loads = h.loads };
-  live = λ m k s h. record { live = h.live; changed = h.changed; sequence = h.sequence; version = h.version; settled = h.settled; loads = h.loads };
+  live = λ m k s h. record {
+    live = h.live;
+    changed = h.changed;
+    sequence = h.sequence;
+    version = h.version;
+    settled = h.settled;
+    loads = h.loads;
+  };
   left = λ m h. h;
 }
 
@@ -101,35 +123,57 @@ aside_at ev d e is = let P : DiskState → Type 0 = λ t. Aside d t in subst P (
 aside_runs : (ev : Event) (r r' : Runner) → r'.machine ≡ aside_machine ev r.machine → r'.machine.start ≡ r.machine.start
 aside_runs ev r r' machine = ap (λ (k : MachineState). k.start) machine ∙ aside_start ev r.machine
 
-pub beside_sound : (ev : Event) (r r' : Runner) (d e : DiskState) (hive : Option Session) → r'.machine ≡ aside_machine ev r.machine → e ≡ aside_disk ev d → IsSound r d hive → IsSound r' e hive
+pub beside_sound : (ev : Event) (r r' : Runner) (d e : DiskState) (hive : Option Session)
+    → r'.machine ≡ aside_machine ev r.machine → e ≡ aside_disk ev d → IsSound r d hive → IsSound r' e hive
 beside_sound ev r r' d e None machine disk h = ((aside_at ev d e disk).down h.0, aside_runs ev r r' machine ∙ h.1)
 beside_sound ev r r' d e (Some s) machine disk h =
     let P : Option Start → Type 0 = λ o. IsRunningBy o s.tree in
     ((aside_at ev d e disk).up s h.0, subst P (sym (aside_runs ev r r' machine)) h.1)
 
-beside_by : (ev : Event) (m : RunState) (k : MachineState) (d e : DiskState) (hive : Option Session) → e ≡ aside_disk ev d → AgreesBy m d hive → AgreesBy (record m { machine = k }) e hive
+beside_by : (ev : Event) (m : RunState) (k : MachineState) (d e : DiskState) (hive : Option Session)
+    → e ≡ aside_disk ev d → AgreesBy m d hive → AgreesBy (record m { machine = k }) e hive
 beside_by ev m k d e None disk h = (aside_at ev d e disk).left m h
 beside_by ev m k d e (Some s) disk h = (aside_at ev d e disk).live m k s h
 
-pub beside_goes : (ev : Event) (m : RunState) (r r' : Runner) (x : Told) (d e : DiskState) (hive : Option Session) → r'.machine ≡ aside_machine ev r.machine → r'.starts ≡ r.starts
+pub beside_goes : (ev : Event) (m : RunState) (r r' : Runner) (x : Told) (d e : DiskState) (hive : Option Session)
+    → r'.machine ≡ aside_machine ev r.machine → r'.starts ≡ r.starts
     → e ≡ aside_disk ev d → Agrees m r d hive
-    → ((a : Act) × (Goes (play (aside_act ev m)) (play a) x x d e × (a ≡ done (record m { machine = aside_machine ev m.machine }))))
+    → ((a : Act) × (Goes (play (aside_act ev m)) (play a) x x d e
+    × (a ≡ done (record m { machine = aside_machine ev m.machine }))))
     → (a : Act) × (Goes (play (aside_act ev m)) (play a) x x d e × TurnLeft r' e hive a)
 beside_goes ev m r r' x d e hive machine starts disk agrees p =
     let k : MachineState = aside_machine ev m.machine in
-    let counts : Counts (record m { machine = k }) r' = record { machine = ap (aside_machine ev) agrees.counts.machine ∙ sym machine; starts = agrees.counts.starts ∙ sym starts } in
-    (p.0, (p.1.0, record { after = record m { machine = k }; is = p.1.1; agrees = record { counts = counts; by = beside_by ev m k d e hive disk agrees.by } }))
+    let counts : Counts (record m { machine = k }) r' =
+    record {
+      machine = ap (aside_machine ev) agrees.counts.machine ∙ sym machine;
+      starts = agrees.counts.starts ∙ sym starts;
+    } in (
+      p.0,
+      (
+        p.1.0,
+        record {
+          after = record m { machine = k };
+          is = p.1.1;
+          agrees = record { counts = counts; by = beside_by ev m k d e hive disk agrees.by };
+        },
+      ),
+    )
 
 -- failures are noted, and nothing is said
-pub aside_goes : (ev : Event) (m : RunState) (x : Told) (d : DiskState) → aside_act ev m ≡ done (record m { machine = aside_machine ev m.machine })
-    → (a : Act) × (Goes (play (aside_act ev m)) (play a) x x d d × (a ≡ done (record m { machine = aside_machine ev m.machine })))
+pub aside_goes : (ev : Event) (m : RunState) (x : Told) (d : DiskState)
+    → aside_act ev m ≡ done (record m { machine = aside_machine ev m.machine })
+    → (a : Act) × (Goes (play (aside_act ev m)) (play a) x x d d
+    × (a ≡ done (record m { machine = aside_machine ev m.machine })))
 aside_goes ev m x d is = (aside_act ev m, (goes-nothing (play (aside_act ev m)) x d d (still d), is))
 
-pub fail_act : (ev : Event) (name : List ℕ) (count : ℕ) (m : RunState) → ev ≡ Fail name count → aside_act ev m ≡ done (record m { machine = aside_machine ev m.machine })
-fail_act ev name count m is = let P : Event → Type 0 = λ v. aside_act v m ≡ done (record m { machine = aside_machine v m.machine }) in subst P (sym is) refl
+pub fail_act : (ev : Event) (name : List ℕ) (count : ℕ) (m : RunState) → ev ≡ Fail name count
+    → aside_act ev m ≡ done (record m { machine = aside_machine ev m.machine })
+fail_act ev name count m is = let P : Event → Type 0 =
+    λ v. aside_act v m ≡ done (record m { machine = aside_machine v m.machine }) in subst P (sym is) refl
 
 -- nothing was done, and nothing said
-pub aside_breaks : (ev : Event) (m : RunState) (x : Told) (d : DiskState) → EachCrash d (MayLoad m.disk) → Breaks (aside_act ev m) x x.said d d
+pub aside_breaks : (ev : Event) (m : RunState) (x : Told) (d : DiskState) → EachCrash d (MayLoad m.disk)
+    → Breaks (aside_act ev m) x x.said d d
 aside_breaks ev m x d left =
     breaks-silent (aside_act ev m) x d d (still d) (may ev left)
   where
@@ -151,11 +195,13 @@ pub record DoesNothing (ev : Event) : Type 0 where
   pub act : (m : RunState) → aside_act ev m ≡ done (record m { machine = aside_machine ev m.machine })
 
 pub other_does_nothing : (ev : script.Event) → ((x : Units) (n : ℕ) → ev ≡ code.Fail x n → ⊥)
-    → ((x : calls.DiskCall) (n : ℕ) (k : keeps.Keep) → ev ≡ code.ArmCut x n k → ⊥) → ((x : calls.DiskCall) (n : ℕ) → ev ≡ code.ArmFault x n → ⊥) → DoesNothing (event_in ev)
+    → ((x : calls.DiskCall) (n : ℕ) (k : keeps.Keep) → ev ≡ code.ArmCut x n k → ⊥)
+    → ((x : calls.DiskCall) (n : ℕ) → ev ≡ code.ArmFault x n → ⊥) → DoesNothing (event_in ev)
 other_does_nothing (code.Boot entry good) f a b = record { machine = λ k. refl; disk = λ d. refl; act = λ m. refl }
 other_does_nothing (code.Go steps) f a b = record { machine = λ k. refl; disk = λ d. refl; act = λ m. refl }
 other_does_nothing (code.Fail name count) f a b = absurd (f name count refl)
-other_does_nothing (code.Set path name kind bytes) f a b = record { machine = λ k. refl; disk = λ d. refl; act = λ m. refl }
+other_does_nothing (code.Set path name kind bytes) f a b =
+    record { machine = λ k. refl; disk = λ d. refl; act = λ m. refl }
 other_does_nothing (code.Delete path name) f a b = record { machine = λ k. refl; disk = λ d. refl; act = λ m. refl }
 other_does_nothing (code.Make path) f a b = record { machine = λ k. refl; disk = λ d. refl; act = λ m. refl }
 other_does_nothing (code.Remove path) f a b = record { machine = λ k. refl; disk = λ d. refl; act = λ m. refl }
@@ -175,10 +221,12 @@ step_fits number (Delete path name) = tt
 step_fits number (Make path) = tt
 step_fits number (Remove path) = tt
 
-pub made_fits : (step : TreeStep) (number : ℕ) (e : Edit) → made.step_of step ≡ book.step_of number e → Fits (made.step_of step)
+pub made_fits : (step : TreeStep) (number : ℕ) (e : Edit) → made.step_of step ≡ book.step_of number e
+    → Fits (made.step_of step)
 made_fits step number e is = let P : Step → Type 0 = λ s. Fits s in subst P (sym is) (step_fits number e)
 
-pub made_all : {E : Type 0} → (r : Result TreeStep E) (number : ℕ) (e : Edit) → IfOk r (λ s. made.step_of s ≡ book.step_of number e) → IfOk r (λ s. Fits (made.step_of s))
+pub made_all : {E : Type 0} → (r : Result TreeStep E) (number : ℕ) (e : Edit)
+    → IfOk r (λ s. made.step_of s ≡ book.step_of number e) → IfOk r (λ s. Fits (made.step_of s))
 made_all (Ok step) number e h = made_fits step number e h
 made_all (Err stop) number e h = tt
 
@@ -186,7 +234,8 @@ made_all (Err stop) number e h = tt
 abbrev pub set_taken : Start → ℕ × Bool
 set_taken s = (s.number, s.on_good)
 
-pub step_running : {E : Type 0} → (r : Result TreeStep E) (o : Option Start) (taken : ℕ × Bool) (ev : Event) → Some taken ≡ option_map set_taken o
+pub step_running : {E : Type 0} → (r : Result TreeStep E) (o : Option Start) (taken : ℕ × Bool) (ev : Event)
+    → Some taken ≡ option_map set_taken o
     → IfOk r (IsStepOf taken.0 ev) → IfOk r (λ step. IfSome o (λ (s : Start). IsStepOf s.number ev step))
 step_running (Err stop) o taken ev is h = tt
 step_running (Ok step) None taken ev is h = tt
@@ -194,7 +243,8 @@ step_running (Ok step) (Some s) taken ev is h =
     let e : taken ≡ set_taken s = cc in
     let P : ℕ × Bool → Type 0 = λ k. IsStepOf k.0 ev step in subst P e h
 
-pub number_most : (o : Option Start) (taken : ℕ × Bool) → Some taken ≡ option_map set_taken o → IfSome o (λ (s : Start). s.number ≤ 999) → taken.0 ≤ 999
+pub number_most : (o : Option Start) (taken : ℕ × Bool) → Some taken ≡ option_map set_taken o
+    → IfSome o (λ (s : Start). s.number ≤ 999) → taken.0 ≤ 999
 number_most None taken is h = absurd cc
 number_most (Some s) taken is h =
     let e : set_taken s ≡ taken = cc in
@@ -224,7 +274,8 @@ pub running_most : (o : Option Start) (tree : Tree) → IsRunningBy o tree → I
 running_most None tree h = absurd h
 running_most (Some s) tree h = (usable_parts tree s.number h.there).most
 
-pub edit_free : (o : Option Start) (tree : Tree) (ev : Event) (e : Edit) → IsRunningBy o tree → ev ≡ Edits e → refusal_in o ev ≡ None → is_protected e ≡ false
+pub edit_free : (o : Option Start) (tree : Tree) (ev : Event) (e : Edit) → IsRunningBy o tree → ev ≡ Edits e
+    → refusal_in o ev ≡ None → is_protected e ≡ false
 edit_free None tree ev e h is ok = absurd h
 edit_free (Some s) tree ev e h is ok =
     let P : Event → Type 0 = λ v. refusal_in (Some s) v ≡ None in by_word (is_protected e) (subst P is ok)
@@ -233,7 +284,8 @@ edit_free (Some s) tree ev e h is ok =
     by_word true h = absurd cc
     by_word false h = refl
 
-pub edit_step : (o : Option Start) (n : ℕ) (ev : Event) (e : Edit) (step : TreeStep) → RunsOnBy o n → ev ≡ Edits e → IfSome o (λ (s : Start). IsStepOf s.number ev step)
+pub edit_step : (o : Option Start) (n : ℕ) (ev : Event) (e : Edit) (step : TreeStep) → RunsOnBy o n → ev ≡ Edits e
+    → IfSome o (λ (s : Start). IsStepOf s.number ev step)
     → made.step_of step ≡ book.step_of n e
 edit_step None n ev e step h is made_by = absurd h
 edit_step (Some s) n ev e step h is made_by =
@@ -241,7 +293,8 @@ edit_step (Some s) n ev e step h is made_by =
     let here : made.step_of step ≡ book.step_of s.number e = subst P is made_by in
     here ∙ ap (λ (k : ℕ). book.step_of k e) h
 
-pub edit_act : (choice : Option ℕ → Choice) (o : Option Start) (n : ℕ) (ev : Event) (e : Edit) (m : RunState) → RunsOnBy o n → ev ≡ Edits e
+pub edit_act : (choice : Option ℕ → Choice) (o : Option Start) (n : ℕ) (ev : Event) (e : Edit) (m : RunState)
+    → RunsOnBy o n → ev ≡ Edits e
     → edit_done (Edits e) m (edited m.version m.live (book.step_of n e ∷ [])) ≡ accepted_act choice o ev m
 edit_act choice None n ev e m h is = absurd h
 edit_act choice (Some s) n ev e m h is =
@@ -250,37 +303,45 @@ edit_act choice (Some s) n ev e m h is =
 
 -- ---- an event that was accepted
 
-pub act_by : (choice : Option ℕ → Choice) (o : Option Start) (a : Act) (ev one : Event) (m : RunState) → ev ≡ one → a ≡ accepted_act choice o one m → a ≡ accepted_act choice o ev m
+pub act_by : (choice : Option ℕ → Choice) (o : Option Start) (a : Act) (ev one : Event) (m : RunState) → ev ≡ one
+    → a ≡ accepted_act choice o one m → a ≡ accepted_act choice o ev m
 act_by choice o a ev one m is h = h ∙ ap (λ (v : Event). accepted_act choice o v m) (sym is)
 
 pub counted : (m : RunState) (r : Runner) → Counts m r → m.machine.start ≡ r.machine.start
 counted m r counts = ap (λ (k : MachineState). k.start) counts.machine
 
-pub there_by : (m : RunState) (r : Runner) (tree : Tree) → Counts m r → IsRunningBy r.machine.start tree → is_there m.machine.start ≡ true
+pub there_by : (m : RunState) (r : Runner) (tree : Tree) → Counts m r → IsRunningBy r.machine.start tree
+    → is_there m.machine.start ≡ true
 there_by m r tree counts h = ap is_there (counted m r counts) ∙ running_there r.machine.start tree h
 
-pub go_accepted : (choice : Option ℕ → Choice) (o : Option Start) (steps : Option ℕ) (m : RunState) → is_there o ≡ true → go_act steps m ≡ accepted_act choice o (Go steps) m
+pub go_accepted : (choice : Option ℕ → Choice) (o : Option Start) (steps : Option ℕ) (m : RunState) → is_there o ≡ true
+    → go_act steps m ≡ accepted_act choice o (Go steps) m
 go_accepted choice None steps m h = absurd cc
 go_accepted choice (Some s) steps m h = refl
 
-pub flush_accepted : (choice : Option ℕ → Choice) (o : Option Start) (m : RunState) → is_there o ≡ true → flush_act m ≡ accepted_act choice o Flush m
+pub flush_accepted : (choice : Option ℕ → Choice) (o : Option Start) (m : RunState) → is_there o ≡ true
+    → flush_act m ≡ accepted_act choice o Flush m
 flush_accepted choice None m h = absurd cc
 flush_accepted choice (Some s) m h = refl
 
-pub logon_accepted : (choice : Option ℕ → Choice) (o : Option Start) (m : RunState) → is_there o ≡ true → option_map_or (λ s. logon_act s m) o (done m) ≡ accepted_act choice o Logon m
+pub logon_accepted : (choice : Option ℕ → Choice) (o : Option Start) (m : RunState) → is_there o ≡ true
+    → option_map_or (λ s. logon_act s m) o (done m) ≡ accepted_act choice o Logon m
 logon_accepted choice None m h = absurd cc
 logon_accepted choice (Some s) m h = refl
 
-pub off_accepted : (choice : Option ℕ → Choice) (o : Option Start) (m : RunState) → is_there o ≡ true → option_map_or (λ s. off_act s m) o (done m) ≡ accepted_act choice o Off m
+pub off_accepted : (choice : Option ℕ → Choice) (o : Option Start) (m : RunState) → is_there o ≡ true
+    → option_map_or (λ s. off_act s m) o (done m) ≡ accepted_act choice o Off m
 off_accepted choice None m h = absurd cc
 off_accepted choice (Some s) m h = refl
 
-pub cut_accepted : (choice : Option ℕ → Choice) (o : Option Start) (keep : Keep) (m : RunState) → is_there o ≡ true → cut_act m ≡ accepted_act choice o (CutNow keep) m
+pub cut_accepted : (choice : Option ℕ → Choice) (o : Option Start) (keep : Keep) (m : RunState) → is_there o ≡ true
+    → cut_act m ≡ accepted_act choice o (CutNow keep) m
 cut_accepted choice None keep m h = absurd cc
 cut_accepted choice (Some s) keep m h = refl
 
 -- whatever is accepted while no start runs and is no boot leaves the session alone
-pub other_idles : (choice : Option ℕ → Choice) (ev : script.Event) (m : RunState) → ((entry : Option ℕ) (good : Bool) → ev ≡ code.Boot entry good → ⊥)
+pub other_idles : (choice : Option ℕ → Choice) (ev : script.Event) (m : RunState)
+    → ((entry : Option ℕ) (good : Bool) → ev ≡ code.Boot entry good → ⊥)
     → aside_act (event_in ev) m ≡ idle_act choice (event_in ev) m
 other_idles choice (code.Boot entry good) m f = absurd (f entry good refl)
 other_idles choice (code.Go steps) m f = refl
@@ -309,7 +370,8 @@ pub record IsBeside (ev : script.Event) : Type 0 where
   pub remove : (path : Names) → ev ≡ code.Remove path → ⊥
 
 -- whatever else is accepted while a start runs leaves the session alone
-other_runs_by : (choice : Option ℕ → Choice) (s : Start) (ev : script.Event) (m : RunState) → IsBeside ev → aside_act (event_in ev) m ≡ accepted_act choice (Some s) (event_in ev) m
+other_runs_by : (choice : Option ℕ → Choice) (s : Start) (ev : script.Event) (m : RunState) → IsBeside ev
+    → aside_act (event_in ev) m ≡ accepted_act choice (Some s) (event_in ev) m
 other_runs_by choice s (code.Boot entry good) m h = refl
 other_runs_by choice s (code.Go steps) m h = absurd (h.go steps refl)
 other_runs_by choice s (code.Fail name count) m h = refl
@@ -324,27 +386,38 @@ other_runs_by choice s (code.CutNow keep) m h = absurd (h.cut keep refl)
 other_runs_by choice s (code.ArmCut call n keep) m h = refl
 other_runs_by choice s (code.ArmFault call n) m h = refl
 
-pub other_runs : (choice : Option ℕ → Choice) (o : Option Start) (ev : script.Event) (m : RunState) → is_there o ≡ true → IsBeside ev
+pub other_runs : (choice : Option ℕ → Choice) (o : Option Start) (ev : script.Event) (m : RunState) → is_there o ≡ true
+    → IsBeside ev
     → aside_act (event_in ev) m ≡ accepted_act choice o (event_in ev) m
 other_runs choice None ev m there h = absurd cc
 other_runs choice (Some s) ev m there h = other_runs_by choice s ev m h
 
 -- ---- an event
 
-pub event_accepted : (choice : Option ℕ → Choice) (ev : Event) (m : RunState) (r : Runner) → Counts m r → refusal_of r.machine ev ≡ None
+pub event_accepted : (choice : Option ℕ → Choice) (ev : Event) (m : RunState) (r : Runner) → Counts m r
+    → refusal_of r.machine ev ≡ None
     → accepted_act choice m.machine.start ev m ≡ event_step_of choice ev m
 unfolding event_step_of
-event_accepted choice ev m r counts ok = ap (act_unless choice ev m) (sym (ap (λ (k : MachineState). refusal_of k ev) counts.machine ∙ ok))
+event_accepted choice ev m r counts ok =
+    ap (act_unless choice ev m) (sym (ap (λ (k : MachineState). refusal_of k ev) counts.machine ∙ ok))
 
-pub event_refused : (choice : Option ℕ → Choice) (ev : Event) (why : RefusedWord) (m : RunState) (r : Runner) → Counts m r → refusal_of r.machine ev ≡ Some why
+pub event_refused : (choice : Option ℕ → Choice) (ev : Event) (why : RefusedWord) (m : RunState) (r : Runner)
+    → Counts m r → refusal_of r.machine ev ≡ Some why
     → say (RefusedLine (event_word_of ev) why) (done m) ≡ event_step_of choice ev m
 unfolding event_step_of
-event_refused choice ev why m r counts is = ap (act_unless choice ev m) (sym (ap (λ (k : MachineState). refusal_of k ev) counts.machine ∙ is))
+event_refused choice ev why m r counts is =
+    ap (act_unless choice ev m) (sym (ap (λ (k : MachineState). refusal_of k ev) counts.machine ∙ is))
 
 -- the refusal is said, and all is as it was
-pub refused_plays : {E : Type 0} → (result : Result (Unit {0}) E) (ev : Event) (why : RefusedWord) (m : RunState) (r r' : Runner) (x y : Told) (d : DiskState) (hive : Option Session)
-    → r'.machine ≡ r.machine → r'.starts ≡ r.starts → IsSound r d hive → Agrees m r d hive → TellsOr (RefusedLine (event_word_of ev) why) x y result
+pub refused_plays : {E : Type 0}
+    → (result : Result (Unit {0}) E) (ev : Event) (why : RefusedWord) (m : RunState) (r r' : Runner) (x y : Told)
+    (d : DiskState) (hive : Option Session)
+    → r'.machine ≡ r.machine → r'.starts ≡ r.starts → IsSound r d hive → Agrees m r d hive
+    → TellsOr (RefusedLine (event_word_of ev) why) x y result
     → PlaysOr (say (RefusedLine (event_word_of ev) why) (done m)) x y d d result (λ u rest. TurnLeft r' d hive rest)
 refused_plays result ev why m r r' x y d hive machine starts sound agrees said =
-    plays-line result (λ u rest. TurnLeft r' d hive rest) (RefusedLine (event_word_of ev) why) (done m) x y d d (still d) refl said (agrees_left m r d hive sound agrees.by)
-    (λ v. here_turn m r' d hive (record { machine = agrees.counts.machine ∙ sym machine; starts = agrees.counts.starts ∙ sym starts }) agrees.by)
+    plays-line result (λ u rest. TurnLeft r' d hive rest) (RefusedLine (event_word_of ev) why) (done m) x y d d
+    (still d) refl said (agrees_left m r d hive sound agrees.by)
+    (λ v. here_turn m r' d hive
+    (record { machine = agrees.counts.machine ∙ sym machine; starts = agrees.counts.starts ∙ sym starts })
+    agrees.by)

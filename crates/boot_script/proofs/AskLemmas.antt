@@ -52,17 +52,20 @@ spaces_once line = ap (λ (k : ℕ). drop k (without_spaces line)) (no_front is_
 same_words : (line : List ℕ) → 0 < length (without_spaces line) → words_of (without_spaces line) ≡ words_of line
 same_words line some =
     next_word (without_spaces line) (rw (spaces_once line) some)
-    ∙ ap (λ (t : List ℕ). word_at t >>= λ first. words_of first.1 >>= λ others. Ok (first.0 ∷ others)) (spaces_once line)
+    ∙ ap (λ (t : List ℕ). word_at t >>= λ first. words_of first.1 >>= λ others. Ok (first.0 ∷ others))
+    (spaces_once line)
     ∙ sym (next_word line some)
 
 -- ---- what a line was found to ask for
 
-event_found : (words : List (List ℕ)) (event : Option Event) (line : List ℕ) → event_of words ≡ Ok event → IsLineOf words line
+event_found : (words : List (List ℕ)) (event : Option Event) (line : List ℕ) → event_of words ≡ Ok event
+    → IsLineOf words line
     → AsksFor event line
 unfolding event_of
 event_found [] None line e is = inl is
 event_found [] (Some event) line e is = absurd cc
-event_found (name ∷ words) None line e is = let c = bind_ok (command_of name words) (λ e. Ok (Some e)) None e in absurd cc
+event_found (name ∷ words) None line e is = let c = bind_ok (command_of name words) (λ e. Ok (Some e)) None e in
+    absurd cc
 event_found (name ∷ words) (Some event) line e is =
     let c = bind_ok (command_of name words) (λ e. Ok (Some e)) (Some event) e in
     let same : c.0 ≡ event = cc in
@@ -75,15 +78,23 @@ silent_is (Some event) line e is = absurd cc
 comment_found : (c : ℕ) (text line : List ℕ) → without_spaces line ≡ c ∷ text → eqb c 35 ≡ true → IsSilent line
 comment_found c text line e is =
     let k : ℕ = prefix_len is_space line in
-    inr (take k line, text, front_passes is_space line, split_spaces line (c ∷ text) e ∙ ap (λ (n : ℕ). take k line ++ n ∷ text) (eqb-true c 35 is))
+    inr (
+      take k line,
+      text,
+      front_passes is_space line,
+      split_spaces line (c ∷ text) e
+          ∙ ap (λ (n : ℕ). take k line ++ n ∷ text) (eqb-true c 35 is),
+    )
 
 trimmed_found : (text line : List ℕ) (event : Option Event) → without_spaces line ≡ text → trimmed_event text ≡ Ok event
     → AsksFor event line
 unfolding trimmed_event
-trimmed_found [] line event e f = let none : event ≡ None = cc in silent_is event line none (inl (all_pass is_space line (ap length e)))
+trimmed_found [] line event e f = let none : event ≡ None = cc in
+    silent_is event line none (inl (all_pass is_space line (ap length e)))
 trimmed_found (c ∷ text) line event e f = by_test (eqb c 35) refl f
   where
-    by_test : (b : Bool) → eqb c 35 ≡ b → cond b (Ok None) (words_of (c ∷ text) >>= event_of) ≡ Ok event → AsksFor event line
+    by_test : (b : Bool) → eqb c 35 ≡ b → cond b (Ok None) (words_of (c ∷ text) >>= event_of) ≡ Ok event
+        → AsksFor event line
     by_test true is g = let none : event ≡ None = cc in silent_is event line none (comment_found c text line e is)
     by_test false is g =
         let w = bind_ok (words_of (c ∷ text)) event_of event g in
@@ -153,7 +164,8 @@ words_read (word ∷ words) line event is spelled =
     ap without_spaces o.spelled ∙ spaces_dropped o.gap text o.spaces (word_starts word o.shown rest o.is_shown) in
     let shown : 0 < length o.shown = shown_some word o.shown o.is_shown in
     let some : 0 < length (without_spaces line) = rw behind (omega (arith, length-append o.shown rest)) in
-    let here : words_of text ≡ Ok (word ∷ words) = ap words_of (sym behind) ∙ same_words line some ∙ reads (word ∷ words) line is in
+    let here : words_of text ≡ Ok (word ∷ words) =
+    ap words_of (sym behind) ∙ same_words line some ∙ reads (word ∷ words) line is in
     let by_words = read_by_words word o.shown rest words o.is_shown (spells_command event (word ∷ words) spelled) in
     ap trimmed_event behind ∙ by_words ∙ ap (λ (r : Result (List (List ℕ)) ScriptFaultKind). r >>= event_of) here
     ∙ event_read event (word ∷ words) spelled
@@ -161,7 +173,8 @@ words_read (word ∷ words) line event is spelled =
 silent_read : (line : List ℕ) → IsSilent line → line_event line ≡ Ok None
 unfolding trimmed_event
 silent_read line (inl all) = rw (empty (without_spaces line) (all_dropped line all)) refl
-silent_read line (inr h) = ap trimmed_event (ap without_spaces h.3 ∙ spaces_dropped h.0 (35 ∷ h.1) h.2 (comment_stops h.1))
+silent_read line (inr h) =
+    ap trimmed_event (ap without_spaces h.3 ∙ spaces_dropped h.0 (35 ∷ h.1) h.2 (comment_stops h.1))
 
 line_read : (event : Option Event) (line : List ℕ) → AsksFor event line → line_event line ≡ Ok event
 line_read None line is = silent_read line is
@@ -174,7 +187,8 @@ starts-append : (event : Option Event) (events : List Event)
 starts-append None events = omega arith
 starts-append (Some event) events = refl
 
-record AfterLine (events : List Event) (boots : ℕ) (event : Option Event) (rest : Result (List Event) ScriptFault) : Type 0 where
+record AfterLine (events : List Event) (boots : ℕ) (event : Option Event)
+    (rest : Result (List Event) ScriptFault) : Type 0 where
   others : List Event
   few : boots + starts event ≤ 64
   read : rest ≡ Ok others
@@ -185,7 +199,8 @@ put_found : (front events : List Event) (r : Result (List Event) ScriptFault) �
 put_found front events (Ok others) e = (others, refl, cc)
 put_found front events (Err f) e = absurd cc
 
-after_found : (n boots : ℕ) (r : Result (Option Event) ScriptFaultKind) (next : ℕ → Result (List Event) ScriptFault) (events : List Event) → after_line n boots r next ≡ Ok events
+after_found : (n boots : ℕ) (r : Result (Option Event) ScriptFaultKind) (next : ℕ → Result (List Event) ScriptFault)
+    (events : List Event) → after_line n boots r next ≡ Ok events
     → (event : Option Event) × (r ≡ Ok event) × AfterLine events boots event (next (boots + starts event))
 after_found n boots (Ok event) next events e = (event, refl, by_test (ltb 64 (boots + starts event)) refl e)
   where
@@ -202,7 +217,8 @@ record Found (boots : ℕ) (events : List Event) (ls : List (List ℕ)) : Type 0
   few : boots + starts_in events ≤ 64
   asked : AskFor events ls
 
-events_found : (n boots : ℕ) (ls : List (List ℕ)) (events : List Event) → boots ≤ 64 → events_from n boots ls ≡ Ok events
+events_found : (n boots : ℕ) (ls : List (List ℕ)) (events : List Event) → boots ≤ 64
+    → events_from n boots ls ≡ Ok events
     → Found boots events ls
 unfolding events_from
 events_found n boots [] events le e =
@@ -213,11 +229,13 @@ events_found n boots (line ∷ ls) events le e =
     let more : AfterLine events boots a.0 (events_from (n + 1) (boots + starts a.0) ls) = a.2 in
     let rest : Found (boots + starts a.0) more.others ls =
     events_found (n + 1) (boots + starts a.0) ls more.others more.few more.read in
-    let sum : starts_in events ≡ starts a.0 + starts_in more.others = ap starts_in more.whole ∙ starts-append a.0 more.others in
+    let sum : starts_in events ≡ starts a.0 + starts_in more.others =
+    ap starts_in more.whole ∙ starts-append a.0 more.others in
     let few : boots + starts a.0 + starts_in more.others ≤ 64 = rest.few in
     record { few = omega arith; asked = (a.0, more.others, line_found line a.0 a.1, more.whole, rest.asked) }
 
-events_read : (n boots : ℕ) (ls : List (List ℕ)) (events : List Event) → boots + starts_in events ≤ 64 → AskFor events ls
+events_read : (n boots : ℕ) (ls : List (List ℕ)) (events : List Event) → boots + starts_in events ≤ 64
+    → AskFor events ls
     → events_from n boots ls ≡ Ok events
 unfolding events_from
 events_read n boots [] events few none = ap (λ (es : List Event). Ok es) (sym none)
@@ -234,7 +252,8 @@ pub script_found : (text : List ℕ) (events : List Event) → script_of text �
 unfolding script_of
 script_found text events e = by_test (ltb 65536 (length text)) refl e
   where
-    by_test : (b : Bool) → ltb 65536 (length text) ≡ b → cond b (at_line 0 TooLong) (events_from 1 0 (lines text)) ≡ Ok events
+    by_test : (b : Bool) → ltb 65536 (length text) ≡ b
+        → cond b (at_line 0 TooLong) (events_from 1 0 (lines text)) ≡ Ok events
         → IsScript text events
     by_test true is f = absurd cc
     by_test false is f =
@@ -271,15 +290,18 @@ record Few (events : List Event) (ls : List (List ℕ)) : Type 0 where
   counts : All HasCounts events
   few : length events ≤ length ls
 
-one_more : (event : Option Event) (line : List ℕ) (others : List Event) (ls : List (List ℕ)) → AsksFor event line → Few others ls
+one_more : (event : Option Event) (line : List ℕ) (others : List Event) (ls : List (List ℕ)) → AsksFor event line
+    → Few others ls
     → Few (option_to_list event ++ others) (line ∷ ls)
-one_more None line others ls asks rest = let few : length others ≤ length ls = rest.few in record { counts = rest.counts; few = omega arith }
+one_more None line others ls asks rest = let few : length others ≤ length ls = rest.few in
+    record { counts = rest.counts; few = omega arith }
 one_more (Some event) line others ls asks rest =
     let few : length others ≤ length ls = rest.few in
     record { counts = All-cons HasCounts event others (counted event asks.0 asks.2) rest.counts; few = omega arith }
 
 few_events : (events : List Event) (ls : List (List ℕ)) → AskFor events ls → Few events ls
-few_events events [] none = subst (λ (es : List Event). Few es []) (sym none) (record { counts = All-nil HasCounts; few = omega arith })
+few_events events [] none =
+    subst (λ (es : List Event). Few es []) (sym none) (record { counts = All-nil HasCounts; few = omega arith })
 few_events events (line ∷ ls) h =
     subst (λ (es : List Event). Few es (line ∷ ls)) (sym h.3) (one_more h.0 line h.1 ls h.2 (few_events h.1 ls h.4))
 
@@ -310,5 +332,6 @@ bounded text events is =
 pub read_is_bounded : (r : Result (List Event) ScriptStop) (text : List ℕ) → length text ≤ 65536
     → GivesScript r (events_from 1 0 (lines text)) → IfOk r IsBounded
 unfolding script_of
-read_is_bounded (Ok events) text short e = bounded text events (script_found text events (rw (le-ltb 65536 (length text) short) e))
+read_is_bounded (Ok events) text short e =
+    bounded text events (script_found text events (rw (le-ltb 65536 (length text) short) e))
 read_is_bounded (Err stop) text short e = tt

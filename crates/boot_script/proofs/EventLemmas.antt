@@ -28,7 +28,8 @@ use Rattle.boot_script.proofs.WordLemmas.{done, ok_is}
 
 -- ---- what a reader that succeeded has found
 
-pub bind_ok : {A B : Type 0} (r : Result A ScriptFaultKind) (f : A → Result B ScriptFaultKind) (y : B) → (r >>= f) ≡ Ok y
+pub bind_ok : {A B : Type 0} (r : Result A ScriptFaultKind) (f : A → Result B ScriptFaultKind) (y : B)
+    → (r >>= f) ≡ Ok y
     → (x : A) × (r ≡ Ok x) × (f x ≡ Ok y)
 bind_ok (Ok x) f y e = (x, refl, e)
 bind_ok (Err k) f y e = absurd cc
@@ -44,7 +45,8 @@ holds true k r y e = (refl, e)
 holds false k r y e = absurd cc
 
 -- by one test, or by what follows it
-either : {A : Type 0} (b : Bool) (r s : Result A ScriptFaultKind) (y : A) (P : Type 0) → (b ≡ true → r ≡ Ok y → P) → (s ≡ Ok y → P)
+either : {A : Type 0} (b : Bool) (r s : Result A ScriptFaultKind) (y : A) (P : Type 0) → (b ≡ true → r ≡ Ok y → P)
+    → (s ≡ Ok y → P)
     → cond b r s ≡ Ok y → P
 either true r s y P f g e = f refl e
 either false r s y P f g e = g e
@@ -89,14 +91,21 @@ digits_are low n word is =
 number_read : (low n : ℕ) (word : List ℕ) → IsNumber low n word → number_from low word ≡ Ok n
 unfolding number_from
 number_read low n word is =
-    rw (digits_are low n word is, le-ltb 10 (length word) is.few, is.writes, le-ltb n low is.least, le-ltb 4294967295 n is.most) refl
+    rw (
+      digits_are low n word is,
+      le-ltb 10 (length word) is.few,
+      is.writes,
+      le-ltb n low is.least,
+      le-ltb 4294967295 n is.most,
+    ) refl
 
 -- ---- paths
 
 plain_onto : (c : ℕ) (parts : List (List ℕ)) → is_in_name c ≡ true → list_all is_name parts ≡ true
     → list_all is_name (onto_first c parts) ≡ true
 plain_onto c [] e all = joined _ _ (joined _ _ e refl) refl
-plain_onto c (part ∷ parts) e all = let q = both (is_name part) (list_all is_name parts) all in joined _ _ (joined _ _ e q.0) q.1
+plain_onto c (part ∷ parts) e all = let q = both (is_name part) (list_all is_name parts) all in
+    joined _ _ (joined _ _ e q.0) q.1
 
 parts_plain : (word : List ℕ) → list_all is_name (path_of word) ≡ true
 parts_plain [] = refl
@@ -120,7 +129,8 @@ no_backslash (c ∷ name) e =
     let q = both (is_in_name c) (is_name name) e in
     All-cons (λ c. is_backslash c ≡ false) c name (not_true (is_backslash c) q.0) (no_backslash name q.1)
 
-joined_read : (names : List (List ℕ)) → 0 < length names → list_all is_name names ≡ true → path_of (join_with_byte 92 names) ≡ names
+joined_read : (names : List (List ℕ)) → 0 < length names → list_all is_name names ≡ true
+    → path_of (join_with_byte 92 names) ≡ names
 joined_read [] some all = absurd (omega arith)
 joined_read (x ∷ []) some all = slice_split_none is_backslash x (no_backslash x (both (is_name x) true all).0)
 joined_read (x ∷ y ∷ more) some all =
@@ -203,7 +213,12 @@ string_found [] d e = absurd cc
 string_found (a ∷ []) d e =
     let made : ℕ × List ℕ = (1, text_bytes a) in
     let same : made ≡ d = ok_is made d e in
-    record { text = a; spelled = refl; kind_is = sym (ap (λ (x : ℕ × List ℕ). x.0) same); bytes_are = sym (ap (λ (x : ℕ × List ℕ). x.1) same) }
+    record {
+      text = a;
+      spelled = refl;
+      kind_is = sym (ap (λ (x : ℕ × List ℕ). x.0) same);
+      bytes_are = sym (ap (λ (x : ℕ × List ℕ). x.1) same);
+    }
 string_found (a ∷ b ∷ more) d e = absurd cc
 
 strings_found : (words : List (List ℕ)) (d : ℕ × List ℕ) → done (7, texts_bytes words) ≡ Ok d
@@ -211,9 +226,15 @@ strings_found : (words : List (List ℕ)) (d : ℕ × List ℕ) → done (7, tex
 strings_found words d e =
     let made : ℕ × List ℕ = (7, texts_bytes words) in
     let same : made ≡ d = ok_is made d e in
-    record { texts = words; spelled = refl; kind_is = sym (ap (λ (x : ℕ × List ℕ). x.0) same); bytes_are = sym (ap (λ (x : ℕ × List ℕ). x.1) same) }
+    record {
+      texts = words;
+      spelled = refl;
+      kind_is = sym (ap (λ (x : ℕ × List ℕ). x.0) same);
+      bytes_are = sym (ap (λ (x : ℕ × List ℕ). x.1) same);
+    }
 
-binary_found : (words : List (List ℕ)) (d : ℕ × List ℕ) → binary_of words ≡ Ok d → IsBinary d.0 d.1 (codes "binary" ∷ words)
+binary_found : (words : List (List ℕ)) (d : ℕ × List ℕ) → binary_of words ≡ Ok d
+    → IsBinary d.0 d.1 (codes "binary" ∷ words)
 unfolding binary_of is_hex
 binary_found [] d e = absurd cc
 binary_found (a ∷ []) d e =
@@ -230,14 +251,18 @@ binary_found (a ∷ []) d e =
     }
 binary_found (a ∷ b ∷ more) d e = absurd cc
 
-data_found : (kind : List ℕ) (words : List (List ℕ)) (d : ℕ × List ℕ) → data_of kind words ≡ Ok d → IsData d.0 d.1 (kind ∷ words)
+data_found : (kind : List ℕ) (words : List (List ℕ)) (d : ℕ × List ℕ) → data_of kind words ≡ Ok d
+    → IsData d.0 d.1 (kind ∷ words)
 unfolding data_of
 data_found kind words d e =
     let P : List ℕ → Type 0 = λ k. IsData d.0 d.1 (k ∷ words) in
     either _ _ _ d (P kind) (λ is f. subst P (sym (same_text kind (codes "dword") is)) (inl (dword_found words d f)))
-    (either _ _ _ d (P kind) (λ is f. subst P (sym (same_text kind (codes "sz") is)) (inr (inl (string_found words d f))))
-    (either _ _ _ d (P kind) (λ is f. subst P (sym (same_text kind (codes "multi") is)) (inr (inr (inl (strings_found words d f)))))
-    (λ f. let h = holds _ Word _ d f in subst P (sym (same_text kind (codes "binary") h.0)) (inr (inr (inr (binary_found words d h.1))))))) e
+    (either _ _ _ d (P kind) (λ is f. subst P (sym (same_text kind (codes "sz") is))
+    (inr (inl (string_found words d f))))
+    (either _ _ _ d (P kind) (λ is f. subst P (sym (same_text kind (codes "multi") is))
+    (inr (inr (inl (strings_found words d f)))))
+    (λ f. let h = holds _ Word _ d f in
+    subst P (sym (same_text kind (codes "binary") h.0)) (inr (inr (inr (binary_found words d h.1))))))) e
 
 -- data that is spelled is read
 record ReadsData (kind : ℕ) (bytes : List ℕ) (words : List (List ℕ)) : Type 0 where
@@ -254,23 +279,33 @@ data_read kind bytes words (inl is) = record {
   spelled = is.spelled;
   read = rw (number_read 0 is.number is.word is.written, is.kind_is, is.bytes_are) refl;
 }
-data_read kind bytes words (inr (inl is)) = record { word = codes "sz"; more = is.text ∷ []; spelled = is.spelled; read = rw (is.kind_is, is.bytes_are) refl }
-data_read kind bytes words (inr (inr (inl is))) = record { word = codes "multi"; more = is.texts; spelled = is.spelled; read = rw (is.kind_is, is.bytes_are) refl }
+data_read kind bytes words (inr (inl is)) =
+    record { word = codes "sz"; more = is.text ∷ []; spelled = is.spelled; read = rw (is.kind_is, is.bytes_are) refl }
+data_read kind bytes words (inr (inr (inl is))) =
+    record { word = codes "multi"; more = is.texts; spelled = is.spelled; read = rw (is.kind_is, is.bytes_are) refl }
 data_read kind bytes words (inr (inr (inr is))) =
     let h : ReadsHex bytes is.word = hex_read bytes is.word is.written in
-    record { word = codes "binary"; more = is.word ∷ []; spelled = is.spelled; read = rw (h.even, h.all, h.same, is.kind_is) refl }
+    record {
+      word = codes "binary";
+      more = is.word ∷ [];
+      spelled = is.spelled;
+      read = rw (h.even, h.all, h.same, is.kind_is) refl;
+    }
 
 -- ---- what words were found to ask for
 
-yields : (made event : Event) (words : List (List ℕ)) → done made ≡ Ok event → IsSpelledBy made words → IsSpelledBy event words
+yields : (made event : Event) (words : List (List ℕ)) → done made ≡ Ok event → IsSpelledBy made words
+    → IsSpelledBy event words
 yields made event words e is = subst (λ (x : Event). IsSpelledBy x words) (ok_is made event e) is
 
-boot_found : (words : List (List ℕ)) (event : Event) → boot_of words ≡ Ok event → IsSpelledBy event (codes "boot" ∷ words)
+boot_found : (words : List (List ℕ)) (event : Event) → boot_of words ≡ Ok event
+    → IsSpelledBy event (codes "boot" ∷ words)
 unfolding boot_of
 boot_found [] event e = yields (Boot None false) event _ e ([], refl, refl)
 boot_found (a ∷ []) event e =
     either _ _ _ event (IsSpelledBy event (codes "boot" ∷ a ∷ []))
-    (λ is f. yields (Boot None true) event _ f ([], refl, ap (λ (w : List ℕ). codes "boot" ∷ w ∷ []) (same_text a (codes "lkg") is)))
+    (λ is f. yields (Boot None true) event _ f
+    ([], refl, ap (λ (w : List ℕ). codes "boot" ∷ w ∷ []) (same_text a (codes "lkg") is)))
     (λ f.
     let h = holds (is_digits a) Word _ event f in
     let n = bind_ok (number_from 1 a) (λ n. Ok (Boot (Some n) false)) event h.1 in
@@ -279,7 +314,11 @@ boot_found (a ∷ b ∷ []) event e =
     let h = holds (is_digits a && bytes_eq b (codes "lkg")) Word _ event e in
     let q = both (is_digits a) (bytes_eq b (codes "lkg")) h.0 in
     let n = bind_ok (number_from 1 a) (λ n. Ok (Boot (Some n) true)) event h.1 in
-    yields (Boot (Some n.0) true) event _ n.2 (a ∷ [], (a, refl, number_found 1 a n.0 n.1), ap (λ (w : List ℕ). codes "boot" ∷ a ∷ w ∷ []) (same_text b (codes "lkg") q.1))
+    yields (Boot (Some n.0) true) event _ n.2 (
+      a ∷ [],
+      (a, refl, number_found 1 a n.0 n.1),
+      ap (λ (w : List ℕ). codes "boot" ∷ a ∷ w ∷ []) (same_text b (codes "lkg") q.1),
+    )
 boot_found (a ∷ b ∷ c ∷ more) event e = absurd cc
 
 go_found : (words : List (List ℕ)) (event : Event) → go_of words ≡ Ok event → IsSpelledBy event (codes "go" ∷ words)
@@ -290,7 +329,8 @@ go_found (a ∷ []) event e =
     yields (Go (Some n.0)) event _ n.2 (a ∷ [], (a, refl, number_found 1 a n.0 n.1), refl)
 go_found (a ∷ b ∷ more) event e = absurd cc
 
-fail_found : (words : List (List ℕ)) (event : Event) → fail_of words ≡ Ok event → IsSpelledBy event (codes "fail" ∷ words)
+fail_found : (words : List (List ℕ)) (event : Event) → fail_of words ≡ Ok event
+    → IsSpelledBy event (codes "fail" ∷ words)
 unfolding fail_of
 fail_found [] event e = absurd cc
 fail_found (a ∷ []) event e = absurd cc
@@ -308,20 +348,23 @@ set_found (a ∷ b ∷ c ∷ more) event e =
     let d = bind_ok (data_of c more) (λ d. Ok (Set (path_of a) b d.0 d.1)) event e in
     yields (Set (path_of a) b d.0.0 d.0.1) event _ d.2 (a, c ∷ more, path_found a, data_found c more d.0 d.1, refl)
 
-delete_found : (words : List (List ℕ)) (event : Event) → delete_of words ≡ Ok event → IsSpelledBy event (codes "delete" ∷ words)
+delete_found : (words : List (List ℕ)) (event : Event) → delete_of words ≡ Ok event
+    → IsSpelledBy event (codes "delete" ∷ words)
 unfolding delete_of
 delete_found [] event e = absurd cc
 delete_found (a ∷ []) event e = absurd cc
 delete_found (a ∷ b ∷ []) event e = yields (Delete (path_of a) b) event _ e (a, path_found a, refl)
 delete_found (a ∷ b ∷ c ∷ more) event e = absurd cc
 
-make_found : (words : List (List ℕ)) (event : Event) → make_of words ≡ Ok event → IsSpelledBy event (codes "make" ∷ words)
+make_found : (words : List (List ℕ)) (event : Event) → make_of words ≡ Ok event
+    → IsSpelledBy event (codes "make" ∷ words)
 unfolding make_of
 make_found [] event e = absurd cc
 make_found (a ∷ []) event e = yields (Make (path_of a)) event _ e (a, path_found a, refl)
 make_found (a ∷ b ∷ more) event e = absurd cc
 
-remove_found : (words : List (List ℕ)) (event : Event) → remove_of words ≡ Ok event → IsSpelledBy event (codes "remove" ∷ words)
+remove_found : (words : List (List ℕ)) (event : Event) → remove_of words ≡ Ok event
+    → IsSpelledBy event (codes "remove" ∷ words)
 unfolding remove_of
 remove_found [] event e = absurd cc
 remove_found (a ∷ []) event e = yields (Remove (path_of a)) event _ e (a, path_found a, refl)
@@ -335,16 +378,21 @@ alone_found made event name (a ∷ more) e is = absurd cc
 keep_found : (word : List ℕ) (keep : Keep) → keep_of word ≡ Ok keep → word ≡ keep_word keep
 unfolding keep_of
 keep_found word keep e =
-    either _ _ _ keep (word ≡ keep_word keep) (λ is f. same_text word (codes "none") is ∙ ap keep_word (ok_is Nothing keep f))
-    (either _ _ _ keep (word ≡ keep_word keep) (λ is f. same_text word (codes "all") is ∙ ap keep_word (ok_is Everything keep f))
-    (either _ _ _ keep (word ≡ keep_word keep) (λ is f. same_text word (codes "odd") is ∙ ap keep_word (ok_is OddOnes keep f))
+    either _ _ _ keep (word ≡ keep_word keep)
+    (λ is f. same_text word (codes "none") is ∙ ap keep_word (ok_is Nothing keep f))
+    (either _ _ _ keep (word ≡ keep_word keep)
+    (λ is f. same_text word (codes "all") is ∙ ap keep_word (ok_is Everything keep f))
+    (either _ _ _ keep (word ≡ keep_word keep)
+    (λ is f. same_text word (codes "odd") is ∙ ap keep_word (ok_is OddOnes keep f))
     (λ f. let h = holds _ Word _ keep f in same_text word (codes "torn") h.0 ∙ ap keep_word (ok_is Torn keep h.1)))) e
 
 call_found : (word : List ℕ) (call : DiskCall) → call_of word ≡ Ok call → word ≡ call_word call
 unfolding call_of
 call_found word call e =
-    either _ _ _ call (word ≡ call_word call) (λ is f. same_text word (codes "read") is ∙ ap call_word (ok_is Read call f))
-    (either _ _ _ call (word ≡ call_word call) (λ is f. same_text word (codes "write") is ∙ ap call_word (ok_is Write call f))
+    either _ _ _ call (word ≡ call_word call)
+    (λ is f. same_text word (codes "read") is ∙ ap call_word (ok_is Read call f))
+    (either _ _ _ call (word ≡ call_word call)
+    (λ is f. same_text word (codes "write") is ∙ ap call_word (ok_is Write call f))
     (λ f. let h = holds _ Word _ call f in same_text word (codes "sync") h.0 ∙ ap call_word (ok_is Sync call h.1))) e
 
 cut_found : (words : List (List ℕ)) (event : Event) → cut_of words ≡ Ok event → IsSpelledBy event (codes "cut" ∷ words)
@@ -356,9 +404,11 @@ cut_found (a ∷ b ∷ []) event e =
     let k = bind_ok (keep_of b) (λ keep. Ok (CutNow keep)) event h.1 in
     let now : a ≡ codes "now" = same_text a (codes "now") h.0 in
     yields (CutNow k.0) event _ k.2
-    (ap (λ (w : List ℕ). codes "cut" ∷ w ∷ b ∷ []) now ∙ ap (λ (w : List ℕ). codes "cut" ∷ codes "now" ∷ w ∷ []) (keep_found b k.0 k.1))
+    (ap (λ (w : List ℕ). codes "cut" ∷ w ∷ b ∷ []) now
+    ∙ ap (λ (w : List ℕ). codes "cut" ∷ codes "now" ∷ w ∷ []) (keep_found b k.0 k.1))
 cut_found (a ∷ b ∷ c ∷ []) event e =
-    let k = bind_ok (call_of a) (λ call. keep_of c >>= λ keep. number_from 1 b >>= λ n. Ok (ArmCut call n keep)) event e in
+    let k = bind_ok (call_of a) (λ call. keep_of c >>= λ keep. number_from 1 b >>= λ n. Ok (ArmCut call n keep))
+    event e in
     let p = bind_ok (keep_of c) (λ keep. number_from 1 b >>= λ n. Ok (ArmCut k.0 n keep)) event k.2 in
     let n = bind_ok (number_from 1 b) (λ n. Ok (ArmCut k.0 n p.0)) event p.2 in
     let spelled =
@@ -367,20 +417,23 @@ cut_found (a ∷ b ∷ c ∷ []) event e =
     yields (ArmCut k.0 n.0 p.0) event _ n.2 (b, number_found 1 b n.0 n.1, spelled)
 cut_found (a ∷ b ∷ c ∷ d ∷ more) event e = absurd cc
 
-fault_found : (words : List (List ℕ)) (event : Event) → fault_of words ≡ Ok event → IsSpelledBy event (codes "fault" ∷ words)
+fault_found : (words : List (List ℕ)) (event : Event) → fault_of words ≡ Ok event
+    → IsSpelledBy event (codes "fault" ∷ words)
 unfolding fault_of
 fault_found [] event e = absurd cc
 fault_found (a ∷ []) event e = absurd cc
 fault_found (a ∷ b ∷ []) event e =
     let k = bind_ok (call_of a) (λ call. number_from 1 b >>= λ n. Ok (ArmFault call n)) event e in
     let n = bind_ok (number_from 1 b) (λ n. Ok (ArmFault k.0 n)) event k.2 in
-    yields (ArmFault k.0 n.0) event _ n.2 (b, number_found 1 b n.0 n.1, ap (λ (w : List ℕ). codes "fault" ∷ w ∷ b ∷ []) (call_found a k.0 k.1))
+    yields (ArmFault k.0 n.0) event _ n.2
+    (b, number_found 1 b n.0 n.1, ap (λ (w : List ℕ). codes "fault" ∷ w ∷ b ∷ []) (call_found a k.0 k.1))
 fault_found (a ∷ b ∷ c ∷ more) event e = absurd cc
 
 -- the command is the one of this name
 as_named : (event : Event) (words : List (List ℕ)) (name wanted : List ℕ) → bytes_eq name wanted ≡ true
     → IsSpelledBy event (wanted ∷ words) → IsSpelledBy event (name ∷ words)
-as_named event words name wanted is spelled = subst (λ (n : List ℕ). IsSpelledBy event (n ∷ words)) (sym (same_text name wanted is)) spelled
+as_named event words name wanted is spelled =
+    subst (λ (n : List ℕ). IsSpelledBy event (n ∷ words)) (sym (same_text name wanted is)) spelled
 
 edit_found : (name : List ℕ) (words : List (List ℕ)) (event : Event) → edit_of name words ≡ Ok event
     → IsSpelledBy event (name ∷ words)
@@ -390,7 +443,8 @@ edit_found name words event e =
     either _ _ _ event P (λ is f. as_named event words name (codes "set") is (set_found words event f))
     (either _ _ _ event P (λ is f. as_named event words name (codes "delete") is (delete_found words event f))
     (either _ _ _ event P (λ is f. as_named event words name (codes "make") is (make_found words event f))
-    (λ f. let h = holds _ Word _ event f in as_named event words name (codes "remove") h.0 (remove_found words event h.1)))) e
+    (λ f. let h = holds _ Word _ event f in
+    as_named event words name (codes "remove") h.0 (remove_found words event h.1)))) e
 
 pub command_found : (name : List ℕ) (words : List (List ℕ)) (event : Event) → command_of name words ≡ Ok event
     → IsSpelledBy event (name ∷ words)
@@ -400,9 +454,12 @@ command_found name words event e =
     either _ _ _ event P (λ is f. as_named event words name (codes "boot") is (boot_found words event f))
     (either _ _ _ event P (λ is f. as_named event words name (codes "go") is (go_found words event f))
     (either _ _ _ event P (λ is f. as_named event words name (codes "fail") is (fail_found words event f))
-    (either _ _ _ event P (λ is f. as_named event words name (codes "flush") is (alone_found Flush event (codes "flush") words f refl))
-    (either _ _ _ event P (λ is f. as_named event words name (codes "logon") is (alone_found Logon event (codes "logon") words f refl))
-    (either _ _ _ event P (λ is f. as_named event words name (codes "off") is (alone_found Off event (codes "off") words f refl))
+    (either _ _ _ event P (λ is f. as_named event words name (codes "flush") is
+    (alone_found Flush event (codes "flush") words f refl))
+    (either _ _ _ event P (λ is f. as_named event words name (codes "logon") is
+    (alone_found Logon event (codes "logon") words f refl))
+    (either _ _ _ event P (λ is f. as_named event words name (codes "off") is
+    (alone_found Off event (codes "off") words f refl))
     (either _ _ _ event P (λ is f. as_named event words name (codes "cut") is (cut_found words event f))
     (either _ _ _ event P (λ is f. as_named event words name (codes "fault") is (fault_found words event f))
     (edit_found name words event)))))))) e
@@ -416,7 +473,9 @@ boot_alone false = refl
 
 not_lkg : (word : List ℕ) → 0 < length word → list_all is_ascii_digit word ≡ true → bytes_eq word (codes "lkg") ≡ false
 not_lkg [] some digits = absurd (omega arith)
-not_lkg (c ∷ word) some digits = rw (ne_eqb c 108 (λ is. let P : ℕ → Type 0 = λ n. is_ascii_digit n ≡ true in false≢true (subst P is (both (is_ascii_digit c) _ digits).0))) refl
+not_lkg (c ∷ word) some digits =
+    rw (ne_eqb c 108 (λ is. let P : ℕ → Type 0 = λ n. is_ascii_digit n ≡ true in
+    false≢true (subst P is (both (is_ascii_digit c) _ digits).0))) refl
 
 boot_entry : (n : ℕ) (word : List ℕ) (good : Bool) → IsNumber 1 n word
     → event_of (codes "boot" ∷ word ∷ good_words good) ≡ Ok (Some (Boot (Some n) good))
@@ -437,7 +496,8 @@ fail_read : (name : List ℕ) (n : ℕ) (word : List ℕ) → IsNumber 0 n word
 unfolding event_of command_of fail_of
 fail_read name n word is = rw (number_read 0 n word is) refl
 
-set_read : (path : List (List ℕ)) (key name : List ℕ) (kind : ℕ) (bytes : List ℕ) (value : List (List ℕ)) → IsPath path key
+set_read : (path : List (List ℕ)) (key name : List ℕ) (kind : ℕ) (bytes : List ℕ) (value : List (List ℕ))
+    → IsPath path key
     → IsData kind bytes value
     → event_of (codes "set" ∷ key ∷ name ∷ value) ≡ Ok (Some (Set path name kind bytes))
 unfolding event_of command_of edit_of set_of
@@ -450,7 +510,8 @@ delete_read : (path : List (List ℕ)) (key name : List ℕ) → IsPath path key
 unfolding event_of command_of edit_of delete_of
 delete_read path key name is = rw (path_read path key is) refl
 
-make_read : (path : List (List ℕ)) (key : List ℕ) → IsPath path key → event_of (codes "make" ∷ key ∷ []) ≡ Ok (Some (Make path))
+make_read : (path : List (List ℕ)) (key : List ℕ) → IsPath path key
+    → event_of (codes "make" ∷ key ∷ []) ≡ Ok (Some (Make path))
 unfolding event_of command_of edit_of make_of
 make_read path key is = rw (path_read path key is) refl
 
@@ -499,7 +560,9 @@ unfolding event_of command_of fault_of
 fault_read call n word is = rw (call_read call, number_read 1 n word is) refl
 
 pub event_read : (event : Event) (words : List (List ℕ)) → IsSpelledBy event words → event_of words ≡ Ok (Some event)
-event_read (Boot None good) words h = ap event_of (h.2 ∙ ap (λ (number : List (List ℕ)). codes "boot" ∷ (number ++ good_words good)) h.1) ∙ boot_alone good
+event_read (Boot None good) words h =
+    ap event_of (h.2 ∙ ap (λ (number : List (List ℕ)). codes "boot" ∷ (number ++ good_words good)) h.1)
+    ∙ boot_alone good
 event_read (Boot (Some n) good) words h =
     let number = h.1 in
     ap event_of (h.2 ∙ ap (λ (number : List (List ℕ)). codes "boot" ∷ (number ++ good_words good)) number.1)

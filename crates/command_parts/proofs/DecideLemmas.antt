@@ -40,7 +40,8 @@ pub unrun : (disk : DiskState) → disk ≡ new_state → IsUnrun disk
 unrun disk is = (let P : DiskState → Type 0 = IsUnrun in subst P (sym is) (record { few = omega arith; alone = refl }))
 
 -- no file was changed, and this was not the end
-pub unchanged : (saves : Saves) (status : Status) (held : Image) (old new : Files) → (status ≡ statuses.Done → ⊥) → new ≡ old → FilesAs saves status held old new
+pub unchanged : (saves : Saves) (status : Status) (held : Image) (old new : Files) → (status ≡ statuses.Done → ⊥)
+    → new ≡ old → FilesAs saves status held old new
 unchanged saves statuses.Done held old new undone same = absurd (undone refl)
 unchanged saves statuses.Usage held old new undone same = same
 unchanged saves statuses.NoFile held old new undone same = same
@@ -71,7 +72,8 @@ refused_read refusals.IniTooManyEntries e = absurd cc
 refused_read (refusals.HiveFault fault) e = absurd cc
 
 -- where neither this status nor a stop in saying it is another, it isn't told
-told_not : (told status other : Status) → IsToldAs told status → (told ≡ other → ⊥) → (statuses.WriteFault ≡ other → ⊥) → (statuses.Memory ≡ other → ⊥) → status ≡ other → ⊥
+told_not : (told status other : Status) → IsToldAs told status → (told ≡ other → ⊥) → (statuses.WriteFault ≡ other → ⊥)
+    → (statuses.Memory ≡ other → ⊥) → status ≡ other → ⊥
 told_not told status other (inl is) a b c e = a (sym is ∙ e)
 told_not told status other (inr (inl is)) a b c e = b (sym is ∙ e)
 told_not told status other (inr (inr is)) a b c e = c (sym is ∙ e)
@@ -79,13 +81,16 @@ told_not told status other (inr (inr is)) a b c e = c (sym is ∙ e)
 pub told_open : (told status : Status) → IsToldAs told status → (told ≡ statuses.Done → ⊥) → status ≡ statuses.Done → ⊥
 told_open told status t never = told_not told status statuses.Done t never (λ e. absurd cc) (λ e. absurd cc)
 
-pub told_unread : (told status : Status) → IsToldAs told status → (told ≡ statuses.ReadFault → ⊥) → status ≡ statuses.ReadFault → ⊥
+pub told_unread : (told status : Status) → IsToldAs told status → (told ≡ statuses.ReadFault → ⊥)
+    → status ≡ statuses.ReadFault → ⊥
 told_unread told status t never = told_not told status statuses.ReadFault t never (λ e. absurd cc) (λ e. absurd cc)
 
-pub told_unused : (told status : Status) → IsToldAs told status → (told ≡ statuses.Usage → ⊥) → status ≡ statuses.Usage → ⊥
+pub told_unused : (told status : Status) → IsToldAs told status → (told ≡ statuses.Usage → ⊥) → status ≡ statuses.Usage
+    → ⊥
 told_unused told status t never = told_not told status statuses.Usage t never (λ e. absurd cc) (λ e. absurd cc)
 
-pub refused_unread : (r : Refusal) (status : Status) → IsToldAs (refusal_status r) status → status ≡ statuses.ReadFault → ⊥
+pub refused_unread : (r : Refusal) (status : Status) → IsToldAs (refusal_status r) status → status ≡ statuses.ReadFault
+    → ⊥
 refused_unread r status t = told_unread (refusal_status r) status t (refused_read r)
 
 pub not_read : (status : Status) → stop_in status ≡ Some Read → status ≡ statuses.ReadFault
@@ -108,7 +113,8 @@ stopped_open Memory e = absurd cc
 -- ---- nothing more was done
 
 -- there was no memory
-pub memory_decides : (ends : Status → List ℕ → List ℕ → Type 0) (saves : Saves) (host : HostState) (disk : DiskState) → disk.on ≡ false
+pub memory_decides : (ends : Status → List ℕ → List ℕ → Type 0) (saves : Saves) (host : HostState) (disk : DiskState)
+    → disk.on ≡ false
     → ends statuses.Memory host.said host.said → DecidesAlone ends saves statuses.Memory host host disk
 memory_decides ends saves host disk off end = record {
   decides = record {
@@ -127,19 +133,27 @@ memory_decides ends saves host disk off end = record {
 }
 
 -- a refusal was said, and nothing was done to the disk
-pub refusal_decides : (ends : Status → List ℕ → List ℕ → Type 0) (saves : Saves) (why : Refusal) (status : Status) (old new : HostState) (disk : DiskState)
-    → disk ≡ new_state → Leaves (Ends (refusal why)) status old new → KeepsFiles old new → IsToldAs (refusal_status why) status
+pub refusal_decides : (ends : Status → List ℕ → List ℕ → Type 0) (saves : Saves) (why : Refusal) (status : Status)
+    (old new : HostState) (disk : DiskState)
+    → disk ≡ new_state → Leaves (Ends (refusal why)) status old new → KeepsFiles old new
+    → IsToldAs (refusal_status why) status
     → ((o n : List ℕ) → Ends (refusal why) status o n → ends status o n) → Decides ends saves status old new disk
 refusal_decides ends saves why status old new disk fresh leaves files told lift = record {
-  leaves = record { keeps = leaves.keeps; counts = leaves.counts; said = λ tells. lift old.said new.said (leaves.said tells) };
-  files = λ tells. unchanged saves status disk.held old.files new.files (told_open (refusal_status why) status told (refused_open why)) (files tells);
+  leaves = record {
+    keeps = leaves.keeps;
+    counts = leaves.counts;
+    said = λ tells. lift old.said new.said (leaves.said tells);
+  };
+  files = λ tells. unchanged saves status disk.held old.files new.files
+      (told_open (refusal_status why) status told (refused_open why)) (files tells);
   off = new_off disk fresh;
   untouched = untouched_by status disk fresh;
 }
 
 -- nothing was to be saved
 nothing_saved : (status : Status) (held : Image) (old new : Files) → new ≡ old → FilesAs no_saves status held old new
-nothing_saved statuses.Done held old new same = (record { hive = tt; log = tt }, λ q other. ap (λ (f : Files). f q) same)
+nothing_saved statuses.Done held old new same =
+    (record { hive = tt; log = tt }, λ q other. ap (λ (f : Files). f q) same)
 nothing_saved statuses.Usage held old new same = same
 nothing_saved statuses.NoFile held old new same = same
 nothing_saved statuses.ScriptFault held old new same = same
@@ -152,11 +166,17 @@ nothing_saved statuses.Memory held old new same = λ q other. ap (λ (f : Files)
 
 -- a text was said, and the disk is a new one
 pub told_decides : (ends : Status → List ℕ → List ℕ → Type 0) (text : List ℕ) (status : Status) (old new : HostState)
-    → Leaves (Ends (record { status = statuses.Done; text = text })) status old new → KeepsFiles old new → AsksNone old new → IsToldAs statuses.Done status
-    → ((o n : List ℕ) → Ends (record { status = statuses.Done; text = text }) status o n → ends status o n) → DecidesAlone ends no_saves status old new new_state
+    → Leaves (Ends (record { status = statuses.Done; text = text })) status old new → KeepsFiles old new
+    → AsksNone old new → IsToldAs statuses.Done status
+    → ((o n : List ℕ) → Ends (record { status = statuses.Done; text = text }) status o n → ends status o n)
+    → DecidesAlone ends no_saves status old new new_state
 told_decides ends text status old new leaves files unasked told lift = record {
   decides = record {
-    leaves = record { keeps = leaves.keeps; counts = leaves.counts; said = λ tells. lift old.said new.said (leaves.said tells) };
+    leaves = record {
+      keeps = leaves.keeps;
+      counts = leaves.counts;
+      said = λ tells. lift old.said new.said (leaves.said tells);
+    };
     files = λ tells. nothing_saved status new_state.held old.files new.files (files tells);
     off = refl;
     untouched = untouched_by status new_state refl;
@@ -168,10 +188,13 @@ told_decides ends text status old new leaves files unasked told lift = record {
 
 -- ---- behind a search for inputs
 
-module _ {A : Type 0} (wanted : Result A Refusal) (All : Result A Refusal → Status → List ℕ → List ℕ → Type 0) (saves : Saves) where
+module _ {A : Type 0} (wanted : Result A Refusal) (All : Result A Refusal → Status → List ℕ → List ℕ → Type 0)
+    (saves : Saves) where
   -- all was found, and what follows decides
-  pub found_decides : (x : A) (ends : Status → List ℕ → List ℕ → Type 0) (status : Status) (old mid new : HostState) (disk : DiskState)
-      → ((o n : List ℕ) → ends status o n → All (Ok x) status o n) → Looks wanted (Ok x) old mid → DecidesAlone ends saves status mid new disk
+  pub found_decides : (x : A) (ends : Status → List ℕ → List ℕ → Type 0) (status : Status) (old mid new : HostState)
+      (disk : DiskState)
+      → ((o n : List ℕ) → ends status o n → All (Ok x) status o n) → Looks wanted (Ok x) old mid
+      → DecidesAlone ends saves status mid new disk
       → Decides (All wanted) saves status old new disk
   found_decides x ends status old mid new disk lift a b =
       let l = b.decides.leaves in
@@ -180,18 +203,22 @@ module _ {A : Type 0} (wanted : Result A Refusal) (All : Result A Refusal → St
           keeps = keeps_then old mid new a.keeps l.keeps;
           counts = counts_by (stop_in status) old mid new a.keeps a.counts l.counts;
           said = λ tells.
-              let here : All (Ok x) status mid.said new.said = lift mid.said new.said (l.said (a.keeps.tells ∙ tells)) in
+              let here : All (Ok x) status mid.said new.said =
+              lift mid.said new.said (l.said (a.keeps.tells ∙ tells)) in
               subst (λ (w : Result A Refusal). All w status old.said new.said) (sym (a.found tells))
               (subst (λ (m : List ℕ). All (Ok x) status m new.said) (a.unsaid tells) here);
         };
-        files = λ tells. subst (λ (f : Files). FilesAs saves status disk.held f new.files) (a.files tells) (b.decides.files (a.keeps.tells ∙ tells));
+        files = λ tells. subst (λ (f : Files). FilesAs saves status disk.held f new.files) (a.files tells)
+            (b.decides.files (a.keeps.tells ∙ tells));
         off = b.decides.off;
         untouched = b.decides.untouched;
       }
 
   -- an obstacle was found, and said
-  pub refused_decides : (why : Refusal) (status : Status) (old mid new : HostState) (disk : DiskState) → disk ≡ new_state
-      → ((o n : List ℕ) → Ends (refusal why) status o n → All (Err why) status o n) → Looks wanted (Err (Refused why)) old mid
+  pub refused_decides : (why : Refusal) (status : Status) (old mid new : HostState) (disk : DiskState)
+      → disk ≡ new_state
+      → ((o n : List ℕ) → Ends (refusal why) status o n → All (Err why) status o n)
+      → Looks wanted (Err (Refused why)) old mid
       → Leaves (Ends (refusal why)) status mid new → KeepsFiles mid new → IsToldAs (refusal_status why) status
       → Decides (All wanted) saves status old new disk
   refused_decides why status old mid new disk fresh lift a b files told = record {
@@ -203,7 +230,8 @@ module _ {A : Type 0} (wanted : Result A Refusal) (All : Result A Refusal → St
           subst (λ (w : Result A Refusal). All w status old.said new.said) (sym (a.found tells))
           (subst (λ (m : List ℕ). All (Err why) status m new.said) (a.unsaid tells) here);
     };
-    files = λ tells. unchanged saves status disk.held old.files new.files (told_open (refusal_status why) status told (refused_open why))
+    files = λ tells. unchanged saves status disk.held old.files new.files
+        (told_open (refusal_status why) status told (refused_open why))
         (files (a.keeps.tells ∙ tells) ∙ a.files tells);
     off = new_off disk fresh;
     untouched = untouched_by status disk fresh;
@@ -211,7 +239,8 @@ module _ {A : Type 0} (wanted : Result A Refusal) (All : Result A Refusal → St
 
   -- the outside stopped, and nothing was said
   pub stopped_decides : (stop : HostStop) (old new : HostState) (disk : DiskState) → disk ≡ new_state
-      → ((o n : List ℕ) → n ≡ o → (stop ≡ Write → ⊥) → All wanted (stopped_as stop) o n) → Looks {A = A} wanted (Err (Stopped stop)) old new
+      → ((o n : List ℕ) → n ≡ o → (stop ≡ Write → ⊥) → All wanted (stopped_as stop) o n)
+      → Looks {A = A} wanted (Err (Stopped stop)) old new
       → Decides (All wanted) saves (stopped_as stop) old new disk
   stopped_decides stop old new disk fresh lift a = record {
     leaves = record {
@@ -219,7 +248,8 @@ module _ {A : Type 0} (wanted : Result A Refusal) (All : Result A Refusal → St
       counts = stop_counts stop old new a.counts;
       said = λ tells. lift old.said new.said (a.unsaid tells) (λ e. a.unwritten (ap (λ (s : HostStop). Stopped s) e));
     };
-    files = λ tells. unchanged saves (stopped_as stop) disk.held old.files new.files (stopped_open stop) (a.files tells);
+    files = λ tells. unchanged saves (stopped_as stop) disk.held old.files new.files (stopped_open stop)
+        (a.files tells);
     off = new_off disk fresh;
     untouched = untouched_by (stopped_as stop) disk fresh;
   }

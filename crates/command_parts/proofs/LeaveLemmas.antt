@@ -9,15 +9,18 @@ use Rattle.command_parts.specs.Leaves.{CountsBy, stop_in, stopped_as}
 pub keeps_then : (old mid new : HostState) → KeepsHost old mid → KeepsHost mid new → KeepsHost old new
 keeps_then old mid new k l = record { tells = l.tells ∙ k.tells; quiet = λ q. l.quiet (k.quiet q) }
 
-pub files_then : (old mid new : HostState) → KeepsHost old mid → KeepsFiles old mid → KeepsFiles mid new → KeepsFiles old new
+pub files_then : (old mid new : HostState) → KeepsHost old mid → KeepsFiles old mid → KeepsFiles mid new
+    → KeepsFiles old new
 files_then old mid new k f g = λ tells. g (k.tells ∙ tells) ∙ f tells
 
-pub looks_then : (old mid new : HostState) → KeepsHost old mid → KeepsHost mid new → KeepsFiles old mid → KeepsFiles mid new
+pub looks_then : (old mid new : HostState) → KeepsHost old mid → KeepsHost mid new → KeepsFiles old mid
+    → KeepsFiles mid new
     → KeepsHost old new × KeepsFiles old new
 looks_then old mid new k l f g = (keeps_then old mid new k l, files_then old mid new k f g)
 
 -- no fault before, and what came then
-counts_then : (stop : HostStop) (old mid new : HostState) → KeepsHost old mid → KeepsCounts old mid → Counts mid new stop
+counts_then : (stop : HostStop) (old mid new : HostState) → KeepsHost old mid → KeepsCounts old mid
+    → Counts mid new stop
     → Counts old new stop
 counts_then Read old mid new keeps k c =
     record {
@@ -33,7 +36,8 @@ counts_then Write old mid new keeps k c =
     }
 counts_then Memory old mid new keeps k c = record { reads = c.reads ∙ k.reads; writes = c.writes ∙ k.writes }
 
-pub fault_then : {A : Type 0} (r : Result A HostStop) (old mid new : HostState) → KeepsHost old mid → KeepsCounts old mid → CountsFault r mid new
+pub fault_then : {A : Type 0} (r : Result A HostStop) (old mid new : HostState) → KeepsHost old mid
+    → KeepsCounts old mid → CountsFault r mid new
     → CountsFault r old new
 fault_then (Ok a) old mid new keeps k c = record { reads = c.reads ∙ k.reads; writes = c.writes ∙ k.writes }
 fault_then (Err stop) old mid new keeps k c = counts_then stop old mid new keeps k c

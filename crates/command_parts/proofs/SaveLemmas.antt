@@ -40,11 +40,13 @@ settles-same d = record {
   takings = refl;
 }
 
-pub settles-taken : (image : Image) (d e : DiskState) → IsCrashImage d.held d.flight image → e ≡ taken image d → Settles 1 d e
+pub settles-taken : (image : Image) (d e : DiskState) → IsCrashImage d.held d.flight image → e ≡ taken image d
+    → Settles 1 d e
 settles-taken image d e crash is =
     let P : DiskState → Type 0 = Settles 1 d in
     subst P (sym is) (record {
-      left = λ c l. (let Q : Image → Type 0 = IsCrashImage d.held d.flight in subst Q (sym (still_crash image c l)) crash);
+      left = λ c l. (let Q : Image → Type 0 = IsCrashImage d.held d.flight in
+          subst Q (sym (still_crash image c l)) crash);
       on = refl;
       cuts = refl;
       faults = refl;
@@ -99,7 +101,8 @@ saves-none file old d = record {
 }
 
 -- there was no memory to take it
-pub saves-untaken : (file : File) (name : List ℕ) (old : HostState) (d e : DiskState) → e ≡ d → SavesFile file (Some name) (Err Memory) old old d e
+pub saves-untaken : (file : File) (name : List ℕ) (old : HostState) (d e : DiskState) → e ≡ d
+    → SavesFile file (Some name) (Err Memory) old old d e
 saves-untaken file name old d e is =
     let P : DiskState → Type 0 = λ f. SavesFile file (Some name) (Err Memory) old old d f in
     subst P (sym is) (record {
@@ -129,7 +132,8 @@ bytes-same name = (bytes_eq-Decides name name).1 refl
 bytes-differ : (q name : List ℕ) → (q ≡ name → ⊥) → bytes_eq q name ≡ false
 bytes-differ q name differ = not_true (bytes_eq q name) (λ e. differ ((bytes_eq-Decides q name).0 e))
 
-put-others : (old new : Files) (name bytes q : List ℕ) → Puts old new name bytes → (Some name ≡ Some q → ⊥) → new q ≡ old q
+put-others : (old new : Files) (name bytes q : List ℕ) → Puts old new name bytes → (Some name ≡ Some q → ⊥)
+    → new q ≡ old q
 put-others old new name bytes q puts other =
     puts q ∙ ap (λ b. cond b (Some bytes) (old q)) (bytes-differ q name (λ e. other (ap Some (sym e))))
 
@@ -137,16 +141,22 @@ put-here : (old new : Files) (name bytes : List ℕ) → Puts old new name bytes
 put-here old new name bytes puts = puts name ∙ ap (λ b. cond b (Some bytes) (old name)) (bytes-same name)
 
 -- it was taken, and put or not
-pub saves-taken : (file : File) (name bytes : List ℕ) (r : Result (Unit {0}) HostStop) (old new : HostState) (d e : DiskState) (image : Image)
+pub saves-taken : (file : File) (name bytes : List ℕ) (r : Result (Unit {0}) HostStop) (old new : HostState)
+    (d e : DiskState) (image : Image)
     → IsCrashImage d.held d.flight image → e ≡ taken image d → IsFileOf image file bytes → WritesAlone r old new
-    → (old.tells ≡ true → OnOk r (Puts old.files new.files name bytes)) → (old.tells ≡ true → OnErr r (KeepsOthers old.files new.files name))
+    → (old.tells ≡ true → OnOk r (Puts old.files new.files name bytes))
+    → (old.tells ≡ true → OnErr r (KeepsOthers old.files new.files name))
     → SavesFile file (Some name) r old new d e
 saves-taken file name bytes (Ok u) old new d e image crash is of host puts kept =
     let held : image ≡ e.held = ap (λ (s : DiskState). s.held) (sym is) in
     record {
       host = host;
       others = λ tells q other. put-others old.files new.files name bytes q (puts tells) other;
-      saved = λ tells. (bytes, put-here old.files new.files name bytes (puts tells), (let P : Image → Type 0 = λ i. IsFileOf i file bytes in subst P held of));
+      saved = λ tells. (
+        bytes,
+        put-here old.files new.files name bytes (puts tells),
+        (let P : Image → Type 0 = λ i. IsFileOf i file bytes in subst P held of),
+      );
       still = ap (λ (s : DiskState). s.flight) is;
       taken = 1;
       few = omega arith;
@@ -166,7 +176,8 @@ saves-taken file name bytes (Err stop) old new d e image crash is of host puts k
 
 -- ---- both files
 
-writes-then : (r : Result (Unit {0}) HostStop) (old mid new : HostState) → WritesAlone (Ok tt) old mid → WritesAlone r mid new → WritesAlone r old new
+writes-then : (r : Result (Unit {0}) HostStop) (old mid new : HostState) → WritesAlone (Ok tt) old mid
+    → WritesAlone r mid new → WritesAlone r old new
 writes-then r old mid new x y = record {
   keeps = keeps_then old mid new x.keeps y.keeps;
   unsaid = λ tells. y.unsaid (x.keeps.tells ∙ tells) ∙ x.unsaid tells;
@@ -180,8 +191,10 @@ others-then : (saves : Saves) (old mid new : Files) → ((q : List ℕ) → (sav
 others-then saves old mid new first second q other = second q (λ e. other (inr e)) ∙ first q (λ e. other (inl e))
 
 -- the hive's file has its sectors still
-hive-stays : (hive log : Option (List ℕ)) (n : ℕ) (mid new : Files) (d e : DiskState) → IfSome hive (λ name. SavedAs Primary d.held mid name) → IfSome hive (λ name. IsStill d)
-    → Settles n d e → ((q : List ℕ) → (log ≡ Some q → ⊥) → new q ≡ mid q) → IfSome hive (λ name. (log ≡ Some name → ⊥) → SavedAs Primary e.held new name)
+hive-stays : (hive log : Option (List ℕ)) (n : ℕ) (mid new : Files) (d e : DiskState)
+    → IfSome hive (λ name. SavedAs Primary d.held mid name) → IfSome hive (λ name. IsStill d)
+    → Settles n d e → ((q : List ℕ) → (log ≡ Some q → ⊥) → new q ≡ mid q)
+    → IfSome hive (λ name. (log ≡ Some name → ⊥) → SavedAs Primary e.held new name)
 hive-stays None log n mid new d e saved still settles others = tt
 hive-stays (Some name) log n mid new d e saved still settles others = λ differ.
     let same : d.held ≡ e.held = sym (held-stays n d e still settles) in
@@ -189,7 +202,8 @@ hive-stays (Some name) log n mid new d e saved still settles others = λ differ.
     (saved.0, others name differ ∙ saved.1, subst P same saved.2)
 
 -- saving the hive was stopped
-pub saves-stopped : (saves : Saves) (stop : HostStop) (old new : HostState) (d e : DiskState) → SavesFile Primary saves.hive (Err stop) old new d e
+pub saves-stopped : (saves : Saves) (stop : HostStop) (old new : HostState) (d e : DiskState)
+    → SavesFile Primary saves.hive (Err stop) old new d e
     → SavesBoth saves (Err stop) old new d e
 saves-stopped saves stop old new d e x = record {
   host = x.host;
@@ -201,25 +215,30 @@ saves-stopped saves stop old new d e x = record {
   settles = x.settles;
 }
 
-saved-both : (saves : Saves) (r : Result (Unit {0}) HostStop) (old mid new : HostState) (d e f : DiskState) → SavesFile Primary saves.hive (Ok tt) old mid d e
+saved-both : (saves : Saves) (r : Result (Unit {0}) HostStop) (old mid new : HostState) (d e f : DiskState)
+    → SavesFile Primary saves.hive (Ok tt) old mid d e
     → SavesFile Log saves.log r mid new e f → old.tells ≡ true → OnOk r (HasSaved saves f.held new.files)
 saved-both saves (Err stop) old mid new d e f x y tells = tt
 saved-both saves (Ok u) old mid new d e f x y tells =
     let told : mid.tells ≡ true = x.host.keeps.tells ∙ tells in
     record {
-      hive = hive-stays saves.hive saves.log y.taken mid.files new.files e f (x.saved tells) x.still y.settles (y.others told);
+      hive = hive-stays saves.hive saves.log y.taken mid.files new.files e f (x.saved tells) x.still y.settles
+          (y.others told);
       log = y.saved told;
     }
 
-all-taken : (saves : Saves) (r : Result (Unit {0}) HostStop) (a b : ℕ) → a ≡ named saves.hive → OnOk r (b ≡ named saves.log) → OnOk r (b + a ≡ saved_count saves)
+all-taken : (saves : Saves) (r : Result (Unit {0}) HostStop) (a b : ℕ) → a ≡ named saves.hive
+    → OnOk r (b ≡ named saves.log) → OnOk r (b + a ≡ saved_count saves)
 all-taken saves (Err stop) a b first second = tt
 all-taken saves (Ok u) a b first second = omega (arith, first, second)
 
-pub saves-both : (saves : Saves) (r : Result (Unit {0}) HostStop) (old mid new : HostState) (d e f : DiskState) → SavesFile Primary saves.hive (Ok tt) old mid d e
+pub saves-both : (saves : Saves) (r : Result (Unit {0}) HostStop) (old mid new : HostState) (d e f : DiskState)
+    → SavesFile Primary saves.hive (Ok tt) old mid d e
     → SavesFile Log saves.log r mid new e f → SavesBoth saves r old new d f
 saves-both saves r old mid new d e f x y = record {
   host = writes-then r old mid new x.host y.host;
-  others = λ tells. others-then saves old.files mid.files new.files (x.others tells) (y.others (x.host.keeps.tells ∙ tells));
+  others = λ tells. others-then saves old.files mid.files new.files (x.others tells)
+      (y.others (x.host.keeps.tells ∙ tells));
   saved = saved-both saves r old mid new d e f x y;
   taken = y.taken + x.taken;
   few = omega (arith, x.few, y.few);
@@ -229,20 +248,23 @@ saves-both saves r old mid new d e f x y = record {
 
 -- ---- the status behind it
 
-pub counts_saved : (r : Result (Unit {0}) HostStop) (old new : HostState) → CountsFault r old new → CountsBy (stop_in (saved_status r)) old new
+pub counts_saved : (r : Result (Unit {0}) HostStop) (old new : HostState) → CountsFault r old new
+    → CountsBy (stop_in (saved_status r)) old new
 counts_saved (Ok u) old new c = c
 counts_saved (Err Read) old new c = c
 counts_saved (Err Write) old new c = c
 counts_saved (Err Memory) old new c = c
 
-pub files_saved : (saves : Saves) (r : Result (Unit {0}) HostStop) (mid new : HostState) (left after : DiskState) → mid.tells ≡ true → SavesBoth saves r mid new left after
+pub files_saved : (saves : Saves) (r : Result (Unit {0}) HostStop) (mid new : HostState) (left after : DiskState)
+    → mid.tells ≡ true → SavesBoth saves r mid new left after
     → FilesAs saves (saved_status r) after.held mid.files new.files
 files_saved saves (Ok u) mid new left after tells s = (s.saved tells, s.others tells)
 files_saved saves (Err Read) mid new left after tells s = absurd (s.host.unread refl)
 files_saved saves (Err Write) mid new left after tells s = s.others tells
 files_saved saves (Err Memory) mid new left after tells s = s.others tells
 
-pub untouched_saved : (saves : Saves) (r : Result (Unit {0}) HostStop) (mid new : HostState) (left after disk : DiskState) → SavesBoth saves r mid new left after
+pub untouched_saved : (saves : Saves) (r : Result (Unit {0}) HostStop) (mid new : HostState)
+    (left after disk : DiskState) → SavesBoth saves r mid new left after
     → IsUntouchedBy (saved_status r) disk
 untouched_saved saves (Ok u) mid new left after disk s = tt
 untouched_saved saves (Err Read) mid new left after disk s = absurd (s.host.unread refl)
@@ -255,7 +277,8 @@ unused_saved (Err Read) e = absurd cc
 unused_saved (Err Write) e = absurd cc
 unused_saved (Err Memory) e = absurd cc
 
-pub unread_saved : (saves : Saves) (r : Result (Unit {0}) HostStop) (mid new : HostState) (left after : DiskState) → SavesBoth saves r mid new left after
+pub unread_saved : (saves : Saves) (r : Result (Unit {0}) HostStop) (mid new : HostState) (left after : DiskState)
+    → SavesBoth saves r mid new left after
     → saved_status r ≡ statuses.ReadFault → ⊥
 unread_saved saves (Ok u) mid new left after s e = absurd cc
 unread_saved saves (Err Read) mid new left after s e = s.host.unread refl

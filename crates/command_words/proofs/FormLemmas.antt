@@ -66,22 +66,33 @@ found : (tail : List Rule) (n : Text) (os : List (Text × Bool)) → is_among n 
 found tail n [] e = never (sym e)
 found tail n (o ∷ os) e = go (bytes_eq o.0 n) refl (found tail n os)
   where
-    go : (b : Bool) → bytes_eq o.0 n ≡ b → (is_among n os ≡ true → Found (rules_from os tail) n) → Found (rules_from (o ∷ os) tail) n
-    go true s rest = (option_built o.0 o.1, rw s refl, rw s refl, subst (IsSingle (option_built o.0 o.1)) ((bytes_eq-Decides o.0 n).0 s) (option_single o.0 o.1))
+    go : (b : Bool) → bytes_eq o.0 n ≡ b → (is_among n os ≡ true → Found (rules_from os tail) n)
+        → Found (rules_from (o ∷ os) tail) n
+    go true s rest = (
+      option_built o.0 o.1,
+      rw s refl,
+      rw s refl,
+      subst (IsSingle (option_built o.0 o.1)) ((bytes_eq-Decides o.0 n).0 s) (option_single o.0 o.1),
+    )
     go false s rest =
         let more = rest (rw s at e) in
         (more.0, rw s (more.1), rw s (more.2), more.3)
 
-not_found : (tail : List Rule) (n : Text) → arg_by_long tail n ≡ None → (os : List (Text × Bool)) → is_among n os ≡ false → arg_by_long (rules_from os tail) n ≡ None
+not_found : (tail : List Rule) (n : Text) → arg_by_long tail n ≡ None → (os : List (Text × Bool))
+    → is_among n os ≡ false → arg_by_long (rules_from os tail) n ≡ None
 not_found tail n behind [] e = behind
-not_found tail n behind (o ∷ os) e = rw (or_left (bytes_eq o.0 n) _ e) (not_found tail n behind os (or_right (bytes_eq o.0 n) _ e))
+not_found tail n behind (o ∷ os) e =
+    rw (or_left (bytes_eq o.0 n) _ e) (not_found tail n behind os (or_right (bytes_eq o.0 n) _ e))
 
-apart_from : (n : Text) (os : List (Text × Bool)) → is_among number_name os ≡ false → is_among n os ≡ true → bytes_eq n number_name ≡ false
+apart_from : (n : Text) (os : List (Text × Bool)) → is_among number_name os ≡ false → is_among n os ≡ true
+    → bytes_eq n number_name ≡ false
 apart_from n [] none e = never (sym e)
 apart_from n (o ∷ os) none e = go (bytes_eq o.0 n) refl (apart_from n os (or_right (bytes_eq o.0 number_name) _ none))
   where
-    go : (b : Bool) → bytes_eq o.0 n ≡ b → (is_among n os ≡ true → bytes_eq n number_name ≡ false) → bytes_eq n number_name ≡ false
-    go true s rest = subst (λ (m : Text). bytes_eq m number_name ≡ false) ((bytes_eq-Decides o.0 n).0 s) (or_left (bytes_eq o.0 number_name) _ none)
+    go : (b : Bool) → bytes_eq o.0 n ≡ b → (is_among n os ≡ true → bytes_eq n number_name ≡ false)
+        → bytes_eq n number_name ≡ false
+    go true s rest = subst (λ (m : Text). bytes_eq m number_name ≡ false) ((bytes_eq-Decides o.0 n).0 s)
+        (or_left (bytes_eq o.0 number_name) _ none)
     go false s rest = rest (rw s at e)
 
 none_is : {A : Type 0} (a : Rule) → None ≡ Some a → A
@@ -92,7 +103,8 @@ pub no_place : (os : List (Text × Bool)) (p : ℕ) → arg_by_index (option_rul
 no_place [] p = refl
 no_place (o ∷ os) p = no_place os p
 
-pub option_suits : (os : List (Text × Bool)) → is_among number_name os ≡ false → Suits (option_rules os) (option_form os)
+pub option_suits : (os : List (Text × Bool)) → is_among number_name os ≡ false
+    → Suits (option_rules os) (option_form os)
 option_suits os none = record {
   known = λ n e. found [] n os e;
   unknown = λ n e. not_found [] n refl os e;
@@ -101,11 +113,13 @@ option_suits os none = record {
   apart = λ n e. apart_from n os none e;
 }
 
-second_number : (p : ℕ) → arg_by_index make_rules p ≡ Some number_built → arg_by_index make_rules (next_position number_built p) ≡ None
+second_number : (p : ℕ) → arg_by_index make_rules p ≡ Some number_built
+    → arg_by_index make_rules (next_position number_built p) ≡ None
 second_number p e = go (1 == p) refl
   where
     go : (b : Bool) → (1 == p) ≡ b → arg_by_index make_rules (next_position number_built p) ≡ None
-    go true s = subst (λ (q : ℕ). arg_by_index make_rules (next_position number_built q) ≡ None) ((Decides-eqb 1 p).0 s) refl
+    go true s = subst (λ (q : ℕ). arg_by_index make_rules (next_position number_built q) ≡ None) ((Decides-eqb 1 p).0 s)
+        refl
     go false s = none_is number_built (rw s at e)
 
 pub make_suits : Suits make_rules make_form
@@ -134,11 +148,13 @@ no_defaults : HasNoDefaults []
 unfolding defaults_fault
 no_defaults = record { rows = λ rows. refl; fault = λ rows. refl }
 
-option_no_default : (n : Text) (q : Bool) (rules : List Rule) → HasNoDefaults rules → HasNoDefaults (option_built n q ∷ rules)
+option_no_default : (n : Text) (q : Bool) (rules : List Rule) → HasNoDefaults rules
+    → HasNoDefaults (option_built n q ∷ rules)
 unfolding defaults_fault
 option_no_default n q rules rest = record {
   rows = λ rows. ap (λ (r : List Row). fold with_default r rules) (same_cond (has_row n rows) rows) ∙ rest.rows rows;
-  fault = λ rows. ap (λ (k : Kinds). or_else k (defaults_fault (with_default rows (option_built n q)) rules)) (none_cond (has_row n rows) _)
+  fault = λ rows. ap (λ (k : Kinds). or_else k (defaults_fault (with_default rows (option_built n q)) rules))
+      (none_cond (has_row n rows) _)
       ∙ rest.fault (with_default rows (option_built n q));
 }
 
@@ -146,10 +162,12 @@ number_no_default : HasNoDefaults (number_built ∷ [])
 unfolding defaults_fault
 number_no_default = record {
   rows = λ rows. same_cond (has_row number_name rows) rows;
-  fault = λ rows. ap (λ (k : Kinds). or_else k (defaults_fault (with_default rows number_built) [])) (none_cond (has_row number_name rows) _);
+  fault = λ rows. ap (λ (k : Kinds). or_else k (defaults_fault (with_default rows number_built) []))
+      (none_cond (has_row number_name rows) _);
 }
 
-options_no_default : (tail : List Rule) → HasNoDefaults tail → (os : List (Text × Bool)) → HasNoDefaults (rules_from os tail)
+options_no_default : (tail : List Rule) → HasNoDefaults tail → (os : List (Text × Bool))
+    → HasNoDefaults (rules_from os tail)
 options_no_default tail rest [] = rest
 options_no_default tail rest (o ∷ os) = option_no_default o.0 o.1 (rules_from os tail) (options_no_default tail rest os)
 
@@ -170,7 +188,8 @@ given_has_value : (n : Text) (g : Given) → is_given n g ≡ is_some (given_val
 given_has_value n [] = refl
 given_has_value n (x ∷ g) = go (bytes_eq x.0 n) refl (given_has_value n g)
   where
-    go : (b : Bool) → bytes_eq x.0 n ≡ b → is_given n g ≡ is_some (given_value n g) → is_given n (x ∷ g) ≡ is_some (given_value n (x ∷ g))
+    go : (b : Bool) → bytes_eq x.0 n ≡ b → is_given n g ≡ is_some (given_value n g)
+        → is_given n (x ∷ g) ≡ is_some (given_value n (x ∷ g))
     go true e ih = rw e refl
     go false e ih = rw e ih
 
@@ -189,10 +208,12 @@ one_needed n g ask without missing = go (given_value n g) refl
 -- nor where one of two was not given
 pub two_needed : (n m : Text) (g : Given) (ask : Option Text → Option Text → Option Asked)
     → ((b : Option Text) → ask None b ≡ None) → ((a : Text) → ask (Some a) None ≡ None)
-    → (not (is_row_given n (rows_for g)) || (not (is_row_given m (rows_for g)) || false)) ≡ true → ask (given_value n g) (given_value m g) ≡ None
+    → (not (is_row_given n (rows_for g)) || (not (is_row_given m (rows_for g)) || false)) ≡ true
+    → ask (given_value n g) (given_value m g) ≡ None
 two_needed n m g ask first second missing = go (given_value n g) (given_value m g) refl refl
   where
-    go : (v w : Option Text) → given_value n g ≡ v → given_value m g ≡ w → ask (given_value n g) (given_value m g) ≡ None
+    go : (v w : Option Text) → given_value n g ≡ v → given_value m g ≡ w
+        → ask (given_value n g) (given_value m g) ≡ None
     go None w e f = ap (λ (a : Option Text). ask a (given_value m g)) e ∙ first (given_value m g)
     go (Some v) None e f = ap₂ ask e f ∙ second v
     go (Some v) (Some w) e f =

@@ -38,7 +38,13 @@ names_are = refl
 
 -- the walk has stopped at this command, and these words stand behind it
 abbrev halted : Text → List Text → Walk
-halted n seen = record { held = nothing_held; waiting = idle; position = 1; is_trailing = false; stopped = Some (n, seen) }
+halted n seen = record {
+  held = nothing_held;
+  waiting = idle;
+  position = 1;
+  is_trailing = false;
+  stopped = Some (n, seen);
+}
 
 halts : (n : Text) (words seen : List Text) → fold (walked [] names) (halted n seen) words ≡ halted n (seen ++ words)
 unfolding walked
@@ -51,7 +57,8 @@ halted_fault n [] seen = refl
 halted_fault n (w ∷ words) seen = halted_fault n words (seen ++ w ∷ [])
 
 -- the first word names a command
-first_walked : (command n : Text) → subcommand_met names idle command ≡ Some n → walked [] names (walk_from nothing_held) command ≡ halted n []
+first_walked : (command n : Text) → subcommand_met names idle command ≡ Some n
+    → walked [] names (walk_from nothing_held) command ≡ halted n []
 unfolding walked
 first_walked command n met = rw met refl
 
@@ -59,28 +66,35 @@ and_false : (b : Bool) → (b && false) ≡ false
 and_false true = refl
 and_false false = refl
 
-first_turn : (command n : Text) → subcommand_met names idle command ≡ Some n → turn_fault top names (walk_from nothing_held) command ≡ []
+first_turn : (command n : Text) → subcommand_met names idle command ≡ Some n
+    → turn_fault top names (walk_from nothing_held) command ≡ []
 first_turn command n met = rw (met, and_false (bytes_eq n (codes "help"))) refl
 
 abbrev walk_over : List Text → Walk
 walk_over words = fold (walked [] names) (walk_from nothing_held) words
 
-entering : (command n : Text) (words : List Text) → subcommand_met names idle command ≡ Some n → walk_over (command ∷ words) ≡ halted n words
-entering command n words met = ap (λ (w : Walk). fold (walked [] names) w words) (first_walked command n met) ∙ halts n words []
+entering : (command n : Text) (words : List Text) → subcommand_met names idle command ≡ Some n
+    → walk_over (command ∷ words) ≡ halted n words
+entering command n words met =
+    ap (λ (w : Walk). fold (walked [] names) w words) (first_walked command n met) ∙ halts n words []
 
 entering_fault : (command n : Text) (words : List Text) → subcommand_met names idle command ≡ Some n
     → walk_fault top names (walk_from nothing_held) (command ∷ words) ≡ []
 unfolding walk_fault
 entering_fault command n words met =
-    ap₂ (λ (f : Kinds) (w : Walk). or_else f (walk_fault top names w words)) (first_turn command n met) (first_walked command n met) ∙ halted_fault n words []
+    ap₂ (λ (f : Kinds) (w : Walk). or_else f (walk_fault top names w words)) (first_turn command n met)
+    (first_walked command n met) ∙ halted_fault n words []
 
 -- the faults of all the words, by those of the walk over them
 abbrev fault_by : Kinds → Walk → Kinds
-fault_by walking w = or_else walking (or_else (entered_fault app w.stopped) (or_else (Rattle.clap.specs.Faults.settle_fault [] false w.held)
+fault_by walking w = or_else walking
+    (or_else (entered_fault app w.stopped) (or_else (Rattle.clap.specs.Faults.settle_fault [] false w.held)
     (or_else (defaults_fault (Rattle.clap.specs.Walk.settled [] w.held).rows [])
-    (Rattle.clap.specs.Faults.check_fault top (Rattle.clap.specs.Walk.finished [] w.held) (is_some (entered app w.stopped))))))
+    (Rattle.clap.specs.Faults.check_fault top (Rattle.clap.specs.Walk.finished [] w.held)
+    (is_some (entered app w.stopped))))))
 
-fault_is : (words : List Text) → fault_of ntboot_app words ≡ fault_by (walk_fault top names (walk_from nothing_held) words) (walk_over words)
+fault_is : (words : List Text)
+    → fault_of ntboot_app words ≡ fault_by (walk_fault top names (walk_from nothing_held) words) (walk_over words)
 fault_is words = refl
 
 asked_is : (words : List Text) → subcommand_of ntboot_app words ≡ entered app (walk_over words).stopped
@@ -95,11 +109,13 @@ law_of : (words : List Text) (asked : Option Asked) (below : Kinds) (found : Opt
     → fault_of ntboot_app words ≡ below → asked_of (subcommand_of ntboot_app words) ≡ found
     → ((is_none below ≡ false) × (asked ≡ None)) ⊎ ((below ≡ []) × (asked ≡ found)) → Law words asked
 law_of words asked below found fault rows (inl bad) = (λ e. bad.1, λ e. never (ap is_none (sym e ∙ fault) ∙ bad.0))
-law_of words asked below found fault rows (inr good) = (λ e. never (sym (ap is_none (fault ∙ good.0)) ∙ e), λ e. good.1 ∙ sym rows)
+law_of words asked below found fault rows (inr good) =
+    (λ e. never (sym (ap is_none (fault ∙ good.0)) ∙ e), λ e. good.1 ∙ sym rows)
 
 -- the command of this entry is the one that was entered
 abbrev Enters : Text → Entry → Type 0
-Enters command e = (row_named command ≡ Some e.row) × (find (λ s. answers_to command (label_of s)) subs ≡ Some (shape_of e))
+Enters command e = (row_named command ≡ Some e.row)
+    × (find (λ s. answers_to command (label_of s)) subs ≡ Some (shape_of e))
     × (subcommand_met names idle command ≡ Some command)
 
 -- the faults of the command that was entered, where these are the shape that was found
@@ -107,7 +123,8 @@ abbrev below_fault : List Text → Option Shape → Kinds
 below_fault words found = or_else (option_map_or (λ s. level_fault s [] nothing_held words false []) found [])
     (or_else (Rattle.clap.specs.Faults.settle_fault [] false nothing_held)
     (or_else (defaults_fault (Rattle.clap.specs.Walk.settled [] nothing_held).rows [])
-    (Rattle.clap.specs.Faults.check_fault top (Rattle.clap.specs.Walk.finished [] nothing_held) (is_some (option_map (λ s. rows_at s words) found)))))
+    (Rattle.clap.specs.Faults.check_fault top (Rattle.clap.specs.Walk.finished [] nothing_held)
+    (is_some (option_map (λ s. rows_at s words) found)))))
 
 entry_fault : (command : Text) (e : Entry) (words : List Text) → Enters command e
     → fault_of ntboot_app (command ∷ words) ≡ level e.row.name e.rules words
@@ -123,36 +140,47 @@ entry_asks command e words name_is enters =
     ap (λ (w : Walk). asked_of (entered app w.stopped)) (entering command command words enters.2)
     ∙ ap (λ (s : Option Shape). asked_of (option_map (λ s. rows_at s words) s)) enters.1
     ∙ ap (λ (n : Text). asked_of_rows n (rows_after e.rules [] words)) name_is
-    ∙ ap (λ (o : Option CommandRow). option_and_then (λ c. c.asks (λ n. first_of n (rows_after e.rules [] words))) o) enters.0
+    ∙ ap (λ (o : Option CommandRow). option_and_then (λ c. c.asks (λ n. first_of n (rows_after e.rules [] words))) o)
+    enters.0
 
-entry_law : (command : Text) (e : Entry) (words : List Text) → e.row.name ≡ command → Enters command e → list_any is_refused words ≡ false
+entry_law : (command : Text) (e : Entry) (words : List Text) → e.row.name ≡ command → Enters command e
+    → list_any is_refused words ≡ false
     → Law (command ∷ words) (named_command command words)
 entry_law command e words name_is enters sound =
-    subst (Law (command ∷ words)) (sym (ap (λ (o : Option CommandRow). option_and_then (λ c. asked_by c.form c.asks words) o) enters.0))
-    (law_of (command ∷ words) (asked_by e.row.form e.row.asks words) (level e.row.name e.rules words) (e.row.asks (λ n. first_of n (rows_after e.rules [] words)))
+    subst (Law (command ∷ words))
+    (sym (ap (λ (o : Option CommandRow). option_and_then (λ c. asked_by c.form c.asks words) o) enters.0))
+    (law_of (command ∷ words) (asked_by e.row.form e.row.asks words) (level e.row.name e.rules words)
+    (e.row.asks (λ n. first_of n (rows_after e.rules [] words)))
     (entry_fault command e words enters) (entry_asks command e words name_is enters) (e.agrees words sound))
 
 -- a first word that names no command
-no_command : (command : Text) (words : List Text) → is_refused command ≡ false → subcommand_met names idle command ≡ None
+no_command : (command : Text) (words : List Text) → is_refused command ≡ false
+    → subcommand_met names idle command ≡ None
     → is_none (walk_fault top names (walk_from nothing_held) (command ∷ words)) ≡ false
 unfolding walk_fault
-no_command command words sound met = or_blocked (turn_fault top names (walk_from nothing_held) command) _ (go (looks command sound))
+no_command command words sound met =
+    or_blocked (turn_fault top names (walk_from nothing_held) command) _ (go (looks command sound))
   where
     go : Looks command → is_none (turn_fault top names (walk_from nothing_held) command) ≡ false
     go (as_long text ne long behind first full) = rw (met, ne, long) refl
     go (as_plain ne long short behind first full) = rw (met, ne, long, short) refl
 
-named_law : (command : Text) (words : List Text) → list_any is_refused (command ∷ words) ≡ false → Law (command ∷ words) (named_command command words)
+named_law : (command : Text) (words : List Text) → list_any is_refused (command ∷ words) ≡ false
+    → Law (command ∷ words) (named_command command words)
 named_law command words sound = go (match_in command entries)
   where
     go : Match command entries → Law (command ∷ words) (named_command command words)
     go (is_met e name row shape label) =
-        entry_law command e words name (row, shape, ap (λ (o : Option (Text × List Text)). option_map (λ s. s.0) o) label ∙ ap Some name) (or_right (is_refused command) (list_any is_refused words) sound)
+        entry_law command e words name
+        (row, shape, ap (λ (o : Option (Text × List Text)). option_map (λ s. s.0) o) label ∙ ap Some name)
+        (or_right (is_refused command) (list_any is_refused words) sound)
     go (is_unmet row label) =
-        let none : named_command command words ≡ None = ap (λ (o : Option CommandRow). option_and_then (λ c. asked_by c.form c.asks words) o) row in
+        let none : named_command command words ≡ None =
+        ap (λ (o : Option CommandRow). option_and_then (λ c. asked_by c.form c.asks words) o) row in
         let fault : is_none (fault_of ntboot_app (command ∷ words)) ≡ false =
         or_blocked (walk_fault top names (walk_from nothing_held) (command ∷ words)) _
-        (no_command command words (or_left (is_refused command) (list_any is_refused words) sound) (ap (λ (o : Option (Text × List Text)). option_map (λ s. s.0) o) label)) in
+        (no_command command words (or_left (is_refused command) (list_any is_refused words) sound)
+        (ap (λ (o : Option (Text × List Text)). option_map (λ s. s.0) o) label)) in
         (λ e. none, λ e. never (ap is_none (sym e) ∙ fault))
 
 empty_law : Law [] None

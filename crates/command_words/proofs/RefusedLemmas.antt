@@ -32,7 +32,8 @@ no_word g n (a ∷ b ∷ cs) e = go (is_hyphen a) refl
 abbrev Next : Type 0
 Next = Given → Option Text → Option Given
 
-no_option : (form : CommandForm) (g : Given) (text : Text) (next : Next) → is_option [] form ≡ false → lacks_text (Some text) ≡ true
+no_option : (form : CommandForm) (g : Given) (text : Text) (next : Next) → is_option [] form ≡ false
+    → lacks_text (Some text) ≡ true
     → with_option form g (name_in text) (attached_in text) next ≡ None
 no_option form g [] next nameless e = rw nameless refl
 no_option form g (c ∷ cs) next nameless e = go (attached_in (c ∷ cs)) e
@@ -53,24 +54,31 @@ lacks (a ∷ b ∷ cs) text e refused = go (is_hyphen a) (is_hyphen b) refl refl
     go false y h k = never (ap Rattle.std.specs.Prelude.is_some (sym (rw h at e)))
 
 -- nor is it read where an option or the number may stand
-no_next : (form : CommandForm) (g : Given) (w : Text) (next : Next) → is_option [] form ≡ false → is_refused w ≡ true → with_next form g w (behind_hyphens w) next ≡ None
+no_next : (form : CommandForm) (g : Given) (w : Text) (next : Next) → is_option [] form ≡ false → is_refused w ≡ true
+    → with_next form g w (behind_hyphens w) next ≡ None
 no_next form g w next nameless e = go (behind_hyphens w) refl
   where
     go : (b : Option Text) → behind_hyphens w ≡ b → with_next form g w b next ≡ None
-    go None behind = ap (λ (o : Option Given). cond form.takes_number (option_and_then (λ more. next more None) o) None) (no_word g number_name w e) ∙ same form.takes_number None
+    go None behind = ap (λ (o : Option Given). cond form.takes_number (option_and_then (λ more. next more None) o) None)
+        (no_word g number_name w e) ∙ same form.takes_number None
     go (Some text) behind = no_option form g text next nameless (lacks w text behind e)
 
 -- where what follows has no reading, there is none
-none_next : (form : CommandForm) (g : Given) (w : Text) (next : Next) → ((more : Given) (waiting : Option Text) → next more waiting ≡ None)
+none_next : (form : CommandForm) (g : Given) (w : Text) (next : Next)
+    → ((more : Given) (waiting : Option Text) → next more waiting ≡ None)
     → (b : Option Text) → with_next form g w b next ≡ None
 none_next form g w next none None =
-    ap (λ (o : Option Given). cond form.takes_number o None) (none_then (λ more. next more None) (λ more. none more None) (with_word g number_name w)) ∙ same form.takes_number None
+    ap (λ (o : Option Given). cond form.takes_number o None)
+    (none_then (λ more. next more None) (λ more. none more None) (with_word g number_name w))
+    ∙ same form.takes_number None
 none_next form g w next none (Some text) = go (attached_in text)
   where
     go : (value : Option Text) → with_option form g (name_in text) value next ≡ None
-    go None = ap (λ (o : Option Given). cond (is_option (name_in text) form) o None) (none g (Some (name_in text))) ∙ same (is_option (name_in text) form) None
+    go None = ap (λ (o : Option Given). cond (is_option (name_in text) form) o None) (none g (Some (name_in text)))
+        ∙ same (is_option (name_in text) form) None
     go (Some v) =
-        ap (λ (o : Option Given). cond (is_option (name_in text) form) o None) (none_then (λ more. next more None) (λ more. none more None) (with_value g (name_in text) v))
+        ap (λ (o : Option Given). cond (is_option (name_in text) form) o None)
+        (none_then (λ more. next more None) (λ more. none more None) (with_value g (name_in text) v))
         ∙ same (is_option (name_in text) form) None
 
 none_given : (form : CommandForm) → is_option [] form ≡ false → (words : List Text) → list_any is_refused words ≡ true
@@ -80,24 +88,34 @@ none_given form nameless [] refused g waiting = never (sym refused)
 none_given form nameless (w ∷ words) refused g waiting = go (is_refused w) refl waiting (none_given form nameless words)
   where
     go : (b : Bool) → is_refused w ≡ b → (waiting : Option Text)
-        → (list_any is_refused words ≡ true → (g : Given) (waiting : Option Text) → given_by form g waiting words ≡ None)
+        → (list_any is_refused words ≡ true → (g : Given) (waiting : Option Text)
+        → given_by form g waiting words ≡ None)
         → given_by form g waiting (w ∷ words) ≡ None
     go true e None rest = no_next form g w (λ more waiting. given_by form more waiting words) nameless e
     go true e (Some n) rest = ap (option_and_then (λ more. given_by form more None words)) (no_word g n w e)
     go false e None rest =
-        none_next form g w (λ more waiting. given_by form more waiting words) (λ more waiting. rest (ap (λ (b : Bool). b || list_any is_refused words) (sym e) ∙ refused) more waiting) (behind_hyphens w)
+        none_next form g w (λ more waiting. given_by form more waiting words)
+        (λ more waiting. rest (ap (λ (b : Bool). b || list_any is_refused words) (sym e) ∙ refused) more waiting)
+        (behind_hyphens w)
     go false e (Some n) rest =
-        none_then (λ more. given_by form more None words) (λ more. rest (ap (λ (b : Bool). b || list_any is_refused words) (sym e) ∙ refused) more None) (with_word g n w)
+        none_then (λ more. given_by form more None words)
+        (λ more. rest (ap (λ (b : Bool). b || list_any is_refused words) (sym e) ∙ refused) more None)
+        (with_word g n w)
 
-none_asked : (form : CommandForm) (by : Look → Option Asked) → is_option [] form ≡ false → (words : List Text) → list_any is_refused words ≡ true
+none_asked : (form : CommandForm) (by : Look → Option Asked) → is_option [] form ≡ false → (words : List Text)
+    → list_any is_refused words ≡ true
     → asked_by form by words ≡ None
-none_asked form by nameless words refused = ap (option_and_then (λ given. by (λ name. Rattle.command_words.specs.Words.given_value name given))) (none_given form nameless words refused [] None)
+none_asked form by nameless words refused =
+    ap (option_and_then (λ given. by (λ name. Rattle.command_words.specs.Words.given_value name given)))
+    (none_given form nameless words refused [] None)
 
 -- a word that is refused names no command
-unnamed : (command : Text) → is_refused command ≡ true → (cs : List CommandRow) → list_any (λ c. is_refused c.name) cs ≡ false
+unnamed : (command : Text) → is_refused command ≡ true → (cs : List CommandRow)
+    → list_any (λ c. is_refused c.name) cs ≡ false
     → find (λ c. bytes_eq c.name command) cs ≡ None
 unnamed command e [] sound = refl
-unnamed command e (c ∷ cs) sound = go (bytes_eq c.name command) refl (unnamed command e cs (or_right (is_refused c.name) _ sound))
+unnamed command e (c ∷ cs) sound =
+    go (bytes_eq c.name command) refl (unnamed command e cs (or_right (is_refused c.name) _ sound))
   where
     go : (b : Bool) → bytes_eq c.name command ≡ b → find (λ c. bytes_eq c.name command) cs ≡ None
         → find (λ c. bytes_eq c.name command) (c ∷ cs) ≡ None
@@ -107,13 +125,17 @@ unnamed command e (c ∷ cs) sound = go (bytes_eq c.name command) refl (unnamed 
     go false s rest = rw s rest
 
 no_command : (command : Text) (words : List Text) → is_refused command ≡ true → named_command command words ≡ None
-no_command command words e = ap (λ (o : Option CommandRow). option_and_then (λ c. asked_by c.form c.asks words) o) (unnamed command e commands refl)
+no_command command words e =
+    ap (λ (o : Option CommandRow). option_and_then (λ c. asked_by c.form c.asks words) o)
+    (unnamed command e commands refl)
 
 -- no command reads words one of which is refused
-none_of : (command : Text) (words : List Text) → list_any is_refused words ≡ true → (cs : List CommandRow) → list_any (λ c. is_option [] c.form) cs ≡ false
+none_of : (command : Text) (words : List Text) → list_any is_refused words ≡ true → (cs : List CommandRow)
+    → list_any (λ c. is_option [] c.form) cs ≡ false
     → option_and_then (λ c. asked_by c.form c.asks words) (find (λ c. bytes_eq c.name command) cs) ≡ None
 none_of command words e [] named = refl
-none_of command words e (c ∷ cs) named = go (bytes_eq c.name command) refl (none_of command words e cs (or_right (is_option [] c.form) _ named))
+none_of command words e (c ∷ cs) named =
+    go (bytes_eq c.name command) refl (none_of command words e cs (or_right (is_option [] c.form) _ named))
   where
     go : (b : Bool) → bytes_eq c.name command ≡ b
         → option_and_then (λ c. asked_by c.form c.asks words) (find (λ c. bytes_eq c.name command) cs) ≡ None
@@ -121,7 +143,8 @@ none_of command words e (c ∷ cs) named = go (bytes_eq c.name command) refl (no
     go true s rest = rw s (none_asked c.form c.asks (or_left (is_option [] c.form) _ named) words e)
     go false s rest = rw s rest
 
-none_named : (command : Text) (words : List Text) → list_any is_refused words ≡ true → named_command command words ≡ None
+none_named : (command : Text) (words : List Text) → list_any is_refused words ≡ true
+    → named_command command words ≡ None
 none_named command words e = none_of command words e commands refl
 
 pub refused_words : (words : List Text) → list_any is_refused words ≡ true → command_of words ≡ None

@@ -45,7 +45,8 @@ pub row_given_for : (n : Text) (g : Given) → is_row_given n (rows_for g) ≡ i
 row_given_for n [] = refl
 row_given_for n (x ∷ g) = go (bytes_eq x.0 n) refl (row_given_for n g)
   where
-    go : (b : Bool) → bytes_eq x.0 n ≡ b → is_row_given n (rows_for g) ≡ is_given n g → is_row_given n (rows_for (x ∷ g)) ≡ is_given n (x ∷ g)
+    go : (b : Bool) → bytes_eq x.0 n ≡ b → is_row_given n (rows_for g) ≡ is_given n g
+        → is_row_given n (rows_for (x ∷ g)) ≡ is_given n (x ∷ g)
     go true e ih = rw e refl
     go false e ih = rw e ih
 
@@ -53,17 +54,23 @@ pub first_of_for : (n : Text) (g : Given) → first_of n (rows_for g) ≡ given_
 first_of_for n [] = refl
 first_of_for n (x ∷ g) = go (bytes_eq x.0 n) refl (first_of_for n g)
   where
-    go : (b : Bool) → bytes_eq x.0 n ≡ b → first_of n (rows_for g) ≡ given_value n g → first_of n (rows_for (x ∷ g)) ≡ given_value n (x ∷ g)
+    go : (b : Bool) → bytes_eq x.0 n ≡ b → first_of n (rows_for g) ≡ given_value n g
+        → first_of n (rows_for (x ∷ g)) ≡ given_value n (x ∷ g)
     go true e ih = rw e refl
     go false e ih = rw e ih
 
 pub without_fresh : (n : Text) (g : Given) → is_given n g ≡ false → without n (rows_for g) ≡ rows_for g
 without_fresh n [] fresh = refl
-without_fresh n (x ∷ g) fresh = rw (or_left (bytes_eq x.0 n) _ fresh) (ap (λ (rs : List Row). row_for x ∷ rs) (without_fresh n g (or_right (bytes_eq x.0 n) _ fresh)))
+without_fresh n (x ∷ g) fresh =
+    rw (or_left (bytes_eq x.0 n) _ fresh)
+    (ap (λ (rs : List Row). row_for x ∷ rs) (without_fresh n g (or_right (bytes_eq x.0 n) _ fresh)))
 
-pub added_fresh : (n v : Text) (g : Given) → is_given n g ≡ false → with_values n how CommandLine (v ∷ []) (rows_for g) ≡ rows_for (g ++ (n, v) ∷ [])
+pub added_fresh : (n v : Text) (g : Given) → is_given n g ≡ false
+    → with_values n how CommandLine (v ∷ []) (rows_for g) ≡ rows_for (g ++ (n, v) ∷ [])
 added_fresh n v [] fresh = refl
-added_fresh n v (x ∷ g) fresh = rw (or_left (bytes_eq x.0 n) _ fresh) (ap (λ (rs : List Row). row_for x ∷ rs) (added_fresh n v g (or_right (bytes_eq x.0 n) _ fresh)))
+added_fresh n v (x ∷ g) fresh =
+    rw (or_left (bytes_eq x.0 n) _ fresh)
+    (ap (λ (rs : List Row). row_for x ∷ rs) (added_fresh n v g (or_right (bytes_eq x.0 n) _ fresh)))
 
 -- the argument takes one value, at most once
 pub record IsSingle (a : Rule) (n : Text) : Type 0 where
@@ -72,7 +79,8 @@ pub record IsSingle (a : Rule) (n : Text) : Type 0 where
   pub most : most_values a ≡ 1
   pub one_value : (v : Text) (rows : List Row) → use_fault false a (v ∷ []) rows ≡ repeat_fault false n rows
   pub no_value : (rows : List Row) → is_none (use_fault false a [] rows) ≡ false
-  pub uses : (v : Text) (rows : List Row) → used a (v ∷ []) rows ≡ with_values n how CommandLine (v ∷ []) (without n rows)
+  pub uses : (v : Text) (rows : List Row)
+      → used a (v ∷ []) rows ≡ with_values n how CommandLine (v ∷ []) (without n rows)
 
 pub option_single : (n : Text) (q : Bool) → IsSingle (option_built n q) n
 option_single n q = record {
@@ -95,12 +103,15 @@ number_single = record {
 }
 
 -- a use of what was given before is a fault
-pub used_twice : (a : Rule) (n v : Text) (g : Given) → IsSingle a n → is_given n g ≡ true → is_none (use_fault false a (v ∷ []) (rows_for g)) ≡ false
+pub used_twice : (a : Rule) (n v : Text) (g : Given) → IsSingle a n → is_given n g ≡ true
+    → is_none (use_fault false a (v ∷ []) (rows_for g)) ≡ false
 used_twice a n v g s e = rw (s.one_value v (rows_for g), has_row_for n g, e) refl
 
-pub used_once : (a : Rule) (n v : Text) (g : Given) → IsSingle a n → is_given n g ≡ false → use_fault false a (v ∷ []) (rows_for g) ≡ []
+pub used_once : (a : Rule) (n v : Text) (g : Given) → IsSingle a n → is_given n g ≡ false
+    → use_fault false a (v ∷ []) (rows_for g) ≡ []
 used_once a n v g s e = rw (s.one_value v (rows_for g), has_row_for n g, e) refl
 
-pub rows_used : (a : Rule) (n v : Text) (g : Given) → IsSingle a n → is_given n g ≡ false → used a (v ∷ []) (rows_for g) ≡ rows_for (g ++ (n, v) ∷ [])
+pub rows_used : (a : Rule) (n v : Text) (g : Given) → IsSingle a n → is_given n g ≡ false
+    → used a (v ∷ []) (rows_for g) ≡ rows_for (g ++ (n, v) ∷ [])
 rows_used a n v g s e =
     s.uses v (rows_for g) ∙ ap (with_values n how CommandLine (v ∷ [])) (without_fresh n g e) ∙ added_fresh n v g e

@@ -26,7 +26,8 @@ pub option_agrees : (name : Text) (os : List (Text × Bool)) (by : Look → Opti
     → ((g : Given) → is_missing (option_rules os) g ≡ true → by (look_in g) ≡ None)
     → (words : List Text) → list_any is_refused words ≡ false → Reads name (option_rules os) (option_form os) by words
 option_agrees name os by none missing words sound =
-    reads name (option_rules os) (option_form os) by (option_suits os none) (option_no_defaults os) (no_place os 1) missing words sound
+    reads name (option_rules os) (option_form os) by (option_suits os none) (option_no_defaults os) (no_place os 1)
+    missing words sound
 
 -- what is missing where a command's options are these
 abbrev pub Missing : List (Text × Bool) → (Look → Option Asked) → Type 0
@@ -34,18 +35,21 @@ Missing os by = (g : Given) → is_missing (option_rules os) g ≡ true → by (
 
 pub run_missing : Missing run_offers run_by
 run_missing g missing = two_needed (codes "hive") (codes "script") g
-    (λ hive script. option_and_then (λ h. option_map (λ s. run (run_with (look_in g) h s)) script) hive) (λ b. refl) (λ a. refl) missing
+    (λ hive script. option_and_then (λ h. option_map (λ s. run (run_with (look_in g) h s)) script) hive) (λ b. refl)
+    (λ a. refl) missing
 
 pub show_missing : Missing show_offers show_by
 show_missing g missing = one_needed (codes "hive") g
     (λ hive. option_map (λ h. show (record { hive = h; log = look_in g (codes "log") })) hive) refl missing
 
 pub safe_missing : Missing safe_offers safe_by
-safe_missing g missing = one_needed (codes "hive") g (λ hive. option_map (λ h. safe (safe_with (look_in g) h)) hive) refl missing
+safe_missing g missing = one_needed (codes "hive") g (λ hive. option_map (λ h. safe (safe_with (look_in g) h)) hive)
+    refl missing
 
 pub control_missing : Missing control_offers control_by
 control_missing g missing = two_needed (codes "hive") (codes "commands") g
-    (λ hive commands. option_and_then (λ h. option_map (λ c. control (control_with (look_in g) h c)) commands) hive) (λ b. refl) (λ a. refl) missing
+    (λ hive commands. option_and_then (λ h. option_map (λ c. control (control_with (look_in g) h c)) commands) hive)
+    (λ b. refl) (λ a. refl) missing
 
 pub twin_missing : Missing twin_offers twin_by
 twin_missing g missing = one_needed (codes "hive") g
@@ -54,19 +58,27 @@ twin_missing g missing = one_needed (codes "hive") g
 
 pub export_missing : Missing export_offers export_by
 export_missing g missing = two_needed (codes "hive") (codes "reg") g
-    (λ hive reg. option_and_then (λ h. option_map (λ r. export (export_with (look_in g) h r)) reg) hive) (λ b. refl) (λ a. refl) missing
+    (λ hive reg. option_and_then (λ h. option_map (λ r. export (export_with (look_in g) h r)) reg) hive) (λ b. refl)
+    (λ a. refl) missing
 
 pub import_missing : Missing import_offers import_by
 import_missing g missing = two_needed (codes "hive") (codes "reg") g
-    (λ hive reg. option_and_then (λ h. option_map (λ r. import (import_with (look_in g) h r)) reg) hive) (λ b. refl) (λ a. refl) missing
+    (λ hive reg. option_and_then (λ h. option_map (λ r. import (import_with (look_in g) h r)) reg) hive) (λ b. refl)
+    (λ a. refl) missing
 
-pub make_agrees : (words : List Text) → list_any is_refused words ≡ false → Reads (codes "make") make_rules make_form make_by words
-make_agrees words sound = reads (codes "make") make_rules make_form make_by make_suits make_no_defaults refl (λ g missing. one_needed number_name g
-    (λ number. option_and_then (λ text. option_map (λ count. make (record { count = count; save_hive = look_in g (codes "save-hive") })) (count_of text)) number)
+pub make_agrees : (words : List Text) → list_any is_refused words ≡ false
+    → Reads (codes "make") make_rules make_form make_by words
+make_agrees words sound =
+    reads (codes "make") make_rules make_form make_by make_suits make_no_defaults refl
+    (λ g missing. one_needed number_name g
+    (λ number. option_and_then
+    (λ text. option_map (λ count. make (record { count = count; save_hive = look_in g (codes "save-hive") }))
+    (count_of text)) number)
     refl missing) words sound
 
 -- a command that takes these options alone
-abbrev pub option_entry : (name : Text) (os : List (Text × Bool)) (by : Look → Option Asked) → is_among number_name os ≡ false → Missing os by → Entry
+abbrev pub option_entry : (name : Text) (os : List (Text × Bool)) (by : Look → Option Asked)
+    → is_among number_name os ≡ false → Missing os by → Entry
 option_entry name os by none missing = record {
   row = record { name = name; form = option_form os; asks = by };
   rules = option_rules os;
@@ -107,7 +119,8 @@ pub data Match (command : Text) (es : List Entry) : Type 0 where
   is_met : (e : Entry) → e.row.name ≡ command → find (λ c. bytes_eq c.name command) (map row_of es) ≡ Some e.row
       → find (λ s. answers_to command (label_of s)) (map shape_of es) ≡ Some (shape_of e)
       → find (answers_to command) (map label_for es) ≡ Some (label_for e) → Match command es
-  is_unmet : find (λ c. bytes_eq c.name command) (map row_of es) ≡ None → find (answers_to command) (map label_for es) ≡ None → Match command es
+  is_unmet : find (λ c. bytes_eq c.name command) (map row_of es) ≡ None
+      → find (answers_to command) (map label_for es) ≡ None → Match command es
 
 or_nothing : (b : Bool) → (b || false) ≡ b
 or_nothing true = refl
@@ -121,6 +134,8 @@ match_in command (e ∷ es) = go (bytes_eq e.row.name command) refl (match_in co
     answers b is = or_nothing (bytes_eq e.row.name command) ∙ is
 
     go : (b : Bool) → bytes_eq e.row.name command ≡ b → Match command es → Match command (e ∷ es)
-    go true is rest = is_met e ((bytes_eq-Decides e.row.name command).0 is) (rw is refl) (rw (answers true is) refl) (rw (answers true is) refl)
-    go false is (is_met f name row shape label) = is_met f name (rw is row) (rw (answers false is) shape) (rw (answers false is) label)
+    go true is rest = is_met e ((bytes_eq-Decides e.row.name command).0 is) (rw is refl) (rw (answers true is) refl)
+        (rw (answers true is) refl)
+    go false is (is_met f name row shape label) =
+        is_met f name (rw is row) (rw (answers false is) shape) (rw (answers false is) label)
     go false is (is_unmet row label) = is_unmet (rw is row) (rw (answers false is) label)

@@ -8,8 +8,11 @@ use Rattle.command_words.specs.Clap.{is_empty_value, is_refused}
 
 -- the two forms of a word that is not refused
 pub data Looks (word : Text) : Type 0 where
-  as_long : (text : Text) → bytes_eq word (45 ∷ 45 ∷ []) ≡ false → long_of word ≡ Some (name_in text, attached_in text) → behind_hyphens word ≡ Some text → begins_with_hyphen word ≡ true → is_empty_value (attached_in text) ≡ false → Looks word
-  as_plain : bytes_eq word (45 ∷ 45 ∷ []) ≡ false → long_of word ≡ None → short_of word ≡ None → behind_hyphens word ≡ None → begins_with_hyphen word ≡ false → is_empty_text word ≡ false → Looks word
+  as_long : (text : Text) → bytes_eq word (45 ∷ 45 ∷ []) ≡ false → long_of word ≡ Some (name_in text, attached_in text)
+      → behind_hyphens word ≡ Some text → begins_with_hyphen word ≡ true → is_empty_value (attached_in text) ≡ false
+      → Looks word
+  as_plain : bytes_eq word (45 ∷ 45 ∷ []) ≡ false → long_of word ≡ None → short_of word ≡ None
+      → behind_hyphens word ≡ None → begins_with_hyphen word ≡ false → is_empty_text word ≡ false → Looks word
 
 pub never : {A : Type 0} → true ≡ false → A
 never e = absurd (true≢false e)
@@ -26,7 +29,8 @@ attached_is : (text : Text) → cond (list_any is_equals text) (Some (after_firs
 attached_is [] = refl
 attached_is (c ∷ text) = go (is_equals c) refl (attached_is text)
   where
-    go : (b : Bool) → is_equals c ≡ b → cond (list_any is_equals text) (Some (after_first is_equals text)) None ≡ attached_in text
+    go : (b : Bool) → is_equals c ≡ b
+        → cond (list_any is_equals text) (Some (after_first is_equals text)) None ≡ attached_in text
         → cond (list_any is_equals (c ∷ text)) (Some (after_first is_equals (c ∷ text))) None ≡ attached_in (c ∷ text)
     go true e rest = rw e refl
     go false e rest =
@@ -43,7 +47,9 @@ looks (a ∷ b ∷ cs) sound = two (is_hyphen a) (is_hyphen b) refl refl
   where
     long : (cs : Text) → is_refused (a ∷ b ∷ cs) ≡ false → is_hyphen a ≡ true → is_hyphen b ≡ true → Looks (a ∷ b ∷ cs)
     long [] s e f = never (rw (e, f) at s)
-    long (c ∷ cs) s e f = as_long (c ∷ cs) (rw (e, f) refl) (rw (e, f) (ap (λ (v : Option Text). Some (name_in (c ∷ cs), v)) (attached_is (c ∷ cs)))) (rw (e, f) refl) e (rw (e, f) at s)
+    long (c ∷ cs) s e f = as_long (c ∷ cs) (rw (e, f) refl)
+        (rw (e, f) (ap (λ (v : Option Text). Some (name_in (c ∷ cs), v)) (attached_is (c ∷ cs)))) (rw (e, f) refl) e
+        (rw (e, f) at s)
 
     two : (x y : Bool) → is_hyphen a ≡ x → is_hyphen b ≡ y → Looks (a ∷ b ∷ cs)
     two true true e f = long cs sound e f

@@ -15,11 +15,15 @@ by_hive asked files = asks_hive files asked.hive asked.log
 abbrev pub by_text : ControlAsked → Files → List ℕ → ℕ
 by_text asked files text = behind_step (commands_in (commands_of text)) (λ commands. by_hive asked files)
 
-pub commands_asked : (files : Files) (asked : ControlAsked) (text : List ℕ) → file_in asked.commands (files asked.commands) ≡ Ok text
+pub commands_asked : (files : Files) (asked : ControlAsked) (text : List ℕ)
+    → file_in asked.commands (files asked.commands) ≡ Ok text
     → asks_control asked files ≡ 1 + behind_step (commands_in (commands_of text)) (λ commands. by_hive asked files)
-commands_asked files asked text found = ap (λ (r : Result (List ℕ) Refusal). 1 + behind_step r (by_text asked files)) found
+commands_asked files asked text found =
+    ap (λ (r : Result (List ℕ) Refusal). 1 + behind_step r (by_text asked files)) found
 
-pub hive_asked : (files : Files) (asked : ControlAsked) (text : List ℕ) (commands : List Command) → file_in asked.commands (files asked.commands) ≡ Ok text
+pub hive_asked : (files : Files) (asked : ControlAsked) (text : List ℕ) (commands : List Command)
+    → file_in asked.commands (files asked.commands) ≡ Ok text
     → commands_in (commands_of text) ≡ Ok commands → asks_control asked files ≡ 1 + by_hive asked files
 hive_asked files asked text commands found are =
-    commands_asked files asked text found ∙ ap (λ (r : Result (List Command) Refusal). 1 + behind_step r (λ (cs : List Command). by_hive asked files)) are
+    commands_asked files asked text found
+    ∙ ap (λ (r : Result (List Command) Refusal). 1 + behind_step r (λ (cs : List Command). by_hive asked files)) are

@@ -13,7 +13,8 @@ use Rattle.control_command.specs.declared.command.Command.{Command}
 use Rattle.control_command.specs.Report.{Answered, Adds, answer_to, answers_to, default_set, report_of, unless, refused_line}
 
 -- a refusal that is no want of memory is the reason
-pub is_reason : (stop : ControlStop) (why : Option ControlStop) → StopsBy why stop → (stop ≡ stops.Memory → ⊥) → why ≡ Some stop
+pub is_reason : (stop : ControlStop) (why : Option ControlStop) → StopsBy why stop → (stop ≡ stops.Memory → ⊥)
+    → why ≡ Some stop
 is_reason stops.NoService why s named = s
 is_reason stops.Disabled why s named = s
 is_reason stops.Running why s named = s
@@ -25,46 +26,62 @@ is_reason stops.Unmet why s named = s
 is_reason stops.Memory why s named = absurd (named refl)
 
 -- the call was done, and its text was said
-pub done_adds : (why : Option ControlStop) (command name : List ℕ) (old control : ControlState) (done : Answered) (before after : List ℕ)
-    → why ≡ None → control ≡ done.state → after ≡ before ++ done.text → Adds (unless why command name old done) control before after
+pub done_adds : (why : Option ControlStop) (command name : List ℕ) (old control : ControlState) (done : Answered)
+    (before after : List ℕ)
+    → why ≡ None → control ≡ done.state → after ≡ before ++ done.text
+    → Adds (unless why command name old done) control before after
 done_adds why command name old control done before after free state said =
     let P : Option ControlStop → Type 0 = λ o. Adds (unless o command name old done) control before after in
     subst P (sym free) (record { state = state; said = said })
 
 -- it was refused, and the refusal was said
-pub refused_adds : (why : Option ControlStop) (command name : List ℕ) (old control : ControlState) (done : Answered) (stop : ControlStop) (before after : List ℕ)
-    → StopsBy why stop → (stop ≡ stops.Memory → ⊥) → control ≡ old → after ≡ before ++ refused_line command name stop → Adds (unless why command name old done) control before after
+pub refused_adds : (why : Option ControlStop) (command name : List ℕ) (old control : ControlState) (done : Answered)
+    (stop : ControlStop) (before after : List ℕ)
+    → StopsBy why stop → (stop ≡ stops.Memory → ⊥) → control ≡ old → after ≡ before ++ refused_line command name stop
+    → Adds (unless why command name old done) control before after
 refused_adds why command name old control done stop before after stopped named kept said =
     let P : Option ControlStop → Type 0 = λ o. Adds (unless o command name old done) control before after in
     subst P (sym (is_reason stop why stopped named)) (record { state = kept; said = said })
 
 -- the same of what a call returned; the name in the line is that of the command
-pub refused_on : {E : Type 0} (r : Result (Unit {0}) E) (why given : Option ControlStop) (command name slice : List ℕ) (old control : ControlState) (done : Answered) (stop : ControlStop) (before after : List ℕ)
-    → given ≡ why → StopsBy given stop → control ≡ old → slice ≡ name → OnOk r (after ≡ before ++ refused_line command slice stop) → OnOk r (stop ≡ stops.Memory → ⊥)
+pub refused_on : {E : Type 0} (r : Result (Unit {0}) E) (why given : Option ControlStop) (command name slice : List ℕ)
+    (old control : ControlState) (done : Answered) (stop : ControlStop) (before after : List ℕ)
+    → given ≡ why → StopsBy given stop → control ≡ old → slice ≡ name
+    → OnOk r (after ≡ before ++ refused_line command slice stop) → OnOk r (stop ≡ stops.Memory → ⊥)
     → OnOk r (Adds (unless why command name old done) control before after)
 refused_on (Ok x) why given command name slice old control done stop before after same stopped kept is said named =
     let P : Option ControlStop → Type 0 = λ o. StopsBy o stop in
-    refused_adds why command name old control done stop before after (subst P same stopped) named kept (said ∙ ap (λ n. before ++ refused_line command n stop) is)
-refused_on (Err e) why given command name slice old control done stop before after same stopped kept is said named = said
+    refused_adds why command name old control done stop before after (subst P same stopped) named kept
+    (said ∙ ap (λ n. before ++ refused_line command n stop) is)
+refused_on (Err e) why given command name slice old control done stop before after same stopped kept is said named =
+    said
 
 -- the report on a tree with a set
-pub report_with : {E : Type 0} (tree set : Tree) (commands : List Command) (r : Result (List ℕ) E) → Some set ≡ default_set tree → IfOk r (λ t. t ≡ answers_to (control_of set) commands)
+pub report_with : {E : Type 0} (tree set : Tree) (commands : List Command) (r : Result (List ℕ) E)
+    → Some set ≡ default_set tree → IfOk r (λ t. t ≡ answers_to (control_of set) commands)
     → IfOk r (λ t. t ≡ report_of tree commands)
 report_with tree set commands r found h =
     let P : List ℕ → Type 0 = λ l. IfOk r (λ t. t ≡ l) in
-    subst P (ap (λ o. option_map_or (λ s. answers_to (control_of s) commands) o (codes "verdict no-control-set\nend\n")) found) h
+    subst P (ap (λ o. option_map_or (λ s. answers_to (control_of s) commands) o (codes "verdict no-control-set\nend\n"))
+    found) h
 
 -- one more command was answered
-pub answered_more : (commands : List Command) (i : ℕ) (command : Command) (old new : ControlState) (before after total : List ℕ) → i < length commands → command ≡ get_or commands i command
-    → before ++ answers_to old (drop i commands) ≡ total → Adds (answer_to old command) new before after → after ++ answers_to new (drop (i + 1) commands) ≡ total
+pub answered_more : (commands : List Command) (i : ℕ) (command : Command) (old new : ControlState)
+    (before after total : List ℕ) → i < length commands → command ≡ get_or commands i command
+    → before ++ answers_to old (drop i commands) ≡ total → Adds (answer_to old command) new before after
+    → after ++ answers_to new (drop (i + 1) commands) ≡ total
 answered_more commands i command old new before after total lt is so_far adds =
-    let here : drop i commands ≡ command ∷ drop (i + 1) commands = drop_more commands i command lt ∙ ap (λ c. c ∷ drop (i + 1) commands) (sym is) in
+    let here : drop i commands ≡ command ∷ drop (i + 1) commands =
+    drop_more commands i command lt ∙ ap (λ c. c ∷ drop (i + 1) commands) (sym is) in
     (λ j. adds.said j ++ answers_to (adds.state j) (drop (i + 1) commands))
-    ∙ append_assoc before (answer_to old command).text (answers_to (answer_to old command).state (drop (i + 1) commands))
+    ∙ append_assoc before (answer_to old command).text
+    (answers_to (answer_to old command).state (drop (i + 1) commands))
     ∙ ap (λ l. before ++ answers_to old l) (sym here)
     ∙ so_far
 
 -- all were answered
-pub answered_all : (commands : List Command) (i : ℕ) (c : ControlState) (before after total : List ℕ) → length commands ≤ i → before ++ answers_to c (drop i commands) ≡ total
+pub answered_all : (commands : List Command) (i : ℕ) (c : ControlState) (before after total : List ℕ)
+    → length commands ≤ i → before ++ answers_to c (drop i commands) ≡ total
     → after ≡ before ++ codes "end\n" → after ≡ total
-answered_all commands i c before after total all so_far said = said ∙ ap (λ l. before ++ answers_to c l) (sym (drop_all i commands all)) ∙ so_far
+answered_all commands i c before after total all so_far said =
+    said ∙ ap (λ l. before ++ answers_to c l) (sym (drop_all i commands all)) ∙ so_far

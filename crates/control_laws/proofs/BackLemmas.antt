@@ -31,13 +31,15 @@ any_back p (x ∷ xs) =
     ∙ ap (λ b. b || list_any p xs) (unless_false (p x))
 
 -- a list that is turned round, at one of its items
-turned : {X : Type 0} (xs front back : List X) (x : X) → reverse xs ≡ front ++ x ∷ back → xs ≡ reverse back ++ x ∷ reverse front
+turned : {X : Type 0} (xs front back : List X) (x : X) → reverse xs ≡ front ++ x ∷ back
+    → xs ≡ reverse back ++ x ∷ reverse front
 turned xs front back x is =
     sym (reverse-reverse xs) ∙ ap reverse is ∙ reverse-append front (x ∷ back)
     ∙ ap (λ ys. ys ++ reverse front) (reverse_onto back x []) ∙ append_assoc (reverse back) (x ∷ []) (reverse front)
 
 -- at a place of a list
-at_seam : (before behind : List Need) (n : Need) (name : List ℕ) → AreStoppedInOrder (before ++ n ∷ behind) → Contains n.services name
+at_seam : (before behind : List Need) (n : Need) (name : List ℕ) → AreStoppedInOrder (before ++ n ∷ behind)
+    → Contains n.services name
     → some_has (before ++ n ∷ behind) name → some_has before name
 at_seam before behind n name order given there =
     let whole : List Need = before ++ n ∷ behind in
@@ -46,7 +48,8 @@ at_seam before behind n name order given there =
     let item : get_or whole k n ≡ n = get_or-append_seam before n behind n in
     let given_there : Contains (get_or whole k n).services name =
     (let P : Need → Type 0 = λ m. Contains m.services name in subst P (sym item) given) in
-    ap (list_any (λ (m : Need). folds_same name m.name)) (sym (take-append_seam before (n ∷ behind))) ∙ order k n name lt given_there there
+    ap (list_any (λ (m : Need). folds_same name m.name)) (sym (take-append_seam before (n ∷ behind)))
+    ∙ order k n name lt given_there there
 
 pub backwards : (leaning : List Need) → AreStoppedInOrder leaning → EachBeforeItsNeeds (reverse leaning)
 backwards leaning order front back n name is given there =

@@ -20,7 +20,8 @@ pub state_unless : (why : Option ControlStop) (command name : List ℕ) (c : Con
 state_unless None command name c done = refl
 state_unless (Some stop) command name c done = refl
 
-pub command_calls : (c : ControlState) (command : Command) → (answer_to c command).state ≡ after_calls c (calls_by command)
+pub command_calls : (c : ControlState) (command : Command)
+    → (answer_to c command).state ≡ after_calls c (calls_by command)
 command_calls c (Start name) =
     state_unless (start_refusal c name) (codes "start") name c
     (record { text = name_lines (codes "started") (names_of (new_of c name)); state = after_start c name })
@@ -33,7 +34,8 @@ command_calls c (StopAll name) =
 command_calls c Listing = refl
 
 -- calls behind others
-pub after_more : (c : ControlState) (calls more : List Call) → after_calls c (calls ++ more) ≡ after_calls (after_calls c calls) more
+pub after_more : (c : ControlState) (calls more : List Call)
+    → after_calls c (calls ++ more) ≡ after_calls (after_calls c calls) more
 after_more c [] more = refl
 after_more c (call ∷ calls) more = after_more (after_call c call) calls more
 
@@ -41,7 +43,8 @@ after_more c (call ∷ calls) more = after_more (after_call c call) calls more
 call_first : (c : ControlState) (command : Command) (more : List Command)
     → after_calls (answer_to c command).state (all_calls_by more) ≡ after_calls c (all_calls_by (command ∷ more))
 call_first c command more =
-    ap (λ d. after_calls d (all_calls_by more)) (command_calls c command) ∙ sym (after_more c (calls_by command) (all_calls_by more))
+    ap (λ d. after_calls d (all_calls_by more)) (command_calls c command)
+    ∙ sym (after_more c (calls_by command) (all_calls_by more))
 
 -- what is said from a command on, in this state
 abbrev from : Command → List Command → ControlState → List ℕ
@@ -54,14 +57,17 @@ answer_behind c (first ∷ front) back command =
     let next : ControlState = (answer_to c first).state in
     ap (λ t. (answer_to c first).text ++ t) (answer_behind next front back command)
     ∙ ap (λ d. (answer_to c first).text ++ (said_to next front ++ from command back d)) (call_first c first front)
-    ∙ sym (append_assoc (answer_to c first).text (said_to next front) (from command back (after_calls c (all_calls_by (first ∷ front)))))
+    ∙ sym (append_assoc (answer_to c first).text (said_to next front)
+    (from command back (after_calls c (all_calls_by (first ∷ front)))))
 
 pub ends : (c : ControlState) (commands : List Command) → answers_to c commands ≡ said_to c commands ++ codes "end\n"
 ends c [] = refl
 ends c (first ∷ more) =
     let next : ControlState = (answer_to c first).state in
-    ap (λ t. (answer_to c first).text ++ t) (ends next more) ∙ sym (append_assoc (answer_to c first).text (said_to next more) (codes "end\n"))
+    ap (λ t. (answer_to c first).text ++ t) (ends next more)
+    ∙ sym (append_assoc (answer_to c first).text (said_to next more) (codes "end\n"))
 
 pub report_is : (tree set : Tree) (commands : List Command) → default_set tree ≡ Some set
     → report_of tree commands ≡ answers_to (control_of set) commands
-report_is tree set commands is = ap (λ o. option_map_or (λ s. answers_to (control_of s) commands) o (codes "verdict no-control-set\nend\n")) is
+report_is tree set commands is =
+    ap (λ o. option_map_or (λ s. answers_to (control_of s) commands) o (codes "verdict no-control-set\nend\n")) is

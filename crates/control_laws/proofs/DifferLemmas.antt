@@ -40,8 +40,10 @@ from_at {Y = Y} h (x ∷ xs) y k lt e = by (h x) refl (λ j low at. from_at h xs
     further : From h xs y → From h (x ∷ xs) y
     further f = record { item = f.item; there = (suc f.there.0, omega (arith, f.there.1), f.there.2); is = f.is }
 
-    by : (o : Option Y) → h x ≡ o → ((j : ℕ) → j < length (filter_map h xs) → get_or (filter_map h xs) j y ≡ y → From h xs y)
-        → (k : ℕ) → k < length (cons_option o (filter_map h xs)) → get_or (cons_option o (filter_map h xs)) k y ≡ y → From h (x ∷ xs) y
+    by : (o : Option Y) → h x ≡ o
+        → ((j : ℕ) → j < length (filter_map h xs) → get_or (filter_map h xs) j y ≡ y → From h xs y)
+        → (k : ℕ) → k < length (cons_option o (filter_map h xs)) → get_or (cons_option o (filter_map h xs)) k y ≡ y
+        → From h (x ∷ xs) y
     by None is rest k lt e = further (rest k lt e)
     by (Some z) is rest zero lt e = record { item = x; there = (0, omega arith, refl); is = is ∙ ap Some e }
     by (Some z) is rest (suc k) lt e = further (rest k (omega (arith, lt)) e)
@@ -50,7 +52,8 @@ from : {X Y : Type 0} (h : X → Option Y) (xs : List X) (y : Y) → Contains (f
 from h xs y c = from_at h xs y c.0 c.1 c.2
 
 -- a service of the table, by group, is one of the table
-of_table : (table : List Need) (places : List ℕ) (n : Need) → Contains (filter_map (slice_get table) places) n → Contains table n
+of_table : (table : List Need) (places : List ℕ) (n : Need) → Contains (filter_map (slice_get table) places) n
+    → Contains table n
 of_table table places n c =
     let f = from (slice_get table) places n c in
     (f.item, slice_get_within table f.item n f.is, get_or_from_slice_get table f.item n n f.is)
@@ -123,11 +126,13 @@ one_key keys t u differ a b one = by (compared a.0 b.0)
         ∙ (λ i. folds_same (head (there i)).name (head (here i)).name) ∙ folds_swap (head u).name (head t).name ∙ one))
     by (is_same h) = sym here ∙ ap (λ k. get_or keys k t) h ∙ there
     by (is_more h) =
-        absurd (false≢true (sym (differ b.0 a.0 t h a.1) ∙ (λ i. folds_same (head (here i)).name (head (there i)).name) ∙ one))
+        absurd (false≢true (sym (differ b.0 a.0 t h a.1) ∙ (λ i. folds_same (head (here i)).name (head (there i)).name)
+        ∙ one))
 
 one_need : (set : Tree) (n m : Need) (a : HasKey set n) (b : HasKey set m) → a.key ≡ b.key → n ≡ m
 one_need set n m a b same =
-    some_same n m (sym a.need ∙ ap controlled (some_same a.entry b.entry (sym a.read ∙ ap entry_of same ∙ b.read)) ∙ b.need)
+    some_same n m (sym a.need ∙ ap controlled (some_same a.entry b.entry (sym a.read ∙ ap entry_of same ∙ b.read))
+    ∙ b.need)
 
 table_differs : (set : Tree) → HoldsKeys set → NamesDiffer (table_of set)
 table_differs set holds n m there other one =
@@ -144,7 +149,8 @@ by_group_differs set holds n m there other one =
 
 -- ---- no call changes which services there are
 
-kept_unless : (why : Option ControlStop) (c d : ControlState) → d.by_group ≡ c.by_group → (option_map_or (λ _. c) why d).by_group ≡ c.by_group
+kept_unless : (why : Option ControlStop) (c d : ControlState) → d.by_group ≡ c.by_group
+    → (option_map_or (λ _. c) why d).by_group ≡ c.by_group
 kept_unless None c d h = h
 kept_unless (Some reason) c d h = refl
 
@@ -157,8 +163,10 @@ kept : (c : ControlState) (calls : List Call) → (after_calls c calls).by_group
 kept c [] = refl
 kept c (call ∷ more) = kept (after_call c call) more ∙ kept_by c call
 
-pub names_differ : (set : Tree) (commands : List Command) → HoldsKeys set → NamesDiffer (control_behind set commands).by_group
-names_differ set commands holds = subst NamesDiffer (sym (kept (control_of set) (all_calls_by commands))) (by_group_differs set holds)
+pub names_differ : (set : Tree) (commands : List Command) → HoldsKeys set
+    → NamesDiffer (control_behind set commands).by_group
+names_differ set commands holds =
+    subst NamesDiffer (sym (kept (control_of set) (all_calls_by commands))) (by_group_differs set holds)
 
 -- ---- the set of a report
 
@@ -173,4 +181,5 @@ default_holds tree set holds is =
 
 pub least : (tree set : Tree) (commands : List Command) (name : List ℕ) → HoldsKeys tree → default_set tree ≡ Some set
     → IsLeast (control_behind set commands) name
-least tree set commands name holds is = a_least_start (control_behind set commands) name (names_differ set commands (default_holds tree set holds is))
+least tree set commands name holds is =
+    a_least_start (control_behind set commands) name (names_differ set commands (default_holds tree set holds is))

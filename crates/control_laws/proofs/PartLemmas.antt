@@ -23,11 +23,14 @@ parted_by [] [] same = all_parted
 parted_by [] (n ∷ needs) same = absurd (omega (arith, same))
 parted_by (b ∷ flags) [] same = absurd (omega (arith, same))
 parted_by (true ∷ flags) (n ∷ needs) same =
-    one_is_out n needs (items_where_true flags needs) (items_where_true (map not flags) needs) (parted_by flags needs (omega (arith, same)))
+    one_is_out n needs (items_where_true flags needs) (items_where_true (map not flags) needs)
+    (parted_by flags needs (omega (arith, same)))
 parted_by (false ∷ flags) (n ∷ needs) same =
-    one_stays n needs (items_where_true flags needs) (items_where_true (map not flags) needs) (parted_by flags needs (omega (arith, same)))
+    one_stays n needs (items_where_true flags needs) (items_where_true (map not flags) needs)
+    (parted_by flags needs (omega (arith, same)))
 
-pub parted : (running : List Need) (name : List ℕ) → ArePartedIn running (leaning_in running name) (others_in running name)
+pub parted : (running : List Need) (name : List ℕ)
+    → ArePartedIn running (leaning_in running name) (others_in running name)
 parted running name =
     parted_by (leaning_of running name) running
     (length-map-range_with_len (is_leaning running name) 0 (length running))
@@ -39,7 +42,8 @@ one_more set commands name =
     ap (after_calls (control_of set)) (flat_map-append calls_by commands (StopAll name ∷ []))
     ∙ after_more (control_of set) (all_calls_by commands) (stop_all name ∷ [])
 
-pub stays : (set : Tree) (commands : List Command) (name : List ℕ) → off_refusal (control_behind set commands) name ≡ None
+pub stays : (set : Tree) (commands : List Command) (name : List ℕ)
+    → off_refusal (control_behind set commands) name ≡ None
     → ArePartedIn (control_behind set commands).running (leaning_in (control_behind set commands).running name)
     (control_behind set (commands ++ StopAll name ∷ [])).running
 stays set commands name done =

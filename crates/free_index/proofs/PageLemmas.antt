@@ -25,7 +25,11 @@ greatest_reached (x ∷ (y ∷ ys)) some =
     let rest = greatest_reached (y ∷ ys) (omega arith) in
     elim (leb_tells (greatest (y ∷ ys)) x) as (λ _. IsReached (x ∷ (y ∷ ys)) (greatest (x ∷ (y ∷ ys)))) [
       | inl low ↦ record { place = 0; inside = omega arith; is = omega (arith, low.1) }
-      | inr high ↦ record { place = suc rest.place; inside = omega (arith, rest.inside); is = omega (arith, rest.is, high.1) }
+      | inr high ↦ record {
+        place = suc rest.place;
+        inside = omega (arith, rest.inside);
+        is = omega (arith, rest.is, high.1);
+      }
     ]
 
 -- ---- pages
@@ -41,8 +45,10 @@ module _ (sizes tops : List ℕ) (kept : IsKept sizes tops) where
   pub under_top : (k : ℕ) → k < length sizes → get_or sizes k 0 ≤ get_or tops (k / 512) 0
   under_top k inside =
       let there : k / 512 < length tops = omega (arith, kept.whole) in
-      let same : get_or (page sizes (k / 512)) (k % 512) 0 ≡ get_or sizes (512 * (k / 512) + k % 512) 0 = in_page sizes (k / 512) (k % 512) (omega arith) in
-      let place : get_or sizes (512 * (k / 512) + k % 512) 0 ≡ get_or sizes k 0 = ap (λ m. get_or sizes m 0) (omega arith) in
+      let same : get_or (page sizes (k / 512)) (k % 512) 0 ≡ get_or sizes (512 * (k / 512) + k % 512) 0 =
+      in_page sizes (k / 512) (k % 512) (omega arith) in
+      let place : get_or sizes (512 * (k / 512) + k % 512) 0 ≡ get_or sizes k 0 =
+      ap (λ m. get_or sizes m 0) (omega arith) in
       omega (arith, greatest_bounds (page sizes (k / 512)) (k % 512), kept.each (k / 512) there, same, place)
 
   -- the top of a page is one of its sizes
@@ -54,15 +60,18 @@ module _ (sizes tops : List ℕ) (kept : IsKept sizes tops) where
 
   -- ---- the lowest fit
 
-  pub none_fits : (size : ℕ) → ((p : ℕ) → p < length tops → get_or tops p 0 < size) → (k : ℕ) → k < length sizes → get_or sizes k 0 < size
+  pub none_fits : (size : ℕ) → ((p : ℕ) → p < length tops → get_or tops p 0 < size) → (k : ℕ) → k < length sizes
+      → get_or sizes k 0 < size
   none_fits size none k inside = omega (arith, under_top k inside, none (k / 512) (omega (arith, kept.whole)))
 
-  pub page_fits : (size p : ℕ) → IsLowestFit size tops p → ((j : ℕ) → j < length (page sizes p) → get_or (page sizes p) j 0 < size) → ⊥
+  pub page_fits : (size p : ℕ) → IsLowestFit size tops p
+      → ((j : ℕ) → j < length (page sizes p) → get_or (page sizes p) j 0 < size) → ⊥
   page_fits size p found none =
       let there = top_reached p found.inside in
       omega (arith, found.fits, there.is, none there.place there.inside)
 
-  pub fit_found : (size p j : ℕ) → IsLowestFit size tops p → IsLowestFit size (page sizes p) j → IsLowestFit size sizes (512 * p + j)
+  pub fit_found : (size p j : ℕ) → IsLowestFit size tops p → IsLowestFit size (page sizes p) j
+      → IsLowestFit size sizes (512 * p + j)
   fit_found size p j found place =
       let long = page_long sizes p (omega (arith, kept.whole, found.inside)) in
       let small : j < 512 = omega (arith, long, place.inside) in
@@ -72,9 +81,19 @@ module _ (sizes tops : List ℕ) (kept : IsKept sizes tops) where
         lowest = λ i below.
             elim (leb_tells (512 * p) i) as (λ _. get_or sizes i 0 < size) [
               | inl here ↦
-                  let same : get_or sizes (512 * p + (i - 512 * p)) 0 ≡ get_or sizes i 0 = ap (λ m. get_or sizes m 0) (omega (arith, here.1)) in
-                  omega (arith, place.lowest (i - 512 * p) (omega (arith, here.1)), in_page sizes p (i - 512 * p) (omega (arith, here.1)), same)
-              | inr before ↦ omega (arith, under_top i (omega (arith, before.1, kept.whole, found.inside)), found.lowest (i / 512) (omega (arith, before.1)))
+                  let same : get_or sizes (512 * p + (i - 512 * p)) 0 ≡ get_or sizes i 0 =
+                  ap (λ m. get_or sizes m 0) (omega (arith, here.1)) in
+                  omega (
+                    arith,
+                    place.lowest (i - 512 * p) (omega (arith, here.1)),
+                    in_page sizes p (i - 512 * p) (omega (arith, here.1)),
+                    same,
+                  )
+              | inr before ↦ omega (
+                arith,
+                under_top i (omega (arith, before.1, kept.whole, found.inside)),
+                found.lowest (i / 512) (omega (arith, before.1)),
+              )
             ];
       }
 
@@ -93,16 +112,23 @@ page_other sizes slot size q other =
       | inr before ↦ ap (take (512 * q + 512 - 512 * q)) (drop-set-lt (512 * q) sizes slot size before.1)
     ]
 
-pub kept_set : (sizes tops : List ℕ) (slot size top : ℕ) → IsKept sizes tops → slot < length sizes → top ≡ greatest (page (set sizes slot size) (slot / 512)) → IsKept (set sizes slot size) (set tops (slot / 512) top)
+pub kept_set : (sizes tops : List ℕ) (slot size top : ℕ) → IsKept sizes tops → slot < length sizes
+    → top ≡ greatest (page (set sizes slot size) (slot / 512))
+    → IsKept (set sizes slot size) (set tops (slot / 512) top)
 kept_set sizes tops slot size top kept inside is =
     let there : slot / 512 < length tops = omega (arith, kept.whole) in
     record {
       whole = omega (arith, kept.whole, length-set sizes slot size, length-set tops (slot / 512) top);
       each = λ q below.
-          elim (cases_eq q (slot / 512)) as (λ _. get_or (set tops (slot / 512) top) q 0 ≡ greatest (page (set sizes slot size) q)) [
-            | inl same ↦ ap (λ m. get_or (set tops (slot / 512) top) m 0) same ∙ get_or-set_same tops (slot / 512) top 0 there ∙ is ∙ ap (λ m. greatest (page (set sizes slot size) m)) (sym same)
+          elim (cases_eq q (slot / 512))
+          as (λ _. get_or (set tops (slot / 512) top) q 0 ≡ greatest (page (set sizes slot size) q)) [
+            | inl same ↦ ap (λ m. get_or (set tops (slot / 512) top) m 0) same
+                ∙ get_or-set_same tops (slot / 512) top 0 there ∙ is
+                ∙ ap (λ m. greatest (page (set sizes slot size) m)) (sym same)
             | inr other ↦
-                get_or-set_other tops (slot / 512) q top 0 other ∙ kept.each q (omega (arith, below, length-set tops (slot / 512) top)) ∙ ap greatest (sym (page_other sizes slot size q other))
+                get_or-set_other tops (slot / 512) q top 0 other
+                ∙ kept.each q (omega (arith, below, length-set tops (slot / 512) top))
+                ∙ ap greatest (sym (page_other sizes slot size q other))
           ];
     }
 
@@ -113,9 +139,11 @@ page_front sizes more q inside =
     ∙ take-append-le (512 * q + 512 - 512 * q) (drop (512 * q) sizes) more (omega (arith, length-drop (512 * q) sizes))
 
 -- a page of what is appended
-page_new : (sizes : List ℕ) (n q : ℕ) → length sizes ≤ 512 * q → 512 * q + 512 ≤ length sizes + n → greatest (page (sizes ++ replicate n 0) q) ≡ 0
+page_new : (sizes : List ℕ) (n q : ℕ) → length sizes ≤ 512 * q → 512 * q + 512 ≤ length sizes + n
+    → greatest (page (sizes ++ replicate n 0) q) ≡ 0
 page_new sizes n q behind inside =
-    let whole : length (sizes ++ replicate n 0) ≡ length sizes + n = omega (arith, length-append sizes (replicate n 0), length-replicate {A = ℕ} n 0) in
+    let whole : length (sizes ++ replicate n 0) ≡ length sizes + n =
+    omega (arith, length-append sizes (replicate n 0), length-replicate {A = ℕ} n 0) in
     let long = page_long (sizes ++ replicate n 0) q (omega arith) in
     let there = greatest_reached (page (sizes ++ replicate n 0) q) (omega (arith, long)) in
     let small : there.place < 512 = omega (arith, long, there.inside) in
@@ -123,27 +151,40 @@ page_new sizes n q behind inside =
     ∙ get_or-append_right sizes (replicate n 0) (length sizes) (512 * q + there.place) 0 refl (omega arith)
     ∙ get_or-replicate n (512 * q + there.place - length sizes) 0 0 (omega arith)
 
-pub kept_grown : (sizes tops : List ℕ) (pages : ℕ) → IsKept sizes tops → IsKept (sizes ++ replicate (512 * pages) 0) (tops ++ replicate pages 0)
+pub kept_grown : (sizes tops : List ℕ) (pages : ℕ) → IsKept sizes tops
+    → IsKept (sizes ++ replicate (512 * pages) 0) (tops ++ replicate pages 0)
 kept_grown sizes tops pages kept =
-    let long : length (tops ++ replicate pages 0) ≡ length tops + pages = omega (arith, length-append tops (replicate pages 0), length-replicate {A = ℕ} pages 0) in
+    let long : length (tops ++ replicate pages 0) ≡ length tops + pages =
+    omega (arith, length-append tops (replicate pages 0), length-replicate {A = ℕ} pages 0) in
     record {
-      whole = omega (arith, kept.whole, long, length-append sizes (replicate (512 * pages) 0), length-replicate {A = ℕ} (512 * pages) 0);
+      whole = omega (
+        arith,
+        kept.whole,
+        long,
+        length-append sizes (replicate (512 * pages) 0),
+        length-replicate {A = ℕ} (512 * pages) 0,
+      );
       each = λ q below.
-          elim (leb_tells (length tops) q) as (λ _. get_or (tops ++ replicate pages 0) q 0 ≡ greatest (page (sizes ++ replicate (512 * pages) 0) q)) [
+          elim (leb_tells (length tops) q)
+          as (λ _. get_or (tops ++ replicate pages 0) q 0 ≡ greatest (page (sizes ++ replicate (512 * pages) 0) q)) [
             | inl behind ↦
                 get_or-append_right tops (replicate pages 0) (length tops) q 0 refl behind.1
                 ∙ get_or-replicate pages (q - length tops) 0 0 (omega (arith, behind.1, long, below))
-                ∙ sym (page_new sizes (512 * pages) q (omega (arith, behind.1, kept.whole)) (omega (arith, below, long, kept.whole)))
+                ∙ sym (page_new sizes (512 * pages) q (omega (arith, behind.1, kept.whole))
+                (omega (arith, below, long, kept.whole)))
             | inr before ↦
                 get_or_append_left tops (replicate pages 0) 0 q before.1 ∙ kept.each q before.1
-                ∙ ap greatest (sym (page_front sizes (replicate (512 * pages) 0) q (omega (arith, before.1, kept.whole))))
+                ∙ ap greatest (sym (page_front sizes (replicate (512 * pages) 0) q
+                (omega (arith, before.1, kept.whole))))
           ];
     }
 
 -- what `resize` leaves of a list that it makes longer
-pub resized : (xs : List ℕ) (long len more : ℕ) → length xs ≡ long → len ≡ long → take (len + more) xs ++ replicate (len + more - long) 0 ≡ xs ++ replicate more 0
+pub resized : (xs : List ℕ) (long len more : ℕ) → length xs ≡ long → len ≡ long
+    → take (len + more) xs ++ replicate (len + more - long) 0 ≡ xs ++ replicate more 0
 resized xs long len more is same =
-    ap (λ (ys : List ℕ). ys ++ replicate (len + more - long) 0) (take_all (len + more) xs (omega arith)) ∙ ap (λ n. xs ++ replicate n 0) (omega arith)
+    ap (λ (ys : List ℕ). ys ++ replicate (len + more - long) 0) (take_all (len + more) xs (omega arith))
+    ∙ ap (λ n. xs ++ replicate n 0) (omega arith)
 
 -- ---- the top after a change
 
@@ -152,15 +193,25 @@ greatest_least [] v each = omega arith
 greatest_least (x ∷ xs) v each = omega (arith, each 0, greatest_least xs v (λ i. each (suc i)))
 
 -- what stands in the page after a change
-changed_page : (sizes : List ℕ) (p slot size top : ℕ) → 512 * p + 512 ≤ length sizes → slot < length sizes → size ≤ top → ((i : ℕ) → i < 512 → get_or sizes (512 * p + i) 0 ≤ top) → greatest (page (set sizes slot size) p) ≤ top
+changed_page : (sizes : List ℕ) (p slot size top : ℕ) → 512 * p + 512 ≤ length sizes → slot < length sizes → size ≤ top
+    → ((i : ℕ) → i < 512 → get_or sizes (512 * p + i) 0 ≤ top) → greatest (page (set sizes slot size) p) ≤ top
 changed_page sizes p slot size top inside within small each =
     greatest_least (page (set sizes slot size) p) top (λ i.
     elim (leb_tells 512 i) as (λ _. get_or (page (set sizes slot size) p) i 0 ≤ top) [
-      | inl past ↦ omega (arith, get_or_past (page (set sizes slot size) p) i 0 (omega (arith, past.1, page_long (set sizes slot size) p (omega (arith, length-set sizes slot size)))))
+      | inl past ↦ omega (
+        arith,
+        get_or_past (page (set sizes slot size) p) i 0
+            (omega (arith, past.1, page_long (set sizes slot size) p (omega (arith, length-set sizes slot size)))),
+      )
       | inr low ↦
           let there = in_page (set sizes slot size) p i low.1 in
           elim (cases_eq (512 * p + i) slot) as (λ _. get_or (page (set sizes slot size) p) i 0 ≤ top) [
-            | inl same ↦ omega (arith, there, ap (λ (k : ℕ). get_or (set sizes slot size) k 0) same, get_or-set_same sizes slot size 0 within)
+            | inl same ↦ omega (
+              arith,
+              there,
+              ap (λ (k : ℕ). get_or (set sizes slot size) k 0) same,
+              get_or-set_same sizes slot size 0 within,
+            )
             | inr other ↦ omega (arith, there, get_or-set_other sizes slot (512 * p + i) size 0 other, each i low.1)
           ]
     ])
@@ -169,28 +220,54 @@ module _ (sizes tops : List ℕ) (slot size : ℕ) (kept : IsKept sizes tops) (w
   page_tops : (i : ℕ) → i < 512 → get_or sizes (512 * (slot / 512) + i) 0 ≤ get_or tops (slot / 512) 0
   page_tops i small =
       let place : (512 * (slot / 512) + i) / 512 ≡ slot / 512 = omega arith in
-      omega (arith, under_top sizes tops kept (512 * (slot / 512) + i) (omega (arith, kept.whole)), ap (λ (q : ℕ). get_or tops q 0) place)
+      omega (
+        arith,
+        under_top sizes tops kept (512 * (slot / 512) + i) (omega (arith, kept.whole)),
+        ap (λ (q : ℕ). get_or tops q 0) place,
+      )
 
   pub top_raised : get_or tops (slot / 512) 0 ≤ size → size ≡ greatest (page (set sizes slot size) (slot / 512))
   top_raised more =
       let p = slot / 512 in
       let inside : 512 * (slot / 512) + 512 ≤ length sizes = omega (arith, kept.whole) in
-      let low = changed_page sizes (slot / 512) slot size size inside within (omega arith) (λ i small. omega (arith, page_tops i small, more)) in
+      let low = changed_page sizes (slot / 512) slot size size inside within (omega arith)
+      (λ i small. omega (arith, page_tops i small, more)) in
       let there = in_page (set sizes slot size) (slot / 512) (slot % 512) (omega arith) in
-      let place : get_or (set sizes slot size) (512 * (slot / 512) + slot % 512) 0 ≡ get_or (set sizes slot size) slot 0 = ap (λ (k : ℕ). get_or (set sizes slot size) k 0) (omega arith) in
-      omega (arith, low, greatest_bounds (page (set sizes slot size) (slot / 512)) (slot % 512), there, place, get_or-set_same sizes slot size 0 within)
+      let place : get_or (set sizes slot size) (512 * (slot / 512) + slot % 512) 0
+      ≡ get_or (set sizes slot size) slot 0 = ap (λ (k : ℕ). get_or (set sizes slot size) k 0) (omega arith) in
+      omega (
+        arith,
+        low,
+        greatest_bounds (page (set sizes slot size) (slot / 512)) (slot % 512),
+        there,
+        place,
+        get_or-set_same sizes slot size 0 within,
+      )
 
-  top_stays : size < get_or tops (slot / 512) 0 → (get_or sizes slot 0 ≡ get_or tops (slot / 512) 0 → ⊥) → get_or tops (slot / 512) 0 ≡ greatest (page (set sizes slot size) (slot / 512))
+  top_stays : size < get_or tops (slot / 512) 0 → (get_or sizes slot 0 ≡ get_or tops (slot / 512) 0 → ⊥)
+      → get_or tops (slot / 512) 0 ≡ greatest (page (set sizes slot size) (slot / 512))
   top_stays less other =
       let inside : 512 * (slot / 512) + 512 ≤ length sizes = omega (arith, kept.whole) in
-      let low = changed_page sizes (slot / 512) slot size (get_or tops (slot / 512) 0) inside within (omega arith) page_tops in
+      let low = changed_page sizes (slot / 512) slot size (get_or tops (slot / 512) 0) inside within (omega arith)
+      page_tops in
       let t = top_reached sizes tops kept (slot / 512) (omega (arith, kept.whole)) in
       let small : t.place < 512 = omega (arith, t.inside, page_long sizes (slot / 512) inside) in
       let was = in_page sizes (slot / 512) t.place small in
       let is = in_page (set sizes slot size) (slot / 512) t.place small in
-      let apart : 512 * (slot / 512) + t.place ≡ slot → ⊥ = λ e. other (ap (λ (k : ℕ). get_or sizes k 0) (sym e) ∙ sym was ∙ t.is) in
-      omega (arith, low, greatest_bounds (page (set sizes slot size) (slot / 512)) t.place, is, get_or-set_other sizes slot (512 * (slot / 512) + t.place) size 0 apart, was, t.is)
+      let apart : 512 * (slot / 512) + t.place ≡ slot → ⊥ =
+      λ e. other (ap (λ (k : ℕ). get_or sizes k 0) (sym e) ∙ sym was ∙ t.is) in
+      omega (
+        arith,
+        low,
+        greatest_bounds (page (set sizes slot size) (slot / 512)) t.place,
+        is,
+        get_or-set_other sizes slot (512 * (slot / 512) + t.place) size 0 apart,
+        was,
+        t.is,
+      )
 
-  pub kept_stays : size < get_or tops (slot / 512) 0 → (get_or sizes slot 0 ≡ get_or tops (slot / 512) 0 → ⊥) → IsKept (set sizes slot size) tops
+  pub kept_stays : size < get_or tops (slot / 512) 0 → (get_or sizes slot 0 ≡ get_or tops (slot / 512) 0 → ⊥)
+      → IsKept (set sizes slot size) tops
   kept_stays less other =
-      subst (λ (t : List ℕ). IsKept (set sizes slot size) t) (set-get_or tops (slot / 512) 0) (kept_set sizes tops slot size (get_or tops (slot / 512) 0) kept within (top_stays less other))
+      subst (λ (t : List ℕ). IsKept (set sizes slot size) t) (set-get_or tops (slot / 512) 0)
+      (kept_set sizes tops slot size (get_or tops (slot / 512) 0) kept within (top_stays less other))

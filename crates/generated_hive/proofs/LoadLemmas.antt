@@ -55,7 +55,8 @@ is_base size is = record {
   rest_bytes = zeros 396;
 }
 
-module _ (bins : List ℕ) (is : is_bins_size (length bins) ≡ true) (small : length bins ≤ 16777216) (whole : 512 * (length bins / 512) ≡ length bins) where
+module _ (bins : List ℕ) (is : is_bins_size (length bins) ≡ true) (small : length bins ≤ 16777216)
+    (whole : 512 * (length bins / 512) ≡ length bins) where
   abbrev base : Base
   base = clean_base (length bins)
 
@@ -66,7 +67,12 @@ module _ (bins : List ℕ) (is : is_bins_size (length bins) ≡ true) (small : l
   block_long = text_long base (is_base (length bins) is)
 
   front_long : length front ≡ 4096
-  front_long = omega (arith, length-append (base_text base) (replicate 3584 0), length-replicate {A = ℕ} 3584 0, block_long)
+  front_long = omega (
+    arith,
+    length-append (base_text base) (replicate 3584 0),
+    length-replicate {A = ℕ} 3584 0,
+    block_long,
+  )
 
   file_is : clean_file bins ≡ front ++ bins
   unfolding clean_file
@@ -91,7 +97,8 @@ module _ (bins : List ℕ) (is : is_bins_size (length bins) ≡ true) (small : l
 
   has_block : base_in (image_of (clean_file bins) []) ≡ Ok (Some base)
   has_block =
-      ap base_at (file_sector (clean_file bins) 0 (omega arith) (omega (arith, file_long)) ∙ ap (λ b. Some (Bytes b)) first_sector)
+      ap base_at (file_sector (clean_file bins) 0 (omega arith) (omega (arith, file_long))
+      ∙ ap (λ b. Some (Bytes b)) first_sector)
       ∙ ap (λ r. and_then r (λ b. Ok (Some b))) (base_back base (is_base (length bins) is))
 
   carried : Carries (image_of (clean_file bins) []) base bins
@@ -100,28 +107,33 @@ module _ (bins : List ℕ) (is : is_bins_size (length bins) ≡ true) (small : l
     clean = refl;
     size = refl;
     bins_there = λ i inside.
-        file_sector (clean_file bins) (8 + i) (omega arith) (omega (arith, file_long, whole)) ∙ ap (λ b. Some (Bytes b)) (bins_sector i);
+        file_sector (clean_file bins) (8 + i) (omega arith) (omega (arith, file_long, whole))
+        ∙ ap (λ b. Some (Bytes b)) (bins_sector i);
   }
 
 -- ---- the whole
 
-file_loads : (bins : List ℕ) (cells : List Bin) (t : Tree) → is_bins_size (length bins) ≡ true → IsBins bins cells → IsWellFormed (look_up V3 cells) 32 t
+file_loads : (bins : List ℕ) (cells : List Bin) (t : Tree) → is_bins_size (length bins) ≡ true → IsBins bins cells
+    → IsWellFormed (look_up V3 cells) 32 t
     → Loads (image_of (clean_file bins) []) (state_of t 1 V3) false
 file_loads bins cells t is spelled formed =
     let size = sized (length bins) is in
     let whole : 512 * (length bins / 512) ≡ length bins = omega (arith, size.pages) in
     record {
       recovered = record { base = clean_base (length bins); bins = bins; dirty = false };
-      read = carries_recovered (image_of (clean_file bins) []) (clean_base (length bins)) bins (carried bins is size.high whole) whole;
+      read = carries_recovered (image_of (clean_file bins) []) (clean_base (length bins)) bins
+          (carried bins is size.high whole) whole;
       was_dirty = refl;
       holds = record { bins = cells; cells = spelled; tree = formed; sequence = refl; version = refl };
     }
 
 -- the same of a file that is given, if there is memory for it
-pub given_loads : {E : Type 0} (r : Result (List ℕ) E) (bins named : List ℕ) (cells : List Bin) (t u : Tree) → named ≡ bins → t ≡ u
+pub given_loads : {E : Type 0} (r : Result (List ℕ) E) (bins named : List ℕ) (cells : List Bin) (t u : Tree)
+    → named ≡ bins → t ≡ u
     → is_bins_size (length bins) ≡ true → IsBins bins cells → IsWellFormed (look_up V3 cells) 32 t
     → IfOk r (λ b. b ≡ clean_file named) → IfOk r (λ b. Loads (image_of b []) (state_of u 1 V3) false)
 given_loads (Ok b) bins named cells t u same one is spelled formed e =
     subst (λ (l : List ℕ). Loads (image_of l []) (state_of u 1 V3) false) (sym (e ∙ ap clean_file same))
-    (subst (λ (v : Tree). Loads (image_of (clean_file bins) []) (state_of v 1 V3) false) one (file_loads bins cells t is spelled formed))
+    (subst (λ (v : Tree). Loads (image_of (clean_file bins) []) (state_of v 1 V3) false) one
+    (file_loads bins cells t is spelled formed))
 given_loads (Err x) bins named cells t u same one is spelled formed e = e

@@ -17,7 +17,8 @@ name_is : (i : ℕ) → name_bytes (service_name i) ≡ 8
 unfolding service_name
 name_is i = ap (λ (b : Bool). cond b 8 16) (name_narrow i)
 
-size_with : (i : ℕ) (need : Bool) → size V3 [] (plain_key (service_name i) (order_values i ++ cond need (need_value i ∷ []) []) []) ≤ 400
+size_with : (i : ℕ) (need : Bool)
+    → size V3 [] (plain_key (service_name i) (order_values i ++ cond need (need_value i ∷ []) []) []) ≤ 400
 unfolding service_name group_name number_value string_value strings_value need_value group_value order_values plain_key
 size_with i true = rw (name_narrow i) (omega arith)
 size_with i false = rw (name_narrow i) (omega arith)
@@ -40,7 +41,8 @@ list_small : (n : ℕ) → n ≤ 10000 → list_size n ≤ 200000
 list_small n few =
     either (n == 0) 0 _ 200000 (omega arith)
     (either (nat_lt n 501) (cell (4 + 8 * n)) _ 200000 (omega arith) (
-    let last : cond (n % 500 == 0) 0 (cell (4 + 8 * (n % 500))) ≤ 5000 = either (n % 500 == 0) 0 (cell (4 + 8 * (n % 500))) 5000 (omega arith) (omega arith) in
+    let last : cond (n % 500 == 0) 0 (cell (4 + 8 * (n % 500))) ≤ 5000 =
+    either (n % 500 == 0) 0 (cell (4 + 8 * (n % 500))) 5000 (omega arith) (omega arith) in
     omega (arith, last)
     ))
 

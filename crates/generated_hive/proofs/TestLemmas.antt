@@ -28,7 +28,8 @@ unlike name (x ∷ xs) = lacks name (name x) xs && unlike name xs
 pub unlike_by : {X : Type 0} (name : X → List ℕ) (xs : List X) → unlike name xs ≡ true → Unlike name xs
 unlike_by name [] e = tt
 unlike_by name (x ∷ xs) e =
-    let two = and_parts (lacks name (name x) xs) (unlike name xs) e in (lacks_by name (name x) xs two.0, unlike_by name xs two.1)
+    let two = and_parts (lacks name (name x) xs) (unlike name xs) e in
+    (lacks_by name (name x) xs two.0, unlike_by name xs two.1)
 
 -- a value that a cell can hold
 abbrev pub is_item : Item → Bool
@@ -38,8 +39,10 @@ items_by : (vs : List Item) → list_all is_item vs ≡ true → Each IsItem vs
 items_by [] e = tt
 items_by (v ∷ vs) e =
     let two = and_parts (is_item v) (list_all is_item vs) e in
-    let both = and_parts (nat_le (length v.name) 16383) (nat_lt (length v.bytes) 2147483648) two.0 in
-    (record { name = leb-true (length v.name) 16383 both.0; bytes = ltb-true (length v.bytes) 2147483648 both.1 }, items_by vs two.1)
+    let both = and_parts (nat_le (length v.name) 16383) (nat_lt (length v.bytes) 2147483648) two.0 in (
+      record { name = leb-true (length v.name) 16383 both.0; bytes = ltb-true (length v.bytes) 2147483648 both.1 },
+      items_by vs two.1,
+    )
 
 -- a key has a name
 abbrev pub is_named : Tree → Bool
@@ -48,10 +51,12 @@ is_named t = nat_lt 0 (length (key_name t))
 named_by : (ts : List Tree) → list_all is_named ts ≡ true → Each IsNamed ts
 named_by [] e = tt
 named_by (t ∷ ts) e =
-    let two = and_parts (is_named t) (list_all is_named ts) e in (ltb-true 0 (length (key_name t)) two.0, named_by ts two.1)
+    let two = and_parts (is_named t) (list_all is_named ts) e in
+    (ltb-true 0 (length (key_name t)) two.0, named_by ts two.1)
 
 -- a key without class and descriptor
-pub head_by : (name : List ℕ) (flags : ℕ) (values : List Item) → nat_le (length name) 255 ≡ true → list_any is_backslash name ≡ false → flags / 32 % 2 ≡ 0
+pub head_by : (name : List ℕ) (flags : ℕ) (values : List Item) → nat_le (length name) 255 ≡ true
+    → list_any is_backslash name ≡ false → flags / 32 % 2 ≡ 0
     → list_all is_item values ≡ true → unlike item_name values ≡ true → IsHead (flagged_head name flags values)
 head_by name flags values short plain even items differ = record {
   name = leb-true (length name) 255 short;
@@ -64,13 +69,17 @@ head_by name flags values short plain even items differ = record {
 }
 
 -- a key over others
-pub sound_key : (d : ℕ) (name : List ℕ) (values : List Item) (ts : List Tree) → IsHead (flagged_head name 0 values) → d ≤ 512
-    → unlike key_name ts ≡ true → list_all is_named ts ≡ true → Each (Sound (suc d)) ts → Sound d (plain_key name values ts)
+pub sound_key : (d : ℕ) (name : List ℕ) (values : List Item) (ts : List Tree) → IsHead (flagged_head name 0 values)
+    → d ≤ 512
+    → unlike key_name ts ≡ true → list_all is_named ts ≡ true → Each (Sound (suc d)) ts
+    → Sound d (plain_key name values ts)
 unfolding plain_key
 sound_key d name values ts head level differ named below =
     let distinct = unlike_by key_name ts differ in
-    whole d (flagged_head name 0 values) ts (record { own = head; level = level; differ = distinct; named = named_by ts named; below = below })
+    whole d (flagged_head name 0 values) ts
+    (record { own = head; level = level; differ = distinct; named = named_by ts named; below = below })
 
 -- a key alone
-pub sound_leaf : (d : ℕ) (name : List ℕ) (values : List Item) → IsHead (flagged_head name 0 values) → d ≤ 512 → Sound d (plain_key name values [])
+pub sound_leaf : (d : ℕ) (name : List ℕ) (values : List Item) → IsHead (flagged_head name 0 values) → d ≤ 512
+    → Sound d (plain_key name values [])
 sound_leaf d name values head level = sound_key d name values [] head level refl refl tt

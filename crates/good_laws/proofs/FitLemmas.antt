@@ -10,7 +10,8 @@ FitsSoFar wakes [] = Unit {0}
 FitsSoFar [] (p ∷ ps) = ⊥
 FitsSoFar (w ∷ wakes) (p ∷ ps) = IsPossible p w × FitsSoFar wakes ps
 
-pub fits_taken : (wakes : List Woken) (ps : List Possible) → ArePossible (take (length ps) wakes) ps → FitsSoFar wakes ps
+pub fits_taken : (wakes : List Woken) (ps : List Possible) → ArePossible (take (length ps) wakes) ps
+    → FitsSoFar wakes ps
 fits_taken wakes [] f = tt
 fits_taken [] (p ∷ ps) f = f
 fits_taken (w ∷ wakes) (p ∷ ps) f = (f.0, fits_taken wakes ps f.1)

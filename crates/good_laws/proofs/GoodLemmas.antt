@@ -68,9 +68,12 @@ fine_saved h clone t (names_good_set g) =
     let P : List Tree → Type 0 = λ ts. NamesGood (ts ++ t ∷ []) (saved_in (push h (Saved clone))) t in
     let Q : List Tree → Type 0 = λ cs. NamesGood (held_in h ++ t ∷ []) cs t in
     let T : List Tree → Type 0 = λ ts. IsGoodSet ts (saved_in h ++ clone ∷ []) g.0 in
-    let grown : IsGoodSet (held_in h ++ t ∷ []) (saved_in h ++ clone ∷ []) g.0 = subst T (append-nil (held_in h ++ t ∷ [])) (good_stays (held_in h ++ t ∷ []) [] (saved_in h) (clone ∷ []) g.0 g.1.1) in
+    let grown : IsGoodSet (held_in h ++ t ∷ []) (saved_in h ++ clone ∷ []) g.0 =
+    subst T (append-nil (held_in h ++ t ∷ []))
+    (good_stays (held_in h ++ t ∷ []) [] (saved_in h) (clone ∷ []) g.0 g.1.1) in
     names_good_set (subst P (sym held) (subst Q (sym (saved_more h (Saved clone))) (g.0, (g.1.0, grown))))
-fine_saved h clone t (never_named e none) = never_named (ap (list_any good_is_usable) (same_held h (Saved clone) refl) ∙ e) none
+fine_saved h clone t (never_named e none) =
+    never_named (ap (list_any good_is_usable) (same_held h (Saved clone) refl) ∙ e) none
 
 -- once the tree itself is one of those that were held
 pub fine_held : (h : List Note) (t : Tree) → IsFine h t → IsFine (push h (Held t)) t
@@ -78,10 +81,14 @@ fine_held h t (names_good_set g) =
     let P : List Tree → Type 0 = λ ts. NamesGood (ts ++ t ∷ []) (saved_in (push h (Held t))) t in
     let Q : List Tree → Type 0 = λ cs. NamesGood ((held_in h ++ t ∷ []) ++ t ∷ []) cs t in
     let C : List Tree → Type 0 = λ cs. IsGoodSet ((held_in h ++ t ∷ []) ++ t ∷ []) cs g.0 in
-    let grown : IsGoodSet ((held_in h ++ t ∷ []) ++ t ∷ []) (saved_in h) g.0 = subst C (append-nil (saved_in h)) (good_stays (held_in h ++ t ∷ []) (t ∷ []) (saved_in h) [] g.0 g.1.1) in
-    names_good_set (subst P (sym (held_more h (Held t))) (subst Q (sym (same_saved h (Held t) refl)) (g.0, (g.1.0, grown))))
+    let grown : IsGoodSet ((held_in h ++ t ∷ []) ++ t ∷ []) (saved_in h) g.0 =
+    subst C (append-nil (saved_in h)) (good_stays (held_in h ++ t ∷ []) (t ∷ []) (saved_in h) [] g.0 g.1.1) in
+    names_good_set (subst P (sym (held_more h (Held t)))
+    (subst Q (sym (same_saved h (Held t) refl)) (g.0, (g.1.0, grown))))
 fine_held h t (never_named e none) =
-    let both : list_any good_is_usable (held_in h ++ t ∷ []) ≡ false = list_any-append good_is_usable (held_in h) (t ∷ []) ∙ ap (λ b. b || (good_is_usable t || false)) e ∙ ap (λ b. b || false) none in
+    let both : list_any good_is_usable (held_in h ++ t ∷ []) ≡ false =
+    list_any-append good_is_usable (held_in h) (t ∷ []) ∙ ap (λ b. b || (good_is_usable t || false)) e
+    ∙ ap (λ b. b || false) none in
     never_named (ap (list_any good_is_usable) (held_more h (Held t)) ∙ both) none
 
 -- the promise of the book
@@ -89,7 +96,9 @@ pub fine_promised : (h : List Note) (t : Tree) → IsFine h t → IsGoodBehind h
 fine_promised h t (names_good_set g) = λ some. g
 fine_promised h t (never_named e none) =
     λ some.
-    (let both : list_any good_is_usable (held_in h ++ t ∷ []) ≡ false = list_any-append good_is_usable (held_in h) (t ∷ []) ∙ ap (λ b. b || (good_is_usable t || false)) e ∙ ap (λ b. b || false) none in
+    (let both : list_any good_is_usable (held_in h ++ t ∷ [])
+    ≡ false = list_any-append good_is_usable (held_in h) (t ∷ []) ∙ ap (λ b. b || (good_is_usable t || false)) e
+    ∙ ap (λ b. b || false) none in
     absurd (false≢true (sym both ∙ some)))
 
 -- before any tree was held, each is fine: where LastKnownGood names a set in it, that is the first good one
@@ -122,8 +131,19 @@ pub record IsRunning (h : List Note) (live : Tree) (n : ℕ) : Type 0 where
   pub select : is_some (select_key live) ≡ true
 
 -- with more noted
-pub running_by : (h k : List Note) (live : Tree) (n : ℕ) → HasHeld k → IsFine k live → IsRunning h live n → IsRunning k live n
-running_by h k live n held fine r = record { held = held; fine = fine; least = r.least; most = r.most; there = r.there; current = r.current; apart = r.apart; select = r.select }
+pub running_by : (h k : List Note) (live : Tree) (n : ℕ) → HasHeld k → IsFine k live → IsRunning h live n
+    → IsRunning k live n
+running_by h k live n held fine r =
+    record {
+      held = held;
+      fine = fine;
+      least = r.least;
+      most = r.most;
+      there = r.there;
+      current = r.current;
+      apart = r.apart;
+      select = r.select;
+    }
 
 pub held_note : (h k : List Note) → held_in k ≡ held_in h → HasHeld h → HasHeld k
 held_note h k same b = record { first = b.first; more = b.more; are = same ∙ b.are }
@@ -135,8 +155,10 @@ held_then h t = split (held_in h) refl
     split [] e = record { first = t; more = []; are = held_more h (Held t) ∙ ap (λ l. l ++ t ∷ []) e }
     split (u ∷ us) e = record { first = u; more = us ++ t ∷ []; are = held_more h (Held t) ∙ ap (λ l. l ++ t ∷ []) e }
 
-pub running_note : (h k : List Note) (live : Tree) (n : ℕ) → held_in k ≡ held_in h → saved_in k ≡ saved_in h → IsRunning h live n → IsRunning k live n
-running_note h k live n held saved r = running_by h k live n (held_note h k held r.held) (fine_note h k live held saved r.fine) r
+pub running_note : (h k : List Note) (live : Tree) (n : ℕ) → held_in k ≡ held_in h → saved_in k ≡ saved_in h
+    → IsRunning h live n → IsRunning k live n
+running_note h k live n held saved r =
+    running_by h k live n (held_note h k held r.held) (fine_note h k live held saved r.fine) r
 
 -- ---- the set that LastKnownGood names stays
 
@@ -146,7 +168,8 @@ same_where true false c d h = refl
 same_where false b c d h = refl
 
 usable_kept : (t u : Tree) (n : ℕ) → (n ≤ 999 → set_of u n ≡ set_of t n) → is_usable u n ≡ is_usable t n
-usable_kept t u n same = same_where (leb 1 n) (leb n 999) (is_some (set_of u n)) (is_some (set_of t n)) (λ le. ap is_some (same (leb-true n 999 le)))
+usable_kept t u n same = same_where (leb 1 n) (leb n 999) (is_some (set_of u n)) (is_some (set_of t n))
+    (λ le. ap is_some (same (leb-true n 999 le)))
 
 -- the number is the same, and so is its set
 record KeepsGoodSet (t u : Tree) : Type 0 where
@@ -162,11 +185,14 @@ same_good_set t u k = split (good_is_usable t) refl
     split : (b : Bool) → good_is_usable t ≡ b → good_set_of u ≡ good_set_of t
     split true is =
         let low = usable_parts t (select_numbers_of t).good is in
-        ap (λ b. cond b (set_of u (select_numbers_of u).good) None) (still_usable t u k ∙ is) ∙ ap (set_of u) k.number ∙ k.set low.most ∙ ap (λ b. cond b (set_of t (select_numbers_of t).good) None) (sym is)
-    split false is = ap (λ b. cond b (set_of u (select_numbers_of u).good) None) (still_usable t u k ∙ is) ∙ ap (λ b. cond b (set_of t (select_numbers_of t).good) None) (sym is)
+        ap (λ b. cond b (set_of u (select_numbers_of u).good) None) (still_usable t u k ∙ is) ∙ ap (set_of u) k.number
+        ∙ k.set low.most ∙ ap (λ b. cond b (set_of t (select_numbers_of t).good) None) (sym is)
+    split false is = ap (λ b. cond b (set_of u (select_numbers_of u).good) None) (still_usable t u k ∙ is)
+        ∙ ap (λ b. cond b (set_of t (select_numbers_of t).good) None) (sym is)
 
 -- behind a tree that was held, the first one is that
-other_last : (h : List Note) (t u : Tree) (set : Tree) → HasHeld h → IsGoodSet (held_in h ++ t ∷ []) (saved_in h) set → IsGoodSet (held_in h ++ u ∷ []) (saved_in h) set
+other_last : (h : List Note) (t u : Tree) (set : Tree) → HasHeld h → IsGoodSet (held_in h ++ t ∷ []) (saved_in h) set
+    → IsGoodSet (held_in h ++ u ∷ []) (saved_in h) set
 other_last h t u set b g =
     let P : List Tree → Type 0 = λ ts. IsGoodSet (ts ++ t ∷ []) (saved_in h) set in
     let Q : List Tree → Type 0 = λ ts. IsGoodSet (ts ++ u ∷ []) (saved_in h) set in
@@ -175,7 +201,8 @@ other_last h t u set b g =
     subst Q (sym b.are) there
 
 fine_kept : (h : List Note) (t u : Tree) → HasHeld h → KeepsGoodSet t u → IsFine h t → IsFine h u
-fine_kept h t u b k (names_good_set g) = names_good_set (g.0, (same_good_set t u k ∙ g.1.0, other_last h t u g.0 b g.1.1))
+fine_kept h t u b k (names_good_set g) =
+    names_good_set (g.0, (same_good_set t u k ∙ g.1.0, other_last h t u g.0 b g.1.1))
 fine_kept h t u b k (never_named e none) = never_named e (still_usable t u k ∙ none)
 
 -- where all but the sets and the numbers is kept, `Select` stays
@@ -195,7 +222,8 @@ edit_runs h t u n k r =
     let good : (select_numbers_of u).good ≡ (select_numbers_of t).good = ap (λ (s : SelectNumbers). s.good) numbers in
     record {
       held = r.held;
-      fine = fine_kept h t u r.held (record { number = good; set = λ le. k.others.sets (select_numbers_of t).good le r.apart }) r.fine;
+      fine = fine_kept h t u r.held
+          (record { number = good; set = λ le. k.others.sets (select_numbers_of t).good le r.apart }) r.fine;
       least = r.least;
       most = r.most;
       there = k.taken r.there;
@@ -206,18 +234,25 @@ edit_runs h t u n k r =
 
 -- ---- a save
 
-pub save_runs : (version : HiveVersion) (h : List Note) (t clone : Tree) (change : SetChange) (n : ℕ) → save_of version t clone ≡ Ok change → IsRunning h t n → IsRunning (push h (Saved clone)) change.tree n
+pub save_runs : (version : HiveVersion) (h : List Note) (t clone : Tree) (change : SetChange) (n : ℕ)
+    → save_of version t clone ≡ Ok change → IsRunning h t n → IsRunning (push h (Saved clone)) change.tree n
 save_runs version h t clone change n is r =
     let s = save_of-saves version t clone change is in
-    let other : n ≡ change.chosen → ⊥ = λ e. false≢true (ap is_some (sym s.lowest.free) ∙ ap (λ m. is_some (set_of t m)) (sym e) ∙ r.there) in
+    let other : n ≡ change.chosen → ⊥ =
+    λ e. false≢true (ap is_some (sym s.lowest.free) ∙ ap (λ m. is_some (set_of t m)) (sym e) ∙ r.there) in
     let P : List Tree → Type 0 = λ cs. Contains cs clone in
-    let saved : Contains (saved_in (push h (Saved clone))) clone = subst P (sym (saved_more h (Saved clone))) (Contains-push (saved_in h) clone) in
+    let saved : Contains (saved_in (push h (Saved clone))) clone =
+    subst P (sym (saved_more h (Saved clone))) (Contains-push (saved_in h) clone) in
     record {
       held = held_note h (push h (Saved clone)) (same_held h (Saved clone) refl) r.held;
-      fine = names_good_set (renamed (set_name change.chosen) clone, (s.named, (clone, (inr saved, same_set (set_name change.chosen) clone))));
+      fine = names_good_set (
+        renamed (set_name change.chosen) clone,
+        (s.named, (clone, (inr saved, same_set (set_name change.chosen) clone))),
+      );
       least = r.least;
       most = r.most;
-      there = ap is_some (s.sets n r.most (or_first ((select_numbers_of t).current == n) _ (eq-eqb _ _ r.current)) other) ∙ r.there;
+      there = ap is_some (s.sets n r.most (or_first ((select_numbers_of t).current == n) _ (eq-eqb _ _ r.current))
+          other) ∙ r.there;
       current = s.current ∙ r.current;
       apart = λ e. other (sym e ∙ s.good);
       select = select_stays t change.tree s.rest r.select;
@@ -227,7 +262,8 @@ save_runs version h t clone change n is r =
 
 -- without the guard
 plain_keeps : (t u : Tree) (on_good : Bool) → ((select_numbers_of u).good ≡ (select_numbers_of t).good)
-    → after_steps t (plan_with (taken_number (select_numbers_of t) on_good) (usable_numbers_of t) (select_numbers_of t) (begun (select_numbers_of t) on_good) []).steps ≡ Ok u → KeepsGoodSet t u
+    → after_steps t (plan_with (taken_number (select_numbers_of t) on_good) (usable_numbers_of t) (select_numbers_of t)
+    (begun (select_numbers_of t) on_good) []).steps ≡ Ok u → KeepsGoodSet t u
 plain_keeps t u on_good same e =
     let old : SelectNumbers = select_numbers_of t in
     let new : SelectNumbers = begun old on_good in
@@ -235,7 +271,8 @@ plain_keeps t u on_good same e =
     let s = settled (usable_numbers_of t) old new t last.middle u (small_among _ t) refl last.front last.back in
     record { number = same; set = λ le. s.sets old.good le (names_good new) }
 
-begin_fine : (version : HiveVersion) (h : List Note) (t u : Tree) (on_good : Bool) (plan : SetPlan) → begin_plan_of (select_numbers_of t) (usable_numbers_of t) on_good ≡ Ok plan
+begin_fine : (version : HiveVersion) (h : List Note) (t u : Tree) (on_good : Bool) (plan : SetPlan)
+    → begin_plan_of (select_numbers_of t) (usable_numbers_of t) on_good ≡ Ok plan
     → stepped version t plan.steps ≡ Ok u → HasHeld h → IsFine h t → IsFine h u
 begin_fine version h t u on_good plan is made b (names_good_set g) =
     let k = (begins version t u on_good plan is made).kept g.0 g.1.0 in
@@ -244,19 +281,26 @@ begin_fine version h t u on_good plan is made b (names_good_set g) =
 begin_fine version h t u on_good plan is made b (never_named e none) =
     let c = begin_case (select_numbers_of t) (usable_numbers_of t) on_good plan is in by_kind c.usable_one c.kind
   where
-    by_kind : has_number (usable_numbers_of t) (taken_number (select_numbers_of t) on_good) ≡ true → BeginCase (select_numbers_of t) (usable_numbers_of t) on_good plan → IsFine h u
-    by_kind usable (guarded free free_is same p) = absurd (false≢true (sym none ∙ ap (is_usable t) same ∙ usable_is t (taken_number (select_numbers_of t) on_good) usable))
+    by_kind : has_number (usable_numbers_of t) (taken_number (select_numbers_of t) on_good) ≡ true
+        → BeginCase (select_numbers_of t) (usable_numbers_of t) on_good plan → IsFine h u
+    by_kind usable (guarded free free_is same p) =
+        absurd (false≢true (sym none ∙ ap (is_usable t) same
+        ∙ usable_is t (taken_number (select_numbers_of t) on_good) usable))
     by_kind usable (plain other p) =
         let s = begins version t u on_good plan is made in
         let good : (select_numbers_of u).good ≡ (select_numbers_of t).good = s.unguarded (λ e. other (e ∙ s.taken)) in
-        fine_kept h t u b (plain_keeps t u on_good good (ap (λ (q : SetPlan). after_steps t q.steps) (sym p) ∙ steps_made version plan.steps t u made)) (never_named e none)
+        fine_kept h t u b (plain_keeps t u on_good good
+        (ap (λ (q : SetPlan). after_steps t q.steps) (sym p) ∙ steps_made version plan.steps t u made))
+        (never_named e none)
 
-pub begin_runs : (version : HiveVersion) (h : List Note) (t : Tree) (on_good : Bool) (change : SetChange) → begin_of version t on_good ≡ Ok change → HasHeld h → IsFine h t → IsRunning h change.tree change.chosen
+pub begin_runs : (version : HiveVersion) (h : List Note) (t : Tree) (on_good : Bool) (change : SetChange)
+    → begin_of version t on_good ≡ Ok change → HasHeld h → IsFine h t → IsRunning h change.tree change.chosen
 begin_runs version h t on_good change e held fine =
     let p = by_plan version t (begin_plan_of (select_numbers_of t) (usable_numbers_of t) on_good) change e in
     let s = begin_of-begins version t on_good change e in
     let b = begin_case (select_numbers_of t) (usable_numbers_of t) on_good p.plan p.is in
-    let usable : is_usable t change.chosen ≡ true = ap (is_usable t) s.taken ∙ usable_is t (taken_number (select_numbers_of t) on_good) b.usable_one in
+    let usable : is_usable t change.chosen ≡ true =
+    ap (is_usable t) s.taken ∙ usable_is t (taken_number (select_numbers_of t) on_good) b.usable_one in
     let low = usable_parts t change.chosen usable in
     record {
       held = held;
@@ -266,5 +310,7 @@ begin_runs version h t on_good change e held fine =
       there = ap is_some s.set ∙ low.there;
       current = s.current;
       apart = s.apart;
-      select = select_stays t change.tree s.rest (taken_there t on_good (usable_parts t (taken_number (select_numbers_of t) on_good) (usable_is t (taken_number (select_numbers_of t) on_good) b.usable_one)).least);
+      select = select_stays t change.tree s.rest
+          (taken_there t on_good (usable_parts t (taken_number (select_numbers_of t) on_good)
+          (usable_is t (taken_number (select_numbers_of t) on_good) b.usable_one)).least);
     }

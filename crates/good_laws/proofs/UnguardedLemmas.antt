@@ -13,11 +13,15 @@ use Rattle.good_laws.specs.Unguarded.{disabled, without_guard}
 
 -- the Start of the set's disk
 start_of : Tree → ℕ
-start_of t = unwrap_or (option_and_then (find_dword (codes "Start")) (find_key (codes "Services" ∷ codes "Disk" ∷ []) t)) 0
+start_of t = unwrap_or (option_and_then (find_dword (codes "Start"))
+    (find_key (codes "Services" ∷ codes "Disk" ∷ []) t)) 0
 
 -- the one set that is good in the first tree
-the_first : (good : Tree) → Contains (first_good_in (unguarded ∷ disabled ∷ [])) good ⊎ Contains [] good → disk_only 1 0 ≡ good
-the_first good (inl first) = All-contains (λ t. disk_only 1 0 ≡ t) (disk_only 1 0 ∷ []) good (All-cons (λ t. disk_only 1 0 ≡ t) (disk_only 1 0) [] refl (All-nil (λ t. disk_only 1 0 ≡ t))) first
+the_first : (good : Tree) → Contains (first_good_in (unguarded ∷ disabled ∷ [])) good ⊎ Contains [] good
+    → disk_only 1 0 ≡ good
+the_first good (inl first) =
+    All-contains (λ t. disk_only 1 0 ≡ t) (disk_only 1 0 ∷ []) good
+    (All-cons (λ t. disk_only 1 0 ≡ t) (disk_only 1 0) [] refl (All-nil (λ t. disk_only 1 0 ≡ t))) first
 the_first good (inr none) = absurd (All-contains (λ t. ⊥) [] good (All-nil (λ t. ⊥)) none)
 
 the_set : (set : Tree) → Some (disk_only 1 4) ≡ Some set → disk_only 1 4 ≡ set
@@ -29,7 +33,9 @@ apart e = let both : ◌≡◌ {A = ℕ} 4 0 = ap start_of e in absurd (omega ar
 
 pub broken : (after : List Note) (disk : Possible) → KeepsGood (without_guard after) disk → ⊥
 broken after disk k =
-    let g : NamesGood (unguarded ∷ disabled ∷ []) [] disabled = k.held (Woke (loads_as (placed unguarded)) ∷ Held unguarded ∷ Ended Finished ∷ Ended Finished ∷ []) after disabled refl refl in
+    let g : NamesGood (unguarded ∷ disabled ∷ []) [] disabled =
+    k.held (Woke (loads_as (placed unguarded)) ∷ Held unguarded ∷ Ended Finished ∷ Ended Finished ∷ [])
+    after disabled refl refl in
     let set : disk_only 1 4 ≡ g.0 = the_set g.0 g.1.0 in
     let good : disk_only 1 0 ≡ g.1.1.0 = the_first g.1.1.0 g.1.1.1.0 in
     apart (ap (renamed []) set ∙ g.1.1.1.1 ∙ ap (renamed []) (sym good))

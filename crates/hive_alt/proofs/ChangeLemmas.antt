@@ -39,32 +39,40 @@ by_bulk version u = cond (nat_lt most_bulk (bulk_of version u)) (Err full) (Ok u
 
 set_there : (version : HiveVersion) (number : ℕ) (u : Tree) (k : Option Tree) → is_some k ≡ true
     → then_edit (then_edit (unless
-    ((is_none k, no_key) ∷ (nat_lt longest_value_name (length default_name), name_too_long) ∷ (nat_lt 1048576 (length (to_le_bytes w32 number)), data_too_long) ∷ []) u) (λ v. Ok v)) (by_bulk version)
+    ((is_none k, no_key) ∷ (nat_lt longest_value_name (length default_name), name_too_long)
+    ∷ (nat_lt 1048576 (length (to_le_bytes w32 number)), data_too_long) ∷ []) u) (λ v. Ok v)) (by_bulk version)
     ≡ by_bulk version u
 set_there version number u None is = absurd (cc)
 set_there version number u (Some select) is = refl
 
-edit_there : (version : HiveVersion) (t : Tree) (number : ℕ) → is_some (find_key select_path t) ≡ true → edited version t (default_steps number) ≡ by_bulk version (defaulted number t)
+edit_there : (version : HiveVersion) (t : Tree) (number : ℕ) → is_some (find_key select_path t) ≡ true
+    → edited version t (default_steps number) ≡ by_bulk version (defaulted number t)
 unfolding edited
 edit_there version t number there = set_there version number (defaulted number t) (find_key select_path t) there
 
-large_or : (b : Bool) (v u : Tree) → ◌≡◌ {A = Result Tree Refusal} (cond b (Err full) (Ok v)) (Ok u) → cond b too_large (changed v) ≡ changed u
+large_or : (b : Bool) (v u : Tree) → ◌≡◌ {A = Result Tree Refusal} (cond b (Err full) (Ok v)) (Ok u)
+    → cond b too_large (changed v) ≡ changed u
 large_or true v u is = absurd (cc)
 large_or false v u is = let same : v ≡ u = cc in ap changed same
 
-large : (b : Bool) (v : Tree) → ◌≡◌ {A = Result Tree Refusal} (cond b (Err full) (Ok v)) (Err full) → cond b too_large (changed v) ≡ too_large
+large : (b : Bool) (v : Tree) → ◌≡◌ {A = Result Tree Refusal} (cond b (Err full) (Ok v)) (Err full)
+    → cond b too_large (changed v) ≡ too_large
 large true v is = refl
 large false v is = absurd (cc)
 
-pub plan_made : (version : HiveVersion) (t u : Tree) (number : ℕ) (steps : List Step) → is_some (find_key select_path t) ≡ true → steps ≡ default_steps number → edited version t steps ≡ Ok u
+pub plan_made : (version : HiveVersion) (t u : Tree) (number : ℕ) (steps : List Step)
+    → is_some (find_key select_path t) ≡ true → steps ≡ default_steps number → edited version t steps ≡ Ok u
     → unless_large version (defaulted number t) ≡ changed u
 plan_made version t u number steps there same made =
-    large_or (nat_lt most_bulk (bulk_of version (defaulted number t))) (defaulted number t) u (sym (edit_there version t number there) ∙ sym (ap (edited version t) same) ∙ made)
+    large_or (nat_lt most_bulk (bulk_of version (defaulted number t))) (defaulted number t) u
+    (sym (edit_there version t number there) ∙ sym (ap (edited version t) same) ∙ made)
 
-pub plan_full : (version : HiveVersion) (t : Tree) (number : ℕ) (steps : List Step) → is_some (find_key select_path t) ≡ true → steps ≡ default_steps number → edited version t steps ≡ Err full
+pub plan_full : (version : HiveVersion) (t : Tree) (number : ℕ) (steps : List Step)
+    → is_some (find_key select_path t) ≡ true → steps ≡ default_steps number → edited version t steps ≡ Err full
     → unless_large version (defaulted number t) ≡ too_large
 plan_full version t number steps there same refused =
-    large (nat_lt most_bulk (bulk_of version (defaulted number t))) (defaulted number t) (sym (edit_there version t number there) ∙ sym (ap (edited version t) same) ∙ refused)
+    large (nat_lt most_bulk (bulk_of version (defaulted number t))) (defaulted number t)
+    (sym (edit_there version t number there) ∙ sym (ap (edited version t) same) ∙ refused)
 
 -- ---- what stands
 
@@ -72,43 +80,60 @@ plan_full version t number steps there same refused =
 pub one_tree : (r : Recovered) (t u : Tree) → Holds r (held_state r t) → Holds r (held_state r u) → t ≡ u
 one_tree r t u h g =
     let bins : h.bins ≡ g.bins = one_list h.bins g.bins h.cells.0 g.cells.0 (sym h.cells.1 ∙ g.cells.1) in
-    let moved : IsWellFormed (look_up (version_of r.base.minor) g.bins) r.base.root t = subst (λ (bs : List Bin). IsWellFormed (look_up (version_of r.base.minor) bs) r.base.root t) bins h.tree in
+    let moved : IsWellFormed (look_up (version_of r.base.minor) g.bins) r.base.root t =
+    subst (λ (bs : List Bin). IsWellFormed (look_up (version_of r.base.minor) bs) r.base.root t) bins h.tree in
     one_stands (look_up (version_of r.base.minor) g.bins) r.base.root t u moved.stands g.tree.stands
 
-pub kept_found : (stands : Standing) (image : Image) (found : Recovered) → stands image ≡ Ok found → IsKeptAs stands found.base found.bins image
+pub kept_found : (stands : Standing) (image : Image) (found : Recovered) → stands image ≡ Ok found
+    → IsKeptAs stands found.base found.bins image
 kept_found stands image found is = record { dirty = found.dirty; kept = is }
 
 -- what was loaded is what was found
-pub either_found : (stands : Standing) (image : Image) (found loaded : Recovered) (tree held : Tree) (number : Option ℕ) → IsFound stands image found tree → IsFound stands image loaded held
-    → (s : DiskState) → EachCrash s (IsEitherOf stands loaded held number) → EachCrash s (IsEitherOf stands found tree number)
+pub either_found : (stands : Standing) (image : Image) (found loaded : Recovered) (tree held : Tree) (number : Option ℕ)
+    → IsFound stands image found tree → IsFound stands image loaded held
+    → (s : DiskState) → EachCrash s (IsEitherOf stands loaded held number)
+    → EachCrash s (IsEitherOf stands found tree number)
 either_found stands image found loaded tree held number is other s each =
     let one : loaded ≡ found = ok_is {E = HiveFault} loaded found (sym other.read ∙ is.read) in
-    let moved : Holds found (held_state found held) = subst (λ (r : Recovered). Holds r (held_state r held)) one other.holds in
+    let moved : Holds found (held_state found held) =
+    subst (λ (r : Recovered). Holds r (held_state r held)) one other.holds in
     let same : held ≡ tree = one_tree found held tree moved is.holds in
-    subst (λ (t : Tree). EachCrash s (IsEitherOf stands found t number)) same (subst (λ (r : Recovered). EachCrash s (IsEitherOf stands r held number)) one each)
+    subst (λ (t : Tree). EachCrash s (IsEitherOf stands found t number)) same
+    (subst (λ (r : Recovered). EachCrash s (IsEitherOf stands r held number)) one each)
 
 -- ---- two files
 
-pub kept_stop : (stands : Standing) (image : Image) (stop : ReadStop) → ReadsFiles {T = Recovered} (Err stop) (stands image) → ChecksFor stands image (Err stop)
+pub kept_stop : (stands : Standing) (image : Image) (stop : ReadStop)
+    → ReadsFiles {T = Recovered} (Err stop) (stands image) → ChecksFor stands image (Err stop)
 kept_stop stands image (read.Fault f) is = inl is
 kept_stop stands image read.Memory is = tt
 
-pub tree_stop : (stands : Standing) (image : Image) (found : Recovered) → stands image ≡ Ok found → (stop : ReadStop) → HeldAs found (Err stop) → ChecksFor stands image (Err stop)
+pub tree_stop : (stands : Standing) (image : Image) (found : Recovered) → stands image ≡ Ok found → (stop : ReadStop)
+    → HeldAs found (Err stop) → ChecksFor stands image (Err stop)
 tree_stop stands image found is (read.Fault f) held = inr (found, is, held)
 tree_stop stands image found is read.Memory held = tt
 
 -- ---- what is told
 
-module _ (stands : Standing) (found : Recovered) (tree : Tree) (number : Option ℕ) (holds : Holds found (held_state found tree)) where
+module _ (stands : Standing) (found : Recovered) (tree : Tree) (number : Option ℕ)
+    (holds : Holds found (held_state found tree)) where
   kept_state : (c : Image) → IsKeptAs stands found.base found.bins c → StandsFor stands (held_state found tree) c
   kept_state c is = record {
     recovered = record { base = found.base; bins = found.bins; dirty = is.dirty };
     read = is.kept;
-    holds = record { bins = holds.bins; cells = holds.cells; tree = holds.tree; sequence = holds.sequence; version = holds.version };
+    holds = record {
+      bins = holds.bins;
+      cells = holds.cells;
+      tree = holds.tree;
+      sequence = holds.sequence;
+      version = holds.version;
+    };
   }
 
-  module _ (loaded : ℕ) (was_mended : Bool) (loaded_is : loaded ≡ found.base.first) (mended_is : was_mended ≡ found.dirty) where
-    abbrev pub loaded_as : (image : Image) (change : Change) (version : HiveVersion) → version ≡ version_of found.base.minor → stands image ≡ Ok found → change_of version tree number ≡ change
+  module _ (loaded : ℕ) (was_mended : Bool) (loaded_is : loaded ≡ found.base.first)
+      (mended_is : was_mended ≡ found.dirty) where
+    abbrev pub loaded_as : (image : Image) (change : Change) (version : HiveVersion)
+        → version ≡ version_of found.base.minor → stands image ≡ Ok found → change_of version tree number ≡ change
         → IsLoaded stands image number loaded was_mended change
     loaded_as image change version same read is = record {
       found = found;
@@ -120,15 +145,28 @@ module _ (stands : Standing) (found : Recovered) (tree : Tree) (number : Option 
       change_is = ap (λ (v : HiveVersion). change_of v tree number) (sym same) ∙ is;
     }
 
-    pub nothing_done : (image after : Image) (version : HiveVersion) → version ≡ version_of found.base.minor → stands image ≡ Ok found → change_of version tree number ≡ nothing → IsKeptAs stands found.base found.bins after
+    pub nothing_done : (image after : Image) (version : HiveVersion) → version ≡ version_of found.base.minor
+        → stands image ≡ Ok found → change_of version tree number ≡ nothing
+        → IsKeptAs stands found.base found.bins after
         → IsDone stands image after number (record { loaded = loaded; mended = was_mended; committed = None })
-    nothing_done image after version same read is kept = record { change = nothing; loaded = loaded_as image nothing version same read is; is_done = inl refl; committed = refl; stands_for = kept_state after kept }
+    nothing_done image after version same read is kept =
+        record {
+          change = nothing;
+          loaded = loaded_as image nothing version same read is;
+          is_done = inl refl;
+          committed = refl;
+          stands_for = kept_state after kept;
+        }
 
-  pub kept_crash : (s : DiskState) → EachCrash s (IsKeptAs stands found.base found.bins) → EachCrash s (IsEitherOf stands found tree number)
-  kept_crash s each c crash = record { state = held_state found tree; stands_for = kept_state c (each c crash); is_one = inl refl }
+  pub kept_crash : (s : DiskState) → EachCrash s (IsKeptAs stands found.base found.bins)
+      → EachCrash s (IsEitherOf stands found tree number)
+  kept_crash s each c crash =
+      record { state = held_state found tree; stands_for = kept_state c (each c crash); is_one = inl refl }
 
-  module _ (u : Tree) (new : List ℕ) (version : HiveVersion) (same : version ≡ version_of found.base.minor) (is : change_of version tree number ≡ changed u) (has : HasTree version new 32 u)
-      (given : Base) (old packed : List ℕ) (given_is : given ≡ found.base) (old_is : old ≡ found.bins) (packed_is : packed ≡ new) where
+  module _ (u : Tree) (new : List ℕ) (version : HiveVersion) (same : version ≡ version_of found.base.minor)
+      (is : change_of version tree number ≡ changed u) (has : HasTree version new 32 u)
+      (given : Base) (old packed : List ℕ) (given_is : given ≡ found.base) (old_is : old ≡ found.bins)
+      (packed_is : packed ≡ new) where
     abbrev closed : Base
     closed = closed_of found.base new 32
 
@@ -149,12 +187,15 @@ module _ (stands : Standing) (found : Recovered) (tree : Tree) (number : Option 
 
     -- what was given to the commit is what was found and packed
     kept_new : (c : Image) → IsKeptAs stands (closed_of given packed 32) packed c → IsKeptAs stands closed new c
-    kept_new c kept = subst (λ (b : Base). IsKeptAs stands (closed_of b new 32) new c) given_is (subst (λ (l : List ℕ). IsKeptAs stands (closed_of given l 32) l c) packed_is kept)
+    kept_new c kept = subst (λ (b : Base). IsKeptAs stands (closed_of b new 32) new c) given_is
+        (subst (λ (l : List ℕ). IsKeptAs stands (closed_of given l 32) l c) packed_is kept)
 
     kept_old : (c : Image) → IsKeptAs stands given old c → IsKeptAs stands found.base found.bins c
-    kept_old c kept = subst (λ (b : Base). IsKeptAs stands b found.bins c) given_is (subst (λ (l : List ℕ). IsKeptAs stands given l c) old_is kept)
+    kept_old c kept = subst (λ (b : Base). IsKeptAs stands b found.bins c) given_is
+        (subst (λ (l : List ℕ). IsKeptAs stands given l c) old_is kept)
 
-    pub change_done : (loaded : ℕ) (was_mended : Bool) → loaded ≡ found.base.first → was_mended ≡ found.dirty → (image after : Image) → stands image ≡ Ok found → IsKeptAs stands (closed_of given packed 32) packed after
+    pub change_done : (loaded : ℕ) (was_mended : Bool) → loaded ≡ found.base.first → was_mended ≡ found.dirty
+        → (image after : Image) → stands image ≡ Ok found → IsKeptAs stands (closed_of given packed 32) packed after
         → IsDone stands image after number (committed_to loaded was_mended given)
     change_done loaded was_mended loaded_is mended_is image after read kept = record {
       change = changed u;
@@ -165,28 +206,45 @@ module _ (stands : Standing) (found : Recovered) (tree : Tree) (number : Option 
     }
 
     -- a stop of the commit
-    pub change_stopped : (loaded : ℕ) (was_mended : Bool) → loaded ≡ found.base.first → was_mended ≡ found.dirty → (image : Image) → stands image ≡ Ok found
+    pub change_stopped : (loaded : ℕ) (was_mended : Bool) → loaded ≡ found.base.first → was_mended ≡ found.dirty
+        → (image : Image) → stands image ≡ Ok found
         → (stop : ChangeStop) → IsCommitStop loaded was_mended stop → IsStopped stands image number stop
     change_stopped loaded was_mended loaded_is mended_is image read (stops.Fault f) is_stop = absurd is_stop
     change_stopped loaded was_mended loaded_is mended_is image read (stops.NoSelect n m) is_stop = absurd is_stop
     change_stopped loaded was_mended loaded_is mended_is image read (stops.Full n m) is_stop = absurd is_stop
     change_stopped loaded was_mended loaded_is mended_is image read (stops.PowerLost x) is_stop =
-        subst (WasLoaded stands image number) (sym is_stop) (u, loaded_as loaded was_mended loaded_is mended_is image (changed u) version same read is)
+        subst (WasLoaded stands image number) (sym is_stop)
+        (u, loaded_as loaded was_mended loaded_is mended_is image (changed u) version same read is)
     change_stopped loaded was_mended loaded_is mended_is image read (stops.Device x) is_stop =
-        subst (WasLoaded stands image number) (sym is_stop) (u, loaded_as loaded was_mended loaded_is mended_is image (changed u) version same read is)
+        subst (WasLoaded stands image number) (sym is_stop)
+        (u, loaded_as loaded was_mended loaded_is mended_is image (changed u) version same read is)
     change_stopped loaded was_mended loaded_is mended_is image read stops.Memory is_stop = tt
 
-    pub change_crash : (s : DiskState) → EachCrash s (IsKeptAsEither stands given old (closed_of given packed 32) packed) → EachCrash s (IsEitherOf stands found tree number)
+    pub change_crash : (s : DiskState)
+        → EachCrash s (IsKeptAsEither stands given old (closed_of given packed 32) packed)
+        → EachCrash s (IsEitherOf stands found tree number)
     change_crash s each c crash = ⊎_elim
-        (λ kept. record { state = held_state found tree; stands_for = kept_state c (kept_old c kept); is_one = inl refl })
-        (λ kept. record { state = after_change found tree (changed u); stands_for = new_state c (kept_new c kept); is_one = inr (ap (after_change found tree) (sym change_is)) })
+        (λ kept. record {
+          state = held_state found tree;
+          stands_for = kept_state c (kept_old c kept);
+          is_one = inl refl;
+        })
+        (λ kept. record {
+          state = after_change found tree (changed u);
+          stands_for = new_state c (kept_new c kept);
+          is_one = inr (ap (after_change found tree) (sym change_is));
+        })
         (each c crash)
 
     -- by what the commit answered
-    pub change_answers : (loaded : ℕ) (was_mended : Bool) → loaded ≡ found.base.first → was_mended ≡ found.dirty → (image after : Image) → stands image ≡ Ok found
-        → (S : Type 0) → (S → IsKeptAs stands (closed_of given packed 32) packed after) → (r : Result Changed ChangeStop)
-        → IfOk r (λ done. done ≡ committed_to loaded was_mended given) → IfErr r (IsCommitStop loaded was_mended) → OnOk r S → Answers stands image after number r
+    pub change_answers : (loaded : ℕ) (was_mended : Bool) → loaded ≡ found.base.first → was_mended ≡ found.dirty
+        → (image after : Image) → stands image ≡ Ok found
+        → (S : Type 0) → (S → IsKeptAs stands (closed_of given packed 32) packed after)
+        → (r : Result Changed ChangeStop)
+        → IfOk r (λ done. done ≡ committed_to loaded was_mended given) → IfErr r (IsCommitStop loaded was_mended)
+        → OnOk r S → Answers stands image after number r
     change_answers loaded was_mended loaded_is mended_is image after read S kept (Ok done) answered refused stays =
-        subst (IsDone stands image after number) (sym answered) (change_done loaded was_mended loaded_is mended_is image after read (kept stays))
+        subst (IsDone stands image after number) (sym answered)
+        (change_done loaded was_mended loaded_is mended_is image after read (kept stays))
     change_answers loaded was_mended loaded_is mended_is image after read S kept (Err stop) answered refused stays =
         change_stopped loaded was_mended loaded_is mended_is image read stop refused

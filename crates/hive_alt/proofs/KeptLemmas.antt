@@ -14,17 +14,23 @@ ok_is a b same = cc
 
 module _ (stands : Standing) where
   -- with nothing in flight a cut leaves what was held
-  pub kept_still : (old new : DiskState) → new.held ≡ old.held → new.flight ≡ [] → (base : Base) (bins : List ℕ) → IsKeptAs stands base bins old.held → EachCrash new (IsKeptAs stands base bins)
-  kept_still old new held none base bins is c crash = subst (λ (i : Image). IsKeptAs stands base bins i) (sym (only_held new c none crash ∙ held)) is
+  pub kept_still : (old new : DiskState) → new.held ≡ old.held → new.flight ≡ [] → (base : Base) (bins : List ℕ)
+      → IsKeptAs stands base bins old.held → EachCrash new (IsKeptAs stands base bins)
+  kept_still old new held none base bins is c crash =
+      subst (λ (i : Image). IsKeptAs stands base bins i) (sym (only_held new c none crash ∙ held)) is
 
   module _ (image : Image) (found : Recovered) (exact : stands image ≡ Ok found) where
-    same_found : (base : Base) (bins : List ℕ) (is : IsKeptAs stands base bins image) → found ≡ record { base = base; bins = bins; dirty = is.dirty }
-    same_found base bins is = ok_is {E = HiveFault} found (record { base = base; bins = bins; dirty = is.dirty }) (sym exact ∙ is.kept)
+    same_found : (base : Base) (bins : List ℕ) (is : IsKeptAs stands base bins image)
+        → found ≡ record { base = base; bins = bins; dirty = is.dirty }
+    same_found base bins is =
+        ok_is {E = HiveFault} found (record { base = base; bins = bins; dirty = is.dirty }) (sym exact ∙ is.kept)
 
     -- a mending leaves what was read, and that is what stood
-    pub kept_mended : (given : Base) (data_given : List ℕ) → given ≡ found.base → data_given ≡ found.bins → (new : DiskState) → EachCrash new (IsKeptAs stands given data_given)
+    pub kept_mended : (given : Base) (data_given : List ℕ) → given ≡ found.base → data_given ≡ found.bins
+        → (new : DiskState) → EachCrash new (IsKeptAs stands given data_given)
         → (base : Base) (bins : List ℕ) → IsKeptAs stands base bins image → EachCrash new (IsKeptAs stands base bins)
     kept_mended given data_given given_is data_is new each base bins is c crash =
         let one = same_found base bins is in
         subst (λ (b : Base). IsKeptAs stands b bins c) (given_is ∙ ap (λ (r : Recovered). r.base) one)
-        (subst (λ (l : List ℕ). IsKeptAs stands given l c) (data_is ∙ ap (λ (r : Recovered). r.bins) one) (each c crash))
+        (subst (λ (l : List ℕ). IsKeptAs stands given l c) (data_is ∙ ap (λ (r : Recovered). r.bins) one)
+        (each c crash))

@@ -19,29 +19,37 @@ use Rattle.hive_commit.specs.Untouched.{IsUntouched}
 use Rattle.hive_alt.specs.Schemes.{IsKeptAs, IsKeptAsEither, OnlyReads}
 use Rattle.hive_alt.proofs.TwinLemmas.{whole_of}
 
-pub carried_is_clean : (image : Image) (base : Base) (bins : List ℕ) → is_bins_size (length bins) ≡ true → Carries image base bins → recovered_of image ≡ Ok (record { base = base; bins = bins; dirty = false })
+pub carried_is_clean : (image : Image) (base : Base) (bins : List ℕ) → is_bins_size (length bins) ≡ true
+    → Carries image base bins → recovered_of image ≡ Ok (record { base = base; bins = bins; dirty = false })
 carried_is_clean image base bins size is = carries_recovered image base bins is (whole_of (length bins) size)
 
-pub recovered_crash : (old new : DiskState) → ((base : Base) (bins : List ℕ) → IsRecoveredAs old.held base bins → EachCrash new (λ (c : Image). IsRecoveredAs c base bins))
-    → (base : Base) (bins : List ℕ) → IsKeptAs recovered_of base bins old.held → EachCrash new (IsKeptAs recovered_of base bins)
+pub recovered_crash : (old new : DiskState)
+    → ((base : Base) (bins : List ℕ) → IsRecoveredAs old.held base bins
+    → EachCrash new (λ (c : Image). IsRecoveredAs c base bins))
+    → (base : Base) (bins : List ℕ) → IsKeptAs recovered_of base bins old.held
+    → EachCrash new (IsKeptAs recovered_of base bins)
 recovered_crash old new each base bins is c crash =
     let one = each base bins (record { dirty = is.dirty; recovered = is.kept }) c crash in
     record { dirty = one.dirty; kept = one.recovered }
 
-pub either_crash : (s : DiskState) (base closed : Base) (old new : List ℕ) → EachCrash s (IsBeforeOrAfter base old closed new) → EachCrash s (IsKeptAsEither recovered_of base old closed new)
+pub either_crash : (s : DiskState) (base closed : Base) (old new : List ℕ)
+    → EachCrash s (IsBeforeOrAfter base old closed new) → EachCrash s (IsKeptAsEither recovered_of base old closed new)
 either_crash s base closed old new each c crash = ⊎_elim
     (λ is. inl (record { dirty = is.dirty; kept = is.recovered }))
     (λ is. inr (record { dirty = is.dirty; kept = is.recovered }))
     (each c crash)
 
-pub clean_untouched : (old new : DiskState) → KeepsClean old new → (base : Base) (bins : List ℕ) → Carries old.held base bins → IsUntouched old new
+pub clean_untouched : (old new : DiskState) → KeepsClean old new → (base : Base) (bins : List ℕ)
+    → Carries old.held base bins → IsUntouched old new
 clean_untouched old new keeps base bins is = keeps base is.block is.clean
 
-pub only_reads : (before after : List Made → Type 0) (which : List Address → Type 0) → MakesReads before after which → OnlyReads before after
+pub only_reads : (before after : List Made → Type 0) (which : List Address → Type 0) → MakesReads before after which
+    → OnlyReads before after
 only_reads before after which reads = record { sectors = reads.sectors; made = reads.made; are = tt }
 
 -- a refusal of the disk, as a commit calls it
-pub commit_goes : {T U : Type 0} (old new : DiskState) (e : DiskStop) → Goes {T = T} old new (Err e) → IsCommitOn {T = U} old new (Err (commit_stop_of e))
+pub commit_goes : {T U : Type 0} (old new : DiskState) (e : DiskStop) → Goes {T = T} old new (Err e)
+    → IsCommitOn {T = U} old new (Err (commit_stop_of e))
 commit_goes old new disk.PowerLost is = record {
   goes_on = record {
     history = is.goes_on.history;

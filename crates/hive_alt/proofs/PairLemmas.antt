@@ -17,70 +17,99 @@ use Rattle.hive_alt.proofs.CopyLemmas.{copy_along, copy_written, block_written, 
 use Rattle.hive_alt.proofs.TwinLemmas.{whole_of, first_stands, second_stands}
 
 -- what is known of the base block of a good copy
-pub checked_of : (file : File) (image : Image) (base : Base) (bins : List ℕ) → HasCopy file image base bins → IsChecked 0 base
+pub checked_of : (file : File) (image : Image) (base : Base) (bins : List ℕ) → HasCopy file image base bins
+    → IsChecked 0 base
 checked_of file image base bins is = base_in_checked (copy_in file image) base is.block
 
-pub fits_of : (file : File) (image : Image) (base : Base) (bins : List ℕ) → HasCopy file image base bins → NumbersFit base → TextsFit base → IsBase base
+pub fits_of : (file : File) (image : Image) (base : Base) (bins : List ℕ) → HasCopy file image base bins
+    → NumbersFit base → TextsFit base → IsBase base
 fits_of file image base bins is numbers texts = is_base_of base numbers texts (checked_of file image base bins is)
 
 -- the primary is good
-pub kept_first : (c : Image) (base : Base) (bins : List ℕ) → HasCopy Primary c base bins → 512 * (length bins / 512) ≡ length bins → IsKeptAs twin_of base bins c
-kept_first c base bins is whole = record { dirty = not (is_second c base bins); kept = first_stands c base bins is whole }
+pub kept_first : (c : Image) (base : Base) (bins : List ℕ) → HasCopy Primary c base bins
+    → 512 * (length bins / 512) ≡ length bins → IsKeptAs twin_of base bins c
+kept_first c base bins is whole =
+    record { dirty = not (is_second c base bins); kept = first_stands c base bins is whole }
 
 -- the primary leaves the word to the second copy
-pub kept_second : (c : Image) (base : Base) (bins : List ℕ) → IsBehind c base → HasCopy Log c base bins → 512 * (length bins / 512) ≡ length bins → IsKeptAs twin_of base bins c
+pub kept_second : (c : Image) (base : Base) (bins : List ℕ) → IsBehind c base → HasCopy Log c base bins
+    → 512 * (length bins / 512) ≡ length bins → IsKeptAs twin_of base bins c
 kept_second c base bins behind is whole = record { dirty = true; kept = second_stands c base bins behind is whole }
 
 -- whatever is done to the second copy
-pub second_cut : (h0 c : Image) (base : Base) (bins : List ℕ) → HasCopy Primary h0 base bins → 512 * (length bins / 512) ≡ length bins → AgreeOutside (in_copy Log) h0 c → IsKeptAs twin_of base bins c
-second_cut h0 c base bins is whole agree = kept_first c base bins (copy_along Primary h0 c base bins (λ n. agree (copy_at Primary n) refl) is) whole
+pub second_cut : (h0 c : Image) (base : Base) (bins : List ℕ) → HasCopy Primary h0 base bins
+    → 512 * (length bins / 512) ≡ length bins → AgreeOutside (in_copy Log) h0 c → IsKeptAs twin_of base bins c
+second_cut h0 c base bins is whole agree =
+    kept_first c base bins (copy_along Primary h0 c base bins (λ n. agree (copy_at Primary n) refl) is) whole
 
 -- a primary whose base block can't be read
-torn_behind : (c : Image) (base : Base) → base.first ≡ base.second → c (copy_at Primary 0) ≡ Some Unreadable → IsBehind c base
-torn_behind c base even torn = record { opened = None; block = ap base_at torn; unfinished = tt; goes = eq-eqb base.first base.second even }
+torn_behind : (c : Image) (base : Base) → base.first ≡ base.second → c (copy_at Primary 0) ≡ Some Unreadable
+    → IsBehind c base
+torn_behind c base even torn =
+    record { opened = None; block = ap base_at torn; unfinished = tt; goes = eq-eqb base.first base.second even }
 
 -- ---- the second copy is mended
 
-pub second_mended : (h0 h1 : Image) (base : Base) (bins : List ℕ) → HasCopy Primary h0 base bins → NumbersFit base → TextsFit base
+pub second_mended : (h0 h1 : Image) (base : Base) (bins : List ℕ) → HasCopy Primary h0 base bins → NumbersFit base
+    → TextsFit base
     → AgreeOutside (in_copy Log) h0 h1 → IsWritten Log h1 base bins → IsPair h1 base bins
 second_mended h0 h1 base bins is numbers texts other written = record {
   first = copy_along Primary h0 h1 base bins (λ n. other (copy_at Primary n) refl) is;
-  second = copy_written Log h1 base bins (fits_of Primary h0 base bins is numbers texts) (checked_of Primary h0 base bins is).kind_is is.clean is.size written;
+  second = copy_written Log h1 base bins (fits_of Primary h0 base bins is numbers texts)
+      (checked_of Primary h0 base bins is).kind_is is.clean is.size written;
 }
 
 -- ---- the primary is mended
 
-module _ (h0 : Image) (base : Base) (bins : List ℕ) (bits : ℕ → Bool) (behind : IsBehind h0 base) (is : HasCopy Log h0 base bins) (whole : 512 * (length bins / 512) ≡ length bins) where
+module _ (h0 : Image) (base : Base) (bins : List ℕ) (bits : ℕ → Bool) (behind : IsBehind h0 base)
+    (is : HasCopy Log h0 base bins) (whole : 512 * (length bins / 512) ≡ length bins) where
   behind_along : (c : Image) → c (copy_at Primary 0) ≡ h0 (copy_at Primary 0) → IsBehind c base
-  behind_along c same = record { opened = behind.opened; block = ap base_at same ∙ behind.block; unfinished = behind.unfinished; goes = behind.goes }
+  behind_along c same = record {
+    opened = behind.opened;
+    block = ap base_at same ∙ behind.block;
+    unfinished = behind.unfinished;
+    goes = behind.goes;
+  }
 
   pub bins_mending : (c : Image) → AgreeOutside (is_bin Primary (length bins) bits) h0 c → IsKeptAs twin_of base bins c
-  bins_mending c agree = kept_second c base bins (behind_along c (agree (copy_at Primary 0) refl)) (copy_along Log h0 c base bins (λ n. agree (copy_at Log n) refl) is) whole
+  bins_mending c agree = kept_second c base bins (behind_along c (agree (copy_at Primary 0) refl))
+      (copy_along Log h0 c base bins (λ n. agree (copy_at Log n) refl) is) whole
 
   module _ (numbers : NumbersFit base) (texts : TextsFit base) (all : (i : ℕ) → 512 * i < length bins → bits i ≡ true)
-      (h1 : Image) (agree1 : AgreeOutside (is_bin Primary (length bins) bits) h0 h1) (written : HasMarked (copy_in Primary h1) bits bins) where
+      (h1 : Image) (agree1 : AgreeOutside (is_bin Primary (length bins) bits) h0 h1)
+      (written : HasMarked (copy_in Primary h1) bits bins) where
     second_of : (c : Image) → AgreeOutside (is_block Primary) h1 c → HasCopy Log c base bins
     second_of c agree = copy_along Log h0 c base bins (λ n. agree (copy_at Log n) refl ∙ agree1 (copy_at Log n) refl) is
 
-    first_of : (c : Image) → AgreeOutside (is_block Primary) h1 c → c (copy_at Primary 0) ≡ Some (Bytes (base_text base)) → HasCopy Primary c base bins
+    first_of : (c : Image) → AgreeOutside (is_block Primary) h1 c
+        → c (copy_at Primary 0) ≡ Some (Bytes (base_text base)) → HasCopy Primary c base bins
     first_of c agree there =
-        copy_written Primary c base bins (fits_of Log h0 base bins is numbers texts) (checked_of Log h0 base bins is).kind_is is.clean is.size
-        (record { block = there; bins_there = λ i small. agree (copy_at Primary (8 + i)) (no_block Primary i) ∙ written i small (all i small) })
+        copy_written Primary c base bins (fits_of Log h0 base bins is numbers texts)
+        (checked_of Log h0 base bins is).kind_is is.clean is.size
+        (record {
+          block = there;
+          bins_there = λ i small. agree (copy_at Primary (8 + i)) (no_block Primary i)
+              ∙ written i small (all i small);
+        })
 
-    pub block_mending : (c : Image) → AgreeOutside (is_block Primary) h1 c → BlockIsBeforeOr Primary h1 base c → IsKeptAs twin_of base bins c
+    pub block_mending : (c : Image) → AgreeOutside (is_block Primary) h1 c → BlockIsBeforeOr Primary h1 base c
+        → IsKeptAs twin_of base bins c
     block_mending c agree block = ⊎_elim
-        (λ same. kept_second c base bins (behind_along c (same ∙ agree1 (copy_at Primary 0) refl)) (second_of c agree) whole)
+        (λ same. kept_second c base bins (behind_along c (same ∙ agree1 (copy_at Primary 0) refl)) (second_of c agree)
+        whole)
         (⊎_elim
         (λ there. kept_first c base bins (first_of c agree there) whole)
         (λ torn. kept_second c base bins (torn_behind c base is.clean torn) (second_of c agree) whole))
         block
 
-    pub first_mended : (c : Image) → AgreeOutside (is_block Primary) h1 c → c (copy_at Primary 0) ≡ Some (Bytes (base_text base)) → IsPair c base bins
+    pub first_mended : (c : Image) → AgreeOutside (is_block Primary) h1 c
+        → c (copy_at Primary 0) ≡ Some (Bytes (base_text base)) → IsPair c base bins
     first_mended c agree there = record { first = first_of c agree there; second = second_of c agree }
 
 -- ---- a commit
 
-module _ (base : Base) (old new : List ℕ) (root : ℕ) (bits : ℕ → Bool) (a : IsAsked base old new root bits) (h0 : Image) (is0 : IsPair h0 base old) where
+module _ (base : Base) (old new : List ℕ) (root : ℕ) (bits : ℕ → Bool) (a : IsAsked base old new root bits) (h0 : Image)
+    (is0 : IsPair h0 base old) where
   abbrev opened : Base
   opened = opened_of base
 
@@ -126,8 +155,10 @@ module _ (base : Base) (old new : List ℕ) (root : ℕ) (bits : ℕ → Bool) (
   same_as b i is = ap (λ l. Some (Bytes l)) (sym is)
 
   -- the second copy has the sectors that do not differ
-  pub second_stays : (i : ℕ) → 512 * i < length new → bits i ≡ false → h0 (copy_at Log (8 + i)) ≡ Some (Bytes (sector new i))
-  second_stays i small off = let old_one = a.same i small off in is0.second.bins_there i old_one.0 ∙ same_as (sector old i) i old_one.1
+  pub second_stays : (i : ℕ) → 512 * i < length new → bits i ≡ false
+      → h0 (copy_at Log (8 + i)) ≡ Some (Bytes (sector new i))
+  second_stays i small off = let old_one = a.same i small off in
+      is0.second.bins_there i old_one.0 ∙ same_as (sector old i) i old_one.1
 
   -- the first three stages
   pub before_cut : (c : Image) → AgreeOutside (in_copy Log) h0 c → IsKeptAs twin_of base old c
@@ -138,7 +169,8 @@ module _ (base : Base) (old new : List ℕ) (root : ℕ) (bits : ℕ → Bool) (
     second1 = copy_written Log h1 closed new closed_fits a.kind refl refl written1
 
     -- so has the primary
-    pub first_stays : (i : ℕ) → 512 * i < length new → bits i ≡ false → h1 (copy_at Primary (8 + i)) ≡ Some (Bytes (sector new i))
+    pub first_stays : (i : ℕ) → 512 * i < length new → bits i ≡ false
+        → h1 (copy_at Primary (8 + i)) ≡ Some (Bytes (sector new i))
     first_stays i small off =
         let old_one = a.same i small off in
         other1 (copy_at Primary (8 + i)) refl ∙ is0.first.bins_there i old_one.0 ∙ same_as (sector old i) i old_one.1
@@ -150,25 +182,31 @@ module _ (base : Base) (old new : List ℕ) (root : ℕ) (bits : ℕ → Bool) (
     first_of_cut c written = copy_written Primary c closed new closed_fits a.kind refl refl written
 
     -- the primary is open
-    open_behind : (c : Image) → IsLeftBy (copy_at Primary 0, base_text opened) (c (copy_at Primary 0)) → IsBehind c closed
+    open_behind : (c : Image) → IsLeftBy (copy_at Primary 0, base_text opened) (c (copy_at Primary 0))
+        → IsBehind c closed
     open_behind c left = ⊎_elim
         (λ there. record {
           opened = Some opened;
           block = ap base_at there ∙ block_written opened opened_fits a.kind;
           unfinished = λ e. absurd (omega (arith, a.fits.first_fits, a.fits.second_fits, a.clean, e));
-          goes = and_from (closed.first == opened.first) (closed.second == opened.first) (eq-eqb closed.first opened.first refl) (eq-eqb closed.second opened.first refl);
+          goes = and_from (closed.first == opened.first) (closed.second == opened.first)
+              (eq-eqb closed.first opened.first refl) (eq-eqb closed.second opened.first refl);
         })
         (λ torn. torn_behind c closed refl torn)
         left
 
     -- the last three stages
-    pub first_cut : (c : Image) → AgreeOutside (in_copy Primary) h1 c → IsRewriting Primary h1 opened closed new c → IsKeptAsEither twin_of base old closed new c
+    pub first_cut : (c : Image) → AgreeOutside (in_copy Primary) h1 c → IsRewriting Primary h1 opened closed new c
+        → IsKeptAsEither twin_of base old closed new c
     first_cut c agree cut = ⊎_elim
-        (λ same. inl (kept_first c base old (copy_along Primary h0 c base old (λ n. same (copy_at Primary n) ∙ other1 (copy_at Primary n) refl) is0.first) a.whole_old))
+        (λ same. inl (kept_first c base old
+        (copy_along Primary h0 c base old (λ n. same (copy_at Primary n) ∙ other1 (copy_at Primary n) refl)
+        is0.first) a.whole_old))
         (⊎_elim
         (λ left. inr (kept_second c closed new (open_behind c left) (second_of_cut c agree) whole_new))
         (λ written. inr (kept_first c closed new (first_of_cut c written) whole_new)))
         cut
 
-    pub pair_after : (h2 : Image) → AgreeOutside (in_copy Primary) h1 h2 → IsWritten Primary h2 closed new → IsPair h2 closed new
+    pub pair_after : (h2 : Image) → AgreeOutside (in_copy Primary) h1 h2 → IsWritten Primary h2 closed new
+        → IsPair h2 closed new
     pair_after h2 agree written = record { first = first_of_cut h2 written; second = second_of_cut h2 agree }

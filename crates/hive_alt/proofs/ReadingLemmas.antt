@@ -13,4 +13,9 @@ pub reads_one : (a b : List Made → Type 0) (at : Address) → Makes a b (ReadA
 reads_one a b at made = record { sectors = at ∷ []; made = made; are = tt }
 
 pub reads_then : {a b c : List Made → Type 0} → OnlyReads a b → OnlyReads b c → OnlyReads a c
-reads_then {a = a} {b = b} {c = c} one two = record { sectors = one.sectors ++ two.sectors; made = reads_in_turn a b c one.sectors two.sectors one.made two.made; are = tt }
+reads_then {a = a} {b = b} {c = c} one two =
+    record {
+      sectors = one.sectors ++ two.sectors;
+      made = reads_in_turn a b c one.sectors two.sectors one.made two.made;
+      are = tt;
+    }

@@ -15,16 +15,19 @@ use Rattle.hive_alt.specs.Twin.{copy_at, absent_at, torn_at, read_in, second_in,
 use Rattle.hive_alt.proofs.TwinLemmas.{by_clean, by_unfinished, block_back, first_stands, second_block_stands, second_stands, true_is_second}
 
 -- a sector that was read is there
-bytes_back : (absent torn : HiveFault) (c : Option Content) (bytes : List ℕ) → bytes_or absent torn c ≡ Ok bytes → c ≡ Some (Bytes bytes)
+bytes_back : (absent torn : HiveFault) (c : Option Content) (bytes : List ℕ) → bytes_or absent torn c ≡ Ok bytes
+    → c ≡ Some (Bytes bytes)
 bytes_back absent torn None bytes is = absurd (cc)
 bytes_back absent torn (Some Unreadable) bytes is = absurd (cc)
 bytes_back absent torn (Some (Bytes read)) bytes is = let same : read ≡ bytes = cc in ap (λ b. Some (Bytes b)) same
 
-read_back : (file : File) (image : Image) (i : ℕ) (bytes : List ℕ) → read_in file image i ≡ Ok bytes → image (copy_at file (8 + i)) ≡ Some (Bytes bytes)
+read_back : (file : File) (image : Image) (i : ℕ) (bytes : List ℕ) → read_in file image i ≡ Ok bytes
+    → image (copy_at file (8 + i)) ≡ Some (Bytes bytes)
 read_back file image i bytes is = bytes_back (absent_at file i) (torn_at file i) (image (copy_at file (8 + i))) bytes is
 
 -- the size of what was read
-pub sized_bins : (size : ℕ) (bins : List ℕ) → is_bins_size size ≡ true → length bins ≡ 512 * (size / 512) → is_bins_size (length bins) ≡ true
+pub sized_bins : (size : ℕ) (bins : List ℕ) → is_bins_size size ≡ true → length bins ≡ 512 * (size / 512)
+    → is_bins_size (length bins) ≡ true
 sized_bins size bins is long =
     let whole : size ≡ length bins = omega (arith, (sized size is).pages, long) in
     ap is_bins_size (sym whole) ∙ is
@@ -49,7 +52,8 @@ module _ (h : Image) (base : Base) (has : HasBase h base) (even : base.first ≡
   pub first_fault : (f : HiveFault) → gathered (read_in Primary h) 0 (base.size / 512) ≡ Err f → twin_of h ≡ Err f
   first_fault f is = by_clean h base has even ∙ ap (standing h base) is
 
-  module _ (bins : List ℕ) (size : is_bins_size base.size ≡ true) (long : length bins ≡ 512 * (base.size / 512)) (each : (k : ℕ) → k < base.size / 512 → read_in Primary h k ≡ Ok (sector bins k)) where
+  module _ (bins : List ℕ) (size : is_bins_size base.size ≡ true) (long : length bins ≡ 512 * (base.size / 512))
+      (each : (k : ℕ) → k < base.size / 512 → read_in Primary h k ≡ Ok (sector bins k)) where
     first_copy : HasCopy Primary h base bins
     first_copy = record {
       block = has;
@@ -58,15 +62,20 @@ module _ (h : Image) (base : Base) (has : HasBase h base) (even : base.first ≡
       bins_there = λ i small. read_back Primary h i (sector bins i) (each i (omega (arith, long)));
     }
 
-    pub first_seen : (same : Bool) → is_second h base bins ≡ same → StandsBy h (record { base = base; bins = bins; dirty = not same }) false
+    pub first_seen : (same : Bool) → is_second h base bins ≡ same
+        → StandsBy h (record { base = base; bins = bins; dirty = not same }) false
     first_seen same is =
         let whole = whole_bins bins (base.size / 512) long in
         record {
-          exact = first_stands h base bins first_copy whole ∙ ap (λ b. Ok (record { base = base; bins = bins; dirty = not b })) is;
+          exact = first_stands h base bins first_copy whole
+              ∙ ap (λ b. Ok (record { base = base; bins = bins; dirty = not b })) is;
           good = first_copy;
           behind = λ no_second. absurd (cc);
           mended = λ no_second. absurd (cc);
-          pair = λ clean. record { first = first_copy; second = true_is_second h base bins even first_copy.size whole (is ∙ turned same clean) };
+          pair = λ clean. record {
+            first = first_copy;
+            second = true_is_second h base bins even first_copy.size whole (is ∙ turned same clean);
+          };
         }
 
 -- ---- the second copy stands
@@ -80,13 +89,16 @@ module _ (h : Image) (opened : Option Base) (block : base_in h ≡ Ok opened) (u
     other_numbers differ =
         by_unfinished h opened block unfinished
         ∙ ap (λ r. and_then r (by_second_block h opened)) there
-        ∙ ap (λ t. cond t (recovered_with true second (gathered (read_in Log h) 0 (second.size / 512))) (Err (fault_at LogSequence 4))) differ
+        ∙ ap (λ t. cond t (recovered_with true second (gathered (read_in Log h) 0 (second.size / 512)))
+        (Err (fault_at LogSequence 4))) differ
 
     module _ (goes : goes_with opened second ≡ true) where
       pub second_fault : (f : HiveFault) → gathered (read_in Log h) 0 (second.size / 512) ≡ Err f → twin_of h ≡ Err f
-      second_fault f is = second_block_stands h opened second block unfinished there goes ∙ ap (recovered_with true second) is
+      second_fault f is = second_block_stands h opened second block unfinished there goes
+          ∙ ap (recovered_with true second) is
 
-      pub second_seen : (bins : List ℕ) → is_bins_size second.size ≡ true → length bins ≡ 512 * (second.size / 512) → ((k : ℕ) → k < second.size / 512 → read_in Log h k ≡ Ok (sector bins k))
+      pub second_seen : (bins : List ℕ) → is_bins_size second.size ≡ true → length bins ≡ 512 * (second.size / 512)
+          → ((k : ℕ) → k < second.size / 512 → read_in Log h k ≡ Ok (sector bins k))
           → StandsBy h (record { base = second; bins = bins; dirty = true }) true
       second_seen bins size long each =
           let copy : HasCopy Log h second bins = record {
@@ -95,7 +107,8 @@ module _ (h : Image) (opened : Option Base) (block : base_in h ≡ Ok opened) (u
             size = omega (arith, (sized second.size size).pages, long);
             bins_there = λ i small. read_back Log h i (sector bins i) (each i (omega (arith, long)));
           } in
-          let behind : IsBehind h second = record { opened = opened; block = block; unfinished = unfinished; goes = goes } in
+          let behind : IsBehind h second =
+          record { opened = opened; block = block; unfinished = unfinished; goes = goes } in
           record {
             exact = second_stands h second bins behind copy (whole_bins bins (second.size / 512) long);
             good = copy;

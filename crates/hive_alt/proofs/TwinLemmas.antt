@@ -23,7 +23,8 @@ whole_of n is = omega (arith, (sized n is).pages)
 
 -- ---- the chain of rules
 
-pub by_block : (image : Image) (opened : Option Base) → base_in image ≡ Ok opened → twin_of image ≡ by_copies image opened
+pub by_block : (image : Image) (opened : Option Base) → base_in image ≡ Ok opened
+    → twin_of image ≡ by_copies image opened
 unfolding twin_of
 by_block image opened has = ap (λ r. and_then r (by_copies image)) has
 
@@ -31,15 +32,20 @@ pub by_fault : (image : Image) (f : HiveFault) → base_in image ≡ Err f → t
 unfolding twin_of
 by_fault image f is = ap (λ r. and_then r (by_copies image)) is
 
-pub by_clean : (image : Image) (base : Base) → HasBase image base → base.first ≡ base.second → twin_of image ≡ by_first image base
+pub by_clean : (image : Image) (base : Base) → HasBase image base → base.first ≡ base.second
+    → twin_of image ≡ by_first image base
 by_clean image base has even =
-    by_block image (Some base) has ∙ ap (λ t. cond t (by_first image base) (by_second image (Some base))) (eq-eqb base.first base.second even)
+    by_block image (Some base) has
+    ∙ ap (λ t. cond t (by_first image base) (by_second image (Some base))) (eq-eqb base.first base.second even)
 
-to_second : (image : Image) (opened : Option Base) → IsUnfinished opened → by_copies image opened ≡ by_second image opened
+to_second : (image : Image) (opened : Option Base) → IsUnfinished opened
+    → by_copies image opened ≡ by_second image opened
 to_second image None is = refl
-to_second image (Some base) odd = ap (λ t. cond t (by_first image base) (by_second image (Some base))) (ne_eqb base.first base.second odd)
+to_second image (Some base) odd =
+    ap (λ t. cond t (by_first image base) (by_second image (Some base))) (ne_eqb base.first base.second odd)
 
-pub by_unfinished : (image : Image) (opened : Option Base) → base_in image ≡ Ok opened → IsUnfinished opened → twin_of image ≡ by_second image opened
+pub by_unfinished : (image : Image) (opened : Option Base) → base_in image ≡ Ok opened → IsUnfinished opened
+    → twin_of image ≡ by_second image opened
 by_unfinished image opened has is = by_block image opened has ∙ to_second image opened is
 
 -- ---- the second copy's base block
@@ -49,7 +55,8 @@ base_back_at (Ok x) b is = cc
 base_back_at (Err f) b is = absurd (cc)
 
 abbrev second_at : Option Content → Result Base HiveFault
-second_at c = and_then (bytes_or (fault_at LogAbsent 0) (fault_at LogUnreadable 0) c) (λ block. as_log_base (base_of block 0))
+second_at c = and_then (bytes_or (fault_at LogAbsent 0) (fault_at LogUnreadable 0) c)
+    (λ block. as_log_base (base_of block 0))
 
 block_there : (c : Option Content) (b : Base) → base_at c ≡ Ok (Some b) → second_at c ≡ Ok b
 block_there None b is = absurd (cc)
@@ -63,40 +70,49 @@ log_base_back (Err f) b is = absurd (cc)
 pub block_back : (c : Option Content) (b : Base) → second_at c ≡ Ok b → base_at c ≡ Ok (Some b)
 block_back None b is = absurd (cc)
 block_back (Some Unreadable) b is = absurd (cc)
-block_back (Some (Bytes block)) b is = ap (λ r. and_then r (λ (base : Base). Ok (Some base))) (log_base_back (base_of block 0) b is)
+block_back (Some (Bytes block)) b is =
+    ap (λ r. and_then r (λ (base : Base). Ok (Some base))) (log_base_back (base_of block 0) b is)
 
-pub second_there : (image : Image) (base : Base) (bins : List ℕ) → HasCopy Log image base bins → second_in image ≡ Ok base
+pub second_there : (image : Image) (base : Base) (bins : List ℕ) → HasCopy Log image base bins
+    → second_in image ≡ Ok base
 second_there image base bins is = block_there (log_in image 0) base is.block
 
 -- ---- the bins data of a copy
 
-read_there : (file : File) (image : Image) (i : ℕ) (bytes : List ℕ) → image (copy_at file (8 + i)) ≡ Some (Bytes bytes) → read_in file image i ≡ Ok bytes
+read_there : (file : File) (image : Image) (i : ℕ) (bytes : List ℕ) → image (copy_at file (8 + i)) ≡ Some (Bytes bytes)
+    → read_in file image i ≡ Ok bytes
 read_there file image i bytes is = ap (bytes_or (absent_at file i) (torn_at file i)) is
 
-pub copy_read : (file : File) (image : Image) (base : Base) (bins : List ℕ) → HasCopy file image base bins → 512 * (length bins / 512) ≡ length bins → gathered (read_in file image) 0 (base.size / 512) ≡ Ok bins
+pub copy_read : (file : File) (image : Image) (base : Base) (bins : List ℕ) → HasCopy file image base bins
+    → 512 * (length bins / 512) ≡ length bins → gathered (read_in file image) 0 (base.size / 512) ≡ Ok bins
 copy_read file image base bins is whole =
     let count : length bins / 512 ≡ base.size / 512 = ap (λ n. n / 512) (sym is.size) in
     gathered_whole (read_in file image) bins (base.size / 512) (omega (arith, is.size, whole))
     (λ i small. read_there file image i (sector bins i) (is.bins_there i (omega (arith, count, whole))))
 
 -- the primary stands
-pub first_stands : (image : Image) (base : Base) (bins : List ℕ) → HasCopy Primary image base bins → 512 * (length bins / 512) ≡ length bins
+pub first_stands : (image : Image) (base : Base) (bins : List ℕ) → HasCopy Primary image base bins
+    → 512 * (length bins / 512) ≡ length bins
     → twin_of image ≡ Ok (record { base = base; bins = bins; dirty = not (is_second image base bins) })
 first_stands image base bins is whole =
     by_clean image base is.block is.clean ∙ ap (standing image base) (copy_read Primary image base bins is whole)
 
 -- the second copy stands
-pub second_block_stands : (image : Image) (opened : Option Base) (base : Base) → base_in image ≡ Ok opened → IsUnfinished opened → second_in image ≡ Ok base → goes_with opened base ≡ true
+pub second_block_stands : (image : Image) (opened : Option Base) (base : Base) → base_in image ≡ Ok opened
+    → IsUnfinished opened → second_in image ≡ Ok base → goes_with opened base ≡ true
     → twin_of image ≡ recovered_with true base (gathered (read_in Log image) 0 (base.size / 512))
 second_block_stands image opened base block unfinished second goes =
     by_unfinished image opened block unfinished
     ∙ ap (λ r. and_then r (by_second_block image opened)) second
-    ∙ ap (λ t. cond t (recovered_with true base (gathered (read_in Log image) 0 (base.size / 512))) (Err (fault_at LogSequence 4))) goes
+    ∙ ap (λ t. cond t (recovered_with true base (gathered (read_in Log image) 0 (base.size / 512)))
+    (Err (fault_at LogSequence 4))) goes
 
-pub second_stands : (image : Image) (base : Base) (bins : List ℕ) → IsBehind image base → HasCopy Log image base bins → 512 * (length bins / 512) ≡ length bins
+pub second_stands : (image : Image) (base : Base) (bins : List ℕ) → IsBehind image base → HasCopy Log image base bins
+    → 512 * (length bins / 512) ≡ length bins
     → twin_of image ≡ Ok (record { base = base; bins = bins; dirty = true })
 second_stands image base bins behind is whole =
-    second_block_stands image behind.opened base behind.block behind.unfinished (second_there image base bins is) behind.goes
+    second_block_stands image behind.opened base behind.block behind.unfinished (second_there image base bins is)
+    behind.goes
     ∙ ap (recovered_with true base) (copy_read Log image base bins is whole)
 
 -- ---- the second copy is the same
@@ -155,29 +171,35 @@ bytes_there bytes None is = absurd (cc)
 bytes_there bytes (Some Unreadable) is = absurd (cc)
 bytes_there bytes (Some (Bytes read)) is = ap (λ b. Some (Bytes b)) (bytes_same read bytes is)
 
-second_each : (image : Image) (bins : List ℕ) (n : ℕ) → second_has image bins n ≡ true → (i : ℕ) → i < n → log_in image (8 + i) ≡ Some (Bytes (sector bins i))
+second_each : (image : Image) (bins : List ℕ) (n : ℕ) → second_has image bins n ≡ true → (i : ℕ) → i < n
+    → log_in image (8 + i) ≡ Some (Bytes (sector bins i))
 second_each image bins zero is i below = absurd (omega arith)
 second_each image bins (suc n) is i below =
     let parts = both (second_has image bins n) _ is in
     ⊎_elim
     (λ less. second_each image bins n parts.0 i less)
-    (λ same. ap (λ k. log_in image (8 + k)) same ∙ bytes_there (sector bins n) (log_in image (8 + n)) parts.1 ∙ ap (λ k. Some (Bytes (sector bins k))) (sym same))
+    (λ same. ap (λ k. log_in image (8 + k)) same ∙ bytes_there (sector bins n) (log_in image (8 + n)) parts.1
+    ∙ ap (λ k. Some (Bytes (sector bins k))) (sym same))
     (split i n (omega arith))
 
-each_second : (image : Image) (bins : List ℕ) (n : ℕ) → ((i : ℕ) → i < n → log_in image (8 + i) ≡ Some (Bytes (sector bins i))) → second_has image bins n ≡ true
+each_second : (image : Image) (bins : List ℕ) (n : ℕ)
+    → ((i : ℕ) → i < n → log_in image (8 + i) ≡ Some (Bytes (sector bins i))) → second_has image bins n ≡ true
 each_second image bins zero each = refl
 each_second image bins (suc n) each =
-    ap (λ b. b && has_bytes (sector bins n) (log_in image (8 + n))) (each_second image bins n (λ i below. each i (omega arith)))
+    ap (λ b. b && has_bytes (sector bins n) (log_in image (8 + n)))
+    (each_second image bins n (λ i below. each i (omega arith)))
     ∙ ap (has_bytes (sector bins n)) (each n (omega arith)) ∙ bytes_refl (sector bins n)
 
 -- a good second copy of the same
-pub is_second_true : (image : Image) (base : Base) (bins : List ℕ) → HasCopy Log image base bins → is_second image base bins ≡ true
+pub is_second_true : (image : Image) (base : Base) (bins : List ℕ) → HasCopy Log image base bins
+    → is_second image base bins ≡ true
 is_second_true image base bins is =
     let bins_are = each_second image bins (length bins / 512) (λ i below. is.bins_there i (omega arith)) in
     ap (λ r. has_fields base r && second_has image bins (length bins / 512)) (second_there image base bins is)
     ∙ ap (λ b. b && second_has image bins (length bins / 512)) (fields_refl base) ∙ bins_are
 
-pub true_is_second : (image : Image) (base : Base) (bins : List ℕ) → base.first ≡ base.second → base.size ≡ length bins → 512 * (length bins / 512) ≡ length bins
+pub true_is_second : (image : Image) (base : Base) (bins : List ℕ) → base.first ≡ base.second → base.size ≡ length bins
+    → 512 * (length bins / 512) ≡ length bins
     → is_second image base bins ≡ true → HasCopy Log image base bins
 true_is_second image base bins even size whole is =
     let parts = both (has_fields base (second_in image)) _ is in
@@ -189,25 +211,30 @@ true_is_second image base bins even size whole is =
     }
 
 -- the state between two calls
-pub pair_stands : (image : Image) (base : Base) (bins : List ℕ) → IsPair image base bins → 512 * (length bins / 512) ≡ length bins → twin_of image ≡ Ok (record { base = base; bins = bins; dirty = false })
+pub pair_stands : (image : Image) (base : Base) (bins : List ℕ) → IsPair image base bins
+    → 512 * (length bins / 512) ≡ length bins → twin_of image ≡ Ok (record { base = base; bins = bins; dirty = false })
 pair_stands image base bins is whole =
     first_stands image base bins is.first whole
     ∙ ap (λ b. Ok (record { base = base; bins = bins; dirty = not b })) (is_second_true image base bins is.second)
 
-pub pair_is_clean : (image : Image) (base : Base) (bins : List ℕ) → is_bins_size (length bins) ≡ true → IsPair image base bins → twin_of image ≡ Ok (record { base = base; bins = bins; dirty = false })
+pub pair_is_clean : (image : Image) (base : Base) (bins : List ℕ) → is_bins_size (length bins) ≡ true
+    → IsPair image base bins → twin_of image ≡ Ok (record { base = base; bins = bins; dirty = false })
 pair_is_clean image base bins size is = pair_stands image base bins is (whole_of (length bins) size)
 
 -- one more sector of the second copy is that of the data
-pub second_more : (image : Image) (bins : List ℕ) (i : ℕ) → second_has image bins i ≡ true → has_bytes (sector bins i) (log_in image (8 + i)) ≡ true → second_has image bins (i + 1) ≡ true
+pub second_more : (image : Image) (bins : List ℕ) (i : ℕ) → second_has image bins i ≡ true
+    → has_bytes (sector bins i) (log_in image (8 + i)) ≡ true → second_has image bins (i + 1) ≡ true
 second_more image bins i so_far is =
     ap (second_has image bins) (add-one i) ∙ ap (λ b. b && has_bytes (sector bins i) (log_in image (8 + i))) so_far ∙ is
 
 -- and one is not
-pub second_less : (image : Image) (bins : List ℕ) (i n : ℕ) → i < n → has_bytes (sector bins i) (log_in image (8 + i)) ≡ false → second_has image bins n ≡ false
+pub second_less : (image : Image) (bins : List ℕ) (i n : ℕ) → i < n
+    → has_bytes (sector bins i) (log_in image (8 + i)) ≡ false → second_has image bins n ≡ false
 second_less image bins i zero below is = absurd (omega arith)
 second_less image bins i (suc n) below is = ⊎_elim
     (λ less. ap (λ b. b && has_bytes (sector bins n) (log_in image (8 + n))) (second_less image bins i n less is))
-    (λ same. and_right (second_has image bins n) (has_bytes (sector bins n) (log_in image (8 + n))) (ap (λ k. has_bytes (sector bins k) (log_in image (8 + k))) (sym same) ∙ is))
+    (λ same. and_right (second_has image bins n) (has_bytes (sector bins n) (log_in image (8 + n)))
+    (ap (λ k. has_bytes (sector bins k) (log_in image (8 + k))) (sym same) ∙ is))
     (split i n (omega arith))
 
 -- each sector differs from those of nothing

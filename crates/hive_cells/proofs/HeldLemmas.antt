@@ -32,7 +32,8 @@ pub held_payload : (bins : List Bin) (o : ℕ) (p : List ℕ) → held_at bins o
 held_payload bins o p e = of_held (cell_at bins o) p e
 
 -- what is held as before is looked up as before
-pub payload_kept : (old new : List Bin) (o : ℕ) (p : List ℕ) → held_at new o ≡ held_at old o → payload_at old o ≡ Ok p → payload_at new o ≡ Ok p
+pub payload_kept : (old new : List Bin) (o : ℕ) (p : List ℕ) → held_at new o ≡ held_at old o → payload_at old o ≡ Ok p
+    → payload_at new o ≡ Ok p
 payload_kept old new o p same e = held_payload new o p (same ∙ payload_held old o p e)
 
 placed_ok : (at : ℕ) (r : Result (List ℕ) HiveKind) (p : List ℕ) → placed at r ≡ Ok p → r ≡ Ok p
@@ -40,6 +41,7 @@ placed_ok at (Ok q) p e = cc
 placed_ok at (Err k) p e = absurd cc
 
 -- what a lookup answered is held
-pub seen_held : {X : Type 0} (view : X → List ℕ) (bins : List Bin) (at : ℕ) (r : Result X HiveFault) → Sees view r (placed at (payload_at bins at)) → IfOk r (λ p. held_at bins at ≡ Some (view p))
+pub seen_held : {X : Type 0} (view : X → List ℕ) (bins : List Bin) (at : ℕ) (r : Result X HiveFault)
+    → Sees view r (placed at (payload_at bins at)) → IfOk r (λ p. held_at bins at ≡ Some (view p))
 seen_held view bins at (Ok x) e = payload_held bins at (view x) (placed_ok at (payload_at bins at) (view x) e)
 seen_held view bins at (Err e) seen = tt

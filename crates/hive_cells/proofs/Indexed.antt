@@ -9,9 +9,11 @@ pub record IsIndexed (text : List ℕ) (starts : List Bool) (rooms : List ℕ) :
   pub kept : IsKept text starts
   pub index : rooms ≡ free_sizes (bins_of text)
 
-pub indexed : {text : List ℕ} {starts : List Bool} {rooms : List ℕ} {bins : List Bin} → IsKept text starts → bins_of text ≡ bins → rooms ≡ free_sizes bins → IsIndexed text starts rooms
+pub indexed : {text : List ℕ} {starts : List Bool} {rooms : List ℕ} {bins : List Bin} → IsKept text starts
+    → bins_of text ≡ bins → rooms ≡ free_sizes bins → IsIndexed text starts rooms
 indexed kept seen index = record { kept = kept; index = index ∙ ap free_sizes (sym seen) }
 
 -- what needs no index
-pub alone : {text : List ℕ} {starts : List Bool} → IsKept text starts → IsIndexed text starts (free_sizes (bins_of text))
+pub alone : {text : List ℕ} {starts : List Bool} → IsKept text starts
+    → IsIndexed text starts (free_sizes (bins_of text))
 alone kept = record { kept = kept; index = refl }

@@ -12,7 +12,8 @@ use Rattle.hive_cells.specs.Changes.{zero_cell}
 use Rattle.hive_cells.specs.Held.{run_cells, IsAllocated, IsRun}
 use Rattle.hive_cells.proofs.SizeLemmas.{seen_again}
 
-pub run_made : (run : List ℕ) (cs : List Cell) → run ≡ flat_map cell_bytes cs → AllByRecursion IsCell cs → AllByRecursion (λ (c : Cell). c.allocated ≡ true) cs → 0 < cells_size cs → IsRun run × (run_cells run ≡ cs)
+pub run_made : (run : List ℕ) (cs : List Cell) → run ≡ flat_map cell_bytes cs → AllByRecursion IsCell cs
+    → AllByRecursion (λ (c : Cell). c.allocated ≡ true) cs → 0 < cells_size cs → IsRun run × (run_cells run ≡ cs)
 run_made run cs is sound allocated some =
     let seen : run_cells run ≡ cs = ap run_cells is ∙ seen_again cs sound in (
       record {
@@ -30,21 +31,31 @@ pub record ZeroRun (n : ℕ) (run : List ℕ) : Type 0 where
   pub cells : run_cells run ≡ zero_cell n ∷ []
   pub long : length run ≡ cell n
 
-zero_spelled : (n : ℕ) → to_le_bytes w32 (4294967296 - cell n) ++ replicate (cell n - 4) 0 ≡ flat_map cell_bytes (zero_cell n ∷ [])
+zero_spelled : (n : ℕ) → to_le_bytes w32 (4294967296 - cell n) ++ replicate (cell n - 4) 0
+    ≡ flat_map cell_bytes (zero_cell n ∷ [])
 unfolding cell_bytes
 zero_spelled n =
-    let long : cell n ≡ 4 + length (replicate {A = ℕ} (cell n - 4) 0) = omega (arith, length-replicate {A = ℕ} (cell n - 4) 0) in
-    ap (λ (m : ℕ). to_le_bytes w32 (4294967296 - m) ++ replicate (cell n - 4) 0) long ∙ sym (append-nil (cell_bytes (zero_cell n)))
+    let long : cell n ≡ 4 + length (replicate {A = ℕ} (cell n - 4) 0) =
+    omega (arith, length-replicate {A = ℕ} (cell n - 4) 0) in
+    ap (λ (m : ℕ). to_le_bytes w32 (4294967296 - m) ++ replicate (cell n - 4) 0) long
+    ∙ sym (append-nil (cell_bytes (zero_cell n)))
 
-pub zero_made : (n size : ℕ) (start head run : List ℕ) → n ≤ 16777216 → size ≡ cell n → start ≡ [] → head ≡ start ++ to_le_bytes w32 (4294967296 - size) → run ≡ head ++ replicate (size - 4) 0 → ZeroRun n run
+pub zero_made : (n size : ℕ) (start head run : List ℕ) → n ≤ 16777216 → size ≡ cell n → start ≡ []
+    → head ≡ start ++ to_le_bytes w32 (4294967296 - size) → run ≡ head ++ replicate (size - 4) 0 → ZeroRun n run
 zero_made n size start head run small sized none first more =
     let long = length-replicate {A = ℕ} (cell n - 4) 0 in
     let spelled : run ≡ flat_map cell_bytes (zero_cell n ∷ []) =
-    more ∙ ap (λ (t : List ℕ). t ++ replicate (size - 4) 0) (first ∙ ap (λ (t : List ℕ). t ++ to_le_bytes w32 (4294967296 - size)) none)
+    more ∙ ap (λ (t : List ℕ). t ++ replicate (size - 4) 0)
+    (first ∙ ap (λ (t : List ℕ). t ++ to_le_bytes w32 (4294967296 - size)) none)
     ∙ ap (λ (m : ℕ). to_le_bytes w32 (4294967296 - m) ++ replicate (m - 4) 0) sized ∙ zero_spelled n in
-    let sound : IsCell (zero_cell n) = record { least = omega (arith, long); whole = omega (arith, long); fits = omega (arith, long, small) } in
+    let sound : IsCell (zero_cell n) =
+    record { least = omega (arith, long); whole = omega (arith, long); fits = omega (arith, long, small) } in
     let made = run_made run (zero_cell n ∷ []) spelled (sound, tt) (refl, tt) (omega (arith, long)) in
-    record { run_is = made.0; cells = made.1; long = ap length spelled ∙ length_cells (zero_cell n ∷ []) ∙ omega (arith, long) }
+    record {
+      run_is = made.0;
+      cells = made.1;
+      long = ap length spelled ∙ length_cells (zero_cell n ∷ []) ∙ omega (arith, long);
+    }
 
 -- ---- the packed cells of payloads
 
@@ -54,11 +65,14 @@ packed_size p =
     let n = cell (length p) - 4 - length p in
     omega (arith, length-append p (replicate n 0), length-replicate {A = ℕ} n 0)
 
-packed_sound : (ps : List (List ℕ)) → cells_size (map allocated_cell ps) ≤ 16777216 → AllByRecursion IsCell (map allocated_cell ps)
+packed_sound : (ps : List (List ℕ)) → cells_size (map allocated_cell ps) ≤ 16777216
+    → AllByRecursion IsCell (map allocated_cell ps)
 packed_sound [] small = tt
 packed_sound (p ∷ ps) small =
-    let size = packed_size p in
-    (record { least = omega (arith, size); whole = omega (arith, size); fits = omega (arith, small) }, packed_sound ps (omega (arith, small)))
+    let size = packed_size p in (
+      record { least = omega (arith, size); whole = omega (arith, size); fits = omega (arith, small) },
+      packed_sound ps (omega (arith, small)),
+    )
 
 packed_allocated : (ps : List (List ℕ)) → AllByRecursion IsAllocated (map allocated_cell ps)
 packed_allocated [] = tt
@@ -69,7 +83,10 @@ unfolding packed.cell_text
 packed_bytes [] = refl
 packed_bytes (p ∷ ps) = ap (λ (t : List ℕ). cell_bytes (allocated_cell p) ++ t) (packed_bytes ps)
 
-pub text_made : (ps : List (List ℕ)) → 0 < length (text ps) → length (text ps) ≤ 16777216 → IsRun (text ps) × (run_cells (text ps) ≡ map allocated_cell ps)
+pub text_made : (ps : List (List ℕ)) → 0 < length (text ps) → length (text ps) ≤ 16777216
+    → IsRun (text ps) × (run_cells (text ps) ≡ map allocated_cell ps)
 text_made ps some small =
-    let long : length (text ps) ≡ cells_size (map allocated_cell ps) = ap length (packed_bytes ps) ∙ length_cells (map allocated_cell ps) in
-    run_made (text ps) (map allocated_cell ps) (packed_bytes ps) (packed_sound ps (omega (arith, long, small))) (packed_allocated ps) (omega (arith, long, some))
+    let long : length (text ps) ≡ cells_size (map allocated_cell ps) =
+    ap length (packed_bytes ps) ∙ length_cells (map allocated_cell ps) in
+    run_made (text ps) (map allocated_cell ps) (packed_bytes ps) (packed_sound ps (omega (arith, long, small)))
+    (packed_allocated ps) (omega (arith, long, some))

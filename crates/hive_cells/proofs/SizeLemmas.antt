@@ -25,16 +25,27 @@ unfolding run_cells
 seen_again cs sound =
     let n = length (flat_map cell_bytes cs) in
     let long : length (flat_map cell_bytes cs) ≡ cells_size cs = length_cells cs in
-    let read = cells_again cs n n 0 [] (Ok []) sound (omega arith) (omega arith) (λ f enough. none_left f (n - cells_size cs) (0 + cells_size cs) (omega arith)) in
+    let read = cells_again cs n n 0 [] (Ok []) sound (omega arith) (omega arith)
+    (λ f enough. none_left f (n - cells_size cs) (0 + cells_size cs) (omega arith)) in
     ap or_none (rw (append-nil (flat_map cell_bytes cs), append-nil cs) at read)
 
 -- ---- rooms
 
-pub length_rooms : (cs : List Cell) → AllByRecursion IsCell cs → 8 * length (flat_map cell_free_sizes cs) ≡ cells_size cs
+pub length_rooms : (cs : List Cell) → AllByRecursion IsCell cs
+    → 8 * length (flat_map cell_free_sizes cs) ≡ cells_size cs
 length_rooms [] h = refl
-length_rooms (c ∷ cs) h = omega (arith, length-append (cell_free_sizes c) (flat_map cell_free_sizes cs), length-replicate {A = ℕ} (cell_size c / 8 - 1) 0, h.0.least, h.0.whole, length_rooms cs h.1)
+length_rooms (c ∷ cs) h =
+    omega (
+      arith,
+      length-append (cell_free_sizes c) (flat_map cell_free_sizes cs),
+      length-replicate {A = ℕ} (cell_size c / 8 - 1) 0,
+      h.0.least,
+      h.0.whole,
+      length_rooms cs h.1,
+    )
 
-pub cells_roomed : (cs : List Cell) (p k : ℕ) → AllByRecursion IsCell cs → get_or (flat_map cell_free_sizes cs) k 0 ≡ free_size (in_cells (p + 8 * k) p cs)
+pub cells_roomed : (cs : List Cell) (p k : ℕ) → AllByRecursion IsCell cs
+    → get_or (flat_map cell_free_sizes cs) k 0 ≡ free_size (in_cells (p + 8 * k) p cs)
 cells_roomed [] p k h = refl
 cells_roomed (c ∷ cs) p zero h = let e : p + 8 * 0 ≡ p = omega arith in rw (e, eq-eqb p p refl) refl
 cells_roomed (c ∷ cs) p (suc k) h =
@@ -43,21 +54,37 @@ cells_roomed (c ∷ cs) p (suc k) h =
     let long = length-replicate {A = ℕ} n 0 in
     let more = flat_map cell_free_sizes cs in
     elim (cases_lt k n) [
-      | inl lt ↦ rw (ne, cells_before cs (p + 8 * suc k) (p + cell_size c) (omega (arith, lt, h.0.whole, h.0.least)), get_or_append_left (replicate n 0) more 0 k (omega (arith, lt, long)), get_or-replicate {A = ℕ} n k 0 0 lt) refl
+      | inl lt ↦ rw (
+        ne,
+        cells_before cs (p + 8 * suc k) (p + cell_size c) (omega (arith, lt, h.0.whole, h.0.least)),
+        get_or_append_left (replicate n 0) more 0 k (omega (arith, lt, long)),
+        get_or-replicate {A = ℕ} n k 0 0 lt,
+      )
+          refl
       | inr le ↦ let e : p + 8 * suc k ≡ p + cell_size c + 8 * (k - n) = omega (arith, le, h.0.whole, h.0.least) in
-          rw (ne, get_or-append_right (replicate n 0) more n k 0 long le) (cells_roomed cs (p + cell_size c) (k - n) h.1 ∙ ap (λ (o : ℕ). free_size (in_cells o (p + cell_size c) cs)) (sym e))
+          rw (ne, get_or-append_right (replicate n 0) more n k 0 long le)
+          (cells_roomed cs (p + cell_size c) (k - n) h.1
+          ∙ ap (λ (o : ℕ). free_size (in_cells o (p + cell_size c) cs)) (sym e))
     ]
 
 pub length_bins : (bs : List Bin) → AllByRecursion IsBin bs → 8 * length (free_sizes bs) ≡ bins_size bs
 length_bins [] h = refl
 length_bins (b ∷ bs) h =
-    omega (arith, length-append (bin_free_sizes b) (free_sizes bs), length-append (replicate {A = ℕ} 4 0) (flat_map cell_free_sizes b.cells), length-replicate {A = ℕ} 4 0, length_rooms b.cells h.0.cells, length_bins bs h.1)
+    omega (
+      arith,
+      length-append (bin_free_sizes b) (free_sizes bs),
+      length-append (replicate {A = ℕ} 4 0) (flat_map cell_free_sizes b.cells),
+      length-replicate {A = ℕ} 4 0,
+      length_rooms b.cells h.0.cells,
+      length_bins bs h.1,
+    )
 
 or_none_is : (x : Option Cell) → or_else x None ≡ x
 or_none_is None = refl
 or_none_is (Some x) = refl
 
-pub bins_roomed : (bs : List Bin) (p k : ℕ) → AllByRecursion IsBin bs → get_or (free_sizes bs) k 0 ≡ free_size (in_bins (p + 8 * k) p bs)
+pub bins_roomed : (bs : List Bin) (p k : ℕ) → AllByRecursion IsBin bs
+    → get_or (free_sizes bs) k 0 ≡ free_size (in_bins (p + 8 * k) p bs)
 bins_roomed [] p k h = refl
 bins_roomed (b ∷ bs) p k h =
     let front = flat_map cell_free_sizes b.cells in
@@ -80,15 +107,21 @@ bins_roomed (b ∷ bs) p k h =
               or_none_is (in_cells o (p + 32) b.cells),
               get_or_append_left (four ++ front) (free_sizes bs) 0 k (omega (arith, lt, all, ge)),
               get_or-append_right four front 4 k 0 refl ge,
-            ) (cells_roomed b.cells (p + 32) (k - 4) h.0.cells ∙ ap (λ (z : ℕ). free_size (in_cells z (p + 32) b.cells)) (sym e))
+            ) (cells_roomed b.cells (p + 32) (k - 4) h.0.cells
+            ∙ ap (λ (z : ℕ). free_size (in_cells z (p + 32) b.cells)) (sym e))
         | inr le ↦
             let e : p + 8 * k ≡ p + bin_size b + 8 * (k - (4 + length front)) = omega (arith, le, long, ge) in
-            rw (cells_past b.cells o (p + 32) h.0.cells (omega (arith, le, long, ge)), get_or-append_right (four ++ front) (free_sizes bs) (4 + length front) k 0 all (omega (arith, le, ge)))
-            (bins_roomed bs (p + bin_size b) (k - (4 + length front)) h.1 ∙ ap (λ (z : ℕ). free_size (in_bins z (p + bin_size b) bs)) (sym e))
+            rw (
+              cells_past b.cells o (p + 32) h.0.cells (omega (arith, le, long, ge)),
+              get_or-append_right (four ++ front) (free_sizes bs) (4 + length front) k 0 all (omega (arith, le, ge)),
+            )
+            (bins_roomed bs (p + bin_size b) (k - (4 + length front)) h.1
+            ∙ ap (λ (z : ℕ). free_size (in_bins z (p + bin_size b) bs)) (sym e))
       ]
     ]
 
-pub room_at : (bs : List Bin) (k : ℕ) → AllByRecursion IsBin bs → get_or (free_sizes bs) k 0 ≡ free_size (cell_at bs (8 * k))
+pub room_at : (bs : List Bin) (k : ℕ) → AllByRecursion IsBin bs
+    → get_or (free_sizes bs) k 0 ≡ free_size (cell_at bs (8 * k))
 room_at bs k h = let e : 0 + 8 * k ≡ 8 * k = omega arith in rw e at (bins_roomed bs 0 k h)
 
 -- a free cell that has room
@@ -115,18 +148,24 @@ bins_whole [] h = refl
 bins_whole (b ∷ bs) h = omega (arith, h.0.whole, bins_whole bs h.1)
 
 -- a free cell has its room
-pub free_room : (bs : List Bin) (o : ℕ) (c : Cell) → AllByRecursion IsBin bs → cell_at bs o ≡ Some c → c.allocated ≡ false → (o % 8 ≡ 0) × (8 ≤ cell_size c) × (get_or (free_sizes bs) (o / 8) 0 ≡ cell_size c)
+pub free_room : (bs : List Bin) (o : ℕ) (c : Cell) → AllByRecursion IsBin bs → cell_at bs o ≡ Some c
+    → c.allocated ≡ false → (o % 8 ≡ 0) × (8 ≤ cell_size c) × (get_or (free_sizes bs) (o / 8) 0 ≡ cell_size c)
 free_room bs o c h here free =
     let s = spot bs o 0 c here in
     let sound = all_first IsBin s.pre (bin_round s.ignored s.front c s.back ∷ s.post) (rw s.parts at h) in
     let parts = all_first IsCell s.front (c ∷ s.back) sound.1.0.cells in
     let whole : o % 8 ≡ 0 = omega (arith, s.place, sizes_whole s.front parts.0, bins_whole s.pre sound.0) in
-    let e : 8 * (o / 8) ≡ o = omega (arith, whole) in
-    (whole, parts.1.0.least, room_at bs (o / 8) h ∙ ap (λ (m : ℕ). free_size (cell_at bs m)) e ∙ ap free_size here ∙ ap (λ (u : Bool). cond u 0 (cell_size c)) free)
+    let e : 8 * (o / 8) ≡ o = omega (arith, whole) in (
+      whole,
+      parts.1.0.least,
+      room_at bs (o / 8) h ∙ ap (λ (m : ℕ). free_size (cell_at bs m)) e ∙ ap free_size here
+          ∙ ap (λ (u : Bool). cond u 0 (cell_size c)) free,
+    )
 
 -- ---- the fit
 
-pub none_fits : (bs : List Bin) (size : ℕ) → AllByRecursion IsBin bs → 0 < size → ((j : ℕ) → j < length (free_sizes bs) → get_or (free_sizes bs) j 0 < size)
+pub none_fits : (bs : List Bin) (size : ℕ) → AllByRecursion IsBin bs → 0 < size
+    → ((j : ℕ) → j < length (free_sizes bs) → get_or (free_sizes bs) j 0 < size)
     → (o : ℕ) (c : Cell) → cell_at bs o ≡ Some c → c.allocated ≡ false → cell_size c < size
 none_fits bs size h some none o c here free =
     let r = free_room bs o c h here free in
@@ -135,11 +174,13 @@ none_fits bs size h some none o c here free =
       | inr within ↦ omega (arith, r.2, none (o / 8) within.1)
     ]
 
-pub fit_is : (bs : List Bin) (size k : ℕ) → AllByRecursion IsBin bs → 0 < size → IsLowestFit size (free_sizes bs) k → IsLowestHole size bs (8 * k)
+pub fit_is : (bs : List Bin) (size k : ℕ) → AllByRecursion IsBin bs → 0 < size → IsLowestFit size (free_sizes bs) k
+    → IsLowestHole size bs (8 * k)
 fit_is bs size k h some fit =
     let room = room_at bs k h in
     let f = some_room (cell_at bs (8 * k)) (omega (arith, room, fit.fits)) in
     record {
       hole = record { cell = f.cell; here = f.is; free = f.free; fits = omega (arith, room, fit.fits, f.sized) };
-      lowest = λ o c below here free. let r = free_room bs o c h here free in omega (arith, r.2, fit.lowest (o / 8) (omega (arith, r.0)));
+      lowest = λ o c below here free. let r = free_room bs o c h here free in
+          omega (arith, r.2, fit.lowest (o / 8) (omega (arith, r.0)));
     }

@@ -30,34 +30,58 @@ pub placed_ok : {A : Type 0} (at : ℕ) (r : Result A HiveKind) (x : A) → plac
 placed_ok at (Ok y) x e = ap (λ z. Ok z) (ok_same y x e)
 placed_ok at (Err k) x e = absurd cc
 
-pub placed_err : {A : Type 0} (at : ℕ) (r : Result A HiveKind) (f : HiveFault) → placed at r ≡ Err f → (r ≡ Err f.kind) × (f.at ≡ at)
+pub placed_err : {A : Type 0} (at : ℕ) (r : Result A HiveKind) (f : HiveFault) → placed at r ≡ Err f
+    → (r ≡ Err f.kind) × (f.at ≡ at)
 placed_err at (Ok y) f e = absurd cc
-placed_err {A = A} at (Err k) f e = let p = err_same A (record { kind = k; at = at }) f e in (ap (λ (g : HiveFault). Err g.kind) p, ap (λ (g : HiveFault). g.at) (sym p))
+placed_err {A = A} at (Err k) f e = let p = err_same A (record { kind = k; at = at }) f e in
+    (ap (λ (g : HiveFault). Err g.kind) p, ap (λ (g : HiveFault). g.at) (sym p))
 
-pub cells_start : (at : ℕ) (bytes : List ℕ) (old new : List Bool) (size : ℕ) → IsBytes bytes → header_at at bytes ≡ Ok size → new ≡ old ++ replicate 4 false → CellsRead at bytes old new size 32
+pub cells_start : (at : ℕ) (bytes : List ℕ) (old new : List Bool) (size : ℕ) → IsBytes bytes
+    → header_at at bytes ≡ Ok size → new ≡ old ++ replicate 4 false → CellsRead at bytes old new size 32
 cells_start at bytes old new size fits e table =
     let h = header_taken at size bytes fits e in
     record { cells = []; sound = tt; parts = sym h.parts; place = refl; table = table }
 
-regroup : (a b d : List Bool) → (a ++ (replicate 4 false ++ b) ++ true ∷ []) ++ d ≡ a ++ (replicate 4 false ++ (b ++ ((true ∷ d) ++ [])))
-regroup a b d = rw (append_assoc (a ++ (replicate 4 false ++ b)) (true ∷ []) d, append_assoc a (replicate 4 false ++ b) (true ∷ d), append_assoc (replicate 4 false) b (true ∷ d), append-nil d) refl
+regroup : (a b d : List Bool)
+    → (a ++ (replicate 4 false ++ b) ++ true ∷ []) ++ d ≡ a ++ (replicate 4 false ++ (b ++ ((true ∷ d) ++ [])))
+regroup a b d = rw (
+  append_assoc (a ++ (replicate 4 false ++ b)) (true ∷ []) d,
+  append_assoc a (replicate 4 false ++ b) (true ∷ d),
+  append_assoc (replicate 4 false) b (true ∷ d),
+  append-nil d,
+)
+    refl
 
-marked : (old new after : List Bool) (cells : List Cell) (c : Cell) (found : ℕ) → cell_size c ≡ found → new ≡ old ++ (replicate 4 false ++ flat_map cell_marks cells) → after ≡ (new ++ true ∷ []) ++ replicate (found / 8 - 1) false
+marked : (old new after : List Bool) (cells : List Cell) (c : Cell) (found : ℕ) → cell_size c ≡ found
+    → new ≡ old ++ (replicate 4 false ++ flat_map cell_marks cells)
+    → after ≡ (new ++ true ∷ []) ++ replicate (found / 8 - 1) false
     → after ≡ old ++ (replicate 4 false ++ flat_map cell_marks (cells ++ c ∷ []))
 marked old new after cells c found sized was is =
-    rw (is, was, ← sized, flat_map-append cell_marks cells (c ∷ [])) (regroup old (flat_map cell_marks cells) (replicate (cell_size c / 8 - 1) false))
+    rw (is, was, ← sized, flat_map-append cell_marks cells (c ∷ []))
+    (regroup old (flat_map cell_marks cells) (replicate (cell_size c / 8 - 1) false))
 
-pub cells_next : (at : ℕ) (bytes : List ℕ) (old new after : List Bool) (size cell found : ℕ) → IsBytes bytes → length bytes ≤ 16777216 → header_at at bytes ≡ Ok size → CellsRead at bytes old new size cell → cell < size → cell % 8 ≡ 0
-    → size_at (size - cell) (drop cell bytes) ≡ Ok found → after ≡ (new ++ true ∷ []) ++ replicate (found / 8 - 1) false → CellsRead at bytes old after size (cell + found) × ((cell + found) % 8 ≡ 0)
+pub cells_next : (at : ℕ) (bytes : List ℕ) (old new after : List Bool) (size cell found : ℕ) → IsBytes bytes
+    → length bytes ≤ 16777216 → header_at at bytes ≡ Ok size → CellsRead at bytes old new size cell → cell < size
+    → cell % 8 ≡ 0
+    → size_at (size - cell) (drop cell bytes) ≡ Ok found → after ≡ (new ++ true ∷ []) ++ replicate (found / 8 - 1) false
+    → CellsRead at bytes old after size (cell + found) × ((cell + found) % 8 ≡ 0)
 cells_next at bytes old new after size cell found fits small header r lt aligned e table =
     let h = header_taken at size bytes fits header in
     let long : size - cell ≤ length (drop cell bytes) = omega (arith, length-drop cell bytes, h.fits) in
     let room : 8 ≤ size - cell = omega (arith, h.whole, aligned, lt) in
-    let t = cell_taken (drop cell bytes) (size - cell) found (IsBytes-drop cell bytes fits) (omega (arith, long, room)) long (omega (arith, h.fits, small)) e in
+    let t = cell_taken (drop cell bytes) (size - cell) found (IsBytes-drop cell bytes fits) (omega (arith, long, room))
+    long (omega (arith, h.fits, small)) e in
     let c = cell_in found (drop cell bytes) in
     let rest : drop found (drop cell bytes) ≡ drop (cell + found) bytes = drop-drop found cell bytes in
-    let spelled_more : flat_map cell_bytes (r.cells ++ c ∷ []) ++ drop (cell + found) bytes ≡ flat_map cell_bytes r.cells ++ drop cell bytes =
-    rw (flat_map-append cell_bytes r.cells (c ∷ []), append_assoc (flat_map cell_bytes r.cells) (cell_bytes c ++ []) (drop (cell + found) bytes), append-nil (cell_bytes c), ← rest, t.parts) refl in
+    let spelled_more : flat_map cell_bytes (r.cells ++ c ∷ []) ++ drop (cell + found) bytes
+    ≡ flat_map cell_bytes r.cells ++ drop cell bytes =
+    rw (
+      flat_map-append cell_bytes r.cells (c ∷ []),
+      append_assoc (flat_map cell_bytes r.cells) (cell_bytes c ++ []) (drop (cell + found) bytes),
+      append-nil (cell_bytes c),
+      ← rest,
+      t.parts,
+    ) refl in
     let whole : found % 8 ≡ 0 = rw t.sized at t.sound.whole in (
       record {
         cells = r.cells ++ c ∷ [];
@@ -69,7 +93,9 @@ cells_next at bytes old new after size cell found fits small header r lt aligned
       omega (arith, aligned, whole),
     )
 
-pub cells_end : (at : ℕ) (bytes : List ℕ) (old new : List Bool) (size cell : ℕ) → IsBytes bytes → header_at at bytes ≡ Ok size → CellsRead at bytes old new size cell → size ≤ cell → cell ≤ size → BinRead at bytes old new size
+pub cells_end : (at : ℕ) (bytes : List ℕ) (old new : List Bool) (size cell : ℕ) → IsBytes bytes
+    → header_at at bytes ≡ Ok size → CellsRead at bytes old new size cell → size ≤ cell → cell ≤ size
+    → BinRead at bytes old new size
 cells_end at bytes old new size cell fits header r le within =
     let h = header_taken at size bytes fits header in
     let e : 32 + cells_size r.cells ≡ size = omega (arith, r.place, within, le) in
@@ -77,12 +103,15 @@ cells_end at bytes old new size cell fits header r le within =
       bin = record { ignored = slice_range bytes 12 32; cells = r.cells };
       rest = drop cell bytes;
       sound = record { ignored = h.twenty; whole = rw e h.whole; cells = r.sound };
-      parts = rw e (r.parts ∙ sym (append_assoc (head_bytes at size (slice_range bytes 12 32)) (flat_map cell_bytes r.cells) (drop cell bytes)));
+      parts = rw e (r.parts ∙ sym
+          (append_assoc (head_bytes at size (slice_range bytes 12 32)) (flat_map cell_bytes r.cells)
+          (drop cell bytes)));
       sized = sym e;
       table = r.table;
     }
 
-pub cells_fail : (at : ℕ) (bytes : List ℕ) (old new : List Bool) (size cell : ℕ) (fault : HiveFault) → IsBytes bytes → header_at at bytes ≡ Ok size → CellsRead at bytes old new size cell → cell < size
+pub cells_fail : (at : ℕ) (bytes : List ℕ) (old new : List Bool) (size cell : ℕ) (fault : HiveFault) → IsBytes bytes
+    → header_at at bytes ≡ Ok size → CellsRead at bytes old new size cell → cell < size
     → placed (at + cell) (size_at (size - cell) (drop cell bytes)) ≡ Err fault → BinFails at bytes fault
 cells_fail at bytes old new size cell fault fits header r lt e =
     let h = header_taken at size bytes fits header in
@@ -101,20 +130,25 @@ cells_fail at bytes old new size cell fault fits header r lt e =
       fails = rw (← r.place) p.0;
     })
 
-pub bins_next : (text : List ℕ) (at : ℕ) (starts after : List Bool) (size : ℕ) → BinsRead text at starts → BinRead at (drop at text) starts after size → BinsRead text (at + size) after
+pub bins_next : (text : List ℕ) (at : ℕ) (starts after : List Bool) (size : ℕ) → BinsRead text at starts
+    → BinRead at (drop at text) starts after size → BinsRead text (at + size) after
 bins_next text at starts after size r b =
     let place : 0 + bins_size r.bins ≡ at = omega (arith, r.place) in
     let long : length (bin_bytes at b.bin) ≡ size = length_bin at b.bin b.sound.ignored ∙ sym b.sized in
-    let rest : drop (at + size) text ≡ b.rest = sym (drop-drop size at text) ∙ ap (drop size) b.parts ∙ drop_at (bin_bytes at b.bin) b.rest size long in
+    let rest : drop (at + size) text ≡ b.rest =
+    sym (drop-drop size at text) ∙ ap (drop size) b.parts ∙ drop_at (bin_bytes at b.bin) b.rest size long in
     record {
       bins = r.bins ++ b.bin ∷ [];
       sound = both_hold IsBin r.bins (b.bin ∷ []) r.sound (b.sound, tt);
-      parts = r.parts ∙ ap (λ (s : List ℕ). spelled 0 r.bins ++ s) b.parts ∙ sym (rw (rest, spelled-append 0 r.bins (b.bin ∷ []), place, append-nil (bin_bytes at b.bin)) (append_assoc (spelled 0 r.bins) (bin_bytes at b.bin) b.rest));
+      parts = r.parts ∙ ap (λ (s : List ℕ). spelled 0 r.bins ++ s) b.parts
+          ∙ sym (rw (rest, spelled-append 0 r.bins (b.bin ∷ []), place, append-nil (bin_bytes at b.bin))
+          (append_assoc (spelled 0 r.bins) (bin_bytes at b.bin) b.rest));
       place = omega (arith, r.place, bins_size-append r.bins (b.bin ∷ []), b.sized);
       table = rw (b.table, r.table, flat_map-append bin_marks r.bins (b.bin ∷ []), append-nil (bin_marks b.bin)) refl;
     }
 
-pub bins_fail : (text : List ℕ) (at : ℕ) (starts : List Bool) (fault : HiveFault) → BinsRead text at starts → BinFails at (drop at text) fault → BinsFault text fault
+pub bins_fail : (text : List ℕ) (at : ℕ) (starts : List Bool) (fault : HiveFault) → BinsRead text at starts
+    → BinFails at (drop at text) fault → BinsFault text fault
 bins_fail text at starts fault r f =
     let place : length (spelled 0 r.bins) ≡ at = length_spelled 0 r.bins r.sound ∙ sym r.place in
     record { front = r.bins; rest = drop at text; sound = r.sound; parts = r.parts; fails = rw place f }
@@ -126,17 +160,26 @@ empty (x ∷ xs) e = absurd (omega (arith, e))
 drop_none : (xs : List ℕ) (n : ℕ) → length xs ≤ n → drop n xs ≡ []
 drop_none xs n le = empty (drop n xs) (omega (arith, length-drop n xs, le))
 
-pub bins_end : (text : List ℕ) (at : ℕ) (starts : List Bool) → length text ≤ 16777216 → BinsRead text at starts → length text ≤ at → at ≤ length text → IsKept text starts
+pub bins_end : (text : List ℕ) (at : ℕ) (starts : List Bool) → length text ≤ 16777216 → BinsRead text at starts
+    → length text ≤ at → at ≤ length text → IsKept text starts
 bins_end text at starts small r le within =
     let none : drop at text ≡ [] = drop_none text at le in
-    record { bins = r.bins; sound = record { each = r.sound; small = omega (arith, r.place, within, small) }; bytes = r.parts ∙ ap (λ (s : List ℕ). spelled 0 r.bins ++ s) none ∙ append-nil (spelled 0 r.bins); table = r.table }
+    record {
+      bins = r.bins;
+      sound = record { each = r.sound; small = omega (arith, r.place, within, small) };
+      bytes = r.parts ∙ ap (λ (s : List ℕ). spelled 0 r.bins ++ s) none ∙ append-nil (spelled 0 r.bins);
+      table =
+          r.table;
+    }
 
 -- what is kept is what is seen
-pub kept_seen : (text : List ℕ) (starts : List Bool) → IsKept text starts → IsHeap (bins_of text) × (text ≡ spelled 0 (bins_of text)) × (starts ≡ marks (bins_of text))
+pub kept_seen : (text : List ℕ) (starts : List Bool) → IsKept text starts
+    → IsHeap (bins_of text) × (text ≡ spelled 0 (bins_of text)) × (starts ≡ marks (bins_of text))
 kept_seen text starts k =
     let e : bins_of text ≡ k.bins = ap bins_of k.bytes ∙ bins_of_again k.bins k.sound in
     rw e (k.sound, k.bytes, k.table)
 
-pub stops_whole : (text : List ℕ) (at : ℕ) (starts : List Bool) (e : ReadStop) → BinsRead text at starts → Stops (BinFails at (drop at text)) e → Stops (BinsFault text) e
+pub stops_whole : (text : List ℕ) (at : ℕ) (starts : List Bool) (e : ReadStop) → BinsRead text at starts
+    → Stops (BinFails at (drop at text)) e → Stops (BinsFault text) e
 stops_whole text at starts Memory r s = tt
 stops_whole text at starts (Fault f) r s = bins_fail text at starts f r s

@@ -10,7 +10,8 @@ module _ (a b : List Made → Type 0) where
   all_made (Ok x) calls made = made
   all_made (Err e) calls made = record { front = calls; rest = []; cut = sym (append-nil calls); made = made }
 
-  pub stopped : {T E : Type 0} (r : Result T E) (calls : List Made) → IsErr r → MakesFront a b calls → MakesUntil a b calls r
+  pub stopped : {T E : Type 0} (r : Result T E) (calls : List Made) → IsErr r → MakesFront a b calls
+      → MakesUntil a b calls r
   stopped (Ok x) calls err front = absurd (false≢true err)
   stopped (Err e) calls err front = front
 
@@ -41,5 +42,6 @@ module _ (a b : List Made → Type 0) where
       front = first ++ two.front;
       rest = two.rest;
       cut = ap (λ (l : List Made). first ++ l) two.cut ∙ sym (append_assoc first two.front two.rest);
-      made = λ earlier is. subst c (append_assoc earlier first two.front) (two.made (earlier ++ first) (one earlier is));
+      made = λ earlier is. subst c (append_assoc earlier first two.front)
+          (two.made (earlier ++ first) (one earlier is));
     }

@@ -31,7 +31,8 @@ pub no_base : (i : ℕ) → is_base (bin_at i) ≡ false
 no_base i = ne_eqb (8 + i) 0 (λ e. absurd (omega arith))
 
 -- a base block in the same sector
-pub same_block : (before after : Image) (base : Base) → primary_in after 0 ≡ primary_in before 0 → HasBase before base → HasBase after base
+pub same_block : (before after : Image) (base : Base) → primary_in after 0 ≡ primary_in before 0 → HasBase before base
+    → HasBase after base
 same_block before after base same has = ap base_at same ∙ has
 
 -- facts on an image that hold of one that agrees with it
@@ -45,19 +46,32 @@ module _ (p : Address → Bool) (before after : Image) (agree : AgreeOutside p b
   pub bins_along : (bins : List ℕ) → ((i : ℕ) → p (bin_at i) ≡ false) → HasBins before bins → HasBins after bins
   bins_along bins out has = λ i small. agree (bin_at i) (out i) ∙ has i small
 
-  pub carries_along : (base : Base) (bins : List ℕ) → p (primary_at 0) ≡ false → ((i : ℕ) → p (bin_at i) ≡ false) → Carries before base bins → Carries after base bins
-  carries_along base bins out_base out is = record { block = base_along base out_base is.block; clean = is.clean; size = is.size; bins_there = bins_along bins out is.bins_there }
+  pub carries_along : (base : Base) (bins : List ℕ) → p (primary_at 0) ≡ false → ((i : ℕ) → p (bin_at i) ≡ false)
+      → Carries before base bins → Carries after base bins
+  carries_along base bins out_base out is =
+      record {
+        block = base_along base out_base is.block;
+        clean = is.clean;
+        size = is.size;
+        bins_there = bins_along bins out is.bins_there;
+      }
 
 -- a base block that was written
-pub written_base : (image : Image) (base : Base) → IsBase base → base.kind ≡ 0 → primary_in image 0 ≡ Some (Bytes (base_text base)) → HasBase image base
-written_base image base fits kind there = ap base_at there ∙ ap (λ r. and_then r (λ (b : Base). Ok (Some b))) (ap (base_of (base_text base)) (sym kind) ∙ base_back base fits)
+pub written_base : (image : Image) (base : Base) → IsBase base → base.kind ≡ 0
+    → primary_in image 0 ≡ Some (Bytes (base_text base)) → HasBase image base
+written_base image base fits kind there =
+    ap base_at there ∙ ap (λ r. and_then r (λ (b : Base). Ok (Some b)))
+    (ap (base_of (base_text base)) (sym kind) ∙ base_back base fits)
 
 -- whole sectors
-whole_data : (image : Image) (base : Base) (bins : List ℕ) → Carries image base bins → 512 * (length bins / 512) ≡ length bins
-whole_data image base bins is = omega (arith, (sized base.size (base_in_checked image base is.block).size_is).pages, is.size)
+whole_data : (image : Image) (base : Base) (bins : List ℕ) → Carries image base bins
+    → 512 * (length bins / 512) ≡ length bins
+whole_data image base bins is =
+    omega (arith, (sized base.size (base_in_checked image base is.block).size_is).pages, is.size)
 
 -- stage 1
-pub in_log_stage : (before cut : Image) (base : Base) (old : List ℕ) → Carries before base old → AgreeOutside in_log before cut → IsRecoveredAs cut base old
+pub in_log_stage : (before cut : Image) (base : Base) (old : List ℕ) → Carries before base old
+    → AgreeOutside in_log before cut → IsRecoveredAs cut base old
 in_log_stage before cut base old is agree =
     let after = carries_along in_log before cut agree base old refl (λ i. refl) is in
     record { dirty = false; recovered = carries_recovered cut base old after (whole_data before base old is) }
@@ -135,22 +149,29 @@ module _ (base : Base) (old new : List ℕ) (root : ℕ) (bits : ℕ → Bool) (
   after image is = record { dirty = true; recovered = opened_recovered image opened closed bits new commit_of is }
 
   closed_after : (image : Image) → Carries image closed new → IsRecoveredAs image closed new
-  closed_after image is = record { dirty = false; recovered = carries_recovered image closed new is (omega (arith, (sized (length new) a.sized_new).pages)) }
+  closed_after image is = record {
+    dirty = false;
+    recovered = carries_recovered image closed new is
+        (omega (arith, (sized (length new) a.sized_new).pages));
+  }
 
   module _ (h0 : Image) (is0 : Carries h0 base old) where
     module _ (h1 : Image) (agree1 : AgreeOutside in_log h0 h1) (logged : HasLog h1 (log_of bits new closed)) where
       is1 : Carries h1 base old
       is1 = carries_along in_log h0 h1 agree1 base old refl (λ i. refl) is0
 
-      opened_is : (c : Image) → AgreeOutside is_base h1 c → IsLeftBy (primary_at 0, base_text opened) (primary_in c 0) → IsOpened c opened closed bits new
+      opened_is : (c : Image) → AgreeOutside is_base h1 c → IsLeftBy (primary_at 0, base_text opened) (primary_in c 0)
+          → IsOpened c opened closed bits new
       opened_is c agree left = record {
         block = ⊎_elim (λ there. inl (written_base c opened opened_fits a.kind there)) (λ torn. inr torn) left;
         logged = log_along is_base h1 c agree (log_of bits new closed) (λ n. refl) logged;
-        unmarked = λ i small off. let old_one = a.same i small off in agree (bin_at i) (no_base i) ∙ is1.bins_there i old_one.0 ∙ ap (λ b. Some (Bytes b)) (sym old_one.1);
+        unmarked = λ i small off. let old_one = a.same i small off in
+            agree (bin_at i) (no_base i) ∙ is1.bins_there i old_one.0 ∙ ap (λ b. Some (Bytes b)) (sym old_one.1);
       }
 
       -- stage 2
-      pub opened_stage : (c : Image) → AgreeOutside is_base h1 c → BlockIsBeforeOr h1 opened c → IsBeforeOrAfter base old closed new c
+      pub opened_stage : (c : Image) → AgreeOutside is_base h1 c → BlockIsBeforeOr h1 opened c
+          → IsBeforeOrAfter base old closed new c
       opened_stage c agree block = ⊎_elim
           (λ is. inl (before c (record {
             block = same_block h1 c base is is1.block;
@@ -161,13 +182,15 @@ module _ (base : Base) (old new : List ℕ) (root : ℕ) (bits : ℕ → Bool) (
           (λ left. inr (after c (opened_is c agree left)))
           block
 
-      module _ (h2 : Image) (agree2 : AgreeOutside is_base h1 h2) (block2 : primary_in h2 0 ≡ Some (Bytes (base_text opened))) where
+      module _ (h2 : Image) (agree2 : AgreeOutside is_base h1 h2)
+          (block2 : primary_in h2 0 ≡ Some (Bytes (base_text opened))) where
         is2 : IsOpened h2 opened closed bits new
         is2 = opened_is h2 agree2 (inl block2)
 
         bins_is : (c : Image) → AgreeOutside (is_marked (length new) bits) h2 c → IsOpened c opened closed bits new
         bins_is c agree = record {
-          block = ⊎_elim (λ has. inl (base_along (is_marked (length new) bits) h2 c agree opened refl has)) (λ torn. inr (agree (primary_at 0) refl ∙ torn)) is2.block;
+          block = ⊎_elim (λ has. inl (base_along (is_marked (length new) bits) h2 c agree opened refl has))
+              (λ torn. inr (agree (primary_at 0) refl ∙ torn)) is2.block;
           logged = log_along (is_marked (length new) bits) h2 c agree (log_of bits new closed) (λ n. refl) is2.logged;
           unmarked = λ i small off. agree (bin_at i) (unmarked_at (length new) bits i off) ∙ is2.unmarked i small off;
         }
@@ -176,14 +199,16 @@ module _ (base : Base) (old new : List ℕ) (root : ℕ) (bits : ℕ → Bool) (
         pub bins_stage : (c : Image) → AgreeOutside (is_marked (length new) bits) h2 c → IsRecoveredAs c closed new
         bins_stage c agree = after c (bins_is c agree)
 
-        module _ (h3 : Image) (agree3 : AgreeOutside (is_marked (length new) bits) h2 h3) (written : HasMarked h3 bits new) where
+        module _ (h3 : Image) (agree3 : AgreeOutside (is_marked (length new) bits) h2 h3)
+            (written : HasMarked h3 bits new) where
           is3 : IsOpened h3 opened closed bits new
           is3 = bins_is h3 agree3
 
           all_new : HasBins h3 new
           all_new i small = ⊎_elim (λ on. written i small on) (λ off. is3.unmarked i small off) (either (bits i))
 
-          pub closed_carries : (c : Image) → AgreeOutside is_base h3 c → primary_in c 0 ≡ Some (Bytes (base_text closed)) → Carries c closed new
+          pub closed_carries : (c : Image) → AgreeOutside is_base h3 c
+              → primary_in c 0 ≡ Some (Bytes (base_text closed)) → Carries c closed new
           closed_carries c agree block = record {
             block = written_base c closed closed_fits a.kind block;
             clean = refl;
@@ -191,7 +216,8 @@ module _ (base : Base) (old new : List ℕ) (root : ℕ) (bits : ℕ → Bool) (
             bins_there = bins_along is_base h3 c agree new no_base all_new;
           }
 
-          still_opened : (c : Image) → AgreeOutside is_base h3 c → HasBase c opened ⊎ (primary_in c 0 ≡ Some Unreadable) → IsOpened c opened closed bits new
+          still_opened : (c : Image) → AgreeOutside is_base h3 c → HasBase c opened ⊎ (primary_in c 0 ≡ Some Unreadable)
+              → IsOpened c opened closed bits new
           still_opened c agree block = record {
             block = block;
             logged = log_along is_base h3 c agree (log_of bits new closed) (λ n. refl) is3.logged;
@@ -199,10 +225,13 @@ module _ (base : Base) (old new : List ℕ) (root : ℕ) (bits : ℕ → Bool) (
           }
 
           -- stage 4
-          pub closed_stage : (c : Image) → AgreeOutside is_base h3 c → BlockIsBeforeOr h3 closed c → IsRecoveredAs c closed new
+          pub closed_stage : (c : Image) → AgreeOutside is_base h3 c → BlockIsBeforeOr h3 closed c
+              → IsRecoveredAs c closed new
           closed_stage c agree block = ⊎_elim
-              (λ same. after c (still_opened c agree (⊎_elim (λ has. inl (same_block h3 c opened same has)) (λ torn. inr (same ∙ torn)) is3.block)))
-              (⊎_elim (λ there. closed_after c (closed_carries c agree there)) (λ torn. after c (still_opened c agree (inr torn))))
+              (λ same. after c (still_opened c agree
+              (⊎_elim (λ has. inl (same_block h3 c opened same has)) (λ torn. inr (same ∙ torn)) is3.block)))
+              (⊎_elim (λ there. closed_after c (closed_carries c agree there))
+              (λ torn. after c (still_opened c agree (inr torn))))
               block
 
           -- the log stays
@@ -226,7 +255,8 @@ is_base_of base numbers texts checked = record {
   rest_bytes = texts.rest_bytes;
 }
 
-pub change_asked : (image : Image) (base : Base) (old new : List ℕ) (root : ℕ) (bits : ℕ → Bool) → IsChange image base old new root bits → IsAsked base old new root bits
+pub change_asked : (image : Image) (base : Base) (old new : List ℕ) (root : ℕ) (bits : ℕ → Bool)
+    → IsChange image base old new root bits → IsAsked base old new root bits
 change_asked image base old new root bits is =
     let checked = base_in_checked image base is.carries.block in
     record {
@@ -240,7 +270,8 @@ change_asked image base old new root bits is =
     }
 
 -- with a bit on where a sector differs
-pub asked : (image : Image) (base : Base) (old new : List ℕ) (root : ℕ) (bitmap : List ℕ) → Carries image base old → NumbersFit base → TextsFit base → is_bins_size (length new) ≡ true → root < 2 ^ 32
+pub asked : (image : Image) (base : Base) (old new : List ℕ) (root : ℕ) (bitmap : List ℕ) → Carries image base old
+    → NumbersFit base → TextsFit base → is_bins_size (length new) ≡ true → root < 2 ^ 32
     → ((i : ℕ) → i < length new / 512 → bit bitmap i ≡ dirty old new i) → IsAsked base old new root (bit bitmap)
 asked image base old new root bitmap is numbers texts size root_fits marks =
     change_asked image base old new root (bit bitmap)
@@ -256,8 +287,10 @@ asked image base old new root bitmap is numbers texts size root_fits marks =
     })
 
 -- what a stage said of a base block that is this one
-pub along_log : (image : Image) (bits : ℕ → Bool) (new : List ℕ) (made base : Base) → made ≡ base → HasLog image (log_of bits new made) → HasLog image (log_of bits new base)
+pub along_log : (image : Image) (bits : ℕ → Bool) (new : List ℕ) (made base : Base) → made ≡ base
+    → HasLog image (log_of bits new made) → HasLog image (log_of bits new base)
 along_log image bits new made base same has = subst (λ (b : Base). HasLog image (log_of bits new b)) same has
 
-pub along_block : (before after : Image) (made base : Base) → made ≡ base → BlockIsBeforeOr before made after → BlockIsBeforeOr before base after
+pub along_block : (before after : Image) (made base : Base) → made ≡ base → BlockIsBeforeOr before made after
+    → BlockIsBeforeOr before base after
 along_block before after made base same has = subst (λ (b : Base). BlockIsBeforeOr before b after) same has

@@ -9,7 +9,18 @@ use Rattle.hive_log.proofs.LogParts as fitting
 
 -- a base block that fits
 abbrev blank : Base
-blank = record { first = 0; second = 0; stamp = 0; minor = 3; kind = 1; root = 0; size = 4096; cluster = 0; name = replicate 64 0; rest = replicate 396 0 }
+blank = record {
+  first = 0;
+  second = 0;
+  stamp = 0;
+  minor = 3;
+  kind = 1;
+  root = 0;
+  size = 4096;
+  cluster = 0;
+  name = replicate 64 0;
+  rest = replicate 396 0;
+}
 
 zeros : (n k : ℕ) → get_or (replicate n 0) k 0 < 256
 zeros zero k = omega arith
@@ -39,10 +50,12 @@ module _ (bits : ℕ → Bool) (new : List ℕ) where
   module _ (base : Base) (long : length (base_text (record base { kind = 1 })) ≡ 512) where
     log_is : log_of bits new base ≡ base_text (record base { kind = 1 }) ++ behind
     unfolding log_of
-    log_is = append_assoc (base_text (record base { kind = 1 })) (bitmap_text bits (length new)) (marked_sectors bits new 0 (length new / 512))
+    log_is = append_assoc (base_text (record base { kind = 1 })) (bitmap_text bits (length new))
+        (marked_sectors bits new 0 (length new / 512))
 
     behind_block : (k : ℕ) → sector (log_of bits new base) (1 + k) ≡ sector behind k
-    behind_block k = ap (λ l. sector l (1 + k)) log_is ∙ sector_back (base_text (record base { kind = 1 })) behind 1 k long
+    behind_block k = ap (λ l. sector l (1 + k)) log_is
+        ∙ sector_back (base_text (record base { kind = 1 })) behind 1 k long
 
     long_as : length (log_of bits new base) ≡ 512 + length behind
     long_as = ap length log_is ∙ omega (arith, length-append (base_text (record base { kind = 1 })) behind, long)
@@ -53,19 +66,24 @@ module _ (bits : ℕ → Bool) (new : List ℕ) where
         ∙ sector_front (base_text (record base { kind = 1 })) behind 0 (omega (arith, long))
         ∙ sector_whole _ long
 
-  module _ (base : Base) (long : length (base_text (record base { kind = 1 })) ≡ 512) (whole : 512 * (length new / 512) ≡ length new) where
+  module _ (base : Base) (long : length (base_text (record base { kind = 1 })) ≡ 512)
+      (whole : 512 * (length new / 512) ≡ length new) where
     like_blank : (k : ℕ) → sector (log_of bits new base) (1 + k) ≡ sector (log_of bits new blank) (1 + k)
     like_blank k = behind_block base long k ∙ sym (behind_block blank (text_long blank fits) k)
 
     pub log_long : length (log_of bits new base) ≡ 512 * (first_dirty (length new) + rank bits (length new / 512))
-    log_long = long_as base long ∙ sym (long_as blank (text_long blank fits)) ∙ fitting.log_long bits new blank fits whole
+    log_long = long_as base long ∙ sym (long_as blank (text_long blank fits))
+        ∙ fitting.log_long bits new blank fits whole
 
-    pub log_bitmap : (k : ℕ) → k < bitmap_sectors (length new) → sector (log_of bits new base) (1 + k) ≡ sector (bitmap_text bits (length new)) k
+    pub log_bitmap : (k : ℕ) → k < bitmap_sectors (length new)
+        → sector (log_of bits new base) (1 + k) ≡ sector (bitmap_text bits (length new)) k
     log_bitmap k below = like_blank k ∙ fitting.log_bitmap bits new blank fits whole k below
 
-    pub log_marked : (i : ℕ) → 512 * i < length new → bits i ≡ true → sector (log_of bits new base) (first_dirty (length new) + rank bits i) ≡ sector new i
+    pub log_marked : (i : ℕ) → 512 * i < length new → bits i ≡ true
+        → sector (log_of bits new base) (first_dirty (length new) + rank bits i) ≡ sector new i
     log_marked i small on =
-        let place : first_dirty (length new) + rank bits i ≡ 1 + (bitmap_sectors (length new) + rank bits i) = omega arith in
+        let place : first_dirty (length new) + rank bits i ≡ 1 + (bitmap_sectors (length new) + rank bits i) =
+        omega arith in
         ap (sector (log_of bits new base)) place
         ∙ like_blank (bitmap_sectors (length new) + rank bits i)
         ∙ ap (sector (log_of bits new blank)) (sym place)

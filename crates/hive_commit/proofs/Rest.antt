@@ -47,13 +47,17 @@ module _ (size : ℕ) (before after : Image) where
   }
 
 -- what a recovery that wrote nothing leaves
-pub rest_kept : (old new : DiskState) (size : ℕ) → new.held ≡ old.held → new.flight ≡ [] → EachCrash new (KeepsRest size old.held)
+pub rest_kept : (old new : DiskState) (size : ℕ) → new.held ≡ old.held → new.flight ≡ []
+    → EachCrash new (KeepsRest size old.held)
 rest_kept old new size held none c crash = rest_same size old.held c (only_held new c none crash ∙ held)
 
 -- what a restoring leaves, where it was given what was read
-pub rest_restored : (old new : DiskState) (held : Image) (base : Base) (bins : List ℕ) (view : Recovered) (data_read : List ℕ) → held ≡ old.held → recovered_of old.held ≡ Ok view → data_read ≡ view.bins → IsRecoveredAs old.held base bins
+pub rest_restored : (old new : DiskState) (held : Image) (base : Base) (bins : List ℕ) (view : Recovered)
+    (data_read : List ℕ) → held ≡ old.held → recovered_of old.held ≡ Ok view → data_read ≡ view.bins
+    → IsRecoveredAs old.held base bins
     → EachCrash new (KeepsRest (length data_read) held) → EachCrash new (KeepsRest (length bins) old.held)
 rest_restored old new held base bins view data_read held_is exact data_is is each c crash =
     let other : IsRecoveredAs old.held view.base view.bins = record { dirty = view.dirty; recovered = exact } in
     let same = one_recovery old.held base view.base bins view.bins is other in
-    subst (λ (l : List ℕ). KeepsRest (length l) old.held c) (data_is ∙ same.1) (subst (λ (h : Image). KeepsRest (length data_read) h c) held_is (each c crash))
+    subst (λ (l : List ℕ). KeepsRest (length l) old.held c) (data_is ∙ same.1)
+    (subst (λ (h : Image). KeepsRest (length data_read) h c) held_is (each c crash))

@@ -14,12 +14,14 @@ use Rattle.hive_commit.specs.Stages.{is_base, is_marked, BlockIsBeforeOr, HasMar
 use Rattle.hive_commit.proofs.Growth.{unmarked_at}
 use Rattle.hive_commit.proofs.Four.{either, no_base, bins_along, written_base, is_base_of}
 
-module _ (image : Image) (closed : Base) (bitmap bins : List ℕ) (f : Found image closed bitmap bins) (numbers : NumbersFit closed) (texts : TextsFit closed) (whole : 512 * (length bins / 512) ≡ length bins) where
+module _ (image : Image) (closed : Base) (bitmap bins : List ℕ) (f : Found image closed bitmap bins)
+    (numbers : NumbersFit closed) (texts : TextsFit closed) (whole : 512 * (length bins / 512) ≡ length bins) where
   kind : closed.kind ≡ 0
   kind = ap (λ (b : Base). b.kind) f.closed_is
 
   clean : closed.first ≡ closed.second
-  clean = ap (λ (b : Base). b.first) f.closed_is ∙ one_number f.opened f.logged f.log.goes ∙ sym (ap (λ (b : Base). b.second) f.closed_is)
+  clean = ap (λ (b : Base). b.first) f.closed_is ∙ one_number f.opened f.logged f.log.goes
+      ∙ sym (ap (λ (b : Base). b.second) f.closed_is)
 
   size : closed.size ≡ length bins
   size = ap (λ (b : Base). b.size) f.closed_is ∙ f.size
@@ -37,27 +39,43 @@ module _ (image : Image) (closed : Base) (bitmap bins : List ℕ) (f : Found ima
   recovered c found = record { dirty = true; recovered = found_recovered c closed bitmap bins found }
 
   found_in_bins : (c : Image) → AgreeOutside (is_marked (length bins) (bit bitmap)) image c → Found c closed bitmap bins
-  found_in_bins c agree = found_along image c closed bitmap bins f (λ n. agree (log_at n) refl) (λ i off. agree (bin_at i) (unmarked_at (length bins) (bit bitmap) i off)) (inl (agree (primary_at 0) refl))
+  found_in_bins c agree = found_along image c closed bitmap bins f (λ n. agree (log_at n) refl)
+      (λ i off. agree (bin_at i) (unmarked_at (length bins) (bit bitmap) i off)) (inl (agree (primary_at 0) refl))
 
   -- the sectors are being written
-  pub kept_in_bins : (c : Image) → AgreeOutside (is_marked (length bins) (bit bitmap)) image c → IsRecoveredAs c closed bins
+  pub kept_in_bins : (c : Image) → AgreeOutside (is_marked (length bins) (bit bitmap)) image c
+      → IsRecoveredAs c closed bins
   kept_in_bins c agree = recovered c (found_in_bins c agree)
 
-  module _ (h : Image) (agree1 : AgreeOutside (is_marked (length bins) (bit bitmap)) image h) (written : HasMarked h (bit bitmap) bins) where
+  module _ (h : Image) (agree1 : AgreeOutside (is_marked (length bins) (bit bitmap)) image h)
+      (written : HasMarked h (bit bitmap) bins) where
     found_h : Found h closed bitmap bins
     found_h = found_in_bins h agree1
 
     bins_there : HasBins h bins
     bins_there i small = ⊎_elim (λ on. written i small on) (λ off. found_h.unmarked i small off) (either (bit bitmap i))
 
-    pub closed_again : (c : Image) → AgreeOutside is_base h c → primary_in c 0 ≡ Some (Bytes (base_text closed)) → Carries c closed bins
-    closed_again c agree block = record { block = written_base c closed fits kind block; clean = clean; size = size; bins_there = bins_along is_base h c agree bins no_base bins_there }
+    pub closed_again : (c : Image) → AgreeOutside is_base h c → primary_in c 0 ≡ Some (Bytes (base_text closed))
+        → Carries c closed bins
+    closed_again c agree block =
+        record {
+          block = written_base c closed fits kind block;
+          clean = clean;
+          size = size;
+          bins_there = bins_along is_base h c agree bins no_base bins_there;
+        }
 
     -- the base block is being written
-    pub kept_in_block : (c : Image) → AgreeOutside is_base h c → BlockIsBeforeOr h closed c → IsRecoveredAs c closed bins
+    pub kept_in_block : (c : Image) → AgreeOutside is_base h c → BlockIsBeforeOr h closed c
+        → IsRecoveredAs c closed bins
     kept_in_block c agree block = ⊎_elim
-        (λ same. recovered c (found_along h c closed bitmap bins found_h (λ n. agree (log_at n) refl) (λ i off. agree (bin_at i) (no_base i)) (inl same)))
+        (λ same. recovered c (found_along h c closed bitmap bins found_h (λ n. agree (log_at n) refl)
+        (λ i off. agree (bin_at i) (no_base i)) (inl same)))
         (⊎_elim
-        (λ there. record { dirty = false; recovered = carries_recovered c closed bins (closed_again c agree there) whole })
-        (λ torn. recovered c (found_along h c closed bitmap bins found_h (λ n. agree (log_at n) refl) (λ i off. agree (bin_at i) (no_base i)) (inr torn))))
+        (λ there. record {
+          dirty = false;
+          recovered = carries_recovered c closed bins (closed_again c agree there) whole;
+        })
+        (λ torn. recovered c (found_along h c closed bitmap bins found_h (λ n. agree (log_at n) refl)
+        (λ i off. agree (bin_at i) (no_base i)) (inr torn))))
         block

@@ -50,13 +50,15 @@ module _ (x : Image) where
   bin_read i e = read_back (fault_at kinds.Size 40) (fault_at kinds.Unreadable (512 * (8 + i))) (primary_in x (8 + i)) e
 
   bin_readable : (i : ℕ) → IsOk (read_bin x i) → is_readable (primary_in x (8 + i)) ≡ true
-  bin_readable i e = readable (fault_at kinds.Size 40) (fault_at kinds.Unreadable (512 * (8 + i))) (primary_in x (8 + i)) e
+  bin_readable i e = readable (fault_at kinds.Size 40) (fault_at kinds.Unreadable (512 * (8 + i)))
+      (primary_in x (8 + i)) e
 
   log_read : (n : ℕ) → is_readable (log_in x n) ≡ true → IsOk (read_log x n)
   log_read n e = read_back (fault_at kinds.LogShort (512 * n)) (fault_at kinds.LogUnreadable (512 * n)) (log_in x n) e
 
   log_readable : (n : ℕ) → IsOk (read_log x n) → is_readable (log_in x n) ≡ true
-  log_readable n e = readable (fault_at kinds.LogShort (512 * n)) (fault_at kinds.LogUnreadable (512 * n)) (log_in x n) e
+  log_readable n e = readable (fault_at kinds.LogShort (512 * n)) (fault_at kinds.LogUnreadable (512 * n)) (log_in x n)
+      e
 
 -- the bits behind the first sector
 abbrev pub further_bits : Image → ℕ → Result (List ℕ) HiveFault
@@ -69,7 +71,8 @@ module _ (x : Image) where
       → All (LooksAt x) (clean_part x (bins_sectors base))
   clean_looked base has even =
       all_run x Primary 8 (bins_sectors base) [] (LooksAt x)
-      (λ i below before. at_a_clean_one base i has even below (λ j low. bin_read x j (before j low))) (λ all. All-nil (LooksAt x))
+      (λ i below before. at_a_clean_one base i has even below (λ j low. bin_read x j (before j low)))
+      (λ all. All-nil (LooksAt x))
 
   module _ (opened : Option Base) (logged : Base) (has : HasLogBase x opened logged) where
     module _ (text : List ℕ) (has_bits : HasBits x opened logged text) where
@@ -87,13 +90,15 @@ module _ (x : Image) where
           all_those x bin_at (λ i. not (bits_of text i)) (LooksAt x) 0 (bins_sectors logged) []
           (λ i low high off before.
           at_another_one opened logged text i has_bits all (omega arith) (not-true (bits_of text i) off)
-          (λ k below. pick_there all k (omega arith) (bits_of text k) refl (λ on. bin_read x k (before k (omega arith) below on))))
+          (λ k below. pick_there all k (omega arith) (bits_of text k) refl
+          (λ on. bin_read x k (before k (omega arith) below on))))
           (λ before. All-nil (LooksAt x))
 
       bins_looked : All (LooksAt x) (asked_bins x logged.size text)
       bins_looked =
           all_run x Log (first_dirty logged.size) (marks logged text) (unmarked_part x logged.size text) (LooksAt x)
-          (λ k below before. at_a_marked_one opened logged text k has_bits below (λ j low. log_read x (first_dirty logged.size + j) (before j low)))
+          (λ k below before. at_a_marked_one opened logged text k has_bits below
+          (λ j low. log_read x (first_dirty logged.size + j) (before j low)))
           (λ all. others_looked (λ j low. log_read x (first_dirty logged.size + j) (all j low)))
 
     text_looked : (r : Result (List ℕ) HiveFault) → bitmap_in x logged.size ≡ r
@@ -123,7 +128,8 @@ module _ (x : Image) where
   goes_looked : (opened : Option Base) (logged : Base) → IsOpen x opened → logged_in x ≡ Ok logged
       → (b : Bool) → goes_with opened logged ≡ b → All (LooksAt x) (if b then asked_bits x logged.size else [])
   goes_looked opened logged is read false other = All-nil (LooksAt x)
-  goes_looked opened logged is read true ours = bits_looked opened logged (record { primary = is; block = read; goes = ours })
+  goes_looked opened logged is read true ours =
+      bits_looked opened logged (record { primary = is; block = read; goes = ours })
 
   logged_looked : (opened : Option Base) → IsOpen x opened → (r : Result Base HiveFault) → logged_in x ≡ r
       → All (LooksAt x) (unless_fault r (asked_behind_log x opened))
@@ -160,7 +166,8 @@ module _ (x : Image) where
   abbrev IsAskedFor : Address → Type 0
   IsAskedFor a = Contains (asked_of x) a
 
-  after_base : (opened : Option Base) → base_in x ≡ Ok opened → (a : Address) → Contains (asked_behind_base x opened) a → IsAskedFor a
+  after_base : (opened : Option Base) → base_in x ≡ Ok opened → (a : Address) → Contains (asked_behind_base x opened) a
+      → IsAskedFor a
   unfolding asked_of
   after_base opened has a c =
       contains_later (primary_at 0) (past_block x) a
@@ -177,7 +184,8 @@ module _ (x : Image) where
       → Contains (clean_part x (bins_sectors base)) a → IsAskedFor a
   after_clean base has even a c = by_evenness base has true (eq-eqb base.first base.second even) a c
 
-  unfinished : (opened : Option Base) → base_in x ≡ Ok opened → IsUnfinished opened → (a : Address) → Contains (asked_log x opened) a → IsAskedFor a
+  unfinished : (opened : Option Base) → base_in x ≡ Ok opened → IsUnfinished opened → (a : Address)
+      → Contains (asked_log x opened) a → IsAskedFor a
   unfinished None block odd a c = after_base None block a c
   unfinished (Some base) block odd a c = by_evenness base block false (ne_eqb base.first base.second odd) a c
 
@@ -223,7 +231,8 @@ module _ (x : Image) where
   unmarked_there : (logged : Base) (text : List ℕ) (k : ℕ) → bits_of text k ≡ false
       → IsOk (bins_by x logged text k) → IsOk (read_bin x k)
   unmarked_there logged text k off some =
-      let pick : Bool → Result (List ℕ) HiveFault = λ b. if b then marked_in x logged (rank (bits_of text) k) else read_bin x k in
+      let pick : Bool → Result (List ℕ) HiveFault =
+      λ b. if b then marked_in x logged (rank (bits_of text) k) else read_bin x k in
       subst (λ (r : Result (List ℕ) HiveFault). IsOk r) (ap pick off) some
 
   unmarked_asked : (logged : Base) (text : List ℕ) (i : ℕ) → i < bins_sectors logged → bits_of text i ≡ false
@@ -232,7 +241,8 @@ module _ (x : Image) where
       let left : ℕ → Bool = λ k. not (bits_of text k) in
       those_contain x bin_at left 0 (bins_sectors logged) [] i
       (omega arith) (omega arith) (ap not off)
-      (λ k low lower on. bin_readable x k (unmarked_there logged text k (not-true (bits_of text k) on) (before k lower)))
+      (λ k low lower on. bin_readable x k
+      (unmarked_there logged text k (not-true (bits_of text k) on) (before k lower)))
 
   pub looked_at_asked : (a : Address) → LooksAt x a → IsAskedFor a
   unfolding asked_of
@@ -246,7 +256,8 @@ module _ (x : Image) where
       after_logged opened logged has (log_at 1) (contains_first (log_at 1) (past_sign x logged.size))
   looked_at_asked a (at_more_bits opened logged k has below before) =
       after_sign opened logged has.base has.front has.there (log_at (2 + k))
-      (run_contains x Log 2 (bitmap_sectors logged.size - 1) (past_bits x logged.size) k below (λ j low. log_readable x (2 + j) (before j low)))
+      (run_contains x Log 2 (bitmap_sectors logged.size - 1) (past_bits x logged.size) k below
+      (λ j low. log_readable x (2 + j) (before j low)))
   looked_at_asked a (at_a_marked_one opened logged text k has below before) =
       let behind = unmarked_part x logged.size text in
       after_bits opened logged text has (log_at (first_dirty logged.size + k))

@@ -21,7 +21,8 @@ abbrev rising : Cells → ℕ → List Check → Option HiveFault
 rising cells bound [] = None
 rising cells bound (tests at None ∷ cs) = rising cells bound cs
 rising cells bound (tests at (Some kind) ∷ cs) = Some (record { kind = kind; at = at })
-rising cells bound (uses at security ∷ cs) = if nat_lt at bound then None else or_else (at_place at (found (cells.payload at))) (rising cells (at + 1) cs)
+rising cells bound (uses at security ∷ cs) =
+    if nat_lt at bound then None else or_else (at_place at (found (cells.payload at))) (rising cells (at + 1) cs)
 
 -- no use before is of a cell at the bound or further
 abbrev IsFresh : ℕ → List Check → Type 0
@@ -42,27 +43,36 @@ used_behind : (q at : ℕ) (security kept : Bool) → at < q → clash q securit
 used_behind q at security kept less = ap (λ b. b && not (security && kept)) (ne_eqb q at (λ e. omega arith))
 
 turn : (b : Bool) (p : Result (List ℕ) HiveKind) (shared : Bool) (next rest : Option HiveFault) (at : ℕ) (f : HiveFault)
-    → (if b then None else or_else (at_place at (found p)) next) ≡ Some f → (b ≡ false → shared ≡ false) → (b ≡ false → next ≡ Some f → rest ≡ Some f)
+    → (if b then None else or_else (at_place at (found p)) next) ≡ Some f → (b ≡ false → shared ≡ false)
+    → (b ≡ false → next ≡ Some f → rest ≡ Some f)
     → or_else (or_else (at_place at (found p)) (at_place at (failing shared Shared))) rest ≡ Some f
 turn true p shared next rest at f e fresh more = absurd cc
 turn false (Err kind) shared next rest at f e fresh more = e
-turn false (Ok x) shared next rest at f e fresh more = ap (λ d. or_else (at_place at (failing d Shared)) rest) (fresh refl) ∙ more refl e
+turn false (Ok x) shared next rest at f e fresh more =
+    ap (λ d. or_else (at_place at (failing d Shared)) rest) (fresh refl) ∙ more refl e
 
-rising_first : (cells : Cells) (bound : ℕ) (before cs : List Check) (f : HiveFault) → IsFresh bound before → rising cells bound cs ≡ Some f → first_among cells before cs ≡ Some f
+rising_first : (cells : Cells) (bound : ℕ) (before cs : List Check) (f : HiveFault) → IsFresh bound before
+    → rising cells bound cs ≡ Some f → first_among cells before cs ≡ Some f
 rising_first cells bound before [] f fresh e = absurd cc
 rising_first cells bound before (tests at None ∷ cs) f fresh e =
-    rising_first cells bound (before ++ tests at None ∷ []) cs f (one_more bound before (tests at None) fresh (λ q s far. refl)) e
+    rising_first cells bound (before ++ tests at None ∷ []) cs f
+    (one_more bound before (tests at None) fresh (λ q s far. refl)) e
 rising_first cells bound before (tests at (Some kind) ∷ cs) f fresh e = e
 rising_first cells bound before (uses at s ∷ cs) f fresh e =
-    turn (nat_lt at bound) (cells.payload at) (list_any (clash at s) before) (rising cells (at + 1) cs) (first_among cells (before ++ uses at s ∷ []) cs) at f e
+    turn (nat_lt at bound) (cells.payload at) (list_any (clash at s) before) (rising cells (at + 1) cs)
+    (first_among cells (before ++ uses at s ∷ []) cs) at f e
     (λ far. fresh at s (ltb-false at bound far))
     (λ far rest. let low : bound ≤ at = ltb-false at bound far in
     rising_first cells (at + 1) (before ++ uses at s ∷ []) cs f
-    (one_more (at + 1) before (uses at s) (λ q t further. fresh q t (omega arith)) (λ q t further. used_behind q at t s (omega arith))) rest)
+    (one_more (at + 1) before (uses at s) (λ q t further. fresh q t (omega arith))
+    (λ q t further. used_behind q at t s (omega arith))) rest)
 
-too_deep : (version : HiveVersion) → rising (endless version) 0 (all_checks (endless version) 0) ≡ Some (fault_at TooDeep 8192)
-unfolding key_name_at key_node_at key_node_text list_of list_at li_text node_at entries_at class_checks security_checks values_checks entries_checks children_checks key_checks all_checks endless
+too_deep : (version : HiveVersion)
+    → rising (endless version) 0 (all_checks (endless version) 0) ≡ Some (fault_at TooDeep 8192)
+unfolding key_name_at key_node_at key_node_text list_of list_at li_text node_at entries_at class_checks security_checks
+    values_checks entries_checks children_checks key_checks all_checks endless
 too_deep version = refl
 
 pub keys_end : (version : HiveVersion) → first_fault (endless version) 0 ≡ Some (fault_at TooDeep 8192)
-keys_end version = rising_first (endless version) 0 [] (all_checks (endless version) 0) (fault_at TooDeep 8192) (λ at security far. refl) (too_deep version)
+keys_end version = rising_first (endless version) 0 [] (all_checks (endless version) 0) (fault_at TooDeep 8192)
+    (λ at security far. refl) (too_deep version)

@@ -29,7 +29,9 @@ use Rattle.hive_laws.specs.Trees.{one_driver, set_key, services_key, disk_key, s
 -- the cells of these sizes, one behind another at the front of bytes
 abbrev pub cut : List ℕ → List ℕ → List Cell
 cut [] bytes = []
-cut (size ∷ sizes) bytes = record { allocated = nat_le 0x80 (slice_index bytes 3); payload = slice_range bytes 4 size } ∷ cut sizes (drop size bytes)
+cut (size ∷ sizes) bytes =
+    record { allocated = nat_le 0x80 (slice_index bytes 3); payload = slice_range bytes 4 size }
+    ∷ cut sizes (drop size bytes)
 
 -- the sizes of the cells of the hive of one driver
 abbrev pub driver_sizes : List ℕ
@@ -52,7 +54,11 @@ unfolding is_cell
 tested c e =
     let one = both (nat_le 8 (cell_size c)) ((cell_size c % 8 == 0) && nat_lt (cell_size c) 2147483648) e in
     let two = both (cell_size c % 8 == 0) (nat_lt (cell_size c) 2147483648) one.1 in
-    record { least = leb-true 8 (cell_size c) one.0; whole = eqb-true (cell_size c % 8) 0 two.0; fits = ltb-true (cell_size c) 2147483648 two.1 }
+    record {
+      least = leb-true 8 (cell_size c) one.0;
+      whole = eqb-true (cell_size c % 8) 0 two.0;
+      fits = ltb-true (cell_size c) 2147483648 two.1;
+    }
 
 all_tested : (cs : List Cell) → list_all is_cell cs ≡ true → AllByRecursion IsCell cs
 all_tested [] e = tt
@@ -66,10 +72,12 @@ once cells before [] e = tt
 once cells before (tests at None ∷ cs) e = once cells (before ++ tests at None ∷ []) cs e
 once cells before (tests at (Some k) ∷ cs) e = absurd cc
 once cells before (uses at s ∷ cs) e =
-    let two = parts (cells.payload at) (list_any (clash at s) before) (first_among cells (before ++ uses at s ∷ []) cs) e in
+    let two = parts (cells.payload at) (list_any (clash at s) before) (first_among cells (before ++ uses at s ∷ []) cs)
+    e in
     (two.0, once cells (before ++ uses at s ∷ []) cs two.1)
   where
-    parts : (p : Result (List ℕ) HiveKind) (b : Bool) (rest : Option HiveFault) → or_else (or_else (at_place at (found p)) (at_place at (failing b Shared))) rest ≡ None
+    parts : (p : Result (List ℕ) HiveKind) (b : Bool) (rest : Option HiveFault)
+        → or_else (or_else (at_place at (found p)) (at_place at (failing b Shared))) rest ≡ None
         → (b ≡ false) × (rest ≡ None)
     parts (Err k) b rest e = absurd cc
     parts (Ok p) true rest e = absurd cc
@@ -89,13 +97,16 @@ pairs_of : {X : Type 0} (R : X → X → Type 0) (xs : List X) → EachTwo R xs 
 pairs_of R [] h = λ i j d less below. absurd (omega arith)
 pairs_of R (x ∷ xs) h = AllPairs-cons R x xs (all_of (R x) xs h.0) (pairs_of R xs h.1)
 
-items_differ : (items : List Item) → EachTwo (λ (a : Item) (b : Item). folds_same b.name a.name ≡ false) items → ItemsDiffer items
+items_differ : (items : List Item) → EachTwo (λ (a : Item) (b : Item). folds_same b.name a.name ≡ false) items
+    → ItemsDiffer items
 items_differ items h = pairs_of (λ (a : Item) (b : Item). folds_same b.name a.name ≡ false) items h
 
-keys_differ : (keys : List Tree) → EachTwo (λ a b. folds_same (head b).name (head a).name ≡ false) keys → KeysDiffer keys
+keys_differ : (keys : List Tree) → EachTwo (λ a b. folds_same (head b).name (head a).name ≡ false) keys
+    → KeysDiffer keys
 keys_differ keys h = pairs_of (λ a b. folds_same (head b).name (head a).name ≡ false) keys h
 
-named : (keys : List Tree) → AllByRecursion (λ t. 0 < length (head t).name) keys → All (λ t. 0 < length (head t).name) keys
+named : (keys : List Tree) → AllByRecursion (λ t. 0 < length (head t).name) keys
+    → All (λ t. 0 < length (head t).name) keys
 named keys h = all_of (λ t. 0 < length (head t).name) keys h
 
 -- ---- the hive of one driver
@@ -109,43 +120,123 @@ node_in : ℕ → List ℕ → KeyNode
 node_in at name = key_node_in (payload_in (payload_at (cells_in driver_bin) at)) name
 
 -- what has cells there
-pub heap : (bytes : List ℕ) → list_all is_cell (cut driver_sizes (drop 32 bytes)) ≡ true → bins_size (cells_in bytes) ≡ 4096
+pub heap : (bytes : List ℕ) → list_all is_cell (cut driver_sizes (drop 32 bytes)) ≡ true
+    → bins_size (cells_in bytes) ≡ 4096
     → bytes ≡ spelled 0 (cells_in bytes) → IsBins bytes (cells_in bytes)
 unfolding cells_in
 heap bytes each long same = (
   record {
-    each = (record { ignored = refl; whole = ap (λ n. n % 4096) (sym (add-zero (32 + cells_size (cut driver_sizes (drop 32 bytes)))) ∙ long); cells = all_tested (cut driver_sizes (drop 32 bytes)) each }, tt);
+    each = (
+      record {
+        ignored = refl;
+        whole = ap (λ n. n % 4096) (sym (add-zero (32 + cells_size (cut driver_sizes (drop 32 bytes)))) ∙ long);
+        cells =
+            all_tested (cut driver_sizes (drop 32 bytes)) each;
+      },
+      tt,
+    );
     small = subst (λ n. n ≤ 16777216) (sym long) (lit≤ tt);
   },
   same,
 )
 
 pub no_fault : first_fault (look_up V3 (cells_in driver_bin)) 32 ≡ None
-unfolding key_name_at key_node_at value_name_at key_value_at bytes_in offsets_in list_of list_at entries_at node_at driver_words driver_bin cells_in all_checks key_checks class_checks security_checks data_checks value_checks values_checks entries_checks children_checks
+unfolding key_name_at key_node_at value_name_at key_value_at bytes_in offsets_in list_of list_at entries_at node_at
+    driver_words driver_bin cells_in all_checks key_checks class_checks security_checks data_checks value_checks
+    values_checks entries_checks children_checks
 no_fault = refl
 
 root_stands : KeyStands (look_up V3 (cells_in driver_bin)) 32 (head one_driver) (144 ∷ 528 ∷ [])
-unfolding key_name_at key_node_at value_name_at key_value_at bytes_in offsets_in list_of list_at entries_at node_at class_of security_of data_of item_at values_of driver_words driver_bin cells_in node_in payload_in
-root_stands = record { node = node_in 32 (codes "ROOT"); read = refl; name = refl; flags = refl; stamp = refl; class = refl; security = refl; values = refl; children = (refl, refl) }
+unfolding key_name_at key_node_at value_name_at key_value_at bytes_in offsets_in list_of list_at entries_at node_at
+    class_of security_of data_of item_at values_of driver_words driver_bin cells_in node_in payload_in
+root_stands = record {
+  node = node_in 32 (codes "ROOT");
+  read = refl;
+  name = refl;
+  flags = refl;
+  stamp = refl;
+  class = refl;
+  security = refl;
+  values = refl;
+  children = (refl, refl);
+}
 
 set_stands : KeyStands (look_up V3 (cells_in driver_bin)) 144 (head set_key) (256 ∷ [])
-unfolding key_name_at key_node_at value_name_at key_value_at bytes_in offsets_in list_of list_at entries_at node_at class_of security_of data_of item_at values_of driver_words driver_bin cells_in node_in payload_in
-set_stands = record { node = node_in 144 (codes "ControlSet001"); read = refl; name = refl; flags = refl; stamp = refl; class = refl; security = refl; values = refl; children = (refl, refl) }
+unfolding key_name_at key_node_at value_name_at key_value_at bytes_in offsets_in list_of list_at entries_at node_at
+    class_of security_of data_of item_at values_of driver_words driver_bin cells_in node_in payload_in
+set_stands = record {
+  node = node_in 144 (codes "ControlSet001");
+  read = refl;
+  name = refl;
+  flags = refl;
+  stamp = refl;
+  class = refl;
+  security = refl;
+  values = refl;
+  children = (refl, refl);
+}
 
 services_stands : KeyStands (look_up V3 (cells_in driver_bin)) 256 (head services_key) (360 ∷ [])
-unfolding key_name_at key_node_at value_name_at key_value_at bytes_in offsets_in list_of list_at entries_at node_at class_of security_of data_of item_at values_of driver_words driver_bin cells_in node_in payload_in
-services_stands = record { node = node_in 256 (codes "Services"); read = refl; name = refl; flags = refl; stamp = refl; class = refl; security = refl; values = refl; children = (refl, refl) }
+unfolding key_name_at key_node_at value_name_at key_value_at bytes_in offsets_in list_of list_at entries_at node_at
+    class_of security_of data_of item_at values_of driver_words driver_bin cells_in node_in payload_in
+services_stands = record {
+  node = node_in 256 (codes "Services");
+  read = refl;
+  name = refl;
+  flags = refl;
+  stamp = refl;
+  class = refl;
+  security = refl;
+  values = refl;
+  children = (refl, refl);
+}
 
 disk_stands : KeyStands (look_up V3 (cells_in driver_bin)) 360 (head disk_key) ([])
-unfolding key_name_at key_node_at value_name_at key_value_at bytes_in offsets_in list_of list_at entries_at node_at class_of security_of data_of item_at values_of driver_words driver_bin cells_in node_in payload_in
-disk_stands = record { node = node_in 360 (codes "Disk"); read = refl; name = refl; flags = refl; stamp = refl; class = refl; security = refl; values = refl; children = refl }
+unfolding key_name_at key_node_at value_name_at key_value_at bytes_in offsets_in list_of list_at entries_at node_at
+    class_of security_of data_of item_at values_of driver_words driver_bin cells_in node_in payload_in
+disk_stands = record {
+  node = node_in 360 (codes "Disk");
+  read = refl;
+  name = refl;
+  flags = refl;
+  stamp = refl;
+  class = refl;
+  security = refl;
+  values = refl;
+  children = refl;
+}
 
 select_stands : KeyStands (look_up V3 (cells_in driver_bin)) 528 (head select_key) ([])
-unfolding key_name_at key_node_at value_name_at key_value_at bytes_in offsets_in list_of list_at entries_at node_at class_of security_of data_of item_at values_of driver_words driver_bin cells_in node_in payload_in
-select_stands = record { node = node_in 528 (codes "Select"); read = refl; name = refl; flags = refl; stamp = refl; class = refl; security = refl; values = refl; children = refl }
+unfolding key_name_at key_node_at value_name_at key_value_at bytes_in offsets_in list_of list_at entries_at node_at
+    class_of security_of data_of item_at values_of driver_words driver_bin cells_in node_in payload_in
+select_stands = record {
+  node = node_in 528 (codes "Select");
+  read = refl;
+  name = refl;
+  flags = refl;
+  stamp = refl;
+  class = refl;
+  security = refl;
+  values = refl;
+  children = refl;
+}
 
 stands : Stands (look_up V3 (cells_in driver_bin)) 32 one_driver
-stands = (144 ∷ 528 ∷ [], root_stands, (144, 528 ∷ [], refl, (256 ∷ [], set_stands, (256, [], refl, (360 ∷ [], services_stands, (360, [], refl, ([], disk_stands, refl), refl)), refl)), (528, [], refl, ([], select_stands, refl), refl)))
+stands = (
+  144 ∷ 528 ∷ [],
+  root_stands,
+  (
+    144,
+    528 ∷ [],
+    refl,
+    (
+      256 ∷ [],
+      set_stands,
+      (256, [], refl, (360 ∷ [], services_stands, (360, [], refl, ([], disk_stands, refl), refl)), refl),
+    ),
+    (528, [], refl, ([], select_stands, refl), refl),
+  ),
+)
 
 names : HasApartNames one_driver
 names = (
@@ -167,7 +258,15 @@ names = (
         tt,
       ),
     ),
-    ((items_differ (head select_key).values ((refl, (refl, (refl, tt))), ((refl, (refl, tt)), ((refl, tt), (tt, tt)))), named [] tt, keys_differ [] tt, tt), tt),
+    (
+      (
+        items_differ (head select_key).values ((refl, (refl, (refl, tt))), ((refl, (refl, tt)), ((refl, tt), (tt, tt)))),
+        named [] tt,
+        keys_differ [] tt,
+        tt,
+      ),
+      tt,
+    ),
   ),
 )
 

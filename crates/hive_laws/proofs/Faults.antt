@@ -19,26 +19,45 @@ use Rattle.hive_laws.proofs.Driver.{cut, driver_sizes, is_cell, cells_in, heap, 
 abbrev pub found : List (ℕ × ℕ) → Recovered
 found edits = record { base = block 5 5 0; bins = changed edits driver_bin; dirty = false }
 
-pub loaded : recovered_of (driver_with []) ≡ Ok (found []) → list_all is_cell (cut driver_sizes (drop 32 driver_bin)) ≡ true
+pub loaded : recovered_of (driver_with []) ≡ Ok (found [])
+    → list_all is_cell (cut driver_sizes (drop 32 driver_bin)) ≡ true
     → bins_size (cells_in driver_bin) ≡ 4096 → driver_bin ≡ spelled 0 (cells_in driver_bin)
     → Loads (driver_with []) (record { tree = one_driver; sequence = 5; version = V3 }) false
 loaded read each long same = record {
   recovered = found [];
   read = read;
   was_dirty = refl;
-  holds = record { bins = cells_in driver_bin; cells = heap driver_bin each long same; tree = well_formed; sequence = refl; version = refl };
+  holds = record {
+    bins = cells_in driver_bin;
+    cells = heap driver_bin each long same;
+    tree = well_formed;
+    sequence = refl;
+    version = refl;
+  };
 }
 
 pub walk_fault : (edits : List (ℕ × ℕ)) (fault : HiveFault) → recovered_of (driver_with edits) ≡ Ok (found edits)
     → list_all is_cell (cut driver_sizes (drop 32 (changed edits driver_bin))) ≡ true
-    → bins_size (cells_in (changed edits driver_bin)) ≡ 4096 → changed edits driver_bin ≡ spelled 0 (cells_in (changed edits driver_bin))
-    → first_fault (look_up V3 (cells_in (changed edits driver_bin))) 32 ≡ Some fault → LoadFault (driver_with edits) fault
+    → bins_size (cells_in (changed edits driver_bin)) ≡ 4096
+    → changed edits driver_bin ≡ spelled 0 (cells_in (changed edits driver_bin))
+    → first_fault (look_up V3 (cells_in (changed edits driver_bin))) 32 ≡ Some fault
+    → LoadFault (driver_with edits) fault
 walk_fault edits fault read each long same first =
-    inr (found edits, read, inr (record { bins = cells_in (changed edits driver_bin); cells = heap (changed edits driver_bin) each long same; first = first }))
+    inr (
+      found edits,
+      read,
+      inr
+          (record {
+            bins = cells_in (changed edits driver_bin);
+            cells = heap (changed edits driver_bin) each long same;
+            first = first;
+          }),
+    )
 
 -- the header of the one bin fails
 pub header_fault : (edits : List (ℕ × ℕ)) (kind : HiveKind) → recovered_of (driver_with edits) ≡ Ok (found edits)
-    → length (changed edits driver_bin) ≡ 4096 → header_at 0 (changed edits driver_bin) ≡ Err kind → LoadFault (driver_with edits) (fault_at kind 0)
+    → length (changed edits driver_bin) ≡ 4096 → header_at 0 (changed edits driver_bin) ≡ Err kind
+    → LoadFault (driver_with edits) (fault_at kind 0)
 header_fault edits kind read long fails =
     inr (
       found edits,

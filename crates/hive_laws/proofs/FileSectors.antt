@@ -18,14 +18,22 @@ if_there true o bytes e = e
 if_there false o bytes e = absurd cc
 
 -- a sector of an image of two files is a filled front
-is_filled : (primary log : List ℕ) (a : Address) (bytes : List ℕ) → image_of primary log a ≡ held bytes → padded (take 512 (drop (512 * a.sector) (of_file primary log a.file))) ≡ bytes
+is_filled : (primary log : List ℕ) (a : Address) (bytes : List ℕ) → image_of primary log a ≡ held bytes
+    → padded (take 512 (drop (512 * a.sector) (of_file primary log a.file))) ≡ bytes
 is_filled primary log a bytes e =
     let file = of_file primary log a.file in
     let here = if_there (nat_lt a.sector 65536) (sector_of file a.sector) bytes e in
-    bytes_same (padded (take 512 (drop (512 * a.sector) file))) bytes (if_there (nat_lt (512 * a.sector) (length file)) (held (padded (take 512 (drop (512 * a.sector) file)))) bytes here)
+    bytes_same (padded (take 512 (drop (512 * a.sector) file))) bytes
+    (if_there (nat_lt (512 * a.sector) (length file)) (held (padded (take 512 (drop (512 * a.sector) file))))
+    bytes here)
 
 padded_long : (bytes : List ℕ) → length (padded (take 512 bytes)) ≡ 512
-padded_long bytes = omega (arith, length-append (take 512 bytes) (replicate (512 - length (take 512 bytes)) 0), length-replicate {A = ℕ} (512 - length (take 512 bytes)) 0, length-take 512 bytes)
+padded_long bytes = omega (
+  arith,
+  length-append (take 512 bytes) (replicate (512 - length (take 512 bytes)) 0),
+  length-replicate {A = ℕ} (512 - length (take 512 bytes)) 0,
+  length-take 512 bytes,
+)
 
 zeros : (n : ℕ) → IsBytes (replicate n 0)
 zeros zero i = omega arith
@@ -33,12 +41,16 @@ zeros (suc n) zero = omega arith
 zeros (suc n) (suc i) = zeros n i
 
 pub whole_of_files : (primary log : List ℕ) → HasWholeSectors (image_of primary log)
-whole_of_files primary log a bytes e = sym (ap length (is_filled primary log a bytes e)) ∙ padded_long (drop (512 * a.sector) (of_file primary log a.file))
+whole_of_files primary log a bytes e =
+    sym (ap length (is_filled primary log a bytes e)) ∙ padded_long (drop (512 * a.sector) (of_file primary log a.file))
 
-pub bytes_of_files : (primary log : List ℕ) → ((k : ℕ) → slice_index primary k < 256) → ((k : ℕ) → slice_index log k < 256) → HasBytes (image_of primary log)
+pub bytes_of_files : (primary log : List ℕ) → ((k : ℕ) → slice_index primary k < 256)
+    → ((k : ℕ) → slice_index log k < 256) → HasBytes (image_of primary log)
 bytes_of_files primary log in_primary in_log a bytes e k =
     let file = of_file primary log a.file in
     let of : (f : File) → IsBytes (of_file primary log f) = elim [ Primary ↦ in_primary | Log ↦ in_log ] in
     let front = take 512 (drop (512 * a.sector) file) in
     subst (λ (l : List ℕ). slice_index l k < 256) (is_filled primary log a bytes e)
-    (bytes_append front (replicate (512 - length front) 0) (IsBytes-take 512 (drop (512 * a.sector) file) (IsBytes-drop (512 * a.sector) file (of a.file))) (zeros (512 - length front)) k)
+    (bytes_append front (replicate (512 - length front) 0)
+    (IsBytes-take 512 (drop (512 * a.sector) file) (IsBytes-drop (512 * a.sector) file (of a.file)))
+    (zeros (512 - length front)) k)

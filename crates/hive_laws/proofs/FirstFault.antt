@@ -38,7 +38,8 @@ held_one r f g small (inr v) (inr w) =
     let bins : v.bins ≡ w.bins = one_list v.bins w.bins v.cells.0 w.cells.0 (sym v.cells.1 ∙ w.cells.1) in
     some_same f g (first_of r w.bins) (sym (ap (first_of r) bins) ∙ v.first) w.first
 
-pub one_first : (image : Image) (f g : HiveFault) → HasWholeSectors image → LoadFault image f → LoadFault image g → f ≡ g
+pub one_first : (image : Image) (f g : HiveFault) → HasWholeSectors image → LoadFault image f → LoadFault image g
+    → f ≡ g
 one_first image f g whole (inl a) (inl b) = err_same f g (recovered_of image) a b
 one_first image f g whole (inl a) (inr k) = absurd (ok_err k.0 f (recovered_of image) k.1 a)
 one_first image f g whole (inr h) (inl b) = absurd (ok_err h.0 g (recovered_of image) h.1 b)
@@ -47,22 +48,30 @@ one_first image f g whole (inr h) (inr k) =
     held_one k.0 f g (recovered_small image k.0 whole k.1) (subst (λ (r : Recovered). HeldFault r f) same h.2) k.2
 
 abbrev LoadsOrNot : Image → Type 0
-LoadsOrNot image = ((state : HiveState) × (dirty : Bool) × Loads image state dirty) ⊎ ((fault : HiveFault) × LoadFault image fault)
+LoadsOrNot image = ((state : HiveState) × (dirty : Bool) × Loads image state dirty)
+    ⊎ ((fault : HiveFault) × LoadFault image fault)
 
 pub loads_or_not : (image : Image) → HasWholeSectors image → HasBytes image → LoadsOrNot image
 loads_or_not image whole small = here (recovered_of image) refl
   where
-    walked : (r : Recovered) → recovered_of image ≡ Ok r → (bins : List Bin) → IsBins r.bins bins → (o : Option HiveFault) → first_of r bins ≡ o → LoadsOrNot image
+    walked : (r : Recovered) → recovered_of image ≡ Ok r → (bins : List Bin) → IsBins r.bins bins
+        → (o : Option HiveFault) → first_of r bins ≡ o → LoadsOrNot image
     walked r e bins is None none =
         let stands = stands-where-none-fails (look_up (version_of r.base.minor) bins) r.base.root none in
         inl (
           record { tree = stands.0; sequence = r.base.first; version = version_of r.base.minor },
           r.dirty,
-          record { recovered = r; read = e; was_dirty = refl; holds = record { bins = bins; cells = is; tree = stands.1; sequence = refl; version = refl } },
+          record {
+            recovered = r;
+            read = e;
+            was_dirty = refl;
+            holds = record { bins = bins; cells = is; tree = stands.1; sequence = refl; version = refl };
+          },
         )
     walked r e bins is (Some f) fails = inr (f, inr (r, e, inr (record { bins = bins; cells = is; first = fails })))
 
-    judged : (r : Recovered) → recovered_of image ≡ Ok r → ((bins : List Bin) × IsBins r.bins bins) ⊎ ((f : HiveFault) × BinsFault r.bins f) → LoadsOrNot image
+    judged : (r : Recovered) → recovered_of image ≡ Ok r
+        → ((bins : List Bin) × IsBins r.bins bins) ⊎ ((f : HiveFault) × BinsFault r.bins f) → LoadsOrNot image
     judged r e (inl is) = walked r e is.0 is.1 (first_of r is.0) refl
     judged r e (inr fails) = inr (fails.0, inr (r, e, inl fails.1))
 

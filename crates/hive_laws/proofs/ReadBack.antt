@@ -13,10 +13,12 @@ use Rattle.hive_log.proofs.Opened.{IsCommitOf, opened_recovered}
 use Rattle.hive_laws.specs.Opened.{IsClosing, IsUnderWay}
 
 -- bins data of a size that a base block may have are whole bins
-pages : (size : ℕ) (bins : List ℕ) → size ≡ length bins → is_bins_size size ≡ true → 4096 * (length bins / 4096) ≡ length bins
+pages : (size : ℕ) (bins : List ℕ) → size ≡ length bins → is_bins_size size ≡ true
+    → 4096 * (length bins / 4096) ≡ length bins
 pages size bins long is = omega (arith, long, (sized size is).pages)
 
-pub carried_recovered : (image : Image) (base : Base) (bins : List ℕ) → Carries image base bins → recovered_of image ≡ Ok (record { base = base; bins = bins; dirty = false })
+pub carried_recovered : (image : Image) (base : Base) (bins : List ℕ) → Carries image base bins
+    → recovered_of image ≡ Ok (record { base = base; bins = bins; dirty = false })
 carried_recovered image base bins is =
     let whole = pages base.size bins is.size (base_in_checked image base is.block).size_is in
     carries_recovered image base bins is (omega (arith, whole))
@@ -53,7 +55,8 @@ opened_for : Base → Base
 opened_for closed = record closed { second = closed.first + 1 }
 
 module _ (image : Image) (closed : Base) (bits : ℕ → Bool) (bins : List ℕ) where
-  closes : (opened : Base) → IsClosing (Some opened) closed bins → (opened.first ≡ opened.second → ⊥) → IsCommitOf opened closed bins
+  closes : (opened : Base) → IsClosing (Some opened) closed bins → (opened.first ≡ opened.second → ⊥)
+      → IsCommitOf opened closed bins
   closes opened closing odd =
       let two = and_parts (closed.first == opened.first) (closed.second == opened.first) closing.goes in
       record {
@@ -87,4 +90,8 @@ module _ (image : Image) (closed : Base) (bits : ℕ → Bool) (bins : List ℕ)
       (record { block = inl is.primary.block; logged = is.log; unmarked = is.unmarked })
   log_read_back None closing is =
       opened_recovered image (opened_for closed) closed bits bins (closes_any closing)
-      (record { block = inr (unreadable_block (primary_in image 0) is.primary.block); logged = is.log; unmarked = is.unmarked })
+      (record {
+        block = inr (unreadable_block (primary_in image 0) is.primary.block);
+        logged = is.log;
+        unmarked = is.unmarked;
+      })

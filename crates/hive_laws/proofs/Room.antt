@@ -34,7 +34,8 @@ some_cell_sum : (n : ℕ) → sum (some_cell n) ≡ n
 some_cell_sum n = some_sum n (n == 0) refl
 
 sum_lists : (empty one full : Bool) (few head rest whole k : ℕ)
-    → sum (if empty then [] else if one then few ∷ [] else head ∷ (replicate k whole ++ (if full then [] else rest ∷ [])))
+    → sum (if empty then [] else if one then few ∷ [] else head
+    ∷ (replicate k whole ++ (if full then [] else rest ∷ [])))
     ≡ (if empty then 0 else if one then few else head + k * whole + (if full then 0 else rest))
 sum_lists true one full few head rest whole k = refl
 sum_lists false true full few head rest whole k = sum_one false few
@@ -48,7 +49,8 @@ sum_lists false false full few head rest whole k =
 pub lists_sum : (n : ℕ) → sum (list_sizes n) ≡ list_size n
 unfolding list_sizes
 lists_sum n =
-    sum_lists (n == 0) (nat_lt n 501) (n % 500 == 0) (cell (4 + 8 * n)) (cell (4 + 4 * part_count n)) (cell (4 + 8 * (n % 500))) (cell 4004) (n / 500)
+    sum_lists (n == 0) (nat_lt n 501) (n % 500 == 0) (cell (4 + 8 * n)) (cell (4 + 4 * part_count n))
+    (cell (4 + 8 * (n % 500))) (cell 4004) (n / 500)
 
 cells_sum_is : (ns : List ℕ) → sum (map cell ns) ≡ cells_sum ns
 cells_sum_is [] = refl
@@ -67,36 +69,46 @@ items_sums version (v ∷ vs) =
     ∙ ap (λ n. n + sum (flat_map (item_sizes version) vs)) (item_sum version v)
     ∙ ap (λ n. item_size version v + n) (items_sums version vs)
 
-values_sum : (version : HiveVersion) (vs : List Item) → sum (value_list_sizes (length vs) ++ flat_map (item_sizes version) vs) ≡ items_size version vs
+values_sum : (version : HiveVersion) (vs : List Item)
+    → sum (value_list_sizes (length vs) ++ flat_map (item_sizes version) vs) ≡ items_size version vs
 values_sum version [] = refl
 values_sum version (v ∷ vs) =
     sum_append (value_list_sizes (length (v ∷ vs))) (flat_map (item_sizes version) (v ∷ vs))
     ∙ ap (λ n. sum (value_list_sizes (length (v ∷ vs))) + n) (items_sums version (v ∷ vs))
-    ∙ ap (λ b. sum (if b then [] else cell (4 * length (v ∷ vs)) ∷ []) + items_sum version (v ∷ vs)) (ne_eqb (length (v ∷ vs)) 0 (λ e. omega arith))
+    ∙ ap (λ b. sum (if b then [] else cell (4 * length (v ∷ vs)) ∷ []) + items_sum version (v ∷ vs))
+    (ne_eqb (length (v ∷ vs)) 0 (λ e. omega arith))
     ∙ ap (λ n. n + items_sum version (v ∷ vs)) (sum_one false (cell (4 * length (v ∷ vs))))
 
-head_sum : (version : HiveVersion) (shared : List ℕ) (h : Head) → sum (head_sizes version shared h) ≡ head_size version shared h
+head_sum : (version : HiveVersion) (shared : List ℕ) (h : Head)
+    → sum (head_sizes version shared h) ≡ head_size version shared h
 head_sum version shared h =
     let values = value_list_sizes (length h.values) ++ flat_map (item_sizes version) h.values in
     sum_cons (node_size h) (some_cell (class_size h.class) ++ (some_cell (security_size shared h.security) ++ values))
-    ∙ ap (λ n. node_size h + n) (sum_append (some_cell (class_size h.class)) (some_cell (security_size shared h.security) ++ values))
-    ∙ ap (λ n. node_size h + (sum (some_cell (class_size h.class)) + n)) (sum_append (some_cell (security_size shared h.security)) values)
-    ∙ ap (λ n. node_size h + (n + (sum (some_cell (security_size shared h.security)) + sum values))) (some_cell_sum (class_size h.class))
+    ∙ ap (λ n. node_size h + n)
+    (sum_append (some_cell (class_size h.class)) (some_cell (security_size shared h.security) ++ values))
+    ∙ ap (λ n. node_size h + (sum (some_cell (class_size h.class)) + n))
+    (sum_append (some_cell (security_size shared h.security)) values)
+    ∙ ap (λ n. node_size h + (n + (sum (some_cell (security_size shared h.security)) + sum values)))
+    (some_cell_sum (class_size h.class))
     ∙ ap (λ n. node_size h + (class_size h.class + (n + sum values))) (some_cell_sum (security_size shared h.security))
     ∙ ap (λ n. node_size h + (class_size h.class + (security_size shared h.security + n))) (values_sum version h.values)
     ∙ (omega arith)
 
 mutual
-  pub sizes_sum : (version : HiveVersion) (shared : List ℕ) (t : Tree) → sum (sizes version shared t) ≡ size version shared t
+  pub sizes_sum : (version : HiveVersion) (shared : List ℕ) (t : Tree)
+      → sum (sizes version shared t) ≡ size version shared t
   sizes_sum version shared (key h ts) =
       sum_append (head_sizes version shared h) (list_sizes (count ts) ++ sizes_of_all version h.security ts)
-      ∙ ap (λ n. sum (head_sizes version shared h) + n) (sum_append (list_sizes (count ts)) (sizes_of_all version h.security ts))
-      ∙ ap (λ n. n + (sum (list_sizes (count ts)) + sum (sizes_of_all version h.security ts))) (head_sum version shared h)
+      ∙ ap (λ n. sum (head_sizes version shared h) + n)
+      (sum_append (list_sizes (count ts)) (sizes_of_all version h.security ts))
+      ∙ ap (λ n. n + (sum (list_sizes (count ts)) + sum (sizes_of_all version h.security ts)))
+      (head_sum version shared h)
       ∙ ap (λ n. head_size version shared h + (n + sum (sizes_of_all version h.security ts))) (lists_sum (count ts))
       ∙ ap (λ n. head_size version shared h + (list_size (count ts) + n)) (sizes_of_all_sum version h.security ts)
       ∙ (omega arith)
 
-  pub sizes_of_all_sum : (version : HiveVersion) (shared : List ℕ) (ts : Trees) → sum (sizes_of_all version shared ts) ≡ size_of_all version shared ts
+  pub sizes_of_all_sum : (version : HiveVersion) (shared : List ℕ) (ts : Trees)
+      → sum (sizes_of_all version shared ts) ≡ size_of_all version shared ts
   sizes_of_all_sum version shared none = refl
   sizes_of_all_sum version shared (more t ts) =
       sum_append (sizes version shared t) (sizes_of_all version shared ts)
@@ -111,7 +123,8 @@ rounded_up n = omega arith
 -- the room for cells is at least their sizes
 pub room_least : (ns : List ℕ) → sum ns ≤ room_of ns
 room_least [] = omega arith
-room_least (n ∷ ns) = omega (arith, sum_cons n ns, sum_by-cons (λ s. rounded (s + 32)) n ns, room_least ns, rounded_up (n + 32))
+room_least (n ∷ ns) = omega
+    (arith, sum_cons n ns, sum_by-cons (λ s. rounded (s + 32)) n ns, room_least ns, rounded_up (n + 32))
 
 pub list_strain_least : (bytes n : ℕ) → bytes + list_size n ≤ list_strain_of bytes n
 list_strain_least bytes n = omega (arith, lists_sum n, room_least (list_sizes n))
@@ -119,25 +132,31 @@ list_strain_least bytes n = omega (arith, lists_sum n, room_least (list_sizes n)
 -- ---- steps in order
 
 -- what holds after a refusal, and of each tree that a step may lead to, holds after a step
-after : {A : Type 0} (P : A → Type 0) (r : Result Tree Refusal) (x : A) (next : Tree → A) → P x → ((u : Tree) → P (next u)) → P (unless_refused x r next)
+after : {A : Type 0} (P : A → Type 0) (r : Result Tree Refusal) (x : A) (next : Tree → A) → P x
+    → ((u : Tree) → P (next u)) → P (unless_refused x r next)
 after P (Ok u) x next stays goes = goes u
 after P (Err why) x next stays goes = stays
 
 -- the same of two things made of one step
-after_both : {A : Type 0} (P : A → A → Type 0) (r : Result Tree Refusal) (x y : A) (next onward : Tree → A) → P x y → ((u : Tree) → P (next u) (onward u))
+after_both : {A : Type 0} (P : A → A → Type 0) (r : Result Tree Refusal) (x y : A) (next onward : Tree → A) → P x y
+    → ((u : Tree) → P (next u) (onward u))
     → P (unless_refused x r next) (unless_refused y r onward)
 after_both P (Ok u) x y next onward stays goes = goes u
 after_both P (Err why) x y next onward stays goes = stays
 
 -- the same where the steps from there on lead to a tree
-after_all : {A : Type 0} (P : A → A → Type 0) (r : Result Tree Refusal) (steps : Tree → Result Tree Refusal) (u : Tree) (x y : A) (next onward : Tree → A)
-    → then_edit r steps ≡ Ok u → ((v : Tree) → steps v ≡ Ok u → P (next v) (onward v)) → P (unless_refused x r next) (unless_refused y r onward)
+after_all : {A : Type 0} (P : A → A → Type 0) (r : Result Tree Refusal) (steps : Tree → Result Tree Refusal) (u : Tree)
+    (x y : A) (next onward : Tree → A)
+    → then_edit r steps ≡ Ok u → ((v : Tree) → steps v ≡ Ok u → P (next v) (onward v))
+    → P (unless_refused x r next) (unless_refused y r onward)
 after_all P (Ok v) steps u x y next onward e goes = goes v e
 after_all P (Err why) steps u x y next onward e goes = absurd cc
 
 -- the same where one of them is refused
-after_none : {A : Type 0} (r : Result Tree Refusal) (steps : Tree → Result Tree Refusal) (why : Refusal) (x : A) (next onward : Tree → A)
-    → then_edit r steps ≡ Err why → ((v : Tree) → steps v ≡ Err why → next v ≡ onward v) → unless_refused x r next ≡ unless_refused x r onward
+after_none : {A : Type 0} (r : Result Tree Refusal) (steps : Tree → Result Tree Refusal) (why : Refusal) (x : A)
+    (next onward : Tree → A)
+    → then_edit r steps ≡ Err why → ((v : Tree) → steps v ≡ Err why → next v ≡ onward v)
+    → unless_refused x r next ≡ unless_refused x r onward
 after_none (Ok v) steps why x next onward e goes = goes v e
 after_none (Err other) steps why x next onward e goes = refl
 
@@ -146,46 +165,57 @@ ok_is t u e = cc
 
 -- ---- the strain
 
-pub strain_least : (version : HiveVersion) (bytes : ℕ) (t : Tree) (steps : List Step) → bytes ≤ strain_of version bytes t steps
+pub strain_least : (version : HiveVersion) (bytes : ℕ) (t : Tree) (steps : List Step)
+    → bytes ≤ strain_of version bytes t steps
 strain_least version bytes t [] = omega arith
 strain_least version bytes t (step ∷ steps) =
-    after (λ n. bytes ≤ n) (after_step step t) bytes (λ u. strain_of version (bytes + room_of (needed_sizes version t step u)) u steps) (omega arith)
+    after (λ n. bytes ≤ n) (after_step step t) bytes
+    (λ u. strain_of version (bytes + room_of (needed_sizes version t step u)) u steps) (omega arith)
     (λ u. omega (arith, strain_least version (bytes + room_of (needed_sizes version t step u)) u steps))
 
-pub strain_grows : (version : HiveVersion) (bytes : ℕ) (t : Tree) (steps further : List Step) → strain_of version bytes t steps ≤ strain_of version bytes t (steps ++ further)
+pub strain_grows : (version : HiveVersion) (bytes : ℕ) (t : Tree) (steps further : List Step)
+    → strain_of version bytes t steps ≤ strain_of version bytes t (steps ++ further)
 strain_grows version bytes t [] further = strain_least version bytes t further
 strain_grows version bytes t (step ∷ steps) further =
     after_both (λ m n. m ≤ n) (after_step step t) bytes bytes
-    (λ u. strain_of version (bytes + room_of (needed_sizes version t step u)) u steps) (λ u. strain_of version (bytes + room_of (needed_sizes version t step u)) u (steps ++ further))
+    (λ u. strain_of version (bytes + room_of (needed_sizes version t step u)) u steps)
+    (λ u. strain_of version (bytes + room_of (needed_sizes version t step u)) u (steps ++ further))
     (omega arith) (λ u. strain_grows version (bytes + room_of (needed_sizes version t step u)) u steps further)
 
-pub strain_goes_on : (version : HiveVersion) (bytes : ℕ) (t u : Tree) (steps further : List Step) → after_steps t steps ≡ Ok u
+pub strain_goes_on : (version : HiveVersion) (bytes : ℕ) (t u : Tree) (steps further : List Step)
+    → after_steps t steps ≡ Ok u
     → strain_of version bytes t (steps ++ further) ≡ strain_of version (strain_of version bytes t steps) u further
 strain_goes_on version bytes t u [] further e = ap (λ v. strain_of version bytes v further) (ok_is t u e)
 strain_goes_on version bytes t u (step ∷ steps) further e =
     after_all (λ m n. n ≡ strain_of version m u further) (after_step step t) (λ v. after_steps v steps) u bytes bytes
-    (λ v. strain_of version (bytes + room_of (needed_sizes version t step v)) v steps) (λ v. strain_of version (bytes + room_of (needed_sizes version t step v)) v (steps ++ further))
+    (λ v. strain_of version (bytes + room_of (needed_sizes version t step v)) v steps)
+    (λ v. strain_of version (bytes + room_of (needed_sizes version t step v)) v (steps ++ further))
     e (λ v rest. strain_goes_on version (bytes + room_of (needed_sizes version t step v)) v u steps further rest)
 
-pub strain_ends : (version : HiveVersion) (bytes : ℕ) (t : Tree) (why : Refusal) (steps further : List Step) → after_steps t steps ≡ Err why
+pub strain_ends : (version : HiveVersion) (bytes : ℕ) (t : Tree) (why : Refusal) (steps further : List Step)
+    → after_steps t steps ≡ Err why
     → strain_of version bytes t (steps ++ further) ≡ strain_of version bytes t steps
 strain_ends version bytes t why [] further e = absurd cc
 strain_ends version bytes t why (step ∷ steps) further e =
     after_none (after_step step t) (λ v. after_steps v steps) why bytes
-    (λ v. strain_of version (bytes + room_of (needed_sizes version t step v)) v (steps ++ further)) (λ v. strain_of version (bytes + room_of (needed_sizes version t step v)) v steps)
+    (λ v. strain_of version (bytes + room_of (needed_sizes version t step v)) v (steps ++ further))
+    (λ v. strain_of version (bytes + room_of (needed_sizes version t step v)) v steps)
     e (λ v rest. strain_ends version (bytes + room_of (needed_sizes version t step v)) v why steps further rest)
 
-pub strain_stays : (version : HiveVersion) (bytes : ℕ) (t u : Tree) (why : Refusal) (steps further : List Step) (step : Step) → after_steps t steps ≡ Ok u → after_step step u ≡ Err why
+pub strain_stays : (version : HiveVersion) (bytes : ℕ) (t u : Tree) (why : Refusal) (steps further : List Step)
+    (step : Step) → after_steps t steps ≡ Ok u → after_step step u ≡ Err why
     → strain_of version bytes t (steps ++ step ∷ further) ≡ strain_of version bytes t steps
 strain_stays version bytes t u why steps further step e refused =
     let now : ℕ = strain_of version bytes t steps in
     strain_goes_on version bytes t u steps (step ∷ further) e
-    ∙ ap (λ r. unless_refused now r (λ v. strain_of version (now + room_of (needed_sizes version u step v)) v further)) refused
+    ∙ ap (λ r. unless_refused now r (λ v. strain_of version (now + room_of (needed_sizes version u step v)) v further))
+    refused
 
 -- ---- the footprint
 
 pub footprint_goes_on : (cells : Cells) (root : ℕ) (t u : Tree) (steps further : List Step) → after_steps t steps ≡ Ok u
-    → footprint_of cells root t (steps ++ further) ≡ footprint_of cells root t steps ++ footprint_of cells root u further
+    → footprint_of cells root t (steps ++ further) ≡ footprint_of cells root t steps
+    ++ footprint_of cells root u further
 footprint_goes_on cells root t u [] further e = ap (λ v. footprint_of cells root v further) (ok_is t u e)
 footprint_goes_on cells root t u (step ∷ steps) further e =
     let rest : List ℕ = footprint_of cells root u further in
@@ -193,9 +223,11 @@ footprint_goes_on cells root t u (step ∷ steps) further e =
     (after_all (λ ms ns. ns ≡ ms ++ rest) (after_step step t) (λ v. after_steps v steps) u [] []
     (λ v. footprint_of cells root v steps) (λ v. footprint_of cells root v (steps ++ further))
     e (λ v so_far. footprint_goes_on cells root v u steps further so_far))
-    ∙ sym (append_assoc (step_cells cells root t step) (unless_refused [] (after_step step t) (λ v. footprint_of cells root v steps)) rest)
+    ∙ sym (append_assoc (step_cells cells root t step)
+    (unless_refused [] (after_step step t) (λ v. footprint_of cells root v steps)) rest)
 
-pub footprint_ends : (cells : Cells) (root : ℕ) (t : Tree) (why : Refusal) (steps further : List Step) → after_steps t steps ≡ Err why
+pub footprint_ends : (cells : Cells) (root : ℕ) (t : Tree) (why : Refusal) (steps further : List Step)
+    → after_steps t steps ≡ Err why
     → footprint_of cells root t (steps ++ further) ≡ footprint_of cells root t steps
 footprint_ends cells root t why [] further e = absurd cc
 footprint_ends cells root t why (step ∷ steps) further e =
@@ -205,13 +237,18 @@ footprint_ends cells root t why (step ∷ steps) further e =
     e (λ v rest. footprint_ends cells root v why steps further rest))
 
 -- more cells behind those of the steps
-more_behind : (cells : Cells) (root : ℕ) (t : Tree) (steps further : List Step) (r : Result Tree Refusal) → after_steps t steps ≡ r
+more_behind : (cells : Cells) (root : ℕ) (t : Tree) (steps further : List Step) (r : Result Tree Refusal)
+    → after_steps t steps ≡ r
     → (rest : List ℕ) × (footprint_of cells root t (steps ++ further) ≡ footprint_of cells root t steps ++ rest)
-more_behind cells root t steps further (Ok u) e = (footprint_of cells root u further, footprint_goes_on cells root t u steps further e)
-more_behind cells root t steps further (Err why) e = ([], footprint_ends cells root t why steps further e ∙ sym (append-nil (footprint_of cells root t steps)))
+more_behind cells root t steps further (Ok u) e =
+    (footprint_of cells root u further, footprint_goes_on cells root t u steps further e)
+more_behind cells root t steps further (Err why) e =
+    ([], footprint_ends cells root t why steps further e ∙ sym (append-nil (footprint_of cells root t steps)))
 
-pub footprint_grows : (cells : Cells) (root : ℕ) (t : Tree) (steps further : List Step) (offset : ℕ) → Contains (footprint_of cells root t steps) offset
+pub footprint_grows : (cells : Cells) (root : ℕ) (t : Tree) (steps further : List Step) (offset : ℕ)
+    → Contains (footprint_of cells root t steps) offset
     → Contains (footprint_of cells root t (steps ++ further)) offset
 footprint_grows cells root t steps further offset there =
     let behind = more_behind cells root t steps further (after_steps t steps) refl in
-    subst (λ ns. Contains ns offset) (sym behind.1) (Contains-append_left (footprint_of cells root t steps) behind.0 offset there)
+    subst (λ ns. Contains ns offset) (sym behind.1)
+    (Contains-append_left (footprint_of cells root t steps) behind.0 offset there)

@@ -24,25 +24,37 @@ below_or_past n m = grind arith
 filled : (bytes : List ℕ) → length bytes ≡ 512 → padded bytes ≡ bytes
 filled bytes long = ap (λ n. bytes ++ replicate (512 - n) 0) long ∙ append-nil bytes
 
-module _ (image : Image) (file : File) (bytes : List ℕ) (is : IsFileOf image file bytes) (small : length bytes ≤ 33554432) where
+module _ (image : Image) (file : File) (bytes : List ℕ) (is : IsFileOf image file bytes)
+    (small : length bytes ≤ 33554432) where
   -- a sector of the image with whole bytes is that of the file
-  saved_sector : (n : ℕ) (block : List ℕ) → length block ≡ 512 → image (record { file = file; sector = n }) ≡ Some (Bytes block)
+  saved_sector : (n : ℕ) (block : List ℕ) → length block ≡ 512
+      → image (record { file = file; sector = n }) ≡ Some (Bytes block)
       → cond (nat_lt n 65536) (sector_of bytes n) None ≡ Some (Bytes block)
   saved_sector n block long there =
-      let inside : n < is.count = ⊎_elim (λ below. below) (λ past. absurd (let gone = is.no_more n past in let none : Some (Bytes block) ≡ None = sym there ∙ gone in cc)) (below_or_past n is.count) in
+      let inside : n < is.count =
+      ⊎_elim (λ below. below) (λ past. absurd
+      (let gone = is.no_more n past in let none : Some (Bytes block) ≡ None = sym there ∙ gone in cc))
+      (below_or_past n is.count) in
       let same : block ≡ take 512 (drop (512 * n) bytes) = sym (ap bytes_of there) ∙ is.each n inside in
       ap (λ t. cond t (sector_of bytes n) None) (lt-ltb n 65536 (omega (arith, is.long)))
-      ∙ ap (λ t. cond t (Some (Bytes (padded (take 512 (drop (512 * n) bytes))))) None) (lt-ltb (512 * n) (length bytes) (omega (arith, is.long)))
+      ∙ ap (λ t. cond t (Some (Bytes (padded (take 512 (drop (512 * n) bytes))))) None)
+      (lt-ltb (512 * n) (length bytes) (omega (arith, is.long)))
       ∙ ap (λ b. Some (Bytes (padded b))) (sym same)
       ∙ ap (λ b. Some (Bytes b)) (filled block long)
 
-module _ (image : Image) (primary log block : List ℕ) (are : AreSaved image primary log) (first : primary_in image 0 ≡ Some (Bytes block)) where
+module _ (image : Image) (primary log block : List ℕ) (are : AreSaved image primary log)
+    (first : primary_in image 0 ≡ Some (Bytes block)) where
   same_there : (f : File) (n : ℕ) (bytes : List ℕ) → image (record { file = f; sector = n }) ≡ Some (Bytes bytes)
       → image_of primary log (record { file = f; sector = n }) ≡ Some (Bytes bytes)
-  same_there Primary n bytes there = saved_sector image Primary primary are.primary_is are.primary_fits n bytes (are.whole (record { file = Primary; sector = n }) bytes there) there
-  same_there Log n bytes there = saved_sector image Log log are.log_is are.log_fits n bytes (are.whole (record { file = Log; sector = n }) bytes there) there
+  same_there Primary n bytes there =
+      saved_sector image Primary primary are.primary_is are.primary_fits n bytes
+      (are.whole (record { file = Primary; sector = n }) bytes there) there
+  same_there Log n bytes there =
+      saved_sector image Log log are.log_is are.log_fits n bytes
+      (are.whole (record { file = Log; sector = n }) bytes there) there
 
-  readable_there : (r : Recovered) → recovered_of image ≡ Ok r → (a : Address) → LooksAt image a → is_readable (image a) ≡ true
+  readable_there : (r : Recovered) → recovered_of image ≡ Ok r → (a : Address) → LooksAt image a
+      → is_readable (image a) ≡ true
   readable_there r ok a looks = ⊎_elim
       (λ yes. yes)
       (λ start. ap (λ at. is_readable (image at)) start.0 ∙ ap is_readable first)
@@ -55,7 +67,8 @@ module _ (image : Image) (primary log block : List ℕ) (are : AreSaved image pr
       there.1 ∙ sym (same_there a.file a.sector there.0 there.1)))
       ∙ ok
 
-  pub saved_loads : (state : HiveState) (dirty : Bool) → Loads image state dirty → Loads (image_of primary log) state dirty
+  pub saved_loads : (state : HiveState) (dirty : Bool) → Loads image state dirty
+      → Loads (image_of primary log) state dirty
   saved_loads state dirty loads = record {
     recovered = loads.recovered;
     read = saved_alike loads.recovered loads.read;

@@ -43,7 +43,8 @@ second (Some f) p e = absurd cc
 
 none_found : (cells : Cells) (before cs : List Check) → first_among cells before cs ≡ None → NoneFound cs
 none_found cells before [] e = tt
-none_found cells before (uses at s ∷ cs) e = none_found cells (before ++ uses at s ∷ []) cs (second _ (first_among cells (before ++ uses at s ∷ []) cs) e)
+none_found cells before (uses at s ∷ cs) e =
+    none_found cells (before ++ uses at s ∷ []) cs (second _ (first_among cells (before ++ uses at s ∷ []) cs) e)
 none_found cells before (tests at None ∷ cs) e = (refl, none_found cells (before ++ tests at None ∷ []) cs e)
 none_found cells before (tests at (Some kind) ∷ cs) e = absurd cc
 
@@ -63,16 +64,19 @@ joined cells (tests at kind ∷ cs) b p q = joined cells cs b p q
 then : (cells : Cells) (a b : List Check) → Reads cells a → Reads cells b → Reads cells (a ++ b)
 then cells a b p q h = let k = split a b h in joined cells a b (p k.0) (q k.1)
 
-choice : (cells : Cells) (b : Bool) (one other : List Check) → Reads cells one → Reads cells other → Reads cells (cond b one other)
+choice : (cells : Cells) (b : Bool) (one other : List Check) → Reads cells one → Reads cells other
+    → Reads cells (cond b one other)
 choice cells true one other p q = p
 choice cells false one other p q = q
 
-below : {F : Type 0} (cells : Cells) (r : Result F HiveKind) (next : F → List Check) → ((x : F) → Reads cells (next x)) → Reads cells (below_of r next)
+below : {F : Type 0} (cells : Cells) (r : Result F HiveKind) (next : F → List Check) → ((x : F) → Reads cells (next x))
+    → Reads cells (below_of r next)
 below cells (Ok x) next p = p x
 below cells (Err kind) next p = λ _. tt
 
 -- a cell of any form that is not used as security
-plain : {F : Type 0} (form : List ℕ → Result F HiveKind) (cells : Cells) (at : ℕ) → Reads cells (use_as false form cells at)
+plain : {F : Type 0} (form : List ℕ → Result F HiveKind) (cells : Cells) (at : ℕ)
+    → Reads cells (use_as false form cells at)
 plain form cells at = λ _. tt
 
 read_of : (r : Result SecurityCell HiveKind) → found r ≡ None → (s : SecurityCell) × (r ≡ Ok s)
@@ -89,17 +93,20 @@ of_security cells node =
 
 of_class : (cells : Cells) (node : KeyNode) → Reads cells (class_checks cells node)
 unfolding class_checks
-of_class cells node = choice cells (node.class_length == 0) [] (use_as false (bytes_in node.class_length) cells node.class) (λ _. tt) (λ _. tt)
+of_class cells node = choice cells (node.class_length == 0) []
+    (use_as false (bytes_in node.class_length) cells node.class) (λ _. tt) (λ _. tt)
 
 of_segments : (cells : Cells) (n : ℕ) (offsets : List ℕ) → Reads cells (segments_checks cells n offsets)
 of_segments cells n [] = λ _. tt
 of_segments cells n (at ∷ rest) =
-    then cells (use_as false (bytes_in (segment_part n)) cells at) (segments_checks cells (n - segment_bytes) rest) (λ _. tt) (of_segments cells (n - segment_bytes) rest)
+    then cells (use_as false (bytes_in (segment_part n)) cells at) (segments_checks cells (n - segment_bytes) rest)
+    (λ _. tt) (of_segments cells (n - segment_bytes) rest)
 
 of_big : (cells : Cells) (n at : ℕ) → Reads cells (big_checks cells n at)
 unfolding big_checks
 of_big cells n at =
-    then cells (use_as false (big_data_of n) cells at) (below_of (reading (big_data_of n) cells at) (of_list cells n)) (λ _. tt)
+    then cells (use_as false (big_data_of n) cells at) (below_of (reading (big_data_of n) cells at) (of_list cells n))
+    (λ _. tt)
     (below cells (reading (big_data_of n) cells at) (of_list cells n) (λ big.
     then cells (use_as false (offsets_in big.segments) cells big.list)
     (below_of (reading (offsets_in big.segments) cells big.list) (segments_checks cells n)) (λ _. tt)
@@ -125,11 +132,13 @@ of_value cells names at =
     then cells (use_as false key_value_at cells at) (below_of (reading key_value_at cells at) next) (λ _. tt)
     (below cells (reading key_value_at cells at) next (λ value h. of_data cells value h.1))
 
-of_values_in_turn : (cells : Cells) (names : List (List ℕ)) (offsets : List ℕ) → Reads cells (values_in_turn cells names offsets)
+of_values_in_turn : (cells : Cells) (names : List (List ℕ)) (offsets : List ℕ)
+    → Reads cells (values_in_turn cells names offsets)
 of_values_in_turn cells names [] = λ _. tt
 of_values_in_turn cells names (at ∷ rest) =
     let further = names ++ names_of (λ value. value.name) (reading key_value_at cells at) in
-    then cells (value_checks cells names at) (values_in_turn cells further rest) (of_value cells names at) (of_values_in_turn cells further rest)
+    then cells (value_checks cells names at) (values_in_turn cells further rest) (of_value cells names at)
+    (of_values_in_turn cells further rest)
 
 of_values : (cells : Cells) (node : KeyNode) → Reads cells (values_checks cells node)
 unfolding values_checks
@@ -138,30 +147,36 @@ of_values cells node =
     let values = below_of (reading (offsets_in node.value_count) cells node.value_list) (values_in_turn cells []) in
     choice cells (node.value_count == 0) [] (list ++ values) (λ _. tt)
     (then cells list values (λ _. tt)
-    (below cells (reading (offsets_in node.value_count) cells node.value_list) (values_in_turn cells []) (of_values_in_turn cells [])))
+    (below cells (reading (offsets_in node.value_count) cells node.value_list) (values_in_turn cells [])
+    (of_values_in_turn cells [])))
 
 of_leaves : (cells : Cells) (offsets : List ℕ) → Reads cells (leaves_checks cells offsets)
 of_leaves cells [] = λ _. tt
-of_leaves cells (at ∷ rest) = then cells (use_as false leaf_at cells at) (leaves_checks cells rest) (λ _. tt) (of_leaves cells rest)
+of_leaves cells (at ∷ rest) =
+    then cells (use_as false leaf_at cells at) (leaves_checks cells rest) (λ _. tt) (of_leaves cells rest)
 
 of_entries : (cells : Cells) (at : ℕ) → Reads cells (entries_checks cells at)
 unfolding entries_checks
 of_entries cells at =
-    let next : SubkeyList → List Check = λ list. cond (is_list_of_lists list.kind) (leaves_checks cells list.offsets) [] in
+    let next : SubkeyList → List Check =
+    λ list. cond (is_list_of_lists list.kind) (leaves_checks cells list.offsets) [] in
     then cells (use_as false list_at cells at) (below_of (reading list_at cells at) next) (λ _. tt)
     (below cells (reading list_at cells at) next (λ list.
-    choice cells (is_list_of_lists list.kind) (leaves_checks cells list.offsets) [] (of_leaves cells list.offsets) (λ _. tt)))
+    choice cells (is_list_of_lists list.kind) (leaves_checks cells list.offsets) [] (of_leaves cells list.offsets)
+    (λ _. tt)))
 
 -- the checks of one key, behind siblings of these names
 abbrev KeyChecks : Type 0
 KeyChecks = List (List ℕ) → ℕ → List Check
 
-of_keys_in_turn : (checks : KeyChecks) (cells : Cells) → ((names : List (List ℕ)) (at : ℕ) → Reads cells (checks names at))
+of_keys_in_turn : (checks : KeyChecks) (cells : Cells)
+    → ((names : List (List ℕ)) (at : ℕ) → Reads cells (checks names at))
     → (names : List (List ℕ)) (offsets : List ℕ) → Reads cells (keys_in_turn checks cells names offsets)
 of_keys_in_turn checks cells each names [] = λ _. tt
 of_keys_in_turn checks cells each names (at ∷ rest) =
     let further = names ++ names_of (λ node. node.name) (reading (node_at false) cells at) in
-    then cells (checks names at) (keys_in_turn checks cells further rest) (each names at) (of_keys_in_turn checks cells each further rest)
+    then cells (checks names at) (keys_in_turn checks cells further rest) (each names at)
+    (of_keys_in_turn checks cells each further rest)
 
 of_children : (checks : KeyChecks) (cells : Cells) → ((names : List (List ℕ)) (at : ℕ) → Reads cells (checks names at))
     → (node : KeyNode) (at : ℕ) → Reads cells (children_checks checks cells node at)
@@ -173,7 +188,8 @@ of_children checks cells each node at =
     let keys = below_of (entries_at cells node.child_list) next in
     choice cells (node.child_count == 0) [] (entries ++ keys) (λ _. tt)
     (then cells entries keys (of_entries cells node.child_list)
-    (below cells (entries_at cells node.child_list) next (λ offsets h. of_keys_in_turn checks cells each [] offsets h.1)))
+    (below cells (entries_at cells node.child_list) next
+    (λ offsets h. of_keys_in_turn checks cells each [] offsets h.1)))
 
 of_node : (checks : KeyChecks) (cells : Cells) → ((names : List (List ℕ)) (at : ℕ) → Reads cells (checks names at))
     → (node : KeyNode) (at : ℕ) → Reads cells (below_node checks cells node at)
@@ -185,14 +201,16 @@ of_node checks cells each node at =
     (then cells security (values ++ children) (of_security cells node)
     (then cells values children (of_values cells node) (of_children checks cells each node at)))
 
-of_key : (left : ℕ) (cells : Cells) (root : Bool) (names : List (List ℕ)) (at : ℕ) → Reads cells (key_checks left cells root names at)
+of_key : (left : ℕ) (cells : Cells) (root : Bool) (names : List (List ℕ)) (at : ℕ)
+    → Reads cells (key_checks left cells root names at)
 unfolding key_checks
 of_key zero cells root names at = λ _. tt
 of_key (suc left) cells root names at =
     let checks = key_checks left cells false in
     let next : KeyNode → List Check = λ node. name_check names at node.name ∷ below_node checks cells node at in
     then cells (use_as false (node_at root) cells at) (below_of (reading (node_at root) cells at) next) (λ _. tt)
-    (below cells (reading (node_at root) cells at) next (λ node h. of_node checks cells (of_key left cells false) node at h.1))
+    (below cells (reading (node_at root) cells at) next
+    (λ node h. of_node checks cells (of_key left cells false) node at h.1))
 
 -- ---- what is used as security
 
@@ -202,7 +220,8 @@ each_used cells (uses at true ∷ cs) h = All-cons (IsRead cells) at (security_u
 each_used cells (uses at false ∷ cs) h = each_used cells cs h
 each_used cells (tests at kind ∷ cs) h = each_used cells cs h
 
-pub kept_as_they_are : (cells : Cells) (root : ℕ) → first_fault cells root ≡ None → KeepsSecurity root (λ at. []) cells cells
+pub kept_as_they_are : (cells : Cells) (root : ℕ) → first_fault cells root ≡ None
+    → KeepsSecurity root (λ at. []) cells cells
 unfolding all_checks
 kept_as_they_are cells root none at there =
     let checks = all_checks cells root in

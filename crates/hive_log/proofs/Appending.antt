@@ -14,19 +14,25 @@ take_sector text k =
     ap (λ n. take n text) long ∙ take-add (512 * k) 512 text
 
 module _ (bits : ℕ → Bool) (new : List ℕ) (i count : ℕ) (small : i < count) where
-  next : marked_sectors bits new i (count - i) ≡ cond (bits i) (sector new i) [] ++ marked_sectors bits new (i + 1) (count - (i + 1))
+  next : marked_sectors bits new i (count - i) ≡ cond (bits i) (sector new i) []
+      ++ marked_sectors bits new (i + 1) (count - (i + 1))
   next =
       let long : count - i ≡ suc (count - (i + 1)) = omega arith in
-      ap (marked_sectors bits new i) long ∙ ap (λ k. cond (bits i) (sector new i) [] ++ marked_sectors bits new k (count - (i + 1))) (sym (add-one i))
+      ap (marked_sectors bits new i) long
+      ∙ ap (λ k. cond (bits i) (sector new i) [] ++ marked_sectors bits new k (count - (i + 1))) (sym (add-one i))
 
-  pub marked_off : (log whole : List ℕ) → bits i ≡ false → log ++ marked_sectors bits new i (count - i) ≡ whole → log ++ marked_sectors bits new (i + 1) (count - (i + 1)) ≡ whole
+  pub marked_off : (log whole : List ℕ) → bits i ≡ false → log ++ marked_sectors bits new i (count - i) ≡ whole
+      → log ++ marked_sectors bits new (i + 1) (count - (i + 1)) ≡ whole
   marked_off log whole off so_far =
-      ap (λ b. log ++ (cond b (sector new i) [] ++ marked_sectors bits new (i + 1) (count - (i + 1)))) (sym off) ∙ ap (λ l. log ++ l) (sym next) ∙ so_far
+      ap (λ b. log ++ (cond b (sector new i) [] ++ marked_sectors bits new (i + 1) (count - (i + 1)))) (sym off)
+      ∙ ap (λ l. log ++ l) (sym next) ∙ so_far
 
-  pub marked_on : (log whole : List ℕ) → bits i ≡ true → log ++ marked_sectors bits new i (count - i) ≡ whole → (log ++ sector new i) ++ marked_sectors bits new (i + 1) (count - (i + 1)) ≡ whole
+  pub marked_on : (log whole : List ℕ) → bits i ≡ true → log ++ marked_sectors bits new i (count - i) ≡ whole
+      → (log ++ sector new i) ++ marked_sectors bits new (i + 1) (count - (i + 1)) ≡ whole
   marked_on log whole on so_far =
       append_assoc log (sector new i) _
-      ∙ ap (λ b. log ++ (cond b (sector new i) [] ++ marked_sectors bits new (i + 1) (count - (i + 1)))) (sym on) ∙ ap (λ l. log ++ l) (sym next) ∙ so_far
+      ∙ ap (λ b. log ++ (cond b (sector new i) [] ++ marked_sectors bits new (i + 1) (count - (i + 1)))) (sym on)
+      ∙ ap (λ l. log ++ l) (sym next) ∙ so_far
 
 -- bits that agree on the sectors make one log
 module _ (a b : ℕ → Bool) where
@@ -48,18 +54,23 @@ module _ (a b : ℕ → Bool) where
       ap (λ x. x ∷ bytes_of_bits a (suc k) n) (byte_same (8 * k) (λ j low high. each j (omega arith)))
       ∙ ap (λ l. byte_of b (8 * k) ∷ l) (bytes_same (suc k) n (λ j below. each j (omega arith)))
 
-  marked_same : (new : List ℕ) (i n : ℕ) → ((j : ℕ) → j < i + n → a j ≡ b j) → marked_sectors a new i n ≡ marked_sectors b new i n
+  marked_same : (new : List ℕ) (i n : ℕ) → ((j : ℕ) → j < i + n → a j ≡ b j)
+      → marked_sectors a new i n ≡ marked_sectors b new i n
   marked_same new i zero each = refl
   marked_same new i (suc n) each =
       ap (λ t. cond t (sector new i) [] ++ marked_sectors a new (suc i) n) (each i (omega arith))
       ∙ ap (λ l. cond (b i) (sector new i) [] ++ l) (marked_same new (suc i) n (λ j below. each j (omega arith)))
 
-  pub log_same : (new : List ℕ) (base : Base) → ((j : ℕ) → 512 * j < length new → a j ≡ b j) → log_of a new base ≡ log_of b new base
+  pub log_same : (new : List ℕ) (base : Base) → ((j : ℕ) → 512 * j < length new → a j ≡ b j)
+      → log_of a new base ≡ log_of b new base
   unfolding log_of bitmap_text
   log_same new base each =
       let size = length new in
-      let whole : List ℕ → List ℕ → List ℕ = λ bytes marked. (base_text (record base { kind = 1 }) ++ ((codes "DIRT" ++ bytes) ++ replicate (512 * bitmap_sectors size - (4 + size / 4096)) 0)) ++ marked in
-      ap (λ l. whole l (marked_sectors a new 0 (size / 512))) (bytes_same 0 (size / 4096) (λ j below. each j (omega arith)))
+      let whole : List ℕ → List ℕ → List ℕ =
+      λ bytes marked. (base_text (record base { kind = 1 })
+      ++ ((codes "DIRT" ++ bytes) ++ replicate (512 * bitmap_sectors size - (4 + size / 4096)) 0)) ++ marked in
+      ap (λ l. whole l (marked_sectors a new 0 (size / 512)))
+      (bytes_same 0 (size / 4096) (λ j below. each j (omega arith)))
       ∙ ap (whole (bytes_of_bits b 0 (size / 4096))) (marked_same new 0 (size / 512) (λ j below. each j (omega arith)))
 
 -- what the size of bins data says of it

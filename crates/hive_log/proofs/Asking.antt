@@ -16,47 +16,59 @@ use Rattle.hive_model.specs.Recovery.{bytes_or}
 use Rattle.hive_log.specs.Asked.{IsAskedFirst, AsksFirst}
 
 -- reads in turn
-pub reads_in_turn : (before between after : List Made → Type 0) (first second : List Address) → Makes before between (reads_of first) → Makes between after (reads_of second) → Makes before after (reads_of (first ++ second))
+pub reads_in_turn : (before between after : List Made → Type 0) (first second : List Address)
+    → Makes before between (reads_of first) → Makes between after (reads_of second)
+    → Makes before after (reads_of (first ++ second))
 reads_in_turn before between after first second makes makes_more = λ earlier was.
-    subst after (append_assoc earlier (reads_of first) (reads_of second) ∙ ap (λ l. earlier ++ l) (sym (map-append ReadAt first second))) (makes_more (earlier ++ reads_of first) (makes earlier was))
+    subst after (append_assoc earlier (reads_of first) (reads_of second)
+    ∙ ap (λ l. earlier ++ l) (sym (map-append ReadAt first second)))
+    (makes_more (earlier ++ reads_of first) (makes earlier was))
 
 -- the sectors are all there
 abbrev pub AreThere : Image → List Address → Type 0
 AreThere image [] = Unit {0}
 AreThere image (at ∷ sectors) = (is_readable (image at) ≡ true) × AreThere image sectors
 
-there_more : (image : Image) (sectors : List Address) (at : Address) → AreThere image sectors → is_readable (image at) ≡ true → AreThere image (sectors ++ at ∷ [])
+there_more : (image : Image) (sectors : List Address) (at : Address) → AreThere image sectors
+    → is_readable (image at) ≡ true → AreThere image (sectors ++ at ∷ [])
 there_more image [] at there is = (is, tt)
 there_more image (first ∷ sectors) at there is = (there.0, there_more image sectors at there.1 is)
 
 -- what was read so far: sectors that are all there
-pub record AsksSoFar (before after : List Made → Type 0) (tells : Bool) (image : Image) (sectors : List Address) : Type 0 where
+pub record AsksSoFar (before after : List Made → Type 0) (tells : Bool) (image : Image)
+    (sectors : List Address) : Type 0 where
   pub made : Makes before after (reads_of sectors)
   pub there : tells ≡ true → AreThere image sectors
 
 module _ (image : Image) where
-  behind_there : (front rest more : List Address) → AreThere image front → one_by_one image (front ++ rest) more ≡ front ++ one_by_one image rest more
+  behind_there : (front rest more : List Address) → AreThere image front
+      → one_by_one image (front ++ rest) more ≡ front ++ one_by_one image rest more
   behind_there [] rest more there = refl
   behind_there (at ∷ front) rest more there =
       ap (λ t. at ∷ cond t (one_by_one image (front ++ rest) more) []) there.0
       ∙ ap (λ l. at ∷ l) (behind_there front rest more there.1)
 
   whole_there : (front more : List Address) → AreThere image front → one_by_one image front more ≡ front ++ more
-  whole_there front more there = ap (λ l. one_by_one image l more) (sym (append-nil front)) ∙ behind_there front [] more there
+  whole_there front more there =
+      ap (λ l. one_by_one image l more) (sym (append-nil front)) ∙ behind_there front [] more there
 
 -- a sector has bytes, or has none that can be read
-pub readable : (absent unreadable : HiveFault) (c : Option Content) (bytes : List ℕ) → bytes_or absent unreadable c ≡ Ok bytes → is_readable c ≡ true
+pub readable : (absent unreadable : HiveFault) (c : Option Content) (bytes : List ℕ)
+    → bytes_or absent unreadable c ≡ Ok bytes → is_readable c ≡ true
 readable absent unreadable None bytes is = absurd (cc)
 readable absent unreadable (Some Unreadable) bytes is = absurd (cc)
 readable absent unreadable (Some (Bytes found)) bytes is = refl
 
-unread : (absent unreadable f : HiveFault) (c : Option Content) → bytes_or absent unreadable c ≡ Err f → is_readable c ≡ false
+unread : (absent unreadable f : HiveFault) (c : Option Content) → bytes_or absent unreadable c ≡ Err f
+    → is_readable c ≡ false
 unread absent unreadable f None is = refl
 unread absent unreadable f (Some Unreadable) is = refl
 unread absent unreadable f (Some (Bytes found)) is = absurd (cc)
 
 -- the last sector was read
-pub asks_all : {T : Type 0} {before after : List Made → Type 0} {tells : Bool} {image : Image} {sectors : List Address} → AsksSoFar before after tells image sectors → (x : T) → AsksFirst before after tells (one_by_one image sectors) (Ok x)
+pub asks_all : {T : Type 0} {before after : List Made → Type 0} {tells : Bool} {image : Image} {sectors : List Address}
+    → AsksSoFar before after tells image sectors → (x : T)
+    → AsksFirst before after tells (one_by_one image sectors) (Ok x)
 asks_all {image = image} {sectors = sectors} so_far x = record {
   sectors = sectors;
   made = so_far.made;
@@ -64,7 +76,9 @@ asks_all {image = image} {sectors = sectors} so_far x = record {
 }
 
 -- there was no memory for what is behind the sectors so far
-pub asks_held : {T : Type 0} {before after : List Made → Type 0} {tells : Bool} {image : Image} {front : List Address} → AsksSoFar before after tells image front → (all rest : List Address) → all ≡ front ++ rest → AsksFirst {T = T} before after tells (one_by_one image all) (Err load.Memory)
+pub asks_held : {T : Type 0} {before after : List Made → Type 0} {tells : Bool} {image : Image} {front : List Address}
+    → AsksSoFar before after tells image front → (all rest : List Address) → all ≡ front ++ rest
+    → AsksFirst {T = T} before after tells (one_by_one image all) (Err load.Memory)
 asks_held {image = image} {front = front} so_far all rest is = record {
   sectors = front;
   made = so_far.made;
@@ -75,12 +89,17 @@ asks_held {image = image} {front = front} so_far all rest is = record {
 }
 
 -- the next sector is read
-module _ {before between : List Made → Type 0} {tells : Bool} {image : Image} {front : List Address} (so_far : AsksSoFar before between tells image front) (at : Address) (after : List Made → Type 0) (makes : Makes between after (ReadAt at ∷ [])) where
+module _ {before between : List Made → Type 0} {tells : Bool} {image : Image} {front : List Address}
+    (so_far : AsksSoFar before between tells image front) (at : Address) (after : List Made → Type 0)
+    (makes : Makes between after (ReadAt at ∷ [])) where
   next_made : Makes before after (reads_of (front ++ at ∷ []))
   next_made = reads_in_turn before between after front (at ∷ []) so_far.made makes
 
   pub asks_more : (tells ≡ true → is_readable (image at) ≡ true) → AsksSoFar before after tells image (front ++ at ∷ [])
-  asks_more there = record { made = next_made; there = λ told. there_more image front at (so_far.there told) (there told) }
+  asks_more there = record {
+    made = next_made;
+    there = λ told. there_more image front at (so_far.there told) (there told);
+  }
 
   module _ (all rest : List Address) (is : all ≡ front ++ at ∷ rest) where
     next_front : tells ≡ true → (more : List Address) → IsFront (one_by_one image all more) (front ++ at ∷ [])
@@ -88,24 +107,35 @@ module _ {before between : List Made → Type 0} {tells : Bool} {image : Image} 
         let then_more = cond (is_readable (image at)) (one_by_one image rest more) [] in
         record {
           rest = then_more;
-          cut = ap (λ l. one_by_one image l more) is ∙ behind_there image front (at ∷ rest) more (so_far.there told) ∙ sym (append_assoc front (at ∷ []) then_more);
+          cut = ap (λ l. one_by_one image l more) is ∙ behind_there image front (at ∷ rest) more (so_far.there told)
+              ∙ sym (append_assoc front (at ∷ []) then_more);
         }
 
     pub asks_unheld : (T : Type 0) → AsksFirst {T = T} before after tells (one_by_one image all) (Err load.Memory)
     asks_unheld T = record { sectors = front ++ at ∷ []; made = next_made; are = next_front }
 
-    refusal : (T : Type 0) (e : LoadStop) (absent unreadable : HiveFault) → IsFaultOf e (bytes_or absent unreadable (image at)) → tells ≡ true → IsAskedFirst {T = T} (one_by_one image all) (Err e) (front ++ at ∷ [])
+    refusal : (T : Type 0) (e : LoadStop) (absent unreadable : HiveFault)
+        → IsFaultOf e (bytes_or absent unreadable (image at)) → tells ≡ true
+        → IsAskedFirst {T = T} (one_by_one image all) (Err e) (front ++ at ∷ [])
     refusal T (load.Fault f) absent unreadable fault told = λ more. sym
         (ap (λ l. one_by_one image l more) is
         ∙ behind_there image front (at ∷ rest) more (so_far.there told)
-        ∙ ap (λ b. front ++ (at ∷ cond b (one_by_one image rest more) [])) (unread absent unreadable f (image at) fault))
+        ∙ ap (λ b. front ++ (at ∷ cond b (one_by_one image rest more) []))
+        (unread absent unreadable f (image at) fault))
     refusal T load.PowerLost absent unreadable fault told = next_front told
     refusal T load.Device absent unreadable fault told = next_front told
     refusal T load.Memory absent unreadable fault told = next_front told
 
     -- where it can't be read, it is the last
-    pub asks_refused : (T : Type 0) (e : LoadStop) (absent unreadable : HiveFault) → (tells ≡ true → IsFaultOf e (bytes_or absent unreadable (image at))) → AsksFirst {T = T} before after tells (one_by_one image all) (Err e)
-    asks_refused T e absent unreadable fault = record { sectors = front ++ at ∷ []; made = next_made; are = λ told. refusal T e absent unreadable (fault told) told }
+    pub asks_refused : (T : Type 0) (e : LoadStop) (absent unreadable : HiveFault)
+        → (tells ≡ true → IsFaultOf e (bytes_or absent unreadable (image at)))
+        → AsksFirst {T = T} before after tells (one_by_one image all) (Err e)
+    asks_refused T e absent unreadable fault =
+        record {
+          sectors = front ++ at ∷ [];
+          made = next_made;
+          are = λ told. refusal T e absent unreadable (fault told) told;
+        }
 
 -- numbers in turn
 range_split : (from m n : ℕ) → range_with_len from (m + n) ≡ range_with_len from m ++ range_with_len (from + m) n
@@ -119,7 +149,8 @@ range_split from (suc m) n =
     ap (range_with_len from) long
     ∙ ap (λ l. from ∷ l) (range_split (from + 1) m n ∙ ap (λ a. range_with_len (from + 1) m ++ range_with_len a n) same)
 
-range_at : (i count : ℕ) → i < count → range_with_len 0 count ≡ range_with_len 0 i ++ i ∷ range_with_len (i + 1) (count - (i + 1))
+range_at : (i count : ℕ) → i < count
+    → range_with_len 0 count ≡ range_with_len 0 i ++ i ∷ range_with_len (i + 1) (count - (i + 1))
 range_at i count small =
     let long : count ≡ i + suc (count - (i + 1)) = omega arith in
     let same : 0 + i ≡ i = omega arith in
@@ -139,9 +170,12 @@ module _ (file : File) (first : ℕ) where
   pub run_rest : ℕ → ℕ → List Address
   run_rest i count = map of_run (range_with_len (i + 1) (count - (i + 1)))
 
-  pub run_split : (i count : ℕ) → i < count → run_at file first count ≡ run_at file first i ++ of_run i ∷ run_rest i count
+  pub run_split : (i count : ℕ) → i < count
+      → run_at file first count ≡ run_at file first i ++ of_run i ∷ run_rest i count
   unfolding run_rest
-  run_split i count small = ap (map of_run) (range_at i count small) ∙ map-append of_run (range_with_len 0 i) (i ∷ range_with_len (i + 1) (count - (i + 1)))
+  run_split i count small =
+      ap (map of_run) (range_at i count small)
+      ∙ map-append of_run (range_with_len 0 i) (i ∷ range_with_len (i + 1) (count - (i + 1)))
 
   pub run_more : (i : ℕ) → run_at file first i ++ of_run i ∷ [] ≡ run_at file first (i + 1)
   run_more i = sym (ap (map of_run) (range_more i) ∙ map-append of_run (range_with_len 0 i) (i ∷ []))
@@ -153,7 +187,8 @@ module _ (bits : ℕ → Bool) where
 
   -- number i in front of others, by its bit
   abbrev with_bit : Bool → ℕ → List ℕ → List Address
-  with_bit b i numbers = map bin_at (cond (not b) (i ∷ filter (λ i. not (bits i)) numbers) (filter (λ i. not (bits i)) numbers))
+  with_bit b i numbers = map bin_at
+      (cond (not b) (i ∷ filter (λ i. not (bits i)) numbers) (filter (λ i. not (bits i)) numbers))
 
   unmarked-append : (xs ys : List ℕ) → unmarked_in (xs ++ ys) ≡ unmarked_in xs ++ unmarked_in ys
   unmarked-append xs ys =
@@ -170,7 +205,8 @@ module _ (bits : ℕ → Bool) where
     split : unmarked_at bits count ≡ unmarked_at bits i ++ with_bit (bits i) i behind
     split = ap unmarked_in (range_at i count small) ∙ unmarked-append (range_with_len 0 i) (i ∷ behind)
 
-    pub unmarked_split : bits i ≡ false → unmarked_at bits count ≡ unmarked_at bits i ++ bin_at i ∷ unmarked_rest i count
+    pub unmarked_split : bits i ≡ false
+        → unmarked_at bits count ≡ unmarked_at bits i ++ bin_at i ∷ unmarked_rest i count
     unfolding unmarked_rest
     unmarked_split off = split ∙ ap (λ b. unmarked_at bits i ++ with_bit b i behind) off
 

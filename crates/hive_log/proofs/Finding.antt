@@ -14,14 +14,17 @@ use Rattle.hive_log.proofs.Appending.{both}
 use Rattle.hive_log.proofs.Runs.{gathered_whole, gathered_same}
 
 -- bytes that are there are read
-pub bin_read : (image : Image) (i : ℕ) (bytes : List ℕ) → primary_in image (8 + i) ≡ Some (Bytes bytes) → read_bin image i ≡ Ok bytes
+pub bin_read : (image : Image) (i : ℕ) (bytes : List ℕ) → primary_in image (8 + i) ≡ Some (Bytes bytes)
+    → read_bin image i ≡ Ok bytes
 bin_read image i bytes is = ap (bytes_or (fault_at Size 40) (fault_at UnreadableKind (512 * (8 + i)))) is
 
-pub log_read : (image : Image) (n : ℕ) (bytes : List ℕ) → log_in image n ≡ Some (Bytes bytes) → read_log image n ≡ Ok bytes
+pub log_read : (image : Image) (n : ℕ) (bytes : List ℕ) → log_in image n ≡ Some (Bytes bytes)
+    → read_log image n ≡ Ok bytes
 log_read image n bytes is = ap (bytes_or (fault_at LogShort (512 * n)) (fault_at LogUnreadable (512 * n))) is
 
 -- a primary whose base block is this
-pub by_block : (image : Image) (opened : Option Base) → base_in image ≡ Ok opened → recovered_of image ≡ by_base image opened
+pub by_block : (image : Image) (opened : Option Base) → base_in image ≡ Ok opened
+    → recovered_of image ≡ by_base image opened
 unfolding recovered_of
 by_block image opened has = ap (λ r. and_then r (by_base image)) has
 
@@ -29,27 +32,34 @@ pub by_fault : (image : Image) (f : HiveFault) → base_in image ≡ Err f → r
 unfolding recovered_of
 by_fault image f is = ap (λ r. and_then r (by_base image)) is
 
-pub by_clean : (image : Image) (base : Base) → HasBase image base → base.first ≡ base.second → recovered_of image ≡ by_primary image base
+pub by_clean : (image : Image) (base : Base) → HasBase image base → base.first ≡ base.second
+    → recovered_of image ≡ by_primary image base
 by_clean image base has even =
-    by_block image (Some base) has ∙ ap (λ t. cond t (by_primary image base) (by_log image (Some base))) (eq-eqb base.first base.second even)
+    by_block image (Some base) has
+    ∙ ap (λ t. cond t (by_primary image base) (by_log image (Some base))) (eq-eqb base.first base.second even)
 
 -- of an unfinished commit
 to_log : (image : Image) (opened : Option Base) → IsUnfinished opened → by_base image opened ≡ by_log image opened
 to_log image None is = refl
-to_log image (Some base) odd = ap (λ t. cond t (by_primary image base) (by_log image (Some base))) (ne_eqb base.first base.second odd)
+to_log image (Some base) odd =
+    ap (λ t. cond t (by_primary image base) (by_log image (Some base))) (ne_eqb base.first base.second odd)
 
-pub by_unfinished : (image : Image) (opened : Option Base) → base_in image ≡ Ok opened → IsUnfinished opened → recovered_of image ≡ by_log image opened
+pub by_unfinished : (image : Image) (opened : Option Base) → base_in image ≡ Ok opened → IsUnfinished opened
+    → recovered_of image ≡ by_log image opened
 by_unfinished image opened has is = by_block image opened has ∙ to_log image opened is
 
 -- by the bins data with these bits
-pub by_bins : (image : Image) (base : Base) (bits : ℕ → Bool) → by_bits image base bits ≡ recovered_with true base (bins_by image base.size bits)
+pub by_bins : (image : Image) (base : Base) (bits : ℕ → Bool)
+    → by_bits image base bits ≡ recovered_with true base (bins_by image base.size bits)
 by_bins image base bits =
     let bins = gathered (picked image (first_dirty base.size) bits) 0 (base.size / 512) in
-    let here : (r : Result (List ℕ) HiveFault) → and_then r (λ _. recovered_with true base bins) ≡ recovered_with true base (and_then r (λ _. bins)) =
+    let here : (r : Result (List ℕ) HiveFault)
+    → and_then r (λ _. recovered_with true base bins) ≡ recovered_with true base (and_then r (λ _. bins)) =
     elim [ Ok run ↦ refl | Err f ↦ refl ] in
     here (gathered (read_log image) (first_dirty base.size) (rank bits (base.size / 512)))
 
-module _ (image : Image) (opened : Option Base) (logged : Base) (bits : List ℕ) (has : HasLogBits image opened logged bits) where
+module _ (image : Image) (opened : Option Base) (logged : Base) (bits : List ℕ)
+    (has : HasLogBits image opened logged bits) where
   abbrev by_text : Result (List ℕ) HiveFault → Result Recovered HiveFault
   by_text r = and_then r (λ text. by_bits image (closed_by logged) (bit (drop 4 text)))
 
@@ -61,15 +71,19 @@ module _ (image : Image) (opened : Option Base) (logged : Base) (bits : List ℕ
       ∙ ap (λ (l : List ℕ). by_bits image (closed_by logged) (bit l)) (sym has.bits_are)
       ∙ by_bins image (closed_by logged) (bit bits)
 
-pub carries_recovered : (image : Image) (base : Base) (bins : List ℕ) → Carries image base bins → 512 * (length bins / 512) ≡ length bins → recovered_of image ≡ Ok (record { base = base; bins = bins; dirty = false })
+pub carries_recovered : (image : Image) (base : Base) (bins : List ℕ) → Carries image base bins
+    → 512 * (length bins / 512) ≡ length bins
+    → recovered_of image ≡ Ok (record { base = base; bins = bins; dirty = false })
 carries_recovered image base bins is whole =
     let count : length bins / 512 ≡ base.size / 512 = ap (λ n. n / 512) (sym is.size) in
     by_clean image base is.block is.clean
     ∙ ap (recovered_with false base)
-    (gathered_whole (read_bin image) bins (base.size / 512) (omega (arith, is.size, whole)) (λ i small. bin_read image i (sector bins i) (is.bins_there i (omega (arith, count, whole)))))
+    (gathered_whole (read_bin image) bins (base.size / 512) (omega (arith, is.size, whole))
+    (λ i small. bin_read image i (sector bins i) (is.bins_there i (omega (arith, count, whole)))))
 
 -- what was found in an unfinished commit and its log is what it is recovered as
-pub found_recovered : (image : Image) (closed : Base) (bitmap bins : List ℕ) → Found image closed bitmap bins → recovered_of image ≡ Ok (record { base = closed; bins = bins; dirty = true })
+pub found_recovered : (image : Image) (closed : Base) (bitmap bins : List ℕ) → Found image closed bitmap bins
+    → recovered_of image ≡ Ok (record { base = closed; bins = bins; dirty = true })
 found_recovered image closed bitmap bins f =
     by_unfinished image f.opened f.block f.unfinished
     ∙ by_log_bits image f.opened f.logged bitmap f.log
@@ -81,7 +95,8 @@ goes_alone : (opened : Option Base) (logged : Base) → goes_with opened logged 
 goes_alone None logged is = is
 goes_alone (Some base) logged is =
     let two = both (logged.first == base.first) (logged.second == base.first) is in
-    eq-eqb logged.first logged.second (eqb-true logged.first base.first two.0 ∙ sym (eqb-true logged.second base.first two.1))
+    eq-eqb logged.first logged.second
+    (eqb-true logged.first base.first two.0 ∙ sym (eqb-true logged.second base.first two.1))
 
 -- so its two numbers are one
 pub one_number : (opened : Option Base) (logged : Base) → goes_with opened logged ≡ true → logged.first ≡ logged.second
@@ -90,7 +105,8 @@ one_number opened logged is = eqb-true logged.first logged.second (goes_alone op
 -- What was found stays found in an image that has the same log and the same sectors whose bit is off; its base block is the
 -- same, or can't be read.
 module _ (x y : Image) (closed : Base) (bitmap bins : List ℕ) (f : Found x closed bitmap bins)
-    (logs : (n : ℕ) → log_in y n ≡ log_in x n) (rest : (i : ℕ) → bit bitmap i ≡ false → primary_in y (8 + i) ≡ primary_in x (8 + i)) where
+    (logs : (n : ℕ) → log_in y n ≡ log_in x n)
+    (rest : (i : ℕ) → bit bitmap i ≡ false → primary_in y (8 + i) ≡ primary_in x (8 + i)) where
   abbrev first : ℕ
   first = first_dirty f.logged.size
 
@@ -99,7 +115,9 @@ module _ (x y : Image) (closed : Base) (bitmap bins : List ℕ) (f : Found x clo
 
   picked_along : (i : ℕ) → picked y first (bit bitmap) i ≡ picked x first (bit bitmap) i
   picked_along i =
-      let here : (b : Bool) → bit bitmap i ≡ b → cond b (read_log y (first + rank (bit bitmap) i)) (read_bin y i) ≡ cond b (read_log x (first + rank (bit bitmap) i)) (read_bin x i) =
+      let here : (b : Bool) → bit bitmap i ≡ b
+      → cond b (read_log y (first + rank (bit bitmap) i)) (read_bin y i)
+      ≡ cond b (read_log x (first + rank (bit bitmap) i)) (read_bin x i) =
       elim [
         | true ↦ λ on. ap (λ (s : Sectors). s (first + rank (bit bitmap) i)) one_log
         | false ↦ λ off. ap (bytes_or (fault_at Size 40) (fault_at UnreadableKind (512 * (8 + i)))) (rest i off)
@@ -110,23 +128,30 @@ module _ (x y : Image) (closed : Base) (bitmap bins : List ℕ) (f : Found x clo
   bins_along =
       let count = f.logged.size / 512 in
       let marked = rank (bit bitmap) count in
-      ap (λ (s : Sectors). and_then (gathered s first marked) (λ _. gathered (picked y first (bit bitmap)) 0 count)) one_log
-      ∙ ap (λ r. and_then (gathered (read_log x) first marked) (λ _. r)) (gathered_same (picked y first (bit bitmap)) (picked x first (bit bitmap)) 0 count (λ i low high. picked_along i))
+      ap (λ (s : Sectors). and_then (gathered s first marked) (λ _. gathered (picked y first (bit bitmap)) 0 count))
+      one_log
+      ∙ ap (λ r. and_then (gathered (read_log x) first marked) (λ _. r))
+      (gathered_same (picked y first (bit bitmap)) (picked x first (bit bitmap)) 0 count
+      (λ i low high. picked_along i))
 
   text_along : bitmap_in y f.logged.size ≡ bitmap_in x f.logged.size
   text_along =
-      ap (λ (s : Sectors). joined (and_then (s 1) (λ front. cond (starts_with nat_eq front (codes "DIRT")) (Ok front) (Err (fault_at LogDirt 512)))) (gathered s 2 (bitmap_sectors f.logged.size - 1))) one_log
+      ap (λ (s : Sectors). joined
+      (and_then (s 1) (λ front. cond (starts_with nat_eq front (codes "DIRT")) (Ok front)
+      (Err (fault_at LogDirt 512)))) (gathered s 2 (bitmap_sectors f.logged.size - 1))) one_log
 
   log_along : (opened : Option Base) → goes_with opened f.logged ≡ true → HasLogBits y opened f.logged bitmap
   log_along opened goes = record {
     text = f.log.text;
-    log_block = ap (λ c. and_then (bytes_or (fault_at LogAbsent 0) (fault_at LogUnreadable 0) c) (λ block. as_log_base (base_of block 1))) (logs 0) ∙ f.log.log_block;
+    log_block = ap (λ c. and_then (bytes_or (fault_at LogAbsent 0) (fault_at LogUnreadable 0) c)
+        (λ block. as_log_base (base_of block 1))) (logs 0) ∙ f.log.log_block;
     goes = goes;
     text_there = text_along ∙ f.log.text_there;
     bits_are = f.log.bits_are;
   }
 
-  found_with : (opened : Option Base) → base_in y ≡ Ok opened → IsUnfinished opened → goes_with opened f.logged ≡ true → Found y closed bitmap bins
+  found_with : (opened : Option Base) → base_in y ≡ Ok opened → IsUnfinished opened → goes_with opened f.logged ≡ true
+      → Found y closed bitmap bins
   found_with opened block unfinished goes = record {
     opened = opened;
     logged = f.logged;

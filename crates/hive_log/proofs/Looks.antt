@@ -33,5 +33,6 @@ module _ {tells : Bool} {a b : DiskState} where
   pub look_on : {T : Type 0} {x : T} → IsLookAt tells a b (Ok x) → b.on ≡ true
   look_on is = is.goes_on.on (no_refusal _ _)
 
-  pub look_then : {T U : Type 0} {c : DiskState} {x : U} {r : Result T LoadStop} → IsLookAt tells a b (Ok x) → IsLookAt tells b c r → IsLookAt tells a c r
+  pub look_then : {T U : Type 0} {c : DiskState} {x : U} {r : Result T LoadStop} → IsLookAt tells a b (Ok x)
+      → IsLookAt tells b c r → IsLookAt tells a c r
   look_then one two = leaves_then (look_ok one) two

@@ -5,7 +5,8 @@ use Rattle.std.proofs.lemmas.List.{drop-drop, take-append-le, drop-append-le}
 use Rattle.hive_model.specs.Recovery.{Sectors, sector, joined, gathered}
 
 -- the sector, and those behind it
-run_more : (v : List ℕ) (from n : ℕ) → sector v from ++ take (512 * n) (drop (512 * suc from) v) ≡ take (512 * suc n) (drop (512 * from) v)
+run_more : (v : List ℕ) (from n : ℕ)
+    → sector v from ++ take (512 * n) (drop (512 * suc from) v) ≡ take (512 * suc n) (drop (512 * from) v)
 unfolding sector
 run_more v from n =
     let next : 512 * suc from ≡ 512 * from + 512 = omega arith in
@@ -15,21 +16,26 @@ run_more v from n =
     ∙ sym (take-add 512 (512 * n) (drop (512 * from) v))
     ∙ ap (λ k. take k (drop (512 * from) v)) long
 
-pub gathered_is : (at : Sectors) (v : List ℕ) (from n : ℕ) → ((i : ℕ) → from ≤ i → i < from + n → at i ≡ Ok (sector v i)) → gathered at from n ≡ Ok (take (512 * n) (drop (512 * from) v))
+pub gathered_is : (at : Sectors) (v : List ℕ) (from n : ℕ)
+    → ((i : ℕ) → from ≤ i → i < from + n → at i ≡ Ok (sector v i))
+    → gathered at from n ≡ Ok (take (512 * n) (drop (512 * from) v))
 gathered_is at v from zero each = refl
 gathered_is at v from (suc n) each =
     ap (λ s. joined s (gathered at (suc from) n)) (each from (omega arith) (omega arith))
-    ∙ ap (joined (Ok (sector v from))) (gathered_is at v (suc from) n (λ i low high. each i (omega arith) (omega arith)))
+    ∙ ap (joined (Ok (sector v from)))
+    (gathered_is at v (suc from) n (λ i low high. each i (omega arith) (omega arith)))
     ∙ ap (λ l. Ok l) (run_more v from n)
 
 -- all of the bytes
-pub gathered_whole : (at : Sectors) (v : List ℕ) (n : ℕ) → length v ≡ 512 * n → ((i : ℕ) → i < n → at i ≡ Ok (sector v i)) → gathered at 0 n ≡ Ok v
+pub gathered_whole : (at : Sectors) (v : List ℕ) (n : ℕ) → length v ≡ 512 * n
+    → ((i : ℕ) → i < n → at i ≡ Ok (sector v i)) → gathered at 0 n ≡ Ok v
 gathered_whole at v n long each =
     gathered_is at v 0 n (λ i low high. each i (omega arith))
     ∙ ap (λ k. Ok (take k v)) (sym long) ∙ ap (λ l. Ok l) (take-length v)
 
 -- only the sectors that are asked for count
-pub gathered_same : (a b : Sectors) (from n : ℕ) → ((i : ℕ) → from ≤ i → i < from + n → a i ≡ b i) → gathered a from n ≡ gathered b from n
+pub gathered_same : (a b : Sectors) (from n : ℕ) → ((i : ℕ) → from ≤ i → i < from + n → a i ≡ b i)
+    → gathered a from n ≡ gathered b from n
 gathered_same a b from zero each = refl
 gathered_same a b from (suc n) each =
     ap (λ s. joined s (gathered a (suc from) n)) (each from (omega arith) (omega arith))
@@ -40,7 +46,8 @@ counted_from : (at : Sectors) (first i n : ℕ) → gathered at (first + i) n �
 counted_from at first i zero = refl
 counted_from at first i (suc n) =
     let next : suc (first + i) ≡ first + suc i = omega arith in
-    ap (λ k. joined (at (first + i)) (gathered at k n)) next ∙ ap (joined (at (first + i))) (counted_from at first (suc i) n)
+    ap (λ k. joined (at (first + i)) (gathered at k n)) next
+    ∙ ap (joined (at (first + i))) (counted_from at first (suc i) n)
 
 pub run_counted : (at : Sectors) (first n : ℕ) → gathered at first n ≡ gathered (λ k. at (first + k)) 0 n
 run_counted at first n =

@@ -12,7 +12,8 @@ off true is = refl
 off false is = sym is
 
 -- the old data have that sector, and it is the same
-pub off_same : (old new : List ℕ) (i : ℕ) → dirty old new i ≡ false → (512 * i + 512 ≤ length old) × (sector old i ≡ sector new i)
+pub off_same : (old new : List ℕ) (i : ℕ) → dirty old new i ≡ false
+    → (512 * i + 512 ≤ length old) × (sector old i ≡ sector new i)
 off_same old new i is =
     let two = both (nat_le (512 * i + 512) (length old)) (bytes_eq (sector old i) (sector new i)) (off _ is) in
     (leb-true (512 * i + 512) (length old) two.0, (bytes_eq-Decides (sector old i) (sector new i)).0 two.1)

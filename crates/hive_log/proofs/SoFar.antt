@@ -19,20 +19,26 @@ empty_front : (r : Result (List ℕ) HiveFault) → joined (Ok []) r ≡ r
 empty_front (Ok rest) = refl
 empty_front (Err f) = refl
 
-behind : (front s : List ℕ) (r : Result (List ℕ) HiveFault) → joined (Ok (front ++ s)) r ≡ joined (Ok front) (joined (Ok s) r)
+behind : (front s : List ℕ) (r : Result (List ℕ) HiveFault)
+    → joined (Ok (front ++ s)) r ≡ joined (Ok front) (joined (Ok s) r)
 behind front s (Ok rest) = ap (λ l. Ok l) (append_assoc front s rest)
 behind front s (Err f) = refl
 
 module _ (at : Sectors) (count : ℕ) where
   pub read_start : ReadSoFar at count [] 0
-  read_start = record { all = ap (λ n. joined (Ok []) (gathered at 0 n)) (omega arith) ∙ empty_front (gathered at 0 count); sectors = λ j below. absurd (omega arith) }
+  read_start = record {
+    all = ap (λ n. joined (Ok []) (gathered at 0 n)) (omega arith)
+        ∙ empty_front (gathered at 0 count);
+    sectors = λ j below. absurd (omega arith);
+  }
 
   next : (i : ℕ) → i < count → gathered at i (count - i) ≡ joined (at i) (gathered at (i + 1) (count - (i + 1)))
   next i small =
       let long : count - i ≡ suc (count - (i + 1)) = omega arith in
       ap (gathered at i) long ∙ ap (λ k. joined (at i) (gathered at k (count - (i + 1)))) (sym (add-one i))
 
-  pub read_more : (bytes s : List ℕ) (i : ℕ) → i < count → length bytes ≡ 512 * i → length s ≡ 512 → at i ≡ Ok s → ReadSoFar at count bytes i → ReadSoFar at count (bytes ++ s) (i + 1)
+  pub read_more : (bytes s : List ℕ) (i : ℕ) → i < count → length bytes ≡ 512 * i → length s ≡ 512 → at i ≡ Ok s
+      → ReadSoFar at count bytes i → ReadSoFar at count (bytes ++ s) (i + 1)
   read_more bytes s i small long one is so_far = record {
     all =
         behind bytes s (gathered at (i + 1) (count - (i + 1)))
@@ -42,11 +48,13 @@ module _ (at : Sectors) (count : ℕ) where
         (λ less. so_far.sectors j less ∙ ap (λ b. Ok b) (sym (sector_front bytes s j (omega arith))))
         (λ same.
         let place : i + 0 ≡ j = omega arith in
-        ap at same ∙ is ∙ ap (λ b. Ok b) (sym (sector_whole s one) ∙ sym (sector_back bytes s i 0 long) ∙ ap (sector (bytes ++ s)) place))
+        ap at same ∙ is ∙ ap (λ b. Ok b)
+        (sym (sector_whole s one) ∙ sym (sector_back bytes s i 0 long) ∙ ap (sector (bytes ++ s)) place))
         (split j i (omega arith));
   }
 
-  pub read_fault : (bytes : List ℕ) (i : ℕ) → i < count → ReadSoFar at count bytes i → (f : HiveFault) → at i ≡ Err f → gathered at 0 count ≡ Err f
+  pub read_fault : (bytes : List ℕ) (i : ℕ) → i < count → ReadSoFar at count bytes i → (f : HiveFault) → at i ≡ Err f
+      → gathered at 0 count ≡ Err f
   read_fault bytes i small so_far f is =
       sym so_far.all ∙ ap (joined (Ok bytes)) (next i small)
       ∙ ap (λ r. joined (Ok bytes) (joined r (gathered at (i + 1) (count - (i + 1))))) is
@@ -72,7 +80,8 @@ module _ (image : Image) (size : ℕ) where
   no_front f is = ap (λ r. joined r behind_front) is
 
 -- a fault of a part is the fault of the whole
-pub fault_on : {T U : Type 0} (e : LoadStop) (part : Result T HiveFault) (whole : Result U HiveFault) → ((f : HiveFault) → part ≡ Err f → whole ≡ Err f) → IsFaultOf e part → IsFaultOf e whole
+pub fault_on : {T U : Type 0} (e : LoadStop) (part : Result T HiveFault) (whole : Result U HiveFault)
+    → ((f : HiveFault) → part ≡ Err f → whole ≡ Err f) → IsFaultOf e part → IsFaultOf e whole
 fault_on (load.Fault f) part whole goes is = goes f is
 fault_on load.PowerLost part whole goes is = tt
 fault_on load.Device part whole goes is = tt

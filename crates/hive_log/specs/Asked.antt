@@ -36,7 +36,8 @@ IsAskedFirst part (Err load.Memory) asked = (more : List Address) → IsFront (p
 
 -- The sectors of a part were read, one after the other, and no other call was made. A disk that does not tell
 -- what it holds leaves open which ones.
-pub record AsksFirst {T : Type 0} (before after : List Made → Type 0) (tells : Bool) (part : List Address → List Address) (result : Result T LoadStop) : Type 0 where
+pub record AsksFirst {T : Type 0} (before after : List Made → Type 0) (tells : Bool) (part : List Address → List Address)
+    (result : Result T LoadStop) : Type 0 where
   pub sectors : List Address
   pub made : Makes before after (reads_of sectors)
   pub are : tells ≡ true → IsAskedFirst part result sectors

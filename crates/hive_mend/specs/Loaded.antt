@@ -36,9 +36,22 @@ loaded_state h = state_of h.tree h.base.first (version_of h.base.minor)
 abbrev pub coded_base : Coded Base
 coded_base =
     code_by (ℕ × (ℕ × (ℕ × (ℕ × (ℕ × (ℕ × (ℕ × (ℕ × (List ℕ × List ℕ)))))))))
-    (coded× coded_ℕ (coded× coded_ℕ (coded× coded_ℕ (coded× coded_ℕ (coded× coded_ℕ (coded× coded_ℕ (coded× coded_ℕ (coded× coded_ℕ (coded× (coded_list coded_ℕ) (coded_list coded_ℕ))))))))))
+    (coded× coded_ℕ (coded× coded_ℕ
+    (coded× coded_ℕ (coded× coded_ℕ
+    (coded× coded_ℕ (coded× coded_ℕ (coded× coded_ℕ (coded× coded_ℕ (coded× (coded_list coded_ℕ) (coded_list coded_ℕ))))))))))
     (λ b. (b.first, (b.second, (b.stamp, (b.minor, (b.kind, (b.root, (b.size, (b.cluster, (b.name, b.rest))))))))))
-    (λ p. record { first = p.0; second = p.1.0; stamp = p.1.1.0; minor = p.1.1.1.0; kind = p.1.1.1.1.0; root = p.1.1.1.1.1.0; size = p.1.1.1.1.1.1.0; cluster = p.1.1.1.1.1.1.1.0; name = p.1.1.1.1.1.1.1.1.0; rest = p.1.1.1.1.1.1.1.1.1 })
+    (λ p. record {
+      first = p.0;
+      second = p.1.0;
+      stamp = p.1.1.0;
+      minor = p.1.1.1.0;
+      kind = p.1.1.1.1.0;
+      root = p.1.1.1.1.1.0;
+      size = p.1.1.1.1.1.1.0;
+      cluster = p.1.1.1.1.1.1.1.0;
+      name = p.1.1.1.1.1.1.1.1.0;
+      rest = p.1.1.1.1.1.1.1.1.1;
+    })
     (λ _. refl)
 
 abbrev pub coded_loaded : Coded Loaded

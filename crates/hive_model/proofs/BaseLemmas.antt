@@ -66,7 +66,8 @@ take_bytes (suc n) (x ∷ xs) is =
 mixed_small : (n : ℕ) (xs : List ℕ) → AreBytes xs → mixed_words n xs < 2 ^ 32
 unfolding mixed_words
 mixed_small zero xs is = omega arith
-mixed_small (suc n) xs is = xor_lt 32 _ _ (mixed_small n xs is) (word_small _ (take_bytes (4 * n + 4 - 4 * n) _ (drop_bytes (4 * n) xs is)))
+mixed_small (suc n) xs is =
+    xor_lt 32 _ _ (mixed_small n xs is) (word_small _ (take_bytes (4 * n + 4 - 4 * n) _ (drop_bytes (4 * n) xs is)))
 
 moved_small : (m : ℕ) → m < 2 ^ 32 → moved_off m < 2 ^ 32
 moved_small m small = grind arith
@@ -75,7 +76,21 @@ minor_small : (m : ℕ) → is_minor m ≡ true → m < 2 ^ 32
 minor_small m is = grind arith
 
 signature_bytes : AreBytes (codes "regf")
-signature_bytes = record { each = elim [ zero ↦ omega arith | suc k ↦ elim k as (λ k. slice_index (codes "regf") (suc k) < 256) [ zero ↦ omega arith | suc k ↦ elim k as (λ k. slice_index (codes "regf") (suc (suc k)) < 256) [ zero ↦ omega arith | suc k ↦ elim k as (λ k. slice_index (codes "regf") (suc (suc (suc k))) < 256) [ zero ↦ omega arith | suc k ↦ omega arith ] ] ] ] }
+signature_bytes = record {
+  each = elim [
+    | zero ↦ omega arith
+    | suc k ↦
+        elim k as (λ k. slice_index (codes "regf") (suc k) < 256) [
+          | zero ↦ omega arith
+          | suc k ↦
+              elim k as (λ k. slice_index (codes "regf") (suc (suc k)) < 256) [
+                | zero ↦ omega arith
+                | suc k ↦
+                    elim k as (λ k. slice_index (codes "regf") (suc (suc (suc k))) < 256) [ zero ↦ omega arith | suc k ↦ omega arith ]
+              ]
+        ]
+  ];
+}
 
 -- each of the checks holds
 abbrev AllHold : List (Bool × HiveFault) → Type 0
@@ -84,14 +99,16 @@ AllHold (check ∷ checks) = (check.0 ≡ true) × AllHold checks
 
 none_fails : (checks : List (Bool × HiveFault)) → AllHold checks → first_failing checks ≡ None
 none_fails [] hold = refl
-none_fails (check ∷ checks) hold = ap (λ t. cond t (first_failing checks) (Some check.1)) hold.0 ∙ none_fails checks hold.1
+none_fails (check ∷ checks) hold =
+    ap (λ t. cond t (first_failing checks) (Some check.1)) hold.0 ∙ none_fails checks hold.1
 
 both : (a b : Bool) → (a && b) ≡ true → (a ≡ true) × (b ≡ true)
 both true b h = (refl, h)
 both false b h = cc
 
 -- a part of a list, by the lengths of what stands before it and of it
-piece : (xs ys zs : List ℕ) (from to : ℕ) → length xs ≡ from → length xs + length ys ≡ to → slice_range (xs ++ (ys ++ zs)) from to ≡ ys
+piece : (xs ys zs : List ℕ) (from to : ℕ) → length xs ≡ from → length xs + length ys ≡ to
+    → slice_range (xs ++ (ys ++ zs)) from to ≡ ys
 piece xs ys zs from to before within =
     let long : to - length xs ≡ length ys = omega arith in
     ap (λ n. take (to - n) (drop n (xs ++ (ys ++ zs)))) (sym before)
@@ -103,9 +120,13 @@ module _ (b : Base) (is : IsBase b) where
   head_bytes : AreBytes (head_text b)
   unfolding head_text
   head_bytes =
-      bytes_append _ _ (bytes_append _ _ (bytes_append _ _ (bytes_append _ _ (bytes_append _ _ (bytes_append _ _ (bytes_append _ _ (bytes_append _ _ (bytes_append _ _ (bytes_append _ _
+      bytes_append _ _ (bytes_append _ _
+      (bytes_append _ _ (bytes_append _ _
+      (bytes_append _ _ (bytes_append _ _ (bytes_append _ _ (bytes_append _ _ (bytes_append _ _ (bytes_append _ _
       signature_bytes
-      (bytes_low 0 4 b.first)) (bytes_low 0 4 b.second)) (bytes_low 0 8 b.stamp)) (bytes_low 0 4 1)) (bytes_low 0 4 b.minor)) (bytes_low 0 4 b.kind)) (bytes_low 0 4 1)) (bytes_low 0 4 b.root)) (bytes_low 0 4 b.size)) (bytes_low 0 4 b.cluster)
+      (bytes_low 0 4 b.first)) (bytes_low 0 4 b.second)) (bytes_low 0 8 b.stamp)) (bytes_low 0 4 1))
+      (bytes_low 0 4 b.minor)) (bytes_low 0 4 b.kind)) (bytes_low 0 4 1)) (bytes_low 0 4 b.root))
+      (bytes_low 0 4 b.size)) (bytes_low 0 4 b.cluster)
 
   head_long : length (head_text b) ≡ 48
   unfolding head_text
@@ -121,7 +142,8 @@ module _ (b : Base) (is : IsBase b) where
 
   summed_bytes : AreBytes (summed_text b)
   unfolding summed_text
-  summed_bytes = bytes_append _ _ (bytes_append _ _ head_bytes (record { each = is.name_bytes })) (record { each = is.rest_bytes })
+  summed_bytes = bytes_append _ _ (bytes_append _ _ head_bytes (record { each = is.name_bytes }))
+      (record { each = is.rest_bytes })
 
   sum_fits : checksum_of (summed_text b) < 2 ^ 32
   sum_fits = moved_small _ (mixed_small 127 _ summed_bytes)
@@ -190,23 +212,54 @@ module _ (b : Base) (is : IsBase b) where
   name_back : slice_range (base_text b) 48 112 ≡ b.name
   unfolding base_text summed_text
   name_back =
-      let parts : base_text b ≡ head_text b ++ (b.name ++ (b.rest ++ to_le_bytes w32 (checksum_of (summed_text b)))) = append_assoc _ b.rest _ ∙ append_assoc (head_text b) b.name _ in
-      ap (λ (l : List ℕ). slice_range l 48 112) parts ∙ piece (head_text b) b.name _ 48 112 head_long (omega (arith, head_long, is.name_long))
+      let parts : base_text b ≡ head_text b ++ (b.name ++ (b.rest ++ to_le_bytes w32 (checksum_of (summed_text b)))) =
+      append_assoc _ b.rest _ ∙ append_assoc (head_text b) b.name _ in
+      ap (λ (l : List ℕ). slice_range l 48 112) parts
+      ∙ piece (head_text b) b.name _ 48 112 head_long (omega (arith, head_long, is.name_long))
 
   rest_back : slice_range (base_text b) 112 508 ≡ b.rest
   unfolding base_text summed_text
   rest_back =
-      let long : length (head_text b ++ b.name) ≡ 112 = omega (arith, length-append (head_text b) b.name, head_long, is.name_long) in
-      let parts : base_text b ≡ (head_text b ++ b.name) ++ (b.rest ++ to_le_bytes w32 (checksum_of (summed_text b))) = append_assoc _ b.rest _ in
-      ap (λ (l : List ℕ). slice_range l 112 508) parts ∙ piece (head_text b ++ b.name) b.rest _ 112 508 long (omega (arith, long, is.rest_long))
+      let long : length (head_text b ++ b.name) ≡ 112 =
+      omega (arith, length-append (head_text b) b.name, head_long, is.name_long) in
+      let parts : base_text b ≡ (head_text b ++ b.name) ++ (b.rest ++ to_le_bytes w32 (checksum_of (summed_text b))) =
+      append_assoc _ b.rest _ in
+      ap (λ (l : List ℕ). slice_range l 112 508) parts
+      ∙ piece (head_text b ++ b.name) b.rest _ 112 508 long (omega (arith, long, is.rest_long))
 
   fields_back : fields_of (base_text b) ≡ b
   unfolding fields_of
-  fields_back = λ i. record { first = first_is i; second = second_is i; stamp = stamp_is i; minor = minor_back i; kind = kind_back i; root = root_back i; size = size_back i; cluster = cluster_back i; name = name_back i; rest = rest_back i }
+  fields_back = λ i. record {
+    first = first_is i;
+    second = second_is i;
+    stamp = stamp_is i;
+    minor = minor_back i;
+    kind = kind_back i;
+    root = root_back i;
+    size = size_back i;
+    cluster = cluster_back i;
+    name = name_back i;
+    rest = rest_back i;
+  }
 
   no_fault : first_failing (base_checks (base_text b) b.kind) ≡ None
-  no_fault = none_fails (base_checks (base_text b) b.kind)
-      (signed, (eq-eqb _ _ (stored_is ∙ sym sum_is), (eq-eqb _ _ major_is, (ap is_minor minor_back ∙ is.minor_is, (eq-eqb _ _ kind_back, (eq-eqb _ _ format_is, (ap is_bins_size size_back ∙ is.size_is, tt)))))))
+  no_fault = none_fails (base_checks (base_text b) b.kind) (
+    signed,
+    (
+      eq-eqb _ _ (stored_is ∙ sym sum_is),
+      (
+        eq-eqb _ _ major_is,
+        (
+          ap is_minor minor_back
+              ∙ is.minor_is,
+          (
+            eq-eqb _ _ kind_back,
+            (eq-eqb _ _ format_is, (ap is_bins_size size_back ∙ is.size_is, tt)),
+          ),
+        ),
+      ),
+    ),
+  )
 
   pub base_back : base_of (base_text b) b.kind ≡ Ok b
   unfolding base_of
@@ -258,7 +311,8 @@ pub log_base_back : (r : Result Base HiveFault) (b : Base) → as_log_base r ≡
 log_base_back (Ok x) b is = is
 log_base_back (Err f) b is = absurd (cc)
 
-log_block_back : (r : Result (List ℕ) HiveFault) (b : Base) → and_then r (λ block. as_log_base (base_of block 1)) ≡ Ok b → IsChecked 1 b
+log_block_back : (r : Result (List ℕ) HiveFault) (b : Base) → and_then r (λ block. as_log_base (base_of block 1)) ≡ Ok b
+    → IsChecked 1 b
 log_block_back (Ok block) b is = base_checked block 1 b (log_base_back (base_of block 1) b is)
 log_block_back (Err f) b is = absurd (cc)
 

@@ -12,24 +12,30 @@ Fits n None = Unit {0}
 Fits n (Some t) = HoldsKeys t × (levels t ≤ n)
 
 -- found among some
-fits-found : (n : ℕ) (name : List ℕ) (ts : Trees) → AllHoldKeys ts → most_levels ts ≤ n → Fits n (find (is_named name) (listed ts))
+fits-found : (n : ℕ) (name : List ℕ) (ts : Trees) → AllHoldKeys ts → most_levels ts ≤ n
+    → Fits n (find (is_named name) (listed ts))
 fits-found n name none h l = tt
 fits-found n name (more t ts) h l = by_case (is_named name t) (fits-found n name ts h.1 (omega arith))
   where
-    by_case : (b : Bool) → Fits n (find (is_named name) (listed ts)) → Fits n (cond b (Some t) (find (is_named name) (listed ts)))
+    by_case : (b : Bool) → Fits n (find (is_named name) (listed ts))
+        → Fits n (cond b (Some t) (find (is_named name) (listed ts)))
     by_case true rest = (h.0, omega arith)
     by_case false rest = rest
 
-fits-child : (n : ℕ) (name : List ℕ) (t : Tree) → HoldsKeys t → levels t ≤ n → Fits n (find (is_named name) (children t))
+fits-child : (n : ℕ) (name : List ℕ) (t : Tree) → HoldsKeys t → levels t ≤ n
+    → Fits n (find (is_named name) (children t))
 fits-child n name (key h ts) held l = fits-found n name ts held.1 (omega arith)
 
-fits-through : (n : ℕ) (edit : Tree → Option Tree) (o : Option Tree) → Fits n o → ((u : Tree) → HoldsKeys u → levels u ≤ n → Fits n (edit u)) → Fits n (option_and_then edit o)
+fits-through : (n : ℕ) (edit : Tree → Option Tree) (o : Option Tree) → Fits n o
+    → ((u : Tree) → HoldsKeys u → levels u ≤ n → Fits n (edit u)) → Fits n (option_and_then edit o)
 fits-through n edit None f deep = tt
 fits-through n edit (Some u) f deep = deep u f.0 f.1
 
 fits-key : (n : ℕ) (path : List (List ℕ)) (t : Tree) → HoldsKeys t → levels t ≤ n → Fits n (find_key path t)
 fits-key n [] t h l = (h, l)
-fits-key n (name ∷ path) t h l = fits-through n (find_key path) (find (is_named name) (children t)) (fits-child n name t h l) (λ u held low. fits-key n path u held low)
+fits-key n (name ∷ path) t h l =
+    fits-through n (find_key path) (find (is_named name) (children t)) (fits-child n name t h l)
+    (λ u held low. fits-key n path u held low)
 
 -- a child with a name
 pub held_child : (name : List ℕ) (t k : Tree) → HoldsKeys t → find (is_named name) (children t) ≡ Some k → HoldsKeys k
@@ -41,7 +47,8 @@ held_key path t k h e = (subst (Fits (levels t)) e (fits-key (levels t) path t h
 
 -- the same of trees that a hive can hold
 pub valid_key : (path : List (List ℕ)) (t k : Tree) → IsValid t → find_key path t ≡ Some k → IsValid k
-valid_key path t k v e = let f = subst (Fits 512) e (fits-key 512 path t v.keys v.levels) in record { keys = f.0; levels = f.1 }
+valid_key path t k v e = let f = subst (Fits 512) e (fits-key 512 path t v.keys v.levels) in
+    record { keys = f.0; levels = f.1 }
 
 all-held : (ts : Trees) → AllHoldKeys ts → All HoldsKeys (listed ts)
 all-held none h = All-nil HoldsKeys

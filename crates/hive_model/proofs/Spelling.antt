@@ -35,7 +35,8 @@ pub length_wide : (name : List ℕ) → length (wide_text name) ≡ 2 * length n
 length_wide [] = refl
 length_wide (u ∷ us) = omega (arith, length_wide us)
 
-pub name_again : (narrow : Bool) (name : List ℕ) → UnitsFit narrow name → stored_name narrow (name_text narrow name) ≡ name
+pub name_again : (narrow : Bool) (name : List ℕ) → UnitsFit narrow name
+    → stored_name narrow (name_text narrow name) ≡ name
 name_again true name f = refl
 name_again false name f = wide_again name f
 
@@ -49,13 +50,15 @@ pub length_name : (narrow : Bool) (name : List ℕ) → length (name_text narrow
 length_name true name = omega arith
 length_name false name = omega (arith, length_wide name)
 
-pub key_name_again : (narrow : Bool) (name : List ℕ) → UnitsFit narrow name → length name ≤ 255 → list_any (λ u. eqb u 0x5c) name ≡ false → key_name_at narrow (name_text narrow name) ≡ Ok name
+pub key_name_again : (narrow : Bool) (name : List ℕ) → UnitsFit narrow name → length name ≤ 255
+    → list_any (λ u. eqb u 0x5c) name ≡ false → key_name_at narrow (name_text narrow name) ≡ Ok name
 unfolding key_name_at
 key_name_again narrow name f short clean =
     let a : ltb 255 (length name) ≡ false = le-ltb _ _ (omega arith) in
     rw (no_half narrow name, name_again narrow name f, a, clean) refl
 
-pub value_name_again : (narrow : Bool) (name : List ℕ) → UnitsFit narrow name → length name ≤ 16383 → value_name_at narrow (name_text narrow name) ≡ Ok name
+pub value_name_again : (narrow : Bool) (name : List ℕ) → UnitsFit narrow name → length name ≤ 16383
+    → value_name_at narrow (name_text narrow name) ≡ Ok name
 unfolding value_name_at
 value_name_again narrow name f short =
     let a : ltb 16383 (length name) ≡ false = le-ltb _ _ (omega arith) in
@@ -65,7 +68,8 @@ value_name_again narrow name f short =
 
 -- a payload that is long enough, with its signature and a good name
 pub key_node_is : (p name : List ℕ) → 76 + u16_in p 72 ≤ length p → u16_in p 0 ≡ 0x6b6e
-    → key_name_at (is_narrow_key (u16_in p 2)) (slice_range p 76 (76 + u16_in p 72)) ≡ Ok name → key_node_at p ≡ Ok (key_node_in p name)
+    → key_name_at (is_narrow_key (u16_in p 2)) (slice_range p 76 (76 + u16_in p 72)) ≡ Ok name
+    → key_node_at p ≡ Ok (key_node_in p name)
 unfolding key_node_at
 key_node_is p name long sign is =
     let a : ltb (length p) 2 ≡ false = le-ltb _ _ (omega arith) in
@@ -74,17 +78,20 @@ key_node_is p name long sign is =
     rw (a, sign, b, d, is) refl
 
 -- its name is the one that these bytes store
-key_node_named : (p bytes slack name : List ℕ) (flags : ℕ) → drop 76 p ≡ bytes ++ slack → length p ≡ 76 + length (bytes ++ slack) → u16_in p 0 ≡ 0x6b6e → u16_in p 2 ≡ flags → u16_in p 72 ≡ length bytes
+key_node_named : (p bytes slack name : List ℕ) (flags : ℕ) → drop 76 p ≡ bytes ++ slack
+    → length p ≡ 76 + length (bytes ++ slack) → u16_in p 0 ≡ 0x6b6e → u16_in p 2 ≡ flags → u16_in p 72 ≡ length bytes
     → key_name_at (is_narrow_key flags) bytes ≡ Ok name → key_node_at p ≡ Ok (key_node_in p name)
 key_node_named p bytes slack name flags rest long sign flags_is size is =
-    key_node_is p name (omega (arith, size, long, length-append bytes slack)) sign (rw (flags_is, size, in_range p bytes slack 76 rest) is)
+    key_node_is p name (omega (arith, size, long, length-append bytes slack)) sign
+    (rw (flags_is, size, in_range p bytes slack 76 rest) is)
 
 pub key_node_again : (n : KeyNode) (slack : List ℕ) → IsKeyNode n → key_node_at (key_node_text n ++ slack) ≡ Ok n
 unfolding key_node_text
 key_node_again n slack f =
     let bytes = name_text (is_narrow_key n.flags) n.name in
     let short : length bytes < 2 ^ 16 = omega (arith, length_name (is_narrow_key n.flags) n.name, f.name) in
-    key_node_named (key_node_text n ++ slack) bytes slack n.name n.flags refl (omega arith) refl (from_le_bytes-to_le_bytes_2 n.flags f.flags) (from_le_bytes-to_le_bytes_2 (length bytes) short)
+    key_node_named (key_node_text n ++ slack) bytes slack n.name n.flags refl (omega arith) refl
+    (from_le_bytes-to_le_bytes_2 n.flags f.flags) (from_le_bytes-to_le_bytes_2 (length bytes) short)
     (key_name_again (is_narrow_key n.flags) n.name f.units f.name f.no_backslash)
     ∙ λ j. Ok (record {
       flags = from_le_bytes-to_le_bytes_2 n.flags f.flags j;
@@ -108,8 +115,10 @@ key_node_again n slack f =
 
 -- ---- values
 
-pub key_value_is : (p name : List ℕ) → 20 + u16_in p 2 ≤ length p → u16_in p 0 ≡ 0x6b76 → is_overfull (u32_in p 4) ≡ false
-    → value_name_at (is_narrow_value (u16_in p 16)) (slice_range p 20 (20 + u16_in p 2)) ≡ Ok name → key_value_at p ≡ Ok (key_value_in p name)
+pub key_value_is : (p name : List ℕ) → 20 + u16_in p 2 ≤ length p → u16_in p 0 ≡ 0x6b76
+    → is_overfull (u32_in p 4) ≡ false
+    → value_name_at (is_narrow_value (u16_in p 16)) (slice_range p 20 (20 + u16_in p 2)) ≡ Ok name
+    → key_value_at p ≡ Ok (key_value_in p name)
 unfolding key_value_at
 key_value_is p name long sign fits is =
     let a : ltb (length p) 2 ≡ false = le-ltb _ _ (omega arith) in
@@ -117,18 +126,24 @@ key_value_is p name long sign fits is =
     let d : ltb (length p) (20 + u16_in p 2) ≡ false = le-ltb _ _ (omega arith) in
     rw (a, sign, b, d, fits, is) refl
 
-key_value_named : (p bytes slack name : List ℕ) (size flags : ℕ) → drop 20 p ≡ bytes ++ slack → length p ≡ 20 + length (bytes ++ slack) → u16_in p 0 ≡ 0x6b76 → u32_in p 4 ≡ size → is_overfull size ≡ false → u16_in p 16 ≡ flags
-    → u16_in p 2 ≡ length bytes → value_name_at (is_narrow_value flags) bytes ≡ Ok name → key_value_at p ≡ Ok (key_value_in p name)
+key_value_named : (p bytes slack name : List ℕ) (size flags : ℕ) → drop 20 p ≡ bytes ++ slack
+    → length p ≡ 20 + length (bytes ++ slack) → u16_in p 0 ≡ 0x6b76 → u32_in p 4 ≡ size → is_overfull size ≡ false
+    → u16_in p 16 ≡ flags
+    → u16_in p 2 ≡ length bytes → value_name_at (is_narrow_value flags) bytes ≡ Ok name
+    → key_value_at p ≡ Ok (key_value_in p name)
 key_value_named p bytes slack name size flags rest long sign size_is fits flags_is is_length is =
-    key_value_is p name (omega (arith, is_length, long, length-append bytes slack)) sign (rw size_is fits) (rw (flags_is, is_length, in_range p bytes slack 20 rest) is)
+    key_value_is p name (omega (arith, is_length, long, length-append bytes slack)) sign (rw size_is fits)
+    (rw (flags_is, is_length, in_range p bytes slack 20 rest) is)
 
 pub key_value_again : (v : KeyValue) (slack : List ℕ) → IsKeyValue v → key_value_at (key_value_text v ++ slack) ≡ Ok v
 unfolding key_value_text
 key_value_again v slack f =
     let bytes = name_text (is_narrow_value v.flags) v.name in
     let short : length bytes < 2 ^ 16 = omega (arith, length_name (is_narrow_value v.flags) v.name, f.name) in
-    key_value_named (key_value_text v ++ slack) bytes slack v.name v.size v.flags refl (omega arith) refl (from_le_bytes-to_le_bytes_4 v.size f.size) f.in_place (from_le_bytes-to_le_bytes_2 v.flags f.flags)
-    (from_le_bytes-to_le_bytes_2 (length bytes) short) (value_name_again (is_narrow_value v.flags) v.name f.units f.name)
+    key_value_named (key_value_text v ++ slack) bytes slack v.name v.size v.flags refl (omega arith) refl
+    (from_le_bytes-to_le_bytes_4 v.size f.size) f.in_place (from_le_bytes-to_le_bytes_2 v.flags f.flags)
+    (from_le_bytes-to_le_bytes_2 (length bytes) short)
+    (value_name_again (is_narrow_value v.flags) v.name f.units f.name)
     ∙ λ j. Ok (record {
       size = from_le_bytes-to_le_bytes_4 v.size f.size j;
       offset = from_le_bytes-to_le_bytes_4 v.offset f.offset j;
@@ -145,7 +160,8 @@ bytes_again a slack =
 
 -- ---- security
 
-security_is : (p s slack : List ℕ) → drop 20 p ≡ s ++ slack → length p ≡ 20 + length (s ++ slack) → u16_in p 0 ≡ 0x6b73 → u32_in p 16 ≡ length s
+security_is : (p s slack : List ℕ) → drop 20 p ≡ s ++ slack → length p ≡ 20 + length (s ++ slack) → u16_in p 0 ≡ 0x6b73
+    → u32_in p 16 ≡ length s
     → security_at p ≡ Ok (record { forward = u32_in p 4; backward = u32_in p 8; uses = u32_in p 12; descriptor = s })
 unfolding security_at
 security_is p s slack rest long sign size =
@@ -155,10 +171,12 @@ security_is p s slack rest long sign size =
     let d : ltb (length p) (20 + length s) ≡ false = le-ltb _ _ (omega arith) in
     rw (a, sign, b, size, d, in_range p s slack 20 rest) refl
 
-pub security_again : (s : SecurityCell) (slack : List ℕ) → IsSecurityCell s → security_at (security_text s ++ slack) ≡ Ok s
+pub security_again : (s : SecurityCell) (slack : List ℕ) → IsSecurityCell s
+    → security_at (security_text s ++ slack) ≡ Ok s
 unfolding security_text
 security_again s slack f =
-    security_is (security_text s ++ slack) s.descriptor slack refl (omega arith) refl (from_le_bytes-to_le_bytes_4 (length s.descriptor) f.descriptor)
+    security_is (security_text s ++ slack) s.descriptor slack refl (omega arith) refl
+    (from_le_bytes-to_le_bytes_4 (length s.descriptor) f.descriptor)
     ∙ λ j. Ok (record {
       forward = from_le_bytes-to_le_bytes_4 s.forward f.forward j;
       backward = from_le_bytes-to_le_bytes_4 s.backward f.backward j;
@@ -172,10 +190,12 @@ pub length_offsets : (os : List ℕ) → length (offsets_text os) ≡ 4 * length
 length_offsets [] = refl
 length_offsets (o ∷ os) = omega (arith, length_offsets os)
 
-pub length_entries : (os : List ℕ) (hs : List (List ℕ)) → length os ≡ length hs → AreHints hs → length (entries_text os hs) ≡ 8 * length os
+pub length_entries : (os : List ℕ) (hs : List (List ℕ)) → length os ≡ length hs → AreHints hs
+    → length (entries_text os hs) ≡ 8 * length os
 length_entries [] hs e f = refl
 length_entries (o ∷ os) [] e f = absurd (omega (arith, e))
-length_entries (o ∷ os) (h ∷ hs) e f = omega (arith, length_entries os hs (omega (arith, e)) f.1, f.0, length-append h (entries_text os hs))
+length_entries (o ∷ os) (h ∷ hs) e f =
+    omega (arith, length_entries os hs (omega (arith, e)) f.1, f.0, length-append h (entries_text os hs))
 
 numbers_again : (os slack : List ℕ) → AreOffsets os → numbers_in 4 (length os) (offsets_text os ++ slack) ≡ os
 numbers_again [] slack f = refl
@@ -189,20 +209,24 @@ four (a ∷ b ∷ c ∷ []) h = absurd (omega arith)
 four (a ∷ b ∷ c ∷ d ∷ []) h = refl
 four (a ∷ b ∷ c ∷ d ∷ e ∷ xs) h = absurd (omega arith)
 
-entries_again : (os : List ℕ) (hs : List (List ℕ)) (slack : List ℕ) → length os ≡ length hs → AreOffsets os → AreHints hs → numbers_in 8 (length os) (entries_text os hs ++ slack) ≡ os
+entries_again : (os : List ℕ) (hs : List (List ℕ)) (slack : List ℕ) → length os ≡ length hs → AreOffsets os
+    → AreHints hs → numbers_in 8 (length os) (entries_text os hs ++ slack) ≡ os
 entries_again [] hs slack e f g = refl
 entries_again (o ∷ os) [] slack e f g = absurd (omega (arith, e))
 entries_again (o ∷ os) (h ∷ hs) slack e f g =
-    subst (λ (x : List ℕ). numbers_in 8 (length (o ∷ os)) (entries_text (o ∷ os) (x ∷ hs) ++ slack) ≡ o ∷ os) (sym (four h g.0))
+    subst (λ (x : List ℕ). numbers_in 8 (length (o ∷ os)) (entries_text (o ∷ os) (x ∷ hs) ++ slack) ≡ o ∷ os)
+    (sym (four h g.0))
     (λ j. from_le_bytes-to_le_bytes_4 o f.0 j ∷ entries_again os hs slack (omega (arith, e)) f.1 g.1 j)
 
 pub offsets_again : (os slack : List ℕ) → AreOffsets os → offsets_in (length os) (offsets_text os ++ slack) ≡ Ok os
 unfolding offsets_in
 offsets_again os slack f =
-    let l : ltb (length (offsets_text os ++ slack)) (4 * length os) ≡ false = le-ltb _ _ (omega (arith, length-append (offsets_text os) slack, length_offsets os)) in
+    let l : ltb (length (offsets_text os ++ slack)) (4 * length os) ≡ false =
+    le-ltb _ _ (omega (arith, length-append (offsets_text os) slack, length_offsets os)) in
     rw (l, numbers_again os slack f) refl
 
-list_of_is : (kind : ListKind) (step : ℕ) (p os : List ℕ) → 4 + step * length os ≤ length p → u16_in p 2 ≡ length os → numbers_in step (length os) (drop 4 p) ≡ os → list_of kind step p ≡ Ok (record { kind = kind; offsets = os })
+list_of_is : (kind : ListKind) (step : ℕ) (p os : List ℕ) → 4 + step * length os ≤ length p → u16_in p 2 ≡ length os
+    → numbers_in step (length os) (drop 4 p) ≡ os → list_of kind step p ≡ Ok (record { kind = kind; offsets = os })
 unfolding list_of
 list_of_is kind step p os long count is =
     let a : ltb (length p) 4 ≡ false = le-ltb _ _ (omega arith) in
@@ -233,33 +257,41 @@ list_is_ri p long sign =
     let a : ltb (length p) 2 ≡ false = le-ltb _ _ (omega arith) in
     rw (a, sign) refl
 
-pub li_again : (os slack : List ℕ) → length os < 2 ^ 16 → AreOffsets os → list_at (li_text os ++ slack) ≡ Ok (record { kind = Li; offsets = os })
+pub li_again : (os slack : List ℕ) → length os < 2 ^ 16 → AreOffsets os
+    → list_at (li_text os ++ slack) ≡ Ok (record { kind = Li; offsets = os })
 unfolding li_text
 li_again os slack lt f =
     let l = length-append (offsets_text os) slack in
     list_is_li (li_text os ++ slack) (omega arith) refl
-    ∙ list_of_is Li 4 (li_text os ++ slack) os (omega (arith, l, length_offsets os)) (from_le_bytes-to_le_bytes_2 (length os) lt) (numbers_again os slack f)
+    ∙ list_of_is Li 4 (li_text os ++ slack) os (omega (arith, l, length_offsets os))
+    (from_le_bytes-to_le_bytes_2 (length os) lt) (numbers_again os slack f)
 
-pub ri_again : (os slack : List ℕ) → length os < 2 ^ 16 → AreOffsets os → list_at (ri_text os ++ slack) ≡ Ok (record { kind = Ri; offsets = os })
+pub ri_again : (os slack : List ℕ) → length os < 2 ^ 16 → AreOffsets os
+    → list_at (ri_text os ++ slack) ≡ Ok (record { kind = Ri; offsets = os })
 unfolding ri_text
 ri_again os slack lt f =
     let l = length-append (offsets_text os) slack in
     list_is_ri (ri_text os ++ slack) (omega arith) refl
-    ∙ list_of_is Ri 4 (ri_text os ++ slack) os (omega (arith, l, length_offsets os)) (from_le_bytes-to_le_bytes_2 (length os) lt) (numbers_again os slack f)
+    ∙ list_of_is Ri 4 (ri_text os ++ slack) os (omega (arith, l, length_offsets os))
+    (from_le_bytes-to_le_bytes_2 (length os) lt) (numbers_again os slack f)
 
-pub lf_again : (os : List ℕ) (hs : List (List ℕ)) (slack : List ℕ) → length os ≡ length hs → length os < 2 ^ 16 → AreOffsets os → AreHints hs → list_at (lf_text os hs ++ slack) ≡ Ok (record { kind = Lf; offsets = os })
+pub lf_again : (os : List ℕ) (hs : List (List ℕ)) (slack : List ℕ) → length os ≡ length hs → length os < 2 ^ 16
+    → AreOffsets os → AreHints hs → list_at (lf_text os hs ++ slack) ≡ Ok (record { kind = Lf; offsets = os })
 unfolding lf_text
 lf_again os hs slack e lt f g =
     let l = length-append (entries_text os hs) slack in
     list_is_lf (lf_text os hs ++ slack) (omega arith) refl
-    ∙ list_of_is Lf 8 (lf_text os hs ++ slack) os (omega (arith, l, length_entries os hs e g)) (from_le_bytes-to_le_bytes_2 (length os) lt) (entries_again os hs slack e f g)
+    ∙ list_of_is Lf 8 (lf_text os hs ++ slack) os (omega (arith, l, length_entries os hs e g))
+    (from_le_bytes-to_le_bytes_2 (length os) lt) (entries_again os hs slack e f g)
 
-pub lh_again : (os : List ℕ) (hs : List (List ℕ)) (slack : List ℕ) → length os ≡ length hs → length os < 2 ^ 16 → AreOffsets os → AreHints hs → list_at (lh_text os hs ++ slack) ≡ Ok (record { kind = Lh; offsets = os })
+pub lh_again : (os : List ℕ) (hs : List (List ℕ)) (slack : List ℕ) → length os ≡ length hs → length os < 2 ^ 16
+    → AreOffsets os → AreHints hs → list_at (lh_text os hs ++ slack) ≡ Ok (record { kind = Lh; offsets = os })
 unfolding lh_text
 lh_again os hs slack e lt f g =
     let l = length-append (entries_text os hs) slack in
     list_is_lh (lh_text os hs ++ slack) (omega arith) refl
-    ∙ list_of_is Lh 8 (lh_text os hs ++ slack) os (omega (arith, l, length_entries os hs e g)) (from_le_bytes-to_le_bytes_2 (length os) lt) (entries_again os hs slack e f g)
+    ∙ list_of_is Lh 8 (lh_text os hs ++ slack) os (omega (arith, l, length_entries os hs e g))
+    (from_le_bytes-to_le_bytes_2 (length os) lt) (entries_again os hs slack e f g)
 
 -- ---- big data
 
@@ -270,11 +302,15 @@ big_data_is p long sign =
     let b : ltb (length p) 8 ≡ false = le-ltb _ _ (omega arith) in
     rw (a, sign, b) refl
 
-pub big_data_again : (big : BigData) (slack : List ℕ) → IsBigData big → big_data_at (big_data_text big ++ slack) ≡ Ok big
+pub big_data_again : (big : BigData) (slack : List ℕ) → IsBigData big
+    → big_data_at (big_data_text big ++ slack) ≡ Ok big
 unfolding big_data_text
 big_data_again big slack f =
     big_data_is (big_data_text big ++ slack) (omega arith) refl
-    ∙ λ j. Ok (record { segments = from_le_bytes-to_le_bytes_2 big.segments f.segments j; list = from_le_bytes-to_le_bytes_4 big.list f.list j })
+    ∙ λ j. Ok (record {
+      segments = from_le_bytes-to_le_bytes_2 big.segments f.segments j;
+      list = from_le_bytes-to_le_bytes_4 big.list f.list j;
+    })
 
 -- ---- lengths
 
@@ -286,7 +322,8 @@ pub length_key_node : (n : KeyNode) → length (key_node_text n) ≡ 76 + length
 unfolding key_node_text
 length_key_node n = omega arith
 
-pub length_key_value : (v : KeyValue) → length (key_value_text v) ≡ 20 + length (name_text (is_narrow_value v.flags) v.name)
+pub length_key_value : (v : KeyValue)
+    → length (key_value_text v) ≡ 20 + length (name_text (is_narrow_value v.flags) v.name)
 unfolding key_value_text
 length_key_value v = omega arith
 
@@ -302,10 +339,12 @@ pub length_ri : (os : List ℕ) → length (ri_text os) ≡ 4 + 4 * length os
 unfolding ri_text
 length_ri os = omega (arith, length_offsets os)
 
-pub length_lf : (os : List ℕ) (hs : List (List ℕ)) → length os ≡ length hs → AreHints hs → length (lf_text os hs) ≡ 4 + 8 * length os
+pub length_lf : (os : List ℕ) (hs : List (List ℕ)) → length os ≡ length hs → AreHints hs
+    → length (lf_text os hs) ≡ 4 + 8 * length os
 unfolding lf_text
 length_lf os hs e f = omega (arith, length_entries os hs e f)
 
-pub length_lh : (os : List ℕ) (hs : List (List ℕ)) → length os ≡ length hs → AreHints hs → length (lh_text os hs) ≡ 4 + 8 * length os
+pub length_lh : (os : List ℕ) (hs : List (List ℕ)) → length os ≡ length hs → AreHints hs
+    → length (lh_text os hs) ≡ 4 + 8 * length os
 unfolding lh_text
 length_lh os hs e f = omega (arith, length_entries os hs e f)

@@ -202,8 +202,10 @@ Sees view (Err e) answer = answer ≡ Err e
 
 -- a cell as the pair of its flag and its payload, by which the logic tells cells apart
 abbrev pub coded_cell : Coded Cell
-coded_cell = code_by (Bool × List ℕ) (coded× coded_bool (coded_list coded_ℕ)) (λ c. (c.allocated, c.payload)) (λ p. record { allocated = p.0; payload = p.1 }) (λ _. refl)
+coded_cell = code_by (Bool × List ℕ) (coded× coded_bool (coded_list coded_ℕ)) (λ c. (c.allocated, c.payload))
+    (λ p. record { allocated = p.0; payload = p.1 }) (λ _. refl)
 
 -- a bin as the pair of its ignored bytes and its cells, by which the logic tells bins apart
 abbrev pub coded_bin : Coded Bin
-coded_bin = code_by (List ℕ × List Cell) (coded× (coded_list coded_ℕ) (coded_list coded_cell)) (λ b. (b.ignored, b.cells)) (λ p. record { ignored = p.0; cells = p.1 }) (λ _. refl)
+coded_bin = code_by (List ℕ × List Cell) (coded× (coded_list coded_ℕ) (coded_list coded_cell)) (λ b. (b.ignored, b.cells))
+    (λ p. record { ignored = p.0; cells = p.1 }) (λ _. refl)

@@ -86,7 +86,8 @@ key_node_text n =
     0x6e ∷ 0x6b ∷ (to_le_bytes w16 n.flags ++ to_le_bytes w64 n.stamp ++ to_le_bytes w32 0 ++ to_le_bytes w32 n.parent
     ++ to_le_bytes w32 n.child_count ++ to_le_bytes w32 n.volatile_count ++ to_le_bytes w32 n.child_list ++ to_le_bytes w32 n.volatile_list
     ++ to_le_bytes w32 n.value_count ++ to_le_bytes w32 n.value_list ++ to_le_bytes w32 n.security ++ to_le_bytes w32 n.class
-    ++ to_le_bytes w32 n.greatest_child_name ++ to_le_bytes w32 n.greatest_child_class ++ to_le_bytes w32 n.greatest_value_name ++ to_le_bytes w32 n.greatest_value_size
+    ++ to_le_bytes w32 n.greatest_child_name ++ to_le_bytes w32 n.greatest_child_class ++ to_le_bytes w32 n.greatest_value_name
+    ++ to_le_bytes w32 n.greatest_value_size
     ++ to_le_bytes w32 0 ++ to_le_bytes w16 (length (name_text (is_narrow_key n.flags) n.name)) ++ to_le_bytes w16 n.class_length
     ++ name_text (is_narrow_key n.flags) n.name)
 

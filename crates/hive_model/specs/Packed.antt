@@ -245,7 +245,9 @@ class_cells (b ∷ c) = (b ∷ c) ∷ []
 -- the cell of a descriptor, which so many keys below use too
 unfoldable pub security_cells : Above → ℕ → List ℕ → ℕ → List (List ℕ)
 security_cells up at s others =
-    if has_own up.security s then security_text (record { forward = forward up.ring at; backward = backward up.ring at; uses = 1 + others; descriptor = s }) ∷ [] else []
+    if has_own up.security s
+    then security_text (record { forward = forward up.ring at; backward = backward up.ring at; uses = 1 + others; descriptor = s }) ∷ []
+    else []
 
 -- all cells of a key before its subkey lists
 unfoldable pub head_cells : HiveVersion → Above → ℕ → Head → Trees → List (List ℕ)

@@ -113,7 +113,8 @@ same_items (x ∷ xs) (y ∷ ys) = bytes_eq x.name y.name && (x.kind == y.kind) 
 -- two keys are one but for their children
 abbrev pub same_head : Head → Head → Bool
 same_head a b =
-    bytes_eq a.name b.name && (a.flags == b.flags) && (a.stamp == b.stamp) && bytes_eq a.class b.class && bytes_eq a.security b.security && same_items a.values b.values
+    bytes_eq a.name b.name && (a.flags == b.flags) && (a.stamp == b.stamp)
+    && bytes_eq a.class b.class && bytes_eq a.security b.security && same_items a.values b.values
 
 -- two trees are one
 abbrev mutual

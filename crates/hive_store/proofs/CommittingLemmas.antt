@@ -23,18 +23,23 @@ use Rattle.hive_store.proofs.SizedLemmas.{has_bytes}
 use Rattle.hive_store.proofs.Holding.{clean, held_again, held_by, carried, carried_loads}
 
 -- what a session's disk loads as before
-pub stood : (s : Session) (tree : Tree) → HasTree (version_of s.base.minor) s.bins s.base.root tree → (held : Image) → Carries held s.base s.bins
+pub stood : (s : Session) (tree : Tree) → HasTree (version_of s.base.minor) s.bins s.base.root tree → (held : Image)
+    → Carries held s.base s.bins
     → (before : HiveState) × Loads held before false
 stood s tree has held carries =
-    let was = state_of tree s.base.first (version_of s.base.minor) in
-    (was, carried_loads held s.base s.bins was has.sized carries (record { bins = has.heap; cells = has.cells; tree = has.stands; sequence = refl; version = refl }))
+    let was = state_of tree s.base.first (version_of s.base.minor) in (
+      was,
+      carried_loads held s.base s.bins was has.sized carries
+          (record { bins = has.heap; cells = has.cells; tree = has.stands; sequence = refl; version = refl }),
+    )
 
 -- the next commit writes data in which the session's tree stands
 abbrev pub IsReady : Session → Type 0
 IsReady s = HasTree (version_of s.base.minor) (next_bins s) (next_root s) s.tree
 
 -- the bytes of the cells are data in which the session's tree stands
-pub is_ready : (base : Base) (bins : List ℕ) (cells : HiveCells) (changed : Bool) → IsSession base bins cells changed → IsHeap cells.bins
+pub is_ready : (base : Base) (bins : List ℕ) (cells : HiveCells) (changed : Bool) → IsSession base bins cells changed
+    → IsHeap cells.bins
     → IsWellFormed (cells_in cells) cells.root cells.tree → IsReady (session_of base bins cells changed)
 is_ready base bins cells changed is heap stands =
     subst (λ (v : HiveVersion). HasTree v (spelled 0 cells.bins) cells.root cells.tree) is.version
@@ -44,12 +49,16 @@ is_ready base bins cells changed is heap stands =
 closed_holds : (s : Session) → IsReady s → Holds (clean (next_base s) (next_bins s)) (committed_state s)
 closed_holds s has = record { bins = has.heap; cells = has.cells; tree = has.stands; sequence = refl; version = refl }
 
-pub commit_loads : (s : Session) → IsReady s → (held : Image) → Carries held (next_base s) (next_bins s) → Loads held (committed_state s) false
-commit_loads s has held carries = carried_loads held (next_base s) (next_bins s) (committed_state s) has.sized carries (closed_holds s has)
+pub commit_loads : (s : Session) → IsReady s → (held : Image) → Carries held (next_base s) (next_bins s)
+    → Loads held (committed_state s) false
+commit_loads s has held carries =
+    carried_loads held (next_base s) (next_bins s) (committed_state s) has.sized carries (closed_holds s has)
 
-pub commit_crash : (s : Session) → IsReady s → is_bins_size (length s.bins) ≡ true → (held : Image) (state : DiskState) → Carries held s.base s.bins
+pub commit_crash : (s : Session) → IsReady s → is_bins_size (length s.bins) ≡ true → (held : Image) (state : DiskState)
+    → Carries held s.base s.bins
     → EachCrash state (IsBeforeOrAfter s.base s.bins (next_base s) (next_bins s))
-    → (before : HiveState) (dirty : Bool) → Loads held before dirty → EachCrash state (LoadsAsEither before (committed_state s))
+    → (before : HiveState) (dirty : Bool) → Loads held before dirty
+    → EachCrash state (LoadsAsEither before (committed_state s))
 commit_crash s has size held state carries each before dirty loads c crash =
     let was = clean s.base s.bins in
     let holds : Holds was before = held_by held before dirty was loads (carried held s.base s.bins size carries) in
@@ -61,39 +70,52 @@ commit_crash s has size held state carries each before dirty loads c crash =
 -- ---- the session after the commit
 
 -- the cells are what the next session's disk carries, and the tree stands in them
-pub next_session : (s : Session) → IsReady s → s.cells.version ≡ version_of s.base.minor → (closed : Base) (bins new : List ℕ) (root : ℕ) → closed ≡ closed_of s.base new root
+pub next_session : (s : Session) → IsReady s → s.cells.version ≡ version_of s.base.minor
+    → (closed : Base) (bins new : List ℕ) (root : ℕ) → closed ≡ closed_of s.base new root
     → bins ≡ new → new ≡ next_bins s → root ≡ next_root s → IsSession closed bins s.cells false
 next_session s has version closed bins new root closed_is bins_are written at =
-    let same : closed ≡ next_base s = closed_is ∙ ap (λ (b : List ℕ). closed_of s.base b root) written ∙ ap (λ (n : ℕ). closed_of s.base (next_bins s) n) at in
+    let same : closed ≡ next_base s =
+    closed_is ∙ ap (λ (b : List ℕ). closed_of s.base b root) written
+    ∙ ap (λ (n : ℕ). closed_of s.base (next_bins s) n) at in
     let whole : bins ≡ next_bins s = bins_are ∙ written in
     subst (λ (b : Base). IsSession b bins s.cells false) (sym same)
     (subst (λ (b : List ℕ). IsSession (next_base s) b s.cells false) (sym whole)
     (record { committed = s.tree; carried = has; version = version; kept = λ e. record { bytes = refl; root = refl } }))
 
 -- it is the session that the book of hives says
-pub next_is : (s : Session) → s.tree ≡ s.cells.tree → (closed : Base) (bins new : List ℕ) (root : ℕ) → closed ≡ closed_of s.base new root → bins ≡ new → new ≡ next_bins s → root ≡ next_root s
+pub next_is : (s : Session) → s.tree ≡ s.cells.tree → (closed : Base) (bins new : List ℕ) (root : ℕ)
+    → closed ≡ closed_of s.base new root → bins ≡ new → new ≡ next_bins s → root ≡ next_root s
     → session_of closed bins s.cells false ≡ committed s
 next_is s tree closed bins new root closed_is bins_are written at =
-    ap (λ (b : Base). session_of b bins s.cells false) (closed_is ∙ ap (λ (b : List ℕ). closed_of s.base b root) written ∙ ap (λ (n : ℕ). closed_of s.base (next_bins s) n) at)
+    ap (λ (b : Base). session_of b bins s.cells false)
+    (closed_is ∙ ap (λ (b : List ℕ). closed_of s.base b root) written
+    ∙ ap (λ (n : ℕ). closed_of s.base (next_bins s) n) at)
     ∙ ap (λ (b : List ℕ). session_of (next_base s) b s.cells false) (bins_are ∙ written)
-    ∙ ap (λ (t : Tree). record { base = next_base s; bins = next_bins s; cells = s.cells; tree = t; changed = false }) (sym tree)
+    ∙ ap (λ (t : Tree). record { base = next_base s; bins = next_bins s; cells = s.cells; tree = t; changed = false })
+    (sym tree)
 
 -- what is said of the data that were written is said of those of the session
-pub as_written : (s : Session) (P : List ℕ → List ℕ → ℕ → Type 0) (old new : List ℕ) (root : ℕ) → old ≡ s.bins → new ≡ next_bins s → root ≡ next_root s
+pub as_written : (s : Session) (P : List ℕ → List ℕ → ℕ → Type 0) (old new : List ℕ) (root : ℕ) → old ≡ s.bins
+    → new ≡ next_bins s → root ≡ next_root s
     → P old new root → P s.bins (next_bins s) (next_root s)
 as_written s P old new root old_is written at is =
-    subst (λ (n : ℕ). P s.bins (next_bins s) n) at (subst (λ (b : List ℕ). P s.bins b root) written (subst (λ (b : List ℕ). P b new root) old_is is))
+    subst (λ (n : ℕ). P s.bins (next_bins s) n) at
+    (subst (λ (b : List ℕ). P s.bins b root) written (subst (λ (b : List ℕ). P b new root) old_is is))
 
 -- ---- refusals
 
-same_stop : (T U : Type 0) (stop other : CommitStop) → IsErrOf {T = U} (Err stop) other → IsErrOf {T = T} (Err stop) other
+same_stop : (T U : Type 0) (stop other : CommitStop) → IsErrOf {T = U} (Err stop) other
+    → IsErrOf {T = T} (Err stop) other
 same_stop T U stop other e = let same : stop ≡ other = cc in ap Err same
 
 -- a refusal leaves the disk the same whatever the answer would have been
-pub goes_again : (T U : Type 0) (old new : DiskState) (stop : CommitStop) → IsCommitOn {T = T} old new (Err stop) → IsCommitOn {T = U} old new (Err stop)
+pub goes_again : (T U : Type 0) (old new : DiskState) (stop : CommitStop) → IsCommitOn {T = T} old new (Err stop)
+    → IsCommitOn {T = U} old new (Err stop)
 goes_again T U old new stop was =
-    let to : (other : CommitStop) → IsErrOf {T = T} (Err stop) other → IsErrOf {T = U} (Err stop) other = λ other. same_stop U T stop other in
-    let back : (other : CommitStop) → IsErrOf {T = U} (Err stop) other → IsErrOf {T = T} (Err stop) other = λ other. same_stop T U stop other in
+    let to : (other : CommitStop) → IsErrOf {T = T} (Err stop) other → IsErrOf {T = U} (Err stop) other =
+    λ other. same_stop U T stop other in
+    let back : (other : CommitStop) → IsErrOf {T = U} (Err stop) other → IsErrOf {T = T} (Err stop) other =
+    λ other. same_stop T U stop other in
     let on = was.goes_on in
     record {
       goes_on = record {

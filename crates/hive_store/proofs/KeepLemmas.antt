@@ -27,11 +27,15 @@ pub kept_one : (version : HiveVersion) (t : Tree) (step : Step) → Keep version
 unfolding edited
 kept_one version t step e = go (after_step step t) refl e
   where
-    within : (v : Tree) (b : Bool) → nat_lt most_bulk (bulk_of version v) ≡ b → cond b (Err full) (Ok v) ≡ made t → (v ≡ t) × (nat_lt most_bulk (bulk_of version t) ≡ false)
+    within : (v : Tree) (b : Bool) → nat_lt most_bulk (bulk_of version v) ≡ b → cond b (Err full) (Ok v) ≡ made t
+        → (v ≡ t) × (nat_lt most_bulk (bulk_of version t) ≡ false)
     within v true is e = absurd cc
-    within v false is e = let same : v ≡ t = cc in (same, ap (λ (u : Tree). nat_lt most_bulk (bulk_of version u)) (sym same) ∙ is)
+    within v false is e = let same : v ≡ t = cc in
+        (same, ap (λ (u : Tree). nat_lt most_bulk (bulk_of version u)) (sym same) ∙ is)
 
-    go : (r : Result Tree Refusal) → after_step step t ≡ r → then_edit (then_edit r (λ u. Ok u)) (λ u. cond (nat_lt most_bulk (bulk_of version u)) (Err full) (Ok u)) ≡ made t
+    go : (r : Result Tree Refusal) → after_step step t ≡ r
+        → then_edit (then_edit r (λ u. Ok u)) (λ u. cond (nat_lt most_bulk (bulk_of version u)) (Err full) (Ok u))
+        ≡ made t
         → IsKept version t step
     go (Ok v) is e = let p = within v (nat_lt most_bulk (bulk_of version v)) refl e in (is ∙ ap made p.0, p.1)
     go (Err why) is e = absurd cc
@@ -39,7 +43,8 @@ kept_one version t step e = go (after_step step t) refl e
 pub one_kept : (version : HiveVersion) (t : Tree) (step : Step) → IsKept version t step → Keep version t (step ∷ [])
 unfolding edited
 one_kept version t step is =
-    ap (λ (r : Result Tree Refusal). then_edit (then_edit r (λ u. Ok u)) (λ u. cond (nat_lt most_bulk (bulk_of version u)) (Err full) (Ok u))) is.0
+    ap (λ (r : Result Tree Refusal). then_edit (then_edit r (λ u. Ok u))
+    (λ u. cond (nat_lt most_bulk (bulk_of version u)) (Err full) (Ok u))) is.0
     ∙ ap (λ (b : Bool). cond b (Err full) (made t)) is.1
 
 -- what the tests let pass is the result
@@ -52,7 +57,8 @@ passed (test ∷ tests) x y e = go test.0 e (λ e. passed tests x y e)
     go false e rest = rest e
 
 -- the first test does not hold, and the others let it pass too
-passed_first : (b : Bool) (why : Refusal) (tests : List (Bool × Refusal)) (x y : Tree) → unless ((b, why) ∷ tests) x ≡ made y → (b ≡ false) × (unless tests x ≡ made y)
+passed_first : (b : Bool) (why : Refusal) (tests : List (Bool × Refusal)) (x y : Tree)
+    → unless ((b, why) ∷ tests) x ≡ made y → (b ≡ false) × (unless tests x ≡ made y)
 passed_first true why tests x y e = absurd cc
 passed_first false why tests x y e = (refl, e)
 
@@ -69,15 +75,18 @@ there_some (Some x) e = (x, refl)
 
 -- ---- the first that passes
 
-first_keep : {X : Type 0} (p : X → Bool) (g : X → X) (xs : List X) (x : X) → find p xs ≡ Some x → g x ≡ x → at_first p g xs ≡ xs
+first_keep : {X : Type 0} (p : X → Bool) (g : X → X) (xs : List X) (x : X) → find p xs ≡ Some x → g x ≡ x
+    → at_first p g xs ≡ xs
 first_keep p g [] x f e = absurd cc
 first_keep {X} p g (y ∷ ys) x f e = go (p y) f (λ f. first_keep p g ys x f e)
   where
-    go : (b : Bool) → cond b (Some y) (find p ys) ≡ Some x → (find p ys ≡ Some x → at_first p g ys ≡ ys) → cond b (g y ∷ ys) (y ∷ at_first p g ys) ≡ y ∷ ys
+    go : (b : Bool) → cond b (Some y) (find p ys) ≡ Some x → (find p ys ≡ Some x → at_first p g ys ≡ ys)
+        → cond b (g y ∷ ys) (y ∷ at_first p g ys) ≡ y ∷ ys
     go true f rest = let same : y ≡ x = one_some y x f in ap (λ (z : X). z ∷ ys) (ap g same ∙ e ∙ sym same)
     go false f rest = ap (λ (l : List X). y ∷ l) (rest f)
 
-first_back : {X : Type 0} (p : X → Bool) (g : X → X) (xs : List X) (x : X) → find p xs ≡ Some x → at_first p g xs ≡ xs → g x ≡ x
+first_back : {X : Type 0} (p : X → Bool) (g : X → X) (xs : List X) (x : X) → find p xs ≡ Some x → at_first p g xs ≡ xs
+    → g x ≡ x
 first_back p g [] x f e = absurd cc
 first_back {X} p g (y ∷ ys) x f e = go (p y) f e (λ f e. first_back p g ys x f e)
   where
@@ -87,11 +96,13 @@ first_back {X} p g (y ∷ ys) x f e = go (p y) f e (λ f e. first_back p g ys x 
     go false f e rest = let h : at_first p g ys ≡ ys = cc in rest f h
 
 -- a list without one of its own is shorter
-shorter : {X : Type 0} (p : X → Bool) (xs : List X) (x : X) → find p xs ≡ Some x → suc (length (without_first p xs)) ≡ length xs
+shorter : {X : Type 0} (p : X → Bool) (xs : List X) (x : X) → find p xs ≡ Some x
+    → suc (length (without_first p xs)) ≡ length xs
 shorter p [] x f = absurd cc
 shorter {X} p (y ∷ ys) x f = go (p y) f (λ f. shorter p ys x f)
   where
-    go : (b : Bool) → cond b (Some y) (find p ys) ≡ Some x → (find p ys ≡ Some x → suc (length (without_first p ys)) ≡ length ys)
+    go : (b : Bool) → cond b (Some y) (find p ys) ≡ Some x
+        → (find p ys ≡ Some x → suc (length (without_first p ys)) ≡ length ys)
         → suc (length (cond b ys (y ∷ without_first p ys))) ≡ suc (length ys)
     go true f rest = refl
     go false f rest = ap suc (rest f)
@@ -103,26 +114,33 @@ longer : (t : Tree) (us : List Tree) → length (placed t us) ≡ suc (length us
 longer t [] = refl
 longer t (u ∷ us) = go (is_gt (folded_order (head u).name (head t).name)) (longer t us)
   where
-    go : (b : Bool) → length (placed t us) ≡ suc (length us) → length (cond b (t ∷ u ∷ us) (u ∷ placed t us)) ≡ suc (suc (length us))
+    go : (b : Bool) → length (placed t us) ≡ suc (length us)
+        → length (cond b (t ∷ u ∷ us) (u ∷ placed t us)) ≡ suc (suc (length us))
     go true e = refl
     go false e = ap suc e
 
 -- ---- the key at a path
 
-pub at_keep : (path : List (List ℕ)) (f : Tree → Tree) (t k : Tree) → find_key path t ≡ Some k → f k ≡ k → at_key path f t ≡ t
+pub at_keep : (path : List (List ℕ)) (f : Tree → Tree) (t k : Tree) → find_key path t ≡ Some k → f k ≡ k
+    → at_key path f t ≡ t
 at_keep [] f t k found e = let same : t ≡ k = one_some t k found in ap f same ∙ e ∙ sym same
-at_keep (name ∷ path) f (key h ts) k found e = go (find (is_named name) (listed ts)) refl found (λ child found. at_keep path f child k found e)
+at_keep (name ∷ path) f (key h ts) k found e =
+    go (find (is_named name) (listed ts)) refl found (λ child found. at_keep path f child k found e)
   where
     go : (o : Option Tree) → find (is_named name) (listed ts) ≡ o → option_and_then (find_key path) o ≡ Some k
-        → ((child : Tree) → find_key path child ≡ Some k → at_key path f child ≡ child) → at_key (name ∷ path) f (key h ts) ≡ key h ts
+        → ((child : Tree) → find_key path child ≡ Some k → at_key path f child ≡ child)
+        → at_key (name ∷ path) f (key h ts) ≡ key h ts
     go None is found below = absurd cc
     go (Some child) is found below =
         ap (λ (l : Trees). key h l)
-        (ap trees (first_keep (is_named name) (at_key path f) (listed ts) child is (below child found)) ∙ trees_listed ts)
+        (ap trees (first_keep (is_named name) (at_key path f) (listed ts) child is (below child found))
+        ∙ trees_listed ts)
 
-pub at_back : (path : List (List ℕ)) (f : Tree → Tree) (t k : Tree) → find_key path t ≡ Some k → at_key path f t ≡ t → f k ≡ k
+pub at_back : (path : List (List ℕ)) (f : Tree → Tree) (t k : Tree) → find_key path t ≡ Some k → at_key path f t ≡ t
+    → f k ≡ k
 at_back [] f t k found e = let same : t ≡ k = one_some t k found in sym (ap f same) ∙ e ∙ same
-at_back (name ∷ path) f (key h ts) k found e = go (find (is_named name) (listed ts)) refl found (λ child found e. at_back path f child k found e)
+at_back (name ∷ path) f (key h ts) k found e =
+    go (find (is_named name) (listed ts)) refl found (λ child found e. at_back path f child k found e)
   where
     go : (o : Option Tree) → find (is_named name) (listed ts) ≡ o → option_and_then (find_key path) o ≡ Some k
         → ((child : Tree) → find_key path child ≡ Some k → at_key path f child ≡ child → f k ≡ k) → f k ≡ k
@@ -134,13 +152,16 @@ at_back (name ∷ path) f (key h ts) k found e = go (find (is_named name) (liste
 
 -- ---- a value set
 
-item_keep : (name : List ℕ) (kind : ℕ) (bytes : List ℕ) (items : List Item) (v : Item) → find (is_item name) items ≡ Some v → v.kind ≡ kind → v.bytes ≡ bytes
+item_keep : (name : List ℕ) (kind : ℕ) (bytes : List ℕ) (items : List Item) (v : Item)
+    → find (is_item name) items ≡ Some v → v.kind ≡ kind → v.bytes ≡ bytes
     → with_item name kind bytes items ≡ items
 item_keep name kind bytes items v found k b =
     let g : Item → Item = λ w. record w { kind = kind; bytes = bytes } in
     let fixed : g v ≡ v =
-    ap (λ (n : ℕ). record v { kind = n; bytes = bytes }) (sym k) ∙ ap (λ (l : List ℕ). record v { kind = v.kind; bytes = l }) (sym b) in
-    ap (λ (o : Option Item). cond (is_some o) (at_first (is_item name) g items) (items ++ record { name = name; kind = kind; bytes = bytes } ∷ [])) found
+    ap (λ (n : ℕ). record v { kind = n; bytes = bytes }) (sym k)
+    ∙ ap (λ (l : List ℕ). record v { kind = v.kind; bytes = l }) (sym b) in
+    ap (λ (o : Option Item). cond (is_some o) (at_first (is_item name) g items)
+    (items ++ record { name = name; kind = kind; bytes = bytes } ∷ [])) found
     ∙ first_keep (is_item name) g items v found fixed
 
 item_back : (name : List ℕ) (kind : ℕ) (bytes : List ℕ) (items : List Item) → with_item name kind bytes items ≡ items
@@ -153,33 +174,41 @@ item_back name kind bytes items e = go (find (is_item name) items) refl e
     fresh : Item
     fresh = record { name = name; kind = kind; bytes = bytes }
 
-    go : (o : Option Item) → find (is_item name) items ≡ o → cond (is_some o) (at_first (is_item name) g items) (items ++ fresh ∷ []) ≡ items
+    go : (o : Option Item) → find (is_item name) items ≡ o
+        → cond (is_some o) (at_first (is_item name) g items) (items ++ fresh ∷ []) ≡ items
         → (v : Item) × (find (is_item name) items ≡ Some v) × (v.kind ≡ kind) × (v.bytes ≡ bytes)
     go None is e = absurd (omega (arith, length-append items (fresh ∷ []), ap (λ (l : List Item). length l) e))
     go (Some v) is e =
         let same : g v ≡ v = first_back (is_item name) g items v is e in
         (v, is, sym (ap (λ (w : Item). w.kind) same), sym (ap (λ (w : Item). w.bytes) same))
 
-items_keep : (change : List Item → List Item) (k : Tree) → change (head k).values ≡ (head k).values → of_items change k ≡ k
+items_keep : (change : List Item → List Item) (k : Tree) → change (head k).values ≡ (head k).values
+    → of_items change k ≡ k
 items_keep change (key h ts) e = ap (λ (l : List Item). key (record h { values = l }) ts) e
 
-items_back : (change : List Item → List Item) (k : Tree) → of_items change k ≡ k → change (head k).values ≡ (head k).values
+items_back : (change : List Item → List Item) (k : Tree) → of_items change k ≡ k
+    → change (head k).values ≡ (head k).values
 items_back change (key h ts) e = ap (λ (t : Tree). (head t).values) e
 
 -- a value set that is there keeps the tree, where the limits allow it
-pub set_keep : (version : HiveVersion) (t k : Tree) (path : List (List ℕ)) (name : List ℕ) (kind : ℕ) (bytes : List ℕ) → nat_lt most_bulk (bulk_of version t) ≡ false
-    → nat_lt 16383 (length name) ≡ false → nat_lt 1048576 (length bytes) ≡ false → find_key path t ≡ Some k → HasValue k name kind bytes
+pub set_keep : (version : HiveVersion) (t k : Tree) (path : List (List ℕ)) (name : List ℕ) (kind : ℕ) (bytes : List ℕ)
+    → nat_lt most_bulk (bulk_of version t) ≡ false
+    → nat_lt 16383 (length name) ≡ false → nat_lt 1048576 (length bytes) ≡ false → find_key path t ≡ Some k
+    → HasValue k name kind bytes
     → Keep version t (set_value path name kind bytes ∷ [])
 set_keep version t k path name kind bytes small short few found has =
     let change = of_items (with_item name kind bytes) in
     let same : at_key path change t ≡ t =
-    at_keep path change t k found (items_keep (with_item name kind bytes) k (item_keep name kind bytes (head k).values has.value has.found has.kind_is has.bytes_are)) in
+    at_keep path change t k found
+    (items_keep (with_item name kind bytes) k
+    (item_keep name kind bytes (head k).values has.value has.found has.kind_is has.bytes_are)) in
     let step : value_set path name kind bytes t ≡ made t =
     rw (ap (λ (o : Option Tree). is_none o) found, short, few) (ap made same) in
     one_kept version t (set_value path name kind bytes) (step, small)
 
 -- what a value set keeps is within the limits, and has the value
-pub record IsSetBefore (version : HiveVersion) (t : Tree) (path : List (List ℕ)) (name : List ℕ) (kind : ℕ) (bytes : List ℕ) : Type 0 where
+pub record IsSetBefore (version : HiveVersion) (t : Tree) (path : List (List ℕ)) (name : List ℕ) (kind : ℕ)
+    (bytes : List ℕ) : Type 0 where
   pub small : nat_lt most_bulk (bulk_of version t) ≡ false
   pub short : nat_lt 16383 (length name) ≡ false
   pub few : nat_lt 1048576 (length bytes) ≡ false
@@ -199,7 +228,8 @@ set_back version t path name kind bytes e =
     let three = passed_first (nat_lt 1048576 (length bytes)) data_too_long [] (at_key path change t) t two.1 in
     let k = there (find_key path t) one.0 in
     let same : at_key path change t ≡ t = passed [] (at_key path change t) t three.1 in
-    let v = item_back name kind bytes (head k.0).values (items_back (with_item name kind bytes) k.0 (at_back path change t k.0 k.1 same)) in
+    let v = item_back name kind bytes (head k.0).values
+    (items_back (with_item name kind bytes) k.0 (at_back path change t k.0 k.1 same)) in
     record {
       small = kept.1;
       short = two.0;
@@ -210,23 +240,29 @@ set_back version t path name kind bytes e =
     }
 
 -- a value set keeps the tree exactly where the limits allow it and the key that is found has the value
-pub set_same : (version : HiveVersion) (t k : Tree) (path : List (List ℕ)) (name : List ℕ) (kind : ℕ) (bytes : List ℕ) (b : Bool) (n : ℕ) → n ≡ bulk_of version t → n ≤ 16773120
-    → length name ≤ 16383 → length bytes ≤ 1048576 → Some k ≡ find_key path t → ((b ≡ true) ↔ HasValue k name kind bytes)
+pub set_same : (version : HiveVersion) (t k : Tree) (path : List (List ℕ)) (name : List ℕ) (kind : ℕ) (bytes : List ℕ)
+    (b : Bool) (n : ℕ) → n ≡ bulk_of version t → n ≤ 16773120
+    → length name ≤ 16383 → length bytes ≤ 1048576 → Some k ≡ find_key path t
+    → ((b ≡ true) ↔ HasValue k name kind bytes)
     → ((b ≡ true) ↔ Keep version t (set_value path name kind bytes ∷ []))
 set_same version t k path name kind bytes b n bulk within short few found is =
     let small = le-ltb most_bulk (bulk_of version t) (omega (arith, bulk, within)) in
     let back : Keep version t (set_value path name kind bytes ∷ []) → b ≡ true = λ kept.
     let s = set_back version t path name kind bytes kept in
     let same : s.at ≡ k = one_some s.at k (sym s.found ∙ sym found) in
-    is.1 (subst (λ (u : Tree). HasValue u name kind bytes) same s.has) in
-    (λ e. set_keep version t k path name kind bytes small (le-ltb 16383 (length name) short) (le-ltb 1048576 (length bytes) few) (sym found) (is.0 e), back)
+    is.1 (subst (λ (u : Tree). HasValue u name kind bytes) same s.has) in (
+      λ e. set_keep version t k path name kind bytes small (le-ltb 16383 (length name) short)
+          (le-ltb 1048576 (length bytes) few) (sym found) (is.0 e),
+      back,
+    )
 
 -- where it isn't kept, it is said so
 pub false_same : (P : Type 0) → (P → ⊥) → ((false ≡ true) ↔ P)
 false_same P no_p = (λ e. absurd cc, λ p. absurd (no_p p))
 
 -- what is said of the one step is said of the steps
-pub one_step : (version : HiveVersion) (t : Tree) (steps : List Step) (one : Step) (b : Bool) → steps ≡ one ∷ [] → ((b ≡ true) ↔ Keep version t (one ∷ []))
+pub one_step : (version : HiveVersion) (t : Tree) (steps : List Step) (one : Step) (b : Bool) → steps ≡ one ∷ []
+    → ((b ≡ true) ↔ Keep version t (one ∷ []))
     → ((b ≡ true) ↔ Keep version t steps)
 one_step version t steps one b e is = subst (λ (l : List Step). (b ≡ true) ↔ Keep version t l) (sym e) is
 
@@ -236,20 +272,31 @@ module _ (version : HiveVersion) (t : Tree) (path : List (List ℕ)) (name : Lis
   IsKeptBy = Keep version t (set_value path name kind bytes ∷ [])
 
   pub not_small : (n : ℕ) → n ≡ bulk_of version t → 16773120 < n → ((false ≡ true) ↔ IsKeptBy)
-  not_small n is big = false_same IsKeptBy (λ kept. omega (arith, is, big, ltb-false most_bulk (bulk_of version t) (set_back version t path name kind bytes kept).small))
+  not_small n is big = false_same IsKeptBy
+      (λ kept. omega (
+        arith,
+        is,
+        big,
+        ltb-false most_bulk (bulk_of version t) (set_back version t path name kind bytes kept).small,
+      ))
 
   pub not_short : 16383 < length name → ((false ≡ true) ↔ IsKeptBy)
-  not_short long = false_same IsKeptBy (λ kept. omega (arith, long, ltb-false 16383 (length name) (set_back version t path name kind bytes kept).short))
+  not_short long = false_same IsKeptBy
+      (λ kept. omega (arith, long, ltb-false 16383 (length name) (set_back version t path name kind bytes kept).short))
 
   pub not_few : 1048576 < length bytes → ((false ≡ true) ↔ IsKeptBy)
-  not_few many = false_same IsKeptBy (λ kept. omega (arith, many, ltb-false 1048576 (length bytes) (set_back version t path name kind bytes kept).few))
+  not_few many = false_same IsKeptBy
+      (λ kept. omega (arith, many, ltb-false 1048576 (length bytes) (set_back version t path name kind bytes kept).few))
 
   pub not_there : find_key path t ≡ None → ((false ≡ true) ↔ IsKeptBy)
-  not_there gone = false_same IsKeptBy (λ kept. absurd (let s = set_back version t path name kind bytes kept in let e : None ≡ Some s.at = sym gone ∙ s.found in cc))
+  not_there gone = false_same IsKeptBy
+      (λ kept. absurd (let s = set_back version t path name kind bytes kept in
+      let e : None ≡ Some s.at = sym gone ∙ s.found in cc))
 
 -- ---- steps that never leave the tree as it is
 
-pub delete_value_changes : (version : HiveVersion) (t : Tree) (path : List (List ℕ)) (name : List ℕ) → Keep version t (delete_value path name ∷ []) → ⊥
+pub delete_value_changes : (version : HiveVersion) (t : Tree) (path : List (List ℕ)) (name : List ℕ)
+    → Keep version t (delete_value path name ∷ []) → ⊥
 delete_value_changes version t path name e =
     let kept = kept_one version t (delete_value path name) e in
     let change = of_items (without_first (is_item name)) in
@@ -261,7 +308,8 @@ delete_value_changes version t path name e =
     sym (ap (λ (o : Option Tree). not (option_map_or (λ u. is_some (find_item name u)) o false)) k.1) ∙ two.0 in
     let v = there_some (find_item name k.0) (held (is_some (find_item name k.0)) some) in
     let same : at_key path change t ≡ t = passed [] (at_key path change t) t two.1 in
-    never_shorter (is_item name) (head k.0).values v.0 v.1 (items_back (without_first (is_item name)) k.0 (at_back path change t k.0 k.1 same))
+    never_shorter (is_item name) (head k.0).values v.0 v.1
+    (items_back (without_first (is_item name)) k.0 (at_back path change t k.0 k.1 same))
   where
     held : (b : Bool) → not b ≡ false → b ≡ true
     held true e = refl
@@ -270,7 +318,8 @@ delete_value_changes version t path name e =
 child_back : (change : List Tree → List Tree) (t : Tree) → of_children change t ≡ t → change (children t) ≡ children t
 child_back change (key h ts) e = sym (listed_trees (change (listed ts))) ∙ ap children e
 
-without_changes : (path : List (List ℕ)) (t k : Tree) → (path ≡ [] → ⊥) → find_key path t ≡ Some k → without_key path t ≡ t → ⊥
+without_changes : (path : List (List ℕ)) (t k : Tree) → (path ≡ [] → ⊥) → find_key path t ≡ Some k
+    → without_key path t ≡ t → ⊥
 without_changes [] t k some found e = some refl
 without_changes (name ∷ []) t k some found e =
     let c = first_there (find (is_named name) (children t)) found in
@@ -280,16 +329,19 @@ without_changes (name ∷ []) t k some found e =
     first_there None e = absurd cc
     first_there (Some x) e = (x, refl)
 without_changes (name ∷ next ∷ path) t k some found e =
-    go (find (is_named name) (children t)) refl found (λ child found e. without_changes (next ∷ path) child k (λ n. absurd cc) found e)
+    go (find (is_named name) (children t)) refl found
+    (λ child found e. without_changes (next ∷ path) child k (λ n. absurd cc) found e)
   where
     go : (o : Option Tree) → find (is_named name) (children t) ≡ o → option_and_then (find_key (next ∷ path)) o ≡ Some k
         → ((child : Tree) → find_key (next ∷ path) child ≡ Some k → without_key (next ∷ path) child ≡ child → ⊥) → ⊥
     go None is found below = absurd cc
     go (Some child) is found below =
         below child found
-        (first_back (is_named name) (without_key (next ∷ path)) (children t) child is (child_back (at_first (is_named name) (without_key (next ∷ path))) t e))
+        (first_back (is_named name) (without_key (next ∷ path)) (children t) child is
+        (child_back (at_first (is_named name) (without_key (next ∷ path))) t e))
 
-pub delete_key_changes : (version : HiveVersion) (t : Tree) (path : List (List ℕ)) → Keep version t (delete_key path ∷ []) → ⊥
+pub delete_key_changes : (version : HiveVersion) (t : Tree) (path : List (List ℕ))
+    → Keep version t (delete_key path ∷ []) → ⊥
 delete_key_changes version t path e =
     let kept = kept_one version t (delete_key path) e in
     let one = passed_first ((length path == 0) || is_none (find_key path t)) no_key [] (without_key path t) t kept.0 in
@@ -301,18 +353,27 @@ delete_key_changes version t path e =
 
     go : (p : List (List ℕ)) → ((length p == 0) || is_none (find_key p t)) ≡ false → without_key p t ≡ t → ⊥
     go [] is same = absurd cc
-    go (name ∷ p) is same = let k = there (find_key (name ∷ p) t) (neither (length (name ∷ p) == 0) (is_none (find_key (name ∷ p) t)) is) in without_changes (name ∷ p) t k.0 (λ n. absurd cc) k.1 same
+    go (name ∷ p) is same = let k =
+        there (find_key (name ∷ p) t) (neither (length (name ∷ p) == 0) (is_none (find_key (name ∷ p) t)) is) in
+        without_changes (name ∷ p) t k.0 (λ n. absurd cc) k.1 same
 
 child_added_changes : (name : List ℕ) (k t : Tree) → with_child name k t ≡ t → ⊥
 child_added_changes name k t e =
-    omega (arith, longer (renamed name k) (children t), ap (λ (l : List Tree). length l) (child_back (placed (renamed name k)) t e))
+    omega (
+      arith,
+      longer (renamed name k) (children t),
+      ap (λ (l : List Tree). length l) (child_back (placed (renamed name k)) t e),
+    )
 
-pub add_child_changes : (version : HiveVersion) (t : Tree) (name : List ℕ) (k : Tree) → Keep version t (add_child name k ∷ []) → ⊥
+pub add_child_changes : (version : HiveVersion) (t : Tree) (name : List ℕ) (k : Tree)
+    → Keep version t (add_child name k ∷ []) → ⊥
 add_child_changes version t name k e =
-    let tests : List (Bool × Refusal) = name_tests name ++ (has_child name t, exists) ∷ (nat_lt 512 (levels k + 1), too_deep) ∷ [] in
+    let tests : List (Bool × Refusal) =
+    name_tests name ++ (has_child name t, exists) ∷ (nat_lt 512 (levels k + 1), too_deep) ∷ [] in
     child_added_changes name k t (passed tests (with_child name k t) t (kept_one version t (add_child name k) e).0)
 
-pub copy_child_changes : (version : HiveVersion) (t : Tree) (from to : List ℕ) → Keep version t (copy_child from to ∷ []) → ⊥
+pub copy_child_changes : (version : HiveVersion) (t : Tree) (from to : List ℕ)
+    → Keep version t (copy_child from to ∷ []) → ⊥
 copy_child_changes version t from to e =
     let kept = kept_one version t (copy_child from to) e in
     let tests : List (Bool × Refusal) = name_tests to ++ (has_child to t, exists) ∷ [] in
@@ -334,9 +395,11 @@ may_keep (copy_child from to) = false
 may_keep (add_child name k) = false
 
 -- a step that may not does not
-pub step_changes : (version : HiveVersion) (t : Tree) (steps : List Step) (one : Step) → steps ≡ one ∷ [] → may_keep one ≡ false
+pub step_changes : (version : HiveVersion) (t : Tree) (steps : List Step) (one : Step) → steps ≡ one ∷ []
+    → may_keep one ≡ false
     → ((false ≡ true) ↔ Keep version t steps)
-step_changes version t steps one e may = one_step version t steps one false e (false_same (Keep version t (one ∷ [])) (go one may))
+step_changes version t steps one e may =
+    one_step version t steps one false e (false_same (Keep version t (one ∷ [])) (go one may))
   where
     go : (s : Step) → may_keep s ≡ false → Keep version t (s ∷ []) → ⊥
     go (set_value path name kind bytes) may kept = absurd cc

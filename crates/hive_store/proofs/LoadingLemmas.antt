@@ -16,17 +16,20 @@ use Rattle.hive_commit.proofs.Kept.{only_held}
 use Rattle.hive_store.proofs.Holding.{held_again, held_by, carried_loads}
 
 -- an image that loads has no fault
-pub loads_or_fails : (image : Image) (s : HiveState) (dirty : Bool) (fault : HiveFault) → Loads image s dirty → LoadFault image fault → ⊥
+pub loads_or_fails : (image : Image) (s : HiveState) (dirty : Bool) (fault : HiveFault) → Loads image s dirty
+    → LoadFault image fault → ⊥
 loads_or_fails = load-or-fault one_list (λ bins fault is fails. not_both (spelled 0 bins) bins fault is refl fails)
 
 -- with nothing in flight and the same held
-pub kept_loads : (old new : DiskState) → new.held ≡ old.held → new.flight ≡ [] → (s : HiveState) (dirty : Bool) → Loads old.held s dirty
+pub kept_loads : (old new : DiskState) → new.held ≡ old.held → new.flight ≡ [] → (s : HiveState) (dirty : Bool)
+    → Loads old.held s dirty
     → EachCrash new (λ (c : Image). LoadsAs c s)
 kept_loads old new held none s dirty loads c crash =
     (dirty, subst (λ (i : Image). Loads i s dirty) (sym (only_held new c none crash ∙ held)) loads)
 
 -- what was found is restored, all of it or up to a stop
-pub restored_loads : (old : Image) (r : Recovered) → recovered_of old ≡ Ok r → (closed : Base) (bins : List ℕ) → closed ≡ r.base → bins ≡ r.bins
+pub restored_loads : (old : Image) (r : Recovered) → recovered_of old ≡ Ok r → (closed : Base) (bins : List ℕ)
+    → closed ≡ r.base → bins ≡ r.bins
     → (new : DiskState) → EachCrash new (λ (c : Image). IsRecoveredAs c closed bins)
     → (s : HiveState) (dirty : Bool) → Loads old s dirty → EachCrash new (λ (c : Image). LoadsAs c s)
 restored_loads old r is closed bins closed_is bins_is new each s dirty loads c crash =
@@ -34,10 +37,18 @@ restored_loads old r is closed bins closed_is bins_is new each s dirty loads c c
     held_again r s c (held_by old s dirty r loads is) (subst (λ (l : List ℕ). IsRecoveredAs c r.base l) bins_is same)
 
 -- what carries what was found loads as what was found
-pub found_again : (old : Image) (s : HiveState) (dirty : Bool) (r : Recovered) → Loads old s dirty → recovered_of old ≡ Ok r → is_bins_size (length r.bins) ≡ true
-    → (closed : Base) (bins : List ℕ) → closed ≡ r.base → bins ≡ r.bins → (new : Image) → Carries new closed bins → Loads new s false
+pub found_again : (old : Image) (s : HiveState) (dirty : Bool) (r : Recovered) → Loads old s dirty
+    → recovered_of old ≡ Ok r → is_bins_size (length r.bins) ≡ true
+    → (closed : Base) (bins : List ℕ) → closed ≡ r.base → bins ≡ r.bins → (new : Image) → Carries new closed bins
+    → Loads new s false
 found_again old s dirty r loads is size closed bins closed_is bins_is new carries =
     let holds = held_by old s dirty r loads is in
     let same : Carries new r.base bins = subst (λ (b : Base). Carries new b bins) closed_is carries in
     carried_loads new r.base r.bins s size (subst (λ (l : List ℕ). Carries new r.base l) bins_is same)
-    (record { bins = holds.bins; cells = holds.cells; tree = holds.tree; sequence = holds.sequence; version = holds.version })
+    (record {
+      bins = holds.bins;
+      cells = holds.cells;
+      tree = holds.tree;
+      sequence = holds.sequence;
+      version = holds.version;
+    })

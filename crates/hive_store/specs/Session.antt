@@ -52,12 +52,26 @@ pub record IsSession (base : Base) (bins : List ℕ) (cells : HiveCells) (change
 abbrev pub coded_base : Coded Base
 coded_base =
     code_by (ℕ × (ℕ × (ℕ × (ℕ × (ℕ × (ℕ × (ℕ × (ℕ × (List ℕ × List ℕ)))))))))
-    (coded× coded_ℕ (coded× coded_ℕ (coded× coded_ℕ (coded× coded_ℕ (coded× coded_ℕ (coded× coded_ℕ (coded× coded_ℕ (coded× coded_ℕ (coded× (coded_list coded_ℕ) (coded_list coded_ℕ))))))))))
+    (coded× coded_ℕ (coded× coded_ℕ
+    (coded× coded_ℕ (coded× coded_ℕ
+    (coded× coded_ℕ (coded× coded_ℕ (coded× coded_ℕ (coded× coded_ℕ (coded× (coded_list coded_ℕ) (coded_list coded_ℕ))))))))))
     (λ b. (b.first, (b.second, (b.stamp, (b.minor, (b.kind, (b.root, (b.size, (b.cluster, (b.name, b.rest))))))))))
-    (λ p. record { first = p.0; second = p.1.0; stamp = p.1.1.0; minor = p.1.1.1.0; kind = p.1.1.1.1.0; root = p.1.1.1.1.1.0; size = p.1.1.1.1.1.1.0; cluster = p.1.1.1.1.1.1.1.0; name = p.1.1.1.1.1.1.1.1.0; rest = p.1.1.1.1.1.1.1.1.1 })
+    (λ p. record {
+      first = p.0;
+      second = p.1.0;
+      stamp = p.1.1.0;
+      minor = p.1.1.1.0;
+      kind = p.1.1.1.1.0;
+      root = p.1.1.1.1.1.0;
+      size = p.1.1.1.1.1.1.0;
+      cluster = p.1.1.1.1.1.1.1.0;
+      name = p.1.1.1.1.1.1.1.1.0;
+      rest = p.1.1.1.1.1.1.1.1.1;
+    })
     (λ _. refl)
 
 abbrev pub coded_session : Coded Session
 coded_session =
     code_by (Base × (List ℕ × (HiveCells × (Tree × Bool)))) (coded× coded_base (coded× (coded_list coded_ℕ) (coded× coded_hive (coded× coded_tree coded_bool))))
-    (λ s. (s.base, (s.bins, (s.cells, (s.tree, s.changed))))) (λ p. record { base = p.0; bins = p.1.0; cells = p.1.1.0; tree = p.1.1.1.0; changed = p.1.1.1.1 }) (λ _. refl)
+    (λ s. (s.base, (s.bins, (s.cells, (s.tree, s.changed)))))
+    (λ p. record { base = p.0; bins = p.1.0; cells = p.1.1.0; tree = p.1.1.1.0; changed = p.1.1.1.1 }) (λ _. refl)

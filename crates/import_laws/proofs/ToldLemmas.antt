@@ -68,13 +68,16 @@ file_got name text None e = absurd cc
 file_got name text (Some bytes) e = ap (λ (b : List ℕ). Some b) (one_text bytes text e)
 
 module _ (words : ImportAsked) (old new : HostState) (disk : DiskState) (hive log : List ℕ)
-    (hive_is : IsFileOf disk.held Primary hive) (log_is : IsFileOf disk.held Log log) (untorn : HasUntornBlock disk.held) where
+    (hive_is : IsFileOf disk.held Primary hive) (log_is : IsFileOf disk.held Log log)
+    (untorn : HasUntornBlock disk.held) where
   again : (state : HiveState) → LoadsAs disk.held state → LoadsAs (image_of hive log) state
   again state loads = (loads.0, files_load disk.held hive log state loads.0 hive_is log_is untorn loads.1)
 
-  by_steps : (files : HiveFiles) (placed : Woken) (text : List ℕ) (r : Result (List Step) RegFault) → hive_in old.files words.hive words.log ≡ Ok files
+  by_steps : (files : HiveFiles) (placed : Woken) (text : List ℕ) (r : Result (List Step) RegFault)
+      → hive_in old.files words.hive words.log ≡ Ok files
       → Loads (image_in files) placed.state placed.dirty → old.files words.reg ≡ Some text → reg_steps_of text ≡ r
-      → EndsSteps files (import_saves words) placed.state r disk statuses.Done old.said new.said → LoadsAsTold words old new (image_of hive log)
+      → EndsSteps files (import_saves words) placed.state r disk statuses.Done old.said new.said
+      → LoadsAsTold words old new (image_of hive log)
   by_steps files placed text (Err fault) named loads got reads end = absurd (unfaulty fault old.said new.said end.0)
   by_steps files placed text (Ok steps) named loads got reads end = record {
     files = files;
@@ -89,18 +92,23 @@ module _ (words : ImportAsked) (old new : HostState) (disk : DiskState) (hive lo
     loads = again (change_of placed.state steps).state (end.1.loads disk.held (held_left disk));
   }
 
-  by_text : (files : HiveFiles) (placed : Woken) (r : Result (List ℕ) Refusal) → hive_in old.files words.hive words.log ≡ Ok files
+  by_text : (files : HiveFiles) (placed : Woken) (r : Result (List ℕ) Refusal)
+      → hive_in old.files words.hive words.log ≡ Ok files
       → Loads (image_in files) placed.state placed.dirty → file_in words.reg (old.files words.reg) ≡ r
-      → EndsText files (import_saves words) placed.state r disk statuses.Done old.said new.said → LoadsAsTold words old new (image_of hive log)
+      → EndsText files (import_saves words) placed.state r disk statuses.Done old.said new.said
+      → LoadsAsTold words old new (image_of hive log)
   by_text files placed (Err why) named loads got end = absurd (unrefused why old.said new.said end.0)
   by_text files placed (Ok text) named loads got end =
-      by_steps files placed text (reg_steps_of text) named loads (file_got words.reg text (old.files words.reg) got) refl end
+      by_steps files placed text (reg_steps_of text) named loads (file_got words.reg text (old.files words.reg) got)
+      refl end
 
   by_hive : (files : HiveFiles) → hive_in old.files words.hive words.log ≡ Ok files
-      → EndsHive files (import_saves words) (file_in words.reg (old.files words.reg)) disk statuses.Done old.said new.said
+      → EndsHive files (import_saves words) (file_in words.reg (old.files words.reg))
+      disk statuses.Done old.said new.said
       → LoadsAsTold words old new (image_of hive log)
   by_hive files named (inl fault) = absurd (unrefused (refusals.HiveFault fault.0) old.said new.said fault.2)
-  by_hive files named (inr (inl loads)) = by_text files loads.0 (file_in words.reg (old.files words.reg)) named loads.1 refl loads.2
+  by_hive files named (inr (inl loads)) =
+      by_text files loads.0 (file_in words.reg (old.files words.reg)) named loads.1 refl loads.2
   by_hive files named (inr (inr (inl lack))) = absurd (not_memory lack.0)
   by_hive files named (inr (inr (inr fault))) = absurd (not_read fault.0)
 
@@ -110,7 +118,8 @@ module _ (words : ImportAsked) (old new : HostState) (disk : DiskState) (hive lo
   by_end (Err r) named end = absurd (unrefused r old.said new.said end.0)
   by_end (Ok files) named end = by_hive files named end
 
-  pub held_loads : DecidesImport words statuses.Done old new disk → old.tells ≡ true → LoadsAsTold words old new (image_of hive log)
+  pub held_loads : DecidesImport words statuses.Done old new disk → old.tells ≡ true
+      → LoadsAsTold words old new (image_of hive log)
   held_loads decides tells = by_end (hive_in old.files words.hive words.log) refl (decides.leaves.said tells)
 
 -- ---- the files
@@ -129,9 +138,11 @@ pub saved_loads : (words : ImportAsked) (old new : HostState) (disk : DiskState)
     → LoadsAsTold words old new (image_of hive log)
 saved_loads words old new disk name other hive log decides tells hive_named log_named apart has_hive has_log untorn =
     let saved = (decides.files tells).0 in
-    let own : words.save_log ≡ Some name → ⊥ = λ e. apart (let both : Some name ≡ Some other = sym e ∙ log_named in cc) in
+    let own : words.save_log ≡ Some name → ⊥ =
+    λ e. apart (let both : Some name ≡ Some other = sym e ∙ log_named in cc) in
     let hive_saved : SavedAs Primary disk.held new.files name =
-    subst (λ (o : Option (List ℕ)). IfSome o (λ n. (words.save_log ≡ Some n → ⊥) → SavedAs Primary disk.held new.files n))
+    subst (λ (o : Option (List ℕ)). IfSome o
+    (λ n. (words.save_log ≡ Some n → ⊥) → SavedAs Primary disk.held new.files n))
     hive_named saved.hive own in
     let log_saved : SavedAs Log disk.held new.files other =
     subst (λ (o : Option (List ℕ)). IfSome o (λ n. SavedAs Log disk.held new.files n)) log_named saved.log in

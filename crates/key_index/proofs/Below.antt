@@ -18,7 +18,8 @@ use Rattle.key_index.proofs.Entered.{list_facts}
 -- ---- what is read from a payload
 
 -- a form that is read in the cell at an offset is read in its payload
-pub in_payload : {F : Type 0} (form : List ℕ → Result F HiveKind) (cells : Cells) (at : ℕ) (x : F) → reading form cells at ≡ done x
+pub in_payload : {F : Type 0} (form : List ℕ → Result F HiveKind) (cells : Cells) (at : ℕ) (x : F)
+    → reading form cells at ≡ done x
     → form (payload_in cells at) ≡ done x
 unfolding payload_in
 in_payload form cells at x r = go (cells.payload at) r
@@ -30,9 +31,13 @@ in_payload form cells at x r = go (cells.payload at) r
 leaf_list : (p offsets : List ℕ) → leaf_at p ≡ done offsets → IsOk (list_at p) × (offsets_of p ≡ offsets)
 unfolding leaf_at offsets_of
 leaf_list p offsets e =
-    let v = then_so (list_at p) (λ list. cond (is_list_of_lists list.kind) (Err FormKind) (done list.offsets)) offsets e in
-    let w = unless (is_list_of_lists v.0.kind) FormKind (done v.0.offsets) offsets v.2 in
-    (is_ok_of (list_at p) v.0 v.1, ap (λ (r : Result SubkeyList HiveKind). of_read r (λ list. list.offsets)) v.1 ∙ ok_same v.0.offsets offsets w.1)
+    let v = then_so (list_at p) (λ list. cond (is_list_of_lists list.kind) (Err FormKind) (done list.offsets))
+    offsets e in
+    let w = unless (is_list_of_lists v.0.kind) FormKind (done v.0.offsets) offsets v.2 in (
+      is_ok_of (list_at p) v.0 v.1,
+      ap (λ (r : Result SubkeyList HiveKind). of_read r (λ list. list.offsets)) v.1
+          ∙ ok_same v.0.offsets offsets w.1,
+    )
 
 -- ---- lists joined
 
@@ -45,19 +50,24 @@ joined_is cells (at ∷ more) offsets e =
     let here = leaf_list (payload_in cells at) leaf.0 (in_payload leaf_at cells at leaf.0 leaf.1) in
     let rest = joined_is cells more others.0 others.1 in (
       All-cons (λ (o : ℕ). IsOk (list_at (payload_in cells o))) at more here.0 rest.0,
-      ap (λ (xs : List ℕ). xs ++ offsets_in_lists cells more) here.1 ∙ ap (λ (ys : List ℕ). leaf.0 ++ ys) rest.1 ∙ ok_same (leaf.0 ++ others.0) offsets others.2,
+      ap (λ (xs : List ℕ). xs ++ offsets_in_lists cells more) here.1 ∙ ap (λ (ys : List ℕ). leaf.0 ++ ys) rest.1
+          ∙ ok_same (leaf.0 ++ others.0) offsets others.2,
     )
 
-nodes_of : (cells : Cells) (lists : List ℕ) → AreRead cells lists → All (IsNode cells) (offsets_in_lists cells lists) → AreLists cells lists
-nodes_of cells [] r n = All-nil (λ (at : ℕ). IsOk (list_at (payload_in cells at)) × All (IsNode cells) (offsets_in_list cells at))
+nodes_of : (cells : Cells) (lists : List ℕ) → AreRead cells lists → All (IsNode cells) (offsets_in_lists cells lists)
+    → AreLists cells lists
+nodes_of cells [] r n = All-nil
+    (λ (at : ℕ). IsOk (list_at (payload_in cells at)) × All (IsNode cells) (offsets_in_list cells at))
 nodes_of cells (at ∷ more) r n =
     All-cons (λ (o : ℕ). IsOk (list_at (payload_in cells o)) × All (IsNode cells) (offsets_in_list cells o)) at more
     (r 0 0 (omega arith), front (offsets_in_list cells at) (offsets_in_lists cells more) n)
-    (nodes_of cells more (λ k d lt. r (suc k) d (omega arith)) (back (offsets_in_list cells at) (offsets_in_lists cells more) n))
+    (nodes_of cells more (λ k d lt. r (suc k) d (omega arith))
+    (back (offsets_in_list cells at) (offsets_in_lists cells more) n))
   where
     front : (xs ys : List ℕ) → All (IsNode cells) (xs ++ ys) → All (IsNode cells) xs
     front [] ys h = All-nil (IsNode cells)
-    front (x ∷ xs) ys h = All-cons (IsNode cells) x xs (h 0 0 (omega arith)) (front xs ys (λ k d lt. h (suc k) d (omega arith)))
+    front (x ∷ xs) ys h = All-cons (IsNode cells) x xs (h 0 0 (omega arith))
+        (front xs ys (λ k d lt. h (suc k) d (omega arith)))
 
     back : (xs ys : List ℕ) → All (IsNode cells) (xs ++ ys) → All (IsNode cells) ys
     back [] ys h = h
@@ -68,28 +78,38 @@ nodes_of cells (at ∷ more) r n =
 -- the list of a key is read, and the children are its entries or those of its lists
 pub record ChildLists (cells : Cells) (list count : ℕ) : Type 0 where
   pub read : IsOk (list_at (payload_in cells list))
-  pub single : lists_lists (payload_in cells list) ≡ false → children_at cells list count ≡ offsets_of (payload_in cells list)
+  pub single : lists_lists (payload_in cells list) ≡ false
+      → children_at cells list count ≡ offsets_of (payload_in cells list)
   pub many : lists_lists (payload_in cells list) ≡ true
-      → AreRead cells (offsets_of (payload_in cells list)) × (children_at cells list count ≡ offsets_in_lists cells (offsets_of (payload_in cells list)))
+      → AreRead cells (offsets_of (payload_in cells list))
+      × (children_at cells list count ≡ offsets_in_lists cells (offsets_of (payload_in cells list)))
 
-lists_of : (cells : Cells) (list : ℕ) (l : SubkeyList) (offsets : List ℕ) → list_at (payload_in cells list) ≡ done l → entries_of cells l ≡ done offsets
+lists_of : (cells : Cells) (list : ℕ) (l : SubkeyList) (offsets : List ℕ) → list_at (payload_in cells list) ≡ done l
+    → entries_of cells l ≡ done offsets
     → (lists_lists (payload_in cells list) ≡ false → offsets ≡ offsets_of (payload_in cells list))
-    × (lists_lists (payload_in cells list) ≡ true → AreRead cells (offsets_of (payload_in cells list)) × (offsets ≡ offsets_in_lists cells (offsets_of (payload_in cells list))))
+    × (lists_lists (payload_in cells list) ≡ true
+    → AreRead cells (offsets_of (payload_in cells list))
+    × (offsets ≡ offsets_in_lists cells (offsets_of (payload_in cells list))))
 unfolding offsets_of
 lists_of cells list l offsets e f =
     let p = payload_in cells list in
     let facts = list_facts p l e in
     let same : offsets_of p ≡ l.offsets = ap (λ (r : Result SubkeyList HiveKind). of_read r (λ list. list.offsets)) e in (
       λ plain.
-          let g : done l.offsets ≡ done offsets = subst (λ (b : Bool). cond b (joined_at cells l.offsets) (done l.offsets) ≡ done offsets) (facts.lists ∙ plain) f in
+          let g : done l.offsets ≡ done offsets =
+          subst (λ (b : Bool). cond b (joined_at cells l.offsets) (done l.offsets) ≡ done offsets)
+          (facts.lists ∙ plain) f in
           sym (ok_same l.offsets offsets g) ∙ sym same,
       λ many.
-          let g : joined_at cells l.offsets ≡ done offsets = subst (λ (b : Bool). cond b (joined_at cells l.offsets) (done l.offsets) ≡ done offsets) (facts.lists ∙ many) f in
+          let g : joined_at cells l.offsets ≡ done offsets =
+          subst (λ (b : Bool). cond b (joined_at cells l.offsets) (done l.offsets) ≡ done offsets)
+          (facts.lists ∙ many) f in
           let j = joined_is cells l.offsets offsets g in
           (subst (AreRead cells) (sym same) j.0, sym j.1 ∙ ap (offsets_in_lists cells) (sym same)),
     )
 
-pub child_lists : (cells : Cells) (list count : ℕ) → ListsSiblings cells list count → 0 < count → ChildLists cells list count
+pub child_lists : (cells : Cells) (list count : ℕ) → ListsSiblings cells list count → 0 < count
+    → ChildLists cells list count
 unfolding entries_at
 child_lists cells list count s some =
     let v = value_of (entries_at cells list) (s.read some) in
@@ -106,26 +126,34 @@ child_lists cells list count s some =
       many = λ lists. let m = l.1 lists in (m.0, is ∙ m.1);
     }
 
-pub single_nodes : (cells : Cells) (list count : ℕ) → ListsSiblings cells list count → 0 < count → lists_lists (payload_in cells list) ≡ false
+pub single_nodes : (cells : Cells) (list count : ℕ) → ListsSiblings cells list count → 0 < count
+    → lists_lists (payload_in cells list) ≡ false
     → All (IsNode cells) (offsets_of (payload_in cells list))
-single_nodes cells list count s some plain = subst (All (IsNode cells)) ((child_lists cells list count s some).single plain) s.nodes
+single_nodes cells list count s some plain =
+    subst (All (IsNode cells)) ((child_lists cells list count s some).single plain) s.nodes
 
-pub single_apart : (cells : Cells) (list count : ℕ) → ListsSiblings cells list count → 0 < count → lists_lists (payload_in cells list) ≡ false
+pub single_apart : (cells : Cells) (list count : ℕ) → ListsSiblings cells list count → 0 < count
+    → lists_lists (payload_in cells list) ≡ false
     → NamesDiffer cells (offsets_of (payload_in cells list))
-single_apart cells list count s some plain = subst (NamesDiffer cells) ((child_lists cells list count s some).single plain) s.apart
+single_apart cells list count s some plain =
+    subst (NamesDiffer cells) ((child_lists cells list count s some).single plain) s.apart
 
-pub many_lists : (cells : Cells) (list count : ℕ) → ListsSiblings cells list count → 0 < count → lists_lists (payload_in cells list) ≡ true
+pub many_lists : (cells : Cells) (list count : ℕ) → ListsSiblings cells list count → 0 < count
+    → lists_lists (payload_in cells list) ≡ true
     → AreLists cells (offsets_of (payload_in cells list))
 many_lists cells list count s some lists =
     let m = (child_lists cells list count s some).many lists in
     nodes_of cells (offsets_of (payload_in cells list)) m.0 (subst (All (IsNode cells)) m.1 s.nodes)
 
-pub many_apart : (cells : Cells) (list count : ℕ) → ListsSiblings cells list count → 0 < count → lists_lists (payload_in cells list) ≡ true
+pub many_apart : (cells : Cells) (list count : ℕ) → ListsSiblings cells list count → 0 < count
+    → lists_lists (payload_in cells list) ≡ true
     → NamesDiffer cells (offsets_in_lists cells (offsets_of (payload_in cells list)))
-many_apart cells list count s some lists = subst (NamesDiffer cells) ((child_lists cells list count s some).many lists).1 s.apart
+many_apart cells list count s some lists =
+    subst (NamesDiffer cells) ((child_lists cells list count s some).many lists).1 s.apart
 
 -- the children below lists are key nodes
-pub all_nodes : (cells : Cells) (lists : List ℕ) → AreLists cells lists → All (IsNode cells) (offsets_in_lists cells lists)
+pub all_nodes : (cells : Cells) (lists : List ℕ) → AreLists cells lists
+    → All (IsNode cells) (offsets_in_lists cells lists)
 all_nodes cells [] h = All-nil (IsNode cells)
 all_nodes cells (at ∷ more) h =
     All-append (IsNode cells) (offsets_in_list cells at) (offsets_in_lists cells more) (h 0 0 (omega arith)).1
@@ -140,22 +168,28 @@ leaves_used cells (at ∷ more) = ap (λ (xs : List ℕ). at ∷ xs) (leaves_use
 -- the cells are that of the list, and those of its lists
 pub record UsedLists (cells : Cells) (list count : ℕ) : Type 0 where
   pub single : lists_lists (payload_in cells list) ≡ false → lists_at cells list count ≡ list ∷ []
-  pub many : lists_lists (payload_in cells list) ≡ true → lists_at cells list count ≡ list ∷ offsets_of (payload_in cells list)
+  pub many : lists_lists (payload_in cells list) ≡ true
+      → lists_at cells list count ≡ list ∷ offsets_of (payload_in cells list)
 
-pub used_lists : (cells : Cells) (list count : ℕ) → ListsSiblings cells list count → 0 < count → UsedLists cells list count
+pub used_lists : (cells : Cells) (list count : ℕ) → ListsSiblings cells list count → 0 < count
+    → UsedLists cells list count
 unfolding entries_at lists_at entries_checks offsets_of
 used_lists cells list count s some =
     let v = value_of (entries_at cells list) (s.read some) in
     let w = then_so (reading list_at cells list) (entries_of cells) v.0 v.1 in
     let read = in_payload list_at cells list w.0 w.1 in
     let facts = list_facts (payload_in cells list) w.0 read in
-    let same : offsets_of (payload_in cells list) ≡ w.0.offsets = ap (λ (r : Result SubkeyList HiveKind). of_read r (λ l. l.offsets)) read in
+    let same : offsets_of (payload_in cells list) ≡ w.0.offsets =
+    ap (λ (r : Result SubkeyList HiveKind). of_read r (λ l. l.offsets)) read in
     let zero_no : eqb count 0 ≡ false = ne_eqb count 0 (λ z. omega arith) in
-    let is : lists_at cells list count ≡ list ∷ used_in (cond (is_list_of_lists w.0.kind) (leaves_checks cells w.0.offsets) []) =
+    let is : lists_at cells list count ≡ list
+    ∷ used_in (cond (is_list_of_lists w.0.kind) (leaves_checks cells w.0.offsets) []) =
     ap (λ (b : Bool). cond b [] (used_in (entries_checks cells list))) zero_no
-    ∙ ap (λ (r : Result SubkeyList HiveKind). list ∷ used_in (below_of r (λ l. cond (is_list_of_lists l.kind) (leaves_checks cells l.offsets) []))) w.1 in
+    ∙ ap (λ (r : Result SubkeyList HiveKind). list
+    ∷ used_in (below_of r (λ l. cond (is_list_of_lists l.kind) (leaves_checks cells l.offsets) []))) w.1 in
     record {
-      single = λ plain. is ∙ ap (λ (b : Bool). list ∷ used_in (cond b (leaves_checks cells w.0.offsets) [])) (facts.lists ∙ plain);
+      single = λ plain. is ∙ ap (λ (b : Bool). list ∷ used_in (cond b (leaves_checks cells w.0.offsets) []))
+          (facts.lists ∙ plain);
       many = λ lists.
           is ∙ ap (λ (b : Bool). list ∷ used_in (cond b (leaves_checks cells w.0.offsets) [])) (facts.lists ∙ lists)
           ∙ ap (λ (xs : List ℕ). list ∷ xs) (leaves_used cells w.0.offsets ∙ sym same);

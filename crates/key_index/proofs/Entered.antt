@@ -22,12 +22,14 @@ pub record ListFacts (p : List ℕ) (list : SubkeyList) : Type 0 where
   pub offsets : list.offsets ≡ numbers_in (entry_size p) (u16_in p 2) (drop 4 p)
   pub lists : is_list_of_lists list.kind ≡ lists_lists p
 
-facts_of : (p : List ℕ) (list : SubkeyList) (kind : ListKind) (step : ℕ) → entry_size p ≡ step → is_list_of_lists kind ≡ lists_lists p
+facts_of : (p : List ℕ) (list : SubkeyList) (kind : ListKind) (step : ℕ) → entry_size p ≡ step
+    → is_list_of_lists kind ≡ lists_lists p
     → list_of kind step p ≡ done list → ListFacts p list
 unfolding list_of
 facts_of p list kind step sized lists e =
     let made : SubkeyList = record { kind = kind; offsets = numbers_in step (u16_in p 2) (drop 4 p) } in
-    let one = unless (nat_lt (length p) 4) FormShort (cond (nat_lt (length p) (4 + step * u16_in p 2)) (Err FormShort) (done made)) list e in
+    let one = unless (nat_lt (length p) 4) FormShort
+    (cond (nat_lt (length p) (4 + step * u16_in p 2)) (Err FormShort) (done made)) list e in
     let two = unless (nat_lt (length p) (4 + step * u16_in p 2)) FormShort (done made) list one.1 in
     let same : made ≡ list = ok_same made list two.1 in
     subst (λ (l : SubkeyList). ListFacts p l) same (record {
@@ -41,13 +43,18 @@ sign_is sign n e = eqb-true sign n e
 
 pub list_facts : (p : List ℕ) (list : SubkeyList) → list_at p ≡ done list → ListFacts p list
 unfolding list_at
-list_facts p list e = signed (u16_in p 0 == 0x696c) (u16_in p 0 == 0x666c) (u16_in p 0 == 0x686c) (u16_in p 0 == 0x6972) refl refl refl refl
+list_facts p list e = signed (u16_in p 0 == 0x696c) (u16_in p 0 == 0x666c) (u16_in p 0 == 0x686c) (u16_in p 0 == 0x6972)
+    refl refl refl refl
     (unless (nat_lt (length p) 2) FormShort
     (cond (u16_in p 0 == 0x696c) (list_of Li 4 p) (cond (u16_in p 0 == 0x666c) (list_of Lf 8 p)
-    (cond (u16_in p 0 == 0x686c) (list_of Lh 8 p) (cond (u16_in p 0 == 0x6972) (list_of Ri 4 p) (Err FormSign))))) list e).1
+    (cond (u16_in p 0 == 0x686c) (list_of Lh 8 p) (cond (u16_in p 0 == 0x6972) (list_of Ri 4 p) (Err FormSign)))))
+    list e).1
   where
-    signed : (li lf lh ri : Bool) → (u16_in p 0 == 0x696c) ≡ li → (u16_in p 0 == 0x666c) ≡ lf → (u16_in p 0 == 0x686c) ≡ lh → (u16_in p 0 == 0x6972) ≡ ri
-        → cond li (list_of Li 4 p) (cond lf (list_of Lf 8 p) (cond lh (list_of Lh 8 p) (cond ri (list_of Ri 4 p) (Err FormSign)))) ≡ done list → ListFacts p list
+    signed : (li lf lh ri : Bool) → (u16_in p 0 == 0x696c) ≡ li → (u16_in p 0 == 0x666c) ≡ lf
+        → (u16_in p 0 == 0x686c) ≡ lh → (u16_in p 0 == 0x6972) ≡ ri
+        → cond li (list_of Li 4 p)
+        (cond lf (list_of Lf 8 p) (cond lh (list_of Lh 8 p) (cond ri (list_of Ri 4 p) (Err FormSign)))) ≡ done list
+        → ListFacts p list
     signed true lf lh ri a b c d r = facts_of p list Li 4 (rw (sign_is _ _ a) refl) (rw (sign_is _ _ a) refl) r
     signed false true lh ri a b c d r = facts_of p list Lf 8 (rw (sign_is _ _ b) refl) (rw (sign_is _ _ b) refl) r
     signed false false true ri a b c d r = facts_of p list Lh 8 (rw (sign_is _ _ c) refl) (rw (sign_is _ _ c) refl) r
@@ -73,14 +80,16 @@ number_at step zero i p h = absurd (omega arith)
 number_at step (suc n) zero p h = let e : step * 0 ≡ 0 = omega arith in rw e refl
 number_at step (suc n) (suc i) p h =
     let e : step + step * i ≡ step * suc i = omega arith in
-    number_at step n i (drop step p) (omega arith) ∙ ap (λ (q : List ℕ). u32_in q 0) (drop_drop step (step * i) p) ∙ ap (λ (k : ℕ). u32_in (drop k p) 0) e
+    number_at step n i (drop step p) (omega arith) ∙ ap (λ (q : List ℕ). u32_in q 0) (drop_drop step (step * i) p)
+    ∙ ap (λ (k : ℕ). u32_in (drop k p) 0) e
 
 pub has_head : (p : List ℕ) → IsOk (list_at p) → 4 + entry_size p * u16_in p 2 ≤ length p
 has_head p h = let v = value_of (list_at p) h in (list_facts p v.0 v.1).long
 
 pub offsets_are : (p : List ℕ) → IsOk (list_at p) → offsets_of p ≡ numbers_in (entry_size p) (u16_in p 2) (drop 4 p)
 unfolding offsets_of
-offsets_are p h = let v = value_of (list_at p) h in ap (λ (r : Result SubkeyList HiveKind). of_read r (λ list. list.offsets)) v.1 ∙ (list_facts p v.0 v.1).offsets
+offsets_are p h = let v = value_of (list_at p) h in
+    ap (λ (r : Result SubkeyList HiveKind). of_read r (λ list. list.offsets)) v.1 ∙ (list_facts p v.0 v.1).offsets
 
 pub has_count : (p : List ℕ) → IsOk (list_at p) → length (offsets_of p) ≡ u16_in p 2
 has_count p h = ap length (offsets_are p h) ∙ length_numbers (entry_size p) (u16_in p 2) (drop 4 p)
@@ -92,13 +101,15 @@ entry_is p i h lt =
     ap (λ (xs : List ℕ). get_or xs i 0) (offsets_are p h) ∙ number_at (entry_size p) (u16_in p 2) i (drop 4 p) small
     ∙ ap (λ (q : List ℕ). u32_in q 0) (drop_drop 4 (entry_size p * i) p) ∙ u32_behind (4 + entry_size p * i) p
 
-pub entry_inside : (p : List ℕ) (i : ℕ) → IsOk (list_at p) → i < length (offsets_of p) → 4 + entry_size p * i + 4 ≤ length p
+pub entry_inside : (p : List ℕ) (i : ℕ) → IsOk (list_at p) → i < length (offsets_of p)
+    → 4 + entry_size p * i + 4 ≤ length p
 entry_inside p i h lt =
     let small : i < u16_in p 2 = omega (arith, has_count p h) in
     let long = has_head p h in
     fits (eqb (u16_in p 0) 0x696c) (eqb (u16_in p 0) 0x6972) (u16_in p 2) i (length p) small long
   where
-    fits : (a b : Bool) (n i room : ℕ) → i < n → 4 + (cond a 4 (cond b 4 8)) * n ≤ room → 4 + (cond a 4 (cond b 4 8)) * i + 4 ≤ room
+    fits : (a b : Bool) (n i room : ℕ) → i < n → 4 + (cond a 4 (cond b 4 8)) * n ≤ room
+        → 4 + (cond a 4 (cond b 4 8)) * i + 4 ≤ room
     fits true b n i room lt h = omega arith
     fits false true n i room lt h = omega arith
     fits false false n i room lt h = omega arith

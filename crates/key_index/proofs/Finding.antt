@@ -29,7 +29,8 @@ find_on test xs i lt so_far fails =
     sym (ap (find test) (drop_more xs i 0 lt)
     ∙ ap (λ (b : Bool). cond b (Some (get_or xs i 0)) (find test (drop (i + 1) xs))) fails) ∙ so_far
 
-pub find_end : (test : ℕ → Bool) (xs : List ℕ) (i : ℕ) → i ≡ length xs → find test (drop i xs) ≡ find test xs → find test xs ≡ None
+pub find_end : (test : ℕ → Bool) (xs : List ℕ) (i : ℕ) → i ≡ length xs → find test (drop i xs) ≡ find test xs
+    → find test xs ≡ None
 find_end test xs i e so_far =
     sym so_far ∙ ap (λ (n : ℕ). find test (drop n xs)) e ∙ ap (find test) (drop-length xs)
 
@@ -42,19 +43,22 @@ none_first : (r o : Option ℕ) → r ≡ None → option_or r o ≡ o
 none_first r o e = rw e refl
 
 step_in : (test : ℕ → Bool) (f : ℕ → List ℕ) (xs : List ℕ) (i : ℕ) → i < length xs
-    → find test (flat_map f (drop i xs)) ≡ option_or (find test (f (get_or xs i 0))) (find test (flat_map f (drop (i + 1) xs)))
+    → find test (flat_map f (drop i xs))
+    ≡ option_or (find test (f (get_or xs i 0))) (find test (flat_map f (drop (i + 1) xs)))
 step_in test f xs i lt =
     ap (λ (ys : List ℕ). find test (flat_map f ys)) (drop_more xs i 0 lt)
     ∙ find-append test (f (get_or xs i 0)) (flat_map f (drop (i + 1) xs))
 
 pub find_some : (test : ℕ → Bool) (f : ℕ → List ℕ) (xs : List ℕ) (i : ℕ) (r : Option ℕ) → i < length xs
-    → find test (flat_map f (drop i xs)) ≡ find test (flat_map f xs) → r ≡ find test (f (get_or xs i 0)) → is_some r ≡ true
+    → find test (flat_map f (drop i xs)) ≡ find test (flat_map f xs) → r ≡ find test (f (get_or xs i 0))
+    → is_some r ≡ true
     → r ≡ find test (flat_map f xs)
 find_some test f xs i None lt so_far e some = absurd cc
 find_some test f xs i (Some x) lt so_far e some = sym (sym so_far ∙ step_in test f xs i lt ∙ some_first _ _ x (sym e))
 
 pub find_past : (test : ℕ → Bool) (f : ℕ → List ℕ) (xs : List ℕ) (i : ℕ) (r : Option ℕ) → i < length xs
-    → find test (flat_map f (drop i xs)) ≡ find test (flat_map f xs) → r ≡ find test (f (get_or xs i 0)) → is_some r ≡ false
+    → find test (flat_map f (drop i xs)) ≡ find test (flat_map f xs) → r ≡ find test (f (get_or xs i 0))
+    → is_some r ≡ false
     → find test (flat_map f (drop (i + 1) xs)) ≡ find test (flat_map f xs)
 find_past test f xs i None lt so_far e none = sym (none_first _ _ (sym e)) ∙ sym (step_in test f xs i lt) ∙ so_far
 find_past test f xs i (Some x) lt so_far e none = absurd cc
@@ -62,10 +66,12 @@ find_past test f xs i (Some x) lt so_far e none = absurd cc
 pub find_over : (test : ℕ → Bool) (f : ℕ → List ℕ) (xs : List ℕ) (i : ℕ) → i ≡ length xs
     → find test (flat_map f (drop i xs)) ≡ find test (flat_map f xs) → find test (flat_map f xs) ≡ None
 find_over test f xs i e so_far =
-    sym so_far ∙ ap (λ (n : ℕ). find test (flat_map f (drop n xs))) e ∙ ap (λ (ys : List ℕ). find test (flat_map f ys)) (drop-length xs)
+    sym so_far ∙ ap (λ (n : ℕ). find test (flat_map f (drop n xs))) e
+    ∙ ap (λ (ys : List ℕ). find test (flat_map f ys)) (drop-length xs)
 
 -- what one of the lists has, they have together
-pub contains_one : (f : ℕ → List ℕ) (xs : List ℕ) (i x : ℕ) → i < length xs → Contains (f (get_or xs i 0)) x → Contains (flat_map f xs) x
+pub contains_one : (f : ℕ → List ℕ) (xs : List ℕ) (i x : ℕ) → i < length xs → Contains (f (get_or xs i 0)) x
+    → Contains (flat_map f xs) x
 contains_one f [] i x lt h = absurd (omega arith)
 contains_one f (y ∷ ys) zero x lt h = Contains-append_left (f y) (flat_map f ys) x h
 contains_one f (y ∷ ys) (suc i) x lt h =
@@ -73,23 +79,29 @@ contains_one f (y ∷ ys) (suc i) x lt h =
 
 -- ---- what was found is the first, since no two have the name
 
-found_at : (cells : Cells) (name offsets : List ℕ) (at k : ℕ) → All (IsNode cells) offsets → NamesDiffer cells offsets → k < length offsets
-    → slice_index_or offsets k at ≡ at → is_node_named cells name at ≡ true → find (is_node_named cells name) offsets ≡ Some at
+found_at : (cells : Cells) (name offsets : List ℕ) (at k : ℕ) → All (IsNode cells) offsets → NamesDiffer cells offsets
+    → k < length offsets
+    → slice_index_or offsets k at ≡ at → is_node_named cells name at ≡ true
+    → find (is_node_named cells name) offsets ≡ Some at
 found_at cells name [] at k nodes apart lt is named = absurd (omega arith)
 found_at cells name (x ∷ xs) at zero nodes apart lt is named = rw (is, named) refl
 found_at cells name (x ∷ xs) at (suc k) nodes apart lt is named =
     go (is_node_named cells name x) refl
-    (found_at cells name xs at k (λ i d h. nodes (suc i) d (omega arith)) (λ i j d h l. apart (suc i) (suc j) d (omega arith) (omega arith)) (omega arith) is named)
+    (found_at cells name xs at k (λ i d h. nodes (suc i) d (omega arith))
+    (λ i j d h l. apart (suc i) (suc j) d (omega arith) (omega arith)) (omega arith) is named)
   where
-    go : (b : Bool) → is_node_named cells name x ≡ b → find (is_node_named cells name) xs ≡ Some at → cond b (Some x) (find (is_node_named cells name) xs) ≡ Some at
+    go : (b : Bool) → is_node_named cells name x ≡ b → find (is_node_named cells name) xs ≡ Some at
+        → cond b (Some x) (find (is_node_named cells name) xs) ≡ Some at
     go true e more =
         let here : IsNode cells x = nodes 0 at (omega arith) in
         let there : IsNode cells at = subst (IsNode cells) is (nodes (suc k) at lt) in
         let a = sym (named_is cells name x here) ∙ e in
         let b = sym (named_is cells name at there) ∙ named in
-        let same : folds_same (name_in cells at) (name_in cells x) ≡ true = both_fold name (name_in cells x) (name_in cells at) a b in
+        let same : folds_same (name_in cells at) (name_in cells x) ≡ true =
+        both_fold name (name_in cells x) (name_in cells at) a b in
         let other : folds_same (name_in cells at) (name_in cells x) ≡ false =
-        subst (λ (y : ℕ). folds_same (name_in cells y) (name_in cells x) ≡ false) is (apart 0 (suc k) at (omega arith) lt) in
+        subst (λ (y : ℕ). folds_same (name_in cells y) (name_in cells x) ≡ false) is
+        (apart 0 (suc k) at (omega arith) lt) in
         absurd cc
     go false e more = more
 
@@ -103,7 +115,8 @@ pub contains_at : (xs : List ℕ) (i x : ℕ) → i < length xs → x ≡ get_or
 contains_at xs i x lt e = subst (Contains xs) (sym e) (Contains-get_or xs i 0 lt)
 
 -- the order that was found tells whether the entry has the name
-pub tested : (cells : Cells) (name offsets : List ℕ) (i x : ℕ) (order : Ordering) → All (IsNode cells) offsets → i < length offsets
+pub tested : (cells : Cells) (name offsets : List ℕ) (i x : ℕ) (order : Ordering) → All (IsNode cells) offsets
+    → i < length offsets
     → x ≡ get_or offsets i 0 → order ≡ folded_order (name_in cells x) name → is_node_named cells name x ≡ is_eq order
 tested cells name offsets i x order nodes lt e o =
     let node : IsNode cells x = subst (IsNode cells) (sym e) (nodes i 0 lt) in

@@ -23,11 +23,13 @@ leaves_good : (cells : Cells) (k at hi d : ℕ) → at + 4008 * k ≤ hi + 4000 
     → Good at hi d (leaves_checks cells (part_places k at))
 leaves_good cells zero at hi d e o = good_none at hi d
 leaves_good cells (suc zero) at hi d e o =
-    good_append at hi hi d _ [] (omega arith) (omega arith) o (use_only leaf_at cells at hi d at (omega arith) (omega arith) o) (good_none hi hi d)
+    good_append at hi hi d _ [] (omega arith) (omega arith) o
+    (use_only leaf_at cells at hi d at (omega arith) (omega arith) o) (good_none hi hi d)
 leaves_good cells (suc (suc k)) at hi d e o =
     let next = at + cell 4004 in
     good_append at next hi d _ _ (omega arith) (omega arith) o
-    (use_only leaf_at cells at next d at (omega arith) (omega arith) (outside d at hi at next (omega arith) (omega arith) o))
+    (use_only leaf_at cells at next d at (omega arith) (omega arith)
+    (outside d at hi at next (omega arith) (omega arith) o))
     (leaves_good cells (suc k) next hi d (omega arith) (outside d at hi next hi (omega arith) (omega arith) o))
 
 -- the lists of more than 500 children take this much
@@ -59,8 +61,10 @@ some_list n h = go (cases_lt n 501)
     go (inl few) = let b : nat_lt n 501 ≡ true = lt-ltb n 501 few in rw (a, b) (omega arith)
     go (inr many) = omega (arith, many_lists n many)
 
-entries_good : (cells : Cells) (at hi d : ℕ) (os : List ℕ) (hs : List (List ℕ)) → Has cells at (list_cells cells.version at os hs)
-    → 0 < length os → length os ≡ length hs → AreOffsets os → AreHints hs → at + list_size (length os) ≡ hi → hi ≤ 16777216
+entries_good : (cells : Cells) (at hi d : ℕ) (os : List ℕ) (hs : List (List ℕ))
+    → Has cells at (list_cells cells.version at os hs)
+    → 0 < length os → length os ≡ length hs → AreOffsets os → AreHints hs → at + list_size (length os) ≡ hi
+    → hi ≤ 16777216
     → Outside d at hi
     → Good at hi d (entries_checks cells at)
 unfolding entries_checks
@@ -68,12 +72,15 @@ entries_good cells at hi d os hs has some e f g taken le o = go (cases_lt (lengt
   where
     go : (length os < 501) ⊎ (501 ≤ length os) → Good at hi d (entries_checks cells at)
     go (inl few) =
-        let leaf : (if is_list_of_lists (written_kind cells.version) then leaves_checks cells os else []) ≡ [] = rw (no_lists cells.version) refl in
+        let leaf : (if is_list_of_lists (written_kind cells.version) then leaves_checks cells os else []) ≡ [] =
+        rw (no_lists cells.version) refl in
         use_then list_at cells at hi hi d at _ _ (list_read cells at os hs has some few e f g) (omega arith)
-        (omega (arith, some_list (length os) some)) (omega arith) o (subst (λ (cs : List Check). Good hi hi d cs) (sym leaf) (good_none hi hi d))
+        (omega (arith, some_list (length os) some)) (omega arith) o
+        (subst (λ (cs : List Check). Good hi hi d cs) (sym leaf) (good_none hi hi d))
     go (inr many) =
         let first = at + cell (4 + 4 * part_count (length os)) in
-        use_then list_at cells at first hi d at _ _ (lists_read cells at os hs has many (omega arith)) (omega arith) (omega arith)
+        use_then list_at cells at first hi d at _ _ (lists_read cells at os hs has many (omega arith)) (omega arith)
+        (omega arith)
         (omega (arith, many_lists (length os) many)) o
         (leaves_good cells (part_count (length os)) first hi d (omega (arith, list_parts (length os) many))
         (outside d at hi first hi (omega arith) (omega arith) o))
@@ -91,7 +98,8 @@ used_within lo hi (uses at s ∷ cs) w le zero lt o e = go w.0
 used_within lo hi (uses at s ∷ cs) w le (suc k) lt o e = used_within lo hi cs w.1 le k (omega arith) o e
 
 -- each cell that the lists use lies in the run
-pub lists_inside : (cells : Cells) (at : ℕ) (os : List ℕ) (hs : List (List ℕ)) → Has cells at (list_cells cells.version at os hs)
+pub lists_inside : (cells : Cells) (at : ℕ) (os : List ℕ) (hs : List (List ℕ))
+    → Has cells at (list_cells cells.version at os hs)
     → 0 < length os → length os ≡ length hs → AreOffsets os → AreHints hs → at + list_size (length os) ≤ 16777216
     → (o : ℕ) → Contains (used_in (entries_checks cells at)) o → (at ≤ o) × (o < at + list_size (length os))
 lists_inside cells at os hs has some e f g le o i =
@@ -100,7 +108,8 @@ lists_inside cells at os hs has some e f g le o i =
     used_within at hi (entries_checks cells at) w (omega arith) i.0 i.1 o (sym i.2)
 
 -- and each is used once
-pub lists_once : (cells : Cells) (at : ℕ) (os : List ℕ) (hs : List (List ℕ)) → Has cells at (list_cells cells.version at os hs)
+pub lists_once : (cells : Cells) (at : ℕ) (os : List ℕ) (hs : List (List ℕ))
+    → Has cells at (list_cells cells.version at os hs)
     → 0 < length os → length os ≡ length hs → AreOffsets os → AreHints hs → at + list_size (length os) ≤ 16777216
     → AreUsedOnce (entries_checks cells at)
 lists_once cells at os hs has some e f g le =

@@ -37,11 +37,14 @@ node_stands cells at (key h ts) s =
 nodes_stand : (cells : Cells) (offsets : List ℕ) (ts : Trees) → AllStand cells offsets ts → All (IsNode cells) offsets
 nodes_stand cells offsets none s = subst (All (IsNode cells)) (sym s) (All-nil (IsNode cells))
 nodes_stand cells offsets (more t ts) s =
-    subst (All (IsNode cells)) (sym s.2) (All-cons (IsNode cells) s.0 s.1 (node_stands cells s.0 t s.3).node (nodes_stand cells s.1 ts s.4))
+    subst (All (IsNode cells)) (sym s.2)
+    (All-cons (IsNode cells) s.0 s.1 (node_stands cells s.0 t s.3).node (nodes_stand cells s.1 ts s.4))
 
 -- the names at places are those of the trees
-names_at : (cells : Cells) (offsets : List ℕ) (ts : Trees) (i d : ℕ) (u : Tree) → AllStand cells offsets ts → i < length offsets
-    → (i < length (listed ts)) × (name_in cells (slice_index_or offsets i d) ≡ (head (slice_index_or (listed ts) i u)).name)
+names_at : (cells : Cells) (offsets : List ℕ) (ts : Trees) (i d : ℕ) (u : Tree) → AllStand cells offsets ts
+    → i < length offsets
+    → (i < length (listed ts))
+    × (name_in cells (slice_index_or offsets i d) ≡ (head (slice_index_or (listed ts) i u)).name)
 names_at cells offsets none i d u s lt = absurd (omega (arith, ap length s))
 names_at cells offsets (more t ts) zero d u s lt =
     (omega arith, ap (λ (os : List ℕ). name_in cells (slice_index_or os 0 d)) s.2 ∙ (node_stands cells s.0 t s.3).name)
@@ -56,7 +59,8 @@ names_differ cells offsets ts u s apart i j d less lt =
     let b = names_at cells offsets ts j d u s lt in
     (λ k. folds_same (b.1 k) (a.1 k)) ∙ apart i j u less b.0
 
-pub siblings_stand : (cells : Cells) (at : ℕ) (t : Tree) (node : KeyNode) → Stands cells at t → HasApartNames t → reading key_node_at cells at ≡ done node
+pub siblings_stand : (cells : Cells) (at : ℕ) (t : Tree) (node : KeyNode) → Stands cells at t → HasApartNames t
+    → reading key_node_at cells at ≡ done node
     → ListsSiblings cells node.child_list node.child_count
 siblings_stand cells at (key h ts) node s names r =
     let same : s.1.node ≡ node = ok_same s.1.node node (sym s.1.read ∙ r) in
@@ -67,7 +71,8 @@ siblings_stand cells at (key h ts) node s names r =
         → MatchBool b (s.0 ≡ []) (ListsAt cells list s.0 × (length s.0 ≡ count)) → ListsSiblings cells list count
     go list count true e c =
         let z : count ≡ 0 = eqb-true count 0 e in
-        let empty : children_at cells list count ≡ [] = ap (λ (b : Bool). cond b [] (of_read (entries_at cells list) (λ os. os))) e in
+        let empty : children_at cells list count ≡ [] =
+        ap (λ (b : Bool). cond b [] (of_read (entries_at cells list) (λ os. os))) e in
         record {
           read = λ some. absurd (omega arith);
           number = ap length empty ∙ sym z;
@@ -76,7 +81,8 @@ siblings_stand cells at (key h ts) node s names r =
         }
     go list count false e c =
         let is : children_at cells list count ≡ s.0 =
-        ap (λ (b : Bool). cond b [] (of_read (entries_at cells list) (λ os. os))) e ∙ ap (λ (r : Result (List ℕ) HiveKind). of_read r (λ os. os)) c.0 in
+        ap (λ (b : Bool). cond b [] (of_read (entries_at cells list) (λ os. os))) e
+        ∙ ap (λ (r : Result (List ℕ) HiveKind). of_read r (λ os. os)) c.0 in
         record {
           read = λ some. is_ok_of (entries_at cells list) s.0 c.0;
           number = ap length is ∙ c.1;
@@ -117,7 +123,8 @@ apart_once (uses at false ∷ checks) alone once =
     Rattle.std.proofs.lemmas.List.Kept.AllPairs-cons (λ a b. a ≡ b → ⊥) at (used_in checks)
     (unused at checks alone (λ k d lt. once 0 (suc k) d (omega arith) (omega arith)))
     (apart_once checks alone (λ i j d less lt. once (suc i) (suc j) d (omega arith) (omega arith)))
-apart_once (tests at kind ∷ checks) alone once = apart_once checks alone (λ i j d less lt. once (suc i) (suc j) d (omega arith) (omega arith))
+apart_once (tests at kind ∷ checks) alone once =
+    apart_once checks alone (λ i j d less lt. once (suc i) (suc j) d (omega arith) (omega arith))
 
 leaves_alone : (cells : Cells) (lists : List ℕ) → UsesAlone (leaves_checks cells lists)
 leaves_alone cells [] = tt
@@ -131,11 +138,13 @@ entries_alone cells list = go (reading list_at cells list)
     by_kind true lists = leaves_alone cells lists
     by_kind false lists = tt
 
-    go : (r : Result SubkeyList HiveKind) → UsesAlone (below_of r (λ l. cond (is_list_of_lists l.kind) (leaves_checks cells l.offsets) []))
+    go : (r : Result SubkeyList HiveKind)
+        → UsesAlone (below_of r (λ l. cond (is_list_of_lists l.kind) (leaves_checks cells l.offsets) []))
     go (Ok l) = by_kind (is_list_of_lists l.kind) l.offsets
     go (Err kind) = tt
 
-pub lists_apart : (cells : Cells) (list count : ℕ) → AreUsedOnce (entries_checks cells list) → AreApart (lists_at cells list count)
+pub lists_apart : (cells : Cells) (list count : ℕ) → AreUsedOnce (entries_checks cells list)
+    → AreApart (lists_at cells list count)
 unfolding lists_at
 lists_apart cells list count once = go (eqb count 0)
   where

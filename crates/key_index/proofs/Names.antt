@@ -47,12 +47,15 @@ none_there : IsOk (key_node_at []) → ⊥
 unfolding key_node_at
 none_there h = absurd cc
 
-pub node_read : (cells : Cells) (at : ℕ) → IsNode cells at → reading key_node_at cells at ≡ key_node_at (payload_in cells at)
+pub node_read : (cells : Cells) (at : ℕ) → IsNode cells at
+    → reading key_node_at cells at ≡ key_node_at (payload_in cells at)
 unfolding payload_in
 node_read cells at h = go (cells.payload at) refl h
   where
-    go : (r : Result (List ℕ) HiveKind) → cells.payload at ≡ r → IsOk (key_node_at (Rattle.hive_model.specs.Footprint.of_read r (λ p. p)))
-        → Rattle.hive_model.specs.Forms.◌>>=◌ r key_node_at ≡ key_node_at (Rattle.hive_model.specs.Footprint.of_read r (λ p. p))
+    go : (r : Result (List ℕ) HiveKind) → cells.payload at ≡ r
+        → IsOk (key_node_at (Rattle.hive_model.specs.Footprint.of_read r (λ p. p)))
+        → Rattle.hive_model.specs.Forms.◌>>=◌ r key_node_at
+        ≡ key_node_at (Rattle.hive_model.specs.Footprint.of_read r (λ p. p))
     go (Ok p) e k = refl
     go (Err kind) e k = absurd (none_there k)
 
@@ -65,9 +68,11 @@ pub named_is : (cells : Cells) (name : List ℕ) (at : ℕ) → IsNode cells at
 unfolding name_of
 named_is cells name at h =
     let v = value_of (key_node_at (payload_in cells at)) h in
-    ap (λ (r : Result KeyNode HiveKind). list_any (folds_same name) (names_of (λ node. node.name) r)) (node_read cells at h ∙ v.1)
+    ap (λ (r : Result KeyNode HiveKind). list_any (folds_same name) (names_of (λ node. node.name) r))
+    (node_read cells at h ∙ v.1)
     ∙ or_false (folds_same name v.0.name)
-    ∙ ap (λ (r : Result KeyNode HiveKind). folds_same name (Rattle.hive_model.specs.Footprint.of_read r (λ node. node.name))) (sym v.1)
+    ∙ ap (λ (r : Result KeyNode HiveKind). folds_same name
+    (Rattle.hive_model.specs.Footprint.of_read r (λ node. node.name))) (sym v.1)
 
 -- the order of the names tells whether the key node has the name
 pub order_tells : (cells : Cells) (name : List ℕ) (at : ℕ) → IsNode cells at

@@ -17,11 +17,13 @@ not_below : (m n : ℕ) → nat_lt m n ≡ false → n ≤ m
 not_below m n e = ltb-false m n e
 
 -- a name that is read is the stored one
-stored_is : (narrow : Bool) (bytes name : List ℕ) → key_name_at narrow bytes ≡ done name → stored_name narrow bytes ≡ name
+stored_is : (narrow : Bool) (bytes name : List ℕ) → key_name_at narrow bytes ≡ done name
+    → stored_name narrow bytes ≡ name
 unfolding key_name_at
 stored_is narrow bytes name e =
     let stored = stored_name narrow bytes in
-    let one = unless (has_half_unit narrow bytes) FormLength (cond (is_bad_key_name stored) (Err FormName) (Ok stored)) name e in
+    let one = unless (has_half_unit narrow bytes) FormLength (cond (is_bad_key_name stored) (Err FormName) (Ok stored))
+    name e in
     let two = unless (is_bad_key_name stored) FormName (Ok stored) name one.1 in
     ok_same stored name two.1
 
@@ -36,10 +38,12 @@ node_facts p node e =
     let narrow = is_narrow_key (u16_in p 2) in
     let bytes = slice_range p 76 (76 + u16_in p 72) in
     let named = key_name_at narrow bytes >>= λ name. Ok (key_node_in p name) in
-    let sized = cond (nat_lt (length p) 76) (Err FormShort) (cond (nat_lt (length p) (76 + u16_in p 72)) (Err FormShort) named) in
+    let sized = cond (nat_lt (length p) 76) (Err FormShort)
+    (cond (nat_lt (length p) (76 + u16_in p 72)) (Err FormShort) named) in
     let one = (unless (nat_lt (length p) 2) FormShort (cond (u16_in p 0 == 0x6b6e) sized (Err FormSign)) node e).1 in
     let two = only_if (u16_in p 0 == 0x6b6e) FormSign sized node one in
-    let three = (unless (nat_lt (length p) 76) FormShort (cond (nat_lt (length p) (76 + u16_in p 72)) (Err FormShort) named) node two).1 in
+    let three = (unless (nat_lt (length p) 76) FormShort
+    (cond (nat_lt (length p) (76 + u16_in p 72)) (Err FormShort) named) node two).1 in
     let four = unless (nat_lt (length p) (76 + u16_in p 72)) FormShort named node three in
     let n = then_so (key_name_at narrow bytes) (λ name. Ok (key_node_in p name)) node four.1 in
     let same : key_node_in p n.0 ≡ node = ok_same (key_node_in p n.0) node n.2 in

@@ -48,7 +48,11 @@ sizes_are (p ∷ ps) = omega (arith, length_filled p, sizes_are ps)
 cells_sound : (ps : List (List ℕ)) → space ps ≤ 16777216 → AllByRecursion IsCell (map allocated_cell ps)
 cells_sound [] h = tt
 cells_sound (p ∷ ps) h = (
-  record { least = omega (arith, length_filled p); whole = omega (arith, length_filled p); fits = omega (arith, length_filled p) },
+  record {
+    least = omega (arith, length_filled p);
+    whole = omega (arith, length_filled p);
+    fits = omega (arith, length_filled p);
+  },
   cells_sound ps (omega arith),
 )
 
@@ -59,35 +63,41 @@ cells_used (p ∷ ps) = (refl, cells_used ps)
 pub run_is : (run : List ℕ) (ps : List (List ℕ)) → run ≡ text ps → space ps ≤ 16777216 → 0 < space ps
     → IsRun run × (run_cells run ≡ map allocated_cell ps)
 run_is run ps e small some =
-    run_made run (map allocated_cell ps) (e ∙ texts_are ps) (cells_sound ps small) (cells_used ps) (omega (arith, sizes_are ps))
+    run_made run (map allocated_cell ps) (e ∙ texts_are ps) (cells_sound ps small) (cells_used ps)
+    (omega (arith, sizes_are ps))
 
 -- ---- where its cells stand
 
-pub among_from : (o at : ℕ) (cs : List Cell) (p : List ℕ) → held_among o at cs ≡ Some p → (at ≤ o) × (o < at + cells_size cs)
+pub among_from : (o at : ℕ) (cs : List Cell) (p : List ℕ) → held_among o at cs ≡ Some p
+    → (at ≤ o) × (o < at + cells_size cs)
 among_from o at [] p h = absurd cc
 among_from o at (c ∷ cs) p h = go (among_from o (at + cell_size c) cs p) (eqb at o) refl h
   where
-    go : (held_among o (at + cell_size c) cs ≡ Some p → (at + cell_size c ≤ o) × (o < at + cell_size c + cells_size cs)) → (b : Bool) → eqb at o ≡ b
+    go : (held_among o (at + cell_size c) cs ≡ Some p → (at + cell_size c ≤ o) × (o < at + cell_size c + cells_size cs))
+        → (b : Bool) → eqb at o ≡ b
         → Rattle.hive_cells.specs.Held.allocated_payload (cond b (Some c) (in_cells o (at + cell_size c) cs)) ≡ Some p
         → (at ≤ o) × (o < at + cells_size (c ∷ cs))
     go more true e k = let same : at ≡ o = eqb-true at o e in (omega arith, omega arith)
     go more false e k = let r = more k in (omega (arith, r.0), omega (arith, r.1))
 
-among_later : (o at : ℕ) (c : Cell) (cs : List Cell) (p : List ℕ) → held_among o (at + cell_size c) cs ≡ Some p → held_among o at (c ∷ cs) ≡ Some p
+among_later : (o at : ℕ) (c : Cell) (cs : List Cell) (p : List ℕ) → held_among o (at + cell_size c) cs ≡ Some p
+    → held_among o at (c ∷ cs) ≡ Some p
 among_later o at c cs p h =
     let r = among_from o (at + cell_size c) cs p h in
     let other : eqb at o ≡ false = ne_eqb at o (λ e. omega (arith, r.0)) in
     rw other h
 
 pub has_held : (cells : Cells) (at : ℕ) (ps : List (List ℕ))
-    → ((o : ℕ) (p : List ℕ) → held_among o at (map allocated_cell ps) ≡ Some p → cells.payload o ≡ Ok p) → Has cells at ps
+    → ((o : ℕ) (p : List ℕ) → held_among o at (map allocated_cell ps) ≡ Some p → cells.payload o ≡ Ok p)
+    → Has cells at ps
 has_held cells at [] h = tt
 has_held cells at (p ∷ ps) h =
     let here : eqb at at ≡ true = Rattle.std.proofs.Common.eq-eqb at at refl in
     let next : at + cell_size (allocated_cell p) ≡ at + cell (length p) = omega (arith, length_filled p) in (
       h at (filled p) (rw here refl),
       subst (λ (k : ℕ). Has cells k ps) next
-          (has_held cells (at + cell_size (allocated_cell p)) ps (λ o q k. h o q (among_later o at (allocated_cell p) (map allocated_cell ps) q k))),
+          (has_held cells (at + cell_size (allocated_cell p)) ps
+          (λ o q k. h o q (among_later o at (allocated_cell p) (map allocated_cell ps) q k))),
     )
 
 -- ---- a free cell is inside the bins
@@ -96,7 +106,9 @@ cell_inside : (o at : ℕ) (cs : List Cell) (c : Cell) → in_cells o at cs ≡ 
 cell_inside o at [] c h = absurd cc
 cell_inside o at (d ∷ cs) c h = go (cell_inside o (at + cell_size d) cs c) (eqb at o) refl h
   where
-    go : (in_cells o (at + cell_size d) cs ≡ Some c → o + cell_size c ≤ at + cell_size d + cells_size cs) → (b : Bool) → eqb at o ≡ b → cond b (Some d) (in_cells o (at + cell_size d) cs) ≡ Some c → o + cell_size c ≤ at + cells_size (d ∷ cs)
+    go : (in_cells o (at + cell_size d) cs ≡ Some c → o + cell_size c ≤ at + cell_size d + cells_size cs) → (b : Bool)
+        → eqb at o ≡ b → cond b (Some d) (in_cells o (at + cell_size d) cs) ≡ Some c
+        → o + cell_size c ≤ at + cells_size (d ∷ cs)
     go more true e k =
         let same : at ≡ o = eqb-true at o e in
         let one : d ≡ c = cc in
@@ -107,7 +119,8 @@ bin_inside : (o at : ℕ) (bs : List Bin) (c : Cell) → in_bins o at bs ≡ Som
 bin_inside o at [] c h = absurd cc
 bin_inside o at (b ∷ bs) c h = go (bin_inside o (at + bin_size b) bs c) (in_cells o (at + 32) b.cells) refl h
   where
-    go : (in_bins o (at + bin_size b) bs ≡ Some c → o + cell_size c ≤ at + bin_size b + bins_size bs) → (r : Option Cell) → in_cells o (at + 32) b.cells ≡ r → or_else r (in_bins o (at + bin_size b) bs) ≡ Some c
+    go : (in_bins o (at + bin_size b) bs ≡ Some c → o + cell_size c ≤ at + bin_size b + bins_size bs)
+        → (r : Option Cell) → in_cells o (at + 32) b.cells ≡ r → or_else r (in_bins o (at + bin_size b) bs) ≡ Some c
         → o + cell_size c ≤ at + bins_size (b ∷ bs)
     go more None e k = omega (arith, more k)
     go more (Some d) e k =
@@ -144,7 +157,8 @@ sum_lists false false full few head rest whole k =
 lists_sum : (n : ℕ) → sum (list_sizes n) ≡ list_size n
 unfolding list_sizes
 lists_sum n =
-    sum_lists (n == 0) (nat_lt n 501) (n % 500 == 0) (cell (4 + 8 * n)) (cell (4 + 4 * part_count n)) (cell (4 + 8 * (n % 500))) (cell 4004) (n / 500)
+    sum_lists (n == 0) (nat_lt n 501) (n % 500 == 0) (cell (4 + 8 * n)) (cell (4 + 4 * part_count n))
+    (cell (4 + 8 * (n % 500))) (cell 4004) (n / 500)
 
 room_cons : (x : ℕ) (xs : List ℕ) → room_of (x ∷ xs) ≡ rounded (x + 32) + room_of xs
 room_cons x xs = sum_by-cons (λ s. rounded (s + 32)) x xs
@@ -153,9 +167,11 @@ room_cons x xs = sum_by-cons (λ s. rounded (s + 32)) x xs
 room_joined : (x : ℕ) (xs : List ℕ) → rounded (sum (x ∷ xs) + 32) ≤ room_of (x ∷ xs)
 room_joined x [] = omega (arith, sum_cons x [], room_cons x [])
 room_joined x (y ∷ ys) =
-    both (sum (x ∷ y ∷ ys)) x (sum (y ∷ ys)) (room_of (x ∷ y ∷ ys)) (room_of (y ∷ ys)) (sum_cons x (y ∷ ys)) (room_cons x (y ∷ ys)) (room_joined y ys)
+    both (sum (x ∷ y ∷ ys)) x (sum (y ∷ ys)) (room_of (x ∷ y ∷ ys)) (room_of (y ∷ ys)) (sum_cons x (y ∷ ys))
+    (room_cons x (y ∷ ys)) (room_joined y ys)
   where
-    both : (all a b whole room : ℕ) → all ≡ a + b → whole ≡ rounded (a + 32) + room → rounded (b + 32) ≤ room → rounded (all + 32) ≤ whole
+    both : (all a b whole room : ℕ) → all ≡ a + b → whole ≡ rounded (a + 32) + room → rounded (b + 32) ≤ room
+        → rounded (all + 32) ≤ whole
     both all a b whole room e w h = omega arith
 
 room_some : (xs : List ℕ) → 0 < sum xs → rounded (sum xs + 32) ≤ room_of xs
@@ -184,7 +200,8 @@ pub strain_holds : (bytes n : ℕ) → 0 < n → bytes + rounded (list_size n + 
 strain_holds bytes n some =
     let s = lists_sum n in
     let r = room_some (list_sizes n) (omega (arith, s, list_least n some)) in
-    let k : rounded (list_size n + 32) ≤ room_of (list_sizes n) = subst (λ (m : ℕ). rounded (m + 32) ≤ room_of (list_sizes n)) s r in
+    let k : rounded (list_size n + 32) ≤ room_of (list_sizes n) =
+    subst (λ (m : ℕ). rounded (m + 32) ≤ room_of (list_sizes n)) s r in
     omega (arith, k)
 
 pub strain_over : (bytes n : ℕ) → 0 < n → 16777216 < list_size n → 16777216 < list_strain_of bytes n
@@ -200,12 +217,14 @@ snoc_places zero at = let e : at + 4008 * 0 ≡ at = omega arith in rw e refl
 snoc_places (suc k) at =
     let e : suc k + 1 ≡ suc (k + 1) = omega arith in
     let f : at + 4008 + 4008 * k ≡ at + 4008 * suc k = omega arith in
-    rw e (ap (λ (xs : List ℕ). at ∷ xs) (snoc_places k (at + 4008) ∙ ap (λ (x : ℕ). part_places k (at + 4008) ++ x ∷ []) f))
+    rw e (ap (λ (xs : List ℕ). at ∷ xs)
+    (snoc_places k (at + 4008) ∙ ap (λ (x : ℕ). part_places k (at + 4008) ++ x ∷ []) f))
 
 text_append : (xs ys : List ℕ) → offsets_text (xs ++ ys) ≡ offsets_text xs ++ offsets_text ys
 text_append [] ys = refl
 text_append (x ∷ xs) ys =
-    ap (λ (t : List ℕ). to_le_bytes w32 x ++ t) (text_append xs ys) ∙ sym (append_assoc (to_le_bytes w32 x) (offsets_text xs) (offsets_text ys))
+    ap (λ (t : List ℕ). to_le_bytes w32 x ++ t) (text_append xs ys)
+    ∙ sym (append_assoc (to_le_bytes w32 x) (offsets_text xs) (offsets_text ys))
 
 take_front : (a b : List ℕ) (n : ℕ) → length a ≡ n → take n (a ++ b) ≡ a
 take_front [] b n e = rw (sym e) refl
@@ -229,31 +248,39 @@ tail_of version k os hs = replicate (cell (4 + 4 * k) - 4 - (4 + 4 * k)) 0 ++ te
 pub run_parts : (version : HiveVersion) (at : ℕ) (os : List ℕ) (hs : List (List ℕ)) → 501 ≤ length os
     → text (list_cells version at os hs)
     ≡ head_of (part_count (length os))
-    ++ (offsets_text (part_places (part_count (length os)) (at + cell (4 + 4 * part_count (length os)))) ++ tail_of version (part_count (length os)) os hs)
+    ++ (offsets_text (part_places (part_count (length os)) (at + cell (4 + 4 * part_count (length os))))
+    ++ tail_of version (part_count (length os)) os hs)
 unfolding filled ri_text
 run_parts version at os hs many =
     let k = part_count (length os) in
     let starts = part_places k (at + cell (4 + 4 * k)) in
     let n : length starts ≡ k = length_part_places k (at + cell (4 + 4 * k)) in
-    let long : length (ri_text starts) ≡ 4 + 4 * k = Rattle.hive_model.proofs.Spelling.length_ri starts ∙ ap (λ x. 4 + 4 * x) n in
+    let long : length (ri_text starts) ≡ 4 + 4 * k =
+    Rattle.hive_model.proofs.Spelling.length_ri starts ∙ ap (λ x. 4 + 4 * x) n in
     lists_many version at os hs many
     ∙ ap (λ (t : List ℕ). t ++ text (parts version k os hs)) (cell_text_is (ri_text starts)
-    ∙ (λ j. to_le_bytes w32 (4294967296 - cell (long j)) ++ (0x72 ∷ 0x69 ∷ (to_le_bytes w16 (n j) ++ offsets_text starts)) ++ replicate (cell (long j) - 4 - long j) 0))
-    ∙ shuffled (to_le_bytes w32 (4294967296 - cell (4 + 4 * k))) (to_le_bytes w16 k) (offsets_text starts) (replicate (cell (4 + 4 * k) - 4 - (4 + 4 * k)) 0) (text (parts version k os hs))
+    ∙ (λ j. to_le_bytes w32 (4294967296 - cell (long j))
+    ++ (0x72 ∷ 0x69 ∷ (to_le_bytes w16 (n j) ++ offsets_text starts)) ++ replicate (cell (long j) - 4 - long j) 0))
+    ∙ shuffled (to_le_bytes w32 (4294967296 - cell (4 + 4 * k))) (to_le_bytes w16 k) (offsets_text starts)
+    (replicate (cell (4 + 4 * k) - 4 - (4 + 4 * k)) 0) (text (parts version k os hs))
   where
-    shuffled : (a b s z t : List ℕ) → (a ++ (0x72 ∷ 0x69 ∷ (b ++ s)) ++ z) ++ t ≡ (a ++ (0x72 ∷ 0x69 ∷ b)) ++ (s ++ (z ++ t))
+    shuffled : (a b s z t : List ℕ)
+        → (a ++ (0x72 ∷ 0x69 ∷ (b ++ s)) ++ z) ++ t ≡ (a ++ (0x72 ∷ 0x69 ∷ b)) ++ (s ++ (z ++ t))
     shuffled a b s z t = simp append_assoc
 
-pub moved_is : (version : HiveVersion) (at place : ℕ) (os : List ℕ) (hs : List (List ℕ)) (new : List ℕ) → 501 ≤ length os
+pub moved_is : (version : HiveVersion) (at place : ℕ) (os : List ℕ) (hs : List (List ℕ)) (new : List ℕ)
+    → 501 ≤ length os
     → new ≡ take 8 (text (list_cells version 0 os hs))
-    ++ (offsets_text (part_places (part_count (length os)) place) ++ drop (8 + 4 * part_count (length os)) (text (list_cells version 0 os hs)))
+    ++ (offsets_text (part_places (part_count (length os)) place)
+    ++ drop (8 + 4 * part_count (length os)) (text (list_cells version 0 os hs)))
     → place ≡ at + cell (4 + 4 * part_count (length os)) → new ≡ text (list_cells version at os hs)
 moved_is version at place os hs new many e p =
     let k = part_count (length os) in
     let first = 0 + cell (4 + 4 * k) in
     let zeros = offsets_text (part_places k first) in
     let whole = run_parts version 0 os hs many in
-    let longs : length zeros ≡ 4 * k = length_offsets (part_places k first) ∙ ap (λ x. 4 * x) (length_part_places k first) in
+    let longs : length zeros ≡ 4 * k =
+    length_offsets (part_places k first) ∙ ap (λ x. 4 * x) (length_part_places k first) in
     let front : take 8 (text (list_cells version 0 os hs)) ≡ head_of k =
     ap (take 8) whole ∙ take_front (head_of k) (zeros ++ tail_of version k os hs) 8 refl in
     let both : length (head_of k ++ zeros) ≡ 8 + 4 * k = omega (arith, length-append (head_of k) zeros, longs) in
@@ -287,7 +314,8 @@ run_long old run i place h e =
 
 -- one place more is written
 pub starts_more : (old run new bytes : List ℕ) (i place : ℕ) → 8 + 4 * (i + 1) ≤ length old
-    → run ≡ take 8 old ++ (offsets_text (part_places i place) ++ drop (8 + 4 * i) old) → bytes ≡ to_le_bytes w32 (place + 4008 * i)
+    → run ≡ take 8 old ++ (offsets_text (part_places i place) ++ drop (8 + 4 * i) old)
+    → bytes ≡ to_le_bytes w32 (place + 4008 * i)
     → new ≡ take (8 + 4 * i) run ++ bytes ++ drop (8 + 4 * i + length bytes) run
     → new ≡ take 8 old ++ (offsets_text (part_places (i + 1) place) ++ drop (8 + 4 * (i + 1)) old)
 starts_more old run new bytes i place h so_far start is =
@@ -296,9 +324,16 @@ starts_more old run new bytes i place h so_far start is =
     let left = drop (8 + 4 * i) old in
     let four : length bytes ≡ 4 = ap length start in
     let n : length (front ++ done) ≡ 8 + 4 * i =
-    omega (arith, length-append front done, length_front 8 old (omega arith), length_offsets (part_places i place), length_part_places i place) in
+    omega (
+      arith,
+      length-append front done,
+      length_front 8 old (omega arith),
+      length_offsets (part_places i place),
+      length_part_places i place,
+    ) in
     let whole : run ≡ (front ++ done) ++ left = so_far ∙ sym (append_assoc front done left) in
-    let a : take (8 + 4 * i) run ≡ front ++ done = ap (take (8 + 4 * i)) whole ∙ take_front (front ++ done) left (8 + 4 * i) n in
+    let a : take (8 + 4 * i) run ≡ front ++ done =
+    ap (take (8 + 4 * i)) whole ∙ take_front (front ++ done) left (8 + 4 * i) n in
     let m : 8 + 4 * i + 4 ≡ 8 + 4 * (i + 1) = omega arith in
     let b : drop (8 + 4 * i + length bytes) run ≡ drop (8 + 4 * (i + 1)) old =
     ap (λ (k : ℕ). drop (8 + 4 * i + k) run) four ∙ sym (drop_drop (8 + 4 * i) 4 run)
@@ -307,7 +342,8 @@ starts_more old run new bytes i place h so_far start is =
     let s : offsets_text (part_places (i + 1) place) ≡ done ++ to_le_bytes w32 (place + 4008 * i) =
     ap offsets_text (snoc_places i place) ∙ text_append (part_places i place) ((place + 4008 * i) ∷ [])
     ∙ ap (λ (t : List ℕ). done ++ t) (append-nil (to_le_bytes w32 (place + 4008 * i))) in
-    is ∙ (λ j. a j ++ start j ++ b j) ∙ joined front done (to_le_bytes w32 (place + 4008 * i)) (drop (8 + 4 * (i + 1)) old)
+    is ∙ (λ j. a j ++ start j ++ b j)
+    ∙ joined front done (to_le_bytes w32 (place + 4008 * i)) (drop (8 + 4 * (i + 1)) old)
     ∙ ap (λ (t : List ℕ). front ++ (t ++ drop (8 + 4 * (i + 1)) old)) (sym s)
   where
     joined : (a b c d : List ℕ) → (a ++ b) ++ c ++ d ≡ a ++ ((b ++ c) ++ d)
@@ -328,7 +364,9 @@ pub gone_more : (mid new : List Bin) (xs : List ℕ) (i : ℕ) → i < length xs
     → ((o : ℕ) → Contains (take i xs) o → held_at mid o ≡ None)
     → (o : ℕ) → Contains (take (i + 1) xs) o → held_at new o ≡ None
 gone_more mid new xs i lt gone others before o h =
-    go (eqb o (get_or xs i 0)) refl (Contains-push_cases (take i xs) (get_or xs i 0) o (subst (λ (ys : List ℕ). Contains ys o) (take_more xs i 0 lt) h))
+    go (eqb o (get_or xs i 0)) refl
+    (Contains-push_cases (take i xs) (get_or xs i 0) o
+    (subst (λ (ys : List ℕ). Contains ys o) (take_more xs i 0 lt) h))
   where
     go : (b : Bool) → eqb o (get_or xs i 0) ≡ b → Contains (take i xs) o ⊎ (get_or xs i 0 ≡ o) → held_at new o ≡ None
     go true e k = ap (held_at new) (eqb-true o (get_or xs i 0) e) ∙ gone
@@ -340,8 +378,10 @@ pub others_more : (old mid new : List Bin) (xs : List ℕ) (i : ℕ) → i < len
     → ((o : ℕ) → (Contains (take i xs) o → ⊥) → held_at mid o ≡ held_at old o)
     → (o : ℕ) → (Contains (take (i + 1) xs) o → ⊥) → held_at new o ≡ held_at old o
 others_more old mid new xs i lt others before o h =
-    let push : (y : ℕ) → Contains (take i xs ++ get_or xs i 0 ∷ []) y → Contains (take (i + 1) xs) y = λ y k. subst (λ (ys : List ℕ). Contains ys y) (sym (take_more xs i 0 lt)) k in
-    others o (λ e. h (push o (subst (Contains (take i xs ++ get_or xs i 0 ∷ [])) (sym e) (Contains-push (take i xs) (get_or xs i 0)))))
+    let push : (y : ℕ) → Contains (take i xs ++ get_or xs i 0 ∷ []) y → Contains (take (i + 1) xs) y =
+    λ y k. subst (λ (ys : List ℕ). Contains ys y) (sym (take_more xs i 0 lt)) k in
+    others o (λ e. h (push o (subst (Contains (take i xs ++ get_or xs i 0 ∷ [])) (sym e)
+    (Contains-push (take i xs) (get_or xs i 0)))))
     ∙ before o (λ k. h (push o (Contains-append_left (take i xs) (get_or xs i 0 ∷ []) o k)))
 
 -- ---- put and freed
@@ -355,7 +395,8 @@ some_or None y h = h
 some_or (Some x) y h = refl
 
 pub put_is : (version : HiveVersion) (gone offsets : List ℕ) (hints : List (List ℕ)) (old mid new : List Bin) (at : ℕ)
-    → All (λ o. IsSome (held_at old o)) gone → AreOffsets offsets → 0 < length offsets → length offsets ≡ length hints → AreHints hints
+    → All (λ o. IsSome (held_at old o)) gone → AreOffsets offsets → 0 < length offsets → length offsets ≡ length hints
+    → AreHints hints
     → at + list_size (length offsets) ≤ 16777216
     → ((o : ℕ) → held_at mid o ≡ or_else (held_among o at (list_run version at offsets hints)) (held_at old o))
     → ((o : ℕ) → at ≤ o → o < at + list_size (length offsets) → held_at old o ≡ None)
@@ -365,25 +406,31 @@ pub put_is : (version : HiveVersion) (gone offsets : List ℕ) (hints : List (Li
     → bins_size new ≡ bins_size mid → IsPut version gone offsets hints old new at
 put_is version gone offsets hints old mid new at held fit some same four room filled fresh long freed others long_too =
     let ps = list_cells version at offsets hints in
-    let size : cells_size (map allocated_cell ps) ≡ list_size (length offsets) = sizes_are ps ∙ space_list version at offsets hints same four in
+    let size : cells_size (map allocated_cell ps) ≡ list_size (length offsets) =
+    sizes_are ps ∙ space_list version at offsets hints same four in
     let unheld : (o : ℕ) (p : List ℕ) → held_among o at (map allocated_cell ps) ≡ Some p → held_at old o ≡ None =
     λ o p h. let r = among_from o at (map allocated_cell ps) p h in fresh o r.0 (omega (arith, r.1, size)) in
     let stays : (o : ℕ) (p : List ℕ) → held_among o at (map allocated_cell ps) ≡ Some p → Contains gone o → ⊥ =
-    λ o p h k. none_some (held_at old o) (unheld o p h) (subst (λ (x : ℕ). IsSome (held_at old x)) k.2 (held k.0 o k.1)) in
+    λ o p h k. none_some (held_at old o) (unheld o p h)
+    (subst (λ (x : ℕ). IsSome (held_at old x)) k.2 (held k.0 o k.1)) in
     let written : Has (look_up version new) at ps =
     has_held (look_up version new) at ps
-    (λ o p h. held_payload new o p (others o (stays o p h) ∙ filled o ∙ ap (λ (x : Option (List ℕ)). or_else x (held_at old o)) h)) in
+    (λ o p h. held_payload new o p
+    (others o (stays o p h) ∙ filled o ∙ ap (λ (x : Option (List ℕ)). or_else x (held_at old o)) h)) in
     record {
       lists = entries_read (look_up version new) at offsets hints written some same fit four room;
       freed = freed;
-      kept = λ o p h k. others o k ∙ filled o ∙ first (held_among o at (map allocated_cell ps)) (held_at old o) p (λ q e. unheld o q e) h;
+      kept = λ o p h k. others o k ∙ filled o
+          ∙ first (held_among o at (map allocated_cell ps)) (held_at old o) p (λ q e. unheld o q e) h;
       others = λ o k. others o k ∙ filled o;
-      fresh = λ o i. let r = lists_inside (look_up version new) at offsets hints written some same fit four room o i in fresh o r.0 r.1;
+      fresh = λ o i. let r = lists_inside (look_up version new) at offsets hints written some same fit four room o i in
+          fresh o r.0 r.1;
       once = lists_once (look_up version new) at offsets hints written some same fit four room;
       long = long_too ∙ long;
     }
   where
-    first : (x y : Option (List ℕ)) (p : List ℕ) → ((q : List ℕ) → x ≡ Some q → y ≡ None) → y ≡ Some p → or_else x y ≡ Some p
+    first : (x y : Option (List ℕ)) (p : List ℕ) → ((q : List ℕ) → x ≡ Some q → y ≡ None) → y ≡ Some p
+        → or_else x y ≡ Some p
     first None y p f h = h
     first (Some q) y p f h = let n : y ≡ None = f q refl in absurd cc
 
@@ -393,7 +440,8 @@ are_offsets (x ∷ xs) h = (h 0, are_offsets xs (λ k. h (suc k)))
 
 -- ---- room that was made
 
-pub room_inside : (size : ℕ) (old new : List Bin) (at : ℕ) → FindsRoom size old new at → bins_size old ≤ 16777216 → at + size ≤ 16777216
+pub room_inside : (size : ℕ) (old new : List Bin) (at : ℕ) → FindsRoom size old new at → bins_size old ≤ 16777216
+    → at + size ≤ 16777216
 room_inside size old new at (inl h) small = omega (arith, hole_inside size old at h.0.hole)
 room_inside size old new at (inr h) small = grown (bins_size old) size at h.1.place h.1.fits
   where
@@ -408,14 +456,18 @@ room_longer size old new at (inr h) =
     let l = new_long old size in
     omega (arith, e, l)
 
-pub none_over : (size bytes n : ℕ) → size ≡ list_size n → 0 < n → 16777216 < bytes + rounded (size + 32) → 16777216 < list_strain_of bytes n
+pub none_over : (size bytes n : ℕ) → size ≡ list_size n → 0 < n → 16777216 < bytes + rounded (size + 32)
+    → 16777216 < list_strain_of bytes n
 none_over size bytes n e some h =
-    let k : 16777216 < bytes + rounded (list_size n + 32) = subst (λ (m : ℕ). 16777216 < bytes + rounded (m + 32)) e h in
+    let k : 16777216 < bytes + rounded (list_size n + 32) =
+    subst (λ (m : ℕ). 16777216 < bytes + rounded (m + 32)) e h in
     omega (arith, strain_holds bytes n some, k)
 
-pub relisted : (version : HiveVersion) (gone offsets : List ℕ) (hints : List (List ℕ)) (old mid new : List Bin) (at size : ℕ)
+pub relisted : (version : HiveVersion) (gone offsets : List ℕ) (hints : List (List ℕ)) (old mid new : List Bin)
+    (at size : ℕ)
     → IsPut version gone offsets hints mid new at → ((o : ℕ) → held_at mid o ≡ held_at old o)
-    → bins_size mid ≤ bins_size old + rounded (size + 32) → bins_size old ≤ bins_size mid → size ≡ list_size (length offsets)
+    → bins_size mid ≤ bins_size old + rounded (size + 32) → bins_size old ≤ bins_size mid
+    → size ≡ list_size (length offsets)
     → 0 < length offsets → AreRelisted version gone offsets hints old new at
 relisted version gone offsets hints old mid new at size p same long least e some =
     let k : bins_size mid ≤ bins_size old + rounded (list_size (length offsets) + 32) =
@@ -428,7 +480,8 @@ relisted version gone offsets hints old mid new at size p same long least e some
       others = λ o ng. p.others o ng ∙ ap (or_else (held_among o at (list_run version at offsets hints))) (same o);
       fresh = λ o i. sym (same o) ∙ p.fresh o i;
       once = p.once;
-      long = within (bins_size old) (bins_size mid) (bins_size new) (rounded (list_size (length offsets) + 32)) (list_strain_of (bins_size old) (length offsets)) p.long k strain;
+      long = within (bins_size old) (bins_size mid) (bins_size new) (rounded (list_size (length offsets) + 32))
+          (list_strain_of (bins_size old) (length offsets)) p.long k strain;
       kept_long = let l = p.long in omega (arith, l, least);
     }
   where
@@ -438,15 +491,18 @@ relisted version gone offsets hints old mid new at size p same long least e some
 -- ---- what a list is made of
 
 -- a list is held where it is read
-pub read_held : (version : HiveVersion) (bins : List Bin) (at : ℕ) → IsOk (list_at (payload_in (look_up version bins) at)) → IsSome (held_at bins at)
+pub read_held : (version : HiveVersion) (bins : List Bin) (at : ℕ)
+    → IsOk (list_at (payload_in (look_up version bins) at)) → IsSome (held_at bins at)
 unfolding payload_in list_at
 read_held version bins at h = go (payload_at bins at) refl h
   where
-    go : (r : Result (List ℕ) HiveKind) → payload_at bins at ≡ r → IsOk (list_at (of_read r (λ p. p))) → IsSome (held_at bins at)
+    go : (r : Result (List ℕ) HiveKind) → payload_at bins at ≡ r → IsOk (list_at (of_read r (λ p. p)))
+        → IsSome (held_at bins at)
     go (Ok p) e k = subst IsSome (sym (payload_held bins at p e)) refl
     go (Err kind) e k = absurd cc
 
-pub lists_held : (version : HiveVersion) (bins : List Bin) (list count : ℕ) → ListsSiblings (look_up version bins) list count
+pub lists_held : (version : HiveVersion) (bins : List Bin) (list count : ℕ)
+    → ListsSiblings (look_up version bins) list count
     → All (λ o. IsSome (held_at bins o)) (lists_at (look_up version bins) list count)
 unfolding lists_at
 lists_held version bins list zero s = All-nil (λ o. IsSome (held_at bins o))
@@ -464,11 +520,14 @@ lists_held version bins list (suc n) s = go (lists_lists (payload_in cells list)
     here : IsSome (held_at bins list)
     here = read_held version bins list own.read
 
-    go : (b : Bool) → lists_lists (payload_in cells list) ≡ b → All (λ o. IsSome (held_at bins o)) (lists_at cells list (suc n))
-    go false e = subst (All (λ o. IsSome (held_at bins o))) (sym (used.single e)) (All-cons (λ o. IsSome (held_at bins o)) list [] here (All-nil (λ o. IsSome (held_at bins o))))
+    go : (b : Bool) → lists_lists (payload_in cells list) ≡ b
+        → All (λ o. IsSome (held_at bins o)) (lists_at cells list (suc n))
+    go false e = subst (All (λ o. IsSome (held_at bins o))) (sym (used.single e))
+        (All-cons (λ o. IsSome (held_at bins o)) list [] here (All-nil (λ o. IsSome (held_at bins o))))
     go true e =
         subst (All (λ o. IsSome (held_at bins o))) (sym (used.many e))
-        (All-cons (λ o. IsSome (held_at bins o)) list (offsets_of (payload_in cells list)) here (λ k d lt. read_held version bins _ ((own.many e).0 k d lt)))
+        (All-cons (λ o. IsSome (held_at bins o)) list (offsets_of (payload_in cells list)) here
+        (λ k d lt. read_held version bins _ ((own.many e).0 k d lt)))
 
 hint_four : (version : HiveVersion) (name : List ℕ) → length (name_hint version name) ≡ 4
 hint_four V3 name = length_hint_of (is_narrow name) name
@@ -478,11 +537,13 @@ pub hints_four : (cells : Cells) (offsets : List ℕ) → AreHints (hints_in cel
 hints_four cells [] = tt
 hints_four cells (x ∷ xs) = (hint_four cells.version (name_in cells x), hints_four cells xs)
 
-pub without_nodes : (cells : Cells) (child : ℕ) (offsets : List ℕ) → All (IsNode cells) offsets → All (IsNode cells) (without_child child offsets)
+pub without_nodes : (cells : Cells) (child : ℕ) (offsets : List ℕ) → All (IsNode cells) offsets
+    → All (IsNode cells) (without_child child offsets)
 without_nodes cells child [] h = h
 without_nodes cells child (x ∷ xs) h =
     go (not (eqb x child)) (without_nodes cells child xs (λ k d lt. h (suc k) d (omega arith)))
   where
-    go : (b : Bool) → All (IsNode cells) (without_child child xs) → All (IsNode cells) (cond b (x ∷ without_child child xs) (without_child child xs))
+    go : (b : Bool) → All (IsNode cells) (without_child child xs)
+        → All (IsNode cells) (cond b (x ∷ without_child child xs) (without_child child xs))
     go true more = All-cons (IsNode cells) x (without_child child xs) (h 0 0 (omega arith)) more
     go false more = more

@@ -34,11 +34,18 @@ parts_next version zero k places hints h l e = absurd (omega arith)
 parts_next version (suc left) k places hints h l e =
     let n : suc left - 1 ≡ left = omega arith in
     let same : k ≡ min (length hints) 500 = omega arith in
-    rw (n, take_least k 500 places e, take_least k 500 hints same, drop_least k 500 places e, drop_least k 500 hints same) refl
+    rw (
+      n,
+      take_least k 500 places e,
+      take_least k 500 hints same,
+      drop_least k 500 places e,
+      drop_least k 500 hints same,
+    ) refl
 
 -- a list of a version, by its parts
 pub list_is : (version : HiveVersion) (places : List ℕ) (hints : List (List ℕ))
-    → list_text version places hints ≡ 0x6c ∷ second_of version ∷ (to_le_bytes w16 (length places) ++ entries_text places hints)
+    → list_text version places hints ≡ 0x6c ∷ second_of version
+    ∷ (to_le_bytes w16 (length places) ++ entries_text places hints)
 unfolding lf_text lh_text
 list_is V3 places hints = refl
 list_is V5 places hints = refl

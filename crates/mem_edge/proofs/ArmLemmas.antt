@@ -24,9 +24,11 @@ faults_push [] a = omega arith
 faults_push (Fault c n ∷ old) a = omega (arith, faults_push old a)
 faults_push (Cut c n k ∷ old) a = faults_push old a
 
-module _ {came failed calls : ℕ} {old : List Arming} {cut fault : Option Armed} (within : WithinOrders came failed calls old cut fault) (call : DiskCall) (n : ℕ) where
+module _ {came failed calls : ℕ} {old : List Arming} {cut fault : Option Armed}
+    (within : WithinOrders came failed calls old cut fault) (call : DiskCall) (n : ℕ) where
   -- a cut is ordered and armed
-  pub cut_within : (keep : Keep) (new : List Arming) (a : Armed) → new ≡ old ++ Cut call n keep ∷ [] → WithinOrders came failed calls new (Some a) fault
+  pub cut_within : (keep : Keep) (new : List Arming) (a : Armed) → new ≡ old ++ Cut call n keep ∷ []
+      → WithinOrders came failed calls new (Some a) fault
   cut_within keep new a is =
       let more = cuts_push old (Cut call n keep) in
       let same = faults_push old (Cut call n keep) in
@@ -39,7 +41,8 @@ module _ {came failed calls : ℕ} {old : List Arming} {cut fault : Option Armed
       })
 
   -- a fault is ordered and armed
-  pub fault_within : (new : List Arming) (a : Armed) → new ≡ old ++ Fault call n ∷ [] → WithinOrders came failed calls new cut (Some a)
+  pub fault_within : (new : List Arming) (a : Armed) → new ≡ old ++ Fault call n ∷ []
+      → WithinOrders came failed calls new cut (Some a)
   fault_within new a is =
       let same = cuts_push old (Fault call n) in
       let more = faults_push old (Fault call n) in

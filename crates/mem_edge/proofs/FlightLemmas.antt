@@ -18,7 +18,8 @@ abbrev pub or_else : Option Content → Option Content → Option Content
 or_else (Some x) y = Some x
 or_else None y = y
 
-or_else_cond : (x : Option Content) (t : Bool) (b : Content) (found : Option Content) → or_else x (cond t (Some b) found) ≡ or_else (or_else x (cond t (Some b) None)) found
+or_else_cond : (x : Option Content) (t : Bool) (b : Content) (found : Option Content)
+    → or_else x (cond t (Some b) found) ≡ or_else (or_else x (cond t (Some b) None)) found
 or_else_cond (Some x) t b found = refl
 or_else_cond None true b found = refl
 or_else_cond None false b found = refl
@@ -32,14 +33,18 @@ over_else found (w ∷ ws) a =
     ∙ ap (λ x. or_else x found) (sym (over_else (cond t (Some (Bytes w.1)) None) ws a))
 
 -- a read finds what is in flight, or else what is held
-pub overlaid_else : (image : Image) (ws : List Write) (a : Address) → overlaid image ws a ≡ or_else (flying ws a) (image a)
-overlaid_else image ws a = over_is image ws a ∙ over_else (image a) ws a ∙ ap (λ x. or_else x (image a)) (sym (over_is (λ _. None) ws a))
+pub overlaid_else : (image : Image) (ws : List Write) (a : Address)
+    → overlaid image ws a ≡ or_else (flying ws a) (image a)
+overlaid_else image ws a =
+    over_is image ws a ∙ over_else (image a) ws a ∙ ap (λ x. or_else x (image a)) (sym (over_is (λ _. None) ws a))
 
 pub map_push : {A B : Type 0} (f : A → B) (xs : List A) (x : A) → map f (xs ++ x ∷ []) ≡ map f xs ++ f x ∷ []
 map_push f [] x = refl
 map_push f (y ∷ ys) x = ap (λ l. f y ∷ l) (map_push f ys x)
 
 -- one more write in flight, and the latest to its address
-pub flying_push : (latest new : Image) (ws : List Write) (w : Write) (a : Address) → latest a ≡ flying ws a → new a ≡ put latest w a → new a ≡ flying (ws ++ w ∷ []) a
+pub flying_push : (latest new : Image) (ws : List Write) (w : Write) (a : Address) → latest a ≡ flying ws a
+    → new a ≡ put latest w a → new a ≡ flying (ws ++ w ∷ []) a
 flying_push latest new ws w a was is =
-    is ∙ ap (λ x. cond (same_address w.0 a) (Some (Bytes w.1)) x) was ∙ sym (ap (λ (f : Image). f a) (overlaid_push (λ _. None) ws w))
+    is ∙ ap (λ x. cond (same_address w.0 a) (Some (Bytes w.1)) x) was
+    ∙ sym (ap (λ (f : Image). f a) (overlaid_push (λ _. None) ws w))

@@ -16,5 +16,6 @@ odd_in_flight (w ∷ v ∷ ws) a x (inr rest) = inr (inr (odd_in_flight ws a x r
 pub left_crash : (held : Image) (ws : List Write) (keep : Keep) → IsCrashImage held ws (left keep held ws)
 left_crash held ws Nothing a = inl refl
 left_crash held ws Everything a = overlaid_crash held ws a
-left_crash held ws OddOnes a = ⊎_elim (λ same. inl same) (λ flying. inr (odd_in_flight ws a _ flying)) (overlaid_crash held (odd_ones ws) a)
+left_crash held ws OddOnes a =
+    ⊎_elim (λ same. inl same) (λ flying. inr (odd_in_flight ws a _ flying)) (overlaid_crash held (odd_ones ws) a)
 left_crash held ws Torn a = torn_crash held ws a

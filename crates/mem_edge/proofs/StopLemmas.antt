@@ -22,7 +22,8 @@ stopped s cut fault = record s {
   faults = cond fault (next s.faults) s.faults;
 }
 
-cut_cause : {T : Type 0} (s : DiskState) (fault : Bool) → IsBounded s → HasCause {T = T} s (stopped s true fault) (Err PowerLost)
+cut_cause : {T : Type 0} (s : DiskState) (fault : Bool) → IsBounded s
+    → HasCause {T = T} s (stopped s true fault) (Err PowerLost)
 cut_cause s fault ends = record {
   power = λ _. next_rises s.cuts ends.cuts;
   failed = λ e. absurd (cc);
@@ -42,7 +43,9 @@ fault_cause s ends = record {
   no_lack = λ _. refl;
 }
 
-either_cause : {T : Type 0} (s : DiskState) (cut fault : Bool) (stop : DiskStop) → IsBounded s → cond cut (Some PowerLost) (cond fault (Some Failed) None) ≡ Some stop → HasCause {T = T} s (stopped s cut fault) (Err stop)
+either_cause : {T : Type 0} (s : DiskState) (cut fault : Bool) (stop : DiskStop) → IsBounded s
+    → cond cut (Some PowerLost) (cond fault (Some Failed) None) ≡ Some stop
+    → HasCause {T = T} s (stopped s cut fault) (Err stop)
 either_cause s true fault PowerLost ends is = cut_cause s fault ends
 either_cause s true fault Failed ends is = absurd (cc)
 either_cause s true fault Memory ends is = absurd (cc)
@@ -56,16 +59,19 @@ no_memory true fault is = cc
 no_memory false true is = cc
 no_memory false false is = cc
 
-does_either : (T : Type 0) (call : DiskCall) (deed : DiskState → DiskState) (old new : Seen) (stop : DiskStop) → stop_of old call ≡ Some stop → new ≡ called call old → Does {T = T} call deed old new (Err stop)
+does_either : (T : Type 0) (call : DiskCall) (deed : DiskState → DiskState) (old new : Seen) (stop : DiskStop)
+    → stop_of old call ≡ Some stop → new ≡ called call old → Does {T = T} call deed old new (Err stop)
 does_either T call deed old new PowerLost came seen = (came, seen)
 does_either T call deed old new Failed came seen = (came, seen)
 does_either T call deed old new Memory came seen = absurd (no_memory (is_due old.cut call) (is_due old.fault call) came)
 
 -- a stop that came in a call
-module _ (T : Type 0) (old new : MemDisk) (call : DiskCall) (stop : DiskStop) (seen : seen_of new ≡ called call (seen_of old)) (came : stop_of (seen_of old) call ≡ Some stop) where
+module _ (T : Type 0) (old new : MemDisk) (call : DiskCall) (stop : DiskStop)
+    (seen : seen_of new ≡ called call (seen_of old)) (came : stop_of (seen_of old) call ≡ Some stop) where
   pub stop_cause : HasCause {T = T} (state_of old) (state_of new) (Err stop)
   stop_cause = subst (λ (s : Seen). HasCause {T = T} (state_of old) s.disk (Err stop)) (sym seen)
-      (either_cause (state_of old) (is_due old.armed_cut call) (is_due old.armed_fault call) stop (bounded_law old) came)
+      (either_cause (state_of old) (is_due old.armed_cut call) (is_due old.armed_fault call) stop (bounded_law old)
+      came)
 
   -- and the call did nothing else
   pub does_stop : (deed : DiskState → DiskState) → Does {T = T} call deed (seen_of old) (seen_of new) (Err stop)

@@ -31,7 +31,8 @@ pub ordered_law : (d : MemDisk) → KeepsOrders (state_of d)
 ordered_law d = record { cuts = d.orders.cuts_kept; faults = d.orders.faults_kept }
 
 -- so many calls of three kinds, of which f counts each
-sum_like : (f : Made → ℕ) (reads writes syncs : ℕ) (x y z : Made) → sum_by f (replicate reads x ++ (replicate writes y ++ replicate syncs z)) ≡ reads * f x + (writes * f y + syncs * f z)
+sum_like : (f : Made → ℕ) (reads writes syncs : ℕ) (x y z : Made)
+    → sum_by f (replicate reads x ++ (replicate writes y ++ replicate syncs z)) ≡ reads * f x + (writes * f y + syncs * f z)
 sum_like f reads writes syncs x y z =
     sum_by-append f (replicate reads x) (replicate writes y ++ replicate syncs z)
     ∙ ap (λ n. sum_by f (replicate reads x) + n) (sum_by-append f (replicate writes y) (replicate syncs z))

@@ -23,7 +23,8 @@ front_more old new first rest f = record {
 }
 
 -- what was said behind a first text is the longer text
-front_behind : (old mid new first rest : List ℕ) → mid ≡ old ++ first → SaysFront mid new rest → SaysFront old new (first ++ rest)
+front_behind : (old mid new first rest : List ℕ) → mid ≡ old ++ first → SaysFront mid new rest
+    → SaysFront old new (first ++ rest)
 front_behind old mid new first rest is f = record {
   front = first ++ f.front;
   rest = f.rest;
@@ -34,16 +35,27 @@ front_behind old mid new first rest is f = record {
 whole_behind : (old mid new first rest : List ℕ) → mid ≡ old ++ first → new ≡ mid ++ rest → new ≡ old ++ (first ++ rest)
 whole_behind old mid new first rest is e = e ∙ ap (λ (l : List ℕ). l ++ rest) is ∙ append_assoc old first rest
 
-pub told_behind : (told : MendStatus) (first rest : List ℕ) (status : MendStatus) (old mid new : HostState) → mid.tells ≡ old.tells
-    → (old.tells ≡ true → mid.said ≡ old.said ++ first) → Told told rest status mid new → Told told (first ++ rest) status old new
+pub told_behind : (told : MendStatus) (first rest : List ℕ) (status : MendStatus) (old mid new : HostState)
+    → mid.tells ≡ old.tells
+    → (old.tells ≡ true → mid.said ≡ old.said ++ first) → Told told rest status mid new
+    → Told told (first ++ rest) status old new
 told_behind told first rest status old mid new same said t =
     ⊎_elim
-    (λ all. inl (all.0, λ tells. whole_behind old.said mid.said new.said first rest (said tells) (all.1 (same ∙ tells))))
-    (λ cut. inr (cut.0, λ tells. front_behind old.said mid.said new.said first rest (said tells) (cut.1 (same ∙ tells))))
+    (λ all. inl (
+      all.0,
+      λ tells. whole_behind old.said mid.said new.said first rest (said tells)
+          (all.1 (same ∙ tells)),
+    ))
+    (λ cut. inr (
+      cut.0,
+      λ tells. front_behind old.said mid.said new.said first rest (said tells)
+          (cut.1 (same ∙ tells)),
+    ))
     t
 
 -- where the first text was stopped, so was the whole
-pub told_cut : (other : MendStatus) (first rest : List ℕ) (status : MendStatus) (old new : HostState) → (status ≡ Done → ⊥)
+pub told_cut : (other : MendStatus) (first rest : List ℕ) (status : MendStatus) (old new : HostState)
+    → (status ≡ Done → ⊥)
     → Told Done first status old new → Told other (first ++ rest) status old new
 told_cut other first rest status old new not t =
     ⊎_elim
@@ -52,7 +64,8 @@ told_cut other first rest status old new not t =
     t
 
 -- where the first text was said, it was said whole
-pub told_whole : (first : List ℕ) (status : MendStatus) (old new : HostState) → status ≡ Done → Told Done first status old new
+pub told_whole : (first : List ℕ) (status : MendStatus) (old new : HostState) → status ≡ Done
+    → Told Done first status old new
     → old.tells ≡ true → new.said ≡ old.said ++ first
 told_whole first status old new is t tells =
     ⊎_elim
@@ -71,17 +84,26 @@ pub told_nothing : (told : MendStatus) (text : List ℕ) (s : HostState) → Tol
 told_nothing told text s = inr (inr refl, λ tells. front_none s.said text)
 
 -- a status is the one that goes with the text, or that of a stop of the host or the memory
-pub not_as : (told other : MendStatus) (text : List ℕ) (status : MendStatus) (old new : HostState) → Told told text status old new
+pub not_as : (told other : MendStatus) (text : List ℕ) (status : MendStatus) (old new : HostState)
+    → Told told text status old new
     → (told ≡ other → ⊥) → (WriteFault ≡ other → ⊥) → (Memory ≡ other → ⊥) → status ≡ other → ⊥
 not_as told other text status old new t one two three e =
     ⊎_elim (λ all. one (sym all.0 ∙ e)) (λ cut. ⊎_elim (λ w. two (sym w ∙ e)) (λ m. three (sym m ∙ e)) cut.0) t
 
 -- ---- the disk
 
-pub disk_same : (status : MendStatus) (s : DiskState) → IsBounded s → (status ≡ Cut → ⊥) → (status ≡ Device → ⊥) → DiskGoes status s s
+pub disk_same : (status : MendStatus) (s : DiskState) → IsBounded s → (status ≡ Cut → ⊥) → (status ≡ Device → ⊥)
+    → DiskGoes status s s
 disk_same status s ends cut device = record {
   history = refl;
-  counts = record { cuts = omega arith; faults = omega arith; lacks = omega arith; cuts_end = ends.cuts; faults_end = ends.faults; lacks_end = ends.lacks };
+  counts = record {
+    cuts = omega arith;
+    faults = omega arith;
+    lacks = omega arith;
+    cuts_end = ends.cuts;
+    faults_end = ends.faults;
+    lacks_end = ends.lacks;
+  };
   cut = λ e. absurd (cut e);
   fault = λ e. absurd (device e);
   off = λ e. absurd (cut e);

@@ -21,7 +21,9 @@ reversed_eq Greater = refl
 -- two names fold to one where neither stands before the other
 pub same_from_order : (q y : List ℕ) → folds_same q y ≡ is_eq (folded_order y q)
 same_from_order q y =
-    sym (folded_pointwise q y) ∙ texts_ties (folded q) (folded y) ∙ ap is_eq (nat_list_cmp_total.antisymm (folded q) (folded y)) ∙ reversed_eq (folded_order y q)
+    sym (folded_pointwise q y) ∙ texts_ties (folded q) (folded y)
+    ∙ ap is_eq (nat_list_cmp_total.antisymm (folded q) (folded y)) ∙ reversed_eq (folded_order y q)
 
 pub alike : (q n : List ℕ) → folds_same q n ≡ true → (y : List ℕ) → folds_same q y ≡ folds_same n y
-alike q n h y = sym (folded_pointwise q y) ∙ nat_list_eq_equiv.congr (folded q) (folded n) (folded y) (folded_pointwise q n ∙ h) ∙ folded_pointwise n y
+alike q n h y = sym (folded_pointwise q y)
+    ∙ nat_list_eq_equiv.congr (folded q) (folded n) (folded y) (folded_pointwise q n ∙ h) ∙ folded_pointwise n y

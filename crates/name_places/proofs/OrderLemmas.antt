@@ -23,7 +23,9 @@ neither_less Equal = refl
 neither_less Greater = refl
 
 same_from_ties : (q y : List ℕ) → folds_same q y ≡ (not (is_lt (folded_order q y)) && not (is_lt (folded_order y q)))
-same_from_ties q y = same_from_order q y ∙ sym (ap (λ r. not (is_lt r) && not (is_lt (folded_order y q))) (nat_list_cmp_total.antisymm (folded q) (folded y)) ∙ neither_less (folded_order y q))
+same_from_ties q y = same_from_order q y
+    ∙ sym (ap (λ r. not (is_lt r) && not (is_lt (folded_order y q))) (nat_list_cmp_total.antisymm (folded q) (folded y))
+    ∙ neither_less (folded_order y q))
 
 -- ---- places in their order
 
@@ -31,14 +33,19 @@ pub is_order : (names : List (List ℕ)) → IsStrictWeakOrder (comes_before nam
 is_order names = ranks_by nat_list_cmp_total (λ (k : ℕ). folded (get_or names k []))
 
 -- the places of a name stand in the order that they have in the list
-pub kept : (names : List (List ℕ)) (order : List ℕ) (name : List ℕ) → IsOrderOf names order → filter (λ k. folds_same name (get_or names k [])) order ≡ places_named name names
+pub kept : (names : List (List ℕ)) (order : List ℕ) (name : List ℕ) → IsOrderOf names order
+    → filter (λ k. folds_same name (get_or names k [])) order ≡ places_named name names
 kept names order name o =
     elim (cases_Bool (list_any test all)) [
       | inl some ↦
           let found = Any-from_list_any test all some in
-          let tied : (k : ℕ) → test k ≡ ties (comes_before names) found.1 k = λ k. alike name (get_or names found.1 []) found.4 (get_or names k []) ∙ same_from_ties (get_or names found.1 []) (get_or names k []) in
-          filter_agree test (ties (comes_before names) found.1) tied order ∙ o.by_place found.1 ∙ sym (filter_agree test (ties (comes_before names) found.1) tied all)
-      | inr none ↦ filter_none test order (sym (list_any-IsPermutation test all order o.each_once) ∙ none) ∙ sym (filter_none test all none)
+          let tied : (k : ℕ) → test k ≡ ties (comes_before names) found.1 k =
+          λ k. alike name (get_or names found.1 []) found.4 (get_or names k [])
+          ∙ same_from_ties (get_or names found.1 []) (get_or names k []) in
+          filter_agree test (ties (comes_before names) found.1) tied order ∙ o.by_place found.1
+          ∙ sym (filter_agree test (ties (comes_before names) found.1) tied all)
+      | inr none ↦ filter_none test order (sym (list_any-IsPermutation test all order o.each_once) ∙ none)
+          ∙ sym (filter_none test all none)
     ]
   where
     all : List ℕ
@@ -89,14 +96,22 @@ between_is_equal Greater h e = e
 abbrev pub compared : List (List ℕ) → List ℕ → ℕ → Ordering
 compared names name k = folded_order (get_or names k []) name
 
-rises : (names : List (List ℕ)) (order : List ℕ) (name : List ℕ) → IsOrderOf names order → IsNonDecreasingBy (λ k. ordering_index (compared names name k)) order
-rises names order name o = searchable_from_sorted nat_list_cmp_total (λ (k : ℕ). folded (get_or names k [])) order (folded name) o.by_name
+rises : (names : List (List ℕ)) (order : List ℕ) (name : List ℕ) → IsOrderOf names order
+    → IsNonDecreasingBy (λ k. ordering_index (compared names name k)) order
+rises names order name o =
+    searchable_from_sorted nat_list_cmp_total (λ (k : ℕ). folded (get_or names k [])) order (folded name) o.by_name
 
-less_first : (names : List (List ℕ)) (order : List ℕ) (name : List ℕ) → IsOrderOf names order → IsPartitionedBy (λ k. is_lt (compared names name k)) order
-less_first names order name o i j d upto lt = lower_less (compared names name (get_or order i d)) (compared names name (get_or order j d)) (rises names order name o i j d upto lt)
+less_first : (names : List (List ℕ)) (order : List ℕ) (name : List ℕ) → IsOrderOf names order
+    → IsPartitionedBy (λ k. is_lt (compared names name k)) order
+less_first names order name o i j d upto lt =
+    lower_less (compared names name (get_or order i d)) (compared names name (get_or order j d))
+    (rises names order name o i j d upto lt)
 
-le_first : (names : List (List ℕ)) (order : List ℕ) (name : List ℕ) → IsOrderOf names order → IsPartitionedBy (λ k. is_le (compared names name k)) order
-le_first names order name o i j d upto lt = lower_le (compared names name (get_or order i d)) (compared names name (get_or order j d)) (rises names order name o i j d upto lt)
+le_first : (names : List (List ℕ)) (order : List ℕ) (name : List ℕ) → IsOrderOf names order
+    → IsPartitionedBy (λ k. is_le (compared names name k)) order
+le_first names order name o i j d upto lt =
+    lower_le (compared names name (get_or order i d)) (compared names name (get_or order j d))
+    (rises names order name o i j d upto lt)
 
 -- where a search for the places that pass a test ends
 abbrev pub EndsAt : (ℕ → Bool) → List ℕ → ℕ → Type 0
@@ -107,14 +122,16 @@ pub record IsPart (names : List (List ℕ)) (order name : List ℕ) (low high : 
   pub rises : low ≤ high
   pub named : take (high - low) (drop low order) ≡ places_named name names
 
-module _ (names : List (List ℕ)) (order name : List ℕ) (low high : ℕ) (least : low ≤ length order) (most : high ≤ length order) (less : EndsAt (λ k. is_lt (compared names name k)) order low)
+module _ (names : List (List ℕ)) (order name : List ℕ) (low high : ℕ) (least : low ≤ length order)
+    (most : high ≤ length order) (less : EndsAt (λ k. is_lt (compared names name k)) order low)
     (le : EndsAt (λ k. is_le (compared names name k)) order high) where
   abbrev at : ℕ → ℕ → Ordering
   at k d = compared names name (get_or order k d)
 
   low_first : low ≤ high
   low_first = elim (cases_lt high low) [
-    | inl past ↦ absurd (both_ways (is_le (at high 0)) (le.1 high 0 (omega arith) (omega (arith, past, least))) (less_le (at high 0) (less.0 high 0 (omega arith) past)))
+    | inl past ↦ absurd (both_ways (is_le (at high 0)) (le.1 high 0 (omega arith) (omega (arith, past, least)))
+        (less_le (at high 0) (less.0 high 0 (omega arith) past)))
     | inr upto ↦ upto
   ]
 
@@ -127,12 +144,19 @@ module _ (names : List (List ℕ)) (order name : List ℕ) (low high : ℕ) (lea
     named =
         filter_part (λ k. folds_same name (get_or names k [])) order low (high - low) (omega (arith, low_first, most))
         (λ k d from to. same k d ∙ less_differs (at k d) (less.0 k d from to))
-        (λ k d from to. same k d ∙ between_is_equal (at k d) (less.1 k d from (omega (arith, low_first, to, most))) (le.0 k d (omega arith) (omega (arith, low_first, to))))
-        (λ k d from to. same k d ∙ greater_differs (at k d) (le.1 k d (omega (arith, low_first, from)) to)) ∙ kept names order name o;
+        (λ k d from to. same k d ∙ between_is_equal (at k d) (less.1 k d from (omega (arith, low_first, to, most)))
+        (le.0 k d (omega arith) (omega (arith, low_first, to))))
+        (λ k d from to. same k d ∙ greater_differs (at k d) (le.1 k d (omega (arith, low_first, from)) to))
+        ∙ kept names order name o;
   }
 
 -- by what two searches say: low is the first place that is not less, and high the first that is greater
-pub searched : (names : List (List ℕ)) (order name : List ℕ) (low high : ℕ) → IsOrderOf names order → low ≤ length order → high ≤ length order
-    → (IsPartitionedBy (λ k. is_lt (compared names name k)) order → EndsAt (λ k. is_lt (compared names name k)) order low)
-    → (IsPartitionedBy (λ k. is_le (compared names name k)) order → EndsAt (λ k. is_le (compared names name k)) order high) → IsPart names order name low high
-searched names order name low high o least most less le = between names order name low high least most (less (less_first names order name o)) (le (le_first names order name o)) o
+pub searched : (names : List (List ℕ)) (order name : List ℕ) (low high : ℕ) → IsOrderOf names order → low ≤ length order
+    → high ≤ length order
+    → (IsPartitionedBy (λ k. is_lt (compared names name k)) order
+    → EndsAt (λ k. is_lt (compared names name k)) order low)
+    → (IsPartitionedBy (λ k. is_le (compared names name k)) order
+    → EndsAt (λ k. is_le (compared names name k)) order high) → IsPart names order name low high
+searched names order name low high o least most less le =
+    between names order name low high least most (less (less_first names order name o))
+    (le (le_first names order name o)) o

@@ -7,7 +7,8 @@ use Rattle.nt_edge.specs.Host.{Rises}
 use Rattle.nt_edge.specs.declared.disk.DiskStop.{DiskStop}
 
 -- what came first was not refused
-pub goes_then : {lost failed lacked : Type 0} {a b c : DiskState} → GoesOn a b ⊥ ⊥ ⊥ → GoesOn b c lost failed lacked → GoesOn a c lost failed lacked
+pub goes_then : {lost failed lacked : Type 0} {a b c : DiskState} → GoesOn a b ⊥ ⊥ ⊥ → GoesOn b c lost failed lacked
+    → GoesOn a c lost failed lacked
 goes_then {a = a} {b = b} {c = c} one two = record {
   history = two.history ∙ one.history;
   counts = record {
@@ -27,7 +28,8 @@ goes_then {a = a} {b = b} {c = c} one two = record {
   on = two.on;
 }
 
-pub leaves_then : {tells : Bool} {lost failed : Type 0} {a b c : DiskState} → LeavesAsRead tells a b ⊥ ⊥ → LeavesAsRead tells b c lost failed → LeavesAsRead tells a c lost failed
+pub leaves_then : {tells : Bool} {lost failed : Type 0} {a b c : DiskState} → LeavesAsRead tells a b ⊥ ⊥
+    → LeavesAsRead tells b c lost failed → LeavesAsRead tells a c lost failed
 leaves_then one two = record {
   held = λ told. two.held told ∙ one.held told;
   flight = λ told. two.flight told ∙ one.flight told;

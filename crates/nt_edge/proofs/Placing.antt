@@ -10,14 +10,20 @@ less_or_not : (a b : ℕ) → (a < b) ⊎ (b ≤ a)
 less_or_not a b = grind arith
 
 -- a sector that is there
-pub sector_there : (bytes : List ℕ) (n : ℕ) → 512 * n < length bytes → sector_of bytes n ≡ Some (Bytes (padded (take 512 (drop (512 * n) bytes))))
-sector_there bytes n less = ap (λ t. cond t (Some (Bytes (padded (take 512 (drop (512 * n) bytes))))) None) (lt-ltb (512 * n) (length bytes) less)
+pub sector_there : (bytes : List ℕ) (n : ℕ) → 512 * n < length bytes
+    → sector_of bytes n ≡ Some (Bytes (padded (take 512 (drop (512 * n) bytes))))
+sector_there bytes n less =
+    ap (λ t. cond t (Some (Bytes (padded (take 512 (drop (512 * n) bytes))))) None)
+    (lt-ltb (512 * n) (length bytes) less)
 
 -- none is there at or past the end
 pub sector_past : (bytes : List ℕ) (n : ℕ) → length bytes ≤ 512 * n → sector_of bytes n ≡ None
-sector_past bytes n past = ap (λ t. cond t (Some (Bytes (padded (take 512 (drop (512 * n) bytes))))) None) (le-ltb (512 * n) (length bytes) past)
+sector_past bytes n past =
+    ap (λ t. cond t (Some (Bytes (padded (take 512 (drop (512 * n) bytes))))) None)
+    (le-ltb (512 * n) (length bytes) past)
 
-front_content : (bytes : List ℕ) (m k : ℕ) → (k + 512 ≤ m) ⊎ (length bytes ≤ m) → take 512 (drop k (take m bytes)) ≡ take 512 (drop k bytes)
+front_content : (bytes : List ℕ) (m k : ℕ) → (k + 512 ≤ m) ⊎ (length bytes ≤ m)
+    → take 512 (drop k (take m bytes)) ≡ take 512 (drop k bytes)
 front_content bytes m k (inl whole) =
     let split : m ≡ k + (m - k) = omega arith in
     ap (λ n. take 512 (drop k (take n bytes))) split
@@ -25,15 +31,20 @@ front_content bytes m k (inl whole) =
     ∙ take-take 512 (m - k) (drop k bytes) (omega arith)
 front_content bytes m k (inr all) = ap (λ l. take 512 (drop k l)) (take_all m bytes all)
 
-there : (bytes : List ℕ) (m n : ℕ) → m ≡ min (length bytes) 33554432 → n < 65536 → 512 * n < length bytes → sector_of (take m bytes) n ≡ sector_of bytes n
+there : (bytes : List ℕ) (m n : ℕ) → m ≡ min (length bytes) 33554432 → n < 65536 → 512 * n < length bytes
+    → sector_of (take m bytes) n ≡ sector_of bytes n
 there bytes m n is small inside =
     let long : length (take m bytes) ≡ m = length-take-le m bytes (omega arith) in
     sector_there (take m bytes) n (omega arith)
-    ∙ ap (λ l. Some (Bytes (padded l))) (front_content bytes m (512 * n) (⊎_elim {C = (512 * n + 512 ≤ m) ⊎ (length bytes ≤ m)} (λ less. inl (omega arith)) (λ more. inr (omega arith)) (less_or_not m (length bytes))))
+    ∙ ap (λ l. Some (Bytes (padded l)))
+    (front_content bytes m (512 * n)
+    (⊎_elim {C = (512 * n + 512 ≤ m) ⊎ (length bytes ≤ m)} (λ less. inl (omega arith)) (λ more. inr (omega arith))
+    (less_or_not m (length bytes))))
     ∙ sym (sector_there bytes n inside)
 
 -- a sector of the first 32 MiB of some bytes
-pub sector_of-front : (bytes : List ℕ) (m n : ℕ) → m ≡ min (length bytes) 33554432 → sector_of (take m bytes) n ≡ (if nat_lt n 65536 then sector_of bytes n else None)
+pub sector_of-front : (bytes : List ℕ) (m n : ℕ) → m ≡ min (length bytes) 33554432
+    → sector_of (take m bytes) n ≡ (if nat_lt n 65536 then sector_of bytes n else None)
 sector_of-front bytes m n is =
     let long = length-take m bytes in
     ⊎_elim
@@ -43,7 +54,8 @@ sector_of-front bytes m n is =
     (λ past. sector_past (take m bytes) n (omega arith) ∙ sym (sector_past bytes n past))
     (less_or_not (512 * n) (length bytes))
     ∙ sym (ap (λ t. cond t (sector_of bytes n) None) (lt-ltb n 65536 small)))
-    (λ large. sector_past (take m bytes) n (omega arith) ∙ sym (ap (λ t. cond t (sector_of bytes n) None) (le-ltb n 65536 large)))
+    (λ large. sector_past (take m bytes) n (omega arith)
+    ∙ sym (ap (λ t. cond t (sector_of bytes n) None) (le-ltb n 65536 large)))
     (less_or_not n 65536)
 
 -- a primary and a log placed
@@ -51,7 +63,8 @@ pub placed_both : (primary log : List ℕ) (p l : ℕ) → p ≡ min (length pri
     → with_file Log (take l log) (with_file Primary (take p primary) (λ _. None)) ≡ image_of primary log
 placed_both primary log p l is_p is_l =
     let left = with_file Log (take l log) (with_file Primary (take p primary) (λ _. None)) in
-    let each : (f : File) (n : ℕ) → left (record { file = f; sector = n }) ≡ image_of primary log (record { file = f; sector = n }) =
+    let each : (f : File) (n : ℕ)
+    → left (record { file = f; sector = n }) ≡ image_of primary log (record { file = f; sector = n }) =
     elim [ Primary ↦ λ n. sector_of-front primary p n is_p | Log ↦ λ n. sector_of-front log l n is_l ] in
     same_images left (image_of primary log) (λ a. each a.file a.sector)
 
@@ -62,9 +75,11 @@ no_sector n = sym (⊎_elim
     (less_or_not n 65536))
 
 -- a primary placed, and no log
-pub placed_primary : (primary : List ℕ) (p : ℕ) → p ≡ min (length primary) 33554432 → with_file Primary (take p primary) (λ _. None) ≡ image_of primary []
+pub placed_primary : (primary : List ℕ) (p : ℕ) → p ≡ min (length primary) 33554432
+    → with_file Primary (take p primary) (λ _. None) ≡ image_of primary []
 placed_primary primary p is =
     let left = with_file Primary (take p primary) (λ _. None) in
-    let each : (f : File) (n : ℕ) → left (record { file = f; sector = n }) ≡ image_of primary [] (record { file = f; sector = n }) =
+    let each : (f : File) (n : ℕ)
+    → left (record { file = f; sector = n }) ≡ image_of primary [] (record { file = f; sector = n }) =
     elim [ Primary ↦ λ n. sector_of-front primary p n is | Log ↦ λ n. no_sector n ] in
     same_images left (image_of primary []) (λ a. each a.file a.sector)

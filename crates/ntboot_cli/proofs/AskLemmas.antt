@@ -45,7 +45,8 @@ pub text_asked : (files : Files) (asked : RunAsked) (system : Arc) (script : Lis
     (events : List Event)
     → system_in (arc_of asked.system) ≡ Ok system → file_in asked.script (files asked.script) ≡ Ok script
     → events_in (script_of script) ≡ Ok events
-    → asks_run asked files ≡ named asked.boot_ini + 1 + behind_step (bytes_in files asked.boot_ini) (by_text asked files)
+    → asks_run asked files ≡ named asked.boot_ini + 1
+    + behind_step (bytes_in files asked.boot_ini) (by_text asked files)
 text_asked files asked system script events is found are =
     let before : asks_run asked files ≡ 1 + by_events asked files =
     events_asked files asked system script is found ∙ ap
@@ -53,16 +54,20 @@ text_asked files asked system script events is found are =
     omega (arith, before)
 
 pub ini_asked : (files : Files) (asked : RunAsked) (text : List ℕ)
-    → asks_run asked files ≡ named asked.boot_ini + 1 + behind_step (bytes_in files asked.boot_ini) (by_text asked files)
+    → asks_run asked files ≡ named asked.boot_ini + 1
+    + behind_step (bytes_in files asked.boot_ini) (by_text asked files)
     → bytes_in files asked.boot_ini ≡ Ok text
-    → asks_run asked files ≡ named asked.boot_ini + 1 + behind_step (ini_in text asked.system) (λ ini. by_hive asked files)
+    → asks_run asked files ≡ named asked.boot_ini + 1
+    + behind_step (ini_in text asked.system) (λ ini. by_hive asked files)
 ini_asked files asked text before found =
     before ∙ ap (λ (r : Result (List ℕ) Refusal). named asked.boot_ini + 1 + behind_step r (by_text asked files)) found
 
 pub hive_asked : (files : Files) (asked : RunAsked) (text : List ℕ) (ini : BootIni)
-    → asks_run asked files ≡ named asked.boot_ini + 1 + behind_step (ini_in text asked.system) (λ ini. by_hive asked files)
+    → asks_run asked files ≡ named asked.boot_ini + 1
+    + behind_step (ini_in text asked.system) (λ ini. by_hive asked files)
     → ini_in text asked.system ≡ Ok ini
     → asks_run asked files ≡ named asked.boot_ini + 1 + by_hive asked files
 hive_asked files asked text ini before is =
     before
-    ∙ ap (λ (r : Result BootIni Refusal). named asked.boot_ini + 1 + behind_step r (λ (i : BootIni). by_hive asked files)) is
+    ∙ ap (λ (r : Result BootIni Refusal). named asked.boot_ini + 1
+    + behind_step r (λ (i : BootIni). by_hive asked files)) is

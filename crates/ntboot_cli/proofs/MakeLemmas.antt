@@ -50,29 +50,34 @@ was_said : (text old new : List ℕ) → Ends (done_with text) statuses.Done old
 was_said text old new (inl x) = x.1
 was_said text old new (inr never) = absurd never
 
-ends_finished : (r : Result (Unit {0}) HostStop) (saves : Saves) (text : List ℕ) (mid new : HostState) (before after : DiskState) (old : List ℕ) → SavesBoth saves r mid new before after
+ends_finished : (r : Result (Unit {0}) HostStop) (saves : Saves) (text : List ℕ) (mid new : HostState)
+    (before after : DiskState) (old : List ℕ) → SavesBoth saves r mid new before after
     → new.said ≡ old ++ text → Ends (done_with text) (saved_status r) old new.said
 ends_finished (Ok u) saves text mid new before after old s is = inl (refl, is)
 ends_finished (Err Read) saves text mid new before after old s is = absurd (s.host.unread refl)
 ends_finished (Err Write) saves text mid new before after old s is = inr (whole_front text old new.said is)
 ends_finished (Err Memory) saves text mid new before after old s is = inr (whole_front text old new.said is)
 
-told_saved : (r : Result (Unit {0}) HostStop) (saves : Saves) (mid new : HostState) (before after : DiskState) → SavesBoth saves r mid new before after
+told_saved : (r : Result (Unit {0}) HostStop) (saves : Saves) (mid new : HostState) (before after : DiskState)
+    → SavesBoth saves r mid new before after
     → IsToldAs statuses.Done (saved_status r)
 told_saved (Ok u) saves mid new before after s = inl refl
 told_saved (Err Read) saves mid new before after s = absurd (s.host.unread refl)
 told_saved (Err Write) saves mid new before after s = inr (inl refl)
 told_saved (Err Memory) saves mid new before after s = inr (inr refl)
 
-all_saved : (r : Result (Unit {0}) HostStop) (saves : Saves) (mid new : HostState) (before after : DiskState) (s : SavesBoth saves r mid new before after)
+all_saved : (r : Result (Unit {0}) HostStop) (saves : Saves) (mid new : HostState) (before after : DiskState)
+    (s : SavesBoth saves r mid new before after)
     → saved_status r ≡ statuses.Done → s.taken ≡ saved_count saves
 all_saved (Ok u) saves mid new before after s e = s.all
 all_saved (Err Read) saves mid new before after s e = absurd cc
 all_saved (Err Write) saves mid new before after s e = absurd cc
 all_saved (Err Memory) saves mid new before after s e = absurd cc
 
-pub finishes_saved : (text : List ℕ) (saves : Saves) (r : Result (Unit {0}) HostStop) (status : Status) (old mid new : HostState) (before after : DiskState)
-    → status ≡ saved_status r → Leaves (Ends (record { status = statuses.Done; text = text })) statuses.Done old mid → KeepsFiles old mid → AsksNone old mid
+pub finishes_saved : (text : List ℕ) (saves : Saves) (r : Result (Unit {0}) HostStop) (status : Status)
+    (old mid new : HostState) (before after : DiskState)
+    → status ≡ saved_status r → Leaves (Ends (record { status = statuses.Done; text = text })) statuses.Done old mid
+    → KeepsFiles old mid → AsksNone old mid
     → SavesBoth saves r mid new before after → FinishesAs text saves status old new before after
 finishes_saved text saves r status old mid new before after is leaves files unasked s =
     let here : FinishesAs text saves (saved_status r) old new before after = record {
@@ -80,10 +85,12 @@ finishes_saved text saves r status old mid new before after is leaves files unas
         keeps = keeps_then old mid new leaves.keeps s.host.keeps;
         counts = counts_saved r old new (fault_then r old mid new leaves.keeps leaves.counts s.host.counts);
         said = λ tells.
-            ends_finished r saves text mid new before after old.said s (s.host.unsaid (leaves.keeps.tells ∙ tells) ∙ was_said text old.said mid.said (leaves.said tells));
+            ends_finished r saves text mid new before after old.said s
+            (s.host.unsaid (leaves.keeps.tells ∙ tells) ∙ was_said text old.said mid.said (leaves.said tells));
       };
       files = λ tells.
-          subst (λ (f : Files). FilesAs saves (saved_status r) after.held f new.files) (files tells) (files_saved saves r mid new before after (leaves.keeps.tells ∙ tells) s);
+          subst (λ (f : Files). FilesAs saves (saved_status r) after.held f new.files) (files tells)
+          (files_saved saves r mid new before after (leaves.keeps.tells ∙ tells) s);
       unasked = s.host.unasked ∙ unasked;
       told = told_saved r saves mid new before after s;
       taken = s.taken;
@@ -95,7 +102,8 @@ finishes_saved text saves r status old mid new before after is leaves files unas
 
 -- saying it was stopped
 pub finishes_stopped : (text : List ℕ) (saves : Saves) (status : Status) (old new : HostState) (disk : DiskState)
-    → Leaves (Ends (record { status = statuses.Done; text = text })) status old new → KeepsFiles old new → AsksNone old new → IsToldAs statuses.Done status
+    → Leaves (Ends (record { status = statuses.Done; text = text })) status old new → KeepsFiles old new
+    → AsksNone old new → IsToldAs statuses.Done status
     → (status ≡ statuses.Done → ⊥) → FinishesAs text saves status old new disk disk
 finishes_stopped text saves status old new disk leaves files unasked told undone = record {
   leaves = leaves;
@@ -123,10 +131,12 @@ named_few (Some name) = omega arith
 count_few : (saves : Saves) → saved_count saves ≤ 2
 count_few saves = omega (arith, named_few saves.hive, named_few saves.log)
 
-takings_are : (n : ℕ) (mid after : DiskState) → n ≤ 2 → mid.history.takings ≡ 0 → Settles n mid after → after.history.takings ≡ n
+takings_are : (n : ℕ) (mid after : DiskState) → n ≤ 2 → mid.history.takings ≡ 0 → Settles n mid after
+    → after.history.takings ≡ n
 takings_are n mid after le none s = s.takings ∙ ap (more n) none ∙ more_few n le
 
-is_made : (usual : Usual) (count n : ℕ) (mid after : DiskState) → n ≤ 2 → IsMade usual count 0 mid → Settles n mid after → IsMade usual count n after
+is_made : (usual : Usual) (count n : ℕ) (mid after : DiskState) → n ≤ 2 → IsMade usual count 0 mid → Settles n mid after
+    → IsMade usual count n after
 is_made usual count n mid after le m s = record {
   loads = λ c left. m.loads c (s.left c left);
   placed = s.placings ∙ m.placed;
@@ -137,7 +147,8 @@ is_made usual count n mid after le m s = record {
   no_faults = s.faults ∙ m.no_faults;
 }
 
-part_made : (usual : Usual) (count n most : ℕ) (disk : DiskState) → n ≤ most → IsMade usual count n disk → IsPartMade most disk
+part_made : (usual : Usual) (count n most : ℕ) (disk : DiskState) → n ≤ most → IsMade usual count n disk
+    → IsPartMade most disk
 part_made usual count n most disk le m = record {
   placed = omega (arith, m.placed);
   taken = omega (arith, m.taken, le);
@@ -146,7 +157,8 @@ part_made usual count n most disk le m = record {
 }
 
 pub part_more : (most : ℕ) (disk : DiskState) → IsPartMade 0 disk → IsPartMade most disk
-part_more most disk p = record { placed = p.placed; taken = omega (arith, p.taken); unordered = p.unordered; uncut = p.uncut }
+part_more most disk p = record
+    { placed = p.placed; taken = omega (arith, p.taken); unordered = p.unordered; uncut = p.uncut }
 
 -- ---- the call
 
@@ -158,39 +170,53 @@ module _ (usual : Usual) (words : MakeAsked) where
   Made disk = EndsMade (Ok usual) words.count saves disk
 
   pub new_part : (disk : DiskState) → disk ≡ new_state → IsPartMade 0 disk
-  new_part disk is = (let P : DiskState → Type 0 = IsPartMade 0 in subst P (sym is) (record { placed = omega arith; taken = omega arith; unordered = refl; uncut = refl }))
+  new_part disk is = (let P : DiskState → Type 0 = IsPartMade 0 in
+      subst P (sym is) (record { placed = omega arith; taken = omega arith; unordered = refl; uncut = refl }))
 
   pub made_part : (disk : DiskState) → IsMade usual words.count 0 disk → IsPartMade 0 disk
   made_part disk m = part_made usual words.count 0 0 disk (omega arith) m
 
   -- there was no memory before anything was said
-  pub unmade : (host : HostState) (disk : DiskState) → disk.on ≡ false → IsPartMade 0 disk → MakesAlone (Ok usual) words statuses.Memory host host disk
+  pub unmade : (host : HostState) (disk : DiskState) → disk.on ≡ false → IsPartMade 0 disk
+      → MakesAlone (Ok usual) words statuses.Memory host host disk
   unmade host disk off part =
       memory_decides (Made disk) saves host disk off
       (inr (no_front (made_text usual words.count) host.said host.said refl), part_more (saved_count saves) disk part)
 
-  ends_made : (status : Status) (text old new : List ℕ) (taken : ℕ) (disk : DiskState) → IsToldAs statuses.Done status → text ≡ made_text usual words.count
-      → taken ≤ saved_count saves → (status ≡ statuses.Done → taken ≡ saved_count saves) → IsMade usual words.count taken disk → Ends (done_with text) status old new
+  ends_made : (status : Status) (text old new : List ℕ) (taken : ℕ) (disk : DiskState) → IsToldAs statuses.Done status
+      → text ≡ made_text usual words.count
+      → taken ≤ saved_count saves → (status ≡ statuses.Done → taken ≡ saved_count saves)
+      → IsMade usual words.count taken disk → Ends (done_with text) status old new
       → Made disk status old new
   ends_made status text old new taken disk (inl is) same few all made end =
-      let done = subst (λ (t : List ℕ). Ends (done_with t) statuses.Done old new) same (subst (λ (s : Status). Ends (done_with text) s old new) is end) in
+      let done = subst (λ (t : List ℕ). Ends (done_with t) statuses.Done old new) same
+      (subst (λ (s : Status). Ends (done_with text) s old new) is end) in
       let P : ℕ → Type 0 = λ n. IsMade usual words.count n disk in
-      subst (λ (s : Status). Made disk s old new) (sym is) (was_said (made_text usual words.count) old new done, subst P (all is) made)
+      subst (λ (s : Status). Made disk s old new) (sym is)
+      (was_said (made_text usual words.count) old new done, subst P (all is) made)
   ends_made status text old new taken disk (inr (inl is)) same few all made end =
-      let part = subst (λ (t : List ℕ). Ends (done_with t) statuses.WriteFault old new) same (subst (λ (s : Status). Ends (done_with text) s old new) is end) in
-      subst (λ (s : Status). Made disk s old new) (sym is) (part, part_made usual words.count taken (saved_count saves) disk few made)
+      let part = subst (λ (t : List ℕ). Ends (done_with t) statuses.WriteFault old new) same
+      (subst (λ (s : Status). Ends (done_with text) s old new) is end) in
+      subst (λ (s : Status). Made disk s old new) (sym is)
+      (part, part_made usual words.count taken (saved_count saves) disk few made)
   ends_made status text old new taken disk (inr (inr is)) same few all made end =
-      let part = subst (λ (t : List ℕ). Ends (done_with t) statuses.Memory old new) same (subst (λ (s : Status). Ends (done_with text) s old new) is end) in
-      subst (λ (s : Status). Made disk s old new) (sym is) (part, part_made usual words.count taken (saved_count saves) disk few made)
+      let part = subst (λ (t : List ℕ). Ends (done_with t) statuses.Memory old new) same
+      (subst (λ (s : Status). Ends (done_with text) s old new) is end) in
+      subst (λ (s : Status). Made disk s old new) (sym is)
+      (part, part_made usual words.count taken (saved_count saves) disk few made)
 
   untouched_told : (status : Status) (disk : DiskState) → IsToldAs statuses.Done status → IsUntouchedBy status disk
   untouched_told status disk (inl is) = (let P : Status → Type 0 = λ s. IsUntouchedBy s disk in subst P (sym is) tt)
-  untouched_told status disk (inr (inl is)) = (let P : Status → Type 0 = λ s. IsUntouchedBy s disk in subst P (sym is) tt)
-  untouched_told status disk (inr (inr is)) = (let P : Status → Type 0 = λ s. IsUntouchedBy s disk in subst P (sym is) tt)
+  untouched_told status disk (inr (inl is)) =
+      (let P : Status → Type 0 = λ s. IsUntouchedBy s disk in subst P (sym is) tt)
+  untouched_told status disk (inr (inr is)) =
+      (let P : Status → Type 0 = λ s. IsUntouchedBy s disk in subst P (sym is) tt)
 
   -- the line was said and the disk saved, or that was stopped
-  pub finished_makes : (summary : Summary) (line : List ℕ) (status : Status) (old new : HostState) (mid after : DiskState) → mid.on ≡ false
-      → summary ≡ summary_of (made_run usual words.count).lines → line ≡ summary_text words.count summary → IsMade usual words.count 0 mid
+  pub finished_makes : (summary : Summary) (line : List ℕ) (status : Status) (old new : HostState)
+      (mid after : DiskState) → mid.on ≡ false
+      → summary ≡ summary_of (made_run usual words.count).lines → line ≡ summary_text words.count summary
+      → IsMade usual words.count 0 mid
       → FinishesAs line saves status old new mid after → MakesAlone (Ok usual) words status old new after
   finished_makes summary line status old new mid after off is_summary is_line made f =
       let text : line ≡ made_text usual words.count = is_line ∙ ap (summary_text words.count) is_summary in
@@ -201,7 +227,8 @@ module _ (usual : Usual) (words : MakeAsked) where
             keeps = f.leaves.keeps;
             counts = f.leaves.counts;
             said = λ tells.
-                ends_made status line old.said new.said f.taken after f.told text f.few f.all (is_made usual words.count f.taken mid after two made f.settles) (f.leaves.said tells);
+                ends_made status line old.said new.said f.taken after f.told text f.few f.all
+                (is_made usual words.count f.taken mid after two made f.settles) (f.leaves.said tells);
           };
           files = f.files;
           off = f.settles.on ∙ off;
@@ -217,7 +244,8 @@ module _ (usual : Usual) (words : MakeAsked) where
 unordered : AreUnordered make_script
 unordered = (tt, (tt, (tt, (tt, tt))))
 
-module _ (usual : Usual) (count : ℕ) (files : HiveFiles) (alone : files.log ≡ None) (before after : DiskState) (is : before ≡ placed_disk files) (keeps : KeepsOrders after) where
+module _ (usual : Usual) (count : ℕ) (files : HiveFiles) (alone : files.log ≡ None) (before after : DiskState)
+    (is : before ≡ placed_disk files) (keeps : KeepsOrders after) where
   abbrev choice : Option ℕ → Choice
   choice = choices usual.ini usual.system
 
@@ -230,25 +258,34 @@ module _ (usual : Usual) (count : ℕ) (files : HiveFiles) (alone : files.log �
   one_placed : before.history.placings ≡ 1
   one_placed = ap (λ (d : DiskState). d.history.placings) is ∙ ap (λ (l : Option (List ℕ)). 1 + named l) alone
 
-  grew_unordered : (notes : List Note) (added : List _) → AreNoOrders notes → Grew notes added before after → after.history.armings ≡ []
-  grew_unordered notes added none g = g.armings ∙ ap (λ (l : List Arming). l ++ ordered_in notes) no_armings ∙ no_orders notes none
+  grew_unordered : (notes : List Note) (added : List _) → AreNoOrders notes → Grew notes added before after
+      → after.history.armings ≡ []
+  grew_unordered notes added none g =
+      g.armings ∙ ap (λ (l : List Arming). l ++ ordered_in notes) no_armings ∙ no_orders notes none
 
-  grew_uncut : (notes : List Note) (added : List _) → AreNoOrders notes → Grew notes added before after → after.history.cut_calls ≡ 0
+  grew_uncut : (notes : List Note) (added : List _) → AreNoOrders notes → Grew notes added before after
+      → after.history.cut_calls ≡ 0
   grew_uncut notes added none g = g.cut_calls ∙ ap (cuts_behind notes) no_calls ∙ no_cuts notes 0 none
 
-  pub run_summary : (said : List ℕ) (summary : Summary) → Reports (made_going usual (made_state count)) (told [] no_summary) (told said summary) before after
+  pub run_summary : (said : List ℕ) (summary : Summary)
+      → Reports (made_going usual (made_state count)) (told [] no_summary) (told said summary) before after
       → summary ≡ summary_of (made_run usual count).lines
   run_summary said summary r =
-      let u = reports-uncounted choice make_script (made_state count) (told [] no_summary) (told said summary) before after unordered r no_armings no_calls keeps in
-      reports-summary choice make_script (made_state count) (told [] no_summary) (told said summary) before after r u.cuts u.faults
+      let u = reports-uncounted choice make_script (made_state count) (told [] no_summary) (told said summary)
+      before after unordered r no_armings no_calls keeps in
+      reports-summary choice make_script (made_state count) (told [] no_summary) (told said summary)
+      before after r u.cuts u.faults
 
-  pub run_made : (said : List ℕ) (summary : Summary) → Reports (made_going usual (made_state count)) (told [] no_summary) (told said summary) before after
+  pub run_made : (said : List ℕ) (summary : Summary)
+      → Reports (made_going usual (made_state count)) (told [] no_summary) (told said summary) before after
       → IsMade usual count 0 after
   run_made said summary r =
-      let u = reports-uncounted choice make_script (made_state count) (told [] no_summary) (told said summary) before after unordered r no_armings no_calls keeps in
+      let u = reports-uncounted choice make_script (made_state count) (told [] no_summary) (told said summary)
+      before after unordered r no_armings no_calls keeps in
       let none = run_of-notes choice make_script (made_state count) r.report.woken (outcomes_of r.text) unordered in
       record {
-        loads = reports-loads choice make_script (made_state count) (told [] no_summary) (told said summary) before after r u.cuts u.faults;
+        loads = reports-loads choice make_script (made_state count) (told [] no_summary) (told said summary)
+            before after r u.cuts u.faults;
         placed = r.grew.placings ∙ one_placed;
         taken = r.grew.takings ∙ ap (λ (d : DiskState). d.history.takings) is;
         unordered = grew_unordered _ r.added none r.grew;
@@ -257,10 +294,12 @@ module _ (usual : Usual) (count : ℕ) (files : HiveFiles) (alone : files.log �
         no_faults = u.faults;
       }
 
-  pub run_part : (said : List ℕ) → ReportsFront (made_going usual (made_state count)) [] said before after → IsPartMade 0 after
+  pub run_part : (said : List ℕ) → ReportsFront (made_going usual (made_state count)) [] said before after
+      → IsPartMade 0 after
   run_part said r =
       let outcomes : List Outcome = outcomes_of r.text ++ r.report.outcome ∷ [] in
-      let none = front_notes _ r.report.notes r.report.noted (run_of-notes choice make_script (made_state count) r.report.woken outcomes unordered) in
+      let none = front_notes _ r.report.notes r.report.noted
+      (run_of-notes choice make_script (made_state count) r.report.woken outcomes unordered) in
       record {
         placed = omega (arith, r.grew.placings, one_placed);
         taken = omega (arith, r.grew.takings, ap (λ (d : DiskState). d.history.takings) is);
@@ -269,29 +308,46 @@ module _ (usual : Usual) (count : ℕ) (files : HiveFiles) (alone : files.log �
       }
 
 -- by what the run answered
-module _ (usual : Usual) (count : ℕ) (primary : List ℕ) (before after : DiskState) (is : before ≡ placed_disk (record { primary = primary; log = None })) (keeps : KeepsOrders after) where
-  pub played_summary : {E : Type 0} (r : Result RunSummary E) → PlaysMade usual (made_state count) before after r → IfOk r (λ s. summary_in s ≡ summary_of (made_run usual count).lines)
-  played_summary (Ok s) p = run_summary usual count (record { primary = primary; log = None }) refl before after is keeps p.0 (summary_in s) p.1
+module _ (usual : Usual) (count : ℕ) (primary : List ℕ) (before after : DiskState)
+    (is : before ≡ placed_disk (record { primary = primary; log = None })) (keeps : KeepsOrders after) where
+  pub played_summary : {E : Type 0} (r : Result RunSummary E) → PlaysMade usual (made_state count) before after r
+      → IfOk r (λ s. summary_in s ≡ summary_of (made_run usual count).lines)
+  played_summary (Ok s) p =
+      run_summary usual count (record { primary = primary; log = None }) refl before after is keeps p.0 (summary_in s)
+      p.1
   played_summary (Err e) p = tt
 
-  pub played_made : {E : Type 0} (r : Result RunSummary E) → PlaysMade usual (made_state count) before after r → IfOk r (λ s. IsMade usual count 0 after)
-  played_made (Ok s) p = run_made usual count (record { primary = primary; log = None }) refl before after is keeps p.0 (summary_in s) p.1
+  pub played_made : {E : Type 0} (r : Result RunSummary E) → PlaysMade usual (made_state count) before after r
+      → IfOk r (λ s. IsMade usual count 0 after)
+  played_made (Ok s) p = run_made usual count (record { primary = primary; log = None }) refl before after is keeps p.0
+      (summary_in s) p.1
   played_made (Err e) p = tt
 
-  pub played_part : {E : Type 0} (r : Result RunSummary E) → PlaysMade usual (made_state count) before after r → OnErr r (IsPartMade 0 after)
+  pub played_part : {E : Type 0} (r : Result RunSummary E) → PlaysMade usual (made_state count) before after r
+      → OnErr r (IsPartMade 0 after)
   played_part (Ok s) p = tt
-  played_part (Err e) p = run_part usual count (record { primary = primary; log = None }) refl before after is keeps p.0 p.1
+  played_part (Err e) p = run_part usual count (record { primary = primary; log = None })
+      refl before after is keeps p.0 p.1
 
 -- what a run on a host of its own said
-pub plays_whole : (usual : Usual) (placed : Woken) (said said' : List ℕ) (s : RunSummary) (before after : DiskState) → said ≡ []
-    → Reports (made_going usual placed) (told said no_summary) (told said' (summary_in s)) before after → PlaysMade {E = AllocError} usual placed before after (Ok s)
-plays_whole usual placed said said' s before after none r =
-    (said', (let P : List ℕ → Type 0 = λ t. Reports (made_going usual placed) (told t no_summary) (told said' (summary_in s)) before after in subst P none r))
+pub plays_whole : (usual : Usual) (placed : Woken) (said said' : List ℕ) (s : RunSummary) (before after : DiskState)
+    → said ≡ []
+    → Reports (made_going usual placed) (told said no_summary) (told said' (summary_in s)) before after
+    → PlaysMade {E = AllocError} usual placed before after (Ok s)
+plays_whole usual placed said said' s before after none r = (
+  said',
+  (let P : List ℕ → Type 0 = λ t. Reports (made_going usual placed) (told t no_summary)
+      (told said' (summary_in s)) before after in subst P none r),
+)
 
 pub plays_part : (usual : Usual) (placed : Woken) (said said' : List ℕ) (before after : DiskState) → said ≡ []
-    → ReportsFront (made_going usual placed) said said' before after → PlaysMade {E = AllocError} usual placed before after (Err alloc_error)
-plays_part usual placed said said' before after none r =
-    (said', (let P : List ℕ → Type 0 = λ t. ReportsFront (made_going usual placed) t said' before after in subst P none r))
+    → ReportsFront (made_going usual placed) said said' before after
+    → PlaysMade {E = AllocError} usual placed before after (Err alloc_error)
+plays_part usual placed said said' before after none r = (
+  said',
+  (let P : List ℕ → Type 0 = λ t. ReportsFront (made_going usual placed) t said' before after in
+      subst P none r),
+)
 
 -- nothing was run
 pub unrun_part : (disk : DiskState) → IsUnrun disk → IsPartMade 0 disk

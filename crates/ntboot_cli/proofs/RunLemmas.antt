@@ -53,7 +53,8 @@ use Rattle.command_parts.proofs.LeaveLemmas.{keeps_then, fault_then, no_front}
 -- ---- the disk that holds the hive
 
 -- it loads as the hive does
-pub placed_loads : (files : HiveFiles) (disk : DiskState) (w : Woken) → disk ≡ placed_disk files → Loads (image_in files) w.state w.dirty
+pub placed_loads : (files : HiveFiles) (disk : DiskState) (w : Woken) → disk ≡ placed_disk files
+    → Loads (image_in files) w.state w.dirty
     → EachCrash disk (λ (c : Image). Loads c w.state w.dirty)
 placed_loads files disk w is loads =
     let P : Image → Type 0 = λ c. Loads c w.state w.dirty in
@@ -62,24 +63,29 @@ placed_loads files disk w is loads =
     subst Q (sym is) here
 
 -- and is off
-pub placed_down : (files : HiveFiles) (disk : DiskState) → disk ≡ placed_disk files → LoadsAny (image_in files) → IsDown disk
+pub placed_down : (files : HiveFiles) (disk : DiskState) → disk ≡ placed_disk files → LoadsAny (image_in files)
+    → IsDown disk
 placed_down files disk is any =
-    let each : EachCrash disk (λ (c : Image). Loads c any.0.state any.0.dirty) = placed_loads files disk any.0 is any.1 in
+    let each : EachCrash disk (λ (c : Image). Loads c any.0.state any.0.dirty) =
+    placed_loads files disk any.0 is any.1 in
     record { off = ap (λ (d : DiskState). d.on) is; loads = λ c left. (any.0, each c left) }
 
 -- what a run says of that disk
 abbrev pub Says : Inputs → List Event → HostState → Result Summary RunStop → HostState → DiskState → DiskState → Type 0
 Says inputs script old r mid before left =
     (placed : Woken) → old.tells ≡ true → EachCrash before (λ (c : Image). Loads c placed.state placed.dirty)
-    → ReportsOr (run_of (choices inputs.ini inputs.system) (map event_in script) placed) (untold old) (answered mid r) before left r
+    → ReportsOr (run_of (choices inputs.ini inputs.system) (map event_in script) placed) (untold old) (answered mid r)
+    before left r
 
 -- ---- the whole report was said
 
 module _ (inputs : Inputs) (saves : Saves) (w : Woken) (before : DiskState) where
-  whole : (summary : Summary) (taken : ℕ) (old mid new : List ℕ) (left after : DiskState) → Reports (run_in inputs w) (told old no_summary) (told mid (summary_in summary)) before left
+  whole : (summary : Summary) (taken : ℕ) (old mid new : List ℕ) (left after : DiskState)
+      → Reports (run_in inputs w) (told old no_summary) (told mid (summary_in summary)) before left
       → new ≡ mid → Settles taken left after → RunsWhole inputs w taken before after old new
   whole summary taken old mid new left after reports same settles =
-      let P : List ℕ → Type 0 = λ n. Reports (run_in inputs w) (told old no_summary) (told n (summary_in summary)) before left in
+      let P : List ℕ → Type 0 =
+      λ n. Reports (run_in inputs w) (told old no_summary) (told n (summary_in summary)) before left in
       let all = subst P (sym same) reports in
       record {
         summary = summary_in summary;
@@ -87,13 +93,15 @@ module _ (inputs : Inputs) (saves : Saves) (w : Woken) (before : DiskState) wher
         reports = all;
         settles = settles;
         quiet = λ cuts faults.
-            reports-said (choices inputs.ini inputs.system) (map event_in inputs.script) w (told old no_summary) (told new (summary_in summary)) before left
+            reports-said (choices inputs.ini inputs.system) (map event_in inputs.script) w (told old no_summary)
+            (told new (summary_in summary)) before left
             all (sym settles.cuts ∙ cuts) (sym settles.faults ∙ faults);
       }
 
   -- and then the files were saved, or that was stopped
   ends_saved : (r : Result (Unit {0}) HostStop) (summary : Summary) (old mid new : HostState) (left after : DiskState)
-      → Reports (run_in inputs w) (told old.said no_summary) (told mid.said (summary_in summary)) before left → new.said ≡ mid.said → SavesBoth saves r mid new left after
+      → Reports (run_in inputs w) (told old.said no_summary) (told mid.said (summary_in summary)) before left
+      → new.said ≡ mid.said → SavesBoth saves r mid new left after
       → EndsRun inputs w saves before after (saved_status r) old.said new.said
   ends_saved (Ok u) summary old mid new left after reports same s =
       let P : ℕ → Type 0 = λ n. RunsWhole inputs w n before after old.said new.said in
@@ -105,10 +113,13 @@ module _ (inputs : Inputs) (saves : Saves) (w : Woken) (before : DiskState) wher
       inr (s.taken, s.few, whole summary s.taken old.said mid.said new.said left after reports same s.settles)
 
 -- the run came to its end, and its files were saved or that was stopped
-pub saved_decides : (inputs : Inputs) (saves : Saves) (script : List Event) (summary : Summary) (r : Result (Unit {0}) HostStop) (status : Status) (old mid new : HostState)
+pub saved_decides : (inputs : Inputs) (saves : Saves) (script : List Event) (summary : Summary)
+    (r : Result (Unit {0}) HostStop) (status : Status) (old mid new : HostState)
     (before left after : DiskState)
-    → status ≡ saved_status r → script ≡ inputs.script → before ≡ placed_disk inputs.hive → LoadsAny (image_in inputs.hive)
-    → Says inputs script old (Ok summary) mid before left → LeavesHost {T = Summary} (Ok summary) old mid → left.on ≡ false → SavesBoth saves r mid new left after
+    → status ≡ saved_status r → script ≡ inputs.script → before ≡ placed_disk inputs.hive
+    → LoadsAny (image_in inputs.hive)
+    → Says inputs script old (Ok summary) mid before left → LeavesHost {T = Summary} (Ok summary) old mid
+    → left.on ≡ false → SavesBoth saves r mid new left after
     → DecidesAlone (EndsHive inputs saves after) saves status old new after
 saved_decides inputs saves script summary r status old mid new before left after is same placed any report host off s =
     let decided : DecidesAlone (EndsHive inputs saves after) saves (saved_status r) old new after = record {
@@ -117,13 +128,23 @@ saved_decides inputs saves script summary r status old mid new before left after
           keeps = keeps_then old mid new host.keeps s.host.keeps;
           counts = counts_saved r old new (fault_then r old mid new host.keeps host.counts s.host.counts);
           said = λ tells.
-              let P : List Event → Type 0 = λ es. Reports (run_of (choices inputs.ini inputs.system) (map event_in es) any.0) (untold old) (answered mid (Ok summary)) before left in
+              let P : List Event → Type 0 =
+              λ es. Reports (run_of (choices inputs.ini inputs.system) (map event_in es) any.0) (untold old)
+              (answered mid (Ok summary)) before left in
               let reports = subst P same (report any.0 tells (placed_loads inputs.hive before any.0 placed any.1)) in
-              let here = ends_saved inputs saves any.0 before r summary old mid new left after reports (s.host.unsaid (host.keeps.tells ∙ tells)) s in
-              inr (inl (any.0, any.1, subst (λ (d : DiskState). EndsRun inputs any.0 saves d after (saved_status r) old.said new.said) placed here));
+              let here = ends_saved inputs saves any.0 before r summary old mid new left after reports
+              (s.host.unsaid (host.keeps.tells ∙ tells)) s in
+              inr (inl (
+                any.0,
+                any.1,
+                subst
+                    (λ (d : DiskState). EndsRun inputs any.0 saves d after (saved_status r) old.said new.said)
+                    placed here,
+              ));
         };
         files = λ tells.
-            subst (λ (f : Files). FilesAs saves (saved_status r) after.held f new.files) (host.files tells) (files_saved saves r mid new left after (host.keeps.tells ∙ tells) s);
+            subst (λ (f : Files). FilesAs saves (saved_status r) after.held f new.files) (host.files tells)
+            (files_saved saves r mid new left after (host.keeps.tells ∙ tells) s);
         off = s.settles.on ∙ off;
         untouched = untouched_saved saves r mid new left after after s;
       };
@@ -140,12 +161,15 @@ abbrev pub stop_status : RunStop → Status
 stop_status stops.Write = statuses.WriteFault
 stop_status stops.Memory = statuses.Memory
 
-module _ (inputs : Inputs) (saves : Saves) (script : List Event) (old new : HostState) (before after : DiskState) (any : LoadsAny (image_in inputs.hive))
+module _ (inputs : Inputs) (saves : Saves) (script : List Event) (old new : HostState) (before after : DiskState)
+    (any : LoadsAny (image_in inputs.hive))
     (same : script ≡ inputs.script) (placed : before ≡ placed_disk inputs.hive) where
   given_up : (stop : RunStop) → Says inputs script old (Err stop) new before after → old.tells ≡ true
       → ReportsFront (run_in inputs any.0) old.said new.said (placed_disk inputs.hive) after
   given_up stop report tells =
-      let P : List Event → Type 0 = λ es. ReportsFront (run_of (choices inputs.ini inputs.system) (map event_in es) any.0) old.said new.said before after in
+      let P : List Event → Type 0 =
+      λ es. ReportsFront (run_of (choices inputs.ini inputs.system) (map event_in es) any.0)
+      old.said new.said before after in
       let Q : DiskState → Type 0 = λ d. ReportsFront (run_in inputs any.0) old.said new.said d after in
       subst Q placed (subst P same (report any.0 tells (placed_loads inputs.hive before any.0 placed any.1)))
 
@@ -154,11 +178,13 @@ module _ (inputs : Inputs) (saves : Saves) (script : List Event) (old new : Host
   ends_stopped stops.Write front = inr (inl (any.0, any.1, inl front))
   ends_stopped stops.Memory front = inr (inl (any.0, any.1, inl front))
 
-  counts_stopped : (stop : RunStop) → CountsStop {T = Summary} (Err stop) old new → CountsBy (stop_in (stop_status stop)) old new
+  counts_stopped : (stop : RunStop) → CountsStop {T = Summary} (Err stop) old new
+      → CountsBy (stop_in (stop_status stop)) old new
   counts_stopped stops.Write c = c
   counts_stopped stops.Memory c = c
 
-  files_stopped : (stop : RunStop) → new.files ≡ old.files → FilesAs saves (stop_status stop) after.held old.files new.files
+  files_stopped : (stop : RunStop) → new.files ≡ old.files
+      → FilesAs saves (stop_status stop) after.held old.files new.files
   files_stopped stops.Write is = λ q other. ap (λ (f : Files). f q) is
   files_stopped stops.Memory is = λ q other. ap (λ (f : Files). f q) is
 
@@ -174,12 +200,18 @@ module _ (inputs : Inputs) (saves : Saves) (script : List Event) (old new : Host
   unread_stopped stops.Write e = absurd cc
   unread_stopped stops.Memory e = absurd cc
 
-  pub stopped_run : (stop : RunStop) (status : Status) → status ≡ stop_status stop → Says inputs script old (Err stop) new before after
-      → LeavesHost {T = Summary} (Err stop) old new → after.on ≡ false → DecidesAlone (EndsHive inputs saves after) saves status old new after
+  pub stopped_run : (stop : RunStop) (status : Status) → status ≡ stop_status stop
+      → Says inputs script old (Err stop) new before after
+      → LeavesHost {T = Summary} (Err stop) old new → after.on ≡ false
+      → DecidesAlone (EndsHive inputs saves after) saves status old new after
   stopped_run stop status is report host off =
       let decided : DecidesAlone (EndsHive inputs saves after) saves (stop_status stop) old new after = record {
         decides = record {
-          leaves = record { keeps = host.keeps; counts = counts_stopped stop host.counts; said = λ tells. ends_stopped stop (given_up stop report tells) };
+          leaves = record {
+            keeps = host.keeps;
+            counts = counts_stopped stop host.counts;
+            said = λ tells. ends_stopped stop (given_up stop report tells);
+          };
           files = λ tells. files_stopped stop (host.files tells);
           off = off;
           untouched = untouched_stopped stop;
@@ -193,28 +225,35 @@ module _ (inputs : Inputs) (saves : Saves) (script : List Event) (old new : Host
 -- ---- before the run
 
 -- the hive's first fault was said
-pub fault_decides : (inputs : Inputs) (saves : Saves) (fault : HiveFault) (status : Status) (old new : HostState) (disk : DiskState)
-    → LoadFault (image_in inputs.hive) fault → disk ≡ new_state → Leaves (Ends (refusal (refusals.HiveFault fault))) status old new → KeepsFiles old new → AsksNone old new
+pub fault_decides : (inputs : Inputs) (saves : Saves) (fault : HiveFault) (status : Status) (old new : HostState)
+    (disk : DiskState)
+    → LoadFault (image_in inputs.hive) fault → disk ≡ new_state
+    → Leaves (Ends (refusal (refusals.HiveFault fault))) status old new → KeepsFiles old new → AsksNone old new
     → IsToldAs statuses.HiveFault status → DecidesAlone (EndsHive inputs saves disk) saves status old new disk
 fault_decides inputs saves fault status old new disk is fresh leaves files unasked told = record {
-  decides = refusal_decides (EndsHive inputs saves disk) saves (refusals.HiveFault fault) status old new disk fresh leaves files told (λ o n end. inl (fault, is, end, fresh));
+  decides = refusal_decides (EndsHive inputs saves disk) saves (refusals.HiveFault fault)
+      status old new disk fresh leaves files told (λ o n end. inl (fault, is, end, fresh));
   unasked = unasked;
   kept = told_unused statuses.HiveFault status told (λ e. absurd cc);
   unread = refused_unread (refusals.HiveFault fault) status told;
 }
 
 -- the outside stopped the search for the inputs
-pub unsaid_run : (wanted : Result Inputs Refusal) (saves : Saves) (disk : DiskState) (stop : HostStop) (old new : List ℕ) → disk ≡ new_state
+pub unsaid_run : (wanted : Result Inputs Refusal) (saves : Saves) (disk : DiskState) (stop : HostStop)
+    (old new : List ℕ) → disk ≡ new_state
     → new ≡ old → (stop ≡ Write → ⊥) → EndsInputs wanted saves disk (stopped_as stop) old new
 unsaid_run (Err r) saves disk Read old new fresh same unwritten = (inr same, fresh)
 unsaid_run (Ok inputs) saves disk Read old new fresh same unwritten = inr (refl, same, fresh)
 unsaid_run wanted saves disk Write old new fresh same unwritten = absurd (unwritten refl)
-unsaid_run (Err r) saves disk Memory old new fresh same unwritten = (inr (no_front (refusal_text r) old new same), fresh)
+unsaid_run (Err r) saves disk Memory old new fresh same unwritten =
+    (inr (no_front (refusal_text r) old new same), fresh)
 unsaid_run (Ok inputs) saves disk Memory old new fresh same unwritten = inl (inr (inr (refl, same, unrun disk fresh)))
 
-pub unread_run : (words : RunAsked) (stop : HostStop) (status : Status) (old new : HostState) (disk : DiskState) → status ≡ stopped_as stop → disk ≡ new_state
+pub unread_run : (words : RunAsked) (stop : HostStop) (status : Status) (old new : HostState) (disk : DiskState)
+    → status ≡ stopped_as stop → disk ≡ new_state
     → Looks (inputs_in words old.files) (Err (Stopped stop)) old new
-    → Decides (EndsInputs (inputs_in words old.files) (saves_of (Some (run words))) disk) (saves_of (Some (run words))) status old new disk
+    → Decides (EndsInputs (inputs_in words old.files) (saves_of (Some (run words))) disk) (saves_of (Some (run words)))
+    status old new disk
 unread_run words stop status old new disk is fresh looks =
     let saves = saves_of (Some (run words)) in
     let wanted = inputs_in words old.files in
@@ -224,7 +263,8 @@ unread_run words stop status old new disk is fresh looks =
 
 -- ---- a well-formed hive
 
-stops_or_done : (inputs : Inputs) (w : Woken) (saves : Saves) (before after : DiskState) (status : Status) (old new : List ℕ)
+stops_or_done : (inputs : Inputs) (w : Woken) (saves : Saves) (before after : DiskState) (status : Status)
+    (old new : List ℕ)
     → EndsRun inputs w saves before after status old new → (status ≡ statuses.Done) ⊎ IsSome (stop_in status)
 stops_or_done inputs w saves before after statuses.Done old new ends = inl refl
 stops_or_done inputs w saves before after statuses.WriteFault old new ends = inr refl
@@ -241,15 +281,18 @@ stop_is : (status other : Status) → status ≡ other → IsSome (stop_in other
 stop_is status other is there = (let P : Status → Type 0 = λ s. IsSome (stop_in s) in subst P (sym is) there)
 
 -- it has no fault, so the run ends it, or a stop
-pub well_formed_runs : (inputs : Inputs) (saves : Saves) (placed : Woken) (disk : DiskState) (status : Status) (old new : List ℕ)
+pub well_formed_runs : (inputs : Inputs) (saves : Saves) (placed : Woken) (disk : DiskState) (status : Status)
+    (old new : List ℕ)
     → Loads (image_in inputs.hive) placed.state placed.dirty → EndsInputs (Ok inputs) saves disk status old new
     → (status ≡ statuses.Done) ⊎ IsSome (stop_in status)
-well_formed_runs inputs saves placed disk status old new loads (inr ends) = inr (stop_is status statuses.ReadFault ends.0 refl)
+well_formed_runs inputs saves placed disk status old new loads (inr ends) =
+    inr (stop_is status statuses.ReadFault ends.0 refl)
 well_formed_runs inputs saves placed disk status old new loads (inl (inl ends)) =
     absurd (no_fault (image_in inputs.hive) placed.state placed.dirty ends.0 loads ends.1)
 well_formed_runs inputs saves placed disk status old new loads (inl (inr (inl ends))) =
     stops_or_done inputs ends.0 saves (placed_disk inputs.hive) disk status old new ends.2
-well_formed_runs inputs saves placed disk status old new loads (inl (inr (inr ends))) = inr (stop_is status statuses.Memory ends.0 refl)
+well_formed_runs inputs saves placed disk status old new loads (inl (inr (inr ends))) =
+    inr (stop_is status statuses.Memory ends.0 refl)
 
 -- ---- a hive that was checked
 

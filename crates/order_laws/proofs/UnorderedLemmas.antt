@@ -94,7 +94,8 @@ say_all-unordered (l ∷ ls) act k = say_all-unordered ls act k
 
 -- ---- a commit, and the save
 
-commit-unordered : (what : CommitWord) (m : RunState) (tree : Tree) (next : RunState → Act) → Next next → OrdersNothing (commit what tree m next)
+commit-unordered : (what : CommitWord) (m : RunState) (tree : Tree) (next : RunState → Act) → Next next
+    → OrdersNothing (commit what tree m next)
 commit-unordered what m tree next f = λ o. by_case o
   where
     by_case : (o : Outcome) → OrdersNothing (committed what tree m next o)
@@ -105,18 +106,22 @@ commit-unordered what m tree next f = λ o. by_case o
 saved_by-unordered : (s : Start) (clone : Tree) (m : RunState) (next : RunState → Act) (r : Result SetChange ChangeStop)
     → Next next → OrdersNothing (saved_by s clone m next r)
 saved_by-unordered s clone m next (Ok change) f =
-    let behind : RunState → Act = λ after. acts.say (commit_book.select_line change.numbers) (next (noted_saved true s after)) in
+    let behind : RunState → Act =
+    λ after. acts.say (commit_book.select_line change.numbers) (next (noted_saved true s after)) in
     (tt, commit-unordered lines.SaveCommit m change.tree behind (λ x. f (noted_saved true s x)))
 saved_by-unordered s clone m next (Err (NoPlan stop)) f = f (noted_saved false s m)
 saved_by-unordered s clone m next (Err sets.Full) f = f (noted_saved false s m)
 
-save-unordered : (s : Start) (clone : Option Tree) (m : RunState) (next : RunState → Act) → Next next → OrdersNothing (save s clone m next)
+save-unordered : (s : Start) (clone : Option Tree) (m : RunState) (next : RunState → Act) → Next next
+    → OrdersNothing (save s clone m next)
 save-unordered s None m next f = f m
 save-unordered s (Some clone) m next f = saved_by-unordered s clone m next (save_of m.version m.live clone) f
 
-due-unordered : (o : Option Start) (m : RunState) (next : RunState → Act) → Next next → OrdersNothing (save_where_due o m next)
+due-unordered : (o : Option Start) (m : RunState) (next : RunState → Act) → Next next
+    → OrdersNothing (save_where_due o m next)
 due-unordered None m next f = f m
-due-unordered (Some s) m next f = either (save_due s) (save s s.clone m next) (next m) (save-unordered s s.clone m next f) (f m)
+due-unordered (Some s) m next f =
+    either (save_due s) (save s s.clone m next) (next m) (save-unordered s s.clone m next f) (f m)
 
 -- ---- the starter
 
@@ -126,7 +131,8 @@ judged-unordered Log m next f = f m
 judged-unordered FallBack m next f = tt
 judged-unordered Stop m next f = tt
 
-phase_step-unordered : (s : Start) (m : RunState) (next : RunState → Act) → Next next → OrdersNothing (phase_step s m next)
+phase_step-unordered : (s : Start) (m : RunState) (next : RunState → Act) → Next next
+    → OrdersNothing (phase_step s m next)
 phase_step-unordered s m next f =
     let after : Start = after_phase (live_set m s.number) s in
     let there : RunState = with_machine (with_start after m.machine) m in
@@ -138,11 +144,13 @@ starter_step-unordered : (s : Start) (m : RunState) (next : RunState → Act) (o
 starter_step-unordered s m next None f = phase_step-unordered s m next f
 starter_step-unordered s m next (Some one) f = judged-unordered one.1.judgement (with_machine one.0 m) next f
 
-stepping-unordered : (o : Option Start) (m : RunState) (next : RunState → Act) → Next next → OrdersNothing (stepping o m next)
+stepping-unordered : (o : Option Start) (m : RunState) (next : RunState → Act) → Next next
+    → OrdersNothing (stepping o m next)
 stepping-unordered None m next f = tt
 stepping-unordered (Some s) m next f =
     let attempt : Option (MachineState × Tried) = attempt_of m.machine (good_is_usable m.live) in
-    either (is_done s.phase) (acts.done m) (starter_step s m next attempt) tt (starter_step-unordered s m next attempt f)
+    either (is_done s.phase) (acts.done m) (starter_step s m next attempt) tt
+    (starter_step-unordered s m next attempt f)
 
 go_steps-unordered : (n : ℕ) → Next (go_steps n)
 unfolding go_steps
@@ -155,12 +163,15 @@ go_act-unordered (Some n) m = go_steps-unordered n m
 
 -- ---- the boot event
 
-begin_with-unordered : (on_good : Bool) (change : SetChange) (m : RunState) → OrdersNothing (begin_with on_good change m)
+begin_with-unordered : (on_good : Bool) (change : SetChange) (m : RunState)
+    → OrdersNothing (begin_with on_good change m)
 begin_with-unordered on_good change m =
     let start : RunState → Act = begin_start change.chosen on_good change.numbers in
-    either change.has_steps (commit lines.BeginCommit change.tree m start) (start m) (commit-unordered lines.BeginCommit m change.tree start (λ x. tt)) tt
+    either change.has_steps (commit lines.BeginCommit change.tree m start) (start m)
+    (commit-unordered lines.BeginCommit m change.tree start (λ x. tt)) tt
 
-begin_by-unordered : (on_good : Bool) (m : RunState) (r : Result SetChange ChangeStop) → OrdersNothing (begin_by on_good m r)
+begin_by-unordered : (on_good : Bool) (m : RunState) (r : Result SetChange ChangeStop)
+    → OrdersNothing (begin_by on_good m r)
 begin_by-unordered on_good m (Ok change) = begin_with-unordered on_good change m
 begin_by-unordered on_good m (Err (NoPlan sets.NoControlSet)) = tt
 begin_by-unordered on_good m (Err (NoPlan sets.NoLastKnownGood)) = tt
@@ -176,13 +187,16 @@ woken-unordered on_good m w = (tt, λ o. by_case o)
     by_case DeviceFault = tt
 
 chosen-unordered : (on_good : Bool) (m : RunState) (choice : Choice) → OrdersNothing (chosen on_good m choice)
-chosen-unordered on_good m (boot_book.EntryTaken number path entry_on_good) = λ w. woken-unordered (on_good || entry_on_good) m w
+chosen-unordered on_good m (boot_book.EntryTaken number path entry_on_good) =
+    λ w. woken-unordered (on_good || entry_on_good) m w
 chosen-unordered on_good m boot_book.NoEntry = tt
 chosen-unordered on_good m (boot_book.OtherLoader number path) = tt
 chosen-unordered on_good m (boot_book.NoSystem number path) = tt
 
-boot_act-unordered : (choice : Option ℕ → Choice) (entry : Option ℕ) (good : Bool) (m : RunState) → OrdersNothing (boot_act choice entry good m)
-boot_act-unordered choice entry good m = chosen-unordered (m.machine.fallback_due || good) (accepted_state m) (choice entry)
+boot_act-unordered : (choice : Option ℕ → Choice) (entry : Option ℕ) (good : Bool) (m : RunState)
+    → OrdersNothing (boot_act choice entry good m)
+boot_act-unordered choice entry good m =
+    chosen-unordered (m.machine.fallback_due || good) (accepted_state m) (choice entry)
 
 -- ---- the other events
 
@@ -193,12 +207,14 @@ edit_done-unordered e m (Err refusal) = tt
 flush_act-unordered : (m : RunState) → OrdersNothing (flush_act m)
 flush_act-unordered m =
     let nothing : Act = acts.say lines.FlushNothingLine (acts.done m) in
-    either m.changed (commit lines.FlushCommit m.live m acts.done) nothing (commit-unordered lines.FlushCommit m m.live acts.done (λ x. tt)) tt
+    either m.changed (commit lines.FlushCommit m.live m acts.done) nothing
+    (commit-unordered lines.FlushCommit m m.live acts.done (λ x. tt)) tt
 
 off_act-unordered : (s : Start) (m : RunState) → OrdersNothing (off_act s m)
 off_act-unordered s m =
     let over : RunState → Act = end_with (ending_of s) false in
-    either m.changed (commit lines.OffCommit m.live m over) (over m) (commit-unordered lines.OffCommit m m.live over (λ x. tt)) tt
+    either m.changed (commit lines.OffCommit m.live m over) (over m)
+    (commit-unordered lines.OffCommit m m.live over (λ x. tt)) tt
 
 logon_act-unordered : (s : Start) (m : RunState) → OrdersNothing (logon_act s m)
 logon_act-unordered s m =
@@ -209,14 +225,16 @@ running_act-unordered : (s : Start) (e : Event) (m : RunState) → IsUnordered e
 running_act-unordered s (events.BootNow entry good) m none = tt
 running_act-unordered s (events.Go steps) m none = go_act-unordered steps m
 running_act-unordered s (events.Fail name count) m none = tt
-running_act-unordered s (events.Edits edit) m none = edit_done-unordered (events.Edits edit) m (edited m.version m.live (step_of s.number edit ∷ []))
+running_act-unordered s (events.Edits edit) m none =
+    edit_done-unordered (events.Edits edit) m (edited m.version m.live (step_of s.number edit ∷ []))
 running_act-unordered s events.Flush m none = flush_act-unordered m
 running_act-unordered s events.Logon m none = logon_act-unordered s m
 running_act-unordered s events.Off m none = off_act-unordered s m
 running_act-unordered s (events.CutNow keep) m none = absurd none
 running_act-unordered s (events.Arm arming) m none = absurd none
 
-idle_act-unordered : (choice : Option ℕ → Choice) (e : Event) (m : RunState) → IsUnordered e → OrdersNothing (idle_act choice e m)
+idle_act-unordered : (choice : Option ℕ → Choice) (e : Event) (m : RunState) → IsUnordered e
+    → OrdersNothing (idle_act choice e m)
 idle_act-unordered choice (events.BootNow entry good) m none = boot_act-unordered choice entry good m
 idle_act-unordered choice (events.Go steps) m none = tt
 idle_act-unordered choice (events.Fail name count) m none = tt
@@ -237,7 +255,8 @@ act_unless-unordered : (choice : Option ℕ → Choice) (e : Event) (m : RunStat
 act_unless-unordered choice e m (Some reason) none = tt
 act_unless-unordered choice e m None none = accepted_act-unordered choice m.machine.start e m none
 
-pub event_step_of-unordered : (choice : Option ℕ → Choice) (e : Event) (m : RunState) → IsUnordered e → OrdersNothing (event_step_of choice e m)
+pub event_step_of-unordered : (choice : Option ℕ → Choice) (e : Event) (m : RunState) → IsUnordered e
+    → OrdersNothing (event_step_of choice e m)
 unfolding event_step_of
 event_step_of-unordered choice e m none = act_unless-unordered choice e m (refusal_of m.machine e) none
 
@@ -251,7 +270,8 @@ closing-unordered m = by_start m.machine.start
 
 -- ---- a run
 
-pub play-notes : (act : Act) → OrdersNothing act → (wakes : List Woken) (outcomes : List Outcome) → AreNoOrders (play act wakes outcomes).notes
+pub play-notes : (act : Act) → OrdersNothing act → (wakes : List Woken) (outcomes : List Outcome)
+    → AreNoOrders (play act wakes outcomes).notes
 play-notes (acts.done m) k wakes outcomes = tt
 play-notes (acts.say l act) k wakes outcomes = play-notes act k wakes outcomes
 play-notes (acts.ask disk next) k wakes [] = tt
@@ -262,22 +282,27 @@ play-notes (acts.mark note act) k wakes outcomes = (k.0, play-notes act k.1 wake
 
 then-notes : (go : RunState → List Woken → List Outcome → RunResult) (first : RunResult)
     → ((m : RunState) (w : List Woken) (o : List Outcome) → AreNoOrders (go m w o).notes)
-    → AreNoOrders first.notes → (rest : Option (RunState × List Woken × List Outcome)) → AreNoOrders (then_run go first rest).notes
+    → AreNoOrders first.notes → (rest : Option (RunState × List Woken × List Outcome))
+    → AreNoOrders (then_run go first rest).notes
 then-notes go first more a None = a
 then-notes go first more a (Some (m, ws, os)) = notes-append first.notes (go m ws os).notes a (more m ws os)
 
 pub run_from-notes : (choice : Option ℕ → Choice) (es : List Event) → AreUnordered es
-    → (m : RunState) (wakes : List Woken) (outcomes : List Outcome) → AreNoOrders (run_from choice es m wakes outcomes).notes
+    → (m : RunState) (wakes : List Woken) (outcomes : List Outcome)
+    → AreNoOrders (run_from choice es m wakes outcomes).notes
 run_from-notes choice [] none m wakes outcomes = play-notes (closing_act m) (closing-unordered m) wakes outcomes
 run_from-notes choice (e ∷ es) none m wakes outcomes =
     let first : RunResult = play (event_step_of choice e m) wakes outcomes in
-    let noted : AreNoOrders first.notes = play-notes (event_step_of choice e m) (event_step_of-unordered choice e m none.0) wakes outcomes in
+    let noted : AreNoOrders first.notes =
+    play-notes (event_step_of choice e m) (event_step_of-unordered choice e m none.0) wakes outcomes in
     then-notes (run_from choice es) first (run_from-notes choice es none.1) noted first.rest
 
-pub run_of-notes : (choice : Option ℕ → Choice) (script : List Event) (placed : Woken) (wakes : List Woken) (outcomes : List Outcome)
+pub run_of-notes : (choice : Option ℕ → Choice) (script : List Event) (placed : Woken) (wakes : List Woken)
+    (outcomes : List Outcome)
     → AreUnordered script → AreNoOrders (run_of choice script placed wakes outcomes).notes
 unfolding run_of
-run_of-notes choice script placed wakes outcomes none = run_from-notes choice script none (first_state placed) wakes outcomes
+run_of-notes choice script placed wakes outcomes none =
+    run_from-notes choice script none (first_state placed) wakes outcomes
 
 -- ---- the disk's counts
 
@@ -286,19 +311,24 @@ pub record IsUncounted (s : DiskState) : Type 0 where
   pub cuts : s.cuts ≡ 0
   pub faults : s.faults ≡ 0
 
-pub grew-uncounted : (notes : List Note) (added : List Wake) (before after : DiskState) → AreNoOrders notes → Grew notes added before after
+pub grew-uncounted : (notes : List Note) (added : List Wake) (before after : DiskState) → AreNoOrders notes
+    → Grew notes added before after
     → before.history.armings ≡ [] → before.history.cut_calls ≡ 0 → KeepsOrders after → IsUncounted after
 grew-uncounted notes added before after a grew armings calls keeps =
-    let orders : after.history.armings ≡ [] = grew.armings ∙ ap (λ (os : List Arming). os ++ ordered_in notes) armings ∙ no_orders notes a in
+    let orders : after.history.armings ≡ [] =
+    grew.armings ∙ ap (λ (os : List Arming). os ++ ordered_in notes) armings ∙ no_orders notes a in
     let cuts : after.history.cut_calls ≡ 0 = grew.cut_calls ∙ no_cuts notes before.history.cut_calls a ∙ calls in
     let none_cut : cut_orders after.history.armings ≡ 0 = ap cut_orders orders in
     let none_fault : fault_orders after.history.armings ≡ 0 = ap fault_orders orders in
     record { cuts = omega (arith, keeps.cuts, cuts, none_cut); faults = omega (arith, keeps.faults, none_fault) }
 
-pub run_of-uncounted : (choice : Option ℕ → Choice) (script : List Event) (placed : Woken) (wakes : List Woken) (outcomes : List Outcome)
+pub run_of-uncounted : (choice : Option ℕ → Choice) (script : List Event) (placed : Woken) (wakes : List Woken)
+    (outcomes : List Outcome)
     (notes : List Note) (added : List Wake) (before after : DiskState)
-    → AreUnordered script → IsFront (run_of choice script placed wakes outcomes).notes notes → Grew notes added before after
+    → AreUnordered script → IsFront (run_of choice script placed wakes outcomes).notes notes
+    → Grew notes added before after
     → before.history.armings ≡ [] → before.history.cut_calls ≡ 0 → KeepsOrders after → IsUncounted after
 run_of-uncounted choice script placed wakes outcomes notes added before after none front grew armings calls keeps =
     let whole : List Note = (run_of choice script placed wakes outcomes).notes in
-    grew-uncounted notes added before after (front_notes whole notes front (run_of-notes choice script placed wakes outcomes none)) grew armings calls keeps
+    grew-uncounted notes added before after
+    (front_notes whole notes front (run_of-notes choice script placed wakes outcomes none)) grew armings calls keeps

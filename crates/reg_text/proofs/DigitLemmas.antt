@@ -15,7 +15,8 @@ right_true true b e = e
 right_true false b e = absurd cc
 
 -- one of the digits
-pub hex_at : (text : List ℕ) (i : ℕ) → list_all is_hex text ≡ true → i < length text → digit_value (get_or text i 0) < 16
+pub hex_at : (text : List ℕ) (i : ℕ) → list_all is_hex text ≡ true → i < length text
+    → digit_value (get_or text i 0) < 16
 hex_at [] i all lt = absurd (omega arith)
 hex_at (u ∷ text) zero all lt = ltb-true _ _ (left_true (is_hex u) (list_all is_hex text) all)
 hex_at (u ∷ text) (suc i) all lt = hex_at text i (right_true (is_hex u) (list_all is_hex text) all) (omega arith)

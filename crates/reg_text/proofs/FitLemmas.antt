@@ -32,7 +32,8 @@ one_step step fits = All-cons Fits step [] fits no_step
 
 making_fit : (above path : List (List ℕ)) → Fit (making above path)
 making_fit above [] = no_step
-making_fit above (name ∷ path) = All-cons Fits (make_key above name) (making (above ++ name ∷ []) path) tt (making_fit (above ++ name ∷ []) path)
+making_fit above (name ∷ path) =
+    All-cons Fits (make_key above name) (making (above ++ name ∷ []) path) tt (making_fit (above ++ name ∷ []) path)
 
 -- the edits of a result, if it is one
 abbrev FitsRead : Result (List Step) RegKind → Type 0
@@ -58,7 +59,8 @@ abbrev FitsLines : Result (List Step × State) RegFault → Type 0
 FitsLines (Ok r) = Fit r.0
 FitsLines (Err f) = Unit {0}
 
-edits_kept : (state : State) (item : LineItem) (r : Result (List Step) RegKind) → FitsRead r → FitsLine (r >>= λ edits. Ok (edits, state_after state item))
+edits_kept : (state : State) (item : LineItem) (r : Result (List Step) RegKind) → FitsRead r
+    → FitsLine (r >>= λ edits. Ok (edits, state_after state item))
 edits_kept state item (Ok edits) fits = fits
 edits_kept state item (Err kind) fits = tt
 
@@ -75,7 +77,8 @@ placed_fits : (n : ℕ) (r : Result (List Step × State) RegKind) → FitsLine r
 placed_fits n (Ok r) fits = fits
 placed_fits n (Err kind) fits = tt
 
-front_fits : (edits : List Step) (r : Result (List Step × State) RegFault) → Fit edits → FitsLines r → FitsLines (with_edits edits r)
+front_fits : (edits : List Step) (r : Result (List Step × State) RegFault) → Fit edits → FitsLines r
+    → FitsLines (with_edits edits r)
 front_fits edits (Ok r) fits more = All-append Fits edits r.0 fits more
 front_fits edits (Err f) fits more = tt
 
@@ -99,11 +102,13 @@ abbrev FitsText : Result (List Step) RegFault → Type 0
 FitsText (Ok steps) = Fit steps
 FitsText (Err f) = Unit {0}
 
-whole_fits : (o : Option ℕ) (steps : List Step) → Fit steps → FitsText (option_map_or (λ n. Err (record { kind = Line; line = n })) o (Ok steps))
+whole_fits : (o : Option ℕ) (steps : List Step) → Fit steps
+    → FitsText (option_map_or (λ n. Err (record { kind = Line; line = n })) o (Ok steps))
 whole_fits None steps fits = fits
 whole_fits (Some n) steps fits = tt
 
-closed_fits : (units : List ℕ) (odd : Bool) (r : Result (List Step × State) RegFault) → FitsLines r → FitsText (closed units odd r)
+closed_fits : (units : List ℕ) (odd : Bool) (r : Result (List Step × State) RegFault) → FitsLines r
+    → FitsText (closed units odd r)
 closed_fits units odd (Ok r) fits = whole_fits (unended r.1 units odd) r.0 fits
 closed_fits units odd (Err f) fits = tt
 
@@ -112,7 +117,8 @@ unfolding units_said
 units_fit units odd = closed_fits units odd (lines_behind (body_of (lines units))) (behind_fits (body_of (lines units)))
 
 marked_fits : (o : Option (List ℕ)) (odd : List ℕ → Bool)
-    → FitsText (option_map_or (λ bytes. units_said (wide_of bytes) (odd bytes)) o (Err (record { kind = Mark; line = 0 })))
+    → FitsText (option_map_or (λ bytes. units_said (wide_of bytes) (odd bytes)) o
+    (Err (record { kind = Mark; line = 0 })))
 marked_fits None odd = tt
 marked_fits (Some bytes) odd = units_fit (wide_of bytes) (odd bytes)
 
@@ -121,6 +127,7 @@ unfolding reg_steps_of
 text_fits text = marked_fits (behind_mark text) (λ bytes. eqb (length bytes % 2) 1)
 
 -- what was read fits
-pub read_fits : (r : Result (List TreeStep) RegStop) (text : List ℕ) → GivesSteps r (reg_steps_of text) → IfOk r (λ steps. All Fits (map step_of steps))
+pub read_fits : (r : Result (List TreeStep) RegStop) (text : List ℕ) → GivesSteps r (reg_steps_of text)
+    → IfOk r (λ steps. All Fits (map step_of steps))
 read_fits (Ok steps) text gives = subst FitsText gives (text_fits text)
 read_fits (Err stop) text gives = tt

@@ -21,7 +21,8 @@ last_by true byte = refl
 last_by false byte = refl
 
 next_by : (b d : Bool) (byte c : ℕ) (text : List ℕ) → eqb c 44 ≡ d
-    → cond b (cond d (with_bytes (byte ∷ []) (pairs_of text)) (Err Line)) (Err Line) ≡ by_pair (cond b (Ok (byte, c ∷ text)) (Err Line))
+    → cond b (cond d (with_bytes (byte ∷ []) (pairs_of text)) (Err Line)) (Err Line)
+    ≡ by_pair (cond b (Ok (byte, c ∷ text)) (Err Line))
 unfolding behind_comma
 next_by true true byte c text is = rw is refl
 next_by true false byte c text is = rw is refl
@@ -34,7 +35,8 @@ next_pair (high ∷ []) = refl
 next_pair (high ∷ low ∷ []) = last_by _ (byte_of high low)
 next_pair (high ∷ low ∷ c ∷ text) = next_by _ (eqb c 44) (byte_of high low) c text refl
 
-regroup : (front : List ℕ) (byte : ℕ) (read : Result (List ℕ) RegKind) → with_bytes front (with_bytes (byte ∷ []) read) ≡ with_bytes (front ++ byte ∷ []) read
+regroup : (front : List ℕ) (byte : ℕ) (read : Result (List ℕ) RegKind)
+    → with_bytes front (with_bytes (byte ∷ []) read) ≡ with_bytes (front ++ byte ∷ []) read
 regroup front byte (Ok bytes) = ap (λ (bs : List ℕ). Ok bs) (sym (append_assoc front (byte ∷ []) bytes))
 regroup front byte (Err kind) = refl
 
@@ -46,16 +48,21 @@ behind : (rest after : List ℕ) (byte : ℕ) (more : Result (Option (List ℕ))
     → behind_comma after ≡ more → pairs_of rest ≡ behind_pair byte more
 behind rest after byte more read comma = next_pair rest ∙ ap by_pair read ∙ ap (behind_pair byte) comma
 
-pub stops : (front rest after : List ℕ) (byte : ℕ) (kind : RegKind) (total : Result (List ℕ) RegKind) → pair_at rest ≡ Ok (byte, after)
+pub stops : (front rest after : List ℕ) (byte : ℕ) (kind : RegKind) (total : Result (List ℕ) RegKind)
+    → pair_at rest ≡ Ok (byte, after)
     → behind_comma after ≡ Err kind → with_bytes front (pairs_of rest) ≡ total → total ≡ Err kind
-stops front rest after byte kind total read comma so_far = sym so_far ∙ ap (with_bytes front) (behind rest after byte (Err kind) read comma)
+stops front rest after byte kind total read comma so_far =
+    sym so_far ∙ ap (with_bytes front) (behind rest after byte (Err kind) read comma)
 
 pub ends : (front rest after : List ℕ) (byte : ℕ) (total : Result (List ℕ) RegKind) → pair_at rest ≡ Ok (byte, after)
     → behind_comma after ≡ Ok None → with_bytes front (pairs_of rest) ≡ total → total ≡ Ok (front ++ byte ∷ [])
-ends front rest after byte total read comma so_far = sym so_far ∙ ap (with_bytes front) (behind rest after byte (Ok None) read comma)
+ends front rest after byte total read comma so_far =
+    sym so_far ∙ ap (with_bytes front) (behind rest after byte (Ok None) read comma)
 
-pub goes_on : (front rest after more : List ℕ) (byte : ℕ) (total : Result (List ℕ) RegKind) → pair_at rest ≡ Ok (byte, after)
-    → behind_comma after ≡ Ok (Some more) → with_bytes front (pairs_of rest) ≡ total → with_bytes (front ++ byte ∷ []) (pairs_of more) ≡ total
+pub goes_on : (front rest after more : List ℕ) (byte : ℕ) (total : Result (List ℕ) RegKind)
+    → pair_at rest ≡ Ok (byte, after)
+    → behind_comma after ≡ Ok (Some more) → with_bytes front (pairs_of rest) ≡ total
+    → with_bytes (front ++ byte ∷ []) (pairs_of more) ≡ total
 goes_on front rest after more byte total read comma so_far =
     let one : with_bytes front (pairs_of rest) ≡ with_bytes (front ++ byte ∷ []) (pairs_of more) =
     ap (with_bytes front) (behind rest after byte (Ok (Some more)) read comma) ∙ regroup front byte (pairs_of more) in

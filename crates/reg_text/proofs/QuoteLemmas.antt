@@ -11,7 +11,8 @@ by_unit (Ok (Some u, text)) = with_units (u ∷ []) (quoted_from false text)
 by_unit (Ok (None, text)) = Ok ([], text)
 by_unit (Err kind) = Err kind
 
-by_escape : (b : Bool) (u : ℕ) (text : List ℕ) → cond b (with_units (u ∷ []) (quoted_from false text)) (Err Line) ≡ by_unit (cond b (Ok (Some u, text)) (Err Line))
+by_escape : (b : Bool) (u : ℕ) (text : List ℕ)
+    → cond b (with_units (u ∷ []) (quoted_from false text)) (Err Line) ≡ by_unit (cond b (Ok (Some u, text)) (Err Line))
 by_escape true u text = refl
 by_escape false u text = refl
 
@@ -32,20 +33,24 @@ unfolding quoted_from first_unit
 next_unit [] = refl
 next_unit (u ∷ text) = by_tests (eqb u 34) (eqb u 92) u text
 
-regroup : (front : List ℕ) (u : ℕ) (read : Result (List ℕ × List ℕ) RegKind) → with_units front (with_units (u ∷ []) read) ≡ with_units (front ++ u ∷ []) read
+regroup : (front : List ℕ) (u : ℕ) (read : Result (List ℕ × List ℕ) RegKind)
+    → with_units front (with_units (u ∷ []) read) ≡ with_units (front ++ u ∷ []) read
 regroup front u (Ok q) = ap (λ (t : List ℕ). Ok (t, q.1)) (sym (append_assoc front (u ∷ []) q.0))
 regroup front u (Err kind) = refl
 
-pub fails : (front rest : List ℕ) (kind : RegKind) (total : Result (List ℕ × List ℕ) RegKind) → first_unit rest ≡ Err kind
+pub fails : (front rest : List ℕ) (kind : RegKind) (total : Result (List ℕ × List ℕ) RegKind)
+    → first_unit rest ≡ Err kind
     → with_units front (quoted_from false rest) ≡ total → total ≡ Err kind
 fails front rest kind total read so_far = sym so_far ∙ ap (with_units front) (next_unit rest ∙ ap by_unit read)
 
 pub ends : (front rest after : List ℕ) (total : Result (List ℕ × List ℕ) RegKind) → first_unit rest ≡ Ok (None, after)
     → with_units front (quoted_from false rest) ≡ total → total ≡ Ok (front, after)
 ends front rest after total read so_far =
-    sym so_far ∙ ap (with_units front) (next_unit rest ∙ ap by_unit read) ∙ ap (λ (t : List ℕ). Ok (t, after)) (append-nil front)
+    sym so_far ∙ ap (with_units front) (next_unit rest ∙ ap by_unit read)
+    ∙ ap (λ (t : List ℕ). Ok (t, after)) (append-nil front)
 
-pub goes_on : (front rest after : List ℕ) (u : ℕ) (total : Result (List ℕ × List ℕ) RegKind) → first_unit rest ≡ Ok (Some u, after)
+pub goes_on : (front rest after : List ℕ) (u : ℕ) (total : Result (List ℕ × List ℕ) RegKind)
+    → first_unit rest ≡ Ok (Some u, after)
     → with_units front (quoted_from false rest) ≡ total → with_units (front ++ u ∷ []) (quoted_from false after) ≡ total
 goes_on front rest after u total read so_far =
     let one : with_units front (quoted_from false rest) ≡ with_units (front ++ u ∷ []) (quoted_from false after) =

@@ -10,10 +10,13 @@ use Rattle.reg_tree.proofs.Trees.{listed_trees}
 use Rattle.reg_tree.proofs.Sound.{key_name}
 use Rattle.reg_tree.proofs.Edited.{name_kept, with_key_name, of_items_name}
 
-pub changed_along : (h : Head) (ts us : List Tree) (t : Tree) (name : List ℕ) (more path : List (List ℕ)) (change : Tree → Tree)
-    → key h (trees ts) ≡ t → path ≡ name ∷ more → us ≡ at_first (is_named name) (at_key more change) ts → key h (trees us) ≡ at_key path change t
+pub changed_along : (h : Head) (ts us : List Tree) (t : Tree) (name : List ℕ) (more path : List (List ℕ))
+    (change : Tree → Tree)
+    → key h (trees ts) ≡ t → path ≡ name ∷ more → us ≡ at_first (is_named name) (at_key more change) ts
+    → key h (trees us) ≡ at_key path change t
 changed_along h ts us t name more path change w p e =
-    ap (λ (vs : List Tree). key h (trees vs)) (e ∙ ap (at_first (is_named name) (at_key more change)) (sym (listed_trees ts)))
+    ap (λ (vs : List Tree). key h (trees vs))
+    (e ∙ ap (at_first (is_named name) (at_key more change)) (sym (listed_trees ts)))
     ∙ ap (at_key (name ∷ more) change) w ∙ ap (λ (q : List (List ℕ)). at_key q change t) (sym p)
 
 change_name : (c : Change) (t : Tree) → key_name (change_of c t) ≡ key_name t

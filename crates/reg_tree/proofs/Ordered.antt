@@ -36,7 +36,8 @@ name_last : (items : List Item) (v : Item) → name_at (items ++ v ∷ []) (leng
 name_last [] v = refl
 name_last (x ∷ xs) v = name_last xs v
 
-name_changed : (items : List Item) (i : ℕ) (v : Item) → v.name ≡ name_at items i → (k : ℕ) → name_at (set items i v) k ≡ name_at items k
+name_changed : (items : List Item) (i : ℕ) (v : Item) → v.name ≡ name_at items i → (k : ℕ)
+    → name_at (set items i v) k ≡ name_at items k
 name_changed [] i v same k = refl
 name_changed (x ∷ xs) zero v same zero = same
 name_changed (x ∷ xs) zero v same (suc k) = refl
@@ -55,8 +56,11 @@ equal_not_greater Less h = refl
 equal_not_greater Equal h = refl
 equal_not_greater Greater h = sym h
 
-less_chain : (a b c : List ℕ) → is_lt (folded_order a b) ≡ true → is_lt (folded_order b c) ≡ true → is_lt (folded_order a c) ≡ true
-less_chain a b c h g = ap is_lt (nat_list_cmp_total.trans (folded a) (folded b) (folded c) (is_less (folded_order a b) h) (is_less (folded_order b c) g))
+less_chain : (a b c : List ℕ) → is_lt (folded_order a b) ≡ true → is_lt (folded_order b c) ≡ true
+    → is_lt (folded_order a c) ≡ true
+less_chain a b c h g = ap is_lt
+    (nat_list_cmp_total.trans (folded a) (folded b) (folded c) (is_less (folded_order a b) h)
+    (is_less (folded_order b c) g))
 
 -- of two names that fold to one, none is less
 alike_not_less : (q a b : List ℕ) → folds_same q a ≡ true → folds_same q b ≡ true → is_lt (folded_order a b) ≡ false
@@ -68,21 +72,32 @@ abbrev pub Ascends : List Item → List ℕ → Type 0
 Ascends items order = AllPairs (λ a b. is_lt (folded_order (name_at items a) (name_at items b)) ≡ true) order
 
 -- neighbours in order are enough
-pub ascends_from_neighbours : (items : List Item) (order : List ℕ) → AllAdjacentBelow (λ a b. is_lt (folded_order (name_at items a) (name_at items b)) ≡ true) order (length order) → Ascends items order
+pub ascends_from_neighbours : (items : List Item) (order : List ℕ)
+    → AllAdjacentBelow (λ a b. is_lt (folded_order (name_at items a) (name_at items b)) ≡ true) order (length order)
+    → Ascends items order
 ascends_from_neighbours items order next i zero d lt within = absurd (omega (arith, lt))
 ascends_from_neighbours items order next i (suc j) d lt within =
     let m : j + 1 ≡ suc j = omega arith in
-    let step : is_lt (folded_order (name_at items (get_or order j d)) (name_at items (get_or order (suc j) d))) ≡ true = subst (λ (n : ℕ). is_lt (folded_order (name_at items (get_or order j d)) (name_at items (get_or order n d))) ≡ true) m (next j d (omega (arith, within))) in
+    let step : is_lt (folded_order (name_at items (get_or order j d)) (name_at items (get_or order (suc j) d))) ≡ true =
+    subst (λ (n : ℕ). is_lt (folded_order (name_at items (get_or order j d)) (name_at items (get_or order n d)))
+    ≡ true) m (next j d (omega (arith, within))) in
     elim (cases_lt i j) [
-      | inl before ↦ less_chain (name_at items (get_or order i d)) (name_at items (get_or order j d)) (name_at items (get_or order (suc j) d)) (ascends_from_neighbours items order next i j d before (omega (arith, within))) step
+      | inl before ↦ less_chain (name_at items (get_or order i d)) (name_at items (get_or order j d))
+          (name_at items (get_or order (suc j) d))
+          (ascends_from_neighbours items order next i j d before (omega (arith, within))) step
       | inr upto ↦ let same : i ≡ j = omega (arith, lt, upto) in rw same step
     ]
 
 -- a sort of all places that ascends is an order
-pub sorted_order : (items : List Item) (order : List ℕ) → IsPermutation (range_with_len 0 (length items)) order → Ascends items order → IsOrderOf items order
+pub sorted_order : (items : List Item) (order : List ℕ) → IsPermutation (range_with_len 0 (length items)) order
+    → Ascends items order → IsOrderOf items order
 sorted_order items order moved up = record {
   inside = All-permutation (λ k. k < length items) all order moved below;
-  each = λ k within. Contains-permutation all order k moved (k, omega (arith, within, length-range_with_len 0 (length items)), get_or-range_with_len 0 (length items) k k within ∙ omega arith);
+  each = λ k within. Contains-permutation all order k moved (
+    k,
+    omega (arith, within, length-range_with_len 0 (length items)),
+    get_or-range_with_len 0 (length items) k k within ∙ omega arith,
+  );
   rises = up;
 }
   where
@@ -97,12 +112,16 @@ sorted_order items order moved up = record {
 -- ---- searches
 
 pub weak : (items : List Item) (order : List ℕ) → Ascends items order → Rising (name_at items) order
-weak items order up i j d lt within = folds.one_way (name_at items (get_or order i d)) (name_at items (get_or order j d)) (up i j d lt within)
+weak items order up i j d lt within =
+    folds.one_way (name_at items (get_or order i d)) (name_at items (get_or order j d)) (up i j d lt within)
 
 -- the value at a place of this name is the first
-pub found_in_order : (items : List Item) (order q : List ℕ) (low k : ℕ) → IsOrderOf items order → (low < length order) × ((d : ℕ) → k ≡ get_or order low d) → folds_same q (name_at items k) ≡ true
+pub found_in_order : (items : List Item) (order q : List ℕ) (low k : ℕ) → IsOrderOf items order
+    → (low < length order) × ((d : ℕ) → k ≡ get_or order low d) → folds_same q (name_at items k) ≡ true
     → position (is_item q) items ≡ Some k
-found_in_order items order q low k o at same = position_found (is_item q) items k within (before, λ lt d. sym (ap (folds_same q) (name_read items k d within)) ∙ same)
+found_in_order items order q low k o at same =
+    position_found (is_item q) items k within
+    (before, λ lt d. sym (ap (folds_same q) (name_read items k d within)) ∙ same)
   where
     within : k < length items
     within = subst (λ (j : ℕ). j < length items) (sym (at.1 k)) (o.inside low k at.0)
@@ -116,12 +135,20 @@ found_in_order items order q low k o at same = position_found (is_item q) items 
           | inr other ↦ sym (ap (folds_same q) (name_read items j d there)) ∙ other
           | inl too ↦ elim (cases_lt m.0 low) [
             | inl left ↦
-                let up : is_lt (folded_order (name_at items j) (name_at items k)) ≡ true = subst (λ (a : ℕ). is_lt (folded_order (name_at items a) (name_at items k)) ≡ true) m.2 (subst (λ (b : ℕ). is_lt (folded_order (name_at items (get_or order m.0 j)) (name_at items b)) ≡ true) (sym mine) (o.rises m.0 low j left at.0)) in
-                absurd (both_ways (is_lt (folded_order (name_at items j) (name_at items k))) (alike_not_less q (name_at items j) (name_at items k) too same) up)
+                let up : is_lt (folded_order (name_at items j) (name_at items k)) ≡ true =
+                subst (λ (a : ℕ). is_lt (folded_order (name_at items a) (name_at items k)) ≡ true) m.2
+                (subst (λ (b : ℕ). is_lt (folded_order (name_at items (get_or order m.0 j)) (name_at items b))
+                ≡ true) (sym mine) (o.rises m.0 low j left at.0)) in
+                absurd (both_ways (is_lt (folded_order (name_at items j) (name_at items k)))
+                (alike_not_less q (name_at items j) (name_at items k) too same) up)
             | inr from ↦ elim (cases_lt low m.0) [
               | inl right ↦
-                  let up : is_lt (folded_order (name_at items k) (name_at items j)) ≡ true = subst (λ (a : ℕ). is_lt (folded_order (name_at items k) (name_at items a)) ≡ true) m.2 (subst (λ (b : ℕ). is_lt (folded_order (name_at items b) (name_at items (get_or order m.0 j))) ≡ true) (sym mine) (o.rises low m.0 j right m.1)) in
-                  absurd (both_ways (is_lt (folded_order (name_at items k) (name_at items j))) (alike_not_less q (name_at items k) (name_at items j) same too) up)
+                  let up : is_lt (folded_order (name_at items k) (name_at items j)) ≡ true =
+                  subst (λ (a : ℕ). is_lt (folded_order (name_at items k) (name_at items a)) ≡ true) m.2
+                  (subst (λ (b : ℕ). is_lt (folded_order (name_at items b) (name_at items (get_or order m.0 j)))
+                  ≡ true) (sym mine) (o.rises low m.0 j right m.1)) in
+                  absurd (both_ways (is_lt (folded_order (name_at items k) (name_at items j)))
+                  (alike_not_less q (name_at items k) (name_at items j) same too) up)
               | inr upto ↦
                   let one : m.0 ≡ low = omega (arith, from, upto) in
                   let met : k ≡ j = mine ∙ ap (λ (n : ℕ). get_or order n j) (sym one) ∙ m.2 in
@@ -131,25 +158,32 @@ found_in_order items order q low k o at same = position_found (is_item q) items 
         ]
 
 -- where no place has this name, no value has
-pub absent_in_order : (items : List Item) (order q : List ℕ) → IsOrderOf items order → All (λ k. folds_same q (name_at items k) ≡ false) order → position (is_item q) items ≡ None
+pub absent_in_order : (items : List Item) (order q : List ℕ) → IsOrderOf items order
+    → All (λ k. folds_same q (name_at items k) ≡ false) order → position (is_item q) items ≡ None
 absent_in_order items order q o none = position_absent (is_item q) items (λ j d within.
     let m = o.each j within in
-    sym (ap (folds_same q) (name_read items j d within)) ∙ subst (λ (a : ℕ). folds_same q (name_at items a) ≡ false) m.2 (none m.0 j m.1))
+    sym (ap (folds_same q) (name_read items j d within))
+    ∙ subst (λ (a : ℕ). folds_same q (name_at items a) ≡ false) m.2 (none m.0 j m.1))
 
 -- no place has a name that no value has
-pub none_in_order : (items : List Item) (order q : List ℕ) → IsOrderOf items order → position (is_item q) items ≡ None → All (λ k. folds_same q (name_at items k) ≡ false) order
+pub none_in_order : (items : List Item) (order q : List ℕ) → IsOrderOf items order → position (is_item q) items ≡ None
+    → All (λ k. folds_same q (name_at items k) ≡ false) order
 none_in_order items order q o none k d within =
     let there = o.inside k d within in
-    ap (folds_same q) (name_read items (get_or order k d) no_item there) ∙ none_pass (is_item q) items none (get_or order k d) no_item there
+    ap (folds_same q) (name_read items (get_or order k d) no_item there)
+    ∙ none_pass (is_item q) items none (get_or order k d) no_item there
 
 -- ---- changes
 
 -- a value changed, but for its name
-pub order_changed : (items : List Item) (order : List ℕ) (i : ℕ) (v : Item) → IsOrderOf items order → v.name ≡ name_at items i → IsOrderOf (set items i v) order
+pub order_changed : (items : List Item) (order : List ℕ) (i : ℕ) (v : Item) → IsOrderOf items order
+    → v.name ≡ name_at items i → IsOrderOf (set items i v) order
 order_changed items order i v o same = record {
   inside = λ k d lt. omega (arith, o.inside k d lt, length-set items i v);
   each = λ k within. o.each k (omega (arith, within, length-set items i v));
-  rises = λ a b d lt within. rw (name_changed items i v same (get_or order a d), name_changed items i v same (get_or order b d)) (o.rises a b d lt within);
+  rises = λ a b d lt within.
+      rw (name_changed items i v same (get_or order a d), name_changed items i v same (get_or order b d))
+      (o.rises a b d lt within);
 }
 
 each_insert : (P : ℕ → Type 0) (xs : List ℕ) (i y : ℕ) → P y → Each P xs → Each P (insert xs i y)
@@ -159,14 +193,19 @@ each_insert P (x ∷ xs) zero y own h = (own, h)
 each_insert P (x ∷ xs) (suc i) y own h = (h.0, each_insert P xs i y own h.1)
 
 -- one more value, whose name none has, with its place put where the search for it ended
-pub order_pushed : (items : List Item) (order : List ℕ) (v : Item) (at : ℕ) → IsOrderOf items order → at ≤ length order → EndsAt (less (name_at items) v.name) order at
-    → All (λ k. folds_same v.name (name_at items k) ≡ false) order → IsOrderOf (items ++ v ∷ []) (insert order at (length items))
+pub order_pushed : (items : List Item) (order : List ℕ) (v : Item) (at : ℕ) → IsOrderOf items order → at ≤ length order
+    → EndsAt (less (name_at items) v.name) order at
+    → All (λ k. folds_same v.name (name_at items k) ≡ false) order
+    → IsOrderOf (items ++ v ∷ []) (insert order at (length items))
 order_pushed items order v at o most ends none = record {
-  inside = each_all (λ k. k < length more) (insert order at new) (each_insert (λ k. k < length more) order at new (omega (arith, longer)) (each_from (λ k. k < length more) order (λ k d lt. omega (arith, longer, o.inside k d lt))));
+  inside = each_all (λ k. k < length more) (insert order at new)
+      (each_insert (λ k. k < length more) order at new (omega (arith, longer))
+      (each_from (λ k. k < length more) order (λ k d lt. omega (arith, longer, o.inside k d lt))));
   each = each;
   rises =
       pairs_insert (λ a b. is_lt (folded_order (name_at more a) (name_at more b)) ≡ true) order at new
-      (λ i j d lt within. rw (kept i d (omega (arith, lt, within)), kept j d within) (o.rises i j d lt within)) before behind;
+      (λ i j d lt within. rw (kept i d (omega (arith, lt, within)), kept j d within) (o.rises i j d lt within))
+      before behind;
 }
   where
     more : List Item
@@ -181,13 +220,17 @@ order_pushed items order v at o most ends none = record {
     kept : (k d : ℕ) → k < length order → name_at more (get_or order k d) ≡ name_at items (get_or order k d)
     kept k d lt = name_pushed items v (get_or order k d) (o.inside k d lt)
 
-    before : (k d : ℕ) → k < at → k < length order → is_lt (folded_order (name_at more (get_or order k d)) (name_at more new)) ≡ true
+    before : (k d : ℕ) → k < at → k < length order
+        → is_lt (folded_order (name_at more (get_or order k d)) (name_at more new)) ≡ true
     before k d lt within = rw (kept k d within, name_last items v) (ends.0 k d (omega arith) lt)
 
-    behind : (k d : ℕ) → at ≤ k → k < length order → is_lt (folded_order (name_at more new) (name_at more (get_or order k d))) ≡ true
+    behind : (k d : ℕ) → at ≤ k → k < length order
+        → is_lt (folded_order (name_at more new) (name_at more (get_or order k d))) ≡ true
     behind k d from within =
         let n = name_at items (get_or order k d) in
-        let above : is_gt (folded_order n v.name) ≡ true = greater_left (folded_order n v.name) (ends.1 k d from within) (sym (same_from_order v.name n) ∙ none k d within) in
+        let above : is_gt (folded_order n v.name) ≡ true =
+        greater_left (folded_order n v.name) (ends.1 k d from within)
+        (sym (same_from_order v.name n) ∙ none k d within) in
         rw (kept k d within, name_last items v) (sym (greater_is_less n v.name) ∙ above)
 
     each : (k : ℕ) → k < length more → Contains (insert order at new) k
@@ -195,10 +238,23 @@ order_pushed items order v at o most ends none = record {
       | inl old ↦
           let m = o.each k old in
           elim (cases_lt m.0 at) [
-            | inl left ↦ (m.0, omega (arith, m.1, length-insert order at new most), get_or-insert_below order at new k m.0 left most ∙ m.2)
-            | inr right ↦ (m.0 + 1, omega (arith, m.1, length-insert order at new most), get_or-insert_above order at new k m.0 right most ∙ m.2)
+            | inl left ↦ (
+              m.0,
+              omega (arith, m.1, length-insert order at new most),
+              get_or-insert_below order at new k m.0 left most ∙ m.2,
+            )
+            | inr right ↦ (
+              m.0 + 1,
+              omega (arith, m.1, length-insert order at new most),
+              get_or-insert_above order at new k m.0 right most ∙ m.2,
+            )
           ]
-      | inr past ↦ (at, omega (arith, most, length-insert order at new most), get_or-insert_at order at new k most ∙ omega (arith, longer, lt, past))
+      | inr past ↦ (
+        at,
+        omega (arith, most, length-insert order at new most),
+        get_or-insert_at order at new k most
+            ∙ omega (arith, longer, lt, past),
+      )
     ]
 
 -- ---- a value that goes
@@ -231,13 +287,17 @@ other_before at k lt = rw (ne_eqb k at (λ e. omega (arith, lt, e))) refl
 other_behind : (at k : ℕ) → at < k → is_other at k ≡ true
 other_behind at k lt = rw (ne_eqb k at (λ e. omega (arith, lt, e))) refl
 
-name_left : (items : List Item) (at k : ℕ) → at < length items → is_other at k ≡ true → name_at (remove items at) (lowered at k) ≡ name_at items k
+name_left : (items : List Item) (at k : ℕ) → at < length items → is_other at k ≡ true
+    → name_at (remove items at) (lowered at k) ≡ name_at items k
 name_left items at k within other = elim (before_or_behind at k other) [
-  | inl before ↦ ap (name_at (remove items at)) (below_kept at k before) ∙ ap (λ (v : Item). v.name) (get_or-remove_below items at no_item k before within)
+  | inl before ↦ ap (name_at (remove items at)) (below_kept at k before)
+      ∙ ap (λ (v : Item). v.name) (get_or-remove_below items at no_item k before within)
   | inr behind ↦
       let back : (k - 1) + 1 ≡ k = omega (arith, behind) in
       ap (name_at (remove items at)) (behind_lower at k behind)
-      ∙ ap (λ (v : Item). v.name) (get_or-remove_above items at no_item (k - 1) (omega (arith, behind)) within ∙ ap (λ (n : ℕ). get_or items n no_item) back)
+      ∙ ap (λ (v : Item). v.name)
+      (get_or-remove_above items at no_item (k - 1) (omega (arith, behind)) within
+      ∙ ap (λ (n : ℕ). get_or items n no_item) back)
 ]
 
 contains_filter : (p : ℕ → Bool) (xs : List ℕ) (x : ℕ) → Contains xs x → p x ≡ true → Contains (filter p xs) x
@@ -286,11 +346,13 @@ order_removed items order at o within = record {
     each : (k : ℕ) → k < length less → Contains (map (lowered at) left) k
     each k lt = elim (cases_lt k at) [
       | inl before ↦
-          let m = contains_filter (is_other at) order k (o.each k (omega (arith, lt, shorter))) (other_before at k before) in
+          let m = contains_filter (is_other at) order k (o.each k (omega (arith, lt, shorter)))
+          (other_before at k before) in
           subst (Contains (map (lowered at) left)) (below_kept at k before) (contains_map (lowered at) left k m)
       | inr from ↦
           let behind : at < k + 1 = omega (arith, from) in
-          let m = contains_filter (is_other at) order (k + 1) (o.each (k + 1) (omega (arith, lt, shorter))) (other_behind at (k + 1) behind) in
+          let m = contains_filter (is_other at) order (k + 1) (o.each (k + 1) (omega (arith, lt, shorter)))
+          (other_behind at (k + 1) behind) in
           let down : lowered at (k + 1) ≡ k = behind_lower at (k + 1) behind ∙ omega arith in
           subst (Contains (map (lowered at) left)) down (contains_map (lowered at) left (k + 1) m)
     ]
@@ -304,4 +366,5 @@ order_removed items order at o within = record {
         let first : i < length left = omega (arith, lt, few) in
         let a = name_left items at (get_or left i d) within (others i d first) in
         let b = name_left items at (get_or left j d) within (others j d few) in
-        rw (get_or-map (lowered at) left i d d first, get_or-map (lowered at) left j d d few, a, b) (AllPairs-filter Less_at (is_other at) order o.rises i j d lt few)
+        rw (get_or-map (lowered at) left i d d first, get_or-map (lowered at) left j d d few, a, b)
+        (AllPairs-filter Less_at (is_other at) order o.rises i j d lt few)

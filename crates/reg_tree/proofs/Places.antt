@@ -17,17 +17,20 @@ data Place {X : Type 0} (p : X → Bool) (i : ℕ) (x : X) (xs : List X) (at : �
   here : p x ≡ true → at ≡ i → Place p i x xs at
   there : p x ≡ false → position_from p (i + 1) xs ≡ Some at → Place p i x xs at
 
-place_of : {X : Type 0} (p : X → Bool) (i : ℕ) (x : X) (xs : List X) (at : ℕ) → position_from p i (x ∷ xs) ≡ Some at → Place p i x xs at
+place_of : {X : Type 0} (p : X → Bool) (i : ℕ) (x : X) (xs : List X) (at : ℕ) → position_from p i (x ∷ xs) ≡ Some at
+    → Place p i x xs at
 place_of p i x xs at h = split (p x) refl h
   where
     split : (b : Bool) → p x ≡ b → cond b (Some i) (position_from p (i + 1) xs) ≡ Some at → Place p i x xs at
     split true e k = here e (sym (some_is i at k))
     split false e k = there e k
 
-no_place : {X : Type 0} (p : X → Bool) (i : ℕ) (x : X) (xs : List X) → position_from p i (x ∷ xs) ≡ None → (p x ≡ false) × (position_from p (i + 1) xs ≡ None)
+no_place : {X : Type 0} (p : X → Bool) (i : ℕ) (x : X) (xs : List X) → position_from p i (x ∷ xs) ≡ None
+    → (p x ≡ false) × (position_from p (i + 1) xs ≡ None)
 no_place p i x xs h = split (p x) refl h
   where
-    split : (b : Bool) → p x ≡ b → cond b (Some i) (position_from p (i + 1) xs) ≡ None → (p x ≡ false) × (position_from p (i + 1) xs ≡ None)
+    split : (b : Bool) → p x ≡ b → cond b (Some i) (position_from p (i + 1) xs) ≡ None
+        → (p x ≡ false) × (position_from p (i + 1) xs ≡ None)
     split true e k = absurd cc
     split false e k = (e, k)
 
@@ -41,7 +44,8 @@ record AtPlace {X : Type 0} (p : X → Bool) (change : X → X) (xs : List X) (d
   gone : without_first p xs ≡ remove xs k
   found : is_some (find p xs) ≡ true
 
-at_place_from : {X : Type 0} (p : X → Bool) (change : X → X) (i : ℕ) (xs : List X) (at : ℕ) (d : X) → position_from p i xs ≡ Some at
+at_place_from : {X : Type 0} (p : X → Bool) (change : X → X) (i : ℕ) (xs : List X) (at : ℕ) (d : X)
+    → position_from p i xs ≡ Some at
     → (k : ℕ) × (at ≡ i + k) × AtPlace p change xs d k
 at_place_from p change i [] at d h = absurd cc
 at_place_from p change i (x ∷ xs) at d h =
@@ -49,25 +53,32 @@ at_place_from p change i (x ∷ xs) at d h =
       | here e same ↦ (0, omega arith, record { changed = rw e refl; gone = rw e refl; found = rw e refl })
       | there e more ↦
           let below = at_place_from p change (i + 1) xs at d more in
-          let b = below.2 in
-          (suc below.0, omega (arith, below.1), record { changed = rw (e, b.changed) refl; gone = rw (e, b.gone) refl; found = rw (e, b.found) refl })
+          let b = below.2 in (
+            suc below.0,
+            omega (arith, below.1),
+            record { changed = rw (e, b.changed) refl; gone = rw (e, b.gone) refl; found = rw (e, b.found) refl },
+          )
     ]
 
-at_place : {X : Type 0} (p : X → Bool) (change : X → X) (xs : List X) (at : ℕ) (d : X) → position p xs ≡ Some at → AtPlace p change xs d at
+at_place : {X : Type 0} (p : X → Bool) (change : X → X) (xs : List X) (at : ℕ) (d : X) → position p xs ≡ Some at
+    → AtPlace p change xs d at
 at_place p change xs at d h =
     let f = at_place_from p change 0 xs at d (from_front p xs (Some at) h) in
     let same : at ≡ f.0 = omega (arith, f.1) in
     rw same f.2
 
 -- the first one that passes is changed where it stands
-pub changed_at : {X : Type 0} (p : X → Bool) (change : X → X) (xs : List X) (at : ℕ) (d : X) → position p xs ≡ Some at → at_first p change xs ≡ set xs at (change (get_or xs at d))
+pub changed_at : {X : Type 0} (p : X → Bool) (change : X → X) (xs : List X) (at : ℕ) (d : X) → position p xs ≡ Some at
+    → at_first p change xs ≡ set xs at (change (get_or xs at d))
 changed_at p change xs at d h = (at_place p change xs at d h).changed
 
 -- the first one that passes is taken out
-pub gone_at : {X : Type 0} (p : X → Bool) (xs : List X) (at : ℕ) (d : X) → position p xs ≡ Some at → without_first p xs ≡ remove xs at
+pub gone_at : {X : Type 0} (p : X → Bool) (xs : List X) (at : ℕ) (d : X) → position p xs ≡ Some at
+    → without_first p xs ≡ remove xs at
 gone_at p xs at d h = (at_place p (λ x. x) xs at d h).gone
 
-pub found_at : {X : Type 0} (p : X → Bool) (xs : List X) (at : ℕ) (d : X) → position p xs ≡ Some at → is_some (find p xs) ≡ true
+pub found_at : {X : Type 0} (p : X → Bool) (xs : List X) (at : ℕ) (d : X) → position p xs ≡ Some at
+    → is_some (find p xs) ≡ true
 found_at p xs at d h = (at_place p (λ x. x) xs at d h).found
 
 -- ---- where none passes
@@ -77,14 +88,16 @@ record Nowhere {X : Type 0} (p : X → Bool) (change : X → X) (xs : List X) : 
   gone : without_first p xs ≡ xs
   found : is_some (find p xs) ≡ false
 
-nowhere_from : {X : Type 0} (p : X → Bool) (change : X → X) (i : ℕ) (xs : List X) → position_from p i xs ≡ None → Nowhere p change xs
+nowhere_from : {X : Type 0} (p : X → Bool) (change : X → X) (i : ℕ) (xs : List X) → position_from p i xs ≡ None
+    → Nowhere p change xs
 nowhere_from p change i [] h = record { changed = refl; gone = refl; found = refl }
 nowhere_from p change i (x ∷ xs) h =
     let n = no_place p i x xs h in
     let b = nowhere_from p change (i + 1) xs n.1 in
     record { changed = rw (n.0, b.changed) refl; gone = rw (n.0, b.gone) refl; found = rw (n.0, b.found) refl }
 
-pub unchanged : {X : Type 0} (p : X → Bool) (change : X → X) (xs : List X) → position p xs ≡ None → at_first p change xs ≡ xs
+pub unchanged : {X : Type 0} (p : X → Bool) (change : X → X) (xs : List X) → position p xs ≡ None
+    → at_first p change xs ≡ xs
 unchanged p change xs h = (nowhere_from p change 0 xs (from_front p xs None h)).changed
 
 pub none_gone : {X : Type 0} (p : X → Bool) (xs : List X) → position p xs ≡ None → without_first p xs ≡ xs
@@ -95,9 +108,12 @@ none_found p xs h = (nowhere_from p (λ x. x) 0 xs (from_front p xs None h)).fou
 
 -- ---- a value that is set
 
-pub item_set : (name : List ℕ) (kind : ℕ) (bytes : List ℕ) (vs : List Item) (at : ℕ) (d : Item) → position (is_item name) vs ≡ Some at
+pub item_set : (name : List ℕ) (kind : ℕ) (bytes : List ℕ) (vs : List Item) (at : ℕ) (d : Item)
+    → position (is_item name) vs ≡ Some at
     → with_item name kind bytes vs ≡ set vs at (record (get_or vs at d) { kind = kind; bytes = bytes })
-item_set name kind bytes vs at d h = rw (found_at (is_item name) vs at d h) (changed_at (is_item name) (λ v. record v { kind = kind; bytes = bytes }) vs at d h)
+item_set name kind bytes vs at d h =
+    rw (found_at (is_item name) vs at d h)
+    (changed_at (is_item name) (λ v. record v { kind = kind; bytes = bytes }) vs at d h)
 
 pub item_added : (name : List ℕ) (kind : ℕ) (bytes : List ℕ) (vs : List Item) → position (is_item name) vs ≡ None
     → with_item name kind bytes vs ≡ vs ++ record { name = name; kind = kind; bytes = bytes } ∷ []
@@ -116,17 +132,20 @@ placed_from t i (u ∷ us) at h =
           (suc below.0, omega (arith, below.1), rw (e, below.2) refl)
     ]
 
-pub placed_at : (t : Tree) (ts : List Tree) (at : ℕ) → position (folds_greater (head t).name) ts ≡ Some at → placed t ts ≡ insert ts at t
+pub placed_at : (t : Tree) (ts : List Tree) (at : ℕ) → position (folds_greater (head t).name) ts ≡ Some at
+    → placed t ts ≡ insert ts at t
 placed_at t ts at h =
     let f = placed_from t 0 ts at (from_front (folds_greater (head t).name) ts (Some at) h) in
     let same : at ≡ f.0 = omega (arith, f.1) in
     rw same f.2
 
-placed_last_from : (t : Tree) (i : ℕ) (ts : List Tree) → position_from (folds_greater (head t).name) i ts ≡ None → placed t ts ≡ ts ++ t ∷ []
+placed_last_from : (t : Tree) (i : ℕ) (ts : List Tree) → position_from (folds_greater (head t).name) i ts ≡ None
+    → placed t ts ≡ ts ++ t ∷ []
 placed_last_from t i [] h = refl
 placed_last_from t i (u ∷ us) h =
     let n = no_place (folds_greater (head t).name) i u us h in
     rw (n.0, placed_last_from t (i + 1) us n.1) refl
 
-pub placed_last : (t : Tree) (ts : List Tree) → position (folds_greater (head t).name) ts ≡ None → placed t ts ≡ ts ++ t ∷ []
+pub placed_last : (t : Tree) (ts : List Tree) → position (folds_greater (head t).name) ts ≡ None
+    → placed t ts ≡ ts ++ t ∷ []
 placed_last t ts h = placed_last_from t 0 ts (from_front (folds_greater (head t).name) ts None h)

@@ -26,7 +26,8 @@ full_segments n none =
     rw count (all_full (n / 16344) n (omega arith))
 
 -- the cells of the segments that n bytes fill, where the last is not full
-pub rest_segments : (n : ℕ) → 0 < n % 16344 → cells_sum (segment_sizes (segment_count n) n) ≡ n / 16344 * 16352 + cell (n % 16344)
+pub rest_segments : (n : ℕ) → 0 < n % 16344
+    → cells_sum (segment_sizes (segment_count n) n) ≡ n / 16344 * 16352 + cell (n % 16344)
 rest_segments n some =
     let count : segment_count n ≡ suc (n / 16344) = omega arith in
     rw count (several (n / 16344) (n % 16344) n (omega arith) (omega arith) some)

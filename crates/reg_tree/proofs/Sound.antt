@@ -31,7 +31,8 @@ pub record IsHead (h : Head) : Type 0 where
 -- each key, the topmost at this level
 abbrev mutual
   pub Sound : ℕ → Tree → Type 0
-  Sound d (key h ts) = IsHead h × (d ≤ 512) × Unlike key_name (listed ts) × Each IsNamed (listed ts) × AllSound (suc d) ts
+  Sound d (key h ts) = IsHead h × (d ≤ 512) × Unlike key_name (listed ts) × Each IsNamed (listed ts)
+      × AllSound (suc d) ts
 
   pub AllSound : ℕ → Trees → Type 0
   AllSound d none = Unit {0}
@@ -114,7 +115,8 @@ abbrev mutual
   AllFew n none = Unit {0}
   AllFew n (more t ts) = Few n t × AllFew n ts
 
-own_back : (h : Head) (us : List Tree) → IsHead h → Unlike key_name us → Each IsNamed us → length h.values < 2 ^ 32 → length us < 2 ^ 32 → IsKey h us
+own_back : (h : Head) (us : List Tree) → IsHead h → Unlike key_name us → Each IsNamed us → length h.values < 2 ^ 32
+    → length us < 2 ^ 32 → IsKey h us
 own_back h us o differ named items keys = record {
   name = o.name;
   no_backslash = o.no_backslash;
@@ -162,12 +164,17 @@ many_keys version shared (more t ts) = omega (arith, some_size version shared t,
 
 mutual
   pub few_by_size : (version : HiveVersion) (n : ℕ) (shared : List ℕ) (t : Tree) → size version shared t ≤ n → Few n t
-  few_by_size version n shared (key h ts) l =
-      (omega (arith, items_within version h.values), omega (arith, many_keys version h.security ts), all_few version n h.security ts (omega arith))
+  few_by_size version n shared (key h ts) l = (
+    omega (arith, items_within version h.values),
+    omega (arith, many_keys version h.security ts),
+    all_few version n h.security ts (omega arith),
+  )
 
-  pub all_few : (version : HiveVersion) (n : ℕ) (shared : List ℕ) (ts : Trees) → size_of_all version shared ts ≤ n → AllFew n ts
+  pub all_few : (version : HiveVersion) (n : ℕ) (shared : List ℕ) (ts : Trees) → size_of_all version shared ts ≤ n
+      → AllFew n ts
   all_few version n shared none l = tt
-  all_few version n shared (more t ts) l = (few_by_size version n shared t (omega arith), all_few version n shared ts (omega arith))
+  all_few version n shared (more t ts) l =
+      (few_by_size version n shared t (omega arith), all_few version n shared ts (omega arith))
 
 pub valid_back : (version : HiveVersion) (t : Tree) → Sound 1 t → bulk_of version t ≤ 16773120 → IsValid t
 valid_back version t s b =

@@ -11,13 +11,16 @@ use Rattle.reg_tree.proofs.Trees.{listed_trees}
 pub cell_capped : (p q : ℕ) → q ≡ capped p → capped (cell q) ≡ capped (cell p)
 cell_capped p q e = omega arith
 
-pub size_of_all-trees : (version : HiveVersion) (shared : List ℕ) (ts : List Tree) → size_of_all version shared (trees ts) ≡ sum_by (size version shared) ts
-size_of_all-trees version shared = is_sum_by (λ us. size_of_all version shared (trees us)) (size version shared) refl (λ t us. refl)
+pub size_of_all-trees : (version : HiveVersion) (shared : List ℕ) (ts : List Tree)
+    → size_of_all version shared (trees ts) ≡ sum_by (size version shared) ts
+size_of_all-trees version shared =
+    is_sum_by (λ us. size_of_all version shared (trees us)) (size version shared) refl (λ t us. refl)
 
 pub items_sum-is : (version : HiveVersion) (vs : List Item) → items_sum version vs ≡ sum_by (item_size version) vs
 items_sum-is version = is_sum_by (items_sum version) (item_size version) refl (λ v vs. refl)
 
-pub some_items : (version : HiveVersion) (vs : List Item) → 0 < length vs → items_size version vs ≡ cell (4 * length vs) + sum_by (item_size version) vs
+pub some_items : (version : HiveVersion) (vs : List Item) → 0 < length vs
+    → items_size version vs ≡ cell (4 * length vs) + sum_by (item_size version) vs
 some_items version [] h = absurd (omega arith)
 some_items version (v ∷ vs) h = ap (λ n. cell (4 * length (v ∷ vs)) + n) (items_sum-is version (v ∷ vs))
 

@@ -12,7 +12,8 @@ trees_listed none = refl
 trees_listed (more t ts) = ap (λ us. more t us) (trees_listed ts)
 
 -- trees with equal heads are equal where their children are
-pub same_tree : (h g : Head) (ts us : List Tree) (s o : Tree) (r : Bool) → key h (trees ts) ≡ s → key g (trees us) ≡ o → head s ≡ head o → IsTrue r ↔ (ts ≡ us) → IsTrue r ↔ (s ≡ o)
+pub same_tree : (h g : Head) (ts us : List Tree) (s o : Tree) (r : Bool) → key h (trees ts) ≡ s → key g (trees us) ≡ o
+    → head s ≡ head o → IsTrue r ↔ (ts ≡ us) → IsTrue r ↔ (s ≡ o)
 same_tree h g ts us s o r v w same i =
     let heads : h ≡ g = ap head v ∙ same ∙ sym (ap head w) in (
       λ t. sym v ∙ (λ j. key (heads j) (trees (i.0 t j))) ∙ w,

@@ -32,21 +32,25 @@ pub each_all : {X : Type 0} (P : X → Type 0) (xs : List X) → Each P xs → A
 each_all P [] h = All-nil P
 each_all P (x ∷ xs) h = All-cons P x xs h.0 (each_all P xs h.1)
 
-pub unlike_from : {X : Type 0} (name : X → List ℕ) (xs : List X) → AllPairs (λ a b. folds_same (name b) (name a) ≡ false) xs → Unlike name xs
+pub unlike_from : {X : Type 0} (name : X → List ℕ) (xs : List X)
+    → AllPairs (λ a b. folds_same (name b) (name a) ≡ false) xs → Unlike name xs
 unlike_from name [] h = tt
 unlike_from name (x ∷ xs) h = (
   each_from (λ y. folds_same (name y) (name x) ≡ false) xs (λ k d within. h 0 (suc k) d (omega arith) (omega arith)),
   unlike_from name xs (λ i j d lt within. h (suc i) (suc j) d (omega arith) (omega arith)),
 )
 
-pub unlike_pairs : {X : Type 0} (name : X → List ℕ) (xs : List X) → Unlike name xs → AllPairs (λ a b. folds_same (name b) (name a) ≡ false) xs
+pub unlike_pairs : {X : Type 0} (name : X → List ℕ) (xs : List X) → Unlike name xs
+    → AllPairs (λ a b. folds_same (name b) (name a) ≡ false) xs
 unlike_pairs name [] h = λ i j d lt within. absurd (omega arith)
 unlike_pairs name (x ∷ xs) h =
-    AllPairs-cons (λ a b. folds_same (name b) (name a) ≡ false) x xs (each_all (λ y. folds_same (name y) (name x) ≡ false) xs h.0) (unlike_pairs name xs h.1)
+    AllPairs-cons (λ a b. folds_same (name b) (name a) ≡ false) x xs
+    (each_all (λ y. folds_same (name y) (name x) ≡ false) xs h.0) (unlike_pairs name xs h.1)
 
 -- ---- with the first that passes changed
 
-pub each_first : {X : Type 0} (P : X → Type 0) (p : X → Bool) (f : X → X) → ((x : X) → P x → P (f x)) → (xs : List X) → Each P xs → Each P (at_first p f xs)
+pub each_first : {X : Type 0} (P : X → Type 0) (p : X → Bool) (f : X → X) → ((x : X) → P x → P (f x)) → (xs : List X)
+    → Each P xs → Each P (at_first p f xs)
 each_first P p f keeps [] h = tt
 each_first P p f keeps (x ∷ xs) h =
     elim (p x) as (λ b. Each P (cond b (f x ∷ xs) (x ∷ at_first p f xs))) [
@@ -54,10 +58,13 @@ each_first P p f keeps (x ∷ xs) h =
       | false ↦ (h.0, each_first P p f keeps xs h.1)
     ]
 
-lacks_first : {X : Type 0} (name : X → List ℕ) (p : X → Bool) (f : X → X) → ((x : X) → name (f x) ≡ name x) → (n : List ℕ) (xs : List X) → Lacks name n xs → Lacks name n (at_first p f xs)
-lacks_first name p f same n xs h = each_first (λ x. folds_same (name x) n ≡ false) p f (λ x l. ap (λ (m : List ℕ). folds_same m n) (same x) ∙ l) xs h
+lacks_first : {X : Type 0} (name : X → List ℕ) (p : X → Bool) (f : X → X) → ((x : X) → name (f x) ≡ name x)
+    → (n : List ℕ) (xs : List X) → Lacks name n xs → Lacks name n (at_first p f xs)
+lacks_first name p f same n xs h =
+    each_first (λ x. folds_same (name x) n ≡ false) p f (λ x l. ap (λ (m : List ℕ). folds_same m n) (same x) ∙ l) xs h
 
-pub unlike_first : {X : Type 0} (name : X → List ℕ) (p : X → Bool) (f : X → X) → ((x : X) → name (f x) ≡ name x) → (xs : List X) → Unlike name xs → Unlike name (at_first p f xs)
+pub unlike_first : {X : Type 0} (name : X → List ℕ) (p : X → Bool) (f : X → X) → ((x : X) → name (f x) ≡ name x)
+    → (xs : List X) → Unlike name xs → Unlike name (at_first p f xs)
 unlike_first name p f same [] h = tt
 unlike_first name p f same (x ∷ xs) h =
     elim (p x) as (λ b. Unlike name (cond b (f x ∷ xs) (x ∷ at_first p f xs))) [
@@ -69,9 +76,12 @@ unlike_first name p f same (x ∷ xs) h =
 
 pub each_gone : {X : Type 0} (P : X → Type 0) (p : X → Bool) (xs : List X) → Each P xs → Each P (without_first p xs)
 each_gone P p [] h = tt
-each_gone P p (x ∷ xs) h = elim (p x) as (λ b. Each P (cond b xs (x ∷ without_first p xs))) [ true ↦ h.1 | false ↦ (h.0, each_gone P p xs h.1) ]
+each_gone P p (x ∷ xs) h =
+    elim (p x) as (λ b. Each P (cond b xs (x ∷ without_first p xs)))
+    [ true ↦ h.1 | false ↦ (h.0, each_gone P p xs h.1) ]
 
-pub unlike_gone : {X : Type 0} (name : X → List ℕ) (p : X → Bool) (xs : List X) → Unlike name xs → Unlike name (without_first p xs)
+pub unlike_gone : {X : Type 0} (name : X → List ℕ) (p : X → Bool) (xs : List X) → Unlike name xs
+    → Unlike name (without_first p xs)
 unlike_gone name p [] h = tt
 unlike_gone name p (x ∷ xs) h =
     elim (p x) as (λ b. Unlike name (cond b xs (x ∷ without_first p xs))) [
@@ -85,7 +95,8 @@ pub none_found : {X : Type 0} (p : X → Bool) (xs : List X) → is_some (find p
 none_found p [] h = tt
 none_found p (x ∷ xs) h = go (p x) refl (λ n. none_found p xs n) h
   where
-    go : (b : Bool) → p x ≡ b → (is_some (find p xs) ≡ false → Each (λ y. p y ≡ false) xs) → is_some (cond b (Some x) (find p xs)) ≡ false → Each (λ y. p y ≡ false) (x ∷ xs)
+    go : (b : Bool) → p x ≡ b → (is_some (find p xs) ≡ false → Each (λ y. p y ≡ false) xs)
+        → is_some (cond b (Some x) (find p xs)) ≡ false → Each (λ y. p y ≡ false) (x ∷ xs)
     go true e more n = absurd cc
     go false e more n = (e, more n)
 
@@ -93,9 +104,11 @@ pub each_push : {X : Type 0} (P : X → Type 0) (xs : List X) (y : X) → Each P
 each_push P [] y h k = (k, tt)
 each_push P (x ∷ xs) y h k = (h.0, each_push P xs y h.1 k)
 
-pub unlike_push : {X : Type 0} (name : X → List ℕ) (xs : List X) (y : X) → Unlike name xs → Each (λ x. folds_same (name y) (name x) ≡ false) xs → Unlike name (xs ++ y ∷ [])
+pub unlike_push : {X : Type 0} (name : X → List ℕ) (xs : List X) (y : X) → Unlike name xs
+    → Each (λ x. folds_same (name y) (name x) ≡ false) xs → Unlike name (xs ++ y ∷ [])
 unlike_push name [] y h n = (tt, tt)
-unlike_push name (x ∷ xs) y h n = (each_push (λ z. folds_same (name z) (name x) ≡ false) xs y h.0 n.0, unlike_push name xs y h.1 n.1)
+unlike_push name (x ∷ xs) y h n =
+    (each_push (λ z. folds_same (name z) (name x) ≡ false) xs y h.0 n.0, unlike_push name xs y h.1 n.1)
 
 -- ---- folding alike goes both ways
 
@@ -108,6 +121,7 @@ folds_swap [] (y ∷ ys) = refl
 folds_swap (x ∷ xs) [] = refl
 folds_swap (x ∷ xs) (y ∷ ys) = rw (same_swap (folded_unit x) (folded_unit y), folds_swap xs ys) refl
 
-pub lacks_from : {X : Type 0} (name : X → List ℕ) (n : List ℕ) (xs : List X) → Each (λ x. folds_same n (name x) ≡ false) xs → Lacks name n xs
+pub lacks_from : {X : Type 0} (name : X → List ℕ) (n : List ℕ) (xs : List X)
+    → Each (λ x. folds_same n (name x) ≡ false) xs → Lacks name n xs
 lacks_from name n [] h = tt
 lacks_from name n (x ∷ xs) h = (folds_swap (name x) n ∙ h.0, lacks_from name n xs h.1)

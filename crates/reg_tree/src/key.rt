@@ -39,7 +39,14 @@ impl Model for Key {
 
     ghost coded = { coded_tree };
 
-    ghost view = { λ a. key (record { name = a.name; flags = a.flags; stamp = a.stamp; class = a.class; security = a.security; values = a.values }) (trees a.children) };
+    ghost view = { λ a. key (record {
+      name = a.name;
+      flags = a.flags;
+      stamp = a.stamp;
+      class = a.class;
+      security = a.security;
+      values = a.values;
+    }) (trees a.children) };
 
     ghost size = { weight };
 

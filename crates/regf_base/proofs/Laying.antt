@@ -9,7 +9,8 @@ use borrow.Rule.Slice.PartMut.{put_mid}
 use Rattle.hive_model.specs.Base.{checksum_of, moved_off}
 use Rattle.hive_model.proofs.BaseLemmas.{mixed_front}
 
-module _ (h n r old : List ℕ) (h_long : length h ≡ 48) (n_long : length n ≡ 64) (r_long : length r ≡ 396) (old_long : length old ≡ 512) where
+module _ (h n r old : List ℕ) (h_long : length h ≡ 48) (n_long : length n ≡ 64) (r_long : length r ≡ 396)
+    (old_long : length old ≡ 512) where
   abbrev with_head : List ℕ
   with_head = h ++ drop 48 old
 
@@ -33,7 +34,8 @@ module _ (h n r old : List ℕ) (h_long : length h ≡ 48) (n_long : length n �
   front =
       take-put_mid 112 396 with_name r 508 (omega arith) name_length
       ∙ ap (λ l. l ++ r) (take-put_mid 48 64 with_head n 112 (omega arith) (omega (arith, head_length)))
-      ∙ ap (λ l. l ++ n ++ r) (take-append-le 48 h (drop 48 old) (omega arith) ∙ ap (λ k. take k h) (sym h_long) ∙ take-length h)
+      ∙ ap (λ l. l ++ n ++ r) (take-append-le 48 h (drop 48 old) (omega arith) ∙ ap (λ k. take k h) (sym h_long)
+      ∙ take-length h)
 
   back : drop 512 laid ≡ []
   back =
@@ -46,9 +48,11 @@ module _ (h n r old : List ℕ) (h_long : length h ≡ 48) (n_long : length n �
   sum =
       ap checksum_of (sym (take-append-drop 508 laid))
       ∙ ap (λ l. checksum_of (l ++ drop 508 laid)) front
-      ∙ ap moved_off (mixed_front 127 ((h ++ n) ++ r) (drop 508 laid) (omega (arith, length-append (h ++ n) r, length-append h n)))
+      ∙ ap moved_off (mixed_front 127 ((h ++ n) ++ r) (drop 508 laid)
+      (omega (arith, length-append (h ++ n) r, length-append h n)))
 
-  pub spelled : take 508 laid ++ to_le_bytes w32 (checksum_of laid) ++ drop 512 laid ≡ ((h ++ n) ++ r) ++ to_le_bytes w32 (checksum_of ((h ++ n) ++ r))
+  pub spelled : take 508 laid ++ to_le_bytes w32 (checksum_of laid) ++ drop 512 laid ≡ ((h ++ n) ++ r)
+      ++ to_le_bytes w32 (checksum_of ((h ++ n) ++ r))
   spelled =
       ap (λ l. take 508 laid ++ to_le_bytes w32 (checksum_of laid) ++ l) back
       ∙ append-nil _

@@ -45,20 +45,26 @@ some_left set Automatic e = omega arith
 some_left set Done e = absurd (false≢true (sym e))
 
 -- the next phase has fewer steps than were left
-phase_falls : (set : Tree) (s : Start) → is_done s.phase ≡ false → cond (is_done (after_phase set s).phase) 0 (steps_in set (after_phase set s)) < steps_in set s
+phase_falls : (set : Tree) (s : Start) → is_done s.phase ≡ false
+    → cond (is_done (after_phase set s).phase) 0 (steps_in set (after_phase set s)) < steps_in set s
 phase_falls set s e = by_phase s.phase refl
   where
-    by_phase : (phase : Phase) → s.phase ≡ phase → cond (is_done (after_phase set s).phase) 0 (steps_in set (after_phase set s)) < steps_in set s
+    by_phase : (phase : Phase) → s.phase ≡ phase
+        → cond (is_done (after_phase set s).phase) 0 (steps_in set (after_phase set s)) < steps_in set s
     by_phase Boot is =
-        let P : Phase → Type 0 = λ phase. cond (is_done (after_phase set (record s { phase = phase })).phase) 0 (steps_in set (after_phase set (record s { phase = phase }))) < steps_in set (record s { phase = phase }) in
+        let P : Phase → Type 0 = λ phase. cond (is_done (after_phase set (record s { phase = phase })).phase) 0
+        (steps_in set (after_phase set (record s { phase = phase }))) < steps_in set (record s { phase = phase }) in
         subst P (sym is) (omega (arith, system_plan set s.tried))
     by_phase System is =
-        let P : Phase → Type 0 = λ phase. cond (is_done (after_phase set (record s { phase = phase })).phase) 0 (steps_in set (after_phase set (record s { phase = phase }))) < steps_in set (record s { phase = phase }) in
+        let P : Phase → Type 0 = λ phase. cond (is_done (after_phase set (record s { phase = phase })).phase) 0
+        (steps_in set (after_phase set (record s { phase = phase }))) < steps_in set (record s { phase = phase }) in
         subst P (sym is) (omega (arith, automatic_plan set s.tried))
     by_phase Automatic is =
-        let P : Phase → Type 0 = λ phase. cond (is_done (after_phase set (record s { phase = phase })).phase) 0 (steps_in set (after_phase set (record s { phase = phase }))) < steps_in set (record s { phase = phase }) in
+        let P : Phase → Type 0 = λ phase. cond (is_done (after_phase set (record s { phase = phase })).phase) 0
+        (steps_in set (after_phase set (record s { phase = phase }))) < steps_in set (record s { phase = phase }) in
         subst P (sym is) (omega arith)
-    by_phase Done is = let P : Phase → Type 0 = λ phase. is_done phase ≡ false in absurd (false≢true (sym (subst P is e)))
+    by_phase Done is = let P : Phase → Type 0 = λ phase. is_done phase ≡ false in
+        absurd (false≢true (sym (subst P is e)))
 
 -- ---- an attempt takes an entry off those that wait
 
@@ -74,20 +80,30 @@ record Attempted (m : MachineState) (s : Start) (one : MachineState × Tried) : 
   number : after.number ≡ s.number
   fewer : length after.waiting + 1 ≡ length s.waiting
 
-attempted_at : (m : MachineState) (s : Start) (usable : Bool) (place : ℕ) (o : Option Entry) (one : MachineState × Tried) → slice_get s.waiting place ≡ o → option_map (attempt_at m s usable place) o ≡ Some one → Attempted m s one
+attempted_at : (m : MachineState) (s : Start) (usable : Bool) (place : ℕ) (o : Option Entry)
+    (one : MachineState × Tried) → slice_get s.waiting place ≡ o → option_map (attempt_at m s usable place) o ≡ Some one
+    → Attempted m s one
 attempted_at m s usable place None one is e = absurd cc
 attempted_at m s usable place (Some entry) one is e =
     let made : MachineState × Tried = attempt_at m s usable place entry in
     let P : MachineState × Tried → Type 0 = λ x. Attempted m s x in
     let q : made ≡ one = cc in
-    subst P q (record { after = _; start = refl; phase = refl; number = refl; fewer = length-remove s.waiting place (slice_get-within s.waiting place entry is) })
+    subst P q (record {
+      after = _;
+      start = refl;
+      phase = refl;
+      number = refl;
+      fewer = length-remove s.waiting place (slice_get-within s.waiting place entry is);
+    })
 
 attempted_in : (m : MachineState) (s : Start) (usable : Bool) (place : Option ℕ) (one : MachineState × Tried)
-    → option_and_then (λ place. option_map (attempt_at m s usable place) (slice_get s.waiting place)) place ≡ Some one → Attempted m s one
+    → option_and_then (λ place. option_map (attempt_at m s usable place) (slice_get s.waiting place)) place ≡ Some one
+    → Attempted m s one
 attempted_in m s usable None one e = absurd cc
 attempted_in m s usable (Some place) one e = attempted_at m s usable place (slice_get s.waiting place) one refl e
 
-attempted : (m : MachineState) (s : Start) (usable : Bool) (one : MachineState × Tried) → m.start ≡ Some s → attempt_of m usable ≡ Some one → Attempted m s one
+attempted : (m : MachineState) (s : Start) (usable : Bool) (one : MachineState × Tried) → m.start ≡ Some s
+    → attempt_of m usable ≡ Some one → Attempted m s one
 unfolding attempt_of
 attempted m s usable one is e =
     let P : Option Start → Type 0 = λ o. option_and_then (λ s. attempt_in m s usable) o ≡ Some one in
@@ -95,24 +111,31 @@ attempted m s usable one is e =
 
 -- ---- what comes next is looked at where few steps are left
 
-commit-same : (what : CommitWord) (tree : Tree) (m : RunState) (next other : RunState → Act) → ((x : RunState) → x.machine ≡ m.machine → next x ≡ other x) → commit what tree m next ≡ commit what tree m other
+commit-same : (what : CommitWord) (tree : Tree) (m : RunState) (next other : RunState → Act)
+    → ((x : RunState) → x.machine ≡ m.machine → next x ≡ other x) → commit what tree m next ≡ commit what tree m other
 commit-same what tree m next other f = λ i. ask (open_between m.disk.settled (next_state m tree)) (λ o. at_end o i)
   where
     at_end : (o : Outcome) → committed what tree m next o ≡ committed what tree m other o
-    at_end Finished = ap (λ (act : Act). say (lines.CommitLine what (next_state m tree).sequence) (mark (Held tree) act)) (f (committed_state m tree) refl)
+    at_end Finished = ap (λ (act : Act). say (lines.CommitLine what (next_state m tree).sequence)
+        (mark (Held tree) act)) (f (committed_state m tree) refl)
     at_end PowerCut = refl
     at_end DeviceFault = refl
 
-saved_by-same : (s : Start) (clone : Tree) (m : RunState) (next other : RunState → Act) (r : Result SetChange ChangeStop)
-    → ((ok : Bool) (x : RunState) → next (noted_saved ok s x) ≡ other (noted_saved ok s x)) → saved_by s clone m next r ≡ saved_by s clone m other r
+saved_by-same : (s : Start) (clone : Tree) (m : RunState) (next other : RunState → Act)
+    (r : Result SetChange ChangeStop)
+    → ((ok : Bool) (x : RunState) → next (noted_saved ok s x) ≡ other (noted_saved ok s x))
+    → saved_by s clone m next r ≡ saved_by s clone m other r
 saved_by-same s clone m next other (Ok change) f =
-    ap (mark (Saved clone)) (commit-same lines.SaveCommit change.tree m (λ after. say (select_line change.numbers) (next (noted_saved true s after))) (λ after. say (select_line change.numbers) (other (noted_saved true s after)))
+    ap (mark (Saved clone)) (commit-same lines.SaveCommit change.tree m
+    (λ after. say (select_line change.numbers) (next (noted_saved true s after)))
+    (λ after. say (select_line change.numbers) (other (noted_saved true s after)))
     (λ x is. ap (say (select_line change.numbers)) (f true x)))
 saved_by-same s clone m next other (Err (NoPlan stop)) f = ap (say (lines.SaveRefusedLine false)) (f false m)
 saved_by-same s clone m next other (Err sets.Full) f = ap (say (lines.SaveRefusedLine true)) (f false m)
 
 save-same : (s : Start) (clone : Option Tree) (m : RunState) (next other : RunState → Act)
-    → ((ok : Bool) (x : RunState) → next (noted_saved ok s x) ≡ other (noted_saved ok s x)) → next m ≡ other m → save s clone m next ≡ save s clone m other
+    → ((ok : Bool) (x : RunState) → next (noted_saved ok s x) ≡ other (noted_saved ok s x)) → next m ≡ other m
+    → save s clone m next ≡ save s clone m other
 save-same s None m next other f here = here
 save-same s (Some clone) m next other f here = saved_by-same s clone m next other (save_of m.version m.live clone) f
 
@@ -128,8 +151,10 @@ noted_left : (ok : Bool) (s : Start) (x : RunState) → is_done s.phase ≡ true
 noted_left ok s x e = rw e refl
 
 due-same : (b : Bool) (s : Start) (m : RunState) (next other : RunState → Act) → save_due s ≡ b
-    → ((x : RunState) → steps_left x ≡ 0 → next x ≡ other x) → next m ≡ other m → cond b (save s s.clone m next) (next m) ≡ cond b (save s s.clone m other) (other m)
-due-same true s m next other is f here = save-same s s.clone m next other (λ ok x. f (noted_saved ok s x) (noted_left ok s x (due_is_done s is))) here
+    → ((x : RunState) → steps_left x ≡ 0 → next x ≡ other x) → next m ≡ other m
+    → cond b (save s s.clone m next) (next m) ≡ cond b (save s s.clone m other) (other m)
+due-same true s m next other is f here =
+    save-same s s.clone m next other (λ ok x. f (noted_saved ok s x) (noted_left ok s x (due_is_done s is))) here
 due-same false s m next other is f here = here
 
 say_all-same : (ls : List Line) (a b : Act) → a ≡ b → say_all ls a ≡ say_all ls b
@@ -137,7 +162,8 @@ say_all-same [] a b e = e
 say_all-same (l ∷ ls) a b e = ap (say l) (say_all-same ls a b e)
 
 -- a change of phase
-phase_step-same : (s : Start) (m : RunState) (next other : RunState → Act) → m.machine.start ≡ Some s → is_done s.phase ≡ false
+phase_step-same : (s : Start) (m : RunState) (next other : RunState → Act) → m.machine.start ≡ Some s
+    → is_done s.phase ≡ false
     → ((x : RunState) → steps_left x < steps_left m → next x ≡ other x) → phase_step s m next ≡ phase_step s m other
 phase_step-same s m next other is more f =
     let set : Tree = live_set m s.number in
@@ -145,46 +171,62 @@ phase_step-same s m next other is more f =
     let there : RunState = with_machine (with_start after m.machine) m in
     let now : steps_left m ≡ steps_in set s = ap (steps_of m) is ∙ ap (λ (b : Bool). cond b 0 (steps_in set s)) more in
     let falls : cond (is_done after.phase) 0 (steps_in set after) < steps_in set s = phase_falls set s more in
-    say_all-same (map UnmetLine (unmet_in s)) _ _ (ap (say (phase_line after.phase)) (due-same (save_due after) after there next other refl (λ x e. f x (omega arith)) (f there (omega arith))))
+    say_all-same (map UnmetLine (unmet_in s)) _ _
+    (ap (say (phase_line after.phase))
+    (due-same (save_due after) after there next other refl (λ x e. f x (omega arith)) (f there (omega arith))))
 
-judged-same : (j : Judgement) (m : RunState) (next other : RunState → Act) → next m ≡ other m → judged j m next ≡ judged j m other
+judged-same : (j : Judgement) (m : RunState) (next other : RunState → Act) → next m ≡ other m
+    → judged j m next ≡ judged j m other
 judged-same Ignore m next other e = e
 judged-same Log m next other e = e
 judged-same FallBack m next other e = refl
 judged-same Stop m next other e = refl
 
 -- an attempt leaves one step fewer
-attempt_falls : (m : RunState) (s : Start) (one : MachineState × Tried) → is_done s.phase ≡ false → Attempted m.machine s one → steps_left (with_machine one.0 m) + 1 ≡ steps_in (live_set m s.number) s
+attempt_falls : (m : RunState) (s : Start) (one : MachineState × Tried) → is_done s.phase ≡ false
+    → Attempted m.machine s one → steps_left (with_machine one.0 m) + 1 ≡ steps_in (live_set m s.number) s
 attempt_falls m s one more a =
     let phase : is_done a.after.phase ≡ false = ap is_done a.phase ∙ more in
     let now : steps_left (with_machine one.0 m) ≡ steps_in (live_set m a.after.number) a.after =
-    ap (steps_of (with_machine one.0 m)) a.start ∙ ap (λ (b : Bool). cond b 0 (steps_in (live_set m a.after.number) a.after)) phase in
-    let same : later (live_set m a.after.number) a.after.phase ≡ later (live_set m s.number) s.phase = ap (λ (n : ℕ). later (live_set m n) a.after.phase) a.number ∙ ap (later (live_set m s.number)) a.phase in
+    ap (steps_of (with_machine one.0 m)) a.start
+    ∙ ap (λ (b : Bool). cond b 0 (steps_in (live_set m a.after.number) a.after)) phase in
+    let same : later (live_set m a.after.number) a.after.phase ≡ later (live_set m s.number) s.phase =
+    ap (λ (n : ℕ). later (live_set m n) a.after.phase) a.number ∙ ap (later (live_set m s.number)) a.phase in
     omega (arith, now, same, a.fewer)
 
 -- a step of the starter
-starter_step-same : (s : Start) (m : RunState) (next other : RunState → Act) (o : Option (MachineState × Tried)) → m.machine.start ≡ Some s → is_done s.phase ≡ false
-    → attempt_of m.machine (good_is_usable m.live) ≡ o → ((x : RunState) → steps_left x < steps_left m → next x ≡ other x) → starter_step s m next o ≡ starter_step s m other o
+starter_step-same : (s : Start) (m : RunState) (next other : RunState → Act) (o : Option (MachineState × Tried))
+    → m.machine.start ≡ Some s → is_done s.phase ≡ false
+    → attempt_of m.machine (good_is_usable m.live) ≡ o
+    → ((x : RunState) → steps_left x < steps_left m → next x ≡ other x)
+    → starter_step s m next o ≡ starter_step s m other o
 starter_step-same s m next other None is more tried f = phase_step-same s m next other is more f
 starter_step-same s m next other (Some one) is more tried f =
     let set : Tree = live_set m s.number in
     let now : steps_left m ≡ steps_in set s = ap (steps_of m) is ∙ ap (λ (b : Bool). cond b 0 (steps_in set s)) more in
     let falls = attempt_falls m s one more (attempted m.machine s (good_is_usable m.live) one is tried) in
-    ap (say (try_line one.1)) (judged-same one.1.judgement (with_machine one.0 m) next other (f (with_machine one.0 m) (omega (arith, now, falls))))
+    ap (say (try_line one.1))
+    (judged-same one.1.judgement (with_machine one.0 m) next other
+    (f (with_machine one.0 m) (omega (arith, now, falls))))
 
 -- ---- more steps than are left change nothing
 
-running-same : (b : Bool) (s : Start) (m : RunState) (next other : RunState → Act) → is_done s.phase ≡ b → m.machine.start ≡ Some s
+running-same : (b : Bool) (s : Start) (m : RunState) (next other : RunState → Act) → is_done s.phase ≡ b
+    → m.machine.start ≡ Some s
     → ((x : RunState) → steps_left x < steps_left m → next x ≡ other x)
-    → cond b (acts.done m) (starter_step s m next (attempt_of m.machine (good_is_usable m.live))) ≡ cond b (acts.done m) (starter_step s m other (attempt_of m.machine (good_is_usable m.live)))
+    → cond b (acts.done m) (starter_step s m next (attempt_of m.machine (good_is_usable m.live)))
+    ≡ cond b (acts.done m) (starter_step s m other (attempt_of m.machine (good_is_usable m.live)))
 running-same true s m next other e is f = refl
-running-same false s m next other e is f = starter_step-same s m next other (attempt_of m.machine (good_is_usable m.live)) is e refl f
+running-same false s m next other e is f =
+    starter_step-same s m next other (attempt_of m.machine (good_is_usable m.live)) is e refl f
 
-stepping-same : (o : Option Start) (m : RunState) (next other : RunState → Act) → m.machine.start ≡ o → ((x : RunState) → steps_left x < steps_left m → next x ≡ other x) → stepping o m next ≡ stepping o m other
+stepping-same : (o : Option Start) (m : RunState) (next other : RunState → Act) → m.machine.start ≡ o
+    → ((x : RunState) → steps_left x < steps_left m → next x ≡ other x) → stepping o m next ≡ stepping o m other
 stepping-same None m next other is f = refl
 stepping-same (Some s) m next other is f = running-same (is_done s.phase) s m next other refl is f
 
-none_left : (b : Bool) (s : Start) (m : RunState) (next : RunState → Act) → is_done s.phase ≡ b → cond b 0 (steps_in (live_set m s.number) s) ≡ 0
+none_left : (b : Bool) (s : Start) (m : RunState) (next : RunState → Act) → is_done s.phase ≡ b
+    → cond b 0 (steps_in (live_set m s.number) s) ≡ 0
     → cond b (acts.done m) (starter_step s m next (attempt_of m.machine (good_is_usable m.live))) ≡ acts.done m
 none_left true s m next e z = refl
 none_left false s m next e z = absurd (omega (arith, some_left (live_set m s.number) s.phase e))
@@ -203,7 +245,9 @@ pub go_steps-same : (n k : ℕ) (m : RunState) → steps_left m ≤ n → steps_
 unfolding go_steps
 go_steps-same zero k m a b = sym (go_steps-end k m (omega arith))
 go_steps-same (suc n) zero m a b = go_steps-end (suc n) m (omega arith)
-go_steps-same (suc n) (suc k) m a b = stepping-same m.machine.start m (go_steps n) (go_steps k) refl (λ x lt. go_steps-same n k x (omega arith) (omega arith))
+go_steps-same (suc n) (suc k) m a b =
+    stepping-same m.machine.start m (go_steps n) (go_steps k) refl
+    (λ x lt. go_steps-same n k x (omega arith) (omega arith))
 
 within : (m : RunState) (o : Option Start) → steps_of m o ≤ enough_steps o m
 within m None = omega arith

@@ -44,7 +44,8 @@ ended_in-append (Cuts ∷ a) b = ended_in-append a b
 ended_in-append (Ended o ∷ a) b = ap (λ (os : List Outcome). o ∷ os) (ended_in-append a b)
 
 -- what fits could be
-pub fits_possible : (images : List Image) (wakes : List Woken) (ps : List Possible) → Fits images wakes ps → ArePossible wakes ps
+pub fits_possible : (images : List Image) (wakes : List Woken) (ps : List Possible) → Fits images wakes ps
+    → ArePossible wakes ps
 fits_possible [] [] [] f = tt
 fits_possible [] [] (p ∷ ps) f = absurd f
 fits_possible [] (w ∷ wakes) ps f = absurd f

@@ -102,7 +102,8 @@ abbrev Left : Type 0
 Left = RunState × List Woken × List Outcome
 
 -- an event says what it says quietly, and what is left may be as before
-record PlaysQuiet (h : List Note) (act : Act) (wakes : List Woken) (outcomes : List Outcome) (more : List Possible) (left : Left) : Type 0 where
+record PlaysQuiet (h : List Note) (act : Act) (wakes : List Woken) (outcomes : List Outcome) (more : List Possible)
+    (left : Left) : Type 0 where
   lines : (play act wakes outcomes).lines ≡ (quiet_play act).lines
   state : left.0 ≡ (quiet_play act).state
   behind : List Note
@@ -125,8 +126,11 @@ the_wake p w c may =
     by_state (inl is) = is
     by_state (inr is) = let z : None ≡ Some w.state = sym c.closed ∙ is in absurd cc
 
-plays_quiet : (act : Act) (h : List Note) → Keeps certain h act → AllDone h → (wakes : List Woken) (outcomes : List Outcome) (more : List Possible) (left : Left) → (play act wakes outcomes).rest ≡ Some left
-    → ArePossible wakes (woke_in (play act wakes outcomes).notes ++ more) → AllFinished outcomes → PlaysQuiet h act wakes outcomes more left
+plays_quiet : (act : Act) (h : List Note) → Keeps certain h act → AllDone h
+    → (wakes : List Woken) (outcomes : List Outcome) (more : List Possible) (left : Left)
+    → (play act wakes outcomes).rest ≡ Some left
+    → ArePossible wakes (woke_in (play act wakes outcomes).notes ++ more) → AllFinished outcomes
+    → PlaysQuiet h act wakes outcomes more left
 plays_quiet (acts.done m) h k d wakes outcomes more left e fits all =
     let here : RunState × List Woken × List Outcome = (m, wakes, outcomes) in
     let q : here ≡ left = cc in
@@ -134,16 +138,34 @@ plays_quiet (acts.done m) h k d wakes outcomes more left e fits all =
     subst P q (record { lines = refl; state = refl; behind = h; rests = k; all = d; finished = all; possible = fits })
 plays_quiet (acts.say l act) h k d wakes outcomes more left e fits all =
     let p = plays_quiet act h k d wakes outcomes more left e fits all in
-    record { lines = ap (λ (ls : List Line). l ∷ ls) p.lines; state = p.state; behind = p.behind; rests = p.rests; all = p.all; finished = p.finished; possible = p.possible }
+    record {
+      lines = ap (λ (ls : List Line). l ∷ ls) p.lines;
+      state = p.state;
+      behind = p.behind;
+      rests = p.rests;
+      all = p.all;
+      finished = p.finished;
+      possible = p.possible;
+    }
 plays_quiet (acts.ask disk next) h k d wakes [] more left e fits all = absurd cc
 plays_quiet (acts.ask disk next) h k d wakes (Finished ∷ outcomes) more left e fits all =
-    let p = plays_quiet (next Finished) (push h (Ended Finished)) (k.1 Finished) (done_push h (Ended Finished) d tt) wakes outcomes more left e fits all in
-    record { lines = p.lines; state = p.state; behind = p.behind; rests = p.rests; all = p.all; finished = p.finished; possible = p.possible }
+    let p = plays_quiet (next Finished) (push h (Ended Finished)) (k.1 Finished) (done_push h (Ended Finished) d tt)
+    wakes outcomes more left e fits all in
+    record {
+      lines = p.lines;
+      state = p.state;
+      behind = p.behind;
+      rests = p.rests;
+      all = p.all;
+      finished = p.finished;
+      possible = p.possible;
+    }
 plays_quiet (acts.ask disk next) h k d wakes (PowerCut ∷ outcomes) more left e fits all = absurd all
 plays_quiet (acts.ask disk next) h k d wakes (DeviceFault ∷ outcomes) more left e fits all = absurd all
 plays_quiet (acts.wake disk next) h k d [] outcomes more left e fits all = absurd cc
 plays_quiet (acts.wake disk next) h k d (w ∷ wakes) outcomes more left e fits all =
-    let p = plays_quiet (next w) (push h (Woke disk)) (k.1 w) (done_push h (Woke disk) d tt) wakes outcomes more left e fits.1 all in
+    let p = plays_quiet (next w) (push h (Woke disk)) (k.1 w) (done_push h (Woke disk) d tt)
+    wakes outcomes more left e fits.1 all in
     let same : w ≡ quiet_wake disk = the_wake disk w (k.0 d) fits.0 in
     record {
       lines = p.lines ∙ ap (λ (v : Woken). (quiet_play (next v)).lines) same;
@@ -155,13 +177,27 @@ plays_quiet (acts.wake disk next) h k d (w ∷ wakes) outcomes more left e fits 
       possible = p.possible;
     }
 plays_quiet (acts.mark note act) h k d wakes outcomes more left e fits all =
-    by_note note k.0 k.1 fits (λ (one : AllDone (note ∷ [])) fits. plays_quiet act (push h note) k.1 (done_push h note d one) wakes outcomes more left e fits all)
+    by_note note k.0 k.1 fits
+    (λ (one : AllDone (note ∷ [])) fits. plays_quiet act (push h note) k.1 (done_push h note d one)
+    wakes outcomes more left e fits all)
   where
-    over : (n : Note) → PlaysQuiet (push h n) act wakes outcomes more left → PlaysQuiet h (acts.mark n act) wakes outcomes more left
-    over n p = record { lines = p.lines; state = p.state; behind = p.behind; rests = p.rests; all = p.all; finished = p.finished; possible = p.possible }
+    over : (n : Note) → PlaysQuiet (push h n) act wakes outcomes more left
+        → PlaysQuiet h (acts.mark n act) wakes outcomes more left
+    over n p = record {
+      lines = p.lines;
+      state = p.state;
+      behind = p.behind;
+      rests = p.rests;
+      all = p.all;
+      finished = p.finished;
+      possible = p.possible;
+    }
 
-    by_note : (n : Note) → IsMark n → Keeps certain (push h n) act → ArePossible wakes (woke_in (n ∷ (play act wakes outcomes).notes) ++ more)
-        → (AllDone (n ∷ []) → ArePossible wakes (woke_in (play act wakes outcomes).notes ++ more) → PlaysQuiet (push h n) act wakes outcomes more left) → PlaysQuiet h (acts.mark n act) wakes outcomes more left
+    by_note : (n : Note) → IsMark n → Keeps certain (push h n) act
+        → ArePossible wakes (woke_in (n ∷ (play act wakes outcomes).notes) ++ more)
+        → (AllDone (n ∷ []) → ArePossible wakes (woke_in (play act wakes outcomes).notes ++ more)
+        → PlaysQuiet (push h n) act wakes outcomes more left)
+        → PlaysQuiet h (acts.mark n act) wakes outcomes more left
     by_note (Woke p) mark k fits f = absurd mark
     by_note (Held t) mark k fits f = over (Held t) (f tt fits)
     by_note (Saved t) mark k fits f = over (Saved t) (f tt fits)
@@ -172,35 +208,45 @@ plays_quiet (acts.mark note act) h k d wakes outcomes more left e fits all =
 -- ---- a run
 
 -- the rest of the script behind an event: what is left over of wakes and outcomes stays
-record RunsQuiet (choice : Option ℕ → Choice) (es : List Event) (m : RunState) (wakes : List Woken) (outcomes : List Outcome) (left : Left) : Type 0 where
+record RunsQuiet (choice : Option ℕ → Choice) (es : List Event) (m : RunState) (wakes : List Woken)
+    (outcomes : List Outcome) (left : Left) : Type 0 where
   lines : (run_from choice es m wakes outcomes).lines ≡ (quiet_from choice es m).lines
   state : left.0 ≡ (quiet_from choice es m).state
 
 Behind : (Option ℕ → Choice) → List Event → Type 0
 Behind choice es =
-    (h : List Note) (m : RunState) → AtRest certain h m m.machine.start → AllDone h → (wakes : List Woken) (outcomes : List Outcome) (left : Left) → (run_from choice es m wakes outcomes).rest ≡ Some left
-    → ArePossible wakes (woke_in (run_from choice es m wakes outcomes).notes) → AllFinished outcomes → RunsQuiet choice es m wakes outcomes left
+    (h : List Note) (m : RunState) → AtRest certain h m m.machine.start → AllDone h
+    → (wakes : List Woken) (outcomes : List Outcome) (left : Left)
+    → (run_from choice es m wakes outcomes).rest ≡ Some left
+    → ArePossible wakes (woke_in (run_from choice es m wakes outcomes).notes) → AllFinished outcomes
+    → RunsQuiet choice es m wakes outcomes left
 
 record ThenQuiet (choice : Option ℕ → Choice) (es : List Event) (act : Act) (r : RunResult) (left : Left) : Type 0 where
   lines : r.lines ≡ (quiet_behind (quiet_play act).lines (quiet_from choice es (quiet_play act).state)).lines
   state : left.0 ≡ (quiet_from choice es (quiet_play act).state).state
 
-then_quiet : (choice : Option ℕ → Choice) (es : List Event) → Behind choice es → (act : Act) (h : List Note) → Keeps certain h act → AllDone h → (wakes : List Woken) (outcomes : List Outcome) (left : Left)
+then_quiet : (choice : Option ℕ → Choice) (es : List Event) → Behind choice es → (act : Act) (h : List Note)
+    → Keeps certain h act → AllDone h → (wakes : List Woken) (outcomes : List Outcome) (left : Left)
     → (rest : Option (RunState × List Woken × List Outcome)) → (play act wakes outcomes).rest ≡ rest
     → (then_run (run_from choice es) (play act wakes outcomes) rest).rest ≡ Some left
-    → ArePossible wakes (woke_in (then_run (run_from choice es) (play act wakes outcomes) rest).notes) → AllFinished outcomes
+    → ArePossible wakes (woke_in (then_run (run_from choice es) (play act wakes outcomes) rest).notes)
+    → AllFinished outcomes
     → ThenQuiet choice es act (then_run (run_from choice es) (play act wakes outcomes) rest) left
 unfolding Behind
-then_quiet choice es more act h k d wakes outcomes left None e some fits all = let z : None ≡ Some left = sym e ∙ some in absurd cc
+then_quiet choice es more act h k d wakes outcomes left None e some fits all = let z : None ≡ Some left =
+    sym e ∙ some in absurd cc
 then_quiet choice es more act h k d wakes outcomes left (Some (m, ws, os)) e some fits all =
     let first : RunResult = play act wakes outcomes in
     let later : RunResult = run_from choice es m ws os in
     let P : List Possible → Type 0 = ArePossible wakes in
-    let split : ArePossible wakes (woke_in first.notes ++ woke_in later.notes) = subst P (woke_in-append first.notes later.notes) fits in
+    let split : ArePossible wakes (woke_in first.notes ++ woke_in later.notes) =
+    subst P (woke_in-append first.notes later.notes) fits in
     let p = plays_quiet act h k d wakes outcomes (woke_in later.notes) (m, ws, os) e split all in
     let q = more p.behind m p.rests p.all ws os left some p.possible p.finished in
     record {
-      lines = ap (λ (ls : List Line). ls ++ later.lines) p.lines ∙ ap (λ (ls : List Line). (quiet_play act).lines ++ ls) (q.lines ∙ ap (λ (x : RunState). (quiet_from choice es x).lines) p.state);
+      lines = ap (λ (ls : List Line). ls ++ later.lines) p.lines
+          ∙ ap (λ (ls : List Line). (quiet_play act).lines ++ ls)
+          (q.lines ∙ ap (λ (x : RunState). (quiet_from choice es x).lines) p.state);
       state = q.state ∙ ap (λ (x : RunState). (quiet_from choice es x).state) p.state;
     }
 
@@ -210,22 +256,28 @@ possible_nil wakes ps fits = let P : List Possible → Type 0 = ArePossible wake
 run_from-quiet : (choice : Option ℕ → Choice) (es : List Event) → Behind choice es
 unfolding Behind
 run_from-quiet choice [] h m r d wakes outcomes left some fits all =
-    let p = plays_quiet (closing_act m) h (closing-keeps certain h m r) d wakes outcomes (woke_in []) left some (possible_nil wakes _ fits) all in
+    let p = plays_quiet (closing_act m) h (closing-keeps certain h m r) d wakes outcomes (woke_in []) left some
+    (possible_nil wakes _ fits) all in
     record { lines = p.lines; state = p.state }
 run_from-quiet choice (e ∷ es) h m r d wakes outcomes left some fits all =
     let act : Act = event_step_of choice e m in
-    let t = then_quiet choice es (run_from-quiet choice es) act h (event_step_of-keeps certain choice e h m r) d wakes outcomes left (play act wakes outcomes).rest refl some fits all in
+    let t = then_quiet choice es (run_from-quiet choice es) act h (event_step_of-keeps certain choice e h m r)
+    d wakes outcomes left (play act wakes outcomes).rest refl some fits all in
     record { lines = t.lines; state = t.state }
 
-pub record IsQuiet (choice : Option ℕ → Choice) (script : List Event) (placed : Woken) (r : RunResult) (last : RunState) : Type 0 where
+pub record IsQuiet (choice : Option ℕ → Choice) (script : List Event) (placed : Woken) (r : RunResult)
+    (last : RunState) : Type 0 where
   pub lines : r.lines ≡ (quiet_run_of choice script placed).lines
   pub state : last ≡ (quiet_run_of choice script placed).state
 
-pub run_of-quiet : (choice : Option ℕ → Choice) (script : List Event) (placed : Woken) (wakes : List Woken) (outcomes : List Outcome) (last : RunState) (ws : List Woken) (os : List Outcome)
-    → (run_of choice script placed wakes outcomes).rest ≡ Some (last, ws, os) → ArePossible wakes (woke_in (run_of choice script placed wakes outcomes).notes) → AllFinished outcomes
+pub run_of-quiet : (choice : Option ℕ → Choice) (script : List Event) (placed : Woken) (wakes : List Woken)
+    (outcomes : List Outcome) (last : RunState) (ws : List Woken) (os : List Outcome)
+    → (run_of choice script placed wakes outcomes).rest ≡ Some (last, ws, os)
+    → ArePossible wakes (woke_in (run_of choice script placed wakes outcomes).notes) → AllFinished outcomes
     → IsQuiet choice script placed (run_of choice script placed wakes outcomes) last
 unfolding run_of quiet_run_of Behind
 run_of-quiet choice script placed wakes outcomes last ws os some fits all =
     let first : IsCertain (first_state placed).disk = record { closed = refl; dirty = placed.dirty; known = refl } in
-    let q = run_from-quiet choice script [] (first_state placed) (λ d. first) tt wakes outcomes (last, ws, os) some fits all in
+    let q = run_from-quiet choice script [] (first_state placed) (λ d. first) tt wakes outcomes (last, ws, os)
+    some fits all in
     record { lines = q.lines; state = q.state }

@@ -57,9 +57,11 @@ pub record MayLoadClosed (c : Image) (h : List Note) (m : RunState) : Type 0 whe
   pub closed : m.disk.other ≡ None
   pub may : Until (λ p. MayLoad p c) h m.disk
 
-pub opens : (before after : HiveState) (p : Possible) (c : Image) → p.settled ≡ before → p.other ≡ None → MayLoad p c → MayLoad (open_between before after) c
+pub opens : (before after : HiveState) (p : Possible) (c : Image) → p.settled ≡ before → p.other ≡ None → MayLoad p c
+    → MayLoad (open_between before after) c
 opens before after p c is none may =
-    let Other : p.other ≡ Some may.woken.state → may.woken.state ≡ p.settled = λ e. let z : None ≡ Some may.woken.state = sym none ∙ e in absurd cc in
+    let Other : p.other ≡ Some may.woken.state → may.woken.state ≡ p.settled =
+    λ e. let z : None ≡ Some may.woken.state = sym none ∙ e in absurd cc in
     let state : may.woken.state ≡ p.settled = ⊎_elim (λ e. e) Other may.possible.state in
     record { woken = may.woken; loads = may.loads; possible = record { state = inl (state ∙ is); dirty = tt } }
 
@@ -78,16 +80,22 @@ may_load c = record {
   cutting = λ h m u s. u.may (still_before h Cuts s);
   cut = λ h m o u s. absurd (not_ended (push h Cuts) o s);
   committing = λ h m tree u s. opens m.disk.settled (acts.next_state m tree) m.disk c refl u.closed (u.may s);
-  commits = λ h m tree u. record { closed = refl; may = λ s. absurd (not_ended h possible_words.Finished (still_before (push h (Ended possible_words.Finished)) (Held tree) s)) };
+  commits = λ h m tree u. record {
+    closed = refl;
+    may = λ s. absurd
+        (not_ended h possible_words.Finished (still_before (push h (Ended possible_words.Finished)) (Held tree) s));
+  };
   opens = λ h m tree o stop u s. absurd (not_ended h o s);
   waking = λ h m d. d;
   loading = λ h m w d s. absurd (not_woken h m.disk w s);
-  loads = λ h m w d. record { closed = refl; may = λ s. absurd (not_ended (with_wake h m.disk w) possible_words.Finished s) };
+  loads = λ h m w d. record
+      { closed = refl; may = λ s. absurd (not_ended (with_wake h m.disk w) possible_words.Finished s) };
   stops = λ h m w o stop d s. absurd (not_ended (with_wake h m.disk w) o s);
 }
 
 -- by a state in which no start runs, or nothing is open
-pub may_rest : (c : Image) (h : List Note) (m : RunState) (o : Option Start) → IfSome o (λ s. m.disk.other ≡ None) → MayLoad m.disk c → AtRest (may_load c) h m o
+pub may_rest : (c : Image) (h : List Note) (m : RunState) (o : Option Start) → IfSome o (λ s. m.disk.other ≡ None)
+    → MayLoad m.disk c → AtRest (may_load c) h m o
 may_rest c h m None closed may = λ s. may
 may_rest c h m (Some start) closed may = record { closed = closed; may = λ s. may }
 
@@ -101,16 +109,24 @@ record NothingLeft (r : RunResult) (m : RunState) (ws : List Woken) (os : List O
 abbrev Left : Type 0
 Left = RunState × List Woken × List Outcome
 
-play-left : (act : Act) (m : RunState) (ws : List Woken) (os : List Outcome) → (play act [] []).rest ≡ Some (m, ws, os) → NothingLeft (play act [] []) m ws os
+play-left : (act : Act) (m : RunState) (ws : List Woken) (os : List Outcome) → (play act [] []).rest ≡ Some (m, ws, os)
+    → NothingLeft (play act [] []) m ws os
 play-left (acts.done n) m ws os e =
     let here : RunState × List Woken × List Outcome = (n, [], []) in
     let there : RunState × List Woken × List Outcome = (m, ws, os) in
     let q : here ≡ there = cc in
-    record { wakes = sym (ap (λ (t : RunState × List Woken × List Outcome). t.1) q); outcomes = sym (ap (λ (t : RunState × List Woken × List Outcome). t.2) q); disk = ap (λ (t : RunState × List Woken × List Outcome). t.0.disk) q }
-play-left (acts.say l act) m ws os e = let p = play-left act m ws os e in record { wakes = p.wakes; outcomes = p.outcomes; disk = p.disk }
+    record {
+      wakes = sym (ap (λ (t : RunState × List Woken × List Outcome). t.1) q);
+      outcomes = sym (ap (λ (t : RunState × List Woken × List Outcome). t.2) q);
+      disk =
+          ap (λ (t : RunState × List Woken × List Outcome). t.0.disk) q;
+    }
+play-left (acts.say l act) m ws os e = let p = play-left act m ws os e in
+    record { wakes = p.wakes; outcomes = p.outcomes; disk = p.disk }
 play-left (acts.ask disk next) m ws os e = absurd cc
 play-left (acts.wake disk next) m ws os e = absurd cc
-play-left (acts.mark note act) m ws os e = let p = play-left act m ws os e in record { wakes = p.wakes; outcomes = p.outcomes; disk = p.disk }
+play-left (acts.mark note act) m ws os e = let p = play-left act m ws os e in
+    record { wakes = p.wakes; outcomes = p.outcomes; disk = p.disk }
 
 play-still : (law : Law) (act : Act) (h : List Note) → Keeps law h act → IsStill (play act [] []).notes
 play-still law (acts.done m) h k = tt
@@ -128,7 +144,8 @@ play-still law (acts.mark note act) h k = by_note note k.0 (play-still law act (
     by_note (Ended o) mark s = mark
 
 -- the fact of a state that was come to, without the notes
-rest_may : (c : Image) (h : List Note) (m : RunState) (o : Option Start) → IsStill h → AtRest (may_load c) h m o → IfSome o (λ s. m.disk.other ≡ None) × MayLoad m.disk c
+rest_may : (c : Image) (h : List Note) (m : RunState) (o : Option Start) → IsStill h → AtRest (may_load c) h m o
+    → IfSome o (λ s. m.disk.other ≡ None) × MayLoad m.disk c
 rest_may c h m None s r = (tt, r s)
 rest_may c h m (Some start) s r = (r.closed, r.may s)
 
@@ -150,16 +167,19 @@ act-may c act k = by_rest (play act [] []).rest refl
     by_rest None e = waits_may c (play act [] []).notes (play act [] []).disk s (a.out e)
     by_rest (Some (m, ws, os)) e =
         let P : Possible → Type 0 = λ p. MayLoad p c in
-        subst P (sym (play-disk act [] [] m ws os e)) (rest_may c (play act [] []).notes m m.machine.start s (a.rest m ws os e)).1
+        subst P (sym (play-disk act [] [] m ws os e))
+        (rest_may c (play act [] []).notes m m.machine.start s (a.rest m ws os e)).1
 
 -- whatever is done next from a state in which nothing is open
-pub next-may : (c : Image) (next : RunState → Act) → Next (may_load c) next → (m : RunState) → m.disk.other ≡ None → MayLoad m.disk c → MayLoad (play (next m) [] []).disk c
+pub next-may : (c : Image) (next : RunState → Act) → Next (may_load c) next → (m : RunState) → m.disk.other ≡ None
+    → MayLoad m.disk c → MayLoad (play (next m) [] []).disk c
 next-may c next f m none may = act-may c (next m) (f [] m (record { closed = none; may = λ s. may }))
 
 abbrev Stays : Image → (RunState → List Woken → List Outcome → RunResult) → Type 0
 Stays c go = (m : RunState) → IsClosed m → MayLoad m.disk c → MayLoad (go m [] []).disk c
 
-then-may : (c : Image) (go : RunState → List Woken → List Outcome → RunResult) → Stays c go → (act : Act) → Keeps (may_load c) [] act
+then-may : (c : Image) (go : RunState → List Woken → List Outcome → RunResult) → Stays c go → (act : Act)
+    → Keeps (may_load c) [] act
     → (rest : Option Left) → (play act [] []).rest ≡ rest → MayLoad (then_run go (play act [] []) rest).disk c
 then-may c go more act k None e = act-may c act k
 then-may c go more act k (Some (m, ws, os)) e =
@@ -171,10 +191,13 @@ then-may c go more act k (Some (m, ws, os)) e =
     subst W (sym p.wakes) (subst O (sym p.outcomes) (more m q.0 q.1))
 
 pub run-may : (c : Image) (choice : Option ℕ → Choice) (es : List Event) → Stays c (run_from choice es)
-run-may c choice [] m closed may = act-may c (closing_act m) (closing-keeps (may_load c) [] m (may_rest c [] m m.machine.start closed may))
+run-may c choice [] m closed may =
+    act-may c (closing_act m) (closing-keeps (may_load c) [] m (may_rest c [] m m.machine.start closed may))
 run-may c choice (e ∷ es) m closed may =
     let act : Act = event_step_of choice e m in
-    then-may c (run_from choice es) (run-may c choice es) act (event_step_of-keeps (may_load c) choice e [] m (may_rest c [] m m.machine.start closed may)) (play act [] []).rest refl
+    then-may c (run_from choice es) (run-may c choice es) act
+    (event_step_of-keeps (may_load c) choice e [] m (may_rest c [] m m.machine.start closed may))
+    (play act [] []).rest refl
 
 -- ---- where a start runs, nothing is open
 
@@ -201,23 +224,28 @@ closed = record {
   stops = λ h m w o stop d. tt;
 }
 
-closed_rest : (h : List Note) (m : RunState) (o : Option Start) → IfSome o (λ s. m.disk.other ≡ None) → AtRest closed h m o
+closed_rest : (h : List Note) (m : RunState) (o : Option Start) → IfSome o (λ s. m.disk.other ≡ None)
+    → AtRest closed h m o
 closed_rest h m None c = tt
 closed_rest h m (Some s) c = c
 
-rest_closed : (h : List Note) (m : RunState) (o : Option Start) → AtRest closed h m o → IfSome o (λ s. m.disk.other ≡ None)
+rest_closed : (h : List Note) (m : RunState) (o : Option Start) → AtRest closed h m o
+    → IfSome o (λ s. m.disk.other ≡ None)
 rest_closed h m None r = tt
 rest_closed h m (Some s) r = r
 
-pub event-closed : (choice : Option ℕ → Choice) (e : Event) (m : RunState) → IsClosed m → (wakes : List Woken) (outcomes : List Outcome) (n : RunState) (ws : List Woken) (os : List Outcome)
+pub event-closed : (choice : Option ℕ → Choice) (e : Event) (m : RunState) → IsClosed m
+    → (wakes : List Woken) (outcomes : List Outcome) (n : RunState) (ws : List Woken) (os : List Outcome)
     → (play (event_step_of choice e m) wakes outcomes).rest ≡ Some (n, ws, os) → IsClosed n
 event-closed choice e m c wakes outcomes n ws os is =
     let act : Act = event_step_of choice e m in
     let r : RunResult = play act wakes outcomes in
-    let a = play-along closed act [] (event_step_of-keeps closed choice e [] m (closed_rest [] m m.machine.start c)) wakes outcomes in
+    let a = play-along closed act [] (event_step_of-keeps closed choice e [] m (closed_rest [] m m.machine.start c))
+    wakes outcomes in
     rest_closed r.notes n n.machine.start (a.rest n ws os is)
 
-pub run-closed : (choice : Option ℕ → Choice) (es : List Event) (m : RunState) → IsClosed m → (wakes : List Woken) (outcomes : List Outcome) (n : RunState) (ws : List Woken) (os : List Outcome)
+pub run-closed : (choice : Option ℕ → Choice) (es : List Event) (m : RunState) → IsClosed m
+    → (wakes : List Woken) (outcomes : List Outcome) (n : RunState) (ws : List Woken) (os : List Outcome)
     → (run_from choice es m wakes outcomes).rest ≡ Some (n, ws, os) → IsClosed n
 run-closed choice es m c wakes outcomes n ws os is =
     let a = run_from-along closed choice es [] m (closed_rest [] m m.machine.start c) wakes outcomes in
@@ -240,7 +268,8 @@ expects d = record {
   cutting = λ h m u. tt;
   cut = λ h m o u s. absurd (not_ended (push h Cuts) o s);
   committing = λ h m tree u. tt;
-  commits = λ h m tree u s. absurd (not_ended h possible_words.Finished (still_before (push h (Ended possible_words.Finished)) (Held tree) s));
+  commits = λ h m tree u s. absurd
+      (not_ended h possible_words.Finished (still_before (push h (Ended possible_words.Finished)) (Held tree) s));
   opens = λ h m tree o stop u s. absurd (not_ended h o s);
   waking = λ h m d. d;
   loading = λ h m w d. tt;
@@ -253,7 +282,8 @@ expects_rest h m None = λ s. refl
 expects_rest h m (Some start) = λ s. refl
 
 -- the next wake of a run expects what the disk may load as now
-pub run-expects : (choice : Option ℕ → Choice) (es : List Event) (m : RunState) (wakes : List Woken) (outcomes : List Outcome) (before after : List Note) (p : Possible)
+pub run-expects : (choice : Option ℕ → Choice) (es : List Event) (m : RunState) (wakes : List Woken)
+    (outcomes : List Outcome) (before after : List Note) (p : Possible)
     → (run_from choice es m wakes outcomes).notes ≡ before ++ Woke p ∷ after → IsStill before → p ≡ m.disk
 run-expects choice es m wakes outcomes before after p is s =
     let law : Law = expects m.disk in

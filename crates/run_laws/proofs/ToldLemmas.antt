@@ -28,7 +28,8 @@ held-push t (Ordered arming ∷ h) n = held-push t h n
 held-push t (Cuts ∷ h) n = held-push t h n
 held-push t (Ended o ∷ h) n = held-push t h n
 
-pub stopped-push : (b : Bool) (h : List Note) (n : Note) → stopped_last b (push h n) ≡ stopped_last (stopped_last b h) (n ∷ [])
+pub stopped-push : (b : Bool) (h : List Note) (n : Note)
+    → stopped_last b (push h n) ≡ stopped_last (stopped_last b h) (n ∷ [])
 stopped-push b [] n = refl
 stopped-push b (Woke p ∷ h) n = stopped-push b h n
 stopped-push b (Held u ∷ h) n = stopped-push b h n
@@ -61,7 +62,9 @@ pub record IsToldClosed (first : Tree) (h : List Note) (p : Possible) : Type 0 w
   pub closed : p.other ≡ None
 
 -- a note that holds no tree and ends no operation
-pub same_told : (first : Tree) (h : List Note) (n : Note) (p : Possible) → last_held (last_held first h) (n ∷ []) ≡ last_held first h → stopped_last (stopped_last false h) (n ∷ []) ≡ stopped_last false h → IsTold first h p → IsTold first (push h n) p
+pub same_told : (first : Tree) (h : List Note) (n : Note) (p : Possible)
+    → last_held (last_held first h) (n ∷ []) ≡ last_held first h
+    → stopped_last (stopped_last false h) (n ∷ []) ≡ stopped_last false h → IsTold first h p → IsTold first (push h n) p
 same_told first h n p held stopped t =
     let again : stopped_last false (push h n) ≡ stopped_last false h = stopped-push false h n ∙ stopped in
     record { held = t.held ∙ sym (held-push first h n ∙ held); by_stop = by_case again t.by_stop }
@@ -70,13 +73,17 @@ same_told first h n p held stopped t =
     by_case again (inl none) = inl none
     by_case again (inr stop) = inr (again ∙ stop)
 
-pub same_closed : (first : Tree) (h : List Note) (n : Note) (p : Possible) → last_held (last_held first h) (n ∷ []) ≡ last_held first h → IsToldClosed first h p → IsToldClosed first (push h n) p
+pub same_closed : (first : Tree) (h : List Note) (n : Note) (p : Possible)
+    → last_held (last_held first h) (n ∷ []) ≡ last_held first h → IsToldClosed first h p
+    → IsToldClosed first (push h n) p
 same_closed first h n p held t = record { held = t.held ∙ sym (held-push first h n ∙ held); closed = t.closed }
 
-pub told_woken : (first : Tree) (h : List Note) (disk : Possible) (w : Woken) → last_held first (with_wake h disk w) ≡ w.state.tree
+pub told_woken : (first : Tree) (h : List Note) (disk : Possible) (w : Woken)
+    → last_held first (with_wake h disk w) ≡ w.state.tree
 told_woken first h disk w = held-push first (push h (Woke disk)) (Held w.state.tree)
 
-pub told_opened : (first : Tree) (h : List Note) (m : RunState) (tree : Tree) (o : Outcome) → IsStop o → IsToldClosed first h m.disk → IsTold first (push h (Ended o)) (commit_book.opened_state m tree).disk
+pub told_opened : (first : Tree) (h : List Note) (m : RunState) (tree : Tree) (o : Outcome) → IsStop o
+    → IsToldClosed first h m.disk → IsTold first (push h (Ended o)) (commit_book.opened_state m tree).disk
 told_opened first h m tree o stop t = record {
   held = t.held ∙ sym (held-push first h (Ended o));
   by_stop = inr (stopped-push false h (Ended o) ∙ stop_is o stop);
@@ -103,14 +110,21 @@ told first = record {
   opens = λ h m tree o stop u. told_opened first h m tree o stop u;
   waking = λ h m d. d;
   loading = λ h m w d. sym (told_woken first h m.disk w);
-  loads = λ h m w d. record { held = sym (held-push first (with_wake h m.disk w) (Ended Finished) ∙ told_woken first h m.disk w); closed = refl };
-  stops = λ h m w o stop d. record { held = sym (held-push first (with_wake h m.disk w) (Ended o) ∙ told_woken first h m.disk w); by_stop = inl refl };
+  loads = λ h m w d. record {
+    held = sym (held-push first (with_wake h m.disk w) (Ended Finished) ∙ told_woken first h m.disk w);
+    closed = refl;
+  };
+  stops = λ h m w o stop d. record {
+    held = sym (held-push first (with_wake h m.disk w) (Ended o) ∙ told_woken first h m.disk w);
+    by_stop = inl refl;
+  };
 }
 
 told_first : (placed : Woken) → AtRest (told placed.state.tree) [] (first_state placed) None
 told_first placed = record { held = refl; by_stop = inl refl }
 
-pub run-told : (choice : Option ℕ → Choice) (script : List Event) (placed : Woken) (wakes : List Woken) (outcomes : List Outcome) (before after : List Note) (p : Possible)
+pub run-told : (choice : Option ℕ → Choice) (script : List Event) (placed : Woken) (wakes : List Woken)
+    (outcomes : List Outcome) (before after : List Note) (p : Possible)
     → (run_of choice script placed wakes outcomes).notes ≡ before ++ Woke p ∷ after → IsTold placed.state.tree before p
 unfolding run_of
 run-told choice script placed wakes outcomes before after p is =
@@ -121,19 +135,26 @@ run-told choice script placed wakes outcomes before after p is =
 -- ---- what the disk may load as in the end
 
 -- where a run goes on, the disk is that of the state
-pub run-disk : (choice : Option ℕ → Choice) (es : List Event) (m : RunState) (wakes : List Woken) (outcomes : List Outcome) (n : RunState) (ws : List Woken) (os : List Outcome)
-    → (run_from choice es m wakes outcomes).rest ≡ Some (n, ws, os) → (run_from choice es m wakes outcomes).disk ≡ n.disk
+pub run-disk : (choice : Option ℕ → Choice) (es : List Event) (m : RunState) (wakes : List Woken)
+    (outcomes : List Outcome) (n : RunState) (ws : List Woken) (os : List Outcome)
+    → (run_from choice es m wakes outcomes).rest ≡ Some (n, ws, os)
+    → (run_from choice es m wakes outcomes).disk ≡ n.disk
 run-disk choice [] m wakes outcomes n ws os is = play-disk (closing_act m) wakes outcomes n ws os is
 run-disk choice (e ∷ es) m wakes outcomes n ws os is =
-    by_rest (play (event_step_of choice e m) wakes outcomes) (run-disk choice es) (play (event_step_of choice e m) wakes outcomes).rest refl is
+    by_rest (play (event_step_of choice e m) wakes outcomes) (run-disk choice es)
+    (play (event_step_of choice e m) wakes outcomes).rest refl is
   where
     by_rest : (first : RunResult)
-        → ((x : RunState) (w : List Woken) (o : List Outcome) (y : RunState) (u : List Woken) (v : List Outcome) → (run_from choice es x w o).rest ≡ Some (y, u, v) → (run_from choice es x w o).disk ≡ y.disk)
-        → (rest : Option (RunState × List Woken × List Outcome)) → first.rest ≡ rest → (then_run (run_from choice es) first rest).rest ≡ Some (n, ws, os) → (then_run (run_from choice es) first rest).disk ≡ n.disk
+        → ((x : RunState) (w : List Woken) (o : List Outcome) (y : RunState) (u : List Woken) (v : List Outcome)
+        → (run_from choice es x w o).rest ≡ Some (y, u, v) → (run_from choice es x w o).disk ≡ y.disk)
+        → (rest : Option (RunState × List Woken × List Outcome)) → first.rest ≡ rest
+        → (then_run (run_from choice es) first rest).rest ≡ Some (n, ws, os)
+        → (then_run (run_from choice es) first rest).disk ≡ n.disk
     by_rest first more None e is = let z : None ≡ Some (n, ws, os) = sym e ∙ is in absurd cc
     by_rest first more (Some (x, u, v)) e is = more x u v n ws os is
 
-rest_held : (first : Tree) (h : List Note) (m : RunState) (o : Option Start) → AtRest (told first) h m o → IsHeld first h m.disk
+rest_held : (first : Tree) (h : List Note) (m : RunState) (o : Option Start) → AtRest (told first) h m o
+    → IsHeld first h m.disk
 rest_held first h m None t = t.held
 rest_held first h m (Some s) t = t.held
 
@@ -141,18 +162,24 @@ waits_held : (first : Tree) (h : List Note) (p : Possible) → Waits (told first
 waits_held first h p (inl held) = held
 waits_held first h p (inr t) = t.held
 
-pub run-held : (choice : Option ℕ → Choice) (script : List Event) (placed : Woken) (wakes : List Woken) (outcomes : List Outcome)
-    → IsHeld placed.state.tree (run_of choice script placed wakes outcomes).notes (run_of choice script placed wakes outcomes).disk
+pub run-held : (choice : Option ℕ → Choice) (script : List Event) (placed : Woken) (wakes : List Woken)
+    (outcomes : List Outcome)
+    → IsHeld placed.state.tree (run_of choice script placed wakes outcomes).notes
+    (run_of choice script placed wakes outcomes).disk
 unfolding run_of
 run-held choice script placed wakes outcomes = by_rest (run_of choice script placed wakes outcomes).rest refl
   where
     a : Along (told placed.state.tree) [] (run_from choice script (first_state placed) wakes outcomes)
     a = run_from-along (told placed.state.tree) choice script [] (first_state placed) (told_first placed) wakes outcomes
 
-    by_rest : (rest : Option (RunState × List Woken × List Outcome)) → (run_from choice script (first_state placed) wakes outcomes).rest ≡ rest
-        → IsHeld placed.state.tree (run_from choice script (first_state placed) wakes outcomes).notes (run_from choice script (first_state placed) wakes outcomes).disk
+    by_rest : (rest : Option (RunState × List Woken × List Outcome))
+        → (run_from choice script (first_state placed) wakes outcomes).rest ≡ rest
+        → IsHeld placed.state.tree (run_from choice script (first_state placed) wakes outcomes).notes
+        (run_from choice script (first_state placed) wakes outcomes).disk
     by_rest None e = waits_held placed.state.tree _ _ (a.out e)
     by_rest (Some (m, ws, os)) e =
-        let P : Possible → Type 0 = IsHeld placed.state.tree (run_from choice script (first_state placed) wakes outcomes).notes in
+        let P : Possible → Type 0 =
+        IsHeld placed.state.tree (run_from choice script (first_state placed) wakes outcomes).notes in
         subst P (sym (run-disk choice script (first_state placed) wakes outcomes m ws os e))
-        (rest_held placed.state.tree (run_from choice script (first_state placed) wakes outcomes).notes m m.machine.start (a.rest m ws os e))
+        (rest_held placed.state.tree
+        (run_from choice script (first_state placed) wakes outcomes).notes m m.machine.start (a.rest m ws os e))

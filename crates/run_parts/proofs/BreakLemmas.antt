@@ -36,7 +36,8 @@ front_or_all (c ∷ b) (y ∷ f) r x e =
     let h : c ≡ y = cc in
     let Q : Type 0 = (r ≡ []) ⊎ ((g : List ℕ) × (c ∷ b ≡ (y ∷ f) ++ g)) in
     let Left : r ≡ [] → Q = λ q. inl q in
-    let Right : ((g : List ℕ) × (b ≡ f ++ g)) → Q = λ q. inr (q.0, ap (λ (z : ℕ). z ∷ b) h ∙ ap (λ (t : List ℕ). y ∷ t) q.1) in
+    let Right : ((g : List ℕ) × (b ≡ f ++ g)) → Q =
+    λ q. inr (q.0, ap (λ (z : ℕ). z ∷ b) h ∙ ap (λ (t : List ℕ). y ∷ t) q.1) in
     ⊎_elim Left Right (front_or_all b f r x t)
 
 -- a front of a line that was cut off before its LF
@@ -49,15 +50,18 @@ pub record IsCutOff (text x y : List ℕ) : Type 0 where
 no_lf-front : (a b t : List ℕ) → t ≡ a ++ b → HasNoLineFeed t → HasNoLineFeed a
 no_lf-front a b t e h =
     let all : list_all (λ c. not (c == 10)) (a ++ b) ≡ true = sym (ap (list_all (λ c. not (c == 10))) e) ∙ h in
-    (both (list_all (λ c. not (c == 10)) a) (list_all (λ c. not (c == 10)) b) (sym (list_all-append (λ c. not (c == 10)) a b) ∙ all)).0
+    (both (list_all (λ c. not (c == 10)) a) (list_all (λ c. not (c == 10)) b)
+    (sym (list_all-append (λ c. not (c == 10)) a b) ∙ all)).0
 
 -- of a line a front was said: all of it, or a part without its LF
-pub whole_or_cut_off : (l : Line) (x y : List ℕ) → SaysFront x y (line_text l) → (y ≡ x ++ line_text l) ⊎ IsCutOff (line_text l) x y
+pub whole_or_cut_off : (l : Line) (x y : List ℕ) → SaysFront x y (line_text l)
+    → (y ≡ x ++ line_text l) ⊎ IsCutOff (line_text l) x y
 whole_or_cut_off l x y f =
     let e : body l ++ 10 ∷ [] ≡ f.front ++ f.rest = sym (text-body l) ∙ f.cut in
     let Q : Type 0 = (y ≡ x ++ line_text l) ⊎ IsCutOff (line_text l) x y in
     let All : f.rest ≡ [] → Q = λ q.
-    inl (f.said ∙ ap (λ (t : List ℕ). x ++ t) (sym (f.cut ∙ ap (λ (t : List ℕ). f.front ++ t) q ∙ append-nil f.front))) in
+    inl (f.said ∙ ap (λ (t : List ℕ). x ++ t)
+    (sym (f.cut ∙ ap (λ (t : List ℕ). f.front ++ t) q ∙ append-nil f.front))) in
     let Some : ((g : List ℕ) × (body l ≡ f.front ++ g)) → Q = λ q.
     inr (record {
       part = f.front;
@@ -77,7 +81,8 @@ tells-line : (l : Line) (x : Told) → Tells x (told_with l x) (l ∷ [])
 tells-line l x = record { said = ap (λ (t : List ℕ). x.said ++ t) (sym (append-nil (line_text l))); summary = refl }
 
 -- nothing of it was said
-pub breaks-silent : (a : Act) (x : Told) (d e : DiskState) → Still d e → EachCrash e (MayLoad (play a [] []).disk) → Breaks a x x.said d e
+pub breaks-silent : (a : Act) (x : Told) (d e : DiskState) → Still d e → EachCrash e (MayLoad (play a [] []).disk)
+    → Breaks a x x.said d e
 breaks-silent a x d e s left =
     record {
       rest = a;
@@ -92,7 +97,8 @@ breaks-silent a x d e s left =
     }
 
 -- behind a part that was played
-pub breaks-then : (a b : Act) (x y : Told) (z : List ℕ) (d e f : DiskState) → Goes (play a) (play b) x y d e → Breaks b y z e f → Breaks a x z d f
+pub breaks-then : (a b : Act) (x y : Told) (z : List ℕ) (d e f : DiskState) → Goes (play a) (play b) x y d e
+    → Breaks b y z e f → Breaks a x z d f
 breaks-then a b x y z d e f p q =
     record {
       rest = q.rest;
@@ -107,13 +113,15 @@ breaks-then a b x y z d e f p q =
     }
 
 -- a line that tells no outcome
-pub breaks-line : (l : Line) (r : Act) (x : Told) (y : List ℕ) (d e : DiskState) → Still d e → outcomes_in (l ∷ []) ≡ [] → SaysFront x.said y (line_text l)
+pub breaks-line : (l : Line) (r : Act) (x : Told) (y : List ℕ) (d e : DiskState) → Still d e → outcomes_in (l ∷ []) ≡ []
+    → SaysFront x.said y (line_text l)
     → EachCrash e (MayLoad (play r [] []).disk) → Breaks (say l r) x y d e
 breaks-line l r x y d e s none f left =
     let m : Told = told_with l x in
     let P : List ℕ → Type 0 = λ t. Breaks (say l r) x t d e in
     let whole : Breaks (say l r) x m.said d e =
-    breaks-then (say l r) r x m m.said d e e (goes-line l r x m d e s none (tells-line l x)) (breaks-silent r m e e (still e) left) in
+    breaks-then (say l r) r x m m.said d e e (goes-line l r x m d e s none (tells-line l x))
+    (breaks-silent r m e e (still e) left) in
     let Whole : y ≡ x.said ++ line_text l → Breaks (say l r) x y d e = λ q. subst P (sym q) whole in
     let Part : IsCutOff (line_text l) x.said y → Breaks (say l r) x y d e = λ q.
     record {
@@ -135,14 +143,17 @@ breaks-line l r x y d e s none f left =
     ⊎_elim Whole Part (whole_or_cut_off l x.said y f)
 
 -- an operation of the disk, and the line that tells its outcome
-pub breaks-told : (disk : Possible) (next : Outcome → Act) (l : Line) (u : Outcome) (r : Act) (x : Told) (y : List ℕ) (d e : DiskState)
-    → Still d e → HasCause u (since_wake d) (tally_now e) → outcomes_in (l ∷ []) ≡ u ∷ [] → next u ≡ say l r → SaysFront x.said y (line_text l)
+pub breaks-told : (disk : Possible) (next : Outcome → Act) (l : Line) (u : Outcome) (r : Act) (x : Told) (y : List ℕ)
+    (d e : DiskState)
+    → Still d e → HasCause u (since_wake d) (tally_now e) → outcomes_in (l ∷ []) ≡ u ∷ [] → next u ≡ say l r
+    → SaysFront x.said y (line_text l)
     → EachCrash e (MayLoad disk) → EachCrash e (MayLoad (play r [] []).disk) → Breaks (ask disk next) x y d e
 breaks-told disk next l u r x y d e s cause told is f opened left =
     let m : Told = told_with l x in
     let P : List ℕ → Type 0 = λ t. Breaks (ask disk next) x t d e in
     let whole : Breaks (ask disk next) x m.said d e =
-    breaks-then (ask disk next) r x m m.said d e e (goes-told disk next l u r x m d e s cause told is (tells-line l x)) (breaks-silent r m e e (still e) left) in
+    breaks-then (ask disk next) r x m m.said d e e (goes-told disk next l u r x m d e s cause told is (tells-line l x))
+    (breaks-silent r m e e (still e) left) in
     let Whole : y ≡ x.said ++ line_text l → Breaks (ask disk next) x y d e = λ q. subst P (sym q) whole in
     let Part : IsCutOff (line_text l) x.said y → Breaks (ask disk next) x y d e = λ q.
     record {
@@ -155,7 +166,8 @@ breaks-told disk next l u r x y d e s cause told is f opened left =
       cut_off = q.cut_off;
       front = record {
         rest = q.front.rest ++ text_of (play r [] []).lines;
-        cut = ap (λ (a : Act). text_of (play a [] []).lines) is ∙ ap (λ (t : List ℕ). t ++ text_of (play r [] []).lines) q.front.cut
+        cut = ap (λ (a : Act). text_of (play a [] []).lines) is
+            ∙ ap (λ (t : List ℕ). t ++ text_of (play r [] []).lines) q.front.cut
             ∙ append_assoc q.part q.front.rest (text_of (play r [] []).lines);
       };
       left = opened;
@@ -166,7 +178,8 @@ breaks-told disk next l u r x y d e s cause told is f opened left =
 -- ---- answers
 
 -- a call that was refused gave its act up
-pub or-breaks : {T E : Type 0} → (Left : T → Act → Type 0) (r : Result T E) → is_err r ≡ true → (whole : Act) (x y : Told) (d e : DiskState)
+pub or-breaks : {T E : Type 0} → (Left : T → Act → Type 0) (r : Result T E) → is_err r ≡ true
+    → (whole : Act) (x y : Told) (d e : DiskState)
     → Breaks whole x y.said d e → PlaysOr whole x y d e r Left
 or-breaks Left (Ok v) h whole x y d e b = absurd (false≢true h)
 or-breaks Left (Err v) h whole x y d e b = b

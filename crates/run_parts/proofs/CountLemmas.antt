@@ -31,7 +31,11 @@ rises-since a b c p (inl less) = inl (omega (arith, less, p.grown))
 rises-since a b c p (inr full) = inr full
 
 none_fell-then : (a b c : Tally) → NoneFell a b → NoneFell b c → NoneFell a c
-none_fell-then a b c p q = record { cuts = no_less-then a.cuts b.cuts c.cuts p.cuts q.cuts; faults = no_less-then a.faults b.faults c.faults p.faults q.faults }
+none_fell-then a b c p q =
+    record {
+      cuts = no_less-then a.cuts b.cuts c.cuts p.cuts q.cuts;
+      faults = no_less-then a.faults b.faults c.faults p.faults q.faults;
+    }
 
 pub none_fell-same : (t : Tally) → NoneFell t t
 none_fell-same t = record { cuts = no_less-same t.cuts; faults = no_less-same t.faults }
@@ -40,11 +44,13 @@ pub later-same : (now : Tally) → Later now [] now
 later-same now = none_fell-same now
 
 -- from an earlier moment on
-later-from : (since mid now : Tally) (wakes : List Tally) → NoneFell since mid → Later mid wakes now → Later since wakes now
+later-from : (since mid now : Tally) (wakes : List Tally) → NoneFell since mid → Later mid wakes now
+    → Later since wakes now
 later-from since mid now [] p q = none_fell-then since mid now p q
 later-from since mid now (w ∷ ws) p q = (none_fell-then since mid w p q.0, q.1)
 
-pub later-then : (since mid now : Tally) (a b : List Tally) → Later since a mid → Later mid b now → Later since (a ++ b) now
+pub later-then : (since mid now : Tally) (a b : List Tally) → Later since a mid → Later mid b now
+    → Later since (a ++ b) now
 later-then since mid now [] b p q = later-from since mid now b p q
 later-then since mid now (w ∷ a) b p q = (p.0, later-then w mid now a b p.1 q)
 
@@ -71,7 +77,8 @@ pub tallies-append : (a b : List Wake) → tallies (a ++ b) ≡ tallies a ++ tal
 tallies-append a b = map-append tally_at a b
 
 -- behind wakes that were added, the counts at the last wake are those of the last of these
-pub since-grown : (d e : DiskState) (added : List Wake) → e.history.wakes ≡ d.history.wakes ++ added → since_wake e ≡ last_tally (tallies added) (since_wake d)
+pub since-grown : (d e : DiskState) (added : List Wake) → e.history.wakes ≡ d.history.wakes ++ added
+    → since_wake e ≡ last_tally (tallies added) (since_wake d)
 since-grown d e added is =
     let none : Tally = record { cuts = 0; faults = 0 } in
     ap (λ (ws : List Wake). last_tally (tallies ws) none) is
@@ -81,20 +88,25 @@ since-grown d e added is =
 -- ---- causes
 
 -- a stop has its cause until a later moment too
-cause-then : (o : Outcome) (since mid now : Tally) (a b : List Tally) → Later mid b now → HasCause o since (next_tally a mid) → HasCause o since (next_tally (a ++ b) now)
+cause-then : (o : Outcome) (since mid now : Tally) (a b : List Tally) → Later mid b now
+    → HasCause o since (next_tally a mid) → HasCause o since (next_tally (a ++ b) now)
 cause-then Finished since mid now a b later h = tt
-cause-then PowerCut since mid now [] b later h = rises-then since.cuts mid.cuts (next_tally b now).cuts h (later-next mid now b later).cuts
+cause-then PowerCut since mid now [] b later h =
+    rises-then since.cuts mid.cuts (next_tally b now).cuts h (later-next mid now b later).cuts
 cause-then PowerCut since mid now (w ∷ a) b later h = h
-cause-then DeviceFault since mid now [] b later h = rises-then since.faults mid.faults (next_tally b now).faults h (later-next mid now b later).faults
+cause-then DeviceFault since mid now [] b later h =
+    rises-then since.faults mid.faults (next_tally b now).faults h (later-next mid now b later).faults
 cause-then DeviceFault since mid now (w ∷ a) b later h = h
 
-pub caused-then : (j k : List Note) (a b : List Tally) (since mid now : Tally) → Later mid b now → Caused j a since mid → Caused k b (last_tally a since) now
+pub caused-then : (j k : List Note) (a b : List Tally) (since mid now : Tally) → Later mid b now → Caused j a since mid
+    → Caused k b (last_tally a since) now
     → Caused (j ++ k) (a ++ b) since now
 caused-then [] k [] b since mid now later p q = q
 caused-then [] k (w ∷ a) b since mid now later p q = absurd p
 caused-then (Woke x ∷ j) k [] b since mid now later p q = absurd p
 caused-then (Woke x ∷ j) k (w ∷ a) b since mid now later p q = caused-then j k a b w mid now later p q
-caused-then (Ended o ∷ j) k a b since mid now later p q = (cause-then o since mid now a b later p.0, caused-then j k a b since mid now later p.1 q)
+caused-then (Ended o ∷ j) k a b since mid now later p q =
+    (cause-then o since mid now a b later p.0, caused-then j k a b since mid now later p.1 q)
 caused-then (Held t ∷ j) k a b since mid now later p q = caused-then j k a b since mid now later p q
 caused-then (Saved t ∷ j) k a b since mid now later p q = caused-then j k a b since mid now later p q
 caused-then (Ordered x ∷ j) k a b since mid now later p q = caused-then j k a b since mid now later p q
@@ -145,12 +157,16 @@ still-by d e same counts = record {
   cut_calls = ap (λ (h : History). h.cut_calls) same;
   placings = ap (λ (h : History). h.placings) same;
   takings = ap (λ (h : History). h.takings) same;
-  later = record { cuts = no_less-bounded d.cuts e.cuts counts.cuts counts.cuts_end; faults = no_less-bounded d.faults e.faults counts.faults counts.faults_end };
+  later = record {
+    cuts = no_less-bounded d.cuts e.cuts counts.cuts counts.cuts_end;
+    faults = no_less-bounded d.faults e.faults counts.faults counts.faults_end;
+  };
   caused = tt;
 }
 
 -- what was done in one part, and in another behind it
-pub grew-then : (j k : List Note) (a b : List Wake) (d e f : DiskState) → Grew j a d e → Grew k b e f → Grew (j ++ k) (a ++ b) d f
+pub grew-then : (j k : List Note) (a b : List Wake) (d e f : DiskState) → Grew j a d e → Grew k b e f
+    → Grew (j ++ k) (a ++ b) d f
 grew-then j k a b d e f x y =
     let both : tallies (a ++ b) ≡ tallies a ++ tallies b = tallies-append a b in
     let since : since_wake e ≡ last_tally (tallies a) (since_wake d) = since-grown d e a x.wakes in
@@ -160,11 +176,15 @@ grew-then j k a b d e f x y =
     record {
       wakes = y.wakes ∙ ap (λ (ws : List Wake). ws ++ b) x.wakes ∙ append_assoc d.history.wakes a b;
       armings =
-          y.armings ∙ ap (λ (ws : List Arming). ws ++ ordered_in k) x.armings ∙ append_assoc d.history.armings (ordered_in j) (ordered_in k)
+          y.armings ∙ ap (λ (ws : List Arming). ws ++ ordered_in k) x.armings
+          ∙ append_assoc d.history.armings (ordered_in j) (ordered_in k)
           ∙ ap (λ (ws : List Arming). d.history.armings ++ ws) (sym (ordered_in-append j k));
       cut_calls = y.cut_calls ∙ ap (cuts_behind k) x.cut_calls ∙ sym (cuts_behind-append j k d.history.cut_calls);
       placings = y.placings ∙ x.placings;
       takings = y.takings ∙ x.takings;
-      later = subst P (sym both) (later-then (tally_now d) (tally_now e) (tally_now f) (tallies a) (tallies b) x.later y.later);
-      caused = subst Q (sym both) (caused-then j k (tallies a) (tallies b) (since_wake d) (tally_now e) (tally_now f) y.later x.caused (subst R since y.caused));
+      later = subst P (sym both)
+          (later-then (tally_now d) (tally_now e) (tally_now f) (tallies a) (tallies b) x.later y.later);
+      caused = subst Q (sym both)
+          (caused-then j k (tallies a) (tallies b) (since_wake d) (tally_now e) (tally_now f) y.later x.caused
+          (subst R since y.caused));
     }

@@ -20,7 +20,9 @@ use Rattle.run_parts.proofs.CountLemmas.{Still, still, grew-then}
 
 pub text_of-append : (a b : List Line) → text_of (a ++ b) ≡ text_of a ++ text_of b
 text_of-append [] b = refl
-text_of-append (l ∷ a) b = ap (λ (t : List ℕ). line_text l ++ t) (text_of-append a b) ∙ sym (append_assoc (line_text l) (text_of a) (text_of b))
+text_of-append (l ∷ a) b =
+    ap (λ (t : List ℕ). line_text l ++ t) (text_of-append a b)
+    ∙ sym (append_assoc (line_text l) (text_of a) (text_of b))
 
 verdict_outcome-append : (w : book.Verdict) (a b : List Outcome) → verdict_outcome w (a ++ b) ≡ verdict_outcome w a ++ b
 verdict_outcome-append book.Good a b = refl
@@ -42,7 +44,8 @@ pub outcomes_in-append : (a b : List Line) → outcomes_in (a ++ b) ≡ outcomes
 outcomes_in-append [] b = refl
 outcomes_in-append (StartLine number ∷ a) b = outcomes_in-append a b
 outcomes_in-append (EntryLine number path ∷ a) b = outcomes_in-append a b
-outcomes_in-append (LoadLine sequence recovered ∷ a) b = ap (λ (os : List Outcome). Finished ∷ os) (outcomes_in-append a b)
+outcomes_in-append (LoadLine sequence recovered ∷ a) b =
+    ap (λ (os : List Outcome). Finished ∷ os) (outcomes_in-append a b)
 outcomes_in-append (SetLine number on_good ∷ a) b = outcomes_in-append a b
 outcomes_in-append (CommitLine what sequence ∷ a) b = ap (λ (os : List Outcome). Finished ∷ os) (outcomes_in-append a b)
 outcomes_in-append (SelectLine current default failed good ∷ a) b = outcomes_in-append a b
@@ -67,7 +70,8 @@ woke_in-append (Ordered x ∷ a) b = woke_in-append a b
 woke_in-append (Cuts ∷ a) b = woke_in-append a b
 woke_in-append (Ended o ∷ a) b = woke_in-append a b
 
-fits-append : (a b : List Image) (v w : List Woken) (p q : List Possible) → Fits a v p → Fits b w q → Fits (a ++ b) (v ++ w) (p ++ q)
+fits-append : (a b : List Image) (v w : List Woken) (p q : List Possible) → Fits a v p → Fits b w q
+    → Fits (a ++ b) (v ++ w) (p ++ q)
 fits-append [] b [] w [] q f g = g
 fits-append [] b [] w (x ∷ p) q f g = absurd f
 fits-append [] b (x ∷ v) w p q f g = absurd f
@@ -81,8 +85,10 @@ image_at w = w.image
 
 -- ---- parts that were played
 
-pub behind-append : (a b : List Line) (j k : List Note) (r : RunResult) → behind (a ++ b) (j ++ k) r ≡ behind a j (behind b k r)
-behind-append a b j k r = λ i. record { lines = append_assoc a b r.lines i; notes = append_assoc j k r.notes i; disk = r.disk; rest = r.rest }
+pub behind-append : (a b : List Line) (j k : List Note) (r : RunResult)
+    → behind (a ++ b) (j ++ k) r ≡ behind a j (behind b k r)
+behind-append a b j k r =
+    λ i. record { lines = append_assoc a b r.lines i; notes = append_assoc j k r.notes i; disk = r.disk; rest = r.rest }
 
 -- nothing was told
 pub tells-nothing : (x : Told) → Tells x x []
@@ -95,22 +101,35 @@ with_lines-append s (l ∷ a) b = with_lines-append (with_line s l) a b
 -- lines were told, and then others
 pub tells-then : (x y z : Told) (a b : List Line) → Tells x y a → Tells y z b → Tells x z (a ++ b)
 tells-then x y z a b p q = record {
-  said = q.said ∙ ap (λ (t : List ℕ). t ++ text_of b) p.said ∙ append_assoc x.said (text_of a) (text_of b) ∙ ap (λ (t : List ℕ). x.said ++ t) (sym (text_of-append a b));
+  said = q.said ∙ ap (λ (t : List ℕ). t ++ text_of b) p.said ∙ append_assoc x.said (text_of a) (text_of b)
+      ∙ ap (λ (t : List ℕ). x.said ++ t) (sym (text_of-append a b));
   summary = q.summary ∙ ap (λ (s : Summary). with_lines s b) p.summary ∙ sym (with_lines-append x.summary a b);
 }
 
 -- nothing happened
 pub goes-nothing : (a : Going) (x : Told) (d e : DiskState) → Still d e → Goes a a x x d e
 goes-nothing a x d e s =
-    record { lines = []; notes = []; added = []; woken = []; tells = tells-nothing x; grew = s; fits = tt; goes = λ w o. refl }
+    record {
+      lines = [];
+      notes = [];
+      added = [];
+      woken = [];
+      tells = tells-nothing x;
+      grew = s;
+      fits = tt;
+      goes = λ w o. refl;
+    }
 
 -- one part behind another
-pub goes-then : (a b c : Going) (x y z : Told) (d e f : DiskState) → Goes a b x y d e → Goes b c y z e f → Goes a c x z d f
+pub goes-then : (a b c : Going) (x y z : Told) (d e f : DiskState) → Goes a b x y d e → Goes b c y z e f
+    → Goes a c x z d f
 goes-then a b c x y z d e f p q =
     let P : List Possible → Type 0 = λ ps. Fits (map image_at (p.added ++ q.added)) (p.woken ++ q.woken) ps in
     let Q : List Image → Type 0 = λ is. Fits is (p.woken ++ q.woken) (woke_in p.notes ++ woke_in q.notes) in
-    let fits : Fits (map image_at p.added ++ map image_at q.added) (p.woken ++ q.woken) (woke_in p.notes ++ woke_in q.notes) =
-    fits-append (map image_at p.added) (map image_at q.added) p.woken q.woken (woke_in p.notes) (woke_in q.notes) p.fits q.fits in
+    let fits : Fits (map image_at p.added ++ map image_at q.added) (p.woken ++ q.woken)
+    (woke_in p.notes ++ woke_in q.notes) =
+    fits-append (map image_at p.added) (map image_at q.added) p.woken q.woken (woke_in p.notes) (woke_in q.notes)
+    p.fits q.fits in
     record {
       lines = p.lines ++ q.lines;
       notes = p.notes ++ q.notes;
@@ -122,14 +141,16 @@ goes-then a b c x y z d e f p q =
       goes = λ w o.
           ap (λ (ws : List Woken). a ws (outcomes_in (p.lines ++ q.lines) ++ o)) (append_assoc p.woken q.woken w)
           ∙ ap (λ (os : List Outcome). a (p.woken ++ (q.woken ++ w)) (os ++ o)) (outcomes_in-append p.lines q.lines)
-          ∙ ap (λ (os : List Outcome). a (p.woken ++ (q.woken ++ w)) os) (append_assoc (outcomes_in p.lines) (outcomes_in q.lines) o)
+          ∙ ap (λ (os : List Outcome). a (p.woken ++ (q.woken ++ w)) os)
+          (append_assoc (outcomes_in p.lines) (outcomes_in q.lines) o)
           ∙ p.goes (q.woken ++ w) (outcomes_in q.lines ++ o)
           ∙ ap (behind p.lines p.notes) (q.goes w o)
           ∙ sym (behind-append p.lines q.lines p.notes q.notes (c w o));
     }
 
 -- a line that tells no outcome
-pub goes-line : (l : Line) (r : Act) (x y : Told) (d e : DiskState) → Still d e → outcomes_in (l ∷ []) ≡ [] → Tells x y (l ∷ [])
+pub goes-line : (l : Line) (r : Act) (x y : Told) (d e : DiskState) → Still d e → outcomes_in (l ∷ []) ≡ []
+    → Tells x y (l ∷ [])
     → Goes (play (say l r)) (play r) x y d e
 goes-line l r x y d e s none said =
     record {
@@ -144,13 +165,24 @@ goes-line l r x y d e s none said =
     }
 
 -- what was done to the disk where an operation ended so, and nothing else
-pub grew-ended : (u : Outcome) (d e : DiskState) → Still d e → HasCause u (since_wake d) (tally_now e) → Grew (Ended u ∷ []) [] d e
+pub grew-ended : (u : Outcome) (d e : DiskState) → Still d e → HasCause u (since_wake d) (tally_now e)
+    → Grew (Ended u ∷ []) [] d e
 grew-ended u d e s cause =
-    record { wakes = s.wakes; armings = s.armings; cut_calls = s.cut_calls; placings = s.placings; takings = s.takings; later = s.later; caused = (cause, tt) }
+    record {
+      wakes = s.wakes;
+      armings = s.armings;
+      cut_calls = s.cut_calls;
+      placings = s.placings;
+      takings = s.takings;
+      later = s.later;
+      caused = (cause, tt);
+    }
 
 -- an operation of the disk, and the line that tells its outcome
-pub goes-told : (disk : Possible) (next : Outcome → Act) (l : Line) (u : Outcome) (r : Act) (x y : Told) (d e : DiskState)
-    → Still d e → HasCause u (since_wake d) (tally_now e) → outcomes_in (l ∷ []) ≡ u ∷ [] → next u ≡ say l r → Tells x y (l ∷ [])
+pub goes-told : (disk : Possible) (next : Outcome → Act) (l : Line) (u : Outcome) (r : Act) (x y : Told)
+    (d e : DiskState)
+    → Still d e → HasCause u (since_wake d) (tally_now e) → outcomes_in (l ∷ []) ≡ u ∷ [] → next u ≡ say l r
+    → Tells x y (l ∷ [])
     → Goes (play (ask disk next)) (play r) x y d e
 goes-told disk next l u r x y d e s cause told is said =
     record {
@@ -170,11 +202,47 @@ goes-told disk next l u r x y d e s cause told is said =
 pub goes-held : (t : Tree) (r : Act) (x : Told) (d : DiskState) → Goes (play (mark (Held t) r)) (play r) x x d d
 goes-held t r x d =
     let s : Still d d = still d in
-    let g : Grew (Held t ∷ []) [] d d = record { wakes = s.wakes; armings = s.armings; cut_calls = refl; placings = refl; takings = refl; later = s.later; caused = tt } in
-    record { lines = []; notes = Held t ∷ []; added = []; woken = []; tells = tells-nothing x; grew = g; fits = tt; goes = λ w o. refl }
+    let g : Grew (Held t ∷ []) [] d d =
+    record {
+      wakes = s.wakes;
+      armings = s.armings;
+      cut_calls = refl;
+      placings = refl;
+      takings = refl;
+      later = s.later;
+      caused = tt;
+    } in
+    record {
+      lines = [];
+      notes = Held t ∷ [];
+      added = [];
+      woken = [];
+      tells = tells-nothing x;
+      grew = g;
+      fits = tt;
+      goes = λ w o. refl;
+    }
 
 pub goes-saved : (t : Tree) (r : Act) (x : Told) (d : DiskState) → Goes (play (mark (Saved t) r)) (play r) x x d d
 goes-saved t r x d =
     let s : Still d d = still d in
-    let g : Grew (Saved t ∷ []) [] d d = record { wakes = s.wakes; armings = s.armings; cut_calls = refl; placings = refl; takings = refl; later = s.later; caused = tt } in
-    record { lines = []; notes = Saved t ∷ []; added = []; woken = []; tells = tells-nothing x; grew = g; fits = tt; goes = λ w o. refl }
+    let g : Grew (Saved t ∷ []) [] d d =
+    record {
+      wakes = s.wakes;
+      armings = s.armings;
+      cut_calls = refl;
+      placings = refl;
+      takings = refl;
+      later = s.later;
+      caused = tt;
+    } in
+    record {
+      lines = [];
+      notes = Saved t ∷ [];
+      added = [];
+      woken = [];
+      tells = tells-nothing x;
+      grew = g;
+      fits = tt;
+      goes = λ w o. refl;
+    }

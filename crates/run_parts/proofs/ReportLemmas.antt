@@ -18,14 +18,16 @@ outcomes-whole : (ls : List Line) → outcomes_of (text_of ls) ≡ outcomes_in l
 outcomes-whole ls = ap outcomes_of (sym (append-nil (text_of ls))) ∙ outcomes_of-text ls [] refl
 
 -- a run that was played to its end is the report that its text tells
-pub reports_of : (run : Going) (last : RunState) (x y : Told) (d e : DiskState) → Goes run (reached last) x y d e → EachCrash e (MayLoad last.disk) → Reports run x y d e
+pub reports_of : (run : Going) (last : RunState) (x y : Told) (d e : DiskState) → Goes run (reached last) x y d e
+    → EachCrash e (MayLoad last.disk) → Reports run x y d e
 reports_of run last x y d e g left =
     let t : List ℕ = text_of g.lines in
     let is : run g.woken (outcomes_of t) ≡ behind g.lines g.notes (reached last [] []) =
     ap (λ (w : List Woken). run w (outcomes_of t)) (sym (append-nil g.woken))
     ∙ ap (λ (o : List Outcome). run (g.woken ++ []) o) (outcomes-whole g.lines ∙ sym (append-nil (outcomes_in g.lines)))
     ∙ g.goes [] [] in
-    let notes : g.notes ≡ (run g.woken (outcomes_of t)).notes = sym (append-nil g.notes) ∙ sym (ap (λ (q : RunResult). q.notes) is) in
+    let notes : g.notes ≡ (run g.woken (outcomes_of t)).notes =
+    sym (append-nil g.notes) ∙ sym (ap (λ (q : RunResult). q.notes) is) in
     let P : List Note → Type 0 = λ ns. Grew ns g.added d e in
     let Q : List Note → Type 0 = λ ns. Fits (map image_at g.added) g.woken (woke_in ns) in
     record {
@@ -41,11 +43,13 @@ reports_of run last x y d e g left =
         loads = left;
       };
       grew = subst P notes g.grew;
-      summary = g.tells.summary ∙ ap (with_lines x.summary) (sym (append-nil g.lines) ∙ sym (ap (λ (q : RunResult). q.lines) is));
+      summary = g.tells.summary
+          ∙ ap (with_lines x.summary) (sym (append-nil g.lines) ∙ sym (ap (λ (q : RunResult). q.lines) is));
     }
 
 -- a run that was given up left a front of the report
-pub reports_front_of : (run : Going) (x : Told) (y : List ℕ) (d e : DiskState) → RunBreaks run x y d e → ReportsFront run x.said y d e
+pub reports_front_of : (run : Going) (x : Told) (y : List ℕ) (d e : DiskState) → RunBreaks run x y d e
+    → ReportsFront run x.said y d e
 reports_front_of run x y d e b =
     let g = b.goes in
     let t : List ℕ = text_of g.lines ++ b.part in
@@ -62,7 +66,8 @@ reports_front_of run x y d e b =
     let P : Possible → Type 0 = λ p. EachCrash e (MayLoad p) in
     record {
       text = t;
-      said_is = b.said_is ∙ ap (λ (z : List ℕ). z ++ b.part) g.tells.said ∙ append_assoc x.said (text_of g.lines) b.part;
+      said_is = b.said_is ∙ ap (λ (z : List ℕ). z ++ b.part) g.tells.said
+          ∙ append_assoc x.said (text_of g.lines) b.part;
       added = g.added;
       report = record {
         woken = g.woken;
@@ -71,7 +76,8 @@ reports_front_of run x y d e b =
         said = record {
           rest = b.front.rest;
           cut = ap (λ (q : RunResult). text_of q.lines) is ∙ text_of-append g.lines r.lines
-              ∙ ap (λ (z : List ℕ). text_of g.lines ++ z) b.front.cut ∙ sym (append_assoc (text_of g.lines) b.part b.front.rest);
+              ∙ ap (λ (z : List ℕ). text_of g.lines ++ z) b.front.cut
+              ∙ sym (append_assoc (text_of g.lines) b.part b.front.rest);
         };
         noted = record { rest = r.notes; cut = ap (λ (q : RunResult). q.notes) is };
         fits = g.fits;

@@ -24,32 +24,47 @@ by_text asked files text = behind_step (ini_in text asked.system) (λ ini. by_hi
 pub text_asked : (files : Files) (asked : SafeAsked) (system : Arc) → system_in (arc_of asked.system) ≡ Ok system
     → asks_safe asked files ≡ named asked.boot_ini + behind_step (bytes_in files asked.boot_ini) (by_text asked files)
 text_asked files asked system is =
-    ap (λ (r : Result Arc Refusal). behind_step r (λ (s : Arc). named asked.boot_ini + behind_step (bytes_in files asked.boot_ini) (by_text asked files))) is
+    ap (λ (r : Result Arc Refusal). behind_step r
+    (λ (s : Arc). named asked.boot_ini + behind_step (bytes_in files asked.boot_ini) (by_text asked files))) is
 
-pub ini_asked : (files : Files) (asked : SafeAsked) (system : Arc) (text : List ℕ) → system_in (arc_of asked.system) ≡ Ok system → bytes_in files asked.boot_ini ≡ Ok text
+pub ini_asked : (files : Files) (asked : SafeAsked) (system : Arc) (text : List ℕ)
+    → system_in (arc_of asked.system) ≡ Ok system → bytes_in files asked.boot_ini ≡ Ok text
     → asks_safe asked files ≡ named asked.boot_ini + behind_step (ini_in text asked.system) (λ ini. by_hive asked files)
 ini_asked files asked system text is found =
-    text_asked files asked system is ∙ ap (λ (r : Result (List ℕ) Refusal). named asked.boot_ini + behind_step r (by_text asked files)) found
+    text_asked files asked system is
+    ∙ ap (λ (r : Result (List ℕ) Refusal). named asked.boot_ini + behind_step r (by_text asked files)) found
 
-pub hive_asked : (files : Files) (asked : SafeAsked) (system : Arc) (text : List ℕ) (ini : BootIni) → system_in (arc_of asked.system) ≡ Ok system → bytes_in files asked.boot_ini ≡ Ok text
+pub hive_asked : (files : Files) (asked : SafeAsked) (system : Arc) (text : List ℕ) (ini : BootIni)
+    → system_in (arc_of asked.system) ≡ Ok system → bytes_in files asked.boot_ini ≡ Ok text
     → ini_in text asked.system ≡ Ok ini → asks_safe asked files ≡ named asked.boot_ini + by_hive asked files
 hive_asked files asked system text ini is found read =
-    ini_asked files asked system text is found ∙ ap (λ (r : Result BootIni Refusal). named asked.boot_ini + behind_step r (λ (i : BootIni). by_hive asked files)) read
+    ini_asked files asked system text is found
+    ∙ ap (λ (r : Result BootIni Refusal). named asked.boot_ini
+    + behind_step r (λ (i : BootIni). by_hive asked files)) read
 
 nothing_more : (p : ℕ) → p + 0 ≡ p
 nothing_more p = omega arith
 
 wider : (least n m g h : ℕ) → n ≤ m → AsksSome least n g h → AsksSome least m g h
-wider least n m g h le some = record { asked = some.asked; not_less = some.not_less; not_more = omega (arith, some.not_more, le); gets = some.gets }
+wider least n m g h le some =
+    record {
+      asked = some.asked;
+      not_less = some.not_less;
+      not_more = omega (arith, some.not_more, le);
+      gets = some.gets;
+    }
 
 -- a first step that ends the search, which asked for p files
-pub first_asks : (A B : Type 0) (n p : ℕ) (s : Result A Refusal) (k : A → ℕ) (e : Obstacle) (q : Result B Obstacle) (g h : ℕ)
-    → n ≡ p + behind_step s k → Gives s (Err e) → (e ≡ Stopped Write → ⊥) → AsksUntil {A = A} p (Err e) g h → IsErrAnd q (λ x. x ≡ e) → AsksUntil n q g h
+pub first_asks : (A B : Type 0) (n p : ℕ) (s : Result A Refusal) (k : A → ℕ) (e : Obstacle) (q : Result B Obstacle)
+    (g h : ℕ)
+    → n ≡ p + behind_step s k → Gives s (Err e) → (e ≡ Stopped Write → ⊥) → AsksUntil {A = A} p (Err e) g h
+    → IsErrAnd q (λ x. x ≡ e) → AsksUntil n q g h
 first_asks A B n p s k e (Ok x) g h whole gives unwritten asks is = absurd is
 first_asks A B n p s k e (Err x) g h whole gives unwritten asks is =
     subst (λ (y : Obstacle). AsksUntil {A = B} n (Err y) g h) (sym is) (by_kind e gives unwritten asks)
   where
-    by_kind : (y : Obstacle) → Gives s (Err y) → (y ≡ Stopped Write → ⊥) → AsksUntil {A = A} p (Err y) g h → AsksUntil {A = B} n (Err y) g h
+    by_kind : (y : Obstacle) → Gives s (Err y) → (y ≡ Stopped Write → ⊥) → AsksUntil {A = A} p (Err y) g h
+        → AsksUntil {A = B} n (Err y) g h
     by_kind (Refused r) gives unwritten asks =
         let all : n ≡ p = whole ∙ ap (λ (t : Result A Refusal). p + behind_step t k) gives ∙ nothing_more p in
         asks ∙ ap (λ (m : ℕ). more m g) (sym all)
@@ -58,9 +73,12 @@ first_asks A B n p s k e (Err x) g h whole gives unwritten asks is =
     by_kind (Stopped Memory) gives unwritten asks = wider 0 p n g h (omega (arith, whole)) asks
 
 -- a search for one file
-pub one_asked : {A : Type 0} (q : Result A Obstacle) (g h : ℕ) → ((e : Obstacle) → q ≡ Err e → e ≡ Stopped Write → ⊥) → h ≡ more 1 g → AsksUntil 1 q g h
+pub one_asked : {A : Type 0} (q : Result A Obstacle) (g h : ℕ) → ((e : Obstacle) → q ≡ Err e → e ≡ Stopped Write → ⊥)
+    → h ≡ more 1 g → AsksUntil 1 q g h
 one_asked (Ok a) g h unwritten asked = asked
 one_asked (Err (Refused r)) g h unwritten asked = asked
-one_asked (Err (Stopped Read)) g h unwritten asked = record { asked = 1; not_less = omega arith; not_more = omega arith; gets = asked }
+one_asked (Err (Stopped Read)) g h unwritten asked =
+    record { asked = 1; not_less = omega arith; not_more = omega arith; gets = asked }
 one_asked (Err (Stopped Write)) g h unwritten asked = asked
-one_asked (Err (Stopped Memory)) g h unwritten asked = record { asked = 1; not_less = omega arith; not_more = omega arith; gets = asked }
+one_asked (Err (Stopped Memory)) g h unwritten asked =
+    record { asked = 1; not_less = omega arith; not_more = omega arith; gets = asked }

@@ -34,21 +34,27 @@ abbrev done_with : List ℕ → Answer
 done_with text = record { status = statuses.Done; text = text }
 
 -- the report is on the tree that was read
-pub reported_as : (inputs : SafeInputs) (root : Tree) (sequence : ℕ) (version : HiveVersion) (text : List ℕ) → ChecksAs (image_in inputs.hive) (Ok (root, sequence, version))
+pub reported_as : (inputs : SafeInputs) (root : Tree) (sequence : ℕ) (version : HiveVersion) (text : List ℕ)
+    → ChecksAs (image_in inputs.hive) (Ok (root, sequence, version))
     → text ≡ report_of inputs.ini inputs.system root → ReportsAs inputs (Ok text)
-reported_as inputs root sequence version text loads is = (record { state = state_of root sequence version; dirty = loads.0 }, loads.1, is)
+reported_as inputs root sequence version text loads is =
+    (record { state = state_of root sequence version; dirty = loads.0 }, loads.1, is)
 
 -- the report was said
-pub report_decides : (inputs : SafeInputs) (text : List ℕ) (status : Status) (old new : HostState) → ReportsAs inputs (Ok text)
-    → Leaves (Ends (record { status = statuses.Done; text = text })) status old new → KeepsFiles old new → AsksNone old new → IsToldAs statuses.Done status
+pub report_decides : (inputs : SafeInputs) (text : List ℕ) (status : Status) (old new : HostState)
+    → ReportsAs inputs (Ok text)
+    → Leaves (Ends (record { status = statuses.Done; text = text })) status old new → KeepsFiles old new
+    → AsksNone old new → IsToldAs statuses.Done status
     → DecidesAlone (EndsSafe (Ok inputs)) no_saves status old new new_state
 report_decides inputs text status old new reports leaves kept unasked told =
     told_decides (EndsSafe (Ok inputs)) text status old new leaves kept unasked told
     (λ o n end. inr (inl (reports.0, reports.1, subst (λ (t : List ℕ). Ends (done_with t) status o n) reports.2 end)))
 
 -- the hive's fault was said
-pub fault_decides : (inputs : SafeInputs) (why : Refusal) (status : Status) (old new : HostState) → ReportsAs inputs (Err (Refused why))
-    → Leaves (Ends (refusal why)) status old new → KeepsFiles old new → AsksNone old new → IsToldAs (refusal_status why) status
+pub fault_decides : (inputs : SafeInputs) (why : Refusal) (status : Status) (old new : HostState)
+    → ReportsAs inputs (Err (Refused why))
+    → Leaves (Ends (refusal why)) status old new → KeepsFiles old new → AsksNone old new
+    → IsToldAs (refusal_status why) status
     → DecidesAlone (EndsSafe (Ok inputs)) no_saves status old new new_state
 fault_decides inputs why status old new reports leaves kept unasked told =
     let is : refusal_status why ≡ statuses.HiveFault = ap refusal_status reports.2 in
@@ -56,37 +62,44 @@ fault_decides inputs why status old new reports leaves kept unasked told =
       decides = refusal_decides (EndsSafe (Ok inputs)) no_saves why status old new new_state refl leaves kept told
           (λ o n end. inl (reports.0, reports.1, subst (λ (r : Refusal). Ends (refusal r) status o n) reports.2 end));
       unasked = unasked;
-      kept = told_unused (refusal_status why) status told (λ e. (let z : statuses.HiveFault ≡ statuses.Usage = sym is ∙ e in absurd cc));
+      kept = told_unused (refusal_status why) status told
+          (λ e. (let z : statuses.HiveFault ≡ statuses.Usage = sym is ∙ e in absurd cc));
       unread = refused_unread why status told;
     }
 
 -- there was no memory for it
-unreported : (inputs : SafeInputs) (host : HostState) → DecidesAlone (EndsSafe (Ok inputs)) no_saves statuses.Memory host host new_state
+unreported : (inputs : SafeInputs) (host : HostState)
+    → DecidesAlone (EndsSafe (Ok inputs)) no_saves statuses.Memory host host new_state
 unreported inputs host = memory_decides (EndsSafe (Ok inputs)) no_saves host new_state refl (inr (inr (inl refl, refl)))
 
 pub unreported_by : (inputs : SafeInputs) (stop : HostStop) (host : HostState) → ReportsAs inputs (Err (Stopped stop))
     → DecidesAlone (EndsSafe (Ok inputs)) no_saves (stopped_as stop) host host new_state
 unreported_by inputs stop host is =
-    subst (λ (s : HostStop). DecidesAlone (EndsSafe (Ok inputs)) no_saves (stopped_as s) host host new_state) (sym is) (unreported inputs host)
+    subst (λ (s : HostStop). DecidesAlone (EndsSafe (Ok inputs)) no_saves (stopped_as s) host host new_state) (sym is)
+    (unreported inputs host)
 
 -- the outside stopped the search for the files
-pub unsaid : (wanted : Result SafeInputs Refusal) (stop : HostStop) (old new : List ℕ) → new ≡ old → (stop ≡ Write → ⊥) → EndsSafe wanted (stopped_as stop) old new
+pub unsaid : (wanted : Result SafeInputs Refusal) (stop : HostStop) (old new : List ℕ) → new ≡ old → (stop ≡ Write → ⊥)
+    → EndsSafe wanted (stopped_as stop) old new
 unsaid (Err r) Read old new same unwritten = inr same
 unsaid (Ok inputs) Read old new same unwritten = inr (inr (inr refl, same))
 unsaid wanted Write old new same unwritten = absurd (unwritten refl)
 unsaid (Err r) Memory old new same unwritten = inr (no_front (refusal_text r) old new same)
 unsaid (Ok inputs) Memory old new same unwritten = inr (inr (inl refl, same))
 
-pub unread : (words : SafeAsked) (stop : HostStop) (status : Status) (old new : HostState) → status ≡ stopped_as stop → Looks (inputs_in words old.files) (Err (Stopped stop)) old new
+pub unread : (words : SafeAsked) (stop : HostStop) (status : Status) (old new : HostState) → status ≡ stopped_as stop
+    → Looks (inputs_in words old.files) (Err (Stopped stop)) old new
     → Decides (EndsSafe (inputs_in words old.files)) no_saves status old new new_state
 unread words stop status old new is looks =
     let wanted = inputs_in words old.files in
     subst (λ (s : Status). Decides (EndsSafe wanted) no_saves s old new new_state) (sym is)
-    (stopped_decides wanted EndsSafe no_saves stop old new new_state refl (λ o n same unwritten. unsaid wanted stop o n same unwritten) looks)
+    (stopped_decides wanted EndsSafe no_saves stop old new new_state refl
+    (λ o n same unwritten. unsaid wanted stop o n same unwritten) looks)
 
 -- ---- by what the start takes
 
-pub reports : {E : Type 0} (r : Result (List ℕ) E) (ini : BootIni) (system : Arc) (tree : Tree) (choice known : Chosen) → choice ≡ choice_of ini None system → choice ≡ known
+pub reports : {E : Type 0} (r : Result (List ℕ) E) (ini : BootIni) (system : Arc) (tree : Tree) (choice known : Chosen)
+    → choice ≡ choice_of ini None system → choice ≡ known
     → IfOk r (λ text. text ≡ report_by ini tree known) → IfOk r (λ text. text ≡ report_of ini system tree)
 unfolding report_of
 reports (Ok text) ini system tree choice known is here h = h ∙ ap (report_by ini tree) (sym here ∙ is)

@@ -34,7 +34,8 @@ gathered_stays : (a b : Sectors) (from n : ℕ) → ((j : ℕ) → from ≤ j �
     → Stays (gathered a from n) (gathered b from n)
 gathered_stays a b from zero each = λ bytes e. e
 gathered_stays a b from (suc n) each =
-    joined_stays (a from) (b from) (gathered a (suc from) n) (gathered b (suc from) n) (each from (omega arith) (omega arith))
+    joined_stays (a from) (b from) (gathered a (suc from) n) (gathered b (suc from) n)
+    (each from (omega arith) (omega arith))
     (gathered_stays a b (suc from) n (λ j low high. each j (omega arith) (omega arith)))
 
 with_stays : (dirty : Bool) (base : Base) (s t : Result (List ℕ) HiveFault) → Stays s t
@@ -42,11 +43,13 @@ with_stays : (dirty : Bool) (base : Base) (s t : Result (List ℕ) HiveFault) �
 with_stays dirty base (Err f) t stays r e = absurd cc
 with_stays dirty base (Ok bins) t stays r e = ap (recovered_with dirty base) (stays bins refl) ∙ e
 
-cond_stays : {A : Type 0} (test : Bool) (s t r q : Result A HiveFault) → Stays s t → Stays r q → Stays (cond test s r) (cond test t q)
+cond_stays : {A : Type 0} (test : Bool) (s t r q : Result A HiveFault) → Stays s t → Stays r q
+    → Stays (cond test s r) (cond test t q)
 cond_stays true s t r q first rest = first
 cond_stays false s t r q first rest = rest
 
-bytes_stay : (f g : HiveFault) (o p : Option Content) → ((bytes : List ℕ) → o ≡ Some (Bytes bytes) → p ≡ Some (Bytes bytes))
+bytes_stay : (f g : HiveFault) (o p : Option Content)
+    → ((bytes : List ℕ) → o ≡ Some (Bytes bytes) → p ≡ Some (Bytes bytes))
     → Stays (bytes_or f g o) (bytes_or f g p)
 bytes_stay f g None p keeps b e = absurd cc
 bytes_stay f g (Some Unreadable) p keeps b e = absurd cc
@@ -102,7 +105,8 @@ strange = Err (fault_at kinds.LogSequence 4)
 module _ (x y : Image) (primary : KeepsSectors Primary x y) where
   bin_stays : (i : ℕ) → i < 32768 → Stays (read_bin x i) (read_bin y i)
   bin_stays i low =
-      bytes_stay (fault_at kinds.Size 40) (fault_at kinds.Unreadable (512 * (8 + i))) (primary_in x (8 + i)) (primary_in y (8 + i))
+      bytes_stay (fault_at kinds.Size 40) (fault_at kinds.Unreadable (512 * (8 + i))) (primary_in x (8 + i))
+      (primary_in y (8 + i))
       (λ bytes there. primary (8 + i) bytes (omega arith) there)
 
   clean_stays : (base : Base) → base.size ≤ 16777216 → Stays (by_primary x base) (by_primary y base)
@@ -122,7 +126,8 @@ module _ (x y : Image) (primary : KeepsSectors Primary x y) where
   module _ (log : KeepsSectors Log x y) where
     log_stays : (n : ℕ) → n < 65536 → Stays (read_log x n) (read_log y n)
     log_stays n low =
-        bytes_stay (fault_at kinds.LogShort (512 * n)) (fault_at kinds.LogUnreadable (512 * n)) (log_in x n) (log_in y n)
+        bytes_stay (fault_at kinds.LogShort (512 * n)) (fault_at kinds.LogUnreadable (512 * n)) (log_in x n)
+        (log_in y n)
         (λ bytes there. log n bytes low there)
 
     logged_stays : Stays (logged_in x) (logged_in y)
@@ -133,7 +138,8 @@ module _ (x y : Image) (primary : KeepsSectors Primary x y) where
         (λ block read b e. e)
 
     front_stays : Stays (front_in x) (front_in y)
-    front_stays = then_stays (read_log x 1) (read_log y 1) signed signed (log_stays 1 (omega arith)) (λ front read b e. e)
+    front_stays = then_stays (read_log x 1) (read_log y 1) signed signed (log_stays 1 (omega arith))
+        (λ front read b e. e)
 
     bitmap_stays : (size : ℕ) → size ≤ 16777216 → Stays (bitmap_in x size) (bitmap_in y size)
     bitmap_stays size small =
@@ -153,7 +159,8 @@ module _ (x y : Image) (primary : KeepsSectors Primary x y) where
       picked_stays : (i : ℕ) → i < count → Stays (picked x first bits i) (picked y first bits i)
       unfolding first count
       picked_stays i low =
-          cond_stays (bits i) (read_log x (first + rank bits i)) (read_log y (first + rank bits i)) (read_bin x i) (read_bin y i)
+          cond_stays (bits i) (read_log x (first + rank bits i)) (read_log y (first + rank bits i)) (read_bin x i)
+          (read_bin y i)
           (log_stays (first + rank bits i) (omega (arith, rank_at_most bits i)))
           (bin_stays i (omega arith))
 
@@ -166,7 +173,8 @@ module _ (x y : Image) (primary : KeepsSectors Primary x y) where
           (λ j low high. log_stays j (omega (arith, rank_at_most bits count))))
           (λ marked read.
           with_stays true base (gathered (picked x first bits) 0 count) (gathered (picked y first bits) 0 count)
-          (gathered_stays (picked x first bits) (picked y first bits) 0 count (λ j low high. picked_stays j (omega arith))))
+          (gathered_stays (picked x first bits) (picked y first bits) 0 count
+          (λ j low high. picked_stays j (omega arith))))
 
     by_logged_stays : (opened : Option Base) (logged : Base) → logged.size ≤ 16777216
         → Stays (by_logged x opened logged) (by_logged y opened logged)
@@ -185,13 +193,15 @@ module _ (x y : Image) (primary : KeepsSectors Primary x y) where
     by_base_stays : (opened : Option Base) → base_in x ≡ Ok opened → Stays (by_base x opened) (by_base y opened)
     by_base_stays None has = by_log_stays None
     by_base_stays (Some base) has =
-        cond_stays (base.first == base.second) (by_primary x base) (by_primary y base) (by_log x (Some base)) (by_log y (Some base))
+        cond_stays (base.first == base.second) (by_primary x base) (by_primary y base) (by_log x (Some base))
+        (by_log y (Some base))
         (clean_stays base (at_most base.size (base_in_checked x base has).size_is))
         (by_log_stays (Some base))
 
     recovered_stays : HasUntornBlock x → Stays (recovered_of x) (recovered_of y)
     unfolding recovered_of
-    recovered_stays untorn = then_stays (base_in x) (base_in y) (by_base x) (by_base y) (block_stays untorn) by_base_stays
+    recovered_stays untorn = then_stays (base_in x) (base_in y) (by_base x) (by_base y) (block_stays untorn)
+        by_base_stays
 
 -- ---- a clean hive
 
@@ -257,19 +267,22 @@ module _ (x y : Image) (primary : KeepsSectors Primary x y) (r : Recovered) (cle
   unfolding recovered_of
   clean_recovered e =
       let on = went_on (base_in x) (by_base x) r e in
-      ap (λ s. and_then s (by_base y)) (block_stays x y primary (clean_untorn e) on.0 on.1) ∙ by_base_clean on.0 on.1 on.2
+      ap (λ s. and_then s (by_base y)) (block_stays x y primary (clean_untorn e) on.0 on.1)
+      ∙ by_base_clean on.0 on.1 on.2
 
 -- ---- loads
 
 loads_by : (x y : Image) (state : HiveState) (dirty : Bool) (loads : Loads x state dirty)
     → recovered_of y ≡ Ok loads.recovered → Loads y state dirty
-loads_by x y state dirty loads read = record { recovered = loads.recovered; read = read; was_dirty = loads.was_dirty; holds = loads.holds }
+loads_by x y state dirty loads read =
+    record { recovered = loads.recovered; read = read; was_dirty = loads.was_dirty; holds = loads.holds }
 
 pub load_stays : (x y : Image) (state : HiveState) (dirty : Bool) → KeepsSectors Primary x y → KeepsSectors Log x y
     → HasUntornBlock x → Loads x state dirty → Loads y state dirty
 load_stays x y state dirty primary log untorn loads =
     loads_by x y state dirty loads (recovered_stays x y primary log untorn loads.recovered loads.read)
 
-pub clean_load_stays : (x y : Image) (state : HiveState) → KeepsSectors Primary x y → Loads x state false → Loads y state false
+pub clean_load_stays : (x y : Image) (state : HiveState) → KeepsSectors Primary x y → Loads x state false
+    → Loads y state false
 clean_load_stays x y state primary loads =
     loads_by x y state false loads (clean_recovered x y primary loads.recovered (sym loads.was_dirty) loads.read)

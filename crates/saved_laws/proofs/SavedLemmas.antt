@@ -23,7 +23,8 @@ filled : (bytes : List ℕ) → length bytes ≡ 512 → padded bytes ≡ bytes
 filled bytes long = ap (λ n. bytes ++ replicate (512 - n) 0) long ∙ append-nil bytes
 
 -- a sector within the bytes is whole, as these are so many sectors
-whole : (bytes : List ℕ) (count n : ℕ) → length bytes ≡ 512 * count → n < count → length (take 512 (drop (512 * n) bytes)) ≡ 512
+whole : (bytes : List ℕ) (count n : ℕ) → length bytes ≡ 512 * count → n < count
+    → length (take 512 (drop (512 * n) bytes)) ≡ 512
 whole bytes count n long inside = omega (arith, length-take 512 (drop (512 * n) bytes), length-drop (512 * n) bytes)
 
 module _ (image : Image) (file : File) (bytes : List ℕ) (is : IsFileOf image file bytes) where
@@ -62,34 +63,36 @@ module _ (image : Image) (primary log : List ℕ) where
 
 -- Where whatever a loss of power may leave loads within these, so do the files of what is left.
 module _ (these : HiveState → Bool → Type 0) (held image : Image) (flight : List Write) (primary log : List ℕ)
-    (each : (c : Image) → IsCrashImage held flight c → LoadsWithin these c) (left : IsCrashImage held flight image) where
-  pub left_files_load : IsFileOf image Primary primary → IsFileOf image Log log → HasUntornBlock image
-      → LoadsWithin these (image_of primary log)
-  left_files_load primary_is log_is untorn =
-      let loads = each image left in
-      record {
-        state = loads.state;
-        dirty = loads.dirty;
-        loads = files_load image primary log loads.state loads.dirty primary_is log_is untorn loads.loads;
-        within = loads.within;
-      }
+    (each : (c : Image) → IsCrashImage held flight c → LoadsWithin these c) (left : IsCrashImage held flight image)
+  where
+    pub left_files_load : IsFileOf image Primary primary → IsFileOf image Log log → HasUntornBlock image
+        → LoadsWithin these (image_of primary log)
+    left_files_load primary_is log_is untorn =
+        let loads = each image left in
+        record {
+          state = loads.state;
+          dirty = loads.dirty;
+          loads = files_load image primary log loads.state loads.dirty primary_is log_is untorn loads.loads;
+          within = loads.within;
+        }
 
-  pub left_primary_loads : ((state : HiveState) (dirty : Bool) → these state dirty → dirty ≡ false)
-      → IsFileOf image Primary primary → LoadsWithin these (image_of primary log)
-  left_primary_loads clean is =
-      let loads = each image left in
-      let even : loads.dirty ≡ false = clean loads.state loads.dirty loads.within in
-      record {
-        state = loads.state;
-        dirty = loads.dirty;
-        loads =
-            subst (Loads (image_of primary log) loads.state) (sym even)
-            (primary_loads image primary log loads.state is (subst (Loads image loads.state) even loads.loads));
-        within = loads.within;
-      }
+    pub left_primary_loads : ((state : HiveState) (dirty : Bool) → these state dirty → dirty ≡ false)
+        → IsFileOf image Primary primary → LoadsWithin these (image_of primary log)
+    left_primary_loads clean is =
+        let loads = each image left in
+        let even : loads.dirty ≡ false = clean loads.state loads.dirty loads.within in
+        record {
+          state = loads.state;
+          dirty = loads.dirty;
+          loads =
+              subst (Loads (image_of primary log) loads.state) (sym even)
+              (primary_loads image primary log loads.state is (subst (Loads image loads.state) even loads.loads));
+          within = loads.within;
+        }
 
 -- the same of a primary and of the log that is taken behind it
-pub taken_files_load : (these : HiveState → Bool → Type 0) (disk : DiskState) (image later : Image) (primary log : List ℕ)
+pub taken_files_load : (these : HiveState → Bool → Type 0) (disk : DiskState) (image later : Image)
+    (primary log : List ℕ)
     → EachCrash disk (LoadsWithin these)
     → IsCrashImage disk.held disk.flight image → IsFileOf image Primary primary
     → IsCrashImage (taken image disk).held (taken image disk).flight later → IsFileOf later Log log
@@ -104,7 +107,8 @@ is_no_hive : base_of (replicate 512 0) 0 ≡ Err (fault_at NotRegf 0)
 unfolding base_of
 is_no_hive = refl
 
-pub torn_block : (image : Image) (primary log : List ℕ) → IsFileOf image Primary primary → image (primary_at 0) ≡ Some Unreadable
+pub torn_block : (image : Image) (primary log : List ℕ) → IsFileOf image Primary primary
+    → image (primary_at 0) ≡ Some Unreadable
     → recovered_of (image_of primary log) ≡ Err (fault_at NotRegf 0)
 unfolding recovered_of
 torn_block image primary log is torn =

@@ -22,16 +22,19 @@ cond_untorn false o p one other = other
 sector_untorn : (bytes : List ℕ) (n : ℕ) → Untorn (sector_of bytes n)
 sector_untorn bytes n =
     let content : Option Content = Some (Bytes (padded (take 512 (drop (512 * n) bytes)))) in
-    cond_untorn (nat_lt (512 * n) (length bytes)) content None (bytes_untorn (padded (take 512 (drop (512 * n) bytes)))) none_untorn
+    cond_untorn (nat_lt (512 * n) (length bytes)) content None (bytes_untorn (padded (take 512 (drop (512 * n) bytes))))
+    none_untorn
 
 pub files_untorn : (primary log : List ℕ) → IsUntorn (image_of primary log)
 files_untorn primary log at =
     let file = of_file primary log at.file in
     cond_untorn (nat_lt at.sector 65536) (sector_of file at.sector) None (sector_untorn file at.sector) none_untorn
 
-pub placed_untorn : (image : Image) (file : File) (bytes : List ℕ) → IsUntorn image → IsUntorn (with_file file bytes image)
+pub placed_untorn : (image : Image) (file : File) (bytes : List ℕ) → IsUntorn image
+    → IsUntorn (with_file file bytes image)
 placed_untorn image file bytes untorn at =
-    cond_untorn (same_file at.file file) (sector_of bytes at.sector) (image at) (sector_untorn bytes at.sector) (untorn at)
+    cond_untorn (same_file at.file file) (sector_of bytes at.sector) (image at) (sector_untorn bytes at.sector)
+    (untorn at)
 
 pub written_untorn : (image : Image) (writes : List Write) → IsUntorn image → IsUntorn (overlaid image writes)
 written_untorn image [] untorn = untorn
@@ -42,7 +45,8 @@ written_untorn image (w ∷ ws) untorn =
 pub still_untorn : (held left : Image) → IsUntorn held → IsCrashImage held [] left → IsUntorn left
 still_untorn held left untorn crash = subst IsUntorn (sym (still_crash held left crash)) untorn
 
-pub torn_in_flight : (held left : Image) (flight : List Write) (at : Address) → IsUntorn held → IsCrashImage held flight left
+pub torn_in_flight : (held left : Image) (flight : List Write) (at : Address) → IsUntorn held
+    → IsCrashImage held flight left
     → left at ≡ Some Unreadable → IsInFlight flight at (Some Unreadable)
 torn_in_flight held left flight at untorn crash torn = ⊎_elim
     (λ same. absurd (untorn at (sym same ∙ torn)))

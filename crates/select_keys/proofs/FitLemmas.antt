@@ -10,13 +10,15 @@ use Rattle.reg_tree.specs.Fitting.{Fits}
 
 -- sets that are deleted
 deletions_fit : (usable : List ℕ) (old new : SelectNumbers) → All Fits (deletions_of usable old new)
-deletions_fit usable old new = All-map Fits (λ n. delete_key (set_name n ∷ [])) (retired_of usable old new) (λ k d lt. tt)
+deletions_fit usable old new =
+    All-map Fits (λ n. delete_key (set_name n ∷ [])) (retired_of usable old new) (λ k d lt. tt)
 
 -- a number that is written, or not
 written_fits : (name : List ℕ) (old new : ℕ) → All Fits (written name old new)
 written_fits name old new = by_same (old == new)
   where
-    by_same : (same : Bool) → All Fits (cond same [] (set_value (codes "Select" ∷ []) name 4 (to_le_bytes w32 new) ∷ []))
+    by_same : (same : Bool) → All Fits
+        (cond same [] (set_value (codes "Select" ∷ []) name 4 (to_le_bytes w32 new) ∷ []))
     by_same true = All-nil Fits
     by_same false = All-cons Fits (set_value (codes "Select" ∷ []) name 4 (to_le_bytes w32 new)) [] tt (All-nil Fits)
 
@@ -29,12 +31,14 @@ writes_fit old new =
     let good : List Step = written (codes "LastKnownGood") old.good new.good in
     All-append Fits (current ++ default ++ failed) good
     (All-append Fits (current ++ default) failed
-    (All-append Fits current default (written_fits (codes "Current") old.current new.current) (written_fits (codes "Default") old.default new.default))
+    (All-append Fits current default (written_fits (codes "Current") old.current new.current)
+    (written_fits (codes "Default") old.default new.default))
     (written_fits (codes "Failed") old.failed new.failed))
     (written_fits (codes "LastKnownGood") old.good new.good)
 
 -- a plan fits where its first steps do
-pub plan_fits : (chosen : ℕ) (usable : List ℕ) (old new : SelectNumbers) (first : List Step) → All Fits first → All Fits (plan_with chosen usable old new first).steps
+pub plan_fits : (chosen : ℕ) (usable : List ℕ) (old new : SelectNumbers) (first : List Step) → All Fits first
+    → All Fits (plan_with chosen usable old new first).steps
 plan_fits chosen usable old new first fits =
     All-append Fits (first ++ deletions_of usable old new) (writes_of old new)
     (All-append Fits first (deletions_of usable old new) fits (deletions_fit usable old new)) (writes_fit old new)

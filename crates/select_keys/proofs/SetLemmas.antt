@@ -26,8 +26,10 @@ pub usable_set-above : (t : Tree) (n : ℕ) → 999 < n → usable_set t n ≡ N
 usable_set-above t n high = grind (arith, high)
 
 -- the child with the name of the number, in three digits, is the set
-pub named_set : (t : Tree) (n a b d : ℕ) → 1 ≤ n → n ≤ 999 → a ≡ 48 + n / 100 % 10 → b ≡ 48 + n / 10 % 10 → d ≡ 48 + n / 1 % 10
-    → find (is_named (0x43 ∷ 0x6f ∷ 0x6e ∷ 0x74 ∷ 0x72 ∷ 0x6f ∷ 0x6c ∷ 0x53 ∷ 0x65 ∷ 0x74 ∷ a ∷ b ∷ d ∷ [])) (children t) ≡ usable_set t n
+pub named_set : (t : Tree) (n a b d : ℕ) → 1 ≤ n → n ≤ 999 → a ≡ 48 + n / 100 % 10 → b ≡ 48 + n / 10 % 10
+    → d ≡ 48 + n / 1 % 10
+    → find (is_named (0x43 ∷ 0x6f ∷ 0x6e ∷ 0x74 ∷ 0x72 ∷ 0x6f ∷ 0x6c ∷ 0x53 ∷ 0x65 ∷ 0x74 ∷ a ∷ b ∷ d ∷ []))
+    (children t) ≡ usable_set t n
 named_set t n a b d low high hundreds tens ones =
     let x : a ≡ 48 + n / 100 = omega (arith, hundreds, high) in
     let z : d ≡ 48 + n % 10 = omega (arith, ones) in

@@ -25,10 +25,12 @@ listed_from p a (suc n) q h = split (p a) refl h (listed_from p (a + 1) n q)
     deeper : Listed p (a + 1) n q → Listed p a (suc n) q
     deeper l = record { low = omega (arith, l.low); high = omega (arith, l.high); passes = l.passes }
 
-    split : (b : Bool) → p a ≡ b → Contains (cond b (a ∷ filter p (range_with_len (a + 1) n)) (filter p (range_with_len (a + 1) n))) q
+    split : (b : Bool) → p a ≡ b
+        → Contains (cond b (a ∷ filter p (range_with_len (a + 1) n)) (filter p (range_with_len (a + 1) n))) q
         → (Contains (filter p (range_with_len (a + 1) n)) q → Listed p (a + 1) n q) → Listed p a (suc n) q
     split true is c more = elim (Contains-append_cases (a ∷ []) (filter p (range_with_len (a + 1) n)) q c) [
-      | inl here ↦ (let same : a ≡ q = alone a q here in record { low = omega arith; high = omega arith; passes = ap p (sym same) ∙ is })
+      | inl here ↦ (let same : a ≡ q = alone a q here in
+          record { low = omega arith; high = omega arith; passes = ap p (sym same) ∙ is })
       | inr there ↦ deeper (more there)
     ]
     split false is c more = deeper (more c)
@@ -46,7 +48,8 @@ listed_to p a (suc n) q low high h = split (p a) refl (λ above. listed_to p (a 
     split : (b : Bool) → p a ≡ b → (a + 1 ≤ q → Contains (filter p (range_with_len (a + 1) n)) q)
         → Contains (cond b (a ∷ filter p (range_with_len (a + 1) n)) (filter p (range_with_len (a + 1) n))) q
     split true is more = elim either [
-      | inl here ↦ (let H : ℕ → Type 0 = λ x. Contains (a ∷ filter p (range_with_len (a + 1) n)) x in subst H here (Contains-append_left (a ∷ []) (filter p (range_with_len (a + 1) n)) a (Contains-push [] a)))
+      | inl here ↦ (let H : ℕ → Type 0 = λ x. Contains (a ∷ filter p (range_with_len (a + 1) n)) x in
+          subst H here (Contains-append_left (a ∷ []) (filter p (range_with_len (a + 1) n)) a (Contains-push [] a)))
       | inr above ↦ Contains-append_right (a ∷ []) (filter p (range_with_len (a + 1) n)) q (more above)
     ]
     split false is more = elim either [
@@ -54,11 +57,15 @@ listed_to p a (suc n) q low high h = split (p a) refl (λ above. listed_to p (a 
       | inr above ↦ more above
     ]
 
-pub taken_is_in_each : (table : List Need) (q : ℕ) → Contains (automatic_of table) q → (q < length table) × ((set : ℕ → Bool) → IsClosed table set → set q ≡ true)
+pub taken_is_in_each : (table : List Need) (q : ℕ) → Contains (automatic_of table) q
+    → (q < length table) × ((set : ℕ → Bool) → IsClosed table set → set q ≡ true)
 taken_is_in_each table q h =
     let l = listed_from (is_taken table) 0 (length table) q h in
     let within : q < length table = omega (arith, l.high) in
     (within, λ set closed. is_taken-least_of_all table set closed q within l.passes)
 
-pub in_each_is_taken : (table : List Need) (q : ℕ) → q < length table → ((set : ℕ → Bool) → IsClosed table set → set q ≡ true) → Contains (automatic_of table) q
-in_each_is_taken table q lt all = listed_to (is_taken table) 0 (length table) q (omega arith) (omega arith) (all (is_taken table) (is_taken-closed table))
+pub in_each_is_taken : (table : List Need) (q : ℕ) → q < length table
+    → ((set : ℕ → Bool) → IsClosed table set → set q ≡ true) → Contains (automatic_of table) q
+in_each_is_taken table q lt all =
+    listed_to (is_taken table) 0 (length table) q (omega arith) (omega arith)
+    (all (is_taken table) (is_taken-closed table))

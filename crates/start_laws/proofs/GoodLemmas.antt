@@ -10,11 +10,13 @@ use Rattle.run_laws.proofs.NoteLemmas.{woke_in-append, held_in-append, saved_in-
 use Rattle.start_laws.specs.Fronts.{IsFrontOfRun}
 
 -- the set that LastKnownGood names in the first tree
-still_first : (trees more : List Tree) (good : Tree) → Contains (first_good_in trees) good → Contains (first_good_in (trees ++ more)) good
+still_first : (trees more : List Tree) (good : Tree) → Contains (first_good_in trees) good
+    → Contains (first_good_in (trees ++ more)) good
 still_first [] more good h = absurd (omega (arith, h.1))
 still_first (t ∷ ts) more good h = h
 
-pub good_stays : (trees more clones later : List Tree) (set : Tree) → IsGoodSet trees clones set → IsGoodSet (trees ++ more) (clones ++ later) set
+pub good_stays : (trees more clones later : List Tree) (set : Tree) → IsGoodSet trees clones set
+    → IsGoodSet (trees ++ more) (clones ++ later) set
 good_stays trees more clones later set g = (
   g.0,
   (
@@ -26,14 +28,19 @@ good_stays trees more clones later set g = (
   ),
 )
 
-pub good_in_front : (first whole : RunResult) (set : Tree) → IsFrontOfRun first whole → IsGoodSet (held_in first.notes) (saved_in first.notes) set → IsGoodSet (held_in whole.notes) (saved_in whole.notes) set
+pub good_in_front : (first whole : RunResult) (set : Tree) → IsFrontOfRun first whole
+    → IsGoodSet (held_in first.notes) (saved_in first.notes) set
+    → IsGoodSet (held_in whole.notes) (saved_in whole.notes) set
 good_in_front first whole set f g =
     let rest : List Note = f.notes.rest in
-    let held : held_in whole.notes ≡ held_in first.notes ++ held_in rest = ap held_in f.notes.cut ∙ held_in-append first.notes rest in
-    let saved : saved_in whole.notes ≡ saved_in first.notes ++ saved_in rest = ap saved_in f.notes.cut ∙ saved_in-append first.notes rest in
+    let held : held_in whole.notes ≡ held_in first.notes ++ held_in rest =
+    ap held_in f.notes.cut ∙ held_in-append first.notes rest in
+    let saved : saved_in whole.notes ≡ saved_in first.notes ++ saved_in rest =
+    ap saved_in f.notes.cut ∙ saved_in-append first.notes rest in
     let P : List Tree → Type 0 = λ ts. IsGoodSet ts (saved_in first.notes ++ saved_in rest) set in
     let Q : List Tree → Type 0 = λ cs. IsGoodSet (held_in whole.notes) cs set in
-    subst Q (sym saved) (subst P (sym held) (good_stays (held_in first.notes) (held_in rest) (saved_in first.notes) (saved_in rest) set g))
+    subst Q (sym saved) (subst P (sym held)
+    (good_stays (held_in first.notes) (held_in rest) (saved_in first.notes) (saved_in rest) set g))
 
 -- what one note more tells
 pub held_more : (h : List Note) (n : Note) → held_in (h ++ n ∷ []) ≡ held_in h ++ held_in (n ∷ [])

@@ -33,7 +33,9 @@ fold_alike (x ∷ xs) (z ∷ zs) [] h g = absurd (false≢true h)
 fold_alike (x ∷ xs) (z ∷ zs) (y ∷ ys) h g =
     let p : folded_unit x ≡ folded_unit y = eqb-true _ _ (and_left _ (folds_same xs ys) h) in
     let q : folded_unit z ≡ folded_unit y = eqb-true _ _ (and_left _ (folds_same zs ys) g) in
-    and_both _ (folds_same xs zs) (eq-eqb _ _ (p ∙ sym q)) (fold_alike xs zs ys (and_right (folded_unit x == folded_unit y) _ h) (and_right (folded_unit z == folded_unit y) _ g))
+    and_both _ (folds_same xs zs) (eq-eqb _ _ (p ∙ sym q))
+    (fold_alike xs zs ys (and_right (folded_unit x == folded_unit y) _ h)
+    (and_right (folded_unit z == folded_unit y) _ g))
 
 -- where they do not, no name folds to both
 pub apart : (a c b : List ℕ) → folds_same a c ≡ false → folds_same c b ≡ true → folds_same a b ≡ false
@@ -69,7 +71,8 @@ one_number n m h g e =
     number_is n m
     (same_digit (n / 100) (m / 100) (omega arith) (omega arith) (and_left first (second && (third && true)) all))
     (same_digit (n / 10 % 10) (m / 10 % 10) (omega arith) (omega arith) (and_left second (third && true) rest))
-    (same_digit (n % 10) (m % 10) (omega arith) (omega arith) (and_left third true (and_right second (third && true) rest)))
+    (same_digit (n % 10) (m % 10) (omega arith) (omega arith)
+    (and_left third true (and_right second (third && true) rest)))
 
 pub other_number : (n m : ℕ) → n ≤ 999 → m ≤ 999 → (n ≡ m → ⊥) → folds_same (set_name n) (set_name m) ≡ false
 other_number n m h g ne = split (folds_same (set_name n) (set_name m)) refl

@@ -11,7 +11,8 @@ use Rattle.start_laws.proofs.SaveLemmas.{save_case, saves}
 
 -- ---- a beginning
 
-plan_numbers : (version : HiveVersion) (t u : Tree) (on_good : Bool) (plan : SetPlan) → begin_plan_of (select_numbers_of t) (usable_numbers_of t) on_good ≡ Ok plan → stepped version t plan.steps ≡ Ok u
+plan_numbers : (version : HiveVersion) (t u : Tree) (on_good : Bool) (plan : SetPlan)
+    → begin_plan_of (select_numbers_of t) (usable_numbers_of t) on_good ≡ Ok plan → stepped version t plan.steps ≡ Ok u
     → (select_numbers_of t).default < 2 ^ 32 → plan.numbers ≡ select_numbers_of u
 plan_numbers version t u on_good plan is made fits =
     let b = begin_case (select_numbers_of t) (usable_numbers_of t) on_good plan is in
@@ -23,29 +24,39 @@ plan_numbers version t u on_good plan is made fits =
     s : Begins t on_good plan.chosen u
     s = begins version t u on_good plan is made
 
-    split : has_number (usable_numbers_of t) (taken_number (select_numbers_of t) on_good) ≡ true → BeginCase (select_numbers_of t) (usable_numbers_of t) on_good plan → plan.numbers ≡ select_numbers_of u
+    split : has_number (usable_numbers_of t) (taken_number (select_numbers_of t) on_good) ≡ true
+        → BeginCase (select_numbers_of t) (usable_numbers_of t) on_good plan → plan.numbers ≡ select_numbers_of u
     split usable (guarded free free_is same p) =
-        let g = begins_guarded t u on_good free usable free_is same (ap (λ (q : SetPlan). after_steps t q.steps) (sym p) ∙ all) in
-        let n : taken_number (select_numbers_of t) on_good ≡ (select_numbers_of u).current = sym s.taken ∙ sym s.current in
-        let d : taken_number (select_numbers_of t) on_good ≡ (select_numbers_of u).default = sym s.taken ∙ sym s.default in
+        let g = begins_guarded t u on_good free usable free_is same
+        (ap (λ (q : SetPlan). after_steps t q.steps) (sym p) ∙ all) in
+        let n : taken_number (select_numbers_of t) on_good ≡ (select_numbers_of u).current =
+        sym s.taken ∙ sym s.current in
+        let d : taken_number (select_numbers_of t) on_good ≡ (select_numbers_of u).default =
+        sym s.taken ∙ sym s.default in
         let f : (begun (select_numbers_of t) on_good).failed ≡ (select_numbers_of u).failed = sym (s.failed fits) in
         let l : free ≡ (select_numbers_of u).good = sym g.1 in
         ap (λ (q : SetPlan). q.numbers) p ∙ (λ i. record { current = n i; default = d i; failed = f i; good = l i })
     split usable (plain other p) =
-        let n : taken_number (select_numbers_of t) on_good ≡ (select_numbers_of u).current = sym s.taken ∙ sym s.current in
-        let d : taken_number (select_numbers_of t) on_good ≡ (select_numbers_of u).default = sym s.taken ∙ sym s.default in
+        let n : taken_number (select_numbers_of t) on_good ≡ (select_numbers_of u).current =
+        sym s.taken ∙ sym s.current in
+        let d : taken_number (select_numbers_of t) on_good ≡ (select_numbers_of u).default =
+        sym s.taken ∙ sym s.default in
         let f : (begun (select_numbers_of t) on_good).failed ≡ (select_numbers_of u).failed = sym (s.failed fits) in
-        let l : (select_numbers_of t).good ≡ (select_numbers_of u).good = sym (s.unguarded (λ e. other (e ∙ s.taken))) in
+        let l : (select_numbers_of t).good ≡ (select_numbers_of u).good =
+        sym (s.unguarded (λ e. other (e ∙ s.taken))) in
         ap (λ (q : SetPlan). q.numbers) p ∙ (λ i. record { current = n i; default = d i; failed = f i; good = l i })
 
-pub begin_numbers : (version : HiveVersion) (t : Tree) (on_good : Bool) (change : SetChange) → begin_of version t on_good ≡ Ok change → (select_numbers_of t).default < 2 ^ 32 → change.numbers ≡ select_numbers_of change.tree
+pub begin_numbers : (version : HiveVersion) (t : Tree) (on_good : Bool) (change : SetChange)
+    → begin_of version t on_good ≡ Ok change → (select_numbers_of t).default < 2 ^ 32
+    → change.numbers ≡ select_numbers_of change.tree
 begin_numbers version t on_good change e fits =
     let p = by_plan version t (begin_plan_of (select_numbers_of t) (usable_numbers_of t) on_good) change e in
     sym p.numbers ∙ plan_numbers version t change.tree on_good p.plan p.is p.made fits
 
 -- ---- a save
 
-pub save_numbers : (version : HiveVersion) (t clone : Tree) (change : SetChange) → save_of version t clone ≡ Ok change → change.numbers ≡ select_numbers_of change.tree
+pub save_numbers : (version : HiveVersion) (t clone : Tree) (change : SetChange) → save_of version t clone ≡ Ok change
+    → change.numbers ≡ select_numbers_of change.tree
 save_numbers version t clone change e =
     let p = by_plan version t (save_plan_of (select_numbers_of t) (usable_numbers_of t) clone) change e in
     let c = save_case (select_numbers_of t) (usable_numbers_of t) clone p.plan p.is in
@@ -53,5 +64,7 @@ save_numbers version t clone change e =
     let current : (select_numbers_of t).current ≡ (select_numbers_of change.tree).current = sym s.current in
     let default : (select_numbers_of t).default ≡ (select_numbers_of change.tree).default = sym s.default in
     let failed : (select_numbers_of t).failed ≡ (select_numbers_of change.tree).failed = sym s.failed in
-    let good : c.free ≡ (select_numbers_of change.tree).good = sym (ap (λ (q : SetPlan). q.chosen) c.plan_is) ∙ sym s.good in
-    sym p.numbers ∙ ap (λ (q : SetPlan). q.numbers) c.plan_is ∙ (λ i. record { current = current i; default = default i; failed = failed i; good = good i })
+    let good : c.free ≡ (select_numbers_of change.tree).good =
+    sym (ap (λ (q : SetPlan). q.chosen) c.plan_is) ∙ sym s.good in
+    sym p.numbers ∙ ap (λ (q : SetPlan). q.numbers) c.plan_is
+    ∙ (λ i. record { current = current i; default = default i; failed = failed i; good = good i })

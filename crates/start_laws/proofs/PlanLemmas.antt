@@ -26,16 +26,20 @@ none_of : (a b : Bool) → (a || b) ≡ false → b ≡ false
 none_of true b h = absurd (false≢true (sym h))
 none_of false b h = h
 
-pub retired : (numbers : List ℕ) (t u : Tree) → Small numbers → after_steps t (deletions numbers) ≡ Ok u → Retires t u numbers
-retired [] t u small e = let same : u ≡ t = sym (ok_is t u e) in record { sets = λ n le no. ap (λ v. set_of v n) same; select = ap select_key same }
+pub retired : (numbers : List ℕ) (t u : Tree) → Small numbers → after_steps t (deletions numbers) ≡ Ok u
+    → Retires t u numbers
+retired [] t u small e = let same : u ≡ t = sym (ok_is t u e) in
+    record { sets = λ n le no. ap (λ v. set_of v n) same; select = ap select_key same }
 retired (r ∷ rs) t u small e =
     let one = one_step (delete_key (set_name r ∷ [])) (deletions rs) t u e in
-    let is : without_set r t ≡ one.middle = deleted-is r t one.middle (single (delete_key (set_name r ∷ [])) t one.middle one.front) in
+    let is : without_set r t ≡ one.middle =
+    deleted-is r t one.middle (single (delete_key (set_name r ∷ [])) t one.middle one.front) in
     let P : Tree → Type 0 = λ v. KeepsOthers t v r in
     let first : KeepsOthers t one.middle r = subst P is (without_set-keeps r t small.0.1) in
     let deep = retired rs one.middle u small.1 one.back in
     record {
-      sets = λ n le no. deep.sets n le (none_of (r == n) (has_number rs n) no) ∙ first.sets n le (not_it r n (has_number rs n) no);
+      sets = λ n le no. deep.sets n le (none_of (r == n) (has_number rs n) no)
+          ∙ first.sets n le (not_it r n (has_number rs n) no);
       select = deep.select ∙ first.select;
     }
 
@@ -48,16 +52,20 @@ Fitting old new = (new < 2 ^ 32) ⊎ (old ≡ new)
 pub record Rewrites (t u : Tree) (name : List ℕ) (old new : ℕ) : Type 0 where
   pub sets : (n : ℕ) → set_of u n ≡ set_of t n
   pub here : old ≡ select_number name (select_key t) → Fitting old new → select_number name (select_key u) ≡ new
-  pub others : (m : List ℕ) → folds_same m name ≡ false → select_number m (select_key u) ≡ select_number m (select_key t)
+  pub others : (m : List ℕ) → folds_same m name ≡ false
+      → select_number m (select_key u) ≡ select_number m (select_key t)
 
-pub rewritten : (name : List ℕ) (old new : ℕ) (t u : Tree) → after_steps t (written name old new) ≡ Ok u → Rewrites t u name old new
+pub rewritten : (name : List ℕ) (old new : ℕ) (t u : Tree) → after_steps t (written name old new) ≡ Ok u
+    → Rewrites t u name old new
 rewritten name old new t u e = split (old == new) refl e
   where
     fits : (old == new) ≡ false → Fitting old new → new < 2 ^ 32
     fits differs (inl small) = small
     fits differs (inr same) = absurd (false≢true (sym differs ∙ eq-eqb old new same))
 
-    split : (b : Bool) → (old == new) ≡ b → after_steps t (cond b [] (set_value (codes "Select" ∷ []) name 4 (to_le_bytes w32 new) ∷ [])) ≡ Ok u → Rewrites t u name old new
+    split : (b : Bool) → (old == new) ≡ b
+        → after_steps t (cond b [] (set_value (codes "Select" ∷ []) name 4 (to_le_bytes w32 new) ∷ [])) ≡ Ok u
+        → Rewrites t u name old new
     split true is made =
         let same : u ≡ t = sym (ok_is t u made) in
         record {
@@ -83,7 +91,8 @@ pub record Writes (t u : Tree) (old new : SelectNumbers) : Type 0 where
   pub failed : Fitting old.failed new.failed → (select_numbers_of u).failed ≡ new.failed
   pub good : Fitting old.good new.good → (select_numbers_of u).good ≡ new.good
 
-pub all_written : (old new : SelectNumbers) (t u : Tree) → select_numbers_of t ≡ old → after_steps t (writes_of old new) ≡ Ok u → Writes t u old new
+pub all_written : (old new : SelectNumbers) (t u : Tree) → select_numbers_of t ≡ old
+    → after_steps t (writes_of old new) ≡ Ok u → Writes t u old new
 unfolding select_key
 all_written old new t u was e =
     let current : List Step = written (codes "Current") old.current new.current in
@@ -99,15 +108,20 @@ all_written old new t u was e =
     let d = rewritten (codes "LastKnownGood") old.good new.good three.middle u three.back in
     record {
       sets = λ n. d.sets n ∙ c.sets n ∙ b.sets n ∙ a.sets n;
-      current = λ fit. d.others (codes "Current") refl ∙ c.others (codes "Current") refl ∙ b.others (codes "Current") refl ∙ a.here (ap (λ (s : SelectNumbers). s.current) (sym was)) fit;
-      default = λ fit. d.others (codes "Default") refl ∙ c.others (codes "Default") refl ∙ b.here (ap (λ (s : SelectNumbers). s.default) (sym was) ∙ sym (a.others (codes "Default") refl)) fit;
+      current = λ fit. d.others (codes "Current") refl ∙ c.others (codes "Current") refl
+          ∙ b.others (codes "Current") refl ∙ a.here (ap (λ (s : SelectNumbers). s.current) (sym was)) fit;
+      default = λ fit. d.others (codes "Default") refl ∙ c.others (codes "Default") refl
+          ∙ b.here (ap (λ (s : SelectNumbers). s.default) (sym was) ∙ sym (a.others (codes "Default") refl)) fit;
       failed = λ fit. d.others (codes "Failed") refl
-          ∙ c.here (ap (λ (s : SelectNumbers). s.failed) (sym was) ∙ sym (a.others (codes "Failed") refl) ∙ sym (b.others (codes "Failed") refl)) fit;
-      good = λ fit. d.here (ap (λ (s : SelectNumbers). s.good) (sym was) ∙ sym (a.others (codes "LastKnownGood") refl) ∙ sym (b.others (codes "LastKnownGood") refl) ∙ sym (c.others (codes "LastKnownGood") refl)) fit;
+          ∙ c.here (ap (λ (s : SelectNumbers). s.failed) (sym was) ∙ sym (a.others (codes "Failed") refl)
+          ∙ sym (b.others (codes "Failed") refl)) fit;
+      good = λ fit. d.here (ap (λ (s : SelectNumbers). s.good) (sym was) ∙ sym (a.others (codes "LastKnownGood") refl)
+          ∙ sym (b.others (codes "LastKnownGood") refl) ∙ sym (c.others (codes "LastKnownGood") refl)) fit;
     }
 
 -- no set is touched
-pub writes_keep_sets : (old new : SelectNumbers) (t u : Tree) → after_steps t (writes_of old new) ≡ Ok u → (n : ℕ) → set_of u n ≡ set_of t n
+pub writes_keep_sets : (old new : SelectNumbers) (t u : Tree) → after_steps t (writes_of old new) ≡ Ok u → (n : ℕ)
+    → set_of u n ≡ set_of t n
 writes_keep_sets old new t u e n =
     let current : List Step = written (codes "Current") old.current new.current in
     let default : List Step = written (codes "Default") old.default new.default in
@@ -140,15 +154,21 @@ no_loss : (a b : Bool) → a ≡ false → (a && b) ≡ false
 no_loss true b h = absurd (false≢true (sym h))
 no_loss false b h = refl
 
-pub settled : (usable : List ℕ) (old new : SelectNumbers) (t middle u : Tree) → Small (retired_of usable old new) → select_numbers_of t ≡ old
-    → after_steps t (deletions_of usable old new) ≡ Ok middle → after_steps middle (writes_of old new) ≡ Ok u → Settles t u old new
+pub settled : (usable : List ℕ) (old new : SelectNumbers) (t middle u : Tree) → Small (retired_of usable old new)
+    → select_numbers_of t ≡ old
+    → after_steps t (deletions_of usable old new) ≡ Ok middle → after_steps middle (writes_of old new) ≡ Ok u
+    → Settles t u old new
 unfolding select_key
 settled usable old new t middle u small was gone made =
     let r = retired (retired_of usable old new) t middle small gone in
     let w = all_written old new middle u (ap numbers_in r.select ∙ was) made in
     record {
-      sets = λ n le named. w.sets n ∙ r.sets n le (has_not (λ n. has_number (four_of old) n && not (has_number (four_of new) n)) usable n (stays (has_number (four_of old) n) (has_number (four_of new) n) named));
-      others = λ n le unnamed. w.sets n ∙ r.sets n le (has_not (λ n. has_number (four_of old) n && not (has_number (four_of new) n)) usable n (no_loss (has_number (four_of old) n) (not (has_number (four_of new) n)) unnamed));
+      sets = λ n le named. w.sets n
+          ∙ r.sets n le (has_not (λ n. has_number (four_of old) n && not (has_number (four_of new) n)) usable n
+          (stays (has_number (four_of old) n) (has_number (four_of new) n) named));
+      others = λ n le unnamed. w.sets n
+          ∙ r.sets n le (has_not (λ n. has_number (four_of old) n && not (has_number (four_of new) n)) usable n
+          (no_loss (has_number (four_of old) n) (not (has_number (four_of new) n)) unnamed));
       current = w.current;
       default = w.default;
       failed = w.failed;

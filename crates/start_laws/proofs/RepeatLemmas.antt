@@ -32,7 +32,8 @@ or_all true m n h le = refl
 or_all false m n h le = let ge : n ≤ m = grind (arith, nat_tests) in omega arith
 
 first_is : {X : Type 0} (p : X → Bool) (xs : List X) → first_place p xs ≡ at p xs
-first_is p xs = or_all (nat_lt (position_or_len p xs) (length xs)) (position_or_len p xs) (length xs) refl (prefix_len-le-length (λ x. not (p x)) xs) ∙ sym (at_is p xs)
+first_is p xs = or_all (nat_lt (position_or_len p xs) (length xs)) (position_or_len p xs) (length xs) refl
+    (prefix_len-le-length (λ x. not (p x)) xs) ∙ sym (at_is p xs)
 
 at_map : {X Y : Type 0} (f : X → Y) (p : Y → Bool) (xs : List X) → at p (map f xs) ≡ at (λ x. p (f x)) xs
 at_map f p [] = refl
@@ -47,11 +48,13 @@ map_length f [] = refl
 map_length f (x ∷ xs) = ap suc (map_length f xs)
 
 -- what stands there
-got : {X Y : Type 0} (f : X → Y) (p : X → Bool) (xs : List X) → slice_get (map f xs) (at p xs) ≡ option_map f (find p xs)
+got : {X Y : Type 0} (f : X → Y) (p : X → Bool) (xs : List X)
+    → slice_get (map f xs) (at p xs) ≡ option_map f (find p xs)
 got f p [] = refl
 got f p (x ∷ xs) = by_case (p x) (got f p xs)
   where
-    by_case : (b : Bool) → slice_get (map f xs) (at p xs) ≡ option_map f (find p xs) → slice_get (f x ∷ map f xs) (cond b 0 (suc (at p xs))) ≡ option_map f (cond b (Some x) (find p xs))
+    by_case : (b : Bool) → slice_get (map f xs) (at p xs) ≡ option_map f (find p xs)
+        → slice_get (f x ∷ map f xs) (cond b 0 (suc (at p xs))) ≡ option_map f (cond b (Some x) (find p xs))
     by_case true rest = refl
     by_case false rest = rest
 
@@ -75,23 +78,29 @@ heads false false m n k l h = shift m n ∙ h refl refl ∙ sym (shift k l)
 
 -- ---- without some that do not pass
 
-thinned : {X : Type 0} (q p r : X → Bool) (xs : List X) → ((x : X) → q x ≡ false → p x ≡ false) → ((x : X) → q x ≡ false → r x ≡ false)
+thinned : {X : Type 0} (q p r : X → Bool) (xs : List X) → ((x : X) → q x ≡ false → p x ≡ false)
+    → ((x : X) → q x ≡ false → r x ≡ false)
     → nat_cmp (at p (filter q xs)) (at r (filter q xs)) ≡ nat_cmp (at p xs) (at r xs)
 thinned q p r [] g h = refl
 thinned q p r (x ∷ xs) g h = by_case (thinned q p r xs g h) (q x) refl
   where
     by_case : nat_cmp (at p (filter q xs)) (at r (filter q xs)) ≡ nat_cmp (at p xs) (at r xs) → (b : Bool) → q x ≡ b
-        → nat_cmp (at p (cond b (x ∷ filter q xs) (filter q xs))) (at r (cond b (x ∷ filter q xs) (filter q xs))) ≡ nat_cmp (cond (p x) 0 (suc (at p xs))) (cond (r x) 0 (suc (at r xs)))
-    by_case deeper true e = heads (p x) (r x) (at p (filter q xs)) (at r (filter q xs)) (at p xs) (at r xs) (λ a b. deeper)
+        → nat_cmp (at p (cond b (x ∷ filter q xs) (filter q xs))) (at r (cond b (x ∷ filter q xs) (filter q xs)))
+        ≡ nat_cmp (cond (p x) 0 (suc (at p xs))) (cond (r x) 0 (suc (at r xs)))
+    by_case deeper true e = heads (p x) (r x) (at p (filter q xs)) (at r (filter q xs)) (at p xs) (at r xs)
+        (λ a b. deeper)
     by_case deeper false e =
-        deeper ∙ sym (shift (at p xs) (at r xs)) ∙ ap (λ a. nat_cmp (cond a 0 (suc (at p xs))) (suc (at r xs))) (sym (g x e))
+        deeper ∙ sym (shift (at p xs) (at r xs))
+        ∙ ap (λ a. nat_cmp (cond a 0 (suc (at p xs))) (suc (at r xs))) (sym (g x e))
         ∙ ap (λ b. nat_cmp (cond (p x) 0 (suc (at p xs))) (cond b 0 (suc (at r xs)))) (sym (h x e))
 
-find_thinned : {X : Type 0} (q p : X → Bool) (xs : List X) → ((x : X) → q x ≡ false → p x ≡ false) → find p (filter q xs) ≡ find p xs
+find_thinned : {X : Type 0} (q p : X → Bool) (xs : List X) → ((x : X) → q x ≡ false → p x ≡ false)
+    → find p (filter q xs) ≡ find p xs
 find_thinned q p [] g = refl
 find_thinned q p (x ∷ xs) g = by_case (find_thinned q p xs g) (q x) refl
   where
-    by_case : find p (filter q xs) ≡ find p xs → (b : Bool) → q x ≡ b → find p (cond b (x ∷ filter q xs) (filter q xs)) ≡ cond (p x) (Some x) (find p xs)
+    by_case : find p (filter q xs) ≡ find p xs → (b : Bool) → q x ≡ b
+        → find p (cond b (x ∷ filter q xs) (filter q xs)) ≡ cond (p x) (Some x) (find p xs)
     by_case rest true e = ap (cond (p x) (Some x)) rest
     by_case rest false e = rest ∙ ap (λ a. cond a (Some x) (find p xs)) (sym (g x e))
 
@@ -101,7 +110,8 @@ find_thinned q p (x ∷ xs) g = by_case (find_thinned q p xs g) (q x) refl
 abbrev named : Option (List ℕ) → List ℕ → Bool
 named group n = option_map_or (λ name. folds_same name n) group false
 
-not_named : (group : Option (List ℕ)) (n m : List ℕ) → named group n ≡ false → not (folds_same n m) ≡ false → named group m ≡ false
+not_named : (group : Option (List ℕ)) (n m : List ℕ) → named group n ≡ false → not (folds_same n m) ≡ false
+    → named group m ≡ false
 not_named None n m h g = refl
 not_named (Some name) n m h g = by_case (folds_same name m) (folds_same n m) refl refl g
   where
@@ -110,30 +120,40 @@ not_named (Some name) n m h g = by_case (folds_same name m) (folds_same n m) ref
     by_case true false e f g = absurd (false≢true (sym g))
     by_case false b e f g = refl
 
-once : (g h : Option (List ℕ)) (ns : List (List ℕ)) → nat_cmp (at (named g) (first_names ns)) (at (named h) (first_names ns)) ≡ nat_cmp (at (named g) ns) (at (named h) ns)
+once : (g h : Option (List ℕ)) (ns : List (List ℕ))
+    → nat_cmp (at (named g) (first_names ns)) (at (named h) (first_names ns))
+    ≡ nat_cmp (at (named g) ns) (at (named h) ns)
 once g h [] = refl
 once g h (n ∷ ns) =
     let q : List ℕ → Bool = λ m. not (folds_same n m) in
     let rest : List (List ℕ) = filter q (first_names ns) in
     heads (named g n) (named h n) (at (named g) rest) (at (named h) rest) (at (named g) ns) (at (named h) ns)
-    (λ a b. thinned q (named g) (named h) (first_names ns) (λ m. not_named g n m a) (λ m. not_named h n m b) ∙ once g h ns)
+    (λ a b. thinned q (named g) (named h) (first_names ns) (λ m. not_named g n m a) (λ m. not_named h n m b)
+    ∙ once g h ns)
 
 found : (g : Option (List ℕ)) (ns : List (List ℕ)) → find (named g) (first_names ns) ≡ find (named g) ns
 found g [] = refl
 found g (n ∷ ns) = by_case (found g ns) (named g n) refl
   where
-    by_case : find (named g) (first_names ns) ≡ find (named g) ns → (a : Bool) → named g n ≡ a → cond a (Some n) (find (named g) (filter (λ m. not (folds_same n m)) (first_names ns))) ≡ cond a (Some n) (find (named g) ns)
+    by_case : find (named g) (first_names ns) ≡ find (named g) ns → (a : Bool) → named g n ≡ a
+        → cond a (Some n) (find (named g) (filter (λ m. not (folds_same n m)) (first_names ns)))
+        ≡ cond a (Some n) (find (named g) ns)
     by_case rest true e = refl
-    by_case rest false e = find_thinned (λ m. not (folds_same n m)) (named g) (first_names ns) (λ m. not_named g n m e) ∙ rest
+    by_case rest false e = find_thinned (λ m. not (folds_same n m)) (named g) (first_names ns) (λ m. not_named g n m e)
+        ∙ rest
 
 -- ---- ranks
 
-place_is : (lists : Option Tree) (ns : List (List ℕ)) (g : Option (List ℕ)) → group_place (map (order_of lists) ns) g ≡ at (named g) ns
+place_is : (lists : Option Tree) (ns : List (List ℕ)) (g : Option (List ℕ))
+    → group_place (map (order_of lists) ns) g ≡ at (named g) ns
 place_is lists ns None = map_length (order_of lists) ns ∙ sym (at_none ns)
-place_is lists ns (Some name) = first_is (λ (o : GroupOrder). folds_same name o.name) (map (order_of lists) ns) ∙ at_map (order_of lists) (λ (o : GroupOrder). folds_same name o.name) ns
+place_is lists ns (Some name) =
+    first_is (λ (o : GroupOrder). folds_same name o.name) (map (order_of lists) ns)
+    ∙ at_map (order_of lists) (λ (o : GroupOrder). folds_same name o.name) ns
 
 groups_alike : (lists : Option Tree) (ns : List (List ℕ)) (g h : Option (List ℕ))
-    → nat_cmp (group_place (map (order_of lists) (first_names ns)) g) (group_place (map (order_of lists) (first_names ns)) h)
+    → nat_cmp (group_place (map (order_of lists) (first_names ns)) g)
+    (group_place (map (order_of lists) (first_names ns)) h)
     ≡ nat_cmp (group_place (map (order_of lists) ns) g) (group_place (map (order_of lists) ns) h)
 groups_alike lists ns g h =
     ap (λ m. nat_cmp m (group_place (map (order_of lists) (first_names ns)) h)) (place_is lists (first_names ns) g)
@@ -143,27 +163,37 @@ groups_alike lists ns g h =
     ∙ ap (nat_cmp (group_place (map (order_of lists) ns) g)) (sym (place_is lists ns h))
 
 abbrev tag_in : Option ℕ → Option GroupOrder → ℕ
-tag_in tag o = option_map_or (λ (o : GroupOrder). option_map_or (λ t. first_place (λ x. nat_eq x t) o.tags) tag (length o.tags)) o 0
+tag_in tag o = option_map_or
+    (λ (o : GroupOrder). option_map_or (λ t. first_place (λ x. nat_eq x t) o.tags) tag (length o.tags)) o 0
 
 tag_by_name : (lists : Option Tree) (ns : List (List ℕ)) (g : Option (List ℕ)) (tag : Option ℕ)
-    → tag_place_in (map (order_of lists) ns) (group_place (map (order_of lists) ns) g) tag ≡ tag_in tag (option_map (order_of lists) (find (named g) ns))
-tag_by_name lists ns g tag = ap (λ p. tag_place_in (map (order_of lists) ns) p tag) (place_is lists ns g) ∙ ap (tag_in tag) (got (order_of lists) (named g) ns)
+    → tag_place_in (map (order_of lists) ns) (group_place (map (order_of lists) ns) g) tag
+    ≡ tag_in tag (option_map (order_of lists) (find (named g) ns))
+tag_by_name lists ns g tag =
+    ap (λ p. tag_place_in (map (order_of lists) ns) p tag) (place_is lists ns g)
+    ∙ ap (tag_in tag) (got (order_of lists) (named g) ns)
 
 tags_alike : (lists : Option Tree) (ns : List (List ℕ)) (g : Option (List ℕ)) (tag : Option ℕ) (counts : Bool)
     → tag_place (map (order_of lists) (first_names ns)) g tag counts ≡ tag_place (map (order_of lists) ns) g tag counts
 tags_alike lists ns g tag false = refl
 tags_alike lists ns g tag true =
-    tag_by_name lists (first_names ns) g tag ∙ ap (λ o. tag_in tag (option_map (order_of lists) o)) (found g ns) ∙ sym (tag_by_name lists ns g tag)
+    tag_by_name lists (first_names ns) g tag ∙ ap (λ o. tag_in tag (option_map (order_of lists) o)) (found g ns)
+    ∙ sym (tag_by_name lists ns g tag)
 
 -- a rank by the first names is before another exactly where it is by all names
 pub before_alike : (lists : Option Tree) (ns : List (List ℕ)) (counts : Bool) (p q : ℕ) (a b : Entry)
-    → is_before (rank_of (map (order_of lists) (first_names ns)) counts p a) (rank_of (map (order_of lists) (first_names ns)) counts q b)
+    → is_before (rank_of (map (order_of lists) (first_names ns)) counts p a)
+    (rank_of (map (order_of lists) (first_names ns)) counts q b)
     ≡ is_before (rank_of (map (order_of lists) ns) counts p a) (rank_of (map (order_of lists) ns) counts q b)
 before_alike lists ns counts p q a b =
     let once : List GroupOrder = map (order_of lists) (first_names ns) in
     let all : List GroupOrder = map (order_of lists) ns in
-    ap (λ o. is_lt (ordering_then o (ordering_then (nat_cmp (tag_place once a.group a.tag counts) (tag_place once b.group b.tag counts)) (nat_cmp p q)))) (groups_alike lists ns a.group b.group)
-    ∙ ap (λ m. is_lt (ordering_then (nat_cmp (group_place all a.group) (group_place all b.group)) (ordering_then (nat_cmp m (tag_place once b.group b.tag counts)) (nat_cmp p q))))
+    ap (λ o. is_lt (ordering_then o
+    (ordering_then (nat_cmp (tag_place once a.group a.tag counts) (tag_place once b.group b.tag counts))
+    (nat_cmp p q)))) (groups_alike lists ns a.group b.group)
+    ∙ ap (λ m. is_lt (ordering_then (nat_cmp (group_place all a.group) (group_place all b.group))
+    (ordering_then (nat_cmp m (tag_place once b.group b.tag counts)) (nat_cmp p q))))
     (tags_alike lists ns a.group a.tag counts)
-    ∙ ap (λ m. is_lt (ordering_then (nat_cmp (group_place all a.group) (group_place all b.group)) (ordering_then (nat_cmp (tag_place all a.group a.tag counts) m) (nat_cmp p q))))
+    ∙ ap (λ m. is_lt (ordering_then (nat_cmp (group_place all a.group) (group_place all b.group))
+    (ordering_then (nat_cmp (tag_place all a.group a.tag counts) m) (nat_cmp p q))))
     (tags_alike lists ns b.group b.tag counts)

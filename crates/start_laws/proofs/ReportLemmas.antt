@@ -19,32 +19,43 @@ use Rattle.start_laws.proofs.TakeLemmas.{run_of-takes, run_of-few}
 use Rattle.start_laws.proofs.FrontLemmas.{run_of-front}
 
 -- what fits could be
-pub possible_by : (images : List Image) (wakes : List Woken) (ps : List Possible) → Fits images wakes ps → ArePossible wakes ps
+pub possible_by : (images : List Image) (wakes : List Woken) (ps : List Possible) → Fits images wakes ps
+    → ArePossible wakes ps
 possible_by images wakes ps f = fits_possible images wakes ps f
 
-pub report-possible : (choice : Option ℕ → Choice) (script : List Event) (placed : Woken) (images : List Image) (left : Image → Type 0) (text : List ℕ) (r : Report (run_of choice script placed) images left text)
+pub report-possible : (choice : Option ℕ → Choice) (script : List Event) (placed : Woken) (images : List Image)
+    (left : Image → Type 0) (text : List ℕ) (r : Report (run_of choice script placed) images left text)
     → ArePossible r.woken (woke_in (run_of choice script placed r.woken (outcomes_of text)).notes)
-report-possible choice script placed images left text r = fits_possible images r.woken (woke_in (run_of choice script placed r.woken (outcomes_of text)).notes) r.fits
+report-possible choice script placed images left text r =
+    fits_possible images r.woken (woke_in (run_of choice script placed r.woken (outcomes_of text)).notes) r.fits
 
-pub report-ended : (choice : Option ℕ → Choice) (script : List Event) (placed : Woken) (images : List Image) (left : Image → Type 0) (text : List ℕ) (r : Report (run_of choice script placed) images left text)
+pub report-ended : (choice : Option ℕ → Choice) (script : List Event) (placed : Woken) (images : List Image)
+    (left : Image → Type 0) (text : List ℕ) (r : Report (run_of choice script placed) images left text)
     → ended_in (run_of choice script placed r.woken (outcomes_of text)).notes ≡ outcomes_of text
 report-ended choice script placed images left text r =
     let t = run_of-takes choice script placed r.woken (outcomes_of text) r.last [] [] r.taken in
     t.noted ∙ sym (append-nil t.ended) ∙ sym t.outcomes_are
 
-pub report-quiet : (choice : Option ℕ → Choice) (script : List Event) (placed : Woken) (images : List Image) (left : Image → Type 0) (text : List ℕ) (r : Report (run_of choice script placed) images left text)
-    → AllFinished (outcomes_of text) → IsQuiet choice script placed (run_of choice script placed r.woken (outcomes_of text)) r.last
+pub report-quiet : (choice : Option ℕ → Choice) (script : List Event) (placed : Woken) (images : List Image)
+    (left : Image → Type 0) (text : List ℕ) (r : Report (run_of choice script placed) images left text)
+    → AllFinished (outcomes_of text)
+    → IsQuiet choice script placed (run_of choice script placed r.woken (outcomes_of text)) r.last
 report-quiet choice script placed images left text r all =
-    run_of-quiet choice script placed r.woken (outcomes_of text) r.last [] [] r.taken (report-possible choice script placed images left text r) all
+    run_of-quiet choice script placed r.woken (outcomes_of text) r.last [] [] r.taken
+    (report-possible choice script placed images left text r) all
 
-pub report-quiet_text : (choice : Option ℕ → Choice) (script : List Event) (placed : Woken) (images : List Image) (left : Image → Type 0) (text : List ℕ) → Report (run_of choice script placed) images left text
+pub report-quiet_text : (choice : Option ℕ → Choice) (script : List Event) (placed : Woken) (images : List Image)
+    (left : Image → Type 0) (text : List ℕ) → Report (run_of choice script placed) images left text
     → AllFinished (outcomes_of text) → text ≡ text_of (quiet_run_of choice script placed).lines
-report-quiet_text choice script placed images left text r all = r.lines ∙ ap text_of (report-quiet choice script placed images left text r all).lines
+report-quiet_text choice script placed images left text r all =
+    r.lines ∙ ap text_of (report-quiet choice script placed images left text r all).lines
 
-pub report-quiet_loads : (choice : Option ℕ → Choice) (script : List Event) (placed : Woken) (images : List Image) (left : Image → Type 0) (text : List ℕ) → Report (run_of choice script placed) images left text
+pub report-quiet_loads : (choice : Option ℕ → Choice) (script : List Event) (placed : Woken) (images : List Image)
+    (left : Image → Type 0) (text : List ℕ) → Report (run_of choice script placed) images left text
     → AllFinished (outcomes_of text) → (c : Image) → left c → MayLoad (quiet_run_of choice script placed).state.disk c
 report-quiet_loads choice script placed images left text r all c l =
-    let P : RunState → Type 0 = λ m. MayLoad m.disk c in subst P (report-quiet choice script placed images left text r all).state (r.loads c l)
+    let P : RunState → Type 0 = λ m. MayLoad m.disk c in
+    subst P (report-quiet choice script placed images left text r all).state (r.loads c l)
 
 -- ---- a front of a report
 
@@ -59,25 +70,37 @@ none_more ps [] le = refl
 none_more ps (q ∷ qs) le = absurd (omega (arith, length-append ps (q ∷ qs), le))
 
 -- the run with one outcome more takes no more wakes than the text's front had
-pub front-possible : (choice : Option ℕ → Choice) (script : List Event) (placed : Woken) (images : List Image) (left : Image → Type 0) (text : List ℕ) (r : ReportFront (run_of choice script placed) images left text)
+pub front-possible : (choice : Option ℕ → Choice) (script : List Event) (placed : Woken) (images : List Image)
+    (left : Image → Type 0) (text : List ℕ) (r : ReportFront (run_of choice script placed) images left text)
     → ArePossible r.woken (woke_in (run_of choice script placed r.woken (outcomes_of text ++ r.outcome ∷ [])).notes)
 front-possible choice script placed images left text r =
     let run : RunResult = run_of choice script placed r.woken (outcomes_of text ++ r.outcome ∷ []) in
     let might : ArePossible r.woken (woke_in r.notes) = fits_possible images r.woken (woke_in r.notes) r.fits in
-    let parts : woke_in run.notes ≡ woke_in r.notes ++ woke_in r.noted.rest = ap woke_in r.noted.cut ∙ woke_in-append r.notes r.noted.rest in
-    let few : length (woke_in run.notes) ≤ length r.woken = run_of-few choice script placed r.woken (outcomes_of text ++ r.outcome ∷ []) in
+    let parts : woke_in run.notes ≡ woke_in r.notes ++ woke_in r.noted.rest =
+    ap woke_in r.noted.cut ∙ woke_in-append r.notes r.noted.rest in
+    let few : length (woke_in run.notes) ≤ length r.woken =
+    run_of-few choice script placed r.woken (outcomes_of text ++ r.outcome ∷ []) in
     let many : length (woke_in r.notes) ≡ length r.woken = as_many r.woken (woke_in r.notes) might in
     let split : length (woke_in run.notes) ≡ length (woke_in r.notes ++ woke_in r.noted.rest) = ap length parts in
-    let none : woke_in r.noted.rest ≡ [] = none_more (woke_in r.notes) (woke_in r.noted.rest) (omega (arith, split, few, many)) in
-    let whole : woke_in run.notes ≡ woke_in r.notes = parts ∙ ap (λ l. woke_in r.notes ++ l) none ∙ append-nil (woke_in r.notes) in
+    let none : woke_in r.noted.rest ≡ [] =
+    none_more (woke_in r.notes) (woke_in r.noted.rest) (omega (arith, split, few, many)) in
+    let whole : woke_in run.notes ≡ woke_in r.notes =
+    parts ∙ ap (λ l. woke_in r.notes ++ l) none ∙ append-nil (woke_in r.notes) in
     let P : List Possible → Type 0 = ArePossible r.woken in
     subst P (sym whole) might
 
 -- with no outcome more, what the run woke up with is a front of that
-pub front-shorter : (choice : Option ℕ → Choice) (script : List Event) (placed : Woken) (images : List Image) (left : Image → Type 0) (text : List ℕ) (r : ReportFront (run_of choice script placed) images left text)
-    → (more : List Possible) × (woke_in (run_of choice script placed r.woken (outcomes_of text ++ r.outcome ∷ [])).notes ≡ woke_in (run_of choice script placed r.woken (outcomes_of text)).notes ++ more)
+pub front-shorter : (choice : Option ℕ → Choice) (script : List Event) (placed : Woken) (images : List Image)
+    (left : Image → Type 0) (text : List ℕ) (r : ReportFront (run_of choice script placed) images left text)
+    → (more : List Possible) × (woke_in (run_of choice script placed r.woken (outcomes_of text ++ r.outcome ∷ [])).notes
+    ≡ woke_in (run_of choice script placed r.woken (outcomes_of text)).notes ++ more)
 front-shorter choice script placed images left text r =
     let short : RunResult = run_of choice script placed r.woken (outcomes_of text) in
     let f = run_of-front choice script placed r.woken (outcomes_of text) [] (r.outcome ∷ []) in
-    let P : List Woken → Type 0 = λ w. woke_in (run_of choice script placed w (outcomes_of text ++ r.outcome ∷ [])).notes ≡ woke_in short.notes ++ woke_in f.notes.rest in
-    (woke_in f.notes.rest, subst P (append-nil r.woken) (ap woke_in f.notes.cut ∙ woke_in-append short.notes f.notes.rest))
+    let P : List Woken → Type 0 =
+    λ w. woke_in (run_of choice script placed w (outcomes_of text ++ r.outcome ∷ [])).notes ≡ woke_in short.notes
+    ++ woke_in f.notes.rest in (
+      woke_in f.notes.rest,
+      subst P (append-nil r.woken)
+          (ap woke_in f.notes.cut ∙ woke_in-append short.notes f.notes.rest),
+    )

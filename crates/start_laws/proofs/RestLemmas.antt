@@ -22,7 +22,8 @@ same_itself : (s : Tree) → SameButNumbers s s
 same_itself s = record { own = refl; keys = refl; items = λ name h. refl }
 
 same_on : (a b c : Tree) → SameButNumbers b a → SameButNumbers c b → SameButNumbers c a
-same_on a b c f g = record { own = g.own ∙ f.own; keys = g.keys ∙ f.keys; items = λ name h. g.items name h ∙ f.items name h }
+same_on a b c f g = record
+    { own = g.own ∙ f.own; keys = g.keys ∙ f.keys; items = λ name h. g.items name h ∙ f.items name h }
 
 pub rest_itself : (t : Tree) → KeepsRest t t
 rest_itself t = record { root = refl; paths = λ name path h. refl; select = λ old is. (old, (is, same_itself old)) }
@@ -41,13 +42,16 @@ rest_on t m u f g = record {
 abbrev pub Keeps : Step → Type 0
 Keeps s = (t u : Tree) → after_step s t ≡ Ok u → KeepsRest t u
 
-pub steps_keep : (steps : List Step) (t u : Tree) → AllByRecursion Keeps steps → after_steps t steps ≡ Ok u → KeepsRest t u
+pub steps_keep : (steps : List Step) (t u : Tree) → AllByRecursion Keeps steps → after_steps t steps ≡ Ok u
+    → KeepsRest t u
 steps_keep [] t u h e = let P : Tree → Type 0 = λ v. KeepsRest t v in subst P (ok_is t u e) (rest_itself t)
 steps_keep (s ∷ ss) t u h e =
     let one = one_step s ss t u e in
-    rest_on t one.middle u (h.0 t one.middle (single s t one.middle one.front)) (steps_keep ss one.middle u h.1 one.back)
+    rest_on t one.middle u (h.0 t one.middle (single s t one.middle one.front))
+    (steps_keep ss one.middle u h.1 one.back)
 
-pub keep_both : (xs ys : List Step) → AllByRecursion Keeps xs → AllByRecursion Keeps ys → AllByRecursion Keeps (xs ++ ys)
+pub keep_both : (xs ys : List Step) → AllByRecursion Keeps xs → AllByRecursion Keeps ys
+    → AllByRecursion Keeps (xs ++ ys)
 keep_both [] ys h g = g
 keep_both (x ∷ xs) ys h g = (h.0, keep_both xs ys h.1 g)
 
@@ -56,16 +60,21 @@ keep_both (x ∷ xs) ys h g = (h.0, keep_both xs ys h.1 g)
 head-of_children : (change : List Tree → List Tree) (t : Tree) → head (of_children change t) ≡ head t
 head-of_children change (key h ts) = refl
 
-children_rest : (change : List Tree → List Tree) (t : Tree) → ((name : List ℕ) → IsOther name → find (is_named name) (change (children t)) ≡ find (is_named name) (children t))
-    → ((old : Tree) → select_key t ≡ Some old → (new : Tree) × ((select_key (of_children change t) ≡ Some new) × SameButNumbers new old)) → KeepsRest t (of_children change t)
+children_rest : (change : List Tree → List Tree) (t : Tree)
+    → ((name : List ℕ) → IsOther name → find (is_named name) (change (children t)) ≡ find (is_named name) (children t))
+    → ((old : Tree) → select_key t ≡ Some old
+    → (new : Tree) × ((select_key (of_children change t) ≡ Some new) × SameButNumbers new old))
+    → KeepsRest t (of_children change t)
 unfolding select_key
 children_rest change t others select = record {
   root = head-of_children change t;
-  paths = λ name path h. ap (option_and_then (find_key path)) (ap (find (is_named name)) (children-of_children change t) ∙ others name h);
+  paths = λ name path h. ap (option_and_then (find_key path))
+      (ap (find (is_named name)) (children-of_children change t) ∙ others name h);
   select = select;
 }
 
-same_select : (t u : Tree) → select_key u ≡ select_key t → (old : Tree) → select_key t ≡ Some old → (new : Tree) × ((select_key u ≡ Some new) × SameButNumbers new old)
+same_select : (t u : Tree) → select_key u ≡ select_key t → (old : Tree) → select_key t ≡ Some old
+    → (new : Tree) × ((select_key u ≡ Some new) × SameButNumbers new old)
 same_select t u e old is = (old, (e ∙ is, same_itself old))
 
 -- ---- a set goes
@@ -74,11 +83,13 @@ without_set-rest : (r : ℕ) (t : Tree) → 1 ≤ r → r ≤ 999 → KeepsRest 
 unfolding without_set
 without_set-rest r t low high =
     children_rest (without_first (is_named (set_name r))) t
-    (λ name h. find-without_first (is_named name) (is_named (set_name r)) (λ x is. apart name (set_name r) (head x).name (h.sets r low high) is) (children t))
+    (λ name h. find-without_first (is_named name) (is_named (set_name r))
+    (λ x is. apart name (set_name r) (head x).name (h.sets r low high) is) (children t))
     (same_select t (of_children (without_first (is_named (set_name r))) t) (without_set-keeps r t high).select)
 
 deletion_keeps : (r : ℕ) → 1 ≤ r → r ≤ 999 → Keeps (delete_key (set_name r ∷ []))
-deletion_keeps r low high t u e = let P : Tree → Type 0 = λ v. KeepsRest t v in subst P (deleted-is r t u e) (without_set-rest r t low high)
+deletion_keeps r low high t u e = let P : Tree → Type 0 = λ v. KeepsRest t v in
+    subst P (deleted-is r t u e) (without_set-rest r t low high)
 
 deletions_keep : (numbers : List ℕ) → Small numbers → AllByRecursion Keeps (deletions numbers)
 deletions_keep [] h = tt
@@ -90,17 +101,22 @@ with_child-rest : (r : ℕ) (k t : Tree) → 1 ≤ r → r ≤ 999 → KeepsRest
 with_child-rest r k t low high =
     let new : Tree = renamed (set_name r) k in
     children_rest (placed new) t
-    (λ name h. find-placed_other (is_named name) new (ap (folds_same name) (name_of-renamed (set_name r) k) ∙ h.sets r low high) (children t))
+    (λ name h. find-placed_other (is_named name) new
+    (ap (folds_same name) (name_of-renamed (set_name r) k) ∙ h.sets r low high) (children t))
     (same_select t (of_children (placed new) t) (with_child-keeps r k t high).select)
 
 pub addition_keeps : (r : ℕ) (k : Tree) → 1 ≤ r → r ≤ 999 → Keeps (add_child (set_name r) k)
-addition_keeps r k low high t u e = let P : Tree → Type 0 = λ v. KeepsRest t v in subst P (added-is r k t u e) (with_child-rest r k t low high)
+addition_keeps r k low high t u e = let P : Tree → Type 0 = λ v. KeepsRest t v in
+    subst P (added-is r k t u e) (with_child-rest r k t low high)
 
 pub copy_keeps : (n r : ℕ) → 1 ≤ r → r ≤ 999 → Keeps (copy_child (set_name n) (set_name r))
-copy_keeps n r low high t u e = let P : Tree → Type 0 = λ v. KeepsRest t v in subst P is (split (find (is_named (set_name n)) (children t)))
+copy_keeps n r low high t u e = let P : Tree → Type 0 = λ v. KeepsRest t v in
+    subst P is (split (find (is_named (set_name n)) (children t)))
   where
     is : option_map_or (λ k. with_child (set_name r) k t) (find (is_named (set_name n)) (children t)) t ≡ u
-    is = unless_ok (((not (has_child (set_name n) t), no_key) ∷ name_tests (set_name r)) ++ (has_child (set_name r) t, exists) ∷ []) (option_map_or (λ k. with_child (set_name r) k t) (find (is_named (set_name n)) (children t)) t) u e
+    is = unless_ok (((not (has_child (set_name n) t), no_key) ∷ name_tests (set_name r))
+        ++ (has_child (set_name r) t, exists) ∷ [])
+        (option_map_or (λ k. with_child (set_name r) k t) (find (is_named (set_name n)) (children t)) t) u e
 
     split : (o : Option Tree) → KeepsRest t (option_map_or (λ k. with_child (set_name r) k t) o t)
     split None = rest_itself t
@@ -108,25 +124,41 @@ copy_keeps n r low high t u e = let P : Tree → Type 0 = λ v. KeepsRest t v in
 
 -- ---- a number is written
 
-same_but : (name bytes : List ℕ) → ((m : List ℕ) → names_a_number m ≡ false → folds_same m name ≡ false) → (s : Tree) → SameButNumbers (of_items (with_item name 4 bytes) s) s
-same_but name bytes other (key h ts) = record { own = refl; keys = refl; items = λ m no. item_other m name bytes h.values (other m no) }
+same_but : (name bytes : List ℕ) → ((m : List ℕ) → names_a_number m ≡ false → folds_same m name ≡ false) → (s : Tree)
+    → SameButNumbers (of_items (with_item name 4 bytes) s) s
+same_but name bytes other (key h ts) =
+    record { own = refl; keys = refl; items = λ m no. item_other m name bytes h.values (other m no) }
 
-with_value-rest : (name : List ℕ) (number : ℕ) (t : Tree) → ((m : List ℕ) → names_a_number m ≡ false → folds_same m name ≡ false) → KeepsRest t (with_value name number t)
+with_value-rest : (name : List ℕ) (number : ℕ) (t : Tree)
+    → ((m : List ℕ) → names_a_number m ≡ false → folds_same m name ≡ false) → KeepsRest t (with_value name number t)
 unfolding with_value
 with_value-rest name number t other =
     let change : Tree → Tree = of_items (with_item name 4 (to_le_bytes w32 number)) in
     children_rest (at_first (is_named (codes "Select")) change) t
-    (λ m h. find-at_first_other (is_named m) (is_named (codes "Select")) change (λ x is. apart m (codes "Select") (head x).name h.select is)
-    (λ x is. ap (folds_same m) (name_of-of_items (with_item name 4 (to_le_bytes w32 number)) x) ∙ apart m (codes "Select") (head x).name h.select is) (children t))
-    (λ old is. (change old, (with_value-select name number t ∙ ap (option_map change) is, same_but name (to_le_bytes w32 number) other old)))
+    (λ m h. find-at_first_other (is_named m) (is_named (codes "Select")) change
+    (λ x is. apart m (codes "Select") (head x).name h.select is)
+    (λ x is. ap (folds_same m) (name_of-of_items (with_item name 4 (to_le_bytes w32 number)) x)
+    ∙ apart m (codes "Select") (head x).name h.select is) (children t))
+    (λ old is. (
+      change old,
+      (
+        with_value-select name number t
+            ∙ ap (option_map change) is,
+        same_but name (to_le_bytes w32 number) other old,
+      ),
+    ))
 
-write_keeps : (name : List ℕ) (number : ℕ) → ((m : List ℕ) → names_a_number m ≡ false → folds_same m name ≡ false) → Keeps (set_value (codes "Select" ∷ []) name 4 (to_le_bytes w32 number))
-write_keeps name number other t u e = let P : Tree → Type 0 = λ v. KeepsRest t v in subst P (value_set-is name number t u e) (with_value-rest name number t other)
+write_keeps : (name : List ℕ) (number : ℕ) → ((m : List ℕ) → names_a_number m ≡ false → folds_same m name ≡ false)
+    → Keeps (set_value (codes "Select" ∷ []) name 4 (to_le_bytes w32 number))
+write_keeps name number other t u e = let P : Tree → Type 0 = λ v. KeepsRest t v in
+    subst P (value_set-is name number t u e) (with_value-rest name number t other)
 
-written_keeps : (name : List ℕ) (old new : ℕ) → ((m : List ℕ) → names_a_number m ≡ false → folds_same m name ≡ false) → AllByRecursion Keeps (written name old new)
+written_keeps : (name : List ℕ) (old new : ℕ) → ((m : List ℕ) → names_a_number m ≡ false → folds_same m name ≡ false)
+    → AllByRecursion Keeps (written name old new)
 written_keeps name old new other = split (old == new)
   where
-    split : (b : Bool) → AllByRecursion Keeps (cond b [] (set_value (codes "Select" ∷ []) name 4 (to_le_bytes w32 new) ∷ []))
+    split : (b : Bool) → AllByRecursion Keeps
+        (cond b [] (set_value (codes "Select" ∷ []) name 4 (to_le_bytes w32 new) ∷ []))
     split true = tt
     split false = (write_keeps name new other, tt)
 
@@ -161,15 +193,26 @@ writes_keep old new =
     keep_both (current ++ default ++ failed) good
     (keep_both (current ++ default) failed
     (keep_both current default
-    (written_keeps (codes "Current") old.current new.current (λ m h. first_not (folds_same m (codes "Current")) (folds_same m (codes "Default")) (folds_same m (codes "Failed")) (folds_same m (codes "LastKnownGood")) h))
-    (written_keeps (codes "Default") old.default new.default (λ m h. second_not (folds_same m (codes "Current")) (folds_same m (codes "Default")) (folds_same m (codes "Failed")) (folds_same m (codes "LastKnownGood")) h)))
-    (written_keeps (codes "Failed") old.failed new.failed (λ m h. third_not (folds_same m (codes "Current")) (folds_same m (codes "Default")) (folds_same m (codes "Failed")) (folds_same m (codes "LastKnownGood")) h)))
-    (written_keeps (codes "LastKnownGood") old.good new.good (λ m h. fourth_not (folds_same m (codes "Current")) (folds_same m (codes "Default")) (folds_same m (codes "Failed")) (folds_same m (codes "LastKnownGood")) h))
+    (written_keeps (codes "Current") old.current new.current
+    (λ m h. first_not (folds_same m (codes "Current")) (folds_same m (codes "Default"))
+    (folds_same m (codes "Failed")) (folds_same m (codes "LastKnownGood")) h))
+    (written_keeps (codes "Default") old.default new.default
+    (λ m h. second_not (folds_same m (codes "Current")) (folds_same m (codes "Default"))
+    (folds_same m (codes "Failed")) (folds_same m (codes "LastKnownGood")) h)))
+    (written_keeps (codes "Failed") old.failed new.failed
+    (λ m h. third_not (folds_same m (codes "Current")) (folds_same m (codes "Default"))
+    (folds_same m (codes "Failed")) (folds_same m (codes "LastKnownGood")) h)))
+    (written_keeps (codes "LastKnownGood") old.good new.good
+    (λ m h. fourth_not (folds_same m (codes "Current")) (folds_same m (codes "Default"))
+    (folds_same m (codes "Failed")) (folds_same m (codes "LastKnownGood")) h))
 
 -- ---- a plan
 
-pub plan_keeps : (usable : List ℕ) (old new : SelectNumbers) (first : List Step) (t u : Tree) → Small (retired_of usable old new) → AllByRecursion Keeps first
+pub plan_keeps : (usable : List ℕ) (old new : SelectNumbers) (first : List Step) (t u : Tree)
+    → Small (retired_of usable old new) → AllByRecursion Keeps first
     → after_steps t (first ++ deletions_of usable old new ++ writes_of old new) ≡ Ok u → KeepsRest t u
 plan_keeps usable old new first t u small h e =
     steps_keep (first ++ deletions_of usable old new ++ writes_of old new) t u
-    (keep_both (first ++ deletions_of usable old new) (writes_of old new) (keep_both first (deletions_of usable old new) h (deletions_keep (retired_of usable old new) small)) (writes_keep old new)) e
+    (keep_both (first ++ deletions_of usable old new) (writes_of old new)
+    (keep_both first (deletions_of usable old new) h (deletions_keep (retired_of usable old new) small))
+    (writes_keep old new)) e

@@ -21,12 +21,19 @@ pub record SaveCase (old : SelectNumbers) (usable : List ℕ) (clone : Tree) (pl
   pub is : free_number_of usable ≡ Some free
   pub plan_is : plan ≡ plan_with free usable old (record old { good = free }) (add_child (set_name free) clone ∷ [])
 
-by_free : (old : SelectNumbers) (usable : List ℕ) (clone : Tree) (plan : SetPlan) (o : Option ℕ) → free_number_of usable ≡ o → saved_plan old usable clone o ≡ Ok plan → SaveCase old usable clone plan
+by_free : (old : SelectNumbers) (usable : List ℕ) (clone : Tree) (plan : SetPlan) (o : Option ℕ)
+    → free_number_of usable ≡ o → saved_plan old usable clone o ≡ Ok plan → SaveCase old usable clone plan
 by_free old usable clone plan None is e = absurd cc
 by_free old usable clone plan (Some free) is e =
-    record { free = free; is = is; plan_is = sym (plan_is (plan_with free usable old (record old { good = free }) (add_child (set_name free) clone ∷ [])) plan e) }
+    record {
+      free = free;
+      is = is;
+      plan_is = sym (plan_is (plan_with free usable old (record old { good = free })
+          (add_child (set_name free) clone ∷ [])) plan e);
+    }
 
-pub save_case : (old : SelectNumbers) (usable : List ℕ) (clone : Tree) (plan : SetPlan) → save_plan_of old usable clone ≡ Ok plan → SaveCase old usable clone plan
+pub save_case : (old : SelectNumbers) (usable : List ℕ) (clone : Tree) (plan : SetPlan)
+    → save_plan_of old usable clone ≡ Ok plan → SaveCase old usable clone plan
 save_case old usable clone plan e = by_free old usable clone plan (free_number_of usable) refl e
 
 -- ---- what it leaves
@@ -38,7 +45,8 @@ one_more false false true d h = refl
 one_more false false false d h = absurd (false≢true h)
 
 saves_so : (t clone u : Tree) (free : ℕ) → free_number_of (usable_numbers_of t) ≡ Some free
-    → after_steps t (plan_with free (usable_numbers_of t) (select_numbers_of t) (record (select_numbers_of t) { good = free }) (add_child (set_name free) clone ∷ [])).steps ≡ Ok u
+    → after_steps t (plan_with free (usable_numbers_of t) (select_numbers_of t)
+    (record (select_numbers_of t) { good = free }) (add_child (set_name free) clone ∷ [])).steps ≡ Ok u
     → Saves t clone free u
 unfolding select_key
 saves_so t clone u free is e =
@@ -50,11 +58,14 @@ saves_so t clone u free is e =
     let step : Step = add_child (set_name free) clone in
     let last = parted ((step ∷ []) ++ deletions_of usable old new) (writes_of old new) t u e in
     let first = parted (step ∷ []) (deletions_of usable old new) t last.middle last.front in
-    let made : with_child (set_name free) clone t ≡ first.middle = added-is free clone t first.middle (single step t first.middle first.front) in
+    let made : with_child (set_name free) clone t ≡ first.middle =
+    added-is free clone t first.middle (single step t first.middle first.front) in
     let P : Tree → Type 0 = λ v. KeepsOthers t v free in
     let keeps : KeepsOthers t first.middle free = subst P made (with_child-keeps free clone t f.most) in
-    let adds : set_of first.middle free ≡ Some (renamed (set_name free) clone) = ap (λ v. set_of v free) (sym made) ∙ with_child-adds free clone t fresh in
-    let s = settled usable old new first.middle last.middle u (small_among _ t) (ap numbers_in keeps.select) first.back last.back in
+    let adds : set_of first.middle free ≡ Some (renamed (set_name free) clone) =
+    ap (λ v. set_of v free) (sym made) ∙ with_child-adds free clone t fresh in
+    let s = settled usable old new first.middle last.middle u (small_among _ t) (ap numbers_in keeps.select)
+    first.back last.back in
     let good : (select_numbers_of u).good ≡ free = s.good (inl (word free f.most)) in
     let added : set_of u free ≡ Some (renamed (set_name free) clone) = s.sets free f.most (names_good new) ∙ adds in
     record {
@@ -65,31 +76,46 @@ saves_so t clone u free is e =
       current = s.current (inr refl);
       default = s.default (inr refl);
       failed = s.failed (inr refl);
-      sets = λ m le named apart. s.sets m le (one_more (old.current == m) (old.default == m) (old.failed == m) (free == m) named) ∙ keeps.sets m le apart;
+      sets = λ m le named apart. s.sets m le
+          (one_more (old.current == m) (old.default == m) (old.failed == m) (free == m) named) ∙ keeps.sets m le apart;
       others = λ m le unnamed apart. s.others m le unnamed ∙ keeps.sets m le apart;
       retired = λ valid m there was no.
           (let low = usable_parts t m there in
           let unnamed : has_number (four_of new) m ≡ false = unnamed_then first.middle u old new m s low.most no in
           let few : named_so_many m first.middle ≤ 1 =
-          omega (arith, ap (named_so_many m) made, with_child-so_many m free clone t low.most f.most (not_that new m unnamed), one_of_a_set m t valid) in
-          plan_gone usable old new first.middle last.middle u m (usable_has t m there) was unnamed few first.back last.back);
-      rest = plan_keeps usable old new (step ∷ []) t u (small_among _ t) (addition_keeps free clone f.least f.most, tt) e;
+          omega (
+            arith,
+            ap (named_so_many m) made,
+            with_child-so_many m free clone t low.most f.most (not_that new m unnamed),
+            one_of_a_set m t valid,
+          ) in
+          plan_gone usable old new first.middle last.middle u m (usable_has t m there)
+          was unnamed few first.back last.back);
+      rest = plan_keeps usable old new (step ∷ []) t u (small_among _ t) (addition_keeps free clone f.least f.most, tt)
+          e;
     }
 
-pub saves : (version : HiveVersion) (t clone u : Tree) (plan : SetPlan) → save_plan_of (select_numbers_of t) (usable_numbers_of t) clone ≡ Ok plan → stepped version t plan.steps ≡ Ok u → Saves t clone plan.chosen u
+pub saves : (version : HiveVersion) (t clone u : Tree) (plan : SetPlan)
+    → save_plan_of (select_numbers_of t) (usable_numbers_of t) clone ≡ Ok plan → stepped version t plan.steps ≡ Ok u
+    → Saves t clone plan.chosen u
 saves version t clone u plan is made =
     let c = save_case (select_numbers_of t) (usable_numbers_of t) clone plan is in
     let all : after_steps t plan.steps ≡ Ok u = steps_made version plan.steps t u made in
     let P : ℕ → Type 0 = λ n. Saves t clone n u in
-    subst P (ap (λ (q : SetPlan). q.chosen) (sym c.plan_is)) (saves_so t clone u c.free c.is (ap (λ (q : SetPlan). after_steps t q.steps) (sym c.plan_is) ∙ all))
+    subst P (ap (λ (q : SetPlan). q.chosen) (sym c.plan_is))
+    (saves_so t clone u c.free c.is (ap (λ (q : SetPlan). after_steps t q.steps) (sym c.plan_is) ∙ all))
 
-pub save_changes : (version : HiveVersion) (t clone u : Tree) (plan : SetPlan) → save_plan_of (select_numbers_of t) (usable_numbers_of t) clone ≡ Ok plan → stepped version t plan.steps ≡ Ok u → u ≡ t → ⊥
+pub save_changes : (version : HiveVersion) (t clone u : Tree) (plan : SetPlan)
+    → save_plan_of (select_numbers_of t) (usable_numbers_of t) clone ≡ Ok plan → stepped version t plan.steps ≡ Ok u
+    → u ≡ t → ⊥
 save_changes version t clone u plan is made same =
     let s = saves version t clone u plan is made in
-    let none : Some (renamed (set_name plan.chosen) clone) ≡ None = sym s.added ∙ ap (λ v. set_of v plan.chosen) same ∙ s.lowest.free in
+    let none : Some (renamed (set_name plan.chosen) clone) ≡ None =
+    sym s.added ∙ ap (λ v. set_of v plan.chosen) same ∙ s.lowest.free in
     absurd cc
 
-pub save_of-saves : (version : HiveVersion) (t clone : Tree) (change : SetChange) → save_of version t clone ≡ Ok change → Saves t clone change.chosen change.tree
+pub save_of-saves : (version : HiveVersion) (t clone : Tree) (change : SetChange) → save_of version t clone ≡ Ok change
+    → Saves t clone change.chosen change.tree
 save_of-saves version t clone change e =
     let p = by_plan version t (save_plan_of (select_numbers_of t) (usable_numbers_of t) clone) change e in
     let P : ℕ → Type 0 = λ m. Saves t clone m change.tree in

@@ -52,14 +52,21 @@ listed_trees : (ts : List Tree) → listed (trees ts) ≡ ts
 listed_trees [] = refl
 listed_trees (t ∷ ts) = ap (λ us. t ∷ us) (listed_trees ts)
 
-pub children-of_children : (change : List Tree → List Tree) (t : Tree) → children (of_children change t) ≡ change (children t)
+pub children-of_children : (change : List Tree → List Tree) (t : Tree)
+    → children (of_children change t) ≡ change (children t)
 children-of_children change (key h ts) = listed_trees (change (listed ts))
 
-set_kept : (change : List Tree → List Tree) (t : Tree) (n : ℕ) → find (is_named (set_name n)) (change (children t)) ≡ find (is_named (set_name n)) (children t) → set_of (of_children change t) n ≡ set_of t n
-set_kept change t n e = set_found (of_children change t) n ∙ ap (find (is_named (set_name n))) (children-of_children change t) ∙ e ∙ sym (set_found t n)
+set_kept : (change : List Tree → List Tree) (t : Tree) (n : ℕ)
+    → find (is_named (set_name n)) (change (children t)) ≡ find (is_named (set_name n)) (children t)
+    → set_of (of_children change t) n ≡ set_of t n
+set_kept change t n e = set_found (of_children change t) n
+    ∙ ap (find (is_named (set_name n))) (children-of_children change t) ∙ e ∙ sym (set_found t n)
 
-select_kept : (change : List Tree → List Tree) (t : Tree) → find (is_named (codes "Select")) (change (children t)) ≡ find (is_named (codes "Select")) (children t) → select_key (of_children change t) ≡ select_key t
-select_kept change t e = select_found (of_children change t) ∙ ap (find (is_named (codes "Select"))) (children-of_children change t) ∙ e ∙ sym (select_found t)
+select_kept : (change : List Tree → List Tree) (t : Tree)
+    → find (is_named (codes "Select")) (change (children t)) ≡ find (is_named (codes "Select")) (children t)
+    → select_key (of_children change t) ≡ select_key t
+select_kept change t e = select_found (of_children change t)
+    ∙ ap (find (is_named (codes "Select"))) (children-of_children change t) ∙ e ∙ sym (select_found t)
 
 -- a tree has the sets of another, but for one, and its Select
 pub record KeepsOthers (t u : Tree) (number : ℕ) : Type 0 where
@@ -75,14 +82,18 @@ pub without_set-keeps : (r : ℕ) (t : Tree) → r ≤ 999 → KeepsOthers t (wi
 unfolding without_set
 without_set-keeps r t h = record {
   sets = λ n le ne. set_kept (without_first (is_named (set_name r))) t n
-      (find-without_first (is_named (set_name n)) (is_named (set_name r)) (λ x is. apart (set_name n) (set_name r) (head x).name (other_number n r le h ne) is) (children t));
+      (find-without_first (is_named (set_name n)) (is_named (set_name r))
+      (λ x is. apart (set_name n) (set_name r) (head x).name (other_number n r le h ne) is) (children t));
   select = select_kept (without_first (is_named (set_name r))) t
-      (find-without_first (is_named (codes "Select")) (is_named (set_name r)) (λ x is. apart (codes "Select") (set_name r) (head x).name (select_is_no_set r) is) (children t));
+      (find-without_first (is_named (codes "Select")) (is_named (set_name r))
+      (λ x is. apart (codes "Select") (set_name r) (head x).name (select_is_no_set r) is) (children t));
 }
 
 pub deleted-is : (r : ℕ) (t u : Tree) → after_step (delete_key (set_name r ∷ [])) t ≡ Ok u → without_set r t ≡ u
 unfolding without_set
-deleted-is r t u e = unless_ok (((length (set_name r ∷ []) == 0) || is_none (find_key (set_name r ∷ []) t), no_key) ∷ []) (of_children (without_first (is_named (set_name r))) t) u e
+deleted-is r t u e = unless_ok
+    (((length (set_name r ∷ []) == 0) || is_none (find_key (set_name r ∷ []) t), no_key) ∷ [])
+    (of_children (without_first (is_named (set_name r))) t) u e
 
 -- ---- a set comes
 
@@ -97,26 +108,35 @@ with_child-keeps r k t h =
     let new : Tree = renamed (set_name r) k in
     record {
       sets = λ n le ne. set_kept (placed new) t n
-          (find-placed_other (is_named (set_name n)) new (ap (folds_same (set_name n)) (name_of-renamed (set_name r) k) ∙ other_number n r le h ne) (children t));
+          (find-placed_other (is_named (set_name n)) new
+          (ap (folds_same (set_name n)) (name_of-renamed (set_name r) k) ∙ other_number n r le h ne) (children t));
       select = select_kept (placed new) t
-          (find-placed_other (is_named (codes "Select")) new (ap (folds_same (codes "Select")) (name_of-renamed (set_name r) k) ∙ select_is_no_set r) (children t));
+          (find-placed_other (is_named (codes "Select")) new
+          (ap (folds_same (codes "Select")) (name_of-renamed (set_name r) k) ∙ select_is_no_set r) (children t));
     }
 
-pub with_child-adds : (r : ℕ) (k t : Tree) → set_of t r ≡ None → set_of (with_child (set_name r) k t) r ≡ Some (renamed (set_name r) k)
+pub with_child-adds : (r : ℕ) (k t : Tree) → set_of t r ≡ None
+    → set_of (with_child (set_name r) k t) r ≡ Some (renamed (set_name r) k)
 with_child-adds r k t e =
     let new : Tree = renamed (set_name r) k in
     set_found (with_child (set_name r) k t) r ∙ ap (find (is_named (set_name r))) (children-of_children (placed new) t)
     ∙ find-placed (is_named (set_name r)) new (named_so (set_name r) k) (children t) (sym (set_found t r) ∙ e)
 
-pub copied-is : (n r : ℕ) (k t u : Tree) → set_of t n ≡ Some k → after_step (copy_child (set_name n) (set_name r)) t ≡ Ok u → with_child (set_name r) k t ≡ u
+pub copied-is : (n r : ℕ) (k t u : Tree) → set_of t n ≡ Some k
+    → after_step (copy_child (set_name n) (set_name r)) t ≡ Ok u → with_child (set_name r) k t ≡ u
 copied-is n r k t u is e =
     let there : find (is_named (set_name n)) (children t) ≡ Some k = sym (set_found t n) ∙ is in
-    let made : with_child (set_name r) k t ≡ option_map_or (λ k. with_child (set_name r) k t) (find (is_named (set_name n)) (children t)) t =
+    let made : with_child (set_name r) k t
+    ≡ option_map_or (λ k. with_child (set_name r) k t) (find (is_named (set_name n)) (children t)) t =
     ap (λ o. option_map_or (λ k. with_child (set_name r) k t) o t) (sym there) in
-    made ∙ unless_ok (((not (has_child (set_name n) t), no_key) ∷ name_tests (set_name r)) ++ (has_child (set_name r) t, exists) ∷ []) (option_map_or (λ k. with_child (set_name r) k t) (find (is_named (set_name n)) (children t)) t) u e
+    made ∙ unless_ok (((not (has_child (set_name n) t), no_key) ∷ name_tests (set_name r))
+    ++ (has_child (set_name r) t, exists) ∷ [])
+    (option_map_or (λ k. with_child (set_name r) k t) (find (is_named (set_name n)) (children t)) t) u e
 
 pub added-is : (r : ℕ) (k t u : Tree) → after_step (add_child (set_name r) k) t ≡ Ok u → with_child (set_name r) k t ≡ u
-added-is r k t u e = unless_ok (name_tests (set_name r) ++ (has_child (set_name r) t, exists) ∷ (ltb 512 (levels k + 1), too_deep) ∷ []) (with_child (set_name r) k t) u e
+added-is r k t u e = unless_ok
+    (name_tests (set_name r) ++ (has_child (set_name r) t, exists) ∷ (ltb 512 (levels k + 1), too_deep) ∷ [])
+    (with_child (set_name r) k t) u e
 
 -- ---- a number is written
 
@@ -124,34 +144,47 @@ pub name_of-of_items : (change : List Item → List Item) (t : Tree) → (head (
 name_of-of_items change (key h ts) = refl
 
 unfoldable pub with_value : List ℕ → ℕ → Tree → Tree
-with_value name number t = of_children (at_first (is_named (codes "Select")) (of_items (with_item name 4 (to_le_bytes w32 number)))) t
+with_value name number t =
+    of_children (at_first (is_named (codes "Select")) (of_items (with_item name 4 (to_le_bytes w32 number)))) t
 
 with_value-sets : (name : List ℕ) (number : ℕ) (t : Tree) (n : ℕ) → set_of (with_value name number t) n ≡ set_of t n
 unfolding with_value
 with_value-sets name number t n =
     let change : Tree → Tree = of_items (with_item name 4 (to_le_bytes w32 number)) in
-    let other : (x : Tree) → is_named (codes "Select") x ≡ true → is_named (set_name n) x ≡ false = λ x is. apart (set_name n) (codes "Select") (head x).name (no_set_is_select n) is in
+    let other : (x : Tree) → is_named (codes "Select") x ≡ true → is_named (set_name n) x ≡ false =
+    λ x is. apart (set_name n) (codes "Select") (head x).name (no_set_is_select n) is in
     set_kept (at_first (is_named (codes "Select")) change) t n
     (find-at_first_other (is_named (set_name n)) (is_named (codes "Select")) change other
-    (λ x is. ap (folds_same (set_name n)) (name_of-of_items (with_item name 4 (to_le_bytes w32 number)) x) ∙ other x is) (children t))
+    (λ x is. ap (folds_same (set_name n)) (name_of-of_items (with_item name 4 (to_le_bytes w32 number)) x) ∙ other x is)
+    (children t))
 
-pub with_value-select : (name : List ℕ) (number : ℕ) (t : Tree) → select_key (with_value name number t) ≡ option_map (of_items (with_item name 4 (to_le_bytes w32 number))) (select_key t)
+pub with_value-select : (name : List ℕ) (number : ℕ) (t : Tree)
+    → select_key (with_value name number t)
+    ≡ option_map (of_items (with_item name 4 (to_le_bytes w32 number))) (select_key t)
 unfolding with_value
 with_value-select name number t =
     let change : Tree → Tree = of_items (with_item name 4 (to_le_bytes w32 number)) in
-    select_found (with_value name number t) ∙ ap (find (is_named (codes "Select"))) (children-of_children (at_first (is_named (codes "Select")) change) t)
-    ∙ find-at_first (is_named (codes "Select")) change (λ x is. ap (folds_same (codes "Select")) (name_of-of_items (with_item name 4 (to_le_bytes w32 number)) x) ∙ is) (children t)
+    select_found (with_value name number t)
+    ∙ ap (find (is_named (codes "Select"))) (children-of_children (at_first (is_named (codes "Select")) change) t)
+    ∙ find-at_first (is_named (codes "Select")) change
+    (λ x is. ap (folds_same (codes "Select")) (name_of-of_items (with_item name 4 (to_le_bytes w32 number)) x) ∙ is)
+    (children t)
     ∙ ap (option_map change) (sym (select_found t))
 
-pub item_other : (m name : List ℕ) (bytes : List ℕ) (items : List Item) → folds_same m name ≡ false → find (is_item m) (with_item name 4 bytes items) ≡ find (is_item m) items
+pub item_other : (m name : List ℕ) (bytes : List ℕ) (items : List Item) → folds_same m name ≡ false
+    → find (is_item m) (with_item name 4 bytes items) ≡ find (is_item m) items
 item_other m name bytes items h = split (is_some (find (is_item name) items))
   where
-    split : (b : Bool) → find (is_item m) (cond b (at_first (is_item name) (λ v. record v { kind = 4; bytes = bytes }) items) (items ++ record { name = name; kind = 4; bytes = bytes } ∷ [])) ≡ find (is_item m) items
+    split : (b : Bool) → find (is_item m)
+        (cond b (at_first (is_item name) (λ v. record v { kind = 4; bytes = bytes }) items)
+        (items ++ record { name = name; kind = 4; bytes = bytes } ∷ [])) ≡ find (is_item m) items
     split true =
-        find-at_first_other (is_item m) (is_item name) (λ (v : Item). record v { kind = 4; bytes = bytes }) (λ x is. apart m name x.name h is) (λ x is. apart m name x.name h is) items
+        find-at_first_other (is_item m) (is_item name) (λ (v : Item). record v { kind = 4; bytes = bytes })
+        (λ x is. apart m name x.name h is) (λ x is. apart m name x.name h is) items
     split false = find-push_other (is_item m) items (record { name = name; kind = 4; bytes = bytes }) h
 
-item_same : (name : List ℕ) (number : ℕ) (items : List Item) → number < 2 ^ 32 → option_and_then dword_in (find (is_item name) (with_item name 4 (to_le_bytes w32 number) items)) ≡ Some number
+item_same : (name : List ℕ) (number : ℕ) (items : List Item) → number < 2 ^ 32
+    → option_and_then dword_in (find (is_item name) (with_item name 4 (to_le_bytes w32 number) items)) ≡ Some number
 item_same name number items fits = split (find (is_item name) items) refl
   where
     bytes : List ℕ
@@ -161,16 +194,25 @@ item_same name number items fits = split (find (is_item name) items) refl
     back = ap (λ n. Some n) (from_le_bytes-to_le_bytes_4 number fits)
 
     split : (o : Option Item) → find (is_item name) items ≡ o
-        → option_and_then dword_in (find (is_item name) (cond (is_some o) (at_first (is_item name) (λ v. record v { kind = 4; bytes = bytes }) items) (items ++ record { name = name; kind = 4; bytes = bytes } ∷ []))) ≡ Some number
+        → option_and_then dword_in
+        (find (is_item name) (cond (is_some o)
+        (at_first (is_item name) (λ v. record v { kind = 4; bytes = bytes }) items)
+        (items ++ record { name = name; kind = 4; bytes = bytes } ∷ []))) ≡ Some number
     split (Some v) e =
-        ap (option_and_then dword_in) (find-at_first (is_item name) (λ (w : Item). record w { kind = 4; bytes = bytes }) (λ x is. is) items ∙ ap (option_map (λ (w : Item). record w { kind = 4; bytes = bytes })) e) ∙ back
-    split None e = ap (option_and_then dword_in) (find-push (is_item name) items (record { name = name; kind = 4; bytes = bytes }) (folds_itself name) e) ∙ back
+        ap (option_and_then dword_in)
+        (find-at_first (is_item name) (λ (w : Item). record w { kind = 4; bytes = bytes }) (λ x is. is) items
+        ∙ ap (option_map (λ (w : Item). record w { kind = 4; bytes = bytes })) e) ∙ back
+    split None e = ap (option_and_then dword_in)
+        (find-push (is_item name) items (record { name = name; kind = 4; bytes = bytes }) (folds_itself name) e) ∙ back
 
-number_other : (m name : List ℕ) (bytes : List ℕ) (o : Option Tree) → folds_same m name ≡ false → select_number m (option_map (of_items (with_item name 4 bytes)) o) ≡ select_number m o
+number_other : (m name : List ℕ) (bytes : List ℕ) (o : Option Tree) → folds_same m name ≡ false
+    → select_number m (option_map (of_items (with_item name 4 bytes)) o) ≡ select_number m o
 number_other m name bytes None h = refl
-number_other m name bytes (Some (key g ts)) h = ap (λ o. unwrap_or (option_and_then dword_in o) 0) (item_other m name bytes g.values h)
+number_other m name bytes (Some (key g ts)) h =
+    ap (λ o. unwrap_or (option_and_then dword_in o) 0) (item_other m name bytes g.values h)
 
-number_same : (name : List ℕ) (number : ℕ) (o : Option Tree) → is_some o ≡ true → number < 2 ^ 32 → select_number name (option_map (of_items (with_item name 4 (to_le_bytes w32 number))) o) ≡ number
+number_same : (name : List ℕ) (number : ℕ) (o : Option Tree) → is_some o ≡ true → number < 2 ^ 32
+    → select_number name (option_map (of_items (with_item name 4 (to_le_bytes w32 number))) o) ≡ number
 number_same name number None there fits = absurd (false≢true there)
 number_same name number (Some (key g ts)) there fits = ap (λ o. unwrap_or o 0) (item_same name number g.values fits)
 
@@ -178,32 +220,44 @@ number_same name number (Some (key g ts)) there fits = ap (λ o. unwrap_or o 0) 
 pub record Renumbers (t u : Tree) (name : List ℕ) (number : ℕ) : Type 0 where
   pub sets : (n : ℕ) → set_of u n ≡ set_of t n
   pub here : number < 2 ^ 32 → select_number name (select_key u) ≡ number
-  pub others : (m : List ℕ) → folds_same m name ≡ false → select_number m (select_key u) ≡ select_number m (select_key t)
+  pub others : (m : List ℕ) → folds_same m name ≡ false
+      → select_number m (select_key u) ≡ select_number m (select_key t)
   pub there : is_some (select_key t) ≡ true → is_some (select_key u) ≡ true
 
 some_mapped : (f : Tree → Tree) (o : Option Tree) → is_some o ≡ true → is_some (option_map f o) ≡ true
 some_mapped f None h = h
 some_mapped f (Some t) h = refl
 
-pub with_value-renumbers : (name : List ℕ) (number : ℕ) (t : Tree) → is_some (select_key t) ≡ true → Renumbers t (with_value name number t) name number
+pub with_value-renumbers : (name : List ℕ) (number : ℕ) (t : Tree) → is_some (select_key t) ≡ true
+    → Renumbers t (with_value name number t) name number
 with_value-renumbers name number t there = record {
   sets = with_value-sets name number t;
-  here = λ fits. ap (select_number name) (with_value-select name number t) ∙ number_same name number (select_key t) there fits;
-  others = λ m h. ap (select_number m) (with_value-select name number t) ∙ number_other m name (to_le_bytes w32 number) (select_key t) h;
+  here = λ fits. ap (select_number name) (with_value-select name number t)
+      ∙ number_same name number (select_key t) there fits;
+  others = λ m h. ap (select_number m) (with_value-select name number t)
+      ∙ number_other m name (to_le_bytes w32 number) (select_key t) h;
   there = λ some. ap is_some (with_value-select name number t) ∙ some_mapped _ (select_key t) some;
 }
 
-pub value_set-is : (name : List ℕ) (number : ℕ) (t u : Tree) → after_step (set_value (codes "Select" ∷ []) name 4 (to_le_bytes w32 number)) t ≡ Ok u → with_value name number t ≡ u
+pub value_set-is : (name : List ℕ) (number : ℕ) (t u : Tree)
+    → after_step (set_value (codes "Select" ∷ []) name 4 (to_le_bytes w32 number)) t ≡ Ok u
+    → with_value name number t ≡ u
 unfolding with_value
-value_set-is name number t u e = unless_ok ((is_none (find_key (codes "Select" ∷ []) t), no_key) ∷ (ltb 16383 (length name), name_too_long) ∷ (ltb 1048576 (length (to_le_bytes w32 number)), data_too_long) ∷ []) (at_key (codes "Select" ∷ []) (of_items (with_item name 4 (to_le_bytes w32 number))) t) u e
+value_set-is name number t u e =
+    unless_ok ((is_none (find_key (codes "Select" ∷ []) t), no_key) ∷ (ltb 16383 (length name), name_too_long)
+    ∷ (ltb 1048576 (length (to_le_bytes w32 number)), data_too_long) ∷ [])
+    (at_key (codes "Select" ∷ []) (of_items (with_item name 4 (to_le_bytes w32 number))) t) u e
 
 not_none : (o : Option Tree) → is_none o ≡ false → is_some o ≡ true
 not_none None h = absurd (false≢true (sym h))
 not_none (Some t) h = refl
 
-pub value_set-there : (name : List ℕ) (number : ℕ) (t u : Tree) → after_step (set_value (codes "Select" ∷ []) name 4 (to_le_bytes w32 number)) t ≡ Ok u → is_some (select_key t) ≡ true
+pub value_set-there : (name : List ℕ) (number : ℕ) (t u : Tree)
+    → after_step (set_value (codes "Select" ∷ []) name 4 (to_le_bytes w32 number)) t ≡ Ok u
+    → is_some (select_key t) ≡ true
 unfolding select_key
-value_set-there name number t u e = not_none (find_key (codes "Select" ∷ []) t) (first_test (is_none (find_key (codes "Select" ∷ []) t)) _ _ u e)
+value_set-there name number t u e =
+    not_none (find_key (codes "Select" ∷ []) t) (first_test (is_none (find_key (codes "Select" ∷ []) t)) _ _ u e)
 
 -- ---- steps in order
 
@@ -215,7 +269,8 @@ pub record Parted (t u : Tree) (xs ys : List Step) : Type 0 where
 pub one_step : (s : Step) (ss : List Step) (t u : Tree) → after_steps t (s ∷ ss) ≡ Ok u → Parted t u (s ∷ []) ss
 one_step s ss t u e = split (after_step s t) refl e
   where
-    split : (r : Result Tree Refusal) → after_step s t ≡ r → then_edit r (λ v. after_steps v ss) ≡ Ok u → Parted t u (s ∷ []) ss
+    split : (r : Result Tree Refusal) → after_step s t ≡ r → then_edit r (λ v. after_steps v ss) ≡ Ok u
+        → Parted t u (s ∷ []) ss
     split (Ok v) is rest = record { middle = v; front = ap (λ r. then_edit r (λ v. Ok v)) is; back = rest }
     split (Err why) is rest = absurd cc
 
@@ -231,17 +286,25 @@ parted [] ys t u e = record { middle = t; front = refl; back = e }
 parted (x ∷ xs) ys t u e =
     let one = one_step x (xs ++ ys) t u e in
     let deep = parted xs ys one.middle u one.back in
-    record { middle = deep.middle; front = ap (λ r. then_edit r (λ v. after_steps v xs)) (single x t one.middle one.front) ∙ deep.front; back = deep.back }
+    record {
+      middle = deep.middle;
+      front = ap (λ r. then_edit r (λ v. after_steps v xs)) (single x t one.middle one.front) ∙ deep.front;
+      back =
+          deep.back;
+    }
 
 too_large_or : (b : Bool) (v u : Tree) → cond b (Err full) (Ok v) ≡ Ok u → v ≡ u
 too_large_or true v u e = absurd cc
 too_large_or false v u e = ok_is v u e
 
-pub steps_made : (version : HiveVersion) (steps : List Step) (t u : Tree) → stepped version t steps ≡ Ok u → after_steps t steps ≡ Ok u
+pub steps_made : (version : HiveVersion) (steps : List Step) (t u : Tree) → stepped version t steps ≡ Ok u
+    → after_steps t steps ≡ Ok u
 unfolding edited
 steps_made version [] t u e = e
 steps_made version (s ∷ ss) t u e = split (after_steps t (s ∷ ss)) refl e
   where
-    split : (r : Result Tree Refusal) → after_steps t (s ∷ ss) ≡ r → then_edit r (λ v. cond (ltb most_bulk (bulk_of version v)) (Err full) (Ok v)) ≡ Ok u → after_steps t (s ∷ ss) ≡ Ok u
+    split : (r : Result Tree Refusal) → after_steps t (s ∷ ss) ≡ r
+        → then_edit r (λ v. cond (ltb most_bulk (bulk_of version v)) (Err full) (Ok v)) ≡ Ok u
+        → after_steps t (s ∷ ss) ≡ Ok u
     split (Ok v) is same = is ∙ ap (λ v. Ok v) (too_large_or (ltb most_bulk (bulk_of version v)) v u same)
     split (Err why) is same = absurd cc

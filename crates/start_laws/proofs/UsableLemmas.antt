@@ -24,11 +24,13 @@ has_from : (p : ℕ → Bool) (xs : List ℕ) (n : ℕ) → has_number (filter p
 has_from p [] n h = absurd (false≢true h)
 has_from p (x ∷ xs) n h = split (p x) refl h (has_from p xs n)
   where
-    here : (b : Bool) → (x == n) ≡ b → p x ≡ true → (b || has_number (filter p xs) n) ≡ true → (has_number (filter p xs) n ≡ true → p n ≡ true) → p n ≡ true
+    here : (b : Bool) → (x == n) ≡ b → p x ≡ true → (b || has_number (filter p xs) n) ≡ true
+        → (has_number (filter p xs) n ≡ true → p n ≡ true) → p n ≡ true
     here true is passes g deep = ap p (sym (eqb-true x n is)) ∙ passes
     here false is passes g deep = deep g
 
-    split : (b : Bool) → p x ≡ b → has_number (cond b (x ∷ filter p xs) (filter p xs)) n ≡ true → (has_number (filter p xs) n ≡ true → p n ≡ true) → p n ≡ true
+    split : (b : Bool) → p x ≡ b → has_number (cond b (x ∷ filter p xs) (filter p xs)) n ≡ true
+        → (has_number (filter p xs) n ≡ true → p n ≡ true) → p n ≡ true
     split true passes g deep = here (x == n) refl passes g deep
     split false passes g deep = deep g
 
@@ -36,11 +38,13 @@ pub has_among : (p : ℕ → Bool) (xs : List ℕ) (n : ℕ) → has_number (fil
 has_among p [] n h = h
 has_among p (x ∷ xs) n h = split (p x) h (has_among p xs n)
   where
-    here : (c : Bool) → (x == n) ≡ c → ((x == n) || has_number (filter p xs) n) ≡ true → (has_number (filter p xs) n ≡ true → has_number xs n ≡ true) → (c || has_number xs n) ≡ true
+    here : (c : Bool) → (x == n) ≡ c → ((x == n) || has_number (filter p xs) n) ≡ true
+        → (has_number (filter p xs) n ≡ true → has_number xs n ≡ true) → (c || has_number xs n) ≡ true
     here true is g deep = refl
     here false is g deep = deep (sym (ap (λ d. d || has_number (filter p xs) n) is) ∙ g)
 
-    split : (b : Bool) → has_number (cond b (x ∷ filter p xs) (filter p xs)) n ≡ true → (has_number (filter p xs) n ≡ true → has_number xs n ≡ true) → has_number (x ∷ xs) n ≡ true
+    split : (b : Bool) → has_number (cond b (x ∷ filter p xs) (filter p xs)) n ≡ true
+        → (has_number (filter p xs) n ≡ true → has_number xs n ≡ true) → has_number (x ∷ xs) n ≡ true
     split true g deep = here (x == n) refl g deep
     split false g deep = or_second (x == n) (has_number xs n) (deep g)
 
@@ -51,25 +55,32 @@ has_not p xs n h = split (has_number (filter p xs) n) refl
     split true e = absurd (false≢true (sym h ∙ has_from p xs n e))
     split false e = e
 
-pub has_kept : (p : ℕ → Bool) (xs : List ℕ) (n : ℕ) → p n ≡ true → has_number xs n ≡ true → has_number (filter p xs) n ≡ true
+pub has_kept : (p : ℕ → Bool) (xs : List ℕ) (n : ℕ) → p n ≡ true → has_number xs n ≡ true
+    → has_number (filter p xs) n ≡ true
 has_kept p [] n h g = g
 has_kept p (x ∷ xs) n h g = split (p x) refl (x == n) refl g (has_kept p xs n h)
   where
-    split : (b : Bool) → p x ≡ b → (c : Bool) → (x == n) ≡ c → (c || has_number xs n) ≡ true → (has_number xs n ≡ true → has_number (filter p xs) n ≡ true) → has_number (cond b (x ∷ filter p xs) (filter p xs)) n ≡ true
+    split : (b : Bool) → p x ≡ b → (c : Bool) → (x == n) ≡ c → (c || has_number xs n) ≡ true
+        → (has_number xs n ≡ true → has_number (filter p xs) n ≡ true)
+        → has_number (cond b (x ∷ filter p xs) (filter p xs)) n ≡ true
     split true is true same there deep = or_first (x == n) _ same
     split true is false same there deep = or_second (x == n) _ (deep there)
     split false is true same there deep = absurd (false≢true (sym is ∙ ap p (eqb-true x n same) ∙ h))
     split false is false same there deep = deep there
 
-has_to : (p : ℕ → Bool) (a len n : ℕ) → p n ≡ true → a ≤ n → n < a + len → has_number (filter p (range_with_len a len)) n ≡ true
+has_to : (p : ℕ → Bool) (a len n : ℕ) → p n ≡ true → a ≤ n → n < a + len
+    → has_number (filter p (range_with_len a len)) n ≡ true
 has_to p a zero n h le lt = absurd (omega arith)
 has_to p a (suc len) n h le lt = split (p a) refl (a == n) refl (has_to p (a + 1) len n h)
   where
-    split : (b : Bool) → p a ≡ b → (c : Bool) → (a == n) ≡ c → (a + 1 ≤ n → n < a + 1 + len → has_number (filter p (range_with_len (a + 1) len)) n ≡ true)
-        → has_number (cond b (a ∷ filter p (range_with_len (a + 1) len)) (filter p (range_with_len (a + 1) len))) n ≡ true
+    split : (b : Bool) → p a ≡ b → (c : Bool) → (a == n) ≡ c
+        → (a + 1 ≤ n → n < a + 1 + len → has_number (filter p (range_with_len (a + 1) len)) n ≡ true)
+        → has_number (cond b (a ∷ filter p (range_with_len (a + 1) len)) (filter p (range_with_len (a + 1) len))) n
+        ≡ true
     split true is true same deep = or_first (a == n) _ same
     split true is false same deep =
-        let ne : a ≡ n → ⊥ = λ e. false≢true (sym same ∙ eq-eqb a n e) in or_second (a == n) _ (deep (omega (arith, ne)) (omega arith))
+        let ne : a ≡ n → ⊥ = λ e. false≢true (sym same ∙ eq-eqb a n e) in
+        or_second (a == n) _ (deep (omega (arith, ne)) (omega arith))
     split false is true same deep = absurd (false≢true (sym is ∙ ap p (eqb-true a n same) ∙ h))
     split false is false same deep =
         let ne : a ≡ n → ⊥ = λ e. false≢true (sym same ∙ eq-eqb a n e) in deep (omega (arith, ne)) (omega arith)
@@ -109,7 +120,9 @@ at_most : (n : ℕ) → n ≤ 999 → leb n 999 ≡ true
 at_most n h = grind (arith, nat_tests)
 
 pub usable_from : (t : Tree) (n : ℕ) → 1 ≤ n → n ≤ 999 → is_some (set_of t n) ≡ true → is_usable t n ≡ true
-usable_from t n low high there = and_both (leb 1 n && leb n 999) (is_some (set_of t n)) (and_both (leb 1 n) (leb n 999) (at_least n low) (at_most n high)) there
+usable_from t n low high there =
+    and_both (leb 1 n && leb n 999) (is_some (set_of t n))
+    (and_both (leb 1 n) (leb n 999) (at_least n low) (at_most n high)) there
 
 -- the free number names no set
 pub free_is_none : (t : Tree) (n : ℕ) → IsFree (usable_numbers_of t) n → set_of t n ≡ None
@@ -121,7 +134,12 @@ free_is_none t n f = none_or (set_of t n) (split (is_some (set_of t n)) refl)
 
 -- it is the lowest that names none
 pub lowest_free : (t : Tree) (n : ℕ) → IsFree (usable_numbers_of t) n → IsLowestFree t n
-lowest_free t n f = record { least = f.least; most = f.most; free = free_is_none t n f; lower = λ k low lt. (usable_parts t k (usable_is t k (f.lower k low lt))).there }
+lowest_free t n f = record {
+  least = f.least;
+  most = f.most;
+  free = free_is_none t n f;
+  lower = λ k low lt. (usable_parts t k (usable_is t k (f.lower k low lt))).there;
+}
 
 -- ---- small numbers
 

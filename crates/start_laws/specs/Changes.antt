@@ -80,7 +80,8 @@ pub record Saves (before clone : Tree) (n : ℕ) (after : Tree) : Type 0 where
   pub default : (select_numbers_of after).default ≡ (select_numbers_of before).default
   pub failed : (select_numbers_of after).failed ≡ (select_numbers_of before).failed
   pub sets : (m : ℕ) → m ≤ 999
-      → has_number ((select_numbers_of before).current ∷ (select_numbers_of before).default ∷ (select_numbers_of before).failed ∷ []) m ≡ true → (m ≡ n → ⊥) → set_of after m ≡ set_of before m
+      → has_number ((select_numbers_of before).current ∷ (select_numbers_of before).default ∷ (select_numbers_of before).failed ∷ []) m ≡ true
+      → (m ≡ n → ⊥) → set_of after m ≡ set_of before m
   pub retired : IsValid before → (m : ℕ) → is_usable before m ≡ true → names before m ≡ true → names after m ≡ false → set_of after m ≡ None
   pub others : (m : ℕ) → m ≤ 999 → names before m ≡ false → (m ≡ n → ⊥) → set_of after m ≡ set_of before m
   pub rest : KeepsRest before after

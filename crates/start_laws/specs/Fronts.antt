@@ -14,7 +14,8 @@ pub record IsFrontOfRun (first whole : RunResult) : Type 0 where
 
 -- Of these wakes and outcomes a run took the first ones, in their order, and noted each; the others it left over. With the
 -- first ones alone it does the same, and nothing is left over.
-pub record TakesInOrder (go : List Woken → List Outcome → RunResult) (wakes : List Woken) (outcomes : List Outcome) (m : RunState) (left : List Woken) (over : List Outcome) : Type 0 where
+pub record TakesInOrder (go : List Woken → List Outcome → RunResult) (wakes : List Woken) (outcomes : List Outcome) (m : RunState)
+    (left : List Woken) (over : List Outcome) : Type 0 where
   pub used : List Woken
   pub ended : List Outcome
   pub wakes_are : wakes ≡ used ++ left

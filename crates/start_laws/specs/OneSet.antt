@@ -64,7 +64,8 @@ member_fails = Fail (codes "M") 1 ∷ boot_and_go
 -- S needs D, which starts on demand; T needs X, which is disabled
 abbrev pub on_demand : Tree
 on_demand =
-    only_set (service (codes "D") 3 1 1 [] ∷ needing (codes "S") 2 32 1 (codes "D") ∷ needing (codes "T") 2 32 1 (codes "X") ∷ service (codes "X") 4 32 1 [] ∷ [])
+    only_set (service (codes "D") 3 1 1 [] ∷ needing (codes "S") 2 32 1 (codes "D") ∷ needing (codes "T") 2 32 1 (codes "X")
+    ∷ service (codes "X") 4 32 1 [] ∷ [])
 
 -- S needs D, which needs E; D, E and F start on demand, and none needs F
 abbrev pub two_deep : Tree

@@ -69,7 +69,8 @@ tag_lists lists = plain (codes "GroupOrderList") lists []
 -- the key Select with Current, Default, Failed and LastKnownGood
 abbrev pub select : ℕ → ℕ → ℕ → ℕ → Tree
 select current default failed good =
-    plain (codes "Select") (dword (codes "Current") current ∷ dword (codes "Default") default ∷ dword (codes "Failed") failed ∷ dword (codes "LastKnownGood") good ∷ []) []
+    plain (codes "Select") (dword (codes "Current") current ∷ dword (codes "Default") default ∷ dword (codes "Failed") failed
+    ∷ dword (codes "LastKnownGood") good ∷ []) []
 
 -- the root
 abbrev pub system : List Tree → Tree

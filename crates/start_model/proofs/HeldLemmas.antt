@@ -23,20 +23,24 @@ held_find : (name : List ℕ) (ts : Trees) → AllHoldKeys ts → Held (find (is
 held_find name none h = tt
 held_find name (more t ts) h = by_case (is_named name t) (held_find name ts h.1)
   where
-    by_case : (b : Bool) → Held (find (is_named name) (listed ts)) → Held (cond b (Some t) (find (is_named name) (listed ts)))
+    by_case : (b : Bool) → Held (find (is_named name) (listed ts))
+        → Held (cond b (Some t) (find (is_named name) (listed ts)))
     by_case true rest = h.0
     by_case false rest = rest
 
 held_child : (name : List ℕ) (t : Tree) → HoldsKeys t → Held (find (is_named name) (children t))
 held_child name (key h ts) held = held_find name ts held.1
 
-held_through : (edit : Tree → Option Tree) (o : Option Tree) → Held o → ((u : Tree) → HoldsKeys u → Held (edit u)) → Held (option_and_then edit o)
+held_through : (edit : Tree → Option Tree) (o : Option Tree) → Held o → ((u : Tree) → HoldsKeys u → Held (edit u))
+    → Held (option_and_then edit o)
 held_through edit None held deep = tt
 held_through edit (Some u) held deep = deep u held
 
 held_find_key : (path : List (List ℕ)) (t : Tree) → HoldsKeys t → Held (find_key path t)
 held_find_key [] t h = h
-held_find_key (name ∷ path) t h = held_through (find_key path) (find (is_named name) (children t)) (held_child name t h) (λ u held. held_find_key path u held)
+held_find_key (name ∷ path) t h =
+    held_through (find_key path) (find (is_named name) (children t)) (held_child name t h)
+    (λ u held. held_find_key path u held)
 
 -- what a path leads to in a tree that can be held can be held
 pub found_holds : (path : List (List ℕ)) (t u : Tree) → HoldsKeys t → find_key path t ≡ Some u → HoldsKeys u
@@ -76,7 +80,12 @@ length-split units = omega (arith, length-slice_split is_zero units, count_by-le
 
 length-multi_sz_of : (bytes : List ℕ) → length (multi_sz_of bytes) ≤ length bytes + 1
 length-multi_sz_of bytes =
-    omega (arith, length-wide_of bytes, length-split (wide_of bytes), length-take (prefix_len is_item (slice_split is_zero (wide_of bytes))) (slice_split is_zero (wide_of bytes)))
+    omega (
+      arith,
+      length-wide_of bytes,
+      length-split (wide_of bytes),
+      length-take (prefix_len is_item (slice_split is_zero (wide_of bytes))) (slice_split is_zero (wide_of bytes)),
+    )
 
 -- a value that is there has few bytes
 abbrev Small : Option Item → Type 0
@@ -102,13 +111,16 @@ strings_few v false h = omega arith
 length-find_strings : (name : List ℕ) (t : Tree) → HoldsKeys t → length (find_strings name t) < 2 ^ 32
 length-find_strings name t held = in_item (find_item name t) (small_item name t held)
   where
-    in_item : (o : Option Item) → Small o → length (option_map_or (λ (v : Item). cond (nat_eq v.kind 7) (multi_sz_of v.bytes) []) o []) < 2 ^ 32
+    in_item : (o : Option Item) → Small o
+        → length (option_map_or (λ (v : Item). cond (nat_eq v.kind 7) (multi_sz_of v.bytes) []) o []) < 2 ^ 32
     in_item None h = omega arith
     in_item (Some v) h = strings_few v (nat_eq v.kind 7) h
 
 -- there are few groups in the order of the groups
 pub listed_groups_few : (set : Tree) → HoldsKeys set → length (listed_groups set) < 2 ^ 32
-listed_groups_few set h = (let path = codes "Control" ∷ codes "ServiceGroupOrder" ∷ [] in through (find_key path set) (held_find_key path set h))
+listed_groups_few set h =
+    (let path = codes "Control" ∷ codes "ServiceGroupOrder" ∷ [] in
+    through (find_key path set) (held_find_key path set h))
   where
     through : (o : Option Tree) → Held o → length (option_map_or (find_strings (codes "List")) o []) < 2 ^ 32
     through None held = omega arith

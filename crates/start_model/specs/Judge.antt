@@ -27,4 +27,5 @@ abbrev pub judgement_of : ℕ → Bool → Bool → Judgement
 judgement_of control on_good usable =
     if control == 0
     then Ignore
-    else (if control == 2 then (if can_fall_back on_good usable then FallBack else Log) else (if control == 3 then (if can_fall_back on_good usable then FallBack else Stop) else Log))
+    else (if control == 2 then (if can_fall_back on_good usable then FallBack else Log)
+    else (if control == 3 then (if can_fall_back on_good usable then FallBack else Stop) else Log))

@@ -34,24 +34,30 @@ use Rattle.text_commands.specs.Imported.{Change, refusal_word, change_by, change
 use Rattle.text_commands.specs.Imports.{stop_word, IsRefusedAs, Settles, Makes, Changes, ChangesHeld, ChangesAwake, Unmoved, ImportsOn}
 
 -- with nothing in flight only what is held may be left
-still_loads : (disk : DiskState) (s : HiveState) (dirty : Bool) → disk.flight ≡ [] → Loads disk.held s dirty → EachCrash disk (λ (c : Image). LoadsAs c s)
+still_loads : (disk : DiskState) (s : HiveState) (dirty : Bool) → disk.flight ≡ [] → Loads disk.held s dirty
+    → EachCrash disk (λ (c : Image). LoadsAs c s)
 still_loads disk s dirty still loads c crash =
     let P : Image → Type 0 = λ i. LoadsAs i s in
     let here : P disk.held = (dirty, loads) in
     subst P (sym (still_crash disk.held c (rw still at crash))) here
 
 -- whether an edit gave another tree is told by a test
-changed_is : (same now : Bool) (t u : Tree) → Decides same (t ≡ u) → (now ≡ true ↔ (false ≡ true) ⊎ (u ≡ t → ⊥)) → now ≡ not same
+changed_is : (same now : Bool) (t u : Tree) → Decides same (t ≡ u) → (now ≡ true ↔ (false ≡ true) ⊎ (u ≡ t → ⊥))
+    → now ≡ not same
 changed_is true true t u d f = ⊎_elim (λ e. absurd (false≢true e)) (λ n. absurd (n (sym (d.0 refl)))) (f.0 refl)
 changed_is true false t u d f = refl
 changed_is false now t u d f = f.1 (inr (λ e. false≢true (d.1 (sym e))))
 
 -- the change by its test
-change_same : (s : HiveState) (t : Tree) → same_tree s.tree t ≡ true → change_by s (Ok t) ≡ record { text = codes "import nothing\n"; state = s }
+change_same : (s : HiveState) (t : Tree) → same_tree s.tree t ≡ true
+    → change_by s (Ok t) ≡ record { text = codes "import nothing\n"; state = s }
 change_same s t is = rw is refl
 
 change_other : (s : HiveState) (t : Tree) → same_tree s.tree t ≡ false
-    → change_by s (Ok t) ≡ record { text = codes "commit import " ++ decimal (next_number s.sequence) ++ codes "\n"; state = record s { tree = t; sequence = next_number s.sequence } }
+    → change_by s (Ok t) ≡ record {
+      text = codes "commit import " ++ decimal (next_number s.sequence) ++ codes "\n";
+      state = record s { tree = t; sequence = next_number s.sequence };
+    }
 change_other s t is = rw is refl
 
 not_flips : (b c : Bool) → c ≡ not b → c ≡ false → b ≡ true
@@ -63,61 +69,88 @@ not_turns true c e f = absurd (false≢true (sym e ∙ f))
 not_turns false c e f = refl
 
 -- the edits were made in the session, which was settled then
-pub settled_changes : (h k : Session) (steps : List Step) (done : Done) (old new : DiskState) → old.flight ≡ [] → Loads old.held (loaded_state h) false
+pub settled_changes : (h k : Session) (steps : List Step) (done : Done) (old new : DiskState) → old.flight ≡ []
+    → Loads old.held (loaded_state h) false
     → edited (version_of h.base.minor) h.tree steps ≡ Ok k.tree → k.base ≡ h.base → h.changed ≡ false
-    → (k.changed ≡ true ↔ (h.changed ≡ true) ⊎ (k.tree ≡ h.tree → ⊥)) → Settles k old new done → Changes (loaded_state h) steps new done
+    → (k.changed ≡ true ↔ (h.changed ≡ true) ⊎ (k.tree ≡ h.tree → ⊥)) → Settles k old new done
+    → Changes (loaded_state h) steps new done
 settled_changes h k steps (dones.Refused stop) old new still loads made base unchanged changed settles = absurd settles
 settled_changes h k steps dones.Nothing old new still loads made base unchanged changed settles =
     let s : HiveState = loaded_state h in
-    let now : k.changed ≡ not (same_tree h.tree k.tree) = changed_is (same_tree h.tree k.tree) k.changed h.tree k.tree (same-Decides h.tree k.tree) (rw unchanged at changed) in
+    let now : k.changed ≡ not (same_tree h.tree k.tree) =
+    changed_is (same_tree h.tree k.tree) k.changed h.tree k.tree (same-Decides h.tree k.tree)
+    (rw unchanged at changed) in
     let same : same_tree h.tree k.tree ≡ true = not_flips (same_tree h.tree k.tree) k.changed now settles.0 in
-    let change : change_of s steps ≡ record { text = codes "import nothing\n"; state = s } = ap (change_by s) made ∙ change_same s k.tree same in
+    let change : change_of s steps ≡ record { text = codes "import nothing\n"; state = s } =
+    ap (change_by s) made ∙ change_same s k.tree same in
     let P : DiskState → Type 0 = λ d. EachCrash d (λ (c : Image). LoadsAs c s) in
-    let left : EachCrash new (λ (c : Image). LoadsAs c s) = subst P (sym settles.1) (still_loads old s false still loads) in
+    let left : EachCrash new (λ (c : Image). LoadsAs c s) =
+    subst P (sym settles.1) (still_loads old s false still loads) in
     record {
       text = ap (λ (c : Change). c.text) (sym change);
       loads = subst (λ (c : Change). EachCrash new (λ (i : Image). LoadsAs i c.state)) (sym change) left;
     }
 settled_changes h k steps (dones.Commit number) old new still loads made base unchanged changed settles =
     let s : HiveState = loaded_state h in
-    let now : k.changed ≡ not (same_tree h.tree k.tree) = changed_is (same_tree h.tree k.tree) k.changed h.tree k.tree (same-Decides h.tree k.tree) (rw unchanged at changed) in
+    let now : k.changed ≡ not (same_tree h.tree k.tree) =
+    changed_is (same_tree h.tree k.tree) k.changed h.tree k.tree (same-Decides h.tree k.tree)
+    (rw unchanged at changed) in
     let other : same_tree h.tree k.tree ≡ false = not_turns (same_tree h.tree k.tree) k.changed now settles.0 in
     let change = ap (change_by s) made ∙ change_other s k.tree other in
     let numbered : number ≡ next_number h.base.first = settles.1 ∙ ap (λ (b : Base). next_number b.first) base in
     let state : committed_state k ≡ state_of k.tree (next_number h.base.first) (version_of h.base.minor) =
     ap (λ (b : Base). state_of k.tree (next_number b.first) (version_of b.minor)) base in
-    let left : EachCrash new (λ (c : Image). LoadsAs c (state_of k.tree (next_number h.base.first) (version_of h.base.minor))) =
-    subst (λ (t : HiveState). EachCrash new (λ (c : Image). LoadsAs c t)) state (still_loads new (committed_state k) false settles.2 settles.3) in
+    let left : EachCrash new (λ (c : Image). LoadsAs c
+    (state_of k.tree (next_number h.base.first) (version_of h.base.minor))) =
+    subst (λ (t : HiveState). EachCrash new (λ (c : Image). LoadsAs c t)) state
+    (still_loads new (committed_state k) false settles.2 settles.3) in
     record {
-      text = ap (λ (n : ℕ). codes "commit import " ++ decimal n ++ codes "\n") numbered ∙ ap (λ (c : Change). c.text) (sym change);
+      text = ap (λ (n : ℕ). codes "commit import " ++ decimal n ++ codes "\n") numbered
+          ∙ ap (λ (c : Change). c.text) (sym change);
       loads = subst (λ (c : Change). EachCrash new (λ (i : Image). LoadsAs i c.state)) (sym change) left;
     }
 
-refused_by : (s : HiveState) (steps : List Step) (why : Refusal) (stop : EditStop) (disk : DiskState) → disk.flight ≡ [] → Loads disk.held s false
-    → stop_word stop ≡ refusal_word why → edited s.version s.tree steps ≡ Err why → Changes s steps disk (dones.Refused stop)
+refused_by : (s : HiveState) (steps : List Step) (why : Refusal) (stop : EditStop) (disk : DiskState) → disk.flight ≡ []
+    → Loads disk.held s false
+    → stop_word stop ≡ refusal_word why → edited s.version s.tree steps ≡ Err why
+    → Changes s steps disk (dones.Refused stop)
 refused_by s steps why stop disk still loads is made =
     let change = ap (change_by s) made in
     record {
-      text = ap (λ (w : List ℕ). codes "import refused " ++ w ++ codes "\n") is ∙ ap (λ (c : Change). c.text) (sym change);
-      loads = subst (λ (c : Change). EachCrash disk (λ (i : Image). LoadsAs i c.state)) (sym change) (still_loads disk s false still loads);
+      text = ap (λ (w : List ℕ). codes "import refused " ++ w ++ codes "\n") is
+          ∙ ap (λ (c : Change). c.text) (sym change);
+      loads = subst (λ (c : Change). EachCrash disk (λ (i : Image). LoadsAs i c.state)) (sym change)
+          (still_loads disk s false still loads);
     }
 
 -- the edits were refused
-pub refused_changes : (s : HiveState) (steps : List Step) (stop : EditStop) (disk : DiskState) → disk.flight ≡ [] → Loads disk.held s false
-    → IsRefused (edited s.version s.tree steps) stop → (stop ≡ stops.Memory → ⊥) → Changes s steps disk (dones.Refused stop)
-refused_changes s steps stops.NoKey disk still loads is some = refused_by s steps no_key stops.NoKey disk still loads refl is
-refused_changes s steps stops.NoValue disk still loads is some = refused_by s steps no_value stops.NoValue disk still loads refl is
-refused_changes s steps stops.BadName disk still loads is some = refused_by s steps bad_name stops.BadName disk still loads refl is
-refused_changes s steps stops.Exists disk still loads is some = refused_by s steps exists stops.Exists disk still loads refl is
-refused_changes s steps stops.NameTooLong disk still loads is some = refused_by s steps name_too_long stops.NameTooLong disk still loads refl is
-refused_changes s steps stops.TooDeep disk still loads is some = refused_by s steps too_deep stops.TooDeep disk still loads refl is
-refused_changes s steps stops.DataTooLong disk still loads is some = refused_by s steps data_too_long stops.DataTooLong disk still loads refl is
-refused_changes s steps stops.Full disk still loads is some = refused_by s steps full stops.Full disk still loads refl is
+pub refused_changes : (s : HiveState) (steps : List Step) (stop : EditStop) (disk : DiskState) → disk.flight ≡ []
+    → Loads disk.held s false
+    → IsRefused (edited s.version s.tree steps) stop → (stop ≡ stops.Memory → ⊥)
+    → Changes s steps disk (dones.Refused stop)
+refused_changes s steps stops.NoKey disk still loads is some =
+    refused_by s steps no_key stops.NoKey disk still loads refl is
+refused_changes s steps stops.NoValue disk still loads is some =
+    refused_by s steps no_value stops.NoValue disk still loads refl is
+refused_changes s steps stops.BadName disk still loads is some =
+    refused_by s steps bad_name stops.BadName disk still loads refl is
+refused_changes s steps stops.Exists disk still loads is some =
+    refused_by s steps exists stops.Exists disk still loads refl is
+refused_changes s steps stops.NameTooLong disk still loads is some =
+    refused_by s steps name_too_long stops.NameTooLong disk still loads refl is
+refused_changes s steps stops.TooDeep disk still loads is some =
+    refused_by s steps too_deep stops.TooDeep disk still loads refl is
+refused_changes s steps stops.DataTooLong disk still loads is some =
+    refused_by s steps data_too_long stops.DataTooLong disk still loads refl is
+refused_changes s steps stops.Full disk still loads is some =
+    refused_by s steps full stops.Full disk still loads refl is
 refused_changes s steps stops.Memory disk still loads is some = absurd (some refl)
 
 -- the edits were refused, or there was no memory
-pub refused_as : {E : Type 0} (s : HiveState) (steps : List Step) (stop : EditStop) (result : Result Done E) (disk : DiskState) → disk.flight ≡ []
-    → Loads disk.held s false → IsRefused (edited s.version s.tree steps) stop → IsRefusedAs stop result → IfOk result (Changes s steps disk)
+pub refused_as : {E : Type 0} (s : HiveState) (steps : List Step) (stop : EditStop) (result : Result Done E)
+    (disk : DiskState) → disk.flight ≡ []
+    → Loads disk.held s false → IsRefused (edited s.version s.tree steps) stop → IsRefusedAs stop result
+    → IfOk result (Changes s steps disk)
 refused_as s steps stop (Ok done) disk still loads is told =
     subst (Changes s steps disk) (sym told.0) (refused_changes s steps stop disk still loads is told.1)
 refused_as s steps stop (Err e) disk still loads is told = tt
@@ -130,22 +163,29 @@ unmoved_still (Ok done) disk = record { history = refl; quiet = record { cuts = 
 unmoved_still (Err e) disk = record { history = refl; quiet = tt }
 
 -- a commit was stopped
-pub uncommitted : {E : Type 0} (e : E) (old new : DiskState) (lost failed lacked : Type 0) → GoesFor old new lost failed lacked → Unmoved (Err e) old new
+pub uncommitted : {E : Type 0} (e : E) (old new : DiskState) (lost failed lacked : Type 0)
+    → GoesFor old new lost failed lacked → Unmoved (Err e) old new
 uncommitted e old new lost failed lacked goes = record { history = goes.goes_on.history; quiet = tt }
 
 -- a commit was made
-pub committed_quiet : {E T : Type 0} (done : Done) (x : T) (old new : DiskState) → IsCommitOn old new (Ok x) → Unmoved {E = E} (Ok done) old new
+pub committed_quiet : {E T : Type 0} (done : Done) (x : T) (old new : DiskState) → IsCommitOn old new (Ok x)
+    → Unmoved {E = E} (Ok done) old new
 committed_quiet done x old new goes = record {
   history = goes.goes_on.history;
-  quiet = record { cuts = goes.goes_on.no_cut (λ e. absurd cc); faults = goes.goes_on.no_fault (λ e. absurd cc) (λ e. absurd cc) };
+  quiet = record {
+    cuts = goes.goes_on.no_cut (λ e. absurd cc);
+    faults = goes.goes_on.no_fault (λ e. absurd cc) (λ e. absurd cc);
+  };
 }
 
 -- a load was stopped
-pub unloaded : {E : Type 0} (e : E) (old new : DiskState) (lost failed lacked : Type 0) → GoesOn old new lost failed lacked → Unmoved (Err e) old new
+pub unloaded : {E : Type 0} (e : E) (old new : DiskState) (lost failed lacked : Type 0)
+    → GoesOn old new lost failed lacked → Unmoved (Err e) old new
 unloaded e old new lost failed lacked goes = record { history = goes.history; quiet = tt }
 
 -- a hive was loaded, and more was done
-pub loaded_unmoved : {E T : Type 0} (result : Result Done E) (x : T) (old mid new : DiskState) → IsLoadOn old mid (Ok x) → Unmoved result mid new → Unmoved result old new
+pub loaded_unmoved : {E T : Type 0} (result : Result Done E) (x : T) (old mid new : DiskState) → IsLoadOn old mid (Ok x)
+    → Unmoved result mid new → Unmoved result old new
 loaded_unmoved (Ok done) x old mid new goes unmoved = record {
   history = unmoved.history ∙ goes.history;
   quiet = record {
@@ -156,33 +196,43 @@ loaded_unmoved (Ok done) x old mid new goes unmoved = record {
 loaded_unmoved (Err e) x old mid new goes unmoved = record { history = unmoved.history ∙ goes.history; quiet = tt }
 
 -- the edits were made in what the disk loaded as
-pub loaded_changes : {E : Type 0} (result : Result Done E) (h : Session) (dirty : Bool) (steps : List Step) (old : Image) (new : DiskState) → Loads old (loaded_state h) dirty
+pub loaded_changes : {E : Type 0} (result : Result Done E) (h : Session) (dirty : Bool) (steps : List Step)
+    (old : Image) (new : DiskState) → Loads old (loaded_state h) dirty
     → IfOk result (Changes (loaded_state h) steps new) → IfOk result (ChangesHeld old steps new)
-loaded_changes (Ok done) h dirty steps old new loads changes = (record { state = loaded_state h; dirty = dirty }, loads, changes)
+loaded_changes (Ok done) h dirty steps old new loads changes =
+    (record { state = loaded_state h; dirty = dirty }, loads, changes)
 loaded_changes (Err e) h dirty steps old new loads changes = tt
 
 -- ---- on a new disk
 
-woken_held : (files : HiveFiles) (image : Image) (old : DiskState) → old ≡ placed_disk files → IsCrashImage old.held old.flight image → image ≡ image_in files
+woken_held : (files : HiveFiles) (image : Image) (old : DiskState) → old ≡ placed_disk files
+    → IsCrashImage old.held old.flight image → image ≡ image_in files
 woken_held files image old is crash =
     let P : DiskState → Type 0 = λ d. IsCrashImage d.held d.flight image in
     still_crash (image_in files) image (subst P is crash)
 
-woken_history : {E : Type 0} (files : HiveFiles) (steps : List Step) (result : Result Done E) (image : Image) (old mid new : DiskState) → old ≡ placed_disk files
-    → mid ≡ woken image old → ChangesAwake steps result mid new → new.history ≡ (woken image (placed_disk files)).history
+woken_history : {E : Type 0} (files : HiveFiles) (steps : List Step) (result : Result Done E) (image : Image)
+    (old mid new : DiskState) → old ≡ placed_disk files
+    → mid ≡ woken image old → ChangesAwake steps result mid new
+    → new.history ≡ (woken image (placed_disk files)).history
 woken_history files steps result image old mid new is wakes a =
-    ap (λ (d : DiskState). d.history) a.off ∙ a.unmoved.history ∙ ap (λ (d : DiskState). d.history) wakes ∙ ap (λ (d : DiskState). (woken image d).history) is
+    ap (λ (d : DiskState). d.history) a.off ∙ a.unmoved.history ∙ ap (λ (d : DiskState). d.history) wakes
+    ∙ ap (λ (d : DiskState). (woken image d).history) is
 
 -- the files were placed, the disk woke up, the hive was changed, and the disk was turned off
-pub imports_on : {E : Type 0} (files : HiveFiles) (steps : List Step) (result : Result Done E) (image : Image) (old mid new : DiskState) → old ≡ placed_disk files
-    → IsCrashImage old.held old.flight image → mid ≡ woken image old → ChangesAwake steps result mid new → ImportsOn files steps result new
+pub imports_on : {E : Type 0} (files : HiveFiles) (steps : List Step) (result : Result Done E) (image : Image)
+    (old mid new : DiskState) → old ≡ placed_disk files
+    → IsCrashImage old.held old.flight image → mid ≡ woken image old → ChangesAwake steps result mid new
+    → ImportsOn files steps result new
 imports_on files steps (Ok done) image old mid new is crash wakes a =
     let held : mid.held ≡ image_in files = ap (λ (d : DiskState). d.held) wakes ∙ woken_held files image old is crash in
-    let here : ChangesHeld (image_in files) steps a.late done = subst (λ (i : Image). ChangesHeld i steps a.late done) held a.changed in
+    let here : ChangesHeld (image_in files) steps a.late done =
+    subst (λ (i : Image). ChangesHeld i steps a.late done) held a.changed in
     let made : Makes (change_of here.0.state steps) a.late done = here.2 in
     let P : DiskState → Type 0 = λ d. EachCrash d (λ (c : Image). LoadsAs c (change_of here.0.state steps).state) in
     let loads : P new = subst P (sym a.off) made.loads in
-    let same : new.history ≡ (woken image (placed_disk files)).history = woken_history files steps (Ok done) image old mid new is wakes a in (
+    let same : new.history ≡ (woken image (placed_disk files)).history =
+    woken_history files steps (Ok done) image old mid new is wakes a in (
       here.0,
       here.1,
       made.text,
@@ -192,12 +242,15 @@ imports_on files steps (Ok done) image old mid new is crash wakes a =
         taken = ap (λ (h : History). h.takings) same;
         unordered = ap (λ (h : History). h.armings) same;
         uncut = ap (λ (h : History). h.cut_calls) same;
-        no_cuts = ap (λ (d : DiskState). d.cuts) a.off ∙ a.unmoved.quiet.cuts ∙ ap (λ (d : DiskState). d.cuts) wakes ∙ ap (λ (d : DiskState). d.cuts) is;
-        no_faults = ap (λ (d : DiskState). d.faults) a.off ∙ a.unmoved.quiet.faults ∙ ap (λ (d : DiskState). d.faults) wakes ∙ ap (λ (d : DiskState). d.faults) is;
+        no_cuts = ap (λ (d : DiskState). d.cuts) a.off ∙ a.unmoved.quiet.cuts ∙ ap (λ (d : DiskState). d.cuts) wakes
+            ∙ ap (λ (d : DiskState). d.cuts) is;
+        no_faults = ap (λ (d : DiskState). d.faults) a.off ∙ a.unmoved.quiet.faults
+            ∙ ap (λ (d : DiskState). d.faults) wakes ∙ ap (λ (d : DiskState). d.faults) is;
       },
     )
 imports_on files steps (Err e) image old mid new is crash wakes a =
-    let same : new.history ≡ (woken image (placed_disk files)).history = woken_history files steps (Err e) image old mid new is wakes a in
+    let same : new.history ≡ (woken image (placed_disk files)).history =
+    woken_history files steps (Err e) image old mid new is wakes a in
     let placings : new.history.placings ≡ 1 + named files.log = ap (λ (h : History). h.placings) same in
     let takings : new.history.takings ≡ 0 = ap (λ (h : History). h.takings) same in
     record {
@@ -209,11 +262,14 @@ imports_on files steps (Err e) image old mid new is crash wakes a =
 
 -- the same on the disk of any files
 pub imports_any : {E : Type 0} (steps : List Step) (result : Result Done E) (old mid new : DiskState)
-    → (image : Image) × IsCrashImage old.held old.flight image × (mid ≡ woken image old) → ChangesAwake steps result mid new
+    → (image : Image) × IsCrashImage old.held old.flight image × (mid ≡ woken image old)
+    → ChangesAwake steps result mid new
     → (files : HiveFiles) → old ≡ placed_disk files → ImportsOn files steps result new
-imports_any steps result old mid new wakes a files is = imports_on files steps result wakes.0 old mid new is wakes.1 wakes.2 a
+imports_any steps result old mid new wakes a files is =
+    imports_on files steps result wakes.0 old mid new is wakes.1 wakes.2 a
 
-pub awake_off : {E : Type 0} (steps : List Step) (result : Result Done E) (old new : DiskState) → ChangesAwake steps result old new → new.on ≡ false
+pub awake_off : {E : Type 0} (steps : List Step) (result : Result Done E) (old new : DiskState)
+    → ChangesAwake steps result old new → new.on ≡ false
 awake_off steps result old new a = ap (λ (d : DiskState). d.on) a.off
 
 -- the disk could not be woken
@@ -243,8 +299,10 @@ unplaced files disk u =
 -- ---- the same of a disk that may tell what it holds
 
 -- the edits were made, and the session was settled
-pub edit_settles : {E : Type 0} (tells : Bool) (result : Result Done E) (h k : Session) (steps : List Step) (old new : DiskState) → (tells ≡ true → old.flight ≡ [])
-    → (tells ≡ true → Loads old.held (loaded_state h) false) → edited (version_of h.base.minor) h.tree steps ≡ Ok k.tree → k.base ≡ h.base → h.changed ≡ false
+pub edit_settles : {E : Type 0} (tells : Bool) (result : Result Done E) (h k : Session) (steps : List Step)
+    (old new : DiskState) → (tells ≡ true → old.flight ≡ [])
+    → (tells ≡ true → Loads old.held (loaded_state h) false) → edited (version_of h.base.minor) h.tree steps ≡ Ok k.tree
+    → k.base ≡ h.base → h.changed ≡ false
     → (k.changed ≡ true ↔ (h.changed ≡ true) ⊎ (k.tree ≡ h.tree → ⊥)) → (tells ≡ true → IfOk result (Settles k old new))
     → tells ≡ true → IfOk result (Changes (loaded_state h) steps new)
 edit_settles tells (Ok done) h k steps old new still loads made base unchanged changed settles told =
@@ -252,13 +310,19 @@ edit_settles tells (Ok done) h k steps old new still loads made base unchanged c
 edit_settles tells (Err e) h k steps old new still loads made base unchanged changed settles told = tt
 
 -- they were refused
-pub edit_refused : (tells : Bool) (h : Session) (steps : List Step) (stop : EditStop) (disk : DiskState) → (tells ≡ true → disk.flight ≡ [])
-    → (tells ≡ true → Loads disk.held (loaded_state h) false) → IsRefused (edited (version_of h.base.minor) h.tree steps) stop → (stop ≡ stops.Memory → ⊥)
+pub edit_refused : (tells : Bool) (h : Session) (steps : List Step) (stop : EditStop) (disk : DiskState)
+    → (tells ≡ true → disk.flight ≡ [])
+    → (tells ≡ true → Loads disk.held (loaded_state h) false)
+    → IsRefused (edited (version_of h.base.minor) h.tree steps) stop → (stop ≡ stops.Memory → ⊥)
     → tells ≡ true → Changes (loaded_state h) steps disk (dones.Refused stop)
-edit_refused tells h steps stop disk still loads is some told = refused_changes (loaded_state h) steps stop disk (still told) (loads told) is some
+edit_refused tells h steps stop disk still loads is some told =
+    refused_changes (loaded_state h) steps stop disk (still told) (loads told) is some
 
 -- they were made in what the disk loaded as
-pub change_loads : {E : Type 0} (tells : Bool) (result : Result Done E) (h : Session) (dirty : Bool) (steps : List Step) (old : Image) (new : DiskState)
-    → (tells ≡ true → Loads old (loaded_state h) dirty) → (tells ≡ true → IfOk result (Changes (loaded_state h) steps new))
+pub change_loads : {E : Type 0} (tells : Bool) (result : Result Done E) (h : Session) (dirty : Bool) (steps : List Step)
+    (old : Image) (new : DiskState)
+    → (tells ≡ true → Loads old (loaded_state h) dirty)
+    → (tells ≡ true → IfOk result (Changes (loaded_state h) steps new))
     → tells ≡ true → IfOk result (ChangesHeld old steps new)
-change_loads tells result h dirty steps old new loads changes told = loaded_changes result h dirty steps old new (loads told) (changes told)
+change_loads tells result h dirty steps old new loads changes told =
+    loaded_changes result h dirty steps old new (loads told) (changes told)

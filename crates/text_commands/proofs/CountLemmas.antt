@@ -6,10 +6,12 @@ use Rattle.text_commands.specs.Exported.{capped, items_count}
 none_left : (total whole : ℕ) → total ≤ 18446744073709551615 → capped (total + 0) ≡ whole → total ≡ whole
 none_left total whole small is = omega (arith, small, is)
 
-pub all_keys_count : (total whole : ℕ) (rest : List Tree) → length rest < 1 → total ≤ 18446744073709551615 → capped (total + keys_count (trees rest)) ≡ whole → total ≡ whole
+pub all_keys_count : (total whole : ℕ) (rest : List Tree) → length rest < 1 → total ≤ 18446744073709551615
+    → capped (total + keys_count (trees rest)) ≡ whole → total ≡ whole
 all_keys_count total whole [] none small is = none_left total whole small is
 all_keys_count total whole (t ∷ rest) none small is = absurd (omega (arith, none))
 
-pub all_items_count : (total whole : ℕ) (rest : List Tree) → length rest < 1 → total ≤ 18446744073709551615 → capped (total + items_count (trees rest)) ≡ whole → total ≡ whole
+pub all_items_count : (total whole : ℕ) (rest : List Tree) → length rest < 1 → total ≤ 18446744073709551615
+    → capped (total + items_count (trees rest)) ≡ whole → total ≡ whole
 all_items_count total whole [] none small is = none_left total whole small is
 all_items_count total whole (t ∷ rest) none small is = absurd (omega (arith, none))

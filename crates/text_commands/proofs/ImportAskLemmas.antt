@@ -24,25 +24,32 @@ use Rattle.text_commands.specs.Imports.{IsLoadable}
 -- ---- behind the check of the hive
 
 -- the text was got, or it is absent
-pub text_asked : (files : HiveFiles) (status : Status) (old mid new : ℕ) → IsLoadable files → mid ≡ more 1 old → new ≡ mid
+pub text_asked : (files : HiveFiles) (status : Status) (old mid new : ℕ) → IsLoadable files → mid ≡ more 1 old
+    → new ≡ mid
     → (status ≡ statuses.ReadFault → ⊥) → AsksBehind files 0 status old new
 text_asked files status old mid new loads asked unasked unread =
     inr (inl (loads.0, loads.1, asks_on 1 (stop_in status) old mid new (λ e. unread (not_read status e)) asked unasked))
 
 -- the outside stopped the getting of the text
-stopped_asks : (stop : HostStop) (old new : ℕ) → (stop ≡ Write → ⊥) → new ≡ more 1 old → AsksBy 1 (stop_in (stopped_as stop)) old new
-stopped_asks Read old new unwritten asked = record { asked = 1; not_less = omega arith; not_more = omega arith; gets = asked }
+stopped_asks : (stop : HostStop) (old new : ℕ) → (stop ≡ Write → ⊥) → new ≡ more 1 old
+    → AsksBy 1 (stop_in (stopped_as stop)) old new
+stopped_asks Read old new unwritten asked =
+    record { asked = 1; not_less = omega arith; not_more = omega arith; gets = asked }
 stopped_asks Write old new unwritten asked = absurd (unwritten refl)
-stopped_asks Memory old new unwritten asked = record { asked = 1; not_less = omega arith; not_more = omega arith; gets = asked }
+stopped_asks Memory old new unwritten asked =
+    record { asked = 1; not_less = omega arith; not_more = omega arith; gets = asked }
 
-pub stopped_text_asked : (files : HiveFiles) (stop : HostStop) (old new : ℕ) → IsLoadable files → (stop ≡ Write → ⊥) → new ≡ more 1 old
+pub stopped_text_asked : (files : HiveFiles) (stop : HostStop) (old new : ℕ) → IsLoadable files → (stop ≡ Write → ⊥)
+    → new ≡ more 1 old
     → AsksBehind files 0 (stopped_as stop) old new
-stopped_text_asked files stop old new loads unwritten asked = inr (inl (loads.0, loads.1, stopped_asks stop old new unwritten asked))
+stopped_text_asked files stop old new loads unwritten asked =
+    inr (inl (loads.0, loads.1, stopped_asks stop old new unwritten asked))
 
 -- ---- before it
 
 -- the hive's fault was said
-pub fault_asked : (files : HiveFiles) (fault : HiveFault) (status : Status) (old new : ℕ) → LoadFault (image_in files) fault → new ≡ old
+pub fault_asked : (files : HiveFiles) (fault : HiveFault) (status : Status) (old new : ℕ)
+    → LoadFault (image_in files) fault → new ≡ old
     → (status ≡ statuses.ReadFault → ⊥) → AsksBehind files 0 status old new
 fault_asked files fault status old new is unasked unread =
     inl (fault, is, asks_on 0 (stop_in status) old old new (λ e. unread (not_read status e)) refl unasked)
@@ -54,7 +61,8 @@ unchecked_asked files gets =
 
 -- ---- behind the search for the hive
 
-some_behind : (least whole n k : ℕ) (old mid new : ℕ) → whole ≡ n + k → mid ≡ more n old → AsksSome least k mid new → AsksSome least whole old new
+some_behind : (least whole n k : ℕ) (old mid new : ℕ) → whole ≡ n + k → mid ≡ more n old → AsksSome least k mid new
+    → AsksSome least whole old new
 some_behind least whole n k old mid new is before some = record {
   asked = n + some.asked;
   not_less = omega (arith, some.not_less);
@@ -65,14 +73,16 @@ some_behind least whole n k old mid new is before some = record {
 none_more : (n : ℕ) → n ≡ n + 0
 none_more n = omega arith
 
-behind_by : (whole n k : ℕ) (stop : Option HostStop) (old mid new : ℕ) → whole ≡ n + k → mid ≡ more n old → AsksBy k stop mid new
+behind_by : (whole n k : ℕ) (stop : Option HostStop) (old mid new : ℕ) → whole ≡ n + k → mid ≡ more n old
+    → AsksBy k stop mid new
     → AsksBy whole stop old new
 behind_by whole n k None old mid new is before asks = more_behind whole n k old mid new is before asks
 behind_by whole n k (Some Read) old mid new is before asks = some_behind 1 whole n k old mid new is before asks
 behind_by whole n k (Some Write) old mid new is before asks = more_behind whole n k old mid new is before asks
 behind_by whole n k (Some Memory) old mid new is before asks = some_behind 0 whole n k old mid new is before asks
 
-behind_asked : (files : HiveFiles) (n : ℕ) (status : Status) (old mid new : ℕ) → mid ≡ more n old → AsksBehind files 0 status mid new
+behind_asked : (files : HiveFiles) (n : ℕ) (status : Status) (old mid new : ℕ) → mid ≡ more n old
+    → AsksBehind files 0 status mid new
     → AsksBehind files n status old new
 behind_asked files n status old mid new before (inl fault) =
     inl (fault.0, fault.1, behind_by n n 0 (stop_in status) old mid new (none_more n) before fault.2)
@@ -83,7 +93,8 @@ behind_asked files n status old mid new before (inr (inr stopped)) =
 
 -- hive and log were found
 pub found_asked : (words : ImportAsked) (files : HiveFiles) (status : Status) (old mid new : HostState)
-    → Looks (hive_in old.files words.hive words.log) (Ok files) old mid → AsksHive {A = HiveFiles} words.hive words.log (Ok files) old mid
+    → Looks (hive_in old.files words.hive words.log) (Ok files) old mid
+    → AsksHive {A = HiveFiles} words.hive words.log (Ok files) old mid
     → AsksBehind files 0 status mid.gets new.gets → AsksImport words status old new
 found_asked words files status old mid new looks asks behind = λ tells.
     let n : ℕ = asks_hive old.files words.hive words.log in
@@ -93,12 +104,14 @@ found_asked words files status old mid new looks asks behind = λ tells.
 -- one is absent
 pub absent_asked : (words : ImportAsked) (why : Refusal) (status : Status) (old mid new : HostState)
     → Looks (hive_in old.files words.hive words.log) (Err (Refused why)) old mid
-    → AsksHive {A = HiveFiles} words.hive words.log (Err (Refused why)) old mid → new.gets ≡ mid.gets → IsToldAs (refusal_status why) status
+    → AsksHive {A = HiveFiles} words.hive words.log (Err (Refused why)) old mid → new.gets ≡ mid.gets
+    → IsToldAs (refusal_status why) status
     → AsksImport words status old new
 absent_asked words why status old mid new looks asks unasked told = λ tells.
     let n : ℕ = asks_hive old.files words.hive words.log in
     subst (λ (w : Result HiveFiles Refusal). AsksText w n status old.gets new.gets) (sym (looks.found tells))
-    (asks_on n (stop_in status) old.gets mid.gets new.gets (λ e. refused_unread why status told (not_read status e)) (asks tells) unasked)
+    (asks_on n (stop_in status) old.gets mid.gets new.gets (λ e. refused_unread why status told (not_read status e))
+    (asks tells) unasked)
 
 stopped_search : (wanted : Result HiveFiles Refusal) (n : ℕ) (stop : HostStop) (old new : ℕ) → (stop ≡ Write → ⊥)
     → AsksBy n (stop_in (stopped_as stop)) old new → AsksText wanted n (stopped_as stop) old new
@@ -110,8 +123,10 @@ stopped_search (Ok files) n Memory old new unwritten asks = inr (inr (inl refl, 
 -- the outside stopped the search
 pub stopped_asked : (words : ImportAsked) (stop : HostStop) (old new : HostState)
     → Looks {A = HiveFiles} (hive_in old.files words.hive words.log) (Err (Stopped stop)) old new
-    → AsksHive {A = HiveFiles} words.hive words.log (Err (Stopped stop)) old new → AsksImport words (stopped_as stop) old new
+    → AsksHive {A = HiveFiles} words.hive words.log (Err (Stopped stop)) old new
+    → AsksImport words (stopped_as stop) old new
 stopped_asked words stop old new looks asks = λ tells.
     let n : ℕ = asks_hive old.files words.hive words.log in
-    stopped_search (hive_in old.files words.hive words.log) n stop old.gets new.gets (λ e. looks.unwritten (ap (λ (s : HostStop). Stopped s) e))
+    stopped_search (hive_in old.files words.hive words.log) n stop old.gets new.gets
+    (λ e. looks.unwritten (ap (λ (s : HostStop). Stopped s) e))
     (asks_stop n stop old.gets new.gets (asks tells))

@@ -29,7 +29,8 @@ TreeExports path root (Err obstacle) = obstacle ≡ Stopped NoMemory
 
 -- the export of the tree that the image loads as, or its first fault, or there was no memory
 abbrev pub ExportsAs : Image → List (List ℕ) → Result Outcome Obstacle → Type 0
-ExportsAs image path (Ok e) = (placed : Woken) × (Loads image placed.state placed.dirty) × (export_with e.put e.status e.line ≡ export_of path placed.state.tree)
+ExportsAs image path (Ok e) =
+    (placed : Woken) × (Loads image placed.state placed.dirty) × (export_with e.put e.status e.line ≡ export_of path placed.state.tree)
 ExportsAs image path (Err (Refused r)) = (fault : HiveFault) × (LoadFault image fault) × (r ≡ BadHive fault)
 ExportsAs image path (Err (Stopped stop)) = stop ≡ NoMemory
 

@@ -53,7 +53,10 @@ abbrev pub change_by : HiveState → Result Tree Refusal → Change
 change_by s (Err why) = record { text = codes "import refused " ++ refusal_word why ++ codes "\n"; state = s }
 change_by s (Ok t) =
     if same_tree s.tree t then record { text = codes "import nothing\n"; state = s }
-    else record { text = codes "commit import " ++ decimal (next_number s.sequence) ++ codes "\n"; state = record s { tree = t; sequence = next_number s.sequence } }
+    else record {
+      text = codes "commit import " ++ decimal (next_number s.sequence) ++ codes "\n";
+      state = record s { tree = t; sequence = next_number s.sequence };
+    }
 
 abbrev pub change_of : HiveState → List Step → Change
 change_of s steps = change_by s (edited s.version s.tree steps)
@@ -123,4 +126,5 @@ import_saves words = record { hive = words.save_hive; log = words.save_log }
 -- what the command leaves
 abbrev pub DecidesImport : ImportAsked → Status → HostState → HostState → DiskState → Type 0
 DecidesImport words status old new disk =
-    Decides (EndsImport (hive_in old.files words.hive words.log) (import_saves words) (file_in words.reg (old.files words.reg)) disk) (import_saves words) status old new disk
+    Decides (EndsImport (hive_in old.files words.hive words.log) (import_saves words) (file_in words.reg (old.files words.reg)) disk)
+    (import_saves words) status old new disk

@@ -28,18 +28,23 @@ free_push p x y [] free e = (e, tt)
 free_push p x y (z ∷ ys) free e = (free.0, free_push p x y ys free.1 e)
 
 module _ {X : Type 0} (p : Test) (name : X → List ℕ) where
-  each_push : (y : X) (done : List (List ℕ)) (xs : List X) → EachFree p done (map name xs) → All (λ x. p (name x) (name y) ≡ false) xs
+  each_push : (y : X) (done : List (List ℕ)) (xs : List X) → EachFree p done (map name xs)
+      → All (λ x. p (name x) (name y) ≡ false) xs
       → EachFree p (done ++ name y ∷ []) (map name xs)
   each_push y done [] each all = tt
-  each_push y done (x ∷ xs) each all =
-      (free_push p (name x) (name y) done each.0 (all 0 x (omega arith)), each_push y done xs each.1 (λ k d lt. all (suc k) d (omega arith)))
+  each_push y done (x ∷ xs) each all = (
+    free_push p (name x) (name y) done each.0 (all 0 x (omega arith)),
+    each_push y done xs each.1 (λ k d lt. all (suc k) d (omega arith)),
+  )
 
-  apart_by : (done : List (List ℕ)) (xs : List X) → EachFree p done (map name xs) → AllPairs (λ a b. p (name b) (name a) ≡ false) xs
+  apart_by : (done : List (List ℕ)) (xs : List X) → EachFree p done (map name xs)
+      → AllPairs (λ a b. p (name b) (name a) ≡ false) xs
       → Apart p done (map name xs)
   apart_by done [] each pairs = tt
   apart_by done (x ∷ xs) each pairs = (
     each.0,
-    apart_by (done ++ name x ∷ []) xs (each_push x done xs each.1 (λ k d lt. pairs 0 (suc k) d (omega arith) (omega arith)))
+    apart_by (done ++ name x ∷ []) xs
+        (each_push x done xs each.1 (λ k d lt. pairs 0 (suc k) d (omega arith) (omega arith)))
         (λ i j d below lt. pairs (suc i) (suc j) d (omega arith) (omega arith)),
   )
 
@@ -54,11 +59,14 @@ module _ {X : Type 0} (p : Test) (name : X → List ℕ) where
 
   pub none_found : (x : List ℕ) (ys : List X) → Free p x (map name ys) → find (λ y. p x (name y)) ys ≡ None
   none_found x [] free = refl
-  none_found x (y ∷ ys) free = ap (λ (b : Bool). cond b (Some y) (find (λ z. p x (name z)) ys)) free.0 ∙ none_found x ys free.1
+  none_found x (y ∷ ys) free =
+      ap (λ (b : Bool). cond b (Some y) (find (λ z. p x (name z)) ys)) free.0 ∙ none_found x ys free.1
 
-  pub last_found : (x : List ℕ) (ys : List X) (z : X) → Free p x (map name ys) → p x (name z) ≡ true → find (λ y. p x (name y)) (ys ++ z ∷ []) ≡ Some z
+  pub last_found : (x : List ℕ) (ys : List X) (z : X) → Free p x (map name ys) → p x (name z) ≡ true
+      → find (λ y. p x (name y)) (ys ++ z ∷ []) ≡ Some z
   last_found x [] z free e = ap (λ (b : Bool). cond b (Some z) None) e
-  last_found x (y ∷ ys) z free e = ap (λ (b : Bool). cond b (Some y) (find (λ w. p x (name w)) (ys ++ z ∷ []))) free.0 ∙ last_found x ys z free.1 e
+  last_found x (y ∷ ys) z free e =
+      ap (λ (b : Bool). cond b (Some y) (find (λ w. p x (name w)) (ys ++ z ∷ []))) free.0 ∙ last_found x ys z free.1 e
 
   pub last_changed : (x : List ℕ) (f : X → X) (ys : List X) (z : X) → Free p x (map name ys) → p x (name z) ≡ true
       → at_first (λ y. p x (name y)) f (ys ++ z ∷ []) ≡ ys ++ f z ∷ []
@@ -67,6 +75,7 @@ module _ {X : Type 0} (p : Test) (name : X → List ℕ) where
       ap (λ (b : Bool). cond b (f y ∷ (ys ++ z ∷ [])) (y ∷ at_first (λ w. p x (name w)) f (ys ++ z ∷ []))) free.0
       ∙ ap (λ (l : List X). y ∷ l) (last_changed x f ys z free.1 e)
 
-pub map_push : {X : Type 0} (name : X → List ℕ) (xs : List X) (y : X) → map name (xs ++ y ∷ []) ≡ map name xs ++ name y ∷ []
+pub map_push : {X : Type 0} (name : X → List ℕ) (xs : List X) (y : X)
+    → map name (xs ++ y ∷ []) ≡ map name xs ++ name y ∷ []
 map_push name [] y = refl
 map_push name (x ∷ xs) y = ap (λ (l : List (List ℕ)). name x ∷ l) (map_push name xs y)

@@ -36,16 +36,20 @@ module _ (name : List ℕ) (path : List (List ℕ)) (k l : Tree) (f : Tree → T
   first_found finds names [] e = absurd cc
   first_found finds names (w ∷ us) e = go (is_named name w) refl (first_found finds names us)
     where
-      by : (v : Bool) → is_named name w ≡ v → option_and_then (find_key path) (cond v (Some w) (find (is_named name) us)) ≡ Some k
-      by v is = ap (λ (z : Bool). option_and_then (find_key path) (cond z (Some w) (find (is_named name) us))) (sym is) ∙ e
+      by : (v : Bool) → is_named name w ≡ v
+          → option_and_then (find_key path) (cond v (Some w) (find (is_named name) us)) ≡ Some k
+      by v is = ap (λ (z : Bool). option_and_then (find_key path) (cond z (Some w) (find (is_named name) us))) (sym is)
+          ∙ e
 
       go : (v : Bool) → is_named name w ≡ v → (below us ≡ Some k → below (at_first (is_named name) f us) ≡ Some l)
           → below (cond v (f w ∷ us) (w ∷ at_first (is_named name) f us)) ≡ Some l
       go true is deep =
           let same : is_named name (f w) ≡ true = ap (folds_same name) (names w (by true is)) ∙ is in
-          ap (λ (z : Bool). option_and_then (find_key path) (cond z (Some (f w)) (find (is_named name) us))) same ∙ finds w (by true is)
+          ap (λ (z : Bool). option_and_then (find_key path) (cond z (Some (f w)) (find (is_named name) us))) same
+          ∙ finds w (by true is)
       go false is deep =
-          ap (λ (z : Bool). option_and_then (find_key path) (cond z (Some w) (find (is_named name) (at_first (is_named name) f us)))) is ∙ deep (by false is)
+          ap (λ (z : Bool). option_and_then (find_key path)
+          (cond z (Some w) (find (is_named name) (at_first (is_named name) f us)))) is ∙ deep (by false is)
 
   -- a change is what another one is, where both do the same to the key below which this one is found
   pub first_same : (g : Tree → Tree) → ((w : Tree) → find_key path w ≡ Some k → f w ≡ g w)
@@ -53,91 +57,120 @@ module _ (name : List ℕ) (path : List (List ℕ)) (k l : Tree) (f : Tree → T
   first_same g same [] e = refl
   first_same g same (w ∷ us) e = go (is_named name w) refl (first_same g same us)
     where
-      by : (v : Bool) → is_named name w ≡ v → option_and_then (find_key path) (cond v (Some w) (find (is_named name) us)) ≡ Some k
-      by v is = ap (λ (z : Bool). option_and_then (find_key path) (cond z (Some w) (find (is_named name) us))) (sym is) ∙ e
+      by : (v : Bool) → is_named name w ≡ v
+          → option_and_then (find_key path) (cond v (Some w) (find (is_named name) us)) ≡ Some k
+      by v is = ap (λ (z : Bool). option_and_then (find_key path) (cond z (Some w) (find (is_named name) us))) (sym is)
+          ∙ e
 
-      go : (v : Bool) → is_named name w ≡ v → (below us ≡ Some k → at_first (is_named name) f us ≡ at_first (is_named name) g us)
-          → cond v (f w ∷ us) (w ∷ at_first (is_named name) f us) ≡ cond v (g w ∷ us) (w ∷ at_first (is_named name) g us)
+      go : (v : Bool) → is_named name w ≡ v
+          → (below us ≡ Some k → at_first (is_named name) f us ≡ at_first (is_named name) g us)
+          → cond v (f w ∷ us) (w ∷ at_first (is_named name) f us)
+          ≡ cond v (g w ∷ us) (w ∷ at_first (is_named name) g us)
       go true is deep = ap (λ (z : Tree). z ∷ us) (same w (by true is))
       go false is deep = ap (λ (z : List Tree). w ∷ z) (deep (by false is))
 
   -- one change after another
   pub first_twice : (g h : Tree → Tree) → ((w : Tree) → find_key path w ≡ Some k → g (f w) ≡ h w)
       → ((w : Tree) → find_key path w ≡ Some k → (head (f w)).name ≡ (head w).name)
-      → (us : List Tree) → below us ≡ Some k → at_first (is_named name) g (at_first (is_named name) f us) ≡ at_first (is_named name) h us
+      → (us : List Tree) → below us ≡ Some k
+      → at_first (is_named name) g (at_first (is_named name) f us) ≡ at_first (is_named name) h us
   first_twice g h both names [] e = refl
   first_twice g h both names (w ∷ us) e = go (is_named name w) refl (first_twice g h both names us)
     where
-      by : (v : Bool) → is_named name w ≡ v → option_and_then (find_key path) (cond v (Some w) (find (is_named name) us)) ≡ Some k
-      by v is = ap (λ (z : Bool). option_and_then (find_key path) (cond z (Some w) (find (is_named name) us))) (sym is) ∙ e
+      by : (v : Bool) → is_named name w ≡ v
+          → option_and_then (find_key path) (cond v (Some w) (find (is_named name) us)) ≡ Some k
+      by v is = ap (λ (z : Bool). option_and_then (find_key path) (cond z (Some w) (find (is_named name) us))) (sym is)
+          ∙ e
 
       go : (v : Bool) → is_named name w ≡ v
-          → (below us ≡ Some k → at_first (is_named name) g (at_first (is_named name) f us) ≡ at_first (is_named name) h us)
-          → at_first (is_named name) g (cond v (f w ∷ us) (w ∷ at_first (is_named name) f us)) ≡ cond v (h w ∷ us) (w ∷ at_first (is_named name) h us)
+          → (below us ≡ Some k → at_first (is_named name) g (at_first (is_named name) f us)
+          ≡ at_first (is_named name) h us)
+          → at_first (is_named name) g (cond v (f w ∷ us) (w ∷ at_first (is_named name) f us))
+          ≡ cond v (h w ∷ us) (w ∷ at_first (is_named name) h us)
       go true is deep =
           let same : is_named name (f w) ≡ true = ap (folds_same name) (names w (by true is)) ∙ is in
-          ap (λ (z : Bool). cond z (g (f w) ∷ us) (f w ∷ at_first (is_named name) g us)) same ∙ ap (λ (z : Tree). z ∷ us) (both w (by true is))
+          ap (λ (z : Bool). cond z (g (f w) ∷ us) (f w ∷ at_first (is_named name) g us)) same
+          ∙ ap (λ (z : Tree). z ∷ us) (both w (by true is))
       go false is deep =
-          ap (λ (z : Bool). cond z (g w ∷ at_first (is_named name) f us) (w ∷ at_first (is_named name) g (at_first (is_named name) f us))) is
+          ap (λ (z : Bool). cond z (g w ∷ at_first (is_named name) f us)
+          (w ∷ at_first (is_named name) g (at_first (is_named name) f us))) is
           ∙ ap (λ (z : List Tree). w ∷ z) (deep (by false is))
 
 -- ---- the key at a path
 
 -- another key in its place, of the same name
-pub kept_name : (path : List (List ℕ)) (k l : Tree) → (head l).name ≡ (head k).name → (w : Tree) → find_key path w ≡ Some k
+pub kept_name : (path : List (List ℕ)) (k l : Tree) → (head l).name ≡ (head k).name → (w : Tree)
+    → find_key path w ≡ Some k
     → (head (at_key path (λ _. l) w)).name ≡ (head w).name
 kept_name [] k l named w e = named ∙ ap (λ (z : Tree). (head z).name) (some_one k w (sym e))
 kept_name (name ∷ path) k l named (key h ts) e = refl
 
-pub then_found : (path : List (List ℕ)) (k l : Tree) → (head l).name ≡ (head k).name → (t : Tree) → find_key path t ≡ Some k
+pub then_found : (path : List (List ℕ)) (k l : Tree) → (head l).name ≡ (head k).name → (t : Tree)
+    → find_key path t ≡ Some k
     → find_key path (at_key path (λ _. l) t) ≡ Some l
 then_found [] k l named t e = refl
 then_found (name ∷ path) k l named (key h ts) e =
-    ap (λ (us : List Tree). option_and_then (find_key path) (find (is_named name) us)) (listed_trees (at_first (is_named name) (at_key path (λ _. l)) (listed ts)))
-    ∙ first_found name path k l (at_key path (λ _. l)) (λ w d. then_found path k l named w d) (kept_name path k l named) (listed ts) e
+    ap (λ (us : List Tree). option_and_then (find_key path) (find (is_named name) us))
+    (listed_trees (at_first (is_named name) (at_key path (λ _. l)) (listed ts)))
+    ∙ first_found name path k l (at_key path (λ _. l)) (λ w d. then_found path k l named w d) (kept_name path k l named)
+    (listed ts) e
 
 -- a change of the key that is there is that key changed
-pub change_is : (path : List (List ℕ)) (k : Tree) (f g : Tree → Tree) → f k ≡ g k → (t : Tree) → find_key path t ≡ Some k
+pub change_is : (path : List (List ℕ)) (k : Tree) (f g : Tree → Tree) → f k ≡ g k → (t : Tree)
+    → find_key path t ≡ Some k
     → at_key path f t ≡ at_key path g t
 change_is [] k f g same t e = let one : t ≡ k = some_one t k e in ap f one ∙ same ∙ ap g (sym one)
 change_is (name ∷ path) k f g same (key h ts) e =
-    ap (λ (us : List Tree). key h (trees us)) (first_same name path k k (at_key path f) (at_key path g) (λ w d. change_is path k f g same w d) (listed ts) e)
+    ap (λ (us : List Tree). key h (trees us))
+    (first_same name path k k (at_key path f) (at_key path g) (λ w d. change_is path k f g same w d) (listed ts) e)
 
 -- the first one changed by what changes nothing
-first_none : (name : List ℕ) (f : Tree → Tree) → ((w : Tree) → f w ≡ w) → (us : List Tree) → at_first (is_named name) f us ≡ us
+first_none : (name : List ℕ) (f : Tree → Tree) → ((w : Tree) → f w ≡ w) → (us : List Tree)
+    → at_first (is_named name) f us ≡ us
 first_none name f same [] = refl
 first_none name f same (w ∷ us) = go (is_named name w) (first_none name f same us)
   where
-    go : (v : Bool) → at_first (is_named name) f us ≡ us → cond v (f w ∷ us) (w ∷ at_first (is_named name) f us) ≡ w ∷ us
+    go : (v : Bool) → at_first (is_named name) f us ≡ us
+        → cond v (f w ∷ us) (w ∷ at_first (is_named name) f us) ≡ w ∷ us
     go true rest = ap (λ (z : Tree). z ∷ us) (same w)
     go false rest = ap (λ (z : List Tree). w ∷ z) rest
 
 pub change_none : (path : List (List ℕ)) (t : Tree) → at_key path (λ k. k) t ≡ t
 change_none [] t = refl
 change_none (name ∷ path) (key h ts) =
-    ap (λ (us : List Tree). key h (trees us)) (first_none name (at_key path (λ k. k)) (change_none path) (listed ts)) ∙ ap (key h) (trees_listed ts)
+    ap (λ (us : List Tree). key h (trees us)) (first_none name (at_key path (λ k. k)) (change_none path) (listed ts))
+    ∙ ap (key h) (trees_listed ts)
 
 -- two keys in its place, one after the other
-pub change_again : (path : List (List ℕ)) (k l m : Tree) → (head l).name ≡ (head k).name → (t : Tree) → find_key path t ≡ Some k
+pub change_again : (path : List (List ℕ)) (k l m : Tree) → (head l).name ≡ (head k).name → (t : Tree)
+    → find_key path t ≡ Some k
     → at_key path (λ _. m) (at_key path (λ _. l) t) ≡ at_key path (λ _. m) t
 change_again [] k l m named t e = refl
 change_again (name ∷ path) k l m named (key h ts) e =
-    ap (λ (us : List Tree). key h (trees (at_first (is_named name) (at_key path (λ _. m)) us))) (listed_trees (at_first (is_named name) (at_key path (λ _. l)) (listed ts)))
+    ap (λ (us : List Tree). key h (trees (at_first (is_named name) (at_key path (λ _. m)) us)))
+    (listed_trees (at_first (is_named name) (at_key path (λ _. l)) (listed ts)))
     ∙ ap (λ (us : List Tree). key h (trees us))
-    (first_twice name path k k (at_key path (λ _. l)) (at_key path (λ _. m)) (at_key path (λ _. m)) (λ w d. change_again path k l m named w d)
+    (first_twice name path k k (at_key path (λ _. l)) (at_key path (λ _. m)) (at_key path (λ _. m))
+    (λ w d. change_again path k l m named w d)
     (kept_name path k l named) (listed ts) e)
 
 -- ---- a path behind a path
 
-pub change_behind : (path further : List (List ℕ)) (f : Tree → Tree) (t : Tree) → at_key (path ++ further) f t ≡ at_key path (at_key further f) t
+pub change_behind : (path further : List (List ℕ)) (f : Tree → Tree) (t : Tree)
+    → at_key (path ++ further) f t ≡ at_key path (at_key further f) t
 change_behind [] further f t = refl
-change_behind (name ∷ path) further f t = λ j. of_children (at_first (is_named name) (λ u. change_behind path further f u j)) t
+change_behind (name ∷ path) further f t =
+    λ j. of_children (at_first (is_named name) (λ u. change_behind path further f u j)) t
 
-pub found_behind : (path further : List (List ℕ)) (t k : Tree) → find_key path t ≡ Some k → find_key (path ++ further) t ≡ find_key further k
+pub found_behind : (path further : List (List ℕ)) (t k : Tree) → find_key path t ≡ Some k
+    → find_key (path ++ further) t ≡ find_key further k
 found_behind [] further t k e = ap (find_key further) (some_one t k e)
-found_behind (name ∷ path) further t k e = go (find (is_named name) (children t)) (λ w d. found_behind path further w k d) e
+found_behind (name ∷ path) further t k e =
+    go (find (is_named name) (children t)) (λ w d. found_behind path further w k d) e
   where
-    go : (o : Option Tree) → ((w : Tree) → find_key path w ≡ Some k → find_key (path ++ further) w ≡ find_key further k) → option_and_then (find_key path) o ≡ Some k → option_and_then (find_key (path ++ further)) o ≡ find_key further k
+    go : (o : Option Tree) → ((w : Tree) → find_key path w ≡ Some k → find_key (path ++ further) w ≡ find_key further k)
+        → option_and_then (find_key path) o ≡ Some k
+        → option_and_then (find_key (path ++ further)) o ≡ find_key further k
     go None below e = absurd cc
     go (Some w) below e = below w e
 
@@ -171,4 +204,9 @@ in_parts [] rest t u e = record { mid = t; before = refl; behind = e }
 in_parts (step ∷ first) rest t u e =
     let s = first_step step (first ++ rest) t u e in
     let p = in_parts first rest s.0 u s.2 in
-    record { mid = p.mid; before = ap (λ (r : Result Tree Refusal). then_edit r (λ v. after_steps v first)) s.1 ∙ p.before; behind = p.behind }
+    record {
+      mid = p.mid;
+      before = ap (λ (r : Result Tree Refusal). then_edit r (λ v. after_steps v first)) s.1
+          ∙ p.before;
+      behind = p.behind;
+    }

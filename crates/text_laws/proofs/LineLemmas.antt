@@ -48,7 +48,8 @@ no_feed (u ∷ line) e =
     let two = neither (is_line_end u) (breaks line) e in
     All-cons (λ b. eqb b 10 ≡ false) u (line ++ 13 ∷ []) (neither (eqb u 10) (eqb u 13) two.0).0 (no_feed line two.1)
 
-parts_after : (front : List ℕ) (ps : List (List ℕ)) → 0 < length ps → lines_of_parts (front ∷ ps) ≡ strip_carriage_return front ∷ lines_of_parts ps
+parts_after : (front : List ℕ) (ps : List (List ℕ)) → 0 < length ps
+    → lines_of_parts (front ∷ ps) ≡ strip_carriage_return front ∷ lines_of_parts ps
 parts_after front [] h = absurd (omega arith)
 parts_after front (p ∷ ps) h = refl
 
@@ -74,12 +75,14 @@ front_of line d = ap (λ (n : ℕ). take n (line ++ d ∷ [])) count ∙ up_to l
 
 stripped : (line : List ℕ) → strip_carriage_return (line ++ 13 ∷ []) ≡ line
 stripped line =
-    ap (λ (c : ℕ). cond (eqb c 13) (take (length (line ++ 13 ∷ []) - 1) (line ++ 13 ∷ [])) (line ++ 13 ∷ [])) (last_at line 13) ∙ front_of line 13
+    ap (λ (c : ℕ). cond (eqb c 13) (take (length (line ++ 13 ∷ []) - 1) (line ++ 13 ∷ [])) (line ++ 13 ∷ []))
+    (last_at line 13) ∙ front_of line 13
 
 -- a line that was ended is the first one
 pub line_cut : (line rest : List ℕ) → breaks line ≡ false → lines (line ++ 13 ∷ 10 ∷ rest) ≡ line ∷ lines rest
 line_cut line rest whole =
-    let count : length (slice_split (λ b. eqb b 10) rest) ≡ count_by (λ b. eqb b 10) rest + 1 = length-slice_split (λ b. eqb b 10) rest in
+    let count : length (slice_split (λ b. eqb b 10) rest) ≡ count_by (λ b. eqb b 10) rest + 1 =
+    length-slice_split (λ b. eqb b 10) rest in
     ap lines (sym (append_assoc line (13 ∷ []) (10 ∷ rest)))
     ∙ ap lines_of_parts (slice_split_at (λ b. eqb b 10) (line ++ 13 ∷ []) 10 rest (no_feed line whole) refl)
     ∙ parts_after (line ++ 13 ∷ []) (slice_split (λ b. eqb b 10) rest) (omega arith)
@@ -110,10 +113,13 @@ reverse_onto_push l d = reverse-append l (d ∷ [])
 pub tight : (c : ℕ) (rest : List ℕ) → is_blank c ≡ false → Ends (c ∷ rest) → trimmed (c ∷ rest) ≡ c ∷ rest
 tight c rest first e =
     let line : List ℕ = c ∷ rest in
-    let begun : without_front_blanks line ≡ line = ap (λ (b : Bool). drop (cond b (1 + prefix_len is_blank rest) 0) line) first in
-    let back : reverse line ≡ e.last ∷ reverse e.front = ap (λ (l : List ℕ). reverse l) e.is ∙ reverse_onto_push e.front e.last in
+    let begun : without_front_blanks line ≡ line =
+    ap (λ (b : Bool). drop (cond b (1 + prefix_len is_blank rest) 0) line) first in
+    let back : reverse line ≡ e.last ∷ reverse e.front =
+    ap (λ (l : List ℕ). reverse l) e.is ∙ reverse_onto_push e.front e.last in
     let none : suffix_len is_blank line ≡ 0 =
-    ap (λ (l : List ℕ). prefix_len is_blank l) back ∙ ap (λ (b : Bool). cond b (1 + prefix_len is_blank (reverse e.front)) 0) e.plain in
+    ap (λ (l : List ℕ). prefix_len is_blank l) back
+    ∙ ap (λ (b : Bool). cond b (1 + prefix_len is_blank (reverse e.front)) 0) e.plain in
     ap without_last_blanks begun ∙ ap (λ (n : ℕ). take (length line - n) line) none ∙ all line
   where
     whole : (l : List ℕ) → take (length l) l ≡ l

@@ -80,7 +80,8 @@ plain-hex [] = written refl
 plain-hex (b ∷ bytes) = onto (plain-digit (b / 16)) (onto (plain-digit (b % 16)) (plain-hex bytes))
 
 plain-data : (bytes : List ℕ) → HasNoLf (data_text bytes)
-plain-data bytes = choice (length bytes == 0) (written {text = []} refl) (plain {a = codes " "} (written refl) (plain-hex bytes))
+plain-data bytes = choice (length bytes == 0) (written {text = []} refl)
+    (plain {a = codes " "} (written refl) (plain-hex bytes))
 
 plain-deeper : (margin : List ℕ) → HasNoLf margin → HasNoLf (deeper margin)
 plain-deeper margin e = plain {b = codes "  "} e (written refl)
@@ -123,11 +124,13 @@ key_parts margin h ts e =
     )
 
 mutual
-  key_lines : (margin : List ℕ) (t : Tree) → HasNoLf margin → line_count (key_text margin t) ≡ key_count t + item_count t
+  key_lines : (margin : List ℕ) (t : Tree) → HasNoLf margin
+      → line_count (key_text margin t) ≡ key_count t + item_count t
   key_lines margin (key h ts) e =
       omega (arith, key_parts margin h ts e, keys_lines (deeper margin) ts (plain-deeper margin e))
 
-  keys_lines : (margin : List ℕ) (ts : Trees) → HasNoLf margin → line_count (keys_text margin ts) ≡ keys_count ts + items_count ts
+  keys_lines : (margin : List ℕ) (ts : Trees) → HasNoLf margin
+      → line_count (keys_text margin ts) ≡ keys_count ts + items_count ts
   keys_lines margin none e = refl
   keys_lines margin (more t ts) e =
       omega (arith, joined (key_text margin t) (keys_text margin ts), key_lines margin t e, keys_lines margin ts e)

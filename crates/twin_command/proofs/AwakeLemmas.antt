@@ -42,10 +42,13 @@ none_some : (o : Option HiveFault) (f : HiveFault) → o ≡ None → o ≡ Some
 none_some o f e g = cc
 
 held_sound : (r : Recovered) (s : HiveState) (fault : HiveFault) → Holds r s → HeldFault r fault → ⊥
-held_sound r s fault h (inl b) = not_both (spelled 0 h.bins) h.bins fault h.cells.0 refl (subst (λ (t : List ℕ). BinsFault t fault) h.cells.1 b)
+held_sound r s fault h (inl b) =
+    not_both (spelled 0 h.bins) h.bins fault h.cells.0 refl (subst (λ (t : List ℕ). BinsFault t fault) h.cells.1 b)
 held_sound r s fault h (inr w) =
     let bins : h.bins ≡ w.bins = one_list h.bins w.bins h.cells.0 w.cells.0 (sym h.cells.1 ∙ w.cells.1) in
-    let passes : first_fault (look_up (version_of r.base.minor) w.bins) r.base.root ≡ None = subst (λ (bs : List Bin). first_fault (look_up (version_of r.base.minor) bs) r.base.root ≡ None) bins (well-formed-passes (look_up (version_of r.base.minor) h.bins) r.base.root s.tree h.tree) in
+    let passes : first_fault (look_up (version_of r.base.minor) w.bins) r.base.root ≡ None =
+    subst (λ (bs : List Bin). first_fault (look_up (version_of r.base.minor) bs) r.base.root ≡ None) bins
+    (well-formed-passes (look_up (version_of r.base.minor) h.bins) r.base.root s.tree h.tree) in
     none_some (first_fault (look_up (version_of r.base.minor) w.bins) r.base.root) fault passes w.first
 
 abbrev ok : Recovered → Result Recovered HiveFault
@@ -54,11 +57,14 @@ ok r = Ok r
 ok_same : (x y : Recovered) → ok x ≡ ok y → x ≡ y
 ok_same x y e = cc
 
-pub no_fault : (stands : Standing) (image : Image) (found : Recovered) (tree : Tree) → IsFound stands image found tree → (fault : HiveFault) → StandFault stands image fault → ⊥
-no_fault stands image found tree is fault (inl fails) = (let e : ok found ≡ Err fault = sym is.read ∙ fails in absurd (cc))
+pub no_fault : (stands : Standing) (image : Image) (found : Recovered) (tree : Tree) → IsFound stands image found tree
+    → (fault : HiveFault) → StandFault stands image fault → ⊥
+no_fault stands image found tree is fault (inl fails) =
+    (let e : ok found ≡ Err fault = sym is.read ∙ fails in absurd (cc))
 no_fault stands image found tree is fault (inr held) =
     let same : found ≡ held.0 = ok_same found held.0 (sym is.read ∙ held.1) in
-    held_sound held.0 (held_state found tree) fault (subst (λ (r : Recovered). Holds r (held_state found tree)) same is.holds) held.2
+    held_sound held.0 (held_state found tree) fault
+    (subst (λ (r : Recovered). Holds r (held_state found tree)) same is.holds) held.2
 
 -- ---- no stop comes without an order
 
@@ -72,7 +78,8 @@ no_rise : (before after : ℕ) → before ≡ 0 → after ≤ 0 → Rises before
 no_rise before after none few (inl more) = absurd (omega arith)
 no_rise before after none few (inr end) = absurd (omega arith)
 
-module _ (old new : DiskState) (lost failed lacked : Type 0) (goes : GoesOn old new lost failed lacked) (awake : IsAwake old) (keeps : KeepsOrders new) where
+module _ (old new : DiskState) (lost failed lacked : Type 0) (goes : GoesOn old new lost failed lacked)
+    (awake : IsAwake old) (keeps : KeepsOrders new) where
   armings_are : new.history.armings ≡ []
   armings_are = ap (λ h. h.armings) goes.history ∙ awake.unordered
 
@@ -80,14 +87,18 @@ module _ (old new : DiskState) (lost failed lacked : Type 0) (goes : GoesOn old 
   calls_are = ap (λ h. h.cut_calls) goes.history ∙ awake.uncut
 
   pub never_lost : lost → ⊥
-  never_lost is = no_rise old.cuts new.cuts awake.no_cuts (omega (arith, keeps.cuts, calls_are, no_cut_orders new.history.armings armings_are)) (goes.cut is)
+  never_lost is = no_rise old.cuts new.cuts awake.no_cuts
+      (omega (arith, keeps.cuts, calls_are, no_cut_orders new.history.armings armings_are)) (goes.cut is)
 
   pub never_failed : failed → ⊥
-  never_failed is = no_rise old.faults new.faults awake.no_faults (omega (arith, keeps.faults, no_fault_orders new.history.armings armings_are)) (goes.fault is)
+  never_failed is = no_rise old.faults new.faults awake.no_faults
+      (omega (arith, keeps.faults, no_fault_orders new.history.armings armings_are)) (goes.fault is)
 
 -- ---- what is told
 
-word_done : (number : Option ℕ) (found : Recovered) (change : Change) → (change ≡ nothing) ⊎ ((u : Tree) × (change ≡ changed u)) → done_word number (committed_by found change) ≡ word_of number found change
+word_done : (number : Option ℕ) (found : Recovered) (change : Change)
+    → (change ≡ nothing) ⊎ ((u : Tree) × (change ≡ changed u))
+    → done_word number (committed_by found change) ≡ word_of number found change
 word_done None found change done = refl
 word_done (Some number) found nothing done = refl
 word_done (Some number) found (changed u) done = refl
@@ -96,11 +107,13 @@ word_done (Some number) found no_select (inr x) = (let e = x.1 in absurd (cc))
 word_done (Some number) found too_large (inl e) = absurd (cc)
 word_done (Some number) found too_large (inr x) = (let e = x.1 in absurd (cc))
 
-word_no_select : (number : Option ℕ) (version : HiveVersion) (found : Recovered) (tree : Tree) → change_of version tree number ≡ no_select → words.NoKey ≡ word_of number found no_select
+word_no_select : (number : Option ℕ) (version : HiveVersion) (found : Recovered) (tree : Tree)
+    → change_of version tree number ≡ no_select → words.NoKey ≡ word_of number found no_select
 word_no_select None version found tree is = absurd (cc)
 word_no_select (Some number) version found tree is = refl
 
-word_full : (number : Option ℕ) (version : HiveVersion) (found : Recovered) (tree : Tree) → change_of version tree number ≡ too_large → words.Full ≡ word_of number found too_large
+word_full : (number : Option ℕ) (version : HiveVersion) (found : Recovered) (tree : Tree)
+    → change_of version tree number ≡ too_large → words.Full ≡ word_of number found too_large
 word_full None version found tree is = absurd (cc)
 word_full (Some number) version found tree is = refl
 
@@ -110,12 +123,14 @@ module _ (stands : Standing) (number : Option ℕ) (old new off : DiskState) (of
   told_off told is = (let P : DiskState → Type 0 = ToldOf stands number told old in subst P (sym off_is) is)
 
   -- a change that was done
-  pub done_told : (done : Changed) (word : Word) → word ≡ done_word number done.committed → IsDone stands old.held new.held number done → new.flight ≡ []
+  pub done_told : (done : Changed) (word : Word) → word ≡ done_word number done.committed
+      → IsDone stands old.held new.held number done → new.flight ≡ []
       → ToldOf stands number (record { loaded = done.loaded; mended = done.mended; word = word }) old off
   done_told done word word_is is still =
       let l = is.loaded in
       let told_word : word ≡ word_of number l.found (change_of (version_of l.found.base.minor) l.tree number) =
-      word_is ∙ ap (done_word number) is.committed ∙ word_done number l.found is.change is.is_done ∙ ap (word_of number l.found) (sym l.change_is) in
+      word_is ∙ ap (done_word number) is.committed ∙ word_done number l.found is.change is.is_done
+      ∙ ap (word_of number l.found) (sym l.change_is) in
       told_off (record { loaded = done.loaded; mended = done.mended; word = word })
       (record {
         found = l.found;
@@ -124,20 +139,24 @@ module _ (stands : Standing) (number : Option ℕ) (old new off : DiskState) (of
         is_told = λ i. record { loaded = l.number_is i; mended = l.mended_is i; word = told_word i };
         stands_for = λ c left.
             subst (λ (x : Change). StandsFor stands (after_change l.found l.tree x) c) (sym l.change_is)
-            (subst (λ (i : Image). StandsFor stands (after_change l.found l.tree is.change) i) (sym (only_held new c still left)) is.stands_for);
+            (subst (λ (i : Image). StandsFor stands (after_change l.found l.tree is.change) i)
+            (sym (only_held new c still left)) is.stands_for);
         history = history;
         cuts = cuts;
         faults = faults;
       })
 
   -- a change that was refused leaves what was
-  refused_told : (change : Change) (word : Word) (loaded : ℕ) (mended : Bool) (l : IsLoaded stands old.held number loaded mended change)
+  refused_told : (change : Change) (word : Word) (loaded : ℕ) (mended : Bool)
+      (l : IsLoaded stands old.held number loaded mended change)
       → word ≡ word_of number l.found change → after_change l.found l.tree change ≡ held_state l.found l.tree
       → EachCrash new (IsEitherOf stands l.found l.tree number)
       → ToldOf stands number (record { loaded = loaded; mended = mended; word = word }) old off
   refused_told change word loaded mended l word_is after_is crash =
-      let told_word : word ≡ word_of number l.found (change_of (version_of l.found.base.minor) l.tree number) = word_is ∙ ap (word_of number l.found) (sym l.change_is) in
-      let state_is : after_change l.found l.tree (change_of (version_of l.found.base.minor) l.tree number) ≡ held_state l.found l.tree = ap (after_change l.found l.tree) l.change_is ∙ after_is in
+      let told_word : word ≡ word_of number l.found (change_of (version_of l.found.base.minor) l.tree number) =
+      word_is ∙ ap (word_of number l.found) (sym l.change_is) in
+      let state_is : after_change l.found l.tree (change_of (version_of l.found.base.minor) l.tree number)
+      ≡ held_state l.found l.tree = ap (after_change l.found l.tree) l.change_is ∙ after_is in
       told_off (record { loaded = loaded; mended = mended; word = word })
       (record {
         found = l.found;
@@ -146,44 +165,58 @@ module _ (stands : Standing) (number : Option ℕ) (old new off : DiskState) (of
         is_told = λ i. record { loaded = l.number_is i; mended = l.mended_is i; word = told_word i };
         stands_for = λ c left.
             let e = crash c left in
-            let one : e.state ≡ after_change l.found l.tree (change_of (version_of l.found.base.minor) l.tree number) = ⊎_elim (λ is. is ∙ sym state_is) (λ is. is) e.is_one in
+            let one : e.state ≡ after_change l.found l.tree (change_of (version_of l.found.base.minor) l.tree number) =
+            ⊎_elim (λ is. is ∙ sym state_is) (λ is. is) e.is_one in
             subst (λ (s : HiveState). StandsFor stands s c) one e.stands_for;
         history = history;
         cuts = cuts;
         faults = faults;
       })
 
-  pub no_select_told : (loaded : ℕ) (mended : Bool) (l : IsLoaded stands old.held number loaded mended no_select) → EachCrash new (IsEitherOf stands l.found l.tree number)
+  pub no_select_told : (loaded : ℕ) (mended : Bool) (l : IsLoaded stands old.held number loaded mended no_select)
+      → EachCrash new (IsEitherOf stands l.found l.tree number)
       → ToldOf stands number (record { loaded = loaded; mended = mended; word = words.NoKey }) old off
-  no_select_told loaded mended l crash = refused_told no_select words.NoKey loaded mended l (word_no_select number (version_of l.found.base.minor) l.found l.tree l.change_is) refl crash
+  no_select_told loaded mended l crash =
+      refused_told no_select words.NoKey loaded mended l
+      (word_no_select number (version_of l.found.base.minor) l.found l.tree l.change_is) refl crash
 
-  pub full_told : (loaded : ℕ) (mended : Bool) (l : IsLoaded stands old.held number loaded mended too_large) → EachCrash new (IsEitherOf stands l.found l.tree number)
+  pub full_told : (loaded : ℕ) (mended : Bool) (l : IsLoaded stands old.held number loaded mended too_large)
+      → EachCrash new (IsEitherOf stands l.found l.tree number)
       → ToldOf stands number (record { loaded = loaded; mended = mended; word = words.Full }) old off
-  full_told loaded mended l crash = refused_told too_large words.Full loaded mended l (word_full number (version_of l.found.base.minor) l.found l.tree l.change_is) refl crash
+  full_told loaded mended l crash =
+      refused_told too_large words.Full loaded mended l
+      (word_full number (version_of l.found.base.minor) l.found l.tree l.change_is) refl crash
 
 -- ---- by the answer
 
 ok_told : (a b : Told) → ◌≡◌ {A = Result Told AllocError} (Ok a) (Ok b) → a ≡ b
 ok_told a b same = cc
 
-module _ (stands : Standing) (number : Option ℕ) (old new off : DiskState) (off_is : off ≡ turned_off new) (awake : IsAwake old) (keeps : KeepsOrders new) (some : SomeFound stands old.held) where
+module _ (stands : Standing) (number : Option ℕ) (old new off : DiskState) (off_is : off ≡ turned_off new)
+    (awake : IsAwake old) (keeps : KeepsOrders new) (some : SomeFound stands old.held) where
   -- no fault is answered
-  pub sound : (r : Result Changed ChangeStop) → Answers stands old.held new.held number r → (fault : HiveFault) → r ≡ Err (stops.Fault fault) → ⊥
+  pub sound : (r : Result Changed ChangeStop) → Answers stands old.held new.held number r → (fault : HiveFault)
+      → r ≡ Err (stops.Fault fault) → ⊥
   sound r answers fault is =
-      no_fault stands old.held some.0 some.1 some.2 fault (subst (λ (x : Result Changed ChangeStop). Answers stands old.held new.held number x) is answers)
+      no_fault stands old.held some.0 some.1 some.2 fault
+      (subst (λ (x : Result Changed ChangeStop). Answers stands old.held new.held number x) is answers)
 
   pub lost_never : (r : Result Changed ChangeStop) → GoesOn old new (IsLost r) (IsFailed r) (IsLacking r) → IsLost r → ⊥
   lost_never r goes = never_lost old new (IsLost r) (IsFailed r) (IsLacking r) goes awake keeps
 
-  pub failed_never : (r : Result Changed ChangeStop) → GoesOn old new (IsLost r) (IsFailed r) (IsLacking r) → IsFailed r → ⊥
+  pub failed_never : (r : Result Changed ChangeStop) → GoesOn old new (IsLost r) (IsFailed r) (IsLacking r) → IsFailed r
+      → ⊥
   failed_never r goes = never_failed old new (IsLost r) (IsFailed r) (IsLacking r) goes awake keeps
 
-  pub told_part : {T E : Type 0} (r : Result Changed ChangeStop) → GoesOn old new (IsLost r) (IsFailed r) (IsLacking r) → (t : Result T E) → OnErr t (off.history ≡ old.history)
+  pub told_part : {T E : Type 0} (r : Result Changed ChangeStop) → GoesOn old new (IsLost r) (IsFailed r) (IsLacking r)
+      → (t : Result T E) → OnErr t (off.history ≡ old.history)
   told_part r goes (Ok t) = tt
   told_part r goes (Err e) = ap (λ (d : DiskState). d.history) off_is ∙ goes.history
 
-  module _ (crash : (found : Recovered) (tree : Tree) → IsFound stands old.held found tree → EachCrash new (IsEitherOf stands found tree number)) where
-    told_ok : (t : Result Told AllocError) (told : Told) → t ≡ Ok told → ToldOf stands number told old off → IfOk t (λ x. ToldOf stands number x old off)
+  module _ (crash : (found : Recovered) (tree : Tree) → IsFound stands old.held found tree
+      → EachCrash new (IsEitherOf stands found tree number)) where
+    told_ok : (t : Result Told AllocError) (told : Told) → t ≡ Ok told → ToldOf stands number told old off
+        → IfOk t (λ x. ToldOf stands number x old off)
     told_ok (Ok x) told is held = subst (λ (y : Told). ToldOf stands number y old off) (sym (ok_told x told is)) held
     told_ok (Err e) told is held = tt
 
@@ -191,20 +224,25 @@ module _ (stands : Standing) (number : Option ℕ) (old new off : DiskState) (of
     told_err (Ok x) is = absurd (false≢true is)
     told_err (Err e) is = tt
 
-    pub awake_told : (r : Result Changed ChangeStop) → Answers stands old.held new.held number r → GoesOn old new (IsLost r) (IsFailed r) (IsLacking r) → OnOk r (new.flight ≡ [])
+    pub awake_told : (r : Result Changed ChangeStop) → Answers stands old.held new.held number r
+        → GoesOn old new (IsLost r) (IsFailed r) (IsLacking r) → OnOk r (new.flight ≡ [])
         → (t : Result Told AllocError) → ToldBy number r t → IfOk t (λ x. ToldOf stands number x old off)
     awake_told (Ok done) answers goes still t by =
         told_ok t (record { loaded = done.loaded; mended = done.mended; word = done_word number done.committed }) by
-        (done_told stands number old new off off_is goes.history (goes.no_cut (λ n. absurd n)) (goes.no_fault (λ n. absurd n) (λ n. absurd n)) done (done_word number done.committed) refl answers still)
+        (done_told stands number old new off off_is goes.history (goes.no_cut (λ n. absurd n))
+        (goes.no_fault (λ n. absurd n) (λ n. absurd n)) done (done_word number done.committed) refl answers still)
     awake_told (Err (stops.Fault f)) answers goes still t by = absurd (sound (Err (stops.Fault f)) answers f refl)
     awake_told (Err (stops.NoSelect was mended)) answers goes still t by =
         told_ok t (record { loaded = was; mended = mended; word = words.NoKey }) by
-        (no_select_told stands number old new off off_is goes.history (goes.no_cut (λ n. absurd n)) (goes.no_fault (λ n. absurd n) (λ n. absurd n)) was mended answers
+        (no_select_told stands number old new off off_is goes.history (goes.no_cut (λ n. absurd n))
+        (goes.no_fault (λ n. absurd n) (λ n. absurd n)) was mended answers
         (crash answers.found answers.tree (record { read = answers.read; holds = answers.holds })))
     awake_told (Err (stops.Full was mended)) answers goes still t by =
         told_ok t (record { loaded = was; mended = mended; word = words.Full }) by
-        (full_told stands number old new off off_is goes.history (goes.no_cut (λ n. absurd n)) (goes.no_fault (λ n. absurd n) (λ n. absurd n)) was mended answers
+        (full_told stands number old new off off_is goes.history (goes.no_cut (λ n. absurd n))
+        (goes.no_fault (λ n. absurd n) (λ n. absurd n)) was mended answers
         (crash answers.found answers.tree (record { read = answers.read; holds = answers.holds })))
-    awake_told (Err (stops.PowerLost was)) answers goes still t by = absurd (lost_never (Err (stops.PowerLost was)) goes tt)
+    awake_told (Err (stops.PowerLost was)) answers goes still t by =
+        absurd (lost_never (Err (stops.PowerLost was)) goes tt)
     awake_told (Err (stops.Device was)) answers goes still t by = absurd (failed_never (Err (stops.Device was)) goes tt)
     awake_told (Err stops.Memory) answers goes still t by = told_err t by

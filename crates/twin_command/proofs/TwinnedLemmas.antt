@@ -36,19 +36,31 @@ use Rattle.twin_command.specs.Twinned.{SomeFound, IsTwinned, IsPartTwinned, Twin
 abbrev pub awake_disk : HiveFiles → DiskState
 awake_disk files = woken (image_in files) (placed_disk files)
 
-pub woke : (files : HiveFiles) (before after : DiskState) → before ≡ placed_disk files → (image : Image) → IsCrashImage before.held before.flight image → after ≡ woken image before → after ≡ awake_disk files
+pub woke : (files : HiveFiles) (before after : DiskState) → before ≡ placed_disk files → (image : Image)
+    → IsCrashImage before.held before.flight image → after ≡ woken image before → after ≡ awake_disk files
 woke files before after is image crash woken_is =
     let P : DiskState → Type 0 = λ d. IsCrashImage d.held d.flight image in
     let same : image ≡ image_in files = still_crash (image_in files) image (subst P is crash) in
     woken_is ∙ ap (λ (i : Image). woken i before) same ∙ ap (woken (image_in files)) is
 
 pub is_awake : (files : HiveFiles) (disk : DiskState) → disk ≡ awake_disk files → IsAwake disk
-is_awake files disk is = (let P : DiskState → Type 0 = IsAwake in subst P (sym is) (record { on = refl; still = refl; unordered = refl; uncut = refl; no_cuts = refl; no_faults = refl }))
+is_awake files disk is = (let P : DiskState → Type 0 = IsAwake in
+    subst P (sym is) (record {
+      on = refl;
+      still = refl;
+      unordered = refl;
+      uncut = refl;
+      no_cuts = refl;
+      no_faults = refl;
+    }))
 
-pub some_awake : (stands : Standing) (files : HiveFiles) (disk : DiskState) → disk ≡ awake_disk files → SomeFound stands (image_in files) → SomeFound stands disk.held
-some_awake stands files disk is some = (let P : DiskState → Type 0 = λ d. SomeFound stands d.held in subst P (sym is) some)
+pub some_awake : (stands : Standing) (files : HiveFiles) (disk : DiskState) → disk ≡ awake_disk files
+    → SomeFound stands (image_in files) → SomeFound stands disk.held
+some_awake stands files disk is some =
+    (let P : DiskState → Type 0 = λ d. SomeFound stands d.held in subst P (sym is) some)
 
-pub twinned_as : (stands : Standing) (files : HiveFiles) (number : Option ℕ) (told : Told) (before after : DiskState) → before ≡ awake_disk files → ToldOf stands number told before after → TwinnedAs stands files number told after
+pub twinned_as : (stands : Standing) (files : HiveFiles) (number : Option ℕ) (told : Told) (before after : DiskState)
+    → before ≡ awake_disk files → ToldOf stands number told before after → TwinnedAs stands files number told after
 twinned_as stands files number told before after is t =
     let P : DiskState → Type 0 = λ d. ToldOf stands number told d after in
     let t = subst P is t in
@@ -68,12 +80,15 @@ twinned_as stands files number told before after is t =
       };
     }
 
-pub twinned_ok : {E : Type 0} (stands : Standing) (files : HiveFiles) (number : Option ℕ) (before after : DiskState) → before ≡ awake_disk files → (t : Result Told E)
-    → IfOk t (λ told. ToldOf stands number told before after) → IfOk t (λ told. TwinnedAs stands files number told after)
+pub twinned_ok : {E : Type 0} (stands : Standing) (files : HiveFiles) (number : Option ℕ) (before after : DiskState)
+    → before ≡ awake_disk files → (t : Result Told E)
+    → IfOk t (λ told. ToldOf stands number told before after)
+    → IfOk t (λ told. TwinnedAs stands files number told after)
 twinned_ok stands files number before after is (Ok told) t = twinned_as stands files number told before after is t
 twinned_ok stands files number before after is (Err e) t = tt
 
-pub part_by_history : (files : HiveFiles) (before after : DiskState) → before ≡ awake_disk files → after.history ≡ before.history → IsPartTwinned files 0 after
+pub part_by_history : (files : HiveFiles) (before after : DiskState) → before ≡ awake_disk files
+    → after.history ≡ before.history → IsPartTwinned files 0 after
 part_by_history files before after is same =
     let history : after.history ≡ (awake_disk files).history = same ∙ ap (λ (d : DiskState). d.history) is in
     record {
@@ -83,12 +98,15 @@ part_by_history files before after is same =
       uncut = ap (λ h. h.cut_calls) history;
     }
 
-pub part_ok : {T E : Type 0} (files : HiveFiles) (before after : DiskState) → before ≡ awake_disk files → (t : Result T E) → OnErr t (after.history ≡ before.history) → OnErr t (IsPartTwinned files 0 after)
+pub part_ok : {T E : Type 0} (files : HiveFiles) (before after : DiskState) → before ≡ awake_disk files
+    → (t : Result T E) → OnErr t (after.history ≡ before.history) → OnErr t (IsPartTwinned files 0 after)
 part_ok files before after is (Ok told) same = tt
 part_ok files before after is (Err e) same = part_by_history files before after is same
 
 pub part_placed : (files : HiveFiles) (disk : DiskState) → disk ≡ placed_disk files → IsPartTwinned files 0 disk
-part_placed files disk is = (let P : DiskState → Type 0 = IsPartTwinned files 0 in subst P (sym is) (record { placed = omega arith; taken = omega arith; unordered = refl; uncut = refl }))
+part_placed files disk is =
+    (let P : DiskState → Type 0 = IsPartTwinned files 0 in
+    subst P (sym is) (record { placed = omega arith; taken = omega arith; unordered = refl; uncut = refl }))
 
 pub part_unrun : (files : HiveFiles) (disk : DiskState) → IsUnrun disk → IsPartTwinned files 0 disk
 part_unrun files disk u = record {
@@ -112,10 +130,12 @@ count_few : (saves : Saves) → saved_count saves ≤ 2
 count_few saves = omega (arith, named_few saves.hive, named_few saves.log)
 
 module _ (stands : Standing) (files : HiveFiles) (number : Option ℕ) (found : Recovered) (tree : Tree) where
-  takings_are : (n : ℕ) (mid after : DiskState) → n ≤ 2 → mid.history.takings ≡ 0 → Settles n mid after → after.history.takings ≡ n
+  takings_are : (n : ℕ) (mid after : DiskState) → n ≤ 2 → mid.history.takings ≡ 0 → Settles n mid after
+      → after.history.takings ≡ n
   takings_are n mid after le none s = s.takings ∙ ap (more n) none ∙ more_few n le
 
-  settled : (n : ℕ) (mid after : DiskState) → n ≤ 2 → IsTwinned stands files number found tree 0 mid → Settles n mid after → IsTwinned stands files number found tree n after
+  settled : (n : ℕ) (mid after : DiskState) → n ≤ 2 → IsTwinned stands files number found tree 0 mid
+      → Settles n mid after → IsTwinned stands files number found tree n after
   settled n mid after le m s = record {
     stands_for = λ c left. m.stands_for c (s.left c left);
     placed = s.placings ∙ m.placed;
@@ -126,11 +146,20 @@ module _ (stands : Standing) (files : HiveFiles) (number : Option ℕ) (found : 
     no_faults = s.faults ∙ m.no_faults;
   }
 
-  pub part_of : (n most : ℕ) (disk : DiskState) → n ≤ most → IsTwinned stands files number found tree n disk → IsPartTwinned files most disk
-  part_of n most disk le m = record { placed = omega (arith, m.placed); taken = omega (arith, m.taken, le); unordered = m.unordered; uncut = m.uncut }
+  pub part_of : (n most : ℕ) (disk : DiskState) → n ≤ most → IsTwinned stands files number found tree n disk
+      → IsPartTwinned files most disk
+  part_of n most disk le m =
+      record {
+        placed = omega (arith, m.placed);
+        taken = omega (arith, m.taken, le);
+        unordered = m.unordered;
+        uncut = m.uncut;
+      }
 
-part_more : (files : HiveFiles) (most : ℕ) (disk : DiskState) → IsPartTwinned files 0 disk → IsPartTwinned files most disk
-part_more files most disk p = record { placed = p.placed; taken = omega (arith, p.taken); unordered = p.unordered; uncut = p.uncut }
+part_more : (files : HiveFiles) (most : ℕ) (disk : DiskState) → IsPartTwinned files 0 disk
+    → IsPartTwinned files most disk
+part_more files most disk p =
+    record { placed = p.placed; taken = omega (arith, p.taken); unordered = p.unordered; uncut = p.uncut }
 
 -- ---- the lines
 
@@ -151,34 +180,50 @@ module _ (stands : Standing) (files : HiveFiles) (number : Option ℕ) (saves : 
   Whole disk = EndsFiles stands files number saves disk
 
   -- there was no memory before anything was said
-  pub untold : (some : SomeFound stands (image_in files)) (host : HostState) (disk : DiskState) → disk.on ≡ false → IsPartTwinned files 0 disk
+  pub untold : (some : SomeFound stands (image_in files)) (host : HostState) (disk : DiskState) → disk.on ≡ false
+      → IsPartTwinned files 0 disk
       → DecidesAlone (Whole disk) saves statuses.Memory host host disk
   untold some host disk off part =
       let text = told_text (told_of number some.0 some.1) in
       memory_decides (Whole disk) saves host disk off
-      (inr (inl (record { found = some.0; tree = some.1; is_found = some.2; ends = (inr (no_front text host.said host.said refl), part_more files (saved_count saves) disk part) })))
+      (inr (inl (record {
+        found = some.0;
+        tree = some.1;
+        is_found = some.2;
+        ends = (inr (no_front text host.said host.said refl), part_more files (saved_count saves) disk part);
+      })))
 
   module _ (found : Recovered) (tree : Tree) where
     abbrev text_is : List ℕ
     text_is = told_text (told_of number found tree)
 
-    ends_twinned : (status : Status) (text old new : List ℕ) (taken : ℕ) (disk : DiskState) → IsToldAs statuses.Done status → text ≡ text_is
-        → taken ≤ saved_count saves → (status ≡ statuses.Done → taken ≡ saved_count saves) → IsTwinned stands files number found tree taken disk → Ends (done_with text) status old new
+    ends_twinned : (status : Status) (text old new : List ℕ) (taken : ℕ) (disk : DiskState)
+        → IsToldAs statuses.Done status → text ≡ text_is
+        → taken ≤ saved_count saves → (status ≡ statuses.Done → taken ≡ saved_count saves)
+        → IsTwinned stands files number found tree taken disk → Ends (done_with text) status old new
         → EndsTwinned stands files number saves found tree disk status old new
     ends_twinned status text old new taken disk (inl is) same few all made end =
-        let done = subst (λ (t : List ℕ). Ends (done_with t) statuses.Done old new) same (subst (λ (s : Status). Ends (done_with text) s old new) is end) in
+        let done = subst (λ (t : List ℕ). Ends (done_with t) statuses.Done old new) same
+        (subst (λ (s : Status). Ends (done_with text) s old new) is end) in
         let P : ℕ → Type 0 = λ n. IsTwinned stands files number found tree n disk in
-        subst (λ (s : Status). EndsTwinned stands files number saves found tree disk s old new) (sym is) (was_said text_is old new done, subst P (all is) made)
+        subst (λ (s : Status). EndsTwinned stands files number saves found tree disk s old new) (sym is)
+        (was_said text_is old new done, subst P (all is) made)
     ends_twinned status text old new taken disk (inr (inl is)) same few all made end =
-        let part = subst (λ (t : List ℕ). Ends (done_with t) statuses.WriteFault old new) same (subst (λ (s : Status). Ends (done_with text) s old new) is end) in
-        subst (λ (s : Status). EndsTwinned stands files number saves found tree disk s old new) (sym is) (part, part_of stands files number found tree taken (saved_count saves) disk few made)
+        let part = subst (λ (t : List ℕ). Ends (done_with t) statuses.WriteFault old new) same
+        (subst (λ (s : Status). Ends (done_with text) s old new) is end) in
+        subst (λ (s : Status). EndsTwinned stands files number saves found tree disk s old new) (sym is)
+        (part, part_of stands files number found tree taken (saved_count saves) disk few made)
     ends_twinned status text old new taken disk (inr (inr is)) same few all made end =
-        let part = subst (λ (t : List ℕ). Ends (done_with t) statuses.Memory old new) same (subst (λ (s : Status). Ends (done_with text) s old new) is end) in
-        subst (λ (s : Status). EndsTwinned stands files number saves found tree disk s old new) (sym is) (part, part_of stands files number found tree taken (saved_count saves) disk few made)
+        let part = subst (λ (t : List ℕ). Ends (done_with t) statuses.Memory old new) same
+        (subst (λ (s : Status). Ends (done_with text) s old new) is end) in
+        subst (λ (s : Status). EndsTwinned stands files number saves found tree disk s old new) (sym is)
+        (part, part_of stands files number found tree taken (saved_count saves) disk few made)
 
   -- the lines were said and the disk saved, or that was stopped
-  pub finished_twins : (told : Told) (line : List ℕ) (status : Status) (old new : HostState) (mid after : DiskState) → mid.on ≡ false
-      → TwinnedAs stands files number told mid → line ≡ told_text told → FinishesAs line saves status old new mid after → DecidesAlone (Whole after) saves status old new after
+  pub finished_twins : (told : Told) (line : List ℕ) (status : Status) (old new : HostState) (mid after : DiskState)
+      → mid.on ≡ false
+      → TwinnedAs stands files number told mid → line ≡ told_text told → FinishesAs line saves status old new mid after
+      → DecidesAlone (Whole after) saves status old new after
   finished_twins told line status old new mid after off is is_line f =
       let text : line ≡ told_text (told_of number is.found is.tree) = is_line ∙ ap told_text is.is_told in
       let two : f.taken ≤ 2 = omega (arith, f.few, count_few saves) in
@@ -192,7 +237,8 @@ module _ (stands : Standing) (files : HiveFiles) (number : Option ℕ) (saves : 
               found = is.found;
               tree = is.tree;
               is_found = is.is_found;
-              ends = ends_twinned is.found is.tree status line old.said new.said f.taken after f.told text f.few f.all disk (f.leaves.said tells);
+              ends = ends_twinned is.found is.tree status line old.said new.said f.taken after f.told text f.few f.all
+                  disk (f.leaves.said tells);
             }));
           };
           files = f.files;
@@ -205,33 +251,44 @@ module _ (stands : Standing) (files : HiveFiles) (number : Option ℕ) (saves : 
       }
 
   -- the first fault was said
-  pub fault_twins : (fault : HiveFault) (status : Status) (old new : HostState) (disk : DiskState) → StandFault stands (image_in files) fault → disk ≡ new_state
-      → Leaves (Ends (refusal (refusals.HiveFault fault))) status old new → KeepsFiles old new → AsksNone old new → IsToldAs statuses.HiveFault status
+  pub fault_twins : (fault : HiveFault) (status : Status) (old new : HostState) (disk : DiskState)
+      → StandFault stands (image_in files) fault → disk ≡ new_state
+      → Leaves (Ends (refusal (refusals.HiveFault fault))) status old new → KeepsFiles old new → AsksNone old new
+      → IsToldAs statuses.HiveFault status
       → DecidesAlone (Whole disk) saves status old new disk
   fault_twins fault status old new disk is fresh leaves kept unasked told = record {
-    decides = refusal_decides (Whole disk) saves (refusals.HiveFault fault) status old new disk fresh leaves kept told (λ o n end. inl (fault, is, end, fresh));
+    decides = refusal_decides (Whole disk) saves (refusals.HiveFault fault) status old new disk fresh leaves kept told
+        (λ o n end. inl (fault, is, end, fresh));
     unasked = unasked;
     kept = told_unused statuses.HiveFault status told (λ e. absurd cc);
     unread = refused_unread (refusals.HiveFault fault) status told;
   }
 
   -- there was no memory for the check
-  pub unchecked : (host : HostState) (disk : DiskState) → disk ≡ new_state → DecidesAlone (Whole disk) saves statuses.Memory host host disk
+  pub unchecked : (host : HostState) (disk : DiskState) → disk ≡ new_state
+      → DecidesAlone (Whole disk) saves statuses.Memory host host disk
   unchecked host disk fresh =
-      memory_decides (Whole disk) saves host disk (ap (λ (d : DiskState). d.on) fresh) (inr (inr (refl, refl, unrun disk fresh)))
+      memory_decides (Whole disk) saves host disk (ap (λ (d : DiskState). d.on) fresh)
+      (inr (inr (refl, refl, unrun disk fresh)))
 
 -- the outside stopped the search for the files
-pub unsaid_twin : (wanted : Result HiveFiles Refusal) (stands : Standing) (number : Option ℕ) (saves : Saves) (disk : DiskState) (stop : HostStop) (old new : List ℕ) → disk ≡ new_state
+pub unsaid_twin : (wanted : Result HiveFiles Refusal) (stands : Standing) (number : Option ℕ) (saves : Saves)
+    (disk : DiskState) (stop : HostStop) (old new : List ℕ) → disk ≡ new_state
     → new ≡ old → (stop ≡ Write → ⊥) → EndsTwin wanted stands number saves disk (stopped_as stop) old new
 unsaid_twin (Err r) stands number saves disk Read old new fresh same unwritten = (inr same, fresh)
 unsaid_twin (Ok files) stands number saves disk Read old new fresh same unwritten = inr (refl, same, fresh)
 unsaid_twin wanted stands number saves disk Write old new fresh same unwritten = absurd (unwritten refl)
-unsaid_twin (Err r) stands number saves disk Memory old new fresh same unwritten = (inr (no_front (refusal_text r) old new same), fresh)
-unsaid_twin (Ok files) stands number saves disk Memory old new fresh same unwritten = inl (inr (inr (refl, same, unrun disk fresh)))
+unsaid_twin (Err r) stands number saves disk Memory old new fresh same unwritten =
+    (inr (no_front (refusal_text r) old new same), fresh)
+unsaid_twin (Ok files) stands number saves disk Memory old new fresh same unwritten =
+    inl (inr (inr (refl, same, unrun disk fresh)))
 
-pub unread_twin : (wanted : Result HiveFiles Refusal) (stands : Standing) (number : Option ℕ) (saves : Saves) (stop : HostStop) (status : Status) (old new : HostState) (disk : DiskState)
-    → status ≡ stopped_as stop → disk ≡ new_state → Looks wanted (Err (Stopped stop)) old new → Decides (EndsTwin wanted stands number saves disk) saves status old new disk
+pub unread_twin : (wanted : Result HiveFiles Refusal) (stands : Standing) (number : Option ℕ) (saves : Saves)
+    (stop : HostStop) (status : Status) (old new : HostState) (disk : DiskState)
+    → status ≡ stopped_as stop → disk ≡ new_state → Looks wanted (Err (Stopped stop)) old new
+    → Decides (EndsTwin wanted stands number saves disk) saves status old new disk
 unread_twin wanted stands number saves stop status old new disk is fresh looks =
     subst (λ (s : Status). Decides (EndsTwin wanted stands number saves disk) saves s old new disk) (sym is)
-    (stopped_decides wanted (λ (w : Result HiveFiles Refusal). EndsTwin w stands number saves disk) saves stop old new disk fresh
+    (stopped_decides wanted (λ (w : Result HiveFiles Refusal). EndsTwin w stands number saves disk)
+    saves stop old new disk fresh
     (λ o n same unwritten. unsaid_twin wanted stands number saves disk stop o n fresh same unwritten) looks)

@@ -83,7 +83,8 @@ EndsTwinned stands files number saves found tree disk statuses.Memory old new =
 EndsTwinned stands files number saves found tree disk refused old new = ⊥
 
 -- the files stand for something that holds a tree, and so it ends
-pub record EndsFound (stands : Standing) (files : HiveFiles) (number : Option ℕ) (saves : Saves) (disk : DiskState) (status : Status) (old new : List ℕ) : Type 0 where
+pub record EndsFound (stands : Standing) (files : HiveFiles) (number : Option ℕ) (saves : Saves) (disk : DiskState) (status : Status)
+    (old new : List ℕ) : Type 0 where
   pub found : Recovered
   pub tree : Tree
   pub is_found : IsFound stands (image_in files) found tree
@@ -110,7 +111,8 @@ twin_saves words = record { hive = words.save_hive; log = words.save_alt }
 -- what the command leaves
 abbrev pub DecidesTwin : TwinAsked → Status → HostState → HostState → DiskState → Type 0
 DecidesTwin words status old new disk =
-    Decides (EndsTwin (hive_in old.files words.hive words.alt) (stands_by words.scheme) words.default (twin_saves words) disk) (twin_saves words) status old new disk
+    Decides (EndsTwin (hive_in old.files words.hive words.alt) (stands_by words.scheme) words.default (twin_saves words) disk)
+    (twin_saves words) status old new disk
 
 -- how many files are asked for
 abbrev pub asks_twin : TwinAsked → Files → ℕ

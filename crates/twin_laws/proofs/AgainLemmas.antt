@@ -32,7 +32,8 @@ below_or_past n m = grind arith
 filled : (bytes : List ℕ) → length bytes ≡ 512 → padded bytes ≡ bytes
 filled bytes long = ap (λ n. bytes ++ replicate (512 - n) 0) long ∙ append-nil bytes
 
-whole : (bytes : List ℕ) (count n : ℕ) → length bytes ≡ 512 * count → n < count → length (take 512 (drop (512 * n) bytes)) ≡ 512
+whole : (bytes : List ℕ) (count n : ℕ) → length bytes ≡ 512 * count → n < count
+    → length (take 512 (drop (512 * n) bytes)) ≡ 512
 whole bytes count n long inside = omega (arith, length-take 512 (drop (512 * n) bytes), length-drop (512 * n) bytes)
 
 module _ (image : Image) (file : File) (bytes : List ℕ) (is : IsFileOf image file bytes) where
@@ -72,7 +73,8 @@ gathered_stays : (a b : Sectors) (from n : ℕ) → ((j : ℕ) → from ≤ j �
     → Stays (gathered a from n) (gathered b from n)
 gathered_stays a b from zero each = λ bytes e. e
 gathered_stays a b from (suc n) each =
-    joined_stays (a from) (b from) (gathered a (suc from) n) (gathered b (suc from) n) (each from (omega arith) (omega arith))
+    joined_stays (a from) (b from) (gathered a (suc from) n) (gathered b (suc from) n)
+    (each from (omega arith) (omega arith))
     (gathered_stays a b (suc from) n (λ j low high. each j (omega arith) (omega arith)))
 
 -- the bytes of a sector that has some are there again
@@ -98,7 +100,8 @@ copy_stays file x y size few keeps =
 
 -- the second copy's base block, by what its sector 0 has
 abbrev second_at : Option Content → Result Base HiveFault
-second_at c = and_then (bytes_or (fault_at LogAbsent 0) (fault_at LogUnreadable 0) c) (λ block. as_log_base (base_of block 0))
+second_at c = and_then (bytes_or (fault_at LogAbsent 0) (fault_at LogUnreadable 0) c)
+    (λ block. as_log_base (base_of block 0))
 
 second_stays : (c d : Option Content) → HasAgain c d → Stays (second_at c) (second_at d)
 second_stays None d keeps b e = absurd cc
@@ -125,14 +128,16 @@ done_is a b e = cc
 never : (a : Recovered) (f : HiveFault) → done a ≡ Err f → ⊥
 never a f e = absurd cc
 
-module _ (x y : Image) (first : KeepsSectors Primary x y) (second : KeepsSectors Log x y) (r : Recovered) (stands : twin_of x ≡ Ok r) where
+module _ (x y : Image) (first : KeepsSectors Primary x y) (second : KeepsSectors Log x y) (r : Recovered)
+    (stands : twin_of x ≡ Ok r) where
   faulty : (f : HiveFault) → twin_of x ≡ Err f → StandsAgain y r
   faulty f e = absurd (never r f (sym stands ∙ e))
 
   again_as : (found : Recovered) (dirty : Bool) → twin_of x ≡ Ok found
       → twin_of y ≡ Ok (record { base = found.base; bins = found.bins; dirty = dirty }) → StandsAgain y r
   again_as found dirty was is =
-      subst (λ (q : Recovered). StandsAgain y q) (sym (done_is r found (sym stands ∙ was))) (record { dirty = dirty; again = is })
+      subst (λ (q : Recovered). StandsAgain y q) (sym (done_is r found (sym stands ∙ was)))
+      (record { dirty = dirty; again = is })
 
   -- the primary stands
   by_first_again : (base : Base) → base_in x ≡ Ok (Some base) → base_in y ≡ Ok (Some base) → base.first ≡ base.second
@@ -144,14 +149,16 @@ module _ (x y : Image) (first : KeepsSectors Primary x y) (second : KeepsSectors
       (by_clean x base bx even ∙ ap (standing x base) is)
       (by_clean y base by even ∙ ap (standing y base) (copy_stays Primary x y base.size few first bins is))
 
-  module _ (opened : Option Base) (bx : base_in x ≡ Ok opened) (by : base_in y ≡ Ok opened) (unfinished : IsUnfinished opened) where
+  module _ (opened : Option Base) (bx : base_in x ≡ Ok opened) (by : base_in y ≡ Ok opened)
+      (unfinished : IsUnfinished opened) where
     -- the second copy stands
     by_second_bins : (other : Base) → second_in x ≡ Ok other → goes_with opened other ≡ true
         → (g : Result (List ℕ) HiveFault) → bins_in Log x other.size ≡ g → StandsAgain y r
     by_second_bins other sx goes (Err f) is =
         faulty f (second_block_stands x opened other bx unfinished sx goes ∙ ap (recovered_with true other) is)
     by_second_bins other sx goes (Ok bins) is =
-        let few = (sized other.size (base_in_checked (copy_in Log x) other (block_back (log_in x 0) other sx)).size_is).high in
+        let few = (sized other.size
+        (base_in_checked (copy_in Log x) other (block_back (log_in x 0) other sx)).size_is).high in
         let sy : second_in y ≡ Ok other =
         second_stays (log_in x 0) (log_in y 0) (λ bytes here. second 0 bytes (omega arith) here) other sx in
         again_as (record { base = other; bins = bins; dirty = true }) true
@@ -182,7 +189,8 @@ module _ (x y : Image) (first : KeepsSectors Primary x y) (second : KeepsSectors
       (λ e. absurd (let even : (base.first == base.second) ≡ true = eq-eqb base.first base.second e in cc))
       (second_in x) refl
 
-  by_block_of : (block : List ℕ) → primary_in x 0 ≡ Some (Bytes block) → (b : Result Base HiveFault) → base_of block 0 ≡ b
+  by_block_of : (block : List ℕ) → primary_in x 0 ≡ Some (Bytes block) → (b : Result Base HiveFault)
+      → base_of block 0 ≡ b
       → StandsAgain y r
   by_block_of block here (Err f) is = faulty f (by_fault x f (ap base_at here ∙ ap opened_as is))
   by_block_of block here (Ok base) is =
@@ -203,7 +211,13 @@ twin_again x y first second untorn state is =
     record {
       recovered = record { base = is.recovered.base; bins = is.recovered.bins; dirty = again.dirty };
       read = again.again;
-      holds = record { bins = holds.bins; cells = holds.cells; tree = holds.tree; sequence = holds.sequence; version = holds.version };
+      holds = record {
+        bins = holds.bins;
+        cells = holds.cells;
+        tree = holds.tree;
+        sequence = holds.sequence;
+        version = holds.version;
+      };
     }
 
 -- ---- both ways
@@ -212,7 +226,8 @@ pub files_stand : (scheme : TwinScheme) (image : Image) (hive other : List ℕ) 
     → IsFileOf image Primary hive → IsFileOf image Log other → HasUntornBlock image
     → StandsFor (stands_by scheme) state image → StandsFor (stands_by scheme) state (image_of hive other)
 files_stand schemes.Alt image hive other state hive_is other_is untorn is =
-    twin_again image (image_of hive other) (primary_kept image hive other hive_is) (second_kept image hive other other_is)
+    twin_again image (image_of hive other) (primary_kept image hive other hive_is)
+    (second_kept image hive other other_is)
     untorn state is
 files_stand schemes.Log image hive other state hive_is other_is untorn is =
     let loads : Loads image state is.recovered.dirty =
@@ -226,7 +241,8 @@ is_no_hive : base_of (replicate 512 0) 0 ≡ Err (fault_at NotRegf 0)
 unfolding base_of
 is_no_hive = refl
 
-torn_there : (image : Image) (hive : List ℕ) (is : IsFileOf image Primary hive) → image (primary_at 0) ≡ Some Unreadable → 0 < is.count
+torn_there : (image : Image) (hive : List ℕ) (is : IsFileOf image Primary hive) → image (primary_at 0) ≡ Some Unreadable
+    → 0 < is.count
 torn_there image hive is torn = ⊎_elim
     (λ below. below)
     (λ past. absurd (let none : Some Unreadable ≡ None = sym torn ∙ is.no_more 0 past in cc))

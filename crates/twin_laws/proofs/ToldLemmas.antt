@@ -96,14 +96,16 @@ held_left : (disk : DiskState) → LeftOf disk disk.held
 held_left disk = λ a. inl refl
 
 module _ (words : TwinAsked) (old new : HostState) (disk : DiskState) (hive alt : List ℕ)
-    (hive_is : IsFileOf disk.held Primary hive) (alt_is : IsFileOf disk.held Log alt) (untorn : HasUntornBlock disk.held) where
+    (hive_is : IsFileOf disk.held Primary hive) (alt_is : IsFileOf disk.held Log alt)
+    (untorn : HasUntornBlock disk.held) where
   by_found : (files : HiveFiles) → hive_in old.files words.hive words.alt ≡ Ok files
       → EndsFound (stands_by words.scheme) files words.default (twin_saves words) disk statuses.Done old.said new.said
       → StandsAsTold words old new (image_of hive alt)
   by_found files named f =
       let state : HiveState = after_change f.found f.tree (becomes words.default f.found f.tree) in
       let stands : StandsFor (stands_by words.scheme) state (image_of hive alt) =
-      files_stand words.scheme disk.held hive alt state hive_is alt_is untorn (f.ends.1.stands_for disk.held (held_left disk)) in
+      files_stand words.scheme disk.held hive alt state hive_is alt_is untorn
+      (f.ends.1.stands_for disk.held (held_left disk)) in
       record {
         files = files;
         found = f.found;
@@ -145,9 +147,11 @@ pub saved_stands : (words : TwinAsked) (old new : HostState) (disk : DiskState) 
     → StandsAsTold words old new (image_of hive alt)
 saved_stands words old new disk name other hive alt decides tells hive_named alt_named apart has_hive has_alt untorn =
     let saved = (decides.files tells).0 in
-    let own : words.save_alt ≡ Some name → ⊥ = λ e. apart (let both : Some name ≡ Some other = sym e ∙ alt_named in cc) in
+    let own : words.save_alt ≡ Some name → ⊥ =
+    λ e. apart (let both : Some name ≡ Some other = sym e ∙ alt_named in cc) in
     let hive_saved : SavedAs Primary disk.held new.files name =
-    subst (λ (o : Option (List ℕ)). IfSome o (λ n. (words.save_alt ≡ Some n → ⊥) → SavedAs Primary disk.held new.files n))
+    subst (λ (o : Option (List ℕ)). IfSome o
+    (λ n. (words.save_alt ≡ Some n → ⊥) → SavedAs Primary disk.held new.files n))
     hive_named saved.hive own in
     let alt_saved : SavedAs Log disk.held new.files other =
     subst (λ (o : Option (List ℕ)). IfSome o (λ n. SavedAs Log disk.held new.files n)) alt_named saved.log in

@@ -8,10 +8,14 @@ loop-rest-preserved-in_ok-push c =
     let word = c.split_word.result.0.now in
     let found = c.loop-rest.found in
     let pushed = c.in_ok-push.ensures.ok ∙ ap (λ (x : List ℕ). found ++ x ∷ []) c.in_ok-from_slice.ensures in
-    switch_found c.loop-rest.rest.now word c.split_word.result.1.now found c.push.new.self (switches_in c.args.text.now) c.begins_switch.result
-    c.split_word.ensures.word c.split_word.ensures.behind c.begins_switch.ensures c.if-begins_switch.true pushed c.loop-rest.invariant
+    switch_found c.loop-rest.rest.now word c.split_word.result.1.now found c.push.new.self (switches_in c.args.text.now)
+    c.begins_switch.result
+    c.split_word.ensures.word c.split_word.ensures.behind c.begins_switch.ensures c.if-begins_switch.true pushed
+    c.loop-rest.invariant
 
 pub loop-rest-preserved : goal.loop-rest-preserved
 loop-rest-preserved c =
-    word_passed c.loop-rest.rest.now c.split_word.result.0.now c.split_word.result.1.now c.loop-rest.found (switches_in c.args.text.now) c.begins_switch.result
-    c.split_word.ensures.word c.split_word.ensures.behind c.begins_switch.ensures c.if-begins_switch.false c.loop-rest.invariant
+    word_passed c.loop-rest.rest.now c.split_word.result.0.now c.split_word.result.1.now c.loop-rest.found
+    (switches_in c.args.text.now) c.begins_switch.result
+    c.split_word.ensures.word c.split_word.ensures.behind c.begins_switch.ensures c.if-begins_switch.false
+    c.loop-rest.invariant

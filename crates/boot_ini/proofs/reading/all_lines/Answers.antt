@@ -15,8 +15,13 @@ loop-rest-preserved c =
     let line = c.first_line.result.0.now in
     let after = c.first_line.result.1.now in
     record {
-      timeout = value_step (option_map (λ x. x.now) old.timeout) (option_map (λ x. x.now) new.timeout) (codes "timeout") old.section new.section rest line after (timeout_text text) c.first_line.ensures.first took.splits took.timeout kept.timeout;
-      default = value_step (option_map (λ x. x.now) old.default) (option_map (λ x. x.now) new.default) (codes "default") old.section new.section rest line after (default_path text) c.first_line.ensures.first took.splits took.default kept.default;
-      entries = entry_step old.entries new.entries old.section new.section rest line after (entries_in text) c.first_line.ensures.first took.splits took.entries kept.entries;
+      timeout = value_step (option_map (λ x. x.now) old.timeout) (option_map (λ x. x.now) new.timeout) (codes "timeout")
+          old.section new.section rest line after (timeout_text text)
+          c.first_line.ensures.first took.splits took.timeout kept.timeout;
+      default = value_step (option_map (λ x. x.now) old.default) (option_map (λ x. x.now) new.default) (codes "default")
+          old.section new.section rest line after (default_path text)
+          c.first_line.ensures.first took.splits took.default kept.default;
+      entries = entry_step old.entries new.entries old.section new.section rest line after (entries_in text)
+          c.first_line.ensures.first took.splits took.entries kept.entries;
       few = took.few;
     }

@@ -23,7 +23,8 @@ returns-in-Some-clause-plays g c = λ m tree d rest tells up h.
     let Q : Option Session → Type 0 = λ o. IsUpOrDown d o in
     let k = subst P c.in-Some.is h in
     plays-as c.begin_start.result _ _ (next (committed_state m tree)) rest x z d d (sym k.0)
-    (λ v a t. let R : Option Session → Type 0 = λ o. TurnLeft c.begin_start.new.runner d o a in subst R (sym c.in-Some.is) t)
+    (λ v a t. let R : Option Session → Type 0 = λ o. TurnLeft c.begin_start.new.runner d o a in
+    subst R (sym c.in-Some.is) t)
     (c.begin_start.ensures.plays (committed_state m tree) d tells (subst Q c.in-Some.is up) k.1.0 k.1.1)
 
 pub returns-in-None-clause-plays : goal.returns-in-None-clause-plays

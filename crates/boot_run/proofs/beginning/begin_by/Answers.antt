@@ -12,20 +12,25 @@ use Rattle.boot_run.proofs.beginning.begin_by.Goals as goal
 
 pub begin_stepped-requires-clause-some : goal.begin_stepped-requires-clause-some
 begin_stepped-requires-clause-some g c =
-    steps_some c.plan.inside.steps c.args.plan.steps (ap (λ (p : SetPlan). p.steps) c.plan.view_is) (sym c.is_empty.ensures ∙ c.if-not-is_empty.true)
+    steps_some c.plan.inside.steps c.args.plan.steps (ap (λ (p : SetPlan). p.steps) c.plan.view_is)
+    (sym c.is_empty.ensures ∙ c.if-not-is_empty.true)
 
 pub begin_start-requires-clause-taken : goal.begin_start-requires-clause-taken
 begin_start-requires-clause-taken g c =
-    let none = steps_none c.plan.inside.steps c.args.plan.steps (ap (λ (p : SetPlan). p.steps) c.plan.view_is) (sym c.is_empty.ensures ∙ c.if-not-is_empty.false) in
+    let none = steps_none c.plan.inside.steps c.args.plan.steps (ap (λ (p : SetPlan). p.steps) c.plan.view_is)
+    (sym c.is_empty.ensures ∙ c.if-not-is_empty.false) in
     let P : SetPlan → Type 0 = λ p. IsTaken c.args.hive.tree p.chosen in
-    subst P (sym c.plan.view_is) (taken_none (version_of c.args.hive.base.minor) c.args.on_good c.args.plan c.args.hive.tree none c.requires.plan)
+    subst P (sym c.plan.view_is)
+    (taken_none (version_of c.args.hive.base.minor)
+    c.args.on_good c.args.plan c.args.hive.tree none c.requires.plan)
 
 pub returns-in-Ok-clause-plays : goal.returns-in-Ok-clause-plays
 returns-in-Ok-clause-plays g c = λ m tells counts live.
     let d = g.B.Disk.state c.args.bench.now in
     let x = told_in (g.H.Host.state c.args.host.now) c.args.runner.now in
     let y = told_in (g.H.Host.state c.begin_start.new.host) c.begin_start.new.runner in
-    let none = steps_none c.plan.inside.steps c.args.plan.steps (ap (λ (p : SetPlan). p.steps) c.plan.view_is) (sym c.is_empty.ensures ∙ c.if-not-is_empty.false) in
+    let none = steps_none c.plan.inside.steps c.args.plan.steps (ap (λ (p : SetPlan). p.steps) c.plan.view_is)
+    (sym c.is_empty.ensures ∙ c.if-not-is_empty.false) in
     let q = c.in-Ok.ensures.plays m d tells c.requires.up counts live in
     let P : SetPlan → Type 0 = λ p. Goes (play (begin_start p.chosen c.args.on_good p.numbers m)) (play q.0) x y d d in
     let Q : Act → Type 0 = λ a. Goes (play a) (play q.0) x y d d in
@@ -36,7 +41,9 @@ returns-clause-plays g c = λ m tells counts live.
     let d = g.B.Disk.state c.args.bench.now in
     let x = told_in (g.H.Host.state c.args.host.now) c.args.runner.now in
     let y = told_in (g.H.Host.state c.begin_start.new.host) c.begin_start.new.runner in
-    let none = steps_none c.plan.inside.steps c.args.plan.steps (ap (λ (p : SetPlan). p.steps) c.plan.view_is) (sym c.is_empty.ensures ∙ c.if-not-is_empty.false) in
+    let none = steps_none c.plan.inside.steps c.args.plan.steps (ap (λ (p : SetPlan). p.steps) c.plan.view_is)
+    (sym c.is_empty.ensures ∙ c.if-not-is_empty.false) in
     let P : SetPlan → Type 0 = λ p. Breaks (begin_start p.chosen c.args.on_good p.numbers m) x y.said d d in
     let Q : Act → Type 0 = λ a. Breaks a x y.said d d in
-    subst Q (begin_none c.args.on_good m c.args.plan none) (subst P c.plan.view_is (c.in-Err.ensures.plays m d tells c.requires.up counts live))
+    subst Q (begin_none c.args.on_good m c.args.plan none)
+    (subst P c.plan.view_is (c.in-Err.ensures.plays m d tells c.requires.up counts live))

@@ -13,17 +13,21 @@ use Rattle.boot_run.proofs.beginning.begin_committed.Goals as goal
 
 pub begin_behind-requires-clause-off : goal.begin_behind-requires-clause-off
 begin_behind-requires-clause-off g c =
-    still_off c.args.hive c.args.runner.now c.commit.new.runner (g.B.Disk.state c.commit.new.bench) c.in_ok-left.left c.requires.off c.in_ok-left.ensures.sound
+    still_off c.args.hive c.args.runner.now c.commit.new.runner (g.B.Disk.state c.commit.new.bench)
+    c.in_ok-left.left c.requires.off c.in_ok-left.ensures.sound
 
 pub begin_behind-requires-clause-taken : goal.begin_behind-requires-clause-taken
 begin_behind-requires-clause-taken g c =
-    still_taken c.args.hive c.args.runner.now c.commit.new.runner (g.B.Disk.state c.commit.new.bench) c.in_ok-left.left c.args.number c.requires.taken c.in_ok-left.ensures.sound
+    still_taken c.args.hive c.args.runner.now c.commit.new.runner (g.B.Disk.state c.commit.new.bench)
+    c.in_ok-left.left c.args.number c.requires.taken c.in_ok-left.ensures.sound
 
 pub returns-in_err-left-clause-plays : goal.returns-in_err-left-clause-plays
 returns-in_err-left-clause-plays g c = λ m tells counts live.
     let next = begin_start c.args.number c.args.on_good c.args.numbers in
-    or-breaks _ c.from_residual.result c.from_residual.ensures.0 (commit book.BeginCommit c.args.hive.tree m next) (told_in (g.H.Host.state c.args.host.now) c.args.runner.now)
-    (told_in (g.H.Host.state c.commit.new.host) c.commit.new.runner) (g.B.Disk.state c.args.bench.now) (g.B.Disk.state c.commit.new.bench)
+    or-breaks _ c.from_residual.result c.from_residual.ensures.0 (commit book.BeginCommit c.args.hive.tree m next)
+    (told_in (g.H.Host.state c.args.host.now) c.args.runner.now)
+    (told_in (g.H.Host.state c.commit.new.host) c.commit.new.runner) (g.B.Disk.state c.args.bench.now)
+    (g.B.Disk.state c.commit.new.bench)
     (c.in_err-left.ensures.plays m next tells counts live (stays_begin c.args.number c.args.on_good c.args.numbers))
 
 pub returns-in-Ok-clause-plays : goal.returns-in-Ok-clause-plays
@@ -34,15 +38,18 @@ returns-in-Ok-clause-plays g c = λ m tells counts live.
     let z = told_in (g.H.Host.state c.begin_behind.new.host) c.begin_behind.new.runner in
     let d = g.B.Disk.state c.args.bench.now in
     let e = g.B.Disk.state c.commit.new.bench in
-    let p = c.in_ok-left.ensures.plays m next tells counts live (stays_begin c.args.number c.args.on_good c.args.numbers) in
-    let up = up_or_down c.args.hive c.args.runner.now c.commit.new.runner e c.in_ok-left.left c.in_ok-left.ensures.sound in
+    let p = c.in_ok-left.ensures.plays m next tells counts live
+    (stays_begin c.args.number c.args.on_good c.args.numbers) in
+    let up = up_or_down c.args.hive c.args.runner.now c.commit.new.runner e c.in_ok-left.left
+    c.in_ok-left.ensures.sound in
     let q = c.in-Ok.ensures.plays m c.args.hive.tree e p.0 (c.in_ok-left.ensures.host.keeps.tells ∙ tells) up p.1.1 in
     (q.0, (goes-then _ _ _ x y z d e e p.1.0 q.1.0, q.1.1))
 
 pub returns-in-Ok-clause-sound : goal.returns-in-Ok-clause-sound
 returns-in-Ok-clause-sound g c =
     let e = g.B.Disk.state c.commit.new.bench in
-    c.in-Ok.ensures.sound e (up_or_down c.args.hive c.args.runner.now c.commit.new.runner e c.in_ok-left.left c.in_ok-left.ensures.sound)
+    c.in-Ok.ensures.sound e (up_or_down c.args.hive c.args.runner.now c.commit.new.runner e c.in_ok-left.left
+    c.in_ok-left.ensures.sound)
 
 pub returns-in-Err-clause-plays : goal.returns-in-Err-clause-plays
 returns-in-Err-clause-plays g c = λ m tells counts live.
@@ -52,7 +59,9 @@ returns-in-Err-clause-plays g c = λ m tells counts live.
     let z = told_in (g.H.Host.state c.begin_behind.new.host) c.begin_behind.new.runner in
     let d = g.B.Disk.state c.args.bench.now in
     let e = g.B.Disk.state c.commit.new.bench in
-    let p = c.in_ok-left.ensures.plays m next tells counts live (stays_begin c.args.number c.args.on_good c.args.numbers) in
-    let up = up_or_down c.args.hive c.args.runner.now c.commit.new.runner e c.in_ok-left.left c.in_ok-left.ensures.sound in
+    let p = c.in_ok-left.ensures.plays m next tells counts live
+    (stays_begin c.args.number c.args.on_good c.args.numbers) in
+    let up = up_or_down c.args.hive c.args.runner.now c.commit.new.runner e c.in_ok-left.left
+    c.in_ok-left.ensures.sound in
     breaks-then (commit book.BeginCommit c.args.hive.tree m next) p.0 x y z.said d e e p.1.0
     (c.in-Err.ensures.plays m c.args.hive.tree e p.0 (c.in_ok-left.ensures.host.keeps.tells ∙ tells) up p.1.1)

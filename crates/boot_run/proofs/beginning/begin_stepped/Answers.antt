@@ -23,10 +23,13 @@ use Rattle.boot_run.proofs.BeginLemmas.{none_open, planned_stays, apply_up, appl
 use Rattle.boot_run.proofs.beginning.begin_stepped.Goals as goal
 
 pub apply-requires : goal.apply-requires
-apply-requires g c = let P : SetPlan → Type 0 = λ p. All Fits p.steps in record { fits = subst P (sym c.plan.view_is) c.requires.fits }
+apply-requires g c = let P : SetPlan → Type 0 = λ p. All Fits p.steps in
+    record { fits = subst P (sym c.plan.view_is) c.requires.fits }
 
 pub begin_committed-requires-clause-up : goal.begin_committed-requires-clause-up
-begin_committed-requires-clause-up g c = apply_up c.args.hive c.apply.new.self (g.B.Disk.state c.args.bench.now) c.requires.up c.in-Ok.ensures.base c.in-Ok.ensures.bins
+begin_committed-requires-clause-up g c =
+    apply_up c.args.hive c.apply.new.self (g.B.Disk.state c.args.bench.now)
+    c.requires.up c.in-Ok.ensures.base c.in-Ok.ensures.bins
 
 pub begin_committed-requires-clause-taken : goal.begin_committed-requires-clause-taken
 begin_committed-requires-clause-taken g c =
@@ -39,7 +42,8 @@ begin_committed-requires-clause-taken g c =
     subst P (sym c.plan.view_is) (taken_made c.args.on_good c.args.plan v t u c.requires.some c.requires.plan made)
 
 pub end_start-requires : goal.end_start-requires
-end_start-requires g c = record { left = still_leaves (g.B.Disk.state c.args.bench.now) LoadsAny c.requires.up.still c.requires.up.loads }
+end_start-requires g c = record
+    { left = still_leaves (g.B.Disk.state c.args.bench.now) LoadsAny c.requires.up.still c.requires.up.loads }
 
 pub returns-in-Ok-clause-plays : goal.returns-in-Ok-clause-plays
 returns-in-Ok-clause-plays g c = λ m tells counts live.
@@ -53,16 +57,23 @@ returns-in-Ok-clause-plays g c = λ m tells counts live.
     let t = c.args.hive.tree in
     let made = ap (λ (ss : List Step). edited v t ss) (sym steps) ∙ c.in-Ok.ensures.made in
     let Left = TurnLeft c.begin_committed.new.runner e in
-    let P : SetPlan → Type 0 = λ p. PlaysOr (commit BeginCommit u m (begin_start p.chosen c.args.on_good p.numbers)) x y d e c.begin_committed.result Left in
-    plays-as c.begin_committed.result Left Left (commit BeginCommit u m (begin_start c.args.plan.chosen c.args.on_good c.args.plan.numbers))
-    (begin_planned c.args.on_good m c.args.plan (stepped m.version m.live c.args.plan.steps)) x y d e (begin_made c.args.on_good m c.args.plan v t u c.requires.some live.version live.live made) (λ w rest k. k)
-    (subst P c.plan.view_is (c.begin_committed.ensures.plays m tells counts (apply_stored m c.args.hive c.apply.new.self d live c.in-Ok.ensures.base)))
+    let P : SetPlan → Type 0 =
+    λ p. PlaysOr (commit BeginCommit u m (begin_start p.chosen c.args.on_good p.numbers))
+    x y d e c.begin_committed.result Left in
+    plays-as c.begin_committed.result Left Left
+    (commit BeginCommit u m (begin_start c.args.plan.chosen c.args.on_good c.args.plan.numbers))
+    (begin_planned c.args.on_good m c.args.plan (stepped m.version m.live c.args.plan.steps)) x y d e
+    (begin_made c.args.on_good m c.args.plan v t u c.requires.some live.version live.live made) (λ w rest k. k)
+    (subst P c.plan.view_is (c.begin_committed.ensures.plays m tells counts
+    (apply_stored m c.args.hive c.apply.new.self d live c.in-Ok.ensures.base)))
 
 pub returns-in-None-clause-plays : goal.returns-in-None-clause-plays
 returns-in-None-clause-plays g c = λ m tells counts live.
     let d = g.B.Disk.state c.args.bench.now in
-    breaks-silent (begin_planned c.args.on_good m c.args.plan (stepped m.version m.live c.args.plan.steps)) (told_in (g.H.Host.state c.args.host.now) c.args.runner.now) d d (still d)
-    (λ image crash. planned_stays c.args.on_good m c.args.plan image (stepped m.version m.live c.args.plan.steps) (none_open m c.args.hive d live) (live_left m c.args.hive d c.requires.up live image crash))
+    breaks-silent (begin_planned c.args.on_good m c.args.plan (stepped m.version m.live c.args.plan.steps))
+    (told_in (g.H.Host.state c.args.host.now) c.args.runner.now) d d (still d)
+    (λ image crash. planned_stays c.args.on_good m c.args.plan image (stepped m.version m.live c.args.plan.steps)
+    (none_open m c.args.hive d live) (live_left m c.args.hive d c.requires.up live image crash))
 
 pub returns-clause-plays : goal.returns-clause-plays
 returns-clause-plays g c = λ m tells counts live.
@@ -73,9 +84,12 @@ returns-clause-plays g c = λ m tells counts live.
     let steps = ap (λ (p : SetPlan). p.steps) c.plan.view_is in
     let v = version_of c.args.hive.base.minor in
     let t = c.args.hive.tree in
-    let why = refused_why c.in-Err.stop _ c.edit_word.result _ c.edit_word.ensures c.in-Some.is c.in-Err.ensures.made.0 in
+    let why = refused_why c.in-Err.stop _ c.edit_word.result _ c.edit_word.ensures c.in-Some.is
+    c.in-Err.ensures.made.0 in
     let made = ap (λ (ss : List Step). edited v t ss) (sym steps) ∙ why.1 in
     let Left = TurnLeft c.end_start.new.runner e in
-    plays-as c.end_start.result Left Left (end_with lines.Full false m) (begin_planned c.args.on_good m c.args.plan (stepped m.version m.live c.args.plan.steps)) x y d e
+    plays-as c.end_start.result Left Left (end_with lines.Full false m)
+    (begin_planned c.args.on_good m c.args.plan (stepped m.version m.live c.args.plan.steps)) x y d e
     (begin_full c.args.on_good m c.args.plan v t why.0 c.requires.some live.version live.live made) (λ w rest k. k)
-    (c.end_start.ensures.plays m tells counts (live_left m c.args.hive d c.requires.up live) (record { falls = refl; none = refl }))
+    (c.end_start.ensures.plays m tells counts (live_left m c.args.hive d c.requires.up live)
+    (record { falls = refl; none = refl }))

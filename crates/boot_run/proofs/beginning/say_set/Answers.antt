@@ -20,13 +20,17 @@ use Rattle.boot_run.proofs.beginning.say_set.Goals as goal
 
 pub returns-in_default-clause-plays : goal.returns-in_default-clause-plays
 returns-in_default-clause-plays g c = λ m d tells up live.
-    breaks-silent (take_set c.args.on_good m) (told_by (g.H.Host.state c.args.host.now) c.args.summary.now) d d (still d)
-    (λ image crash. stays_take c.args.on_good m image (none_open m c.args.hive.now d live) (live_left m c.args.hive.now d up live image crash))
+    breaks-silent (take_set c.args.on_good m) (told_by (g.H.Host.state c.args.host.now) c.args.summary.now) d d
+    (still d)
+    (λ image crash. stays_take c.args.on_good m image (none_open m c.args.hive.now d live)
+    (live_left m c.args.hive.now d up live image crash))
 
 pub returns-in-Err-Memory-clause-plays : goal.returns-in-Err-Memory-clause-plays
 returns-in-Err-Memory-clause-plays g c = λ m d tells up live.
-    breaks-silent (take_set c.args.on_good m) (told_by (g.H.Host.state c.args.host.now) c.args.summary.now) d d (still d)
-    (λ image crash. stays_take c.args.on_good m image (none_open m c.args.hive.now d live) (live_left m c.args.hive.now d up live image crash))
+    breaks-silent (take_set c.args.on_good m) (told_by (g.H.Host.state c.args.host.now) c.args.summary.now) d d
+    (still d)
+    (λ image crash. stays_take c.args.on_good m image (none_open m c.args.hive.now d live)
+    (live_left m c.args.hive.now d up live image crash))
 
 pub returns-in-Ok-say-clause-plays : goal.returns-in-Ok-say-clause-plays
 returns-in-Ok-say-clause-plays g c = λ m d tells up live.
@@ -36,11 +40,13 @@ returns-in-Ok-say-clause-plays g c = λ m d tells up live.
     let rest : Act = begin_planned c.args.on_good m plan (stepped m.version m.live plan.steps) in
     let P : Line → Type 0 = λ l. Tells x y (l ∷ []) in
     let Q : Act → Type 0 = λ a. Goes (play a) (play rest) x y d d in
-    let line = set_line_is m c.args.hive.now.tree c.args.on_good c.taken_number.result c.in-Ok.numbers live.live c.in-Ok.ensures c.taken_number.ensures in (
+    let line = set_line_is m c.args.hive.now.tree c.args.on_good c.taken_number.result c.in-Ok.numbers live.live
+    c.in-Ok.ensures c.taken_number.ensures in (
       rest,
       (
         subst Q (take_planned m c.args.hive.now.tree c.args.on_good plan live.live c.in-Ok-planned.ensures.plans)
-            (goes-line (set_line c.args.on_good m) rest x y d d (still d) refl (subst P line (c.in-Ok-say.ensures.tells tells))),
+            (goes-line (set_line c.args.on_good m) rest x y d d (still d) refl
+            (subst P line (c.in-Ok-say.ensures.tells tells))),
         refl,
       ),
     )
@@ -53,10 +59,13 @@ returns-in-Err-clause-plays g c = λ m d tells up live.
     let rest : Act = begin_planned c.args.on_good m plan (stepped m.version m.live plan.steps) in
     let P : Line → Type 0 = λ l. SaysFront x.said y.said (line_text l) in
     let Q : Act → Type 0 = λ a. Breaks a x y.said d d in
-    let line = set_line_is m c.args.hive.now.tree c.args.on_good c.taken_number.result c.in-Ok.numbers live.live c.in-Ok.ensures c.taken_number.ensures in
+    let line = set_line_is m c.args.hive.now.tree c.args.on_good c.taken_number.result c.in-Ok.numbers live.live
+    c.in-Ok.ensures c.taken_number.ensures in
     subst Q (take_planned m c.args.hive.now.tree c.args.on_good plan live.live c.in-Ok-planned.ensures.plans)
-    (breaks-line (set_line c.args.on_good m) rest x y.said d d (still d) refl (subst P line (c.in-Err.ensures.tells tells))
-    (λ image crash. planned_stays c.args.on_good m plan image (stepped m.version m.live plan.steps) (none_open m c.args.hive.now d live) (live_left m c.args.hive.now d up live image crash)))
+    (breaks-line (set_line c.args.on_good m) rest x y.said d d (still d) refl
+    (subst P line (c.in-Err.ensures.tells tells))
+    (λ image crash. planned_stays c.args.on_good m plan image (stepped m.version m.live plan.steps)
+    (none_open m c.args.hive.now d live) (live_left m c.args.hive.now d up live image crash)))
 
 pub returns-in-Ok-say-2-clause-plays : goal.returns-in-Ok-say-2-clause-plays
 returns-in-Ok-say-2-clause-plays g c = λ m d tells up live.
@@ -65,12 +74,18 @@ returns-in-Ok-say-2-clause-plays g c = λ m d tells up live.
     let rest : Act = end_with book.NoNumber false m in
     let P : Line → Type 0 = λ l. Tells x y (l ∷ []) in
     let Q : Act → Type 0 = λ a. Goes (play a) (play rest) x y d d in
-    let line = set_line_is m c.args.hive.now.tree c.args.on_good c.taken_number.result c.in-Ok.numbers live.live c.in-Ok.ensures c.taken_number.ensures in
-    let R : SelectStop → Type 0 = λ stop. Planned (Err stop) (begin_plan_of (select_numbers_of c.args.hive.now.tree) (usable_numbers_of c.args.hive.now.tree) c.args.on_good) in (
+    let line = set_line_is m c.args.hive.now.tree c.args.on_good c.taken_number.result c.in-Ok.numbers live.live
+    c.in-Ok.ensures c.taken_number.ensures in
+    let R : SelectStop → Type 0 =
+    λ stop. Planned (Err stop)
+    (begin_plan_of (select_numbers_of c.args.hive.now.tree) (usable_numbers_of c.args.hive.now.tree)
+    c.args.on_good) in (
       rest,
       (
-        subst Q (take_stopped m c.args.hive.now.tree c.args.on_good NoFreeNumber live.live (subst R c.in-Err-NoFreeNumber.field-0-is c.in-Err-NoFreeNumber.ensures.plans))
-            (goes-line (set_line c.args.on_good m) rest x y d d (still d) refl (subst P line (c.in-Ok-say-2.ensures.tells tells))),
+        subst Q (take_stopped m c.args.hive.now.tree c.args.on_good NoFreeNumber live.live
+            (subst R c.in-Err-NoFreeNumber.field-0-is c.in-Err-NoFreeNumber.ensures.plans))
+            (goes-line (set_line c.args.on_good m) rest x y d d (still d) refl
+            (subst P line (c.in-Ok-say-2.ensures.tells tells))),
         (refl, record { falls = refl; none = refl }),
       ),
     )
@@ -82,20 +97,30 @@ returns-in-Err-say-clause-plays g c = λ m d tells up live.
     let rest : Act = end_with book.NoNumber false m in
     let P : Line → Type 0 = λ l. SaysFront x.said y.said (line_text l) in
     let Q : Act → Type 0 = λ a. Breaks a x y.said d d in
-    let line = set_line_is m c.args.hive.now.tree c.args.on_good c.taken_number.result c.in-Ok.numbers live.live c.in-Ok.ensures c.taken_number.ensures in
-    let R : SelectStop → Type 0 = λ stop. Planned (Err stop) (begin_plan_of (select_numbers_of c.args.hive.now.tree) (usable_numbers_of c.args.hive.now.tree) c.args.on_good) in
-    subst Q (take_stopped m c.args.hive.now.tree c.args.on_good NoFreeNumber live.live (subst R c.in-Err-NoFreeNumber.field-0-is c.in-Err-NoFreeNumber.ensures.plans))
-    (breaks-line (set_line c.args.on_good m) rest x y.said d d (still d) refl (subst P line (c.in-Err-say.ensures.tells tells)) (live_left m c.args.hive.now d up live))
+    let line = set_line_is m c.args.hive.now.tree c.args.on_good c.taken_number.result c.in-Ok.numbers live.live
+    c.in-Ok.ensures c.taken_number.ensures in
+    let R : SelectStop → Type 0 =
+    λ stop. Planned (Err stop)
+    (begin_plan_of (select_numbers_of c.args.hive.now.tree) (usable_numbers_of c.args.hive.now.tree)
+    c.args.on_good) in
+    subst Q (take_stopped m c.args.hive.now.tree c.args.on_good NoFreeNumber live.live
+    (subst R c.in-Err-NoFreeNumber.field-0-is c.in-Err-NoFreeNumber.ensures.plans))
+    (breaks-line (set_line c.args.on_good m) rest x y.said d d (still d) refl
+    (subst P line (c.in-Err-say.ensures.tells tells)) (live_left m c.args.hive.now d up live))
 
 pub returns-in-Err-NoControlSet-clause-plays : goal.returns-in-Err-NoControlSet-clause-plays
 returns-in-Err-NoControlSet-clause-plays g c = λ m d tells up live.
     let x = told_by (g.H.Host.state c.args.host.now) c.args.summary.now in
     let rest : Act = end_with book.NoControlSet false m in
     let Q : Act → Type 0 = λ a. Goes (play a) (play rest) x x d d in
-    let R : SelectStop → Type 0 = λ stop. Planned (Err stop) (begin_plan_of (select_numbers_of c.args.hive.now.tree) (usable_numbers_of c.args.hive.now.tree) c.args.on_good) in (
+    let R : SelectStop → Type 0 =
+    λ stop. Planned (Err stop)
+    (begin_plan_of (select_numbers_of c.args.hive.now.tree) (usable_numbers_of c.args.hive.now.tree)
+    c.args.on_good) in (
       rest,
       (
-        subst Q (take_stopped m c.args.hive.now.tree c.args.on_good NoControlSet live.live (subst R c.in-Err-NoControlSet.field-0-is c.in-Err-NoControlSet.ensures.plans))
+        subst Q (take_stopped m c.args.hive.now.tree c.args.on_good NoControlSet live.live
+            (subst R c.in-Err-NoControlSet.field-0-is c.in-Err-NoControlSet.ensures.plans))
             (goes-nothing (play rest) x d d (still d)),
         (refl, record { falls = refl; none = refl }),
       ),
@@ -106,10 +131,14 @@ returns-in-Err-NoLastKnownGood-clause-plays g c = λ m d tells up live.
     let x = told_by (g.H.Host.state c.args.host.now) c.args.summary.now in
     let rest : Act = end_with book.NoLastKnownGood false m in
     let Q : Act → Type 0 = λ a. Goes (play a) (play rest) x x d d in
-    let R : SelectStop → Type 0 = λ stop. Planned (Err stop) (begin_plan_of (select_numbers_of c.args.hive.now.tree) (usable_numbers_of c.args.hive.now.tree) c.args.on_good) in (
+    let R : SelectStop → Type 0 =
+    λ stop. Planned (Err stop)
+    (begin_plan_of (select_numbers_of c.args.hive.now.tree) (usable_numbers_of c.args.hive.now.tree)
+    c.args.on_good) in (
       rest,
       (
-        subst Q (take_stopped m c.args.hive.now.tree c.args.on_good NoLastKnownGood live.live (subst R c.in-Err-NoLastKnownGood.field-0-is c.in-Err-NoLastKnownGood.ensures.plans))
+        subst Q (take_stopped m c.args.hive.now.tree c.args.on_good NoLastKnownGood live.live
+            (subst R c.in-Err-NoLastKnownGood.field-0-is c.in-Err-NoLastKnownGood.ensures.plans))
             (goes-nothing (play rest) x d d (still d)),
         (refl, record { falls = refl; none = refl }),
       ),

@@ -23,7 +23,8 @@ pub returns-in_default-clause-plays : goal.returns-in_default-clause-plays
 returns-in_default-clause-plays g c = λ m tells counts left.
     let d = g.B.Disk.state c.args.bench.now in
     let choice = choices c.args.ini.now c.args.system.now in
-    breaks-silent (boot_act choice c.args.entry c.args.last_known_good m) (told_in (g.H.Host.state c.args.host.now) c.args.runner.now) d d (still d)
+    breaks-silent (boot_act choice c.args.entry c.args.last_known_good m)
+    (told_in (g.H.Host.state c.args.host.now) c.args.runner.now) d d (still d)
     (chosen_left (m.machine.fallback_due || c.args.last_known_good) (accepted_state m) (choice c.args.entry) d left)
 
 pub returns-in_err-say-clause-plays : goal.returns-in_err-say-clause-plays
@@ -32,11 +33,14 @@ returns-in_err-say-clause-plays g c = λ m tells counts left.
     let choice = choices c.args.ini.now c.args.system.now in
     let x = told_in (g.H.Host.state c.args.host.now) c.args.runner.now in
     let y = told_by (g.H.Host.state c.say.new.host) c.say.new.summary in
-    let rest : Act = chosen (m.machine.fallback_due || c.args.last_known_good) (accepted_state m) (choice c.args.entry) in
+    let rest : Act = chosen (m.machine.fallback_due || c.args.last_known_good) (accepted_state m)
+    (choice c.args.entry) in
     let P : ℕ → Type 0 = λ n. SaysFront x.said y.said (line_text (StartLine n)) in
     let number = number_is m c.args.runner.now c.in-Some.number counts (search rules) in
-    said_front c.from_residual.result _ c.from_residual.ensures.0 (boot_act choice c.args.entry c.args.last_known_good m) (StartLine (m.starts + 1)) rest x y d refl refl
-    (subst P number (c.in_err-say.ensures.tells tells)) (chosen_left (m.machine.fallback_due || c.args.last_known_good) (accepted_state m) (choice c.args.entry) d left)
+    said_front c.from_residual.result _ c.from_residual.ensures.0
+    (boot_act choice c.args.entry c.args.last_known_good m) (StartLine (m.starts + 1)) rest x y d refl refl
+    (subst P number (c.in_err-say.ensures.tells tells))
+    (chosen_left (m.machine.fallback_due || c.args.last_known_good) (accepted_state m) (choice c.args.entry) d left)
 
 pub returns-in_default-choose-clause-plays : goal.returns-in_default-choose-clause-plays
 returns-in_default-choose-clause-plays g c = λ m tells counts left.
@@ -44,12 +48,16 @@ returns-in_default-choose-clause-plays g c = λ m tells counts left.
     let choice = choices c.args.ini.now c.args.system.now in
     let x = told_in (g.H.Host.state c.args.host.now) c.args.runner.now in
     let y = told_by (g.H.Host.state c.say.new.host) c.say.new.summary in
-    let rest : Act = chosen (m.machine.fallback_due || c.args.last_known_good) (accepted_state m) (choice c.args.entry) in
+    let rest : Act = chosen (m.machine.fallback_due || c.args.last_known_good) (accepted_state m)
+    (choice c.args.entry) in
     let P : ℕ → Type 0 = λ n. Tells x y (StartLine n ∷ []) in
     let number = number_is m c.args.runner.now c.in-Some.number counts (search rules) in
     breaks-then (boot_act choice c.args.entry c.args.last_known_good m) rest x y y.said d d d
-    (goes-line (StartLine (m.starts + 1)) rest x y d d (still d) refl (subst P number (c.in_ok-say.ensures.tells tells)))
-    (breaks-silent rest y d d (still d) (chosen_left (m.machine.fallback_due || c.args.last_known_good) (accepted_state m) (choice c.args.entry) d left))
+    (goes-line (StartLine (m.starts + 1)) rest x y d d (still d) refl
+    (subst P number (c.in_ok-say.ensures.tells tells)))
+    (breaks-silent rest y d d (still d)
+    (chosen_left (m.machine.fallback_due || c.args.last_known_good) (accepted_state m) (choice c.args.entry)
+    d left))
 
 pub returns-clause-plays : goal.returns-clause-plays
 returns-clause-plays g c = λ m tells counts left.
@@ -59,15 +67,23 @@ returns-clause-plays g c = λ m tells counts left.
     let x = told_in (g.H.Host.state c.args.host.now) c.args.runner.now in
     let y = told_by (g.H.Host.state c.say.new.host) c.say.new.summary in
     let z = told_in (g.H.Host.state c.boot_by.new.host) c.boot_by.new.runner in
-    let rest : Act = chosen (m.machine.fallback_due || c.args.last_known_good) (accepted_state m) (choice c.args.entry) in
+    let rest : Act = chosen (m.machine.fallback_due || c.args.last_known_good) (accepted_state m)
+    (choice c.args.entry) in
     let P : ℕ → Type 0 = λ n. Tells x y (StartLine n ∷ []) in
     let number = number_is m c.args.runner.now c.in-Some.number counts (search rules) in
     let due : c.either-on_good.result ≡ (m.machine.fallback_due || c.args.last_known_good) =
-    c.either-on_good.ensures ∙ ap (λ (b : Bool). b || c.args.last_known_good) (c.take_fallback-due.ensures.due ∙ ap (λ (k : MachineState). k.fallback_due) (sym counts.machine)) in
-    said_then c.boot_by.result (TurnLeft c.boot_by.new.runner f) (boot_act choice c.args.entry c.args.last_known_good m) (StartLine (m.starts + 1)) rest
+    c.either-on_good.ensures ∙ ap (λ (b : Bool). b || c.args.last_known_good)
+    (c.take_fallback-due.ensures.due ∙ ap (λ (k : MachineState). k.fallback_due) (sym counts.machine)) in
+    said_then c.boot_by.result (TurnLeft c.boot_by.new.runner f) (boot_act choice c.args.entry c.args.last_known_good m)
+    (StartLine (m.starts + 1)) rest
     (chosen c.either-on_good.result (accepted_state m) (choice_in c.args.ini.now c.in-Ok.chosen)) x y z d f refl
     (ap (λ (b : Bool). chosen b (accepted_state m) (choice_in c.args.ini.now c.in-Ok.chosen)) due
-    ∙ ap (λ (o : Chosen). chosen (m.machine.fallback_due || c.args.last_known_good) (accepted_state m) (choice_in c.args.ini.now o)) c.in-Ok.ensures.choice)
+    ∙ ap (λ (o : Chosen). chosen (m.machine.fallback_due || c.args.last_known_good) (accepted_state m)
+    (choice_in c.args.ini.now o)) c.in-Ok.ensures.choice)
     refl (subst P number (c.in_ok-say.ensures.tells tells))
     (c.boot_by.ensures.plays (accepted_state m) (c.in_ok-say.ensures.host.keeps.tells ∙ tells)
-    (record { machine = ap (λ (k : MachineState). record k { fallback_due = false }) counts.machine ∙ sym c.take_fallback-due.ensures.taken; starts = sym number }) left)
+    (record {
+      machine = ap (λ (k : MachineState). record k { fallback_due = false }) counts.machine
+          ∙ sym c.take_fallback-due.ensures.taken;
+      starts = sym number;
+    }) left)

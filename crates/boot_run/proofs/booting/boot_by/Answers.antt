@@ -21,8 +21,10 @@ returns-in_err-say_entry-in-Entry-clause-plays g c = λ m tells counts left.
     let d = g.B.Disk.state c.args.bench.now in
     let whole : Act = chosen c.args.on_good m (choice_in ini c.args.chosen) in
     let rest : Act = wake m.disk (woken (c.args.on_good || is_on_good ini n) m) in
-    let is : chosen c.args.on_good m (choice_in ini (code.Entry n)) ≡ whole = ap (λ (o : Chosen). chosen c.args.on_good m (choice_in ini o)) (sym c.in-Entry.is) in
-    said_front c.from_residual.result _ c.from_residual.ensures.0 whole (lines.EntryLine n (path_at ini n)) rest x y d is refl (c.in_err-say_entry-in-Entry.ensures.tells tells) left
+    let is : chosen c.args.on_good m (choice_in ini (code.Entry n)) ≡ whole =
+    ap (λ (o : Chosen). chosen c.args.on_good m (choice_in ini o)) (sym c.in-Entry.is) in
+    said_front c.from_residual.result _ c.from_residual.ensures.0 whole (lines.EntryLine n (path_at ini n))
+    rest x y d is refl (c.in_err-say_entry-in-Entry.ensures.tells tells) left
 
 pub returns-in_ok-say_entry-in-Entry-clause-plays : goal.returns-in_ok-say_entry-in-Entry-clause-plays
 returns-in_ok-say_entry-in-Entry-clause-plays g c = λ m tells counts left.
@@ -33,11 +35,17 @@ returns-in_ok-say_entry-in-Entry-clause-plays g c = λ m tells counts left.
     let d = g.B.Disk.state c.args.bench.now in
     let whole : Act = chosen c.args.on_good m (choice_in ini c.args.chosen) in
     let rest : Act = wake m.disk (woken (c.args.on_good || is_on_good ini n) m) in
-    let is : chosen c.args.on_good m (choice_in ini (code.Entry n)) ≡ whole = ap (λ (o : Chosen). chosen c.args.on_good m (choice_in ini o)) (sym c.in-Entry.is) in
+    let is : chosen c.args.on_good m (choice_in ini (code.Entry n)) ≡ whole =
+    ap (λ (o : Chosen). chosen c.args.on_good m (choice_in ini o)) (sym c.in-Entry.is) in
     let z = told_in (g.H.Host.state c.load_and_take.new.host) c.load_and_take.new.runner in
     let f = g.B.Disk.state c.load_and_take.new.bench in
-    said_then c.load_and_take.result (TurnLeft c.load_and_take.new.runner f) whole (lines.EntryLine n (path_at ini n)) rest (wake m.disk (woken c.either-on_good.result m)) x y z d f is (ap (λ (b : Bool). wake m.disk (woken b m)) (c.either-on_good.ensures ∙ ap (λ (b : Bool). c.args.on_good || b) c.is_on_good.ensures)) refl (c.in_ok-say_entry-in-Entry.ensures.tells tells)
-    (c.load_and_take.ensures.plays m (c.in_ok-say_entry-in-Entry.ensures.host.keeps.tells ∙ tells) (record { machine = counts.machine; starts = counts.starts }) left)
+    said_then c.load_and_take.result (TurnLeft c.load_and_take.new.runner f) whole (lines.EntryLine n (path_at ini n))
+    rest (wake m.disk (woken c.either-on_good.result m)) x y z d f is
+    (ap (λ (b : Bool). wake m.disk (woken b m))
+    (c.either-on_good.ensures ∙ ap (λ (b : Bool). c.args.on_good || b) c.is_on_good.ensures)) refl
+    (c.in_ok-say_entry-in-Entry.ensures.tells tells)
+    (c.load_and_take.ensures.plays m (c.in_ok-say_entry-in-Entry.ensures.host.keeps.tells ∙ tells)
+    (record { machine = counts.machine; starts = counts.starts }) left)
 
 pub returns-in-NoEntry-clause-plays : goal.returns-in-NoEntry-clause-plays
 returns-in-NoEntry-clause-plays g c = λ m tells counts left.
@@ -47,7 +55,8 @@ returns-in-NoEntry-clause-plays g c = λ m tells counts left.
     let f = g.B.Disk.state c.end_start.new.bench in
     let Left = TurnLeft c.end_start.new.runner f in
     let is = ap (λ (o : Chosen). chosen c.args.on_good m (choice_in c.args.ini.now o)) (sym c.in-NoEntry.is) in
-    plays-as c.end_start.result Left Left (end_with lines.NoEntry false m) (chosen c.args.on_good m (choice_in c.args.ini.now c.args.chosen)) x z d f is (λ v a k. k)
+    plays-as c.end_start.result Left Left (end_with lines.NoEntry false m)
+    (chosen c.args.on_good m (choice_in c.args.ini.now c.args.chosen)) x z d f is (λ v a k. k)
     (c.end_start.ensures.plays m tells counts left (record { falls = refl; none = refl }))
 
 pub returns-in_err-say_entry-in-OtherLoader-clause-plays : goal.returns-in_err-say_entry-in-OtherLoader-clause-plays
@@ -59,8 +68,11 @@ returns-in_err-say_entry-in-OtherLoader-clause-plays g c = λ m tells counts lef
     let d = g.B.Disk.state c.args.bench.now in
     let whole : Act = chosen c.args.on_good m (choice_in ini c.args.chosen) in
     let rest : Act = end_with lines.OtherLoader false m in
-    let is : chosen c.args.on_good m (choice_in ini (code.OtherLoader n)) ≡ whole = ap (λ (o : Chosen). chosen c.args.on_good m (choice_in ini o)) (sym c.in-OtherLoader.is) in
-    said_front c.from_residual-in_err-say_entry-in-OtherLoader.result _ c.from_residual-in_err-say_entry-in-OtherLoader.ensures.0 whole (lines.EntryLine n (path_at ini n)) rest x y d is refl (c.in_err-say_entry-in-OtherLoader.ensures.tells tells) left
+    let is : chosen c.args.on_good m (choice_in ini (code.OtherLoader n)) ≡ whole =
+    ap (λ (o : Chosen). chosen c.args.on_good m (choice_in ini o)) (sym c.in-OtherLoader.is) in
+    said_front c.from_residual-in_err-say_entry-in-OtherLoader.result _
+    c.from_residual-in_err-say_entry-in-OtherLoader.ensures.0 whole (lines.EntryLine n (path_at ini n))
+    rest x y d is refl (c.in_err-say_entry-in-OtherLoader.ensures.tells tells) left
 
 pub returns-in_ok-say_entry-in-OtherLoader-clause-plays : goal.returns-in_ok-say_entry-in-OtherLoader-clause-plays
 returns-in_ok-say_entry-in-OtherLoader-clause-plays g c = λ m tells counts left.
@@ -71,11 +83,15 @@ returns-in_ok-say_entry-in-OtherLoader-clause-plays g c = λ m tells counts left
     let d = g.B.Disk.state c.args.bench.now in
     let whole : Act = chosen c.args.on_good m (choice_in ini c.args.chosen) in
     let rest : Act = end_with lines.OtherLoader false m in
-    let is : chosen c.args.on_good m (choice_in ini (code.OtherLoader n)) ≡ whole = ap (λ (o : Chosen). chosen c.args.on_good m (choice_in ini o)) (sym c.in-OtherLoader.is) in
+    let is : chosen c.args.on_good m (choice_in ini (code.OtherLoader n)) ≡ whole =
+    ap (λ (o : Chosen). chosen c.args.on_good m (choice_in ini o)) (sym c.in-OtherLoader.is) in
     let z = told_in (g.H.Host.state c.end_start-in-OtherLoader.new.host) c.end_start-in-OtherLoader.new.runner in
     let f = g.B.Disk.state c.end_start-in-OtherLoader.new.bench in
-    said_then c.end_start-in-OtherLoader.result (TurnLeft c.end_start-in-OtherLoader.new.runner f) whole (lines.EntryLine n (path_at ini n)) rest rest x y z d f is refl refl (c.in_ok-say_entry-in-OtherLoader.ensures.tells tells)
-    (c.end_start-in-OtherLoader.ensures.plays m (c.in_ok-say_entry-in-OtherLoader.ensures.host.keeps.tells ∙ tells) (record { machine = counts.machine; starts = counts.starts }) left (record { falls = refl; none = refl }))
+    said_then c.end_start-in-OtherLoader.result (TurnLeft c.end_start-in-OtherLoader.new.runner f) whole
+    (lines.EntryLine n (path_at ini n)) rest rest x y z d f is refl refl
+    (c.in_ok-say_entry-in-OtherLoader.ensures.tells tells)
+    (c.end_start-in-OtherLoader.ensures.plays m (c.in_ok-say_entry-in-OtherLoader.ensures.host.keeps.tells ∙ tells)
+    (record { machine = counts.machine; starts = counts.starts }) left (record { falls = refl; none = refl }))
 
 pub returns-in_err-say_entry-in-NoSystem-clause-plays : goal.returns-in_err-say_entry-in-NoSystem-clause-plays
 returns-in_err-say_entry-in-NoSystem-clause-plays g c = λ m tells counts left.
@@ -86,8 +102,11 @@ returns-in_err-say_entry-in-NoSystem-clause-plays g c = λ m tells counts left.
     let d = g.B.Disk.state c.args.bench.now in
     let whole : Act = chosen c.args.on_good m (choice_in ini c.args.chosen) in
     let rest : Act = end_with lines.NoSystem false m in
-    let is : chosen c.args.on_good m (choice_in ini (code.NoSystem n)) ≡ whole = ap (λ (o : Chosen). chosen c.args.on_good m (choice_in ini o)) (sym c.in-NoSystem.is) in
-    said_front c.from_residual-in_err-say_entry-in-NoSystem.result _ c.from_residual-in_err-say_entry-in-NoSystem.ensures.0 whole (lines.EntryLine n (path_at ini n)) rest x y d is refl (c.in_err-say_entry-in-NoSystem.ensures.tells tells) left
+    let is : chosen c.args.on_good m (choice_in ini (code.NoSystem n)) ≡ whole =
+    ap (λ (o : Chosen). chosen c.args.on_good m (choice_in ini o)) (sym c.in-NoSystem.is) in
+    said_front c.from_residual-in_err-say_entry-in-NoSystem.result _
+    c.from_residual-in_err-say_entry-in-NoSystem.ensures.0 whole (lines.EntryLine n (path_at ini n))
+    rest x y d is refl (c.in_err-say_entry-in-NoSystem.ensures.tells tells) left
 
 pub returns-in_ok-say_entry-in-NoSystem-clause-plays : goal.returns-in_ok-say_entry-in-NoSystem-clause-plays
 returns-in_ok-say_entry-in-NoSystem-clause-plays g c = λ m tells counts left.
@@ -98,8 +117,12 @@ returns-in_ok-say_entry-in-NoSystem-clause-plays g c = λ m tells counts left.
     let d = g.B.Disk.state c.args.bench.now in
     let whole : Act = chosen c.args.on_good m (choice_in ini c.args.chosen) in
     let rest : Act = end_with lines.NoSystem false m in
-    let is : chosen c.args.on_good m (choice_in ini (code.NoSystem n)) ≡ whole = ap (λ (o : Chosen). chosen c.args.on_good m (choice_in ini o)) (sym c.in-NoSystem.is) in
+    let is : chosen c.args.on_good m (choice_in ini (code.NoSystem n)) ≡ whole =
+    ap (λ (o : Chosen). chosen c.args.on_good m (choice_in ini o)) (sym c.in-NoSystem.is) in
     let z = told_in (g.H.Host.state c.end_start-in-NoSystem.new.host) c.end_start-in-NoSystem.new.runner in
     let f = g.B.Disk.state c.end_start-in-NoSystem.new.bench in
-    said_then c.end_start-in-NoSystem.result (TurnLeft c.end_start-in-NoSystem.new.runner f) whole (lines.EntryLine n (path_at ini n)) rest rest x y z d f is refl refl (c.in_ok-say_entry-in-NoSystem.ensures.tells tells)
-    (c.end_start-in-NoSystem.ensures.plays m (c.in_ok-say_entry-in-NoSystem.ensures.host.keeps.tells ∙ tells) (record { machine = counts.machine; starts = counts.starts }) left (record { falls = refl; none = refl }))
+    said_then c.end_start-in-NoSystem.result (TurnLeft c.end_start-in-NoSystem.new.runner f) whole
+    (lines.EntryLine n (path_at ini n)) rest rest x y z d f is refl refl
+    (c.in_ok-say_entry-in-NoSystem.ensures.tells tells)
+    (c.end_start-in-NoSystem.ensures.plays m (c.in_ok-say_entry-in-NoSystem.ensures.host.keeps.tells ∙ tells)
+    (record { machine = counts.machine; starts = counts.starts }) left (record { falls = refl; none = refl }))

@@ -16,18 +16,24 @@ use Rattle.boot_run.proofs.booting.load_and_take.Goals as goal
 
 pub take_set-requires-clause-up : goal.take_set-requires-clause-up
 take_set-requires-clause-up g c =
-    let P : Option Session → Type 0 = λ o. LoadsUp c.args.runner.now c.load.new.runner (g.B.Disk.state c.load.new.bench) o in
+    let P : Option Session → Type 0 =
+    λ o. LoadsUp c.args.runner.now c.load.new.runner (g.B.Disk.state c.load.new.bench) o in
     (subst P c.in-Some.is c.in_ok-left.ensures.sound).0
 
 pub take_set-requires-clause-off : goal.take_set-requires-clause-off
-take_set-requires-clause-off g c = load_off c.args.runner.now c.load.new.runner (g.B.Disk.state c.load.new.bench) c.in_ok-left.left c.requires.off c.in_ok-left.ensures.sound
+take_set-requires-clause-off g c =
+    load_off c.args.runner.now c.load.new.runner (g.B.Disk.state c.load.new.bench)
+    c.in_ok-left.left c.requires.off c.in_ok-left.ensures.sound
 
 pub returns-in_err-left-clause-plays : goal.returns-in_err-left-clause-plays
 returns-in_err-left-clause-plays g c = λ m tells counts left.
     let Left = TurnLeft c.load.new.runner (g.B.Disk.state c.load.new.bench) in
-    plays-as c.from_residual.result Left Left (load m (take_set c.args.on_good)) (wake m.disk (woken c.args.on_good m)) (told_in (g.H.Host.state c.args.host.now) c.args.runner.now)
-    (told_in (g.H.Host.state c.load.new.host) c.load.new.runner) (g.B.Disk.state c.args.bench.now) (g.B.Disk.state c.load.new.bench) (load_same c.args.on_good m) (λ v rest h. h)
-    (or-breaks Left c.from_residual.result c.from_residual.ensures.0 (load m (take_set c.args.on_good)) _ (told_in (g.H.Host.state c.load.new.host) c.load.new.runner) _ _
+    plays-as c.from_residual.result Left Left (load m (take_set c.args.on_good)) (wake m.disk (woken c.args.on_good m))
+    (told_in (g.H.Host.state c.args.host.now) c.args.runner.now)
+    (told_in (g.H.Host.state c.load.new.host) c.load.new.runner) (g.B.Disk.state c.args.bench.now)
+    (g.B.Disk.state c.load.new.bench) (load_same c.args.on_good m) (λ v rest h. h)
+    (or-breaks Left c.from_residual.result c.from_residual.ensures.0 (load m (take_set c.args.on_good)) _
+    (told_in (g.H.Host.state c.load.new.host) c.load.new.runner) _ _
     (c.in_err-left.ensures.plays m (take_set c.args.on_good) tells counts left (stays_take c.args.on_good)))
 
 pub returns-in-Some-clause-plays : goal.returns-in-Some-clause-plays
@@ -42,9 +48,11 @@ returns-in-Some-clause-plays g c = λ m tells counts left.
     let p = c.in_ok-left.ensures.plays m (take_set c.args.on_good) tells counts left (stays_take c.args.on_good) in
     let P : Option Session → Type 0 = λ o. LoadLeft m (take_set c.args.on_good) c.load.new.runner e o p.0 in
     let h = subst P c.in-Some.is p.1.1 in
-    plays-as c.take_set.result Left Left (load m (take_set c.args.on_good)) (wake m.disk (woken c.args.on_good m)) x z d f (load_same c.args.on_good m) (λ v rest k. k)
+    plays-as c.take_set.result Left Left (load m (take_set c.args.on_good)) (wake m.disk (woken c.args.on_good m))
+    x z d f (load_same c.args.on_good m) (λ v rest k. k)
     (plays-then c.take_set.result Left (load m (take_set c.args.on_good)) p.0 x y z d e f p.1.0
-    (plays-as c.take_set.result Left Left (take_set c.args.on_good (loaded_state m h.0)) p.0 y z e f (sym h.1.0) (λ v rest k. k)
+    (plays-as c.take_set.result Left Left (take_set c.args.on_good (loaded_state m h.0)) p.0 y z e f (sym h.1.0)
+    (λ v rest k. k)
     (c.take_set.ensures.plays (loaded_state m h.0) (c.in_ok-left.ensures.host.keeps.tells ∙ tells) h.1.1.0 h.1.1.1)))
 
 pub returns-in-None-clause-plays : goal.returns-in-None-clause-plays
@@ -55,5 +63,10 @@ returns-in-None-clause-plays g c = λ m tells counts left.
     let y = told_in (g.H.Host.state c.load.new.host) c.load.new.runner in
     let p = c.in_ok-left.ensures.plays m (take_set c.args.on_good) tells counts left (stays_take c.args.on_good) in
     let P : Option Session → Type 0 = λ o. LoadLeft m (take_set c.args.on_good) c.load.new.runner e o p.0 in
-    let Q : book.Act → Type 0 = λ a. Goes (play a) (play p.0) x y d e in
-    (p.0, (subst Q (load_same c.args.on_good m) p.1.0, load_over m (take_set c.args.on_good) c.load.new.runner e p.0 (subst P c.in-None.is p.1.1)))
+    let Q : book.Act → Type 0 = λ a. Goes (play a) (play p.0) x y d e in (
+      p.0,
+      (
+        subst Q (load_same c.args.on_good m) p.1.0,
+        load_over m (take_set c.args.on_good) c.load.new.runner e p.0 (subst P c.in-None.is p.1.1),
+      ),
+    )

@@ -11,5 +11,6 @@ returns-clause-tells g c = λ tells.
     let at = ap (λ (o : Option OsEntry). option_map_or (λ (e : OsEntry). e.path) o []) c.in-Some.ensures in
     let path = c.in-Ok.ensures ∙ c.as_slice.ensures ∙ at in
     let P : Line → Type 0 = λ l.
-    TellsOr l (told_by (g.H.Host.state c.args.host.now) c.args.summary.now) (told_by (g.H.Host.state c.say.new.host) c.say.new.summary) c.say.result in
+    TellsOr l (told_by (g.H.Host.state c.args.host.now) c.args.summary.now)
+    (told_by (g.H.Host.state c.say.new.host) c.say.new.summary) c.say.result in
     subst P (ap (EntryLine c.args.number) path) (c.say.ensures.tells tells)

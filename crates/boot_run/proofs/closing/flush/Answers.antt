@@ -18,8 +18,10 @@ returns-then-changed-clause-plays g c = λ m tells counts live.
     let d = g.B.Disk.state c.args.bench.now in
     let e = g.B.Disk.state c.commit.new.bench in
     let changed : m.changed ≡ true = live.changed ∙ sym c.changed.ensures ∙ c.if-changed.true in
-    plays-as c.commit.result (CommitLeft m c.args.hive.tree done c.commit.new.runner e) (TurnLeft c.commit.new.runner e) (commit book.FlushCommit c.args.hive.tree m done) (flush_act m) x y d e
-    (flush_changed m c.args.hive.tree live.live changed) (commit_turn m c.args.hive.tree c.commit.new.runner e) (c.commit.ensures.plays m done tells counts (stored m c.args.hive d live) stays_done)
+    plays-as c.commit.result (CommitLeft m c.args.hive.tree done c.commit.new.runner e) (TurnLeft c.commit.new.runner e)
+    (commit book.FlushCommit c.args.hive.tree m done) (flush_act m) x y d e
+    (flush_changed m c.args.hive.tree live.live changed) (commit_turn m c.args.hive.tree c.commit.new.runner e)
+    (c.commit.ensures.plays m done tells counts (stored m c.args.hive d live) stays_done)
 
 pub returns-in_err-say-clause-plays : goal.returns-in_err-say-clause-plays
 returns-in_err-say-clause-plays g c = λ m tells counts live.
@@ -31,7 +33,8 @@ returns-in_err-say-clause-plays g c = λ m tells counts live.
     plays-as c.from_residual.result Left Left (say book.FlushNothingLine (done m)) (flush_act m) x y d d
     (flush_same m changed) (λ v rest h. h)
     (or-breaks Left c.from_residual.result c.from_residual.ensures.0 (say book.FlushNothingLine (done m)) x y d d
-    (breaks-line book.FlushNothingLine (done m) x y.said d d (still d) refl (c.in_err-say.ensures.tells tells) (live_left m c.args.hive d c.requires.sound.0 live)))
+    (breaks-line book.FlushNothingLine (done m) x y.said d d (still d) refl (c.in_err-say.ensures.tells tells)
+    (live_left m c.args.hive d c.requires.sound.0 live)))
 
 pub returns-clause-plays : goal.returns-clause-plays
 returns-clause-plays g c = λ m tells counts live.
@@ -39,4 +42,5 @@ returns-clause-plays g c = λ m tells counts live.
     let y = told_by (g.H.Host.state c.say.new.host) c.say.new.summary in
     let d = g.B.Disk.state c.args.bench.now in
     let changed : m.changed ≡ false = live.changed ∙ sym c.changed.ensures ∙ c.if-changed.false in
-    flush_none m (record c.args.runner.now { summary = c.say.new.summary }) c.args.hive d x y changed (record { machine = counts.machine; starts = counts.starts }) live (c.in_ok-say.ensures.tells tells)
+    flush_none m (record c.args.runner.now { summary = c.say.new.summary }) c.args.hive d x y changed
+    (record { machine = counts.machine; starts = counts.starts }) live (c.in_ok-say.ensures.tells tells)

@@ -23,9 +23,17 @@ returns-in_err-say-in-Ok-clause-plays g c = λ m next tells counts live stays.
     let x = told_in (g.H.Host.state c.args.host.now) c.args.runner.now in
     let y = told_by (g.H.Host.state c.say.new.host) c.say.new.summary in
     let told : g.B.Disk.tells ≡ true = g.met.B.Bench.told in
-    let all : Committed c.args.hive d e = record { crash = c.in-Ok.ensures.crash told; history = c.in-Ok.ensures.goes.goes_on.history; counts = c.in-Ok.ensures.goes.goes_on.counts } in
-    or-breaks _ c.from_residual.result c.from_residual.ensures.0 (commit (commit_of c.args.what) c.args.hive.tree m next) x y d e
-    (commit_breaks m next (commit_of c.args.what) c.args.hive d e live all c.in-Ok.hive c.in-Ok.sequence c.in-Ok.ensures.answered c.in-Ok.ensures.number (c.in-Ok.ensures.still told) (c.in-Ok.ensures.loads told)
+    let all : Committed c.args.hive d e =
+    record {
+      crash = c.in-Ok.ensures.crash told;
+      history = c.in-Ok.ensures.goes.goes_on.history;
+      counts = c.in-Ok.ensures.goes.goes_on.counts;
+    } in
+    or-breaks _ c.from_residual.result c.from_residual.ensures.0
+    (commit (commit_of c.args.what) c.args.hive.tree m next) x y d e
+    (commit_breaks m next (commit_of c.args.what)
+    c.args.hive d e live all c.in-Ok.hive c.in-Ok.sequence c.in-Ok.ensures.answered c.in-Ok.ensures.number
+    (c.in-Ok.ensures.still told) (c.in-Ok.ensures.loads told)
     stays x y.said (c.in_err-say-in-Ok.ensures.tells tells))
 
 pub returns-in_ok-say-in-Ok-clause-plays : goal.returns-in_ok-say-in-Ok-clause-plays
@@ -35,16 +43,25 @@ returns-in_ok-say-in-Ok-clause-plays g c = λ m next tells counts live stays.
     let x = told_in (g.H.Host.state c.args.host.now) c.args.runner.now in
     let y = told_by (g.H.Host.state c.say.new.host) c.say.new.summary in
     let told : g.B.Disk.tells ≡ true = g.met.B.Bench.told in
-    let all : Committed c.args.hive d e = record { crash = c.in-Ok.ensures.crash told; history = c.in-Ok.ensures.goes.goes_on.history; counts = c.in-Ok.ensures.goes.goes_on.counts } in (
+    let all : Committed c.args.hive d e =
+    record {
+      crash = c.in-Ok.ensures.crash told;
+      history = c.in-Ok.ensures.goes.goes_on.history;
+      counts = c.in-Ok.ensures.goes.goes_on.counts;
+    } in (
       next (committed_state m c.args.hive.tree),
       (
-        commit_goes m next (commit_of c.args.what) c.args.hive d e live all c.in-Ok.hive c.in-Ok.sequence c.in-Ok.ensures.answered c.in-Ok.ensures.number (c.in-Ok.ensures.still told) (c.in-Ok.ensures.loads told)
+        commit_goes m next (commit_of c.args.what)
+            c.args.hive d e live all c.in-Ok.hive c.in-Ok.sequence c.in-Ok.ensures.answered c.in-Ok.ensures.number
+            (c.in-Ok.ensures.still told) (c.in-Ok.ensures.loads told)
             x y (c.in_ok-say-in-Ok.ensures.tells tells),
         (
           refl,
           (
             record { machine = counts.machine; starts = counts.starts },
-            commit_live m next (commit_of c.args.what) c.args.hive d e live all c.in-Ok.hive c.in-Ok.sequence c.in-Ok.ensures.answered c.in-Ok.ensures.number (c.in-Ok.ensures.still told) (c.in-Ok.ensures.loads told),
+            commit_live m next (commit_of c.args.what)
+                c.args.hive d e live all c.in-Ok.hive c.in-Ok.sequence c.in-Ok.ensures.answered c.in-Ok.ensures.number
+                (c.in-Ok.ensures.still told) (c.in-Ok.ensures.loads told),
           ),
         ),
       ),
@@ -55,8 +72,14 @@ returns-in-Err-Memory-clause-plays g c = λ m next tells counts live stays.
     let d = g.B.Disk.state c.args.bench.now in
     let e = g.B.Disk.state c.commit.new.disk in
     let told : g.B.Disk.tells ≡ true = g.met.B.Bench.told in
-    let all : Committed c.args.hive d e = record { crash = c.commit.ensures.crash told; history = c.commit.ensures.goes.goes_on.history; counts = c.commit.ensures.goes.goes_on.counts } in
-    commit_memory m next (commit_of c.args.what) c.args.hive d e live all (told_in (g.H.Host.state c.args.host.now) c.args.runner.now)
+    let all : Committed c.args.hive d e =
+    record {
+      crash = c.commit.ensures.crash told;
+      history = c.commit.ensures.goes.goes_on.history;
+      counts = c.commit.ensures.goes.goes_on.counts;
+    } in
+    commit_memory m next (commit_of c.args.what) c.args.hive d e live all
+    (told_in (g.H.Host.state c.args.host.now) c.args.runner.now)
 
 pub returns-in_err-end_with-in-Err-PowerLost-clause-plays : goal.returns-in_err-end_with-in-Err-PowerLost-clause-plays
 returns-in_err-end_with-in-Err-PowerLost-clause-plays g c = λ m next tells counts live stays.
@@ -64,13 +87,22 @@ returns-in_err-end_with-in-Err-PowerLost-clause-plays g c = λ m next tells coun
     let e = g.B.Disk.state c.commit.new.disk in
     let f = g.B.Disk.state c.end_with.new.bench in
     let told : g.B.Disk.tells ≡ true = g.met.B.Bench.told in
-    let all : Committed c.args.hive d e = record { crash = c.commit.ensures.crash told; history = c.commit.ensures.goes.goes_on.history; counts = c.commit.ensures.goes.goes_on.counts } in
+    let all : Committed c.args.hive d e =
+    record {
+      crash = c.commit.ensures.crash told;
+      history = c.commit.ensures.goes.goes_on.history;
+      counts = c.commit.ensures.goes.goes_on.counts;
+    } in
     let x = told_in (g.H.Host.state c.args.host.now) c.args.runner.now in
     let y = told_in (g.H.Host.state c.end_with.new.host) c.end_with.new.runner in
     let stopped : IsErrOf c.commit.result stops.PowerLost = search rules in
     let cause = cut-cause d e c.requires.up.marked (c.commit.ensures.goes.goes_on.cut stopped) in
-    or-breaks _ c.from_residual-in_err-end_with-in-Err-PowerLost.result c.from_residual-in_err-end_with-in-Err-PowerLost.ensures.0 (commit (commit_of c.args.what) c.args.hive.tree m next) x y d f
-    (stop_breaks m next (commit_of c.args.what) c.args.hive d e live all book.Cut PowerCut refl refl f c.end_with.ensures.off cause x y.said (c.in_err-end_with-in-Err-PowerLost.ensures.tells tells))
+    or-breaks _ c.from_residual-in_err-end_with-in-Err-PowerLost.result
+    c.from_residual-in_err-end_with-in-Err-PowerLost.ensures.0
+    (commit (commit_of c.args.what) c.args.hive.tree m next) x y d f
+    (stop_breaks m next (commit_of c.args.what)
+    c.args.hive d e live all book.Cut PowerCut refl refl f c.end_with.ensures.off cause x y.said
+    (c.in_err-end_with-in-Err-PowerLost.ensures.tells tells))
 
 pub returns-in_ok-end_with-in-Err-PowerLost-clause-plays : goal.returns-in_ok-end_with-in-Err-PowerLost-clause-plays
 returns-in_ok-end_with-in-Err-PowerLost-clause-plays g c = λ m next tells counts live stays.
@@ -78,19 +110,29 @@ returns-in_ok-end_with-in-Err-PowerLost-clause-plays g c = λ m next tells count
     let e = g.B.Disk.state c.commit.new.disk in
     let f = g.B.Disk.state c.end_with.new.bench in
     let told : g.B.Disk.tells ≡ true = g.met.B.Bench.told in
-    let all : Committed c.args.hive d e = record { crash = c.commit.ensures.crash told; history = c.commit.ensures.goes.goes_on.history; counts = c.commit.ensures.goes.goes_on.counts } in
+    let all : Committed c.args.hive d e =
+    record {
+      crash = c.commit.ensures.crash told;
+      history = c.commit.ensures.goes.goes_on.history;
+      counts = c.commit.ensures.goes.goes_on.counts;
+    } in
     let x = told_in (g.H.Host.state c.args.host.now) c.args.runner.now in
     let y = told_in (g.H.Host.state c.end_with.new.host) c.end_with.new.runner in
     let stopped : IsErrOf c.commit.result stops.PowerLost = search rules in
     let cause = cut-cause d e c.requires.up.marked (c.commit.ensures.goes.goes_on.cut stopped) in (
       done (start_over false (opened_state m c.args.hive.tree)),
       (
-        stop_goes m next (commit_of c.args.what) c.args.hive d e live all book.Cut PowerCut refl refl f c.end_with.ensures.off cause x y (c.in_ok-end_with-in-Err-PowerLost.ensures.tells tells),
+        stop_goes m next (commit_of c.args.what)
+            c.args.hive d e live all book.Cut PowerCut refl refl f c.end_with.ensures.off cause x y
+            (c.in_ok-end_with-in-Err-PowerLost.ensures.tells tells),
         (
           refl,
           (
-            counts_over m (opened_state m c.args.hive.tree) c.args.runner.now c.end_with.new.runner counts refl refl c.end_with.ensures.machine c.end_with.ensures.starts,
-            stop_open m next (commit_of c.args.what) c.args.hive d e live all book.Cut PowerCut refl refl f c.end_with.ensures.off cause,
+            counts_over m (opened_state m c.args.hive.tree)
+                c.args.runner.now c.end_with.new.runner counts refl refl c.end_with.ensures.machine
+                c.end_with.ensures.starts,
+            stop_open m next (commit_of c.args.what)
+                c.args.hive d e live all book.Cut PowerCut refl refl f c.end_with.ensures.off cause,
           ),
         ),
       ),
@@ -102,7 +144,12 @@ returns-in_ok-end_with-in-Err-PowerLost-clause-sound g c =
     let e = g.B.Disk.state c.commit.new.disk in
     let f = g.B.Disk.state c.end_with.new.bench in
     let told : g.B.Disk.tells ≡ true = g.met.B.Bench.told in
-    let all : Committed c.args.hive d e = record { crash = c.commit.ensures.crash told; history = c.commit.ensures.goes.goes_on.history; counts = c.commit.ensures.goes.goes_on.counts } in
+    let all : Committed c.args.hive d e =
+    record {
+      crash = c.commit.ensures.crash told;
+      history = c.commit.ensures.goes.goes_on.history;
+      counts = c.commit.ensures.goes.goes_on.counts;
+    } in
     (commit_down c.args.hive d e f c.requires.up.loads all c.end_with.ensures.off, search rules)
 
 pub returns-in_err-end_with-in-Err-Device-clause-plays : goal.returns-in_err-end_with-in-Err-Device-clause-plays
@@ -111,13 +158,22 @@ returns-in_err-end_with-in-Err-Device-clause-plays g c = λ m next tells counts 
     let e = g.B.Disk.state c.commit.new.disk in
     let f = g.B.Disk.state c.end_with-in-Err-Device.new.bench in
     let told : g.B.Disk.tells ≡ true = g.met.B.Bench.told in
-    let all : Committed c.args.hive d e = record { crash = c.commit.ensures.crash told; history = c.commit.ensures.goes.goes_on.history; counts = c.commit.ensures.goes.goes_on.counts } in
+    let all : Committed c.args.hive d e =
+    record {
+      crash = c.commit.ensures.crash told;
+      history = c.commit.ensures.goes.goes_on.history;
+      counts = c.commit.ensures.goes.goes_on.counts;
+    } in
     let x = told_in (g.H.Host.state c.args.host.now) c.args.runner.now in
     let y = told_in (g.H.Host.state c.end_with-in-Err-Device.new.host) c.end_with-in-Err-Device.new.runner in
     let stopped : IsErrOf c.commit.result stops.Device = search rules in
     let cause = fault-cause d e c.requires.up.marked (c.commit.ensures.goes.goes_on.fault stopped) in
-    or-breaks _ c.from_residual-in_err-end_with-in-Err-Device.result c.from_residual-in_err-end_with-in-Err-Device.ensures.0 (commit (commit_of c.args.what) c.args.hive.tree m next) x y d f
-    (stop_breaks m next (commit_of c.args.what) c.args.hive d e live all book.Device DeviceFault refl refl f c.end_with-in-Err-Device.ensures.off cause x y.said (c.in_err-end_with-in-Err-Device.ensures.tells tells))
+    or-breaks _ c.from_residual-in_err-end_with-in-Err-Device.result
+    c.from_residual-in_err-end_with-in-Err-Device.ensures.0 (commit (commit_of c.args.what) c.args.hive.tree m next)
+    x y d f
+    (stop_breaks m next (commit_of c.args.what)
+    c.args.hive d e live all book.Device DeviceFault refl refl f c.end_with-in-Err-Device.ensures.off cause x y.said
+    (c.in_err-end_with-in-Err-Device.ensures.tells tells))
 
 pub returns-in_ok-end_with-in-Err-Device-clause-plays : goal.returns-in_ok-end_with-in-Err-Device-clause-plays
 returns-in_ok-end_with-in-Err-Device-clause-plays g c = λ m next tells counts live stays.
@@ -125,19 +181,29 @@ returns-in_ok-end_with-in-Err-Device-clause-plays g c = λ m next tells counts l
     let e = g.B.Disk.state c.commit.new.disk in
     let f = g.B.Disk.state c.end_with-in-Err-Device.new.bench in
     let told : g.B.Disk.tells ≡ true = g.met.B.Bench.told in
-    let all : Committed c.args.hive d e = record { crash = c.commit.ensures.crash told; history = c.commit.ensures.goes.goes_on.history; counts = c.commit.ensures.goes.goes_on.counts } in
+    let all : Committed c.args.hive d e =
+    record {
+      crash = c.commit.ensures.crash told;
+      history = c.commit.ensures.goes.goes_on.history;
+      counts = c.commit.ensures.goes.goes_on.counts;
+    } in
     let x = told_in (g.H.Host.state c.args.host.now) c.args.runner.now in
     let y = told_in (g.H.Host.state c.end_with-in-Err-Device.new.host) c.end_with-in-Err-Device.new.runner in
     let stopped : IsErrOf c.commit.result stops.Device = search rules in
     let cause = fault-cause d e c.requires.up.marked (c.commit.ensures.goes.goes_on.fault stopped) in (
       done (start_over false (opened_state m c.args.hive.tree)),
       (
-        stop_goes m next (commit_of c.args.what) c.args.hive d e live all book.Device DeviceFault refl refl f c.end_with-in-Err-Device.ensures.off cause x y (c.in_ok-end_with-in-Err-Device.ensures.tells tells),
+        stop_goes m next (commit_of c.args.what)
+            c.args.hive d e live all book.Device DeviceFault refl refl f c.end_with-in-Err-Device.ensures.off cause x y
+            (c.in_ok-end_with-in-Err-Device.ensures.tells tells),
         (
           refl,
           (
-            counts_over m (opened_state m c.args.hive.tree) c.args.runner.now c.end_with-in-Err-Device.new.runner counts refl refl c.end_with-in-Err-Device.ensures.machine c.end_with-in-Err-Device.ensures.starts,
-            stop_open m next (commit_of c.args.what) c.args.hive d e live all book.Device DeviceFault refl refl f c.end_with-in-Err-Device.ensures.off cause,
+            counts_over m (opened_state m c.args.hive.tree)
+                c.args.runner.now c.end_with-in-Err-Device.new.runner counts refl refl
+                c.end_with-in-Err-Device.ensures.machine c.end_with-in-Err-Device.ensures.starts,
+            stop_open m next (commit_of c.args.what)
+                c.args.hive d e live all book.Device DeviceFault refl refl f c.end_with-in-Err-Device.ensures.off cause,
           ),
         ),
       ),
@@ -149,7 +215,12 @@ returns-in_ok-end_with-in-Err-Device-clause-sound g c =
     let e = g.B.Disk.state c.commit.new.disk in
     let f = g.B.Disk.state c.end_with-in-Err-Device.new.bench in
     let told : g.B.Disk.tells ≡ true = g.met.B.Bench.told in
-    let all : Committed c.args.hive d e = record { crash = c.commit.ensures.crash told; history = c.commit.ensures.goes.goes_on.history; counts = c.commit.ensures.goes.goes_on.counts } in
+    let all : Committed c.args.hive d e =
+    record {
+      crash = c.commit.ensures.crash told;
+      history = c.commit.ensures.goes.goes_on.history;
+      counts = c.commit.ensures.goes.goes_on.counts;
+    } in
     (commit_down c.args.hive d e f c.requires.up.loads all c.end_with-in-Err-Device.ensures.off, search rules)
 
 pub returns-in_ok-say-in-Ok-clause-sound : goal.returns-in_ok-say-in-Ok-clause-sound
@@ -161,9 +232,11 @@ returns-in_ok-say-in-Ok-clause-sound g c =
       record {
         on = search rules;
         still = c.in-Ok.ensures.still told;
-        carries = (let P : Session → Type 0 = λ t. Carries e.held t.base t.bins in subst P (sym is) (c.in-Ok.ensures.carries told));
+        carries = (let P : Session → Type 0 = λ t. Carries e.held t.base t.bins in
+            subst P (sym is) (c.in-Ok.ensures.carries told));
         loads = (record { state = store.committed_state c.args.hive; dirty = false }, c.in-Ok.ensures.loads told);
-        marked = marked-by d e c.in-Ok.ensures.goes.goes_on.history c.in-Ok.ensures.goes.goes_on.counts c.requires.up.marked;
+        marked = marked-by d e c.in-Ok.ensures.goes.goes_on.history c.in-Ok.ensures.goes.goes_on.counts
+            c.requires.up.marked;
       },
       (ap (λ (t : Session). t.tree) is, (ap (λ (t : Session). t.changed) is, record { machine = refl; starts = refl })),
     )

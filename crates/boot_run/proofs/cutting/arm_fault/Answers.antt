@@ -4,7 +4,11 @@ use Rattle.boot_run.proofs.CutLemmas.{armed_goes, armed_breaks}
 use Rattle.boot_run.proofs.cutting.arm_fault.Goals as goal
 
 pub returns-in-Ok-clause-plays : goal.returns-in-Ok-clause-plays
-returns-in-Ok-clause-plays g c = λ m told left. armed_goes (ArmedFault (call_of c.args.call) c.args.n) m told (g.B.Disk.state c.args.bench.now) (g.B.Disk.state c.arm_fault.new.self) c.in-Ok.ensures.armed
+returns-in-Ok-clause-plays g c =
+    λ m told left. armed_goes (ArmedFault (call_of c.args.call) c.args.n) m told (g.B.Disk.state c.args.bench.now)
+    (g.B.Disk.state c.arm_fault.new.self) c.in-Ok.ensures.armed
 
 pub returns-in-Err-clause-plays : goal.returns-in-Err-clause-plays
-returns-in-Err-clause-plays g c = λ m told left. armed_breaks (ArmedFault (call_of c.args.call) c.args.n) m told (g.B.Disk.state c.args.bench.now) (g.B.Disk.state c.arm_fault.new.self) c.in-Err.ensures.before left
+returns-in-Err-clause-plays g c =
+    λ m told left. armed_breaks (ArmedFault (call_of c.args.call) c.args.n) m told (g.B.Disk.state c.args.bench.now)
+    (g.B.Disk.state c.arm_fault.new.self) c.in-Err.ensures.before left

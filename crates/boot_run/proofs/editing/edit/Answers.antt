@@ -27,7 +27,8 @@ pub returns-in_default-clause-plays : goal.returns-in_default-clause-plays
 returns-in_default-clause-plays g c = λ d m e number tells counts sound live is same.
     let x = told_in (g.H.Host.state c.args.host.now) c.args.runner.now in
     let edit = edited m.version m.live (book.step_of number e ∷ []) in
-    breaks-silent (edit_done (Edits e) m edit) x d d (still d) (λ image crash. edit_may e m image edit (live_left m c.args.hive d sound.0 live image crash))
+    breaks-silent (edit_done (Edits e) m edit) x d d (still d)
+    (λ image crash. edit_may e m image edit (live_left m c.args.hive d sound.0 live image crash))
 
 pub returns-in_err-say_edit-clause-plays : goal.returns-in_err-say_edit-clause-plays
 returns-in_err-say_edit-clause-plays g c = λ d m e number tells counts sound live is same.
@@ -41,9 +42,12 @@ returns-in_err-say_edit-clause-plays g c = λ d m e number tells counts sound li
     let P : List Step → Type 0 = λ ss. Makes h.tree k.tree r (edited (version_of h.base.minor) h.tree ss) in
     let stopped : Result (Unit {0}) RunStop = Err c.in_err-say_edit.field-0.0 in
     let Q : Event → Type 0 = λ v. TellsLine (edit_line v r) x y stopped in
-    or-breaks _ c.from_residual.result c.from_residual.ensures.0 (edit_done (Edits e) m (edited m.version m.live (step ∷ []))) x y d d
-    (edit_plays stopped r h k m e step c.args.runner.now c.say_edit.new.runner x y d c.apply-done.ensures.base (subst P steps c.apply-done.ensures.made)
-    c.apply-done.ensures.refused c.apply-done.ensures.changed c.say_edit.ensures.machine c.say_edit.ensures.starts sound.0 counts live (subst Q is (c.in_err-say_edit.ensures.tells tells)))
+    or-breaks _ c.from_residual.result c.from_residual.ensures.0
+    (edit_done (Edits e) m (edited m.version m.live (step ∷ []))) x y d d
+    (edit_plays stopped r h k m e step c.args.runner.now c.say_edit.new.runner x y d c.apply-done.ensures.base
+    (subst P steps c.apply-done.ensures.made)
+    c.apply-done.ensures.refused c.apply-done.ensures.changed c.say_edit.ensures.machine c.say_edit.ensures.starts
+    sound.0 counts live (subst Q is (c.in_err-say_edit.ensures.tells tells)))
 
 pub returns-clause-sound : goal.returns-clause-sound
 returns-clause-sound g c = λ d e number sound on same free.
@@ -53,7 +57,8 @@ returns-clause-sound g c = λ d e number sound on same free.
     let step = book.step_of number e in
     let steps = ap (map step_of) c.in-Ok.ensures ∙ ap (λ (s : Step). s ∷ []) same in
     let P : List Step → Type 0 = λ ss. Makes h.tree k.tree r (edited (version_of h.base.minor) h.tree ss) in
-    edit_sound r h k c.args.runner.now c.say_edit.new.runner d step number e c.say_edit.ensures.machine c.apply-done.ensures.base c.apply-done.ensures.bins
+    edit_sound r h k c.args.runner.now c.say_edit.new.runner d step number e c.say_edit.ensures.machine
+    c.apply-done.ensures.base c.apply-done.ensures.bins
     (subst P steps c.apply-done.ensures.made) c.apply-done.ensures.refused sound on refl free
 
 pub returns-clause-plays : goal.returns-clause-plays
@@ -68,5 +73,7 @@ returns-clause-plays g c = λ d m e number tells counts sound live is same.
     let P : List Step → Type 0 = λ ss. Makes h.tree k.tree r (edited (version_of h.base.minor) h.tree ss) in
     let said : Result (Unit {0}) RunStop = Ok tt in
     let Q : Event → Type 0 = λ v. TellsLine (edit_line v r) x y said in
-    edit_plays said r h k m e step c.args.runner.now c.say_edit.new.runner x y d c.apply-done.ensures.base (subst P steps c.apply-done.ensures.made)
-    c.apply-done.ensures.refused c.apply-done.ensures.changed c.say_edit.ensures.machine c.say_edit.ensures.starts sound.0 counts live (subst Q is (c.in_ok-say_edit.ensures.tells tells))
+    edit_plays said r h k m e step c.args.runner.now c.say_edit.new.runner x y d c.apply-done.ensures.base
+    (subst P steps c.apply-done.ensures.made)
+    c.apply-done.ensures.refused c.apply-done.ensures.changed c.say_edit.ensures.machine c.say_edit.ensures.starts
+    sound.0 counts live (subst Q is (c.in_ok-say_edit.ensures.tells tells))

@@ -31,7 +31,8 @@ unreachable-requires g c =
     let P : LoadStop → Type 0 = λ stop. StopsFrom d1.held stop in
     let any = c.requires.down.loads w.0 w.1 in
     let Q : Image → Type 0 = λ i. Loads i any.0.state any.0.dirty in
-    no_fault d1.held any.0.state any.0.dirty c.in-Err-Fault.field-0-0 (subst Q (sym held) any.1) (subst P c.in-Err-Fault.field-0-is (c.in-Err-Fault.ensures.exact told))
+    no_fault d1.held any.0.state any.0.dirty c.in-Err-Fault.field-0-0 (subst Q (sym held) any.1)
+    (subst P c.in-Err-Fault.field-0-is (c.in-Err-Fault.ensures.exact told))
 
 pub returns-in_default-clause-plays : goal.returns-in_default-clause-plays
 returns-in_default-clause-plays g c = λ m next tells counts left stays.
@@ -40,7 +41,8 @@ returns-in_default-clause-plays g c = λ m next tells counts left stays.
     let same : e ≡ d = c.in_default.ensures.before in
     let P : DiskState → Type 0 = λ t. Still d t in
     let Q : DiskState → Type 0 = λ t. EachCrash t (MayLoad m.disk) in
-    breaks-silent (load m next) (told_in (g.H.Host.state c.args.host.now) c.args.runner.now) d e (subst P (sym same) (still d)) (subst Q (sym same) left)
+    breaks-silent (load m next) (told_in (g.H.Host.state c.args.host.now) c.args.runner.now) d e
+    (subst P (sym same) (still d)) (subst Q (sym same) left)
 
 pub returns-in_ok-say-in-Ok-load-clause-plays : goal.returns-in_ok-say-in-Ok-load-clause-plays
 returns-in_ok-say-in-Ok-load-clause-plays g c = λ m next tells counts left stays.
@@ -52,18 +54,21 @@ returns-in_ok-say-in-Ok-load-clause-plays g c = λ m next tells counts left stay
     let held : d1.held ≡ w.0 = ap (λ (t : DiskState). t.held) w.2 in
     let all : Loaded w.0 d d1 e = record {
       woke = w.2;
-      crash = λ s dirty l. let P : Image → Type 0 = λ i. Loads i s dirty in c.load.ensures.crash told s dirty (subst P (sym held) l);
+      crash = λ s dirty l. let P : Image → Type 0 = λ i. Loads i s dirty in
+          c.load.ensures.crash told s dirty (subst P (sym held) l);
       history = c.load.ensures.goes.history;
       counts = c.load.ensures.goes.counts;
     } in
     let may : MayLoad m.disk w.0 = left w.0 w.1 in
     let x = told_in (g.H.Host.state c.args.host.now) c.args.runner.now in
     let exact : Loads w.0 (store.loaded_state c.in-Ok-load.hive) c.in-Ok-load.recovered =
-    (let P : Image → Type 0 = λ i. Loads i (store.loaded_state c.in-Ok-load.hive) c.in-Ok-load.recovered in subst P held (c.in-Ok-load.ensures.exact told)) in
+    (let P : Image → Type 0 = λ i. Loads i (store.loaded_state c.in-Ok-load.hive) c.in-Ok-load.recovered in
+    subst P held (c.in-Ok-load.ensures.exact told)) in
     let y = told_by (g.H.Host.state c.say.new.host) c.say.new.summary in (
       next (loaded_state m may.woken),
       (
-        load_goes m next w.0 d d1 e may all c.in-Ok-load.hive c.in-Ok-load.recovered exact c.in-Ok-load.ensures.unchanged (c.in-Ok-load.ensures.still told) (c.in-Ok-load.ensures.loads told)
+        load_goes m next w.0 d d1 e may all c.in-Ok-load.hive c.in-Ok-load.recovered exact
+            c.in-Ok-load.ensures.unchanged (c.in-Ok-load.ensures.still told) (c.in-Ok-load.ensures.loads told)
             c.sequence-sequence.result c.sequence-sequence.ensures x y (c.in_ok-say-in-Ok-load.ensures.tells tells),
         (
           may.woken,
@@ -71,7 +76,8 @@ returns-in_ok-say-in-Ok-load-clause-plays g c = λ m next tells counts left stay
             refl,
             (
               record { machine = counts.machine; starts = counts.starts },
-              load_live m next w.0 d d1 e may all c.in-Ok-load.hive c.in-Ok-load.recovered exact c.in-Ok-load.ensures.unchanged (c.in-Ok-load.ensures.still told) (c.in-Ok-load.ensures.loads told),
+              load_live m next w.0 d d1 e may all c.in-Ok-load.hive c.in-Ok-load.recovered exact
+                  c.in-Ok-load.ensures.unchanged (c.in-Ok-load.ensures.still told) (c.in-Ok-load.ensures.loads told),
             ),
           ),
         ),
@@ -88,17 +94,20 @@ returns-in_err-say-in-Ok-load-clause-plays g c = λ m next tells counts left sta
     let held : d1.held ≡ w.0 = ap (λ (t : DiskState). t.held) w.2 in
     let all : Loaded w.0 d d1 e = record {
       woke = w.2;
-      crash = λ s dirty l. let P : Image → Type 0 = λ i. Loads i s dirty in c.load.ensures.crash told s dirty (subst P (sym held) l);
+      crash = λ s dirty l. let P : Image → Type 0 = λ i. Loads i s dirty in
+          c.load.ensures.crash told s dirty (subst P (sym held) l);
       history = c.load.ensures.goes.history;
       counts = c.load.ensures.goes.counts;
     } in
     let may : MayLoad m.disk w.0 = left w.0 w.1 in
     let x = told_in (g.H.Host.state c.args.host.now) c.args.runner.now in
     let exact : Loads w.0 (store.loaded_state c.in-Ok-load.hive) c.in-Ok-load.recovered =
-    (let P : Image → Type 0 = λ i. Loads i (store.loaded_state c.in-Ok-load.hive) c.in-Ok-load.recovered in subst P held (c.in-Ok-load.ensures.exact told)) in
+    (let P : Image → Type 0 = λ i. Loads i (store.loaded_state c.in-Ok-load.hive) c.in-Ok-load.recovered in
+    subst P held (c.in-Ok-load.ensures.exact told)) in
     let y = told_by (g.H.Host.state c.say.new.host) c.say.new.summary in
     or-breaks _ c.from_residual.result c.from_residual.ensures.0 (load m next) x y d e
-    (load_breaks m next w.0 d d1 e may all c.in-Ok-load.hive c.in-Ok-load.recovered exact c.in-Ok-load.ensures.unchanged (c.in-Ok-load.ensures.still told) (c.in-Ok-load.ensures.loads told)
+    (load_breaks m next w.0 d d1 e may all c.in-Ok-load.hive c.in-Ok-load.recovered exact c.in-Ok-load.ensures.unchanged
+    (c.in-Ok-load.ensures.still told) (c.in-Ok-load.ensures.loads told)
     stays c.sequence-sequence.result c.sequence-sequence.ensures x y.said (c.in_err-say-in-Ok-load.ensures.tells tells))
 
 pub returns-in-Err-Memory-clause-plays : goal.returns-in-Err-Memory-clause-plays
@@ -111,7 +120,8 @@ returns-in-Err-Memory-clause-plays g c = λ m next tells counts left stays.
     let held : d1.held ≡ w.0 = ap (λ (t : DiskState). t.held) w.2 in
     let all : Loaded w.0 d d1 e = record {
       woke = w.2;
-      crash = λ s dirty l. let P : Image → Type 0 = λ i. Loads i s dirty in c.load.ensures.crash told s dirty (subst P (sym held) l);
+      crash = λ s dirty l. let P : Image → Type 0 = λ i. Loads i s dirty in
+          c.load.ensures.crash told s dirty (subst P (sym held) l);
       history = c.load.ensures.goes.history;
       counts = c.load.ensures.goes.counts;
     } in
@@ -129,7 +139,10 @@ returns-in_ok-say-in-Ok-load-clause-sound g c =
         on = search rules;
         still = c.in-Ok-load.ensures.still told;
         carries = c.in-Ok-load.ensures.carries told;
-        loads = (record { state = store.loaded_state c.in-Ok-load.hive; dirty = false }, c.in-Ok-load.ensures.loads told);
+        loads = (
+          record { state = store.loaded_state c.in-Ok-load.hive; dirty = false },
+          c.in-Ok-load.ensures.loads told,
+        );
         marked = marked-by d1 e c.load.ensures.goes.history c.load.ensures.goes.counts (marked-woken w.0 d d1 w.2);
       },
       (c.in-Ok-load.ensures.unchanged, record { machine = refl; starts = refl }),
@@ -145,7 +158,8 @@ returns-in_err-end_with-in-Err-PowerLost-clause-plays g c = λ m next tells coun
     let held : d1.held ≡ w.0 = ap (λ (t : DiskState). t.held) w.2 in
     let all : Loaded w.0 d d1 e = record {
       woke = w.2;
-      crash = λ s dirty l. let P : Image → Type 0 = λ i. Loads i s dirty in c.load.ensures.crash told s dirty (subst P (sym held) l);
+      crash = λ s dirty l. let P : Image → Type 0 = λ i. Loads i s dirty in
+          c.load.ensures.crash told s dirty (subst P (sym held) l);
       history = c.load.ensures.goes.history;
       counts = c.load.ensures.goes.counts;
     } in
@@ -155,8 +169,10 @@ returns-in_err-end_with-in-Err-PowerLost-clause-plays g c = λ m next tells coun
     let f = g.B.Disk.state c.end_with.new.bench in
     let stopped : IsErrOf c.load.result stops.PowerLost = search rules in
     let cause = cut-cause d1 e (marked-woken w.0 d d1 w.2) (c.load.ensures.goes.cut stopped) in
-    or-breaks _ c.from_residual-in_err-end_with-in-Err-PowerLost.result c.from_residual-in_err-end_with-in-Err-PowerLost.ensures.0 (load m next) x y d f
-    (stopped_breaks m next w.0 d d1 e may all book.Cut PowerCut refl refl f c.end_with.ensures.off cause x y.said (c.in_err-end_with-in-Err-PowerLost.ensures.tells tells))
+    or-breaks _ c.from_residual-in_err-end_with-in-Err-PowerLost.result
+    c.from_residual-in_err-end_with-in-Err-PowerLost.ensures.0 (load m next) x y d f
+    (stopped_breaks m next w.0 d d1 e may all book.Cut PowerCut refl refl f c.end_with.ensures.off cause x y.said
+    (c.in_err-end_with-in-Err-PowerLost.ensures.tells tells))
 
 pub returns-in_ok-end_with-in-Err-PowerLost-clause-plays : goal.returns-in_ok-end_with-in-Err-PowerLost-clause-plays
 returns-in_ok-end_with-in-Err-PowerLost-clause-plays g c = λ m next tells counts left stays.
@@ -168,7 +184,8 @@ returns-in_ok-end_with-in-Err-PowerLost-clause-plays g c = λ m next tells count
     let held : d1.held ≡ w.0 = ap (λ (t : DiskState). t.held) w.2 in
     let all : Loaded w.0 d d1 e = record {
       woke = w.2;
-      crash = λ s dirty l. let P : Image → Type 0 = λ i. Loads i s dirty in c.load.ensures.crash told s dirty (subst P (sym held) l);
+      crash = λ s dirty l. let P : Image → Type 0 = λ i. Loads i s dirty in
+          c.load.ensures.crash told s dirty (subst P (sym held) l);
       history = c.load.ensures.goes.history;
       counts = c.load.ensures.goes.counts;
     } in
@@ -180,13 +197,16 @@ returns-in_ok-end_with-in-Err-PowerLost-clause-plays g c = λ m next tells count
     let cause = cut-cause d1 e (marked-woken w.0 d d1 w.2) (c.load.ensures.goes.cut stopped) in (
       done (start_over false (woken_state m may.woken)),
       (
-        stopped_goes m next w.0 d d1 e may all book.Cut PowerCut refl refl f c.end_with.ensures.off cause x y (c.in_ok-end_with-in-Err-PowerLost.ensures.tells tells),
+        stopped_goes m next w.0 d d1 e may all book.Cut PowerCut refl refl f c.end_with.ensures.off cause x y
+            (c.in_ok-end_with-in-Err-PowerLost.ensures.tells tells),
         (
           may.woken,
           (
             refl,
             (
-              counts_over m (woken_state m may.woken) c.args.runner.now c.end_with.new.runner counts refl refl c.end_with.ensures.machine c.end_with.ensures.starts,
+              counts_over m (woken_state m may.woken)
+                  c.args.runner.now c.end_with.new.runner counts refl refl c.end_with.ensures.machine
+                  c.end_with.ensures.starts,
               stopped_may m next w.0 d d1 e may all book.Cut PowerCut refl refl f c.end_with.ensures.off cause,
             ),
           ),
@@ -204,11 +224,15 @@ returns-in_ok-end_with-in-Err-PowerLost-clause-sound g c =
     let held : d1.held ≡ w.0 = ap (λ (t : DiskState). t.held) w.2 in
     let all : Loaded w.0 d d1 e = record {
       woke = w.2;
-      crash = λ s dirty l. let P : Image → Type 0 = λ i. Loads i s dirty in c.load.ensures.crash told s dirty (subst P (sym held) l);
+      crash = λ s dirty l. let P : Image → Type 0 = λ i. Loads i s dirty in
+          c.load.ensures.crash told s dirty (subst P (sym held) l);
       history = c.load.ensures.goes.history;
       counts = c.load.ensures.goes.counts;
-    } in
-    (load_down w.0 d d1 e (g.B.Disk.state c.end_with.new.bench) all (c.requires.down.loads w.0 w.1) c.end_with.ensures.off, search rules)
+    } in (
+      load_down w.0 d d1 e (g.B.Disk.state c.end_with.new.bench) all (c.requires.down.loads w.0 w.1)
+          c.end_with.ensures.off,
+      search rules,
+    )
 
 pub returns-in_err-end_with-in-Err-Device-clause-plays : goal.returns-in_err-end_with-in-Err-Device-clause-plays
 returns-in_err-end_with-in-Err-Device-clause-plays g c = λ m next tells counts left stays.
@@ -220,7 +244,8 @@ returns-in_err-end_with-in-Err-Device-clause-plays g c = λ m next tells counts 
     let held : d1.held ≡ w.0 = ap (λ (t : DiskState). t.held) w.2 in
     let all : Loaded w.0 d d1 e = record {
       woke = w.2;
-      crash = λ s dirty l. let P : Image → Type 0 = λ i. Loads i s dirty in c.load.ensures.crash told s dirty (subst P (sym held) l);
+      crash = λ s dirty l. let P : Image → Type 0 = λ i. Loads i s dirty in
+          c.load.ensures.crash told s dirty (subst P (sym held) l);
       history = c.load.ensures.goes.history;
       counts = c.load.ensures.goes.counts;
     } in
@@ -230,8 +255,10 @@ returns-in_err-end_with-in-Err-Device-clause-plays g c = λ m next tells counts 
     let f = g.B.Disk.state c.end_with-in-Err-Device.new.bench in
     let stopped : IsErrOf c.load.result stops.Device = search rules in
     let cause = fault-cause d1 e (marked-woken w.0 d d1 w.2) (c.load.ensures.goes.fault stopped) in
-    or-breaks _ c.from_residual-in_err-end_with-in-Err-Device.result c.from_residual-in_err-end_with-in-Err-Device.ensures.0 (load m next) x y d f
-    (stopped_breaks m next w.0 d d1 e may all book.Device DeviceFault refl refl f c.end_with-in-Err-Device.ensures.off cause x y.said (c.in_err-end_with-in-Err-Device.ensures.tells tells))
+    or-breaks _ c.from_residual-in_err-end_with-in-Err-Device.result
+    c.from_residual-in_err-end_with-in-Err-Device.ensures.0 (load m next) x y d f
+    (stopped_breaks m next w.0 d d1 e may all book.Device DeviceFault refl refl f c.end_with-in-Err-Device.ensures.off
+    cause x y.said (c.in_err-end_with-in-Err-Device.ensures.tells tells))
 
 pub returns-in_ok-end_with-in-Err-Device-clause-plays : goal.returns-in_ok-end_with-in-Err-Device-clause-plays
 returns-in_ok-end_with-in-Err-Device-clause-plays g c = λ m next tells counts left stays.
@@ -243,7 +270,8 @@ returns-in_ok-end_with-in-Err-Device-clause-plays g c = λ m next tells counts l
     let held : d1.held ≡ w.0 = ap (λ (t : DiskState). t.held) w.2 in
     let all : Loaded w.0 d d1 e = record {
       woke = w.2;
-      crash = λ s dirty l. let P : Image → Type 0 = λ i. Loads i s dirty in c.load.ensures.crash told s dirty (subst P (sym held) l);
+      crash = λ s dirty l. let P : Image → Type 0 = λ i. Loads i s dirty in
+          c.load.ensures.crash told s dirty (subst P (sym held) l);
       history = c.load.ensures.goes.history;
       counts = c.load.ensures.goes.counts;
     } in
@@ -255,14 +283,18 @@ returns-in_ok-end_with-in-Err-Device-clause-plays g c = λ m next tells counts l
     let cause = fault-cause d1 e (marked-woken w.0 d d1 w.2) (c.load.ensures.goes.fault stopped) in (
       done (start_over false (woken_state m may.woken)),
       (
-        stopped_goes m next w.0 d d1 e may all book.Device DeviceFault refl refl f c.end_with-in-Err-Device.ensures.off cause x y (c.in_ok-end_with-in-Err-Device.ensures.tells tells),
+        stopped_goes m next w.0 d d1 e may all book.Device DeviceFault refl refl f c.end_with-in-Err-Device.ensures.off
+            cause x y (c.in_ok-end_with-in-Err-Device.ensures.tells tells),
         (
           may.woken,
           (
             refl,
             (
-              counts_over m (woken_state m may.woken) c.args.runner.now c.end_with-in-Err-Device.new.runner counts refl refl c.end_with-in-Err-Device.ensures.machine c.end_with-in-Err-Device.ensures.starts,
-              stopped_may m next w.0 d d1 e may all book.Device DeviceFault refl refl f c.end_with-in-Err-Device.ensures.off cause,
+              counts_over m (woken_state m may.woken)
+                  c.args.runner.now c.end_with-in-Err-Device.new.runner counts refl refl
+                  c.end_with-in-Err-Device.ensures.machine c.end_with-in-Err-Device.ensures.starts,
+              stopped_may m next w.0 d d1 e may all book.Device DeviceFault refl refl f
+                  c.end_with-in-Err-Device.ensures.off cause,
             ),
           ),
         ),
@@ -279,8 +311,12 @@ returns-in_ok-end_with-in-Err-Device-clause-sound g c =
     let held : d1.held ≡ w.0 = ap (λ (t : DiskState). t.held) w.2 in
     let all : Loaded w.0 d d1 e = record {
       woke = w.2;
-      crash = λ s dirty l. let P : Image → Type 0 = λ i. Loads i s dirty in c.load.ensures.crash told s dirty (subst P (sym held) l);
+      crash = λ s dirty l. let P : Image → Type 0 = λ i. Loads i s dirty in
+          c.load.ensures.crash told s dirty (subst P (sym held) l);
       history = c.load.ensures.goes.history;
       counts = c.load.ensures.goes.counts;
-    } in
-    (load_down w.0 d d1 e (g.B.Disk.state c.end_with-in-Err-Device.new.bench) all (c.requires.down.loads w.0 w.1) c.end_with-in-Err-Device.ensures.off, search rules)
+    } in (
+      load_down w.0 d d1 e (g.B.Disk.state c.end_with-in-Err-Device.new.bench) all (c.requires.down.loads w.0 w.1)
+          c.end_with-in-Err-Device.ensures.off,
+      search rules,
+    )

@@ -14,10 +14,12 @@ returns-in_err-note-clause-plays g c = λ m s next d tells out counts sound live
     let x = told_in (g.H.Host.state c.args.host.now) c.args.runner.now in
     let y = told_in (g.H.Host.state c.note.new.host) c.note.new.runner in
     or-breaks _ c.from_residual.result c.from_residual.ensures.0 (save_refused c.args.full s m next) x y d d
-    (breaks-line (SaveRefusedLine c.args.full) (next (noted_saved false s m)) x y.said d d (still d) refl (c.in_err-note.ensures.tells tells) (noted_may false s m next c.args.hive d sound.0 live stays))
+    (breaks-line (SaveRefusedLine c.args.full) (next (noted_saved false s m)) x y.said d d (still d) refl
+    (c.in_err-note.ensures.tells tells) (noted_may false s m next c.args.hive d sound.0 live stays))
 
 pub returns-clause-sound : goal.returns-clause-sound
-returns-clause-sound g c = λ d sound. noted_sound false c.args.runner.now c.note.new.runner d c.args.hive c.in_ok-note.ensures.machine sound
+returns-clause-sound g c =
+    λ d sound. noted_sound false c.args.runner.now c.note.new.runner d c.args.hive c.in_ok-note.ensures.machine sound
 
 pub returns-clause-plays : goal.returns-clause-plays
 returns-clause-plays g c = λ m s next d tells out counts sound live stays.
@@ -25,7 +27,9 @@ returns-clause-plays g c = λ m s next d tells out counts sound live stays.
     let y = told_in (g.H.Host.state c.note.new.host) c.note.new.runner in (
       next (noted_saved false s m),
       (
-        goes-line (SaveRefusedLine c.args.full) (next (noted_saved false s m)) x y d d (still d) refl (c.in_ok-note.ensures.tells tells),
-        noted_left false s m next c.args.hive c.args.runner.now c.note.new.runner d out counts live c.in_ok-note.ensures.machine c.note.ensures.starts,
+        goes-line (SaveRefusedLine c.args.full) (next (noted_saved false s m)) x y d d (still d) refl
+            (c.in_ok-note.ensures.tells tells),
+        noted_left false s m next c.args.hive c.args.runner.now c.note.new.runner d out counts live
+            c.in_ok-note.ensures.machine c.note.ensures.starts,
       ),
     )

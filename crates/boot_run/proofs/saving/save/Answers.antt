@@ -16,10 +16,13 @@ returns-in_err-plan-clause-plays g c = λ m s next tells out counts live stays.
     let act = saved_by s c.args.clone m next (save_of m.version m.live c.args.clone) in
     or-breaks _ c.from_residual.result c.from_residual.ensures.0 act x x d d
     (breaks-silent act x d d (still d)
-    (λ image crash. saved_may s c.args.clone m next image (save_of m.version m.live c.args.clone) (live_closed m c.args.hive d live) stays (live_left m c.args.hive d c.requires.sound.0 live image crash)))
+    (λ image crash. saved_may s c.args.clone m next image (save_of m.version m.live c.args.clone)
+    (live_closed m c.args.hive d live) stays (live_left m c.args.hive d c.requires.sound.0 live image crash)))
 
 pub returns-in-Some-clause-plays : goal.returns-in-Some-clause-plays
 returns-in-Some-clause-plays g c = λ m s next tells out counts live stays.
     let t = c.args.hive.tree in
-    let P : Option SetPlan → Type 0 = λ o. PlansOr o (save_plan_of (select_numbers_of t) (usable_numbers_of t) c.args.clone) in
-    c.save_by.ensures.plays m s c.args.clone next tells out counts live (subst P c.in-Some.is c.in_ok-plan.ensures.plan) stays
+    let P : Option SetPlan → Type 0 =
+    λ o. PlansOr o (save_plan_of (select_numbers_of t) (usable_numbers_of t) c.args.clone) in
+    c.save_by.ensures.plays m s c.args.clone next tells out counts live (subst P c.in-Some.is c.in_ok-plan.ensures.plan)
+    stays

@@ -16,12 +16,16 @@ pub returns-then-not-save_due-clause-plays : goal.returns-then-not-save_due-clau
 returns-then-not-save_due-clause-plays g c = λ m next tells counts live stays.
     let x = told_in (g.H.Host.state c.args.host.now) c.args.runner.now in
     let d = g.B.Disk.state c.args.bench.now in
-    let is : option_map_or save_due m.machine.start false ≡ false = ap (λ (k : MachineState). option_map_or save_due k.start false) counts.machine ∙ sym c.save_due.ensures ∙ c.if-not-save_due.true in
-    goes_on (save_where_due m.machine.start m next) m next c.args.runner.now c.args.hive x d (not_due m.machine.start m next is) counts live
+    let is : option_map_or save_due m.machine.start false ≡ false =
+    ap (λ (k : MachineState). option_map_or save_due k.start false) counts.machine ∙ sym c.save_due.ensures
+    ∙ c.if-not-save_due.true in
+    goes_on (save_where_due m.machine.start m next) m next c.args.runner.now c.args.hive x d
+    (not_due m.machine.start m next is) counts live
 
 pub save-requires-clause-sound : goal.save-requires-clause-sound
 save-requires-clause-sound g c =
-    start_by without_clone c.args.runner.now (record c.args.runner.now { machine = c.take_clone.new.self }) (g.B.Disk.state c.args.bench.now) c.args.hive
+    start_by without_clone c.args.runner.now (record c.args.runner.now { machine = c.take_clone.new.self })
+    (g.B.Disk.state c.args.bench.now) c.args.hive
     (λ o h. taken_on o c.args.hive.tree h) c.take_clone.ensures.taken c.requires.sound
 
 pub returns-in-Some-clause-plays : goal.returns-in-Some-clause-plays
@@ -30,20 +34,28 @@ returns-in-Some-clause-plays g c = λ m next tells counts live stays.
     let y = told_in (g.H.Host.state c.save.new.host) c.save.new.runner in
     let d = g.B.Disk.state c.args.bench.now in
     let e = g.B.Disk.state c.save.new.bench in
-    let is : option_map_or save_due m.machine.start false ≡ true = ap (λ (k : MachineState). option_map_or save_due k.start false) counts.machine ∙ sym c.save_due.ensures ∙ c.if-not-save_due.false in
+    let is : option_map_or save_due m.machine.start false ≡ true =
+    ap (λ (k : MachineState). option_map_or save_due k.start false) counts.machine ∙ sym c.save_due.ensures
+    ∙ c.if-not-save_due.false in
     let has : option_and_then (λ (s : Start). s.clone) m.machine.start ≡ Some c.in-Some.clone =
-    ap (λ (k : MachineState). option_and_then (λ (s : Start). s.clone) k.start) counts.machine ∙ sym c.take_clone.ensures.clone ∙ c.in-Some.is in
+    ap (λ (k : MachineState). option_and_then (λ (s : Start). s.clone) k.start) counts.machine
+    ∙ sym c.take_clone.ensures.clone ∙ c.in-Some.is in
     let q = due m.machine.start m next c.in-Some.clone refl is has in
     let n = taken m in
     let now : Counts n (record c.args.runner.now { machine = c.take_clone.new.self }) =
-    record { machine = ap (on_start without_clone) counts.machine ∙ sym c.take_clone.ensures.taken; starts = counts.starts } in
-    plays-as c.save.result (OnLeft next c.save.new.runner e) (OnLeft next c.save.new.runner e) (saved_by q.start c.in-Some.clone n next (save_of n.version n.live c.in-Some.clone))
+    record {
+      machine = ap (on_start without_clone) counts.machine ∙ sym c.take_clone.ensures.taken;
+      starts = counts.starts;
+    } in
+    plays-as c.save.result (OnLeft next c.save.new.runner e) (OnLeft next c.save.new.runner e)
+    (saved_by q.start c.in-Some.clone n next (save_of n.version n.live c.in-Some.clone))
     (save_where_due m.machine.start m next) x y d e q.act (λ v a k. k)
     (c.save.ensures.plays n q.start next tells q.out now (live_machine n.machine m c.args.hive d live) stays)
 
 pub returns-in-None-clause-sound : goal.returns-in-None-clause-sound
 returns-in-None-clause-sound g c =
-    start_by without_clone c.args.runner.now (record c.args.runner.now { machine = c.take_clone.new.self }) (g.B.Disk.state c.args.bench.now) c.args.hive
+    start_by without_clone c.args.runner.now (record c.args.runner.now { machine = c.take_clone.new.self })
+    (g.B.Disk.state c.args.bench.now) c.args.hive
     (λ o h. taken_on o c.args.hive.tree h) c.take_clone.ensures.taken c.requires.sound
 
 pub returns-in-None-clause-plays : goal.returns-in-None-clause-plays
@@ -51,8 +63,13 @@ returns-in-None-clause-plays g c = λ m next tells counts live stays.
     let x = told_in (g.H.Host.state c.args.host.now) c.args.runner.now in
     let d = g.B.Disk.state c.args.bench.now in
     let r = c.args.runner.now in
-    let none : option_and_then (λ (s : Start). s.clone) r.machine.start ≡ None = sym c.take_clone.ensures.clone ∙ c.in-None.is in
-    let has : option_and_then (λ (s : Start). s.clone) m.machine.start ≡ None = ap (λ (k : MachineState). option_and_then (λ (s : Start). s.clone) k.start) counts.machine ∙ none in
-    let kept : c.take_clone.new.self ≡ r.machine = c.take_clone.ensures.taken ∙ ap (λ (o : Option Start). record r.machine { start = o }) (none_taken r.machine.start none) in
-    goes_on (save_where_due m.machine.start m next) m next (record r { machine = c.take_clone.new.self }) c.args.hive x d (due_none m.machine.start m next has)
+    let none : option_and_then (λ (s : Start). s.clone) r.machine.start ≡ None =
+    sym c.take_clone.ensures.clone ∙ c.in-None.is in
+    let has : option_and_then (λ (s : Start). s.clone) m.machine.start ≡ None =
+    ap (λ (k : MachineState). option_and_then (λ (s : Start). s.clone) k.start) counts.machine ∙ none in
+    let kept : c.take_clone.new.self ≡ r.machine =
+    c.take_clone.ensures.taken
+    ∙ ap (λ (o : Option Start). record r.machine { start = o }) (none_taken r.machine.start none) in
+    goes_on (save_where_due m.machine.start m next) m next (record r { machine = c.take_clone.new.self })
+    c.args.hive x d (due_none m.machine.start m next has)
     (record { machine = counts.machine ∙ sym kept; starts = counts.starts }) live

@@ -26,8 +26,10 @@ returns-in_err-say_phase-clause-plays g c = λ m s next tells counts live at sta
     let P : Act → Type 0 = λ a. Breaks a x y.said d d in
     let there = ap (λ (k : MachineState). k.start) (sym counts.machine) ∙ at in
     or-breaks _ c.from_residual.result c.from_residual.ensures.0 (phase_step s m next) x y d d
-    (subst P (phase_act s m next) (breaks_all (phase_lines s) more x y.said d (phase_quiet s) (c.in_err-say_phase.ensures.tells s tells there)
-    (λ image crash. due_may (Some after) n next image (live_closed m c.args.hive d live) stays (live_left m c.args.hive d c.requires.sound.0 live image crash))))
+    (subst P (phase_act s m next)
+    (breaks_all (phase_lines s) more x y.said d (phase_quiet s) (c.in_err-say_phase.ensures.tells s tells there)
+    (λ image crash. due_may (Some after) n next image (live_closed m c.args.hive d live) stays
+    (live_left m c.args.hive d c.requires.sound.0 live image crash))))
 
 pub save_where_due-requires : goal.save_where_due-requires
 save_where_due-requires g c = record { sound = (c.requires.sound.0, c.in_ok-say_phase.ensures.sound) }
@@ -44,7 +46,11 @@ returns-clause-plays g c = λ m s next tells counts live at stays.
     let more = save_where_due (Some after) n next in
     let Left = OnLeft next c.save_where_due.new.runner e in
     let there = ap (λ (k : MachineState). k.start) (sym counts.machine) ∙ at in
-    let now = next_counts c.args.hive.tree m s c.args.runner.now c.say_phase.new.runner live.live at counts c.say_phase.ensures.starts c.in_ok-say_phase.ensures.next in
-    plays-as c.save_where_due.result Left Left (say_all (phase_lines s) more) (phase_step s m next) x z d e (phase_act s m next) (λ v b l. l)
-    (plays-then c.save_where_due.result Left (say_all (phase_lines s) more) more x y z d d e (goes_all (phase_lines s) more x y d (phase_quiet s) (c.in_ok-say_phase.ensures.tells s tells there))
-    (c.save_where_due.ensures.plays n next (c.in_ok-say_phase.ensures.host.keeps.tells ∙ tells) now (live_machine n.machine m c.args.hive d live) stays))
+    let now = next_counts c.args.hive.tree m s c.args.runner.now c.say_phase.new.runner live.live at counts
+    c.say_phase.ensures.starts c.in_ok-say_phase.ensures.next in
+    plays-as c.save_where_due.result Left Left (say_all (phase_lines s) more) (phase_step s m next) x z d e
+    (phase_act s m next) (λ v b l. l)
+    (plays-then c.save_where_due.result Left (say_all (phase_lines s) more) more x y z d d e
+    (goes_all (phase_lines s) more x y d (phase_quiet s) (c.in_ok-say_phase.ensures.tells s tells there))
+    (c.save_where_due.ensures.plays n next (c.in_ok-say_phase.ensures.host.keeps.tells ∙ tells) now
+    (live_machine n.machine m c.args.hive d live) stays))

@@ -4,4 +4,5 @@ use Rattle.boot_run.proofs.starter.enough.Goals as goal
 
 pub returns-clause-steps : goal.returns-clause-steps
 returns-clause-steps c = λ m live.
-    enough_most c.args.runner.now.machine.start m c.args.hive.now.tree (c.in-Some.number, c.in-Some.field-0-1) c.in-Ok.services (sym c.running.ensures ∙ c.in-Some.is) live c.in-Ok.ensures c.requires
+    enough_most c.args.runner.now.machine.start m c.args.hive.now.tree (c.in-Some.number, c.in-Some.field-0-1)
+    c.in-Ok.services (sym c.running.ensures ∙ c.in-Some.is) live c.in-Ok.ensures c.requires

@@ -17,7 +17,9 @@ returns-in_err-most-clause-plays g c = λ m tells counts live.
     let x = told_in (g.H.Host.state c.args.host.now) c.args.runner.now in
     let d = g.B.Disk.state c.args.bench.now in
     or-breaks _ c.from_residual.result c.from_residual.ensures.0 (go_act c.args.steps m) x x d d
-    (breaks-silent (go_act c.args.steps m) x d d (still d) (λ image crash. go_may c.args.steps m image (live_closed m c.args.hive d live) (live_left m c.args.hive d c.requires.sound.0 live image crash)))
+    (breaks-silent (go_act c.args.steps m) x d d (still d)
+    (λ image crash. go_may c.args.steps m image (live_closed m c.args.hive d live)
+    (live_left m c.args.hive d c.requires.sound.0 live image crash)))
 
 pub returns-in_err-take_steps-clause-plays : goal.returns-in_err-take_steps-clause-plays
 returns-in_err-take_steps-clause-plays g c = λ m tells counts live.
@@ -26,8 +28,10 @@ returns-in_err-take_steps-clause-plays g c = λ m tells counts live.
     let d = g.B.Disk.state c.args.bench.now in
     let e = g.B.Disk.state c.take_steps.new.bench in
     let P : Act → Type 0 = λ a. Breaks a x y.said d e in
-    or-breaks _ c.from_residual-in_err-take_steps.result c.from_residual-in_err-take_steps.ensures.0 (go_act c.args.steps m) x y d e
-    (subst P (c.in_ok-most.ensures.steps m live.live counts.machine) (c.in_err-take_steps.ensures.plays m c.args.hive tells refl counts live))
+    or-breaks _ c.from_residual-in_err-take_steps.result c.from_residual-in_err-take_steps.ensures.0
+    (go_act c.args.steps m) x y d e
+    (subst P (c.in_ok-most.ensures.steps m live.live counts.machine)
+    (c.in_err-take_steps.ensures.plays m c.args.hive tells refl counts live))
 
 pub returns-clause-plays : goal.returns-clause-plays
 returns-clause-plays g c = λ m tells counts live.

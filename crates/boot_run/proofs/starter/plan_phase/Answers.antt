@@ -8,4 +8,5 @@ pub returns-in-Ok-next_phase-clause-sound : goal.returns-in-Ok-next_phase-clause
 returns-in-Ok-next_phase-clause-sound c =
     let tree = c.args.hive.now.tree in
     let P : MachineState → Type 0 = λ k. IsRunningBy k.start tree in
-    subst P (sym c.in-Ok-next_phase.ensures.machine) (phase_keeps c.args.runner.now.machine.start c.in-Ok.set tree c.in-Ok.ensures.held c.requires)
+    subst P (sym c.in-Ok-next_phase.ensures.machine)
+    (phase_keeps c.args.runner.now.machine.start c.in-Ok.set tree c.in-Ok.ensures.held c.requires)

@@ -15,8 +15,11 @@ returns-then-at_phase_end-clause-plays g c = λ m next tells counts live stays.
     let z = told_in (g.H.Host.state c.change_phase.new.host) c.change_phase.new.runner in
     let d = g.B.Disk.state c.args.bench.now in
     let e = g.B.Disk.state c.change_phase.new.bench in
-    let way : is_under_way m.machine.start ≡ true = ap (λ (k : MachineState). is_under_way k.start) counts.machine ∙ c.requires.under_way in
-    let end : is_at_end m.machine.start ≡ true = ap (λ (k : MachineState). is_at_end k.start) counts.machine ∙ sym c.at_phase_end.ensures ∙ c.if-at_phase_end.true in
+    let way : is_under_way m.machine.start ≡ true =
+    ap (λ (k : MachineState). is_under_way k.start) counts.machine ∙ c.requires.under_way in
+    let end : is_at_end m.machine.start ≡ true =
+    ap (λ (k : MachineState). is_at_end k.start) counts.machine ∙ sym c.at_phase_end.ensures
+    ∙ c.if-at_phase_end.true in
     let q = steps m.machine.start m next way in
     let Left = OnLeft next c.change_phase.new.runner e in
     plays-as c.change_phase.result Left Left (phase_step q.start m next) (stepping m.machine.start m next) x z d e
@@ -29,8 +32,10 @@ returns-clause-plays g c = λ m next tells counts live stays.
     let z = told_in (g.H.Host.state c.try_next.new.host) c.try_next.new.runner in
     let d = g.B.Disk.state c.args.bench.now in
     let e = g.B.Disk.state c.try_next.new.bench in
-    let way : is_under_way m.machine.start ≡ true = ap (λ (k : MachineState). is_under_way k.start) counts.machine ∙ c.requires.under_way in
+    let way : is_under_way m.machine.start ≡ true =
+    ap (λ (k : MachineState). is_under_way k.start) counts.machine ∙ c.requires.under_way in
     let q = steps m.machine.start m next way in
     let Left = OnLeft next c.try_next.new.runner e in
-    plays-as c.try_next.result Left Left (starter_step q.start m next (attempt_of m.machine (good_is_usable m.live))) (stepping m.machine.start m next) x z d e q.act (λ v b l. l)
+    plays-as c.try_next.result Left Left (starter_step q.start m next (attempt_of m.machine (good_is_usable m.live)))
+    (stepping m.machine.start m next) x z d e q.act (λ v b l. l)
     (c.try_next.ensures.plays m q.start next tells counts live stays)

@@ -10,8 +10,11 @@ use Rattle.boot_run.proofs.starter.take_steps.Given as goal
 abbrev pub invariant-steps : goal.invariant-steps
 invariant-steps g l = record {
   sound : IsSound l.runner (g.B.Disk.state l.bench) l.session;
-  plays : (m : RunState) (hive : Session) → (g.H.Host.state l.fn.host).tells ≡ true → l.fn.session ≡ Some hive → Counts m l.fn.runner → IsLive m hive (g.B.Disk.state l.fn.bench)
-      → StepsTo l.fn.most m l.left (told_in (g.H.Host.state l.fn.host) l.fn.runner) (told_in (g.H.Host.state l.host) l.runner) (g.B.Disk.state l.fn.bench) (g.B.Disk.state l.bench) l.runner l.session;
+  plays : (m : RunState) (hive : Session) → (g.H.Host.state l.fn.host).tells ≡ true → l.fn.session ≡ Some hive
+      → Counts m l.fn.runner → IsLive m hive (g.B.Disk.state l.fn.bench)
+      → StepsTo l.fn.most m l.left (told_in (g.H.Host.state l.fn.host) l.fn.runner)
+      (told_in (g.H.Host.state l.host) l.runner) (g.B.Disk.state l.fn.bench) (g.B.Disk.state l.bench)
+      l.runner l.session;
   host : StillHost (g.H.Host.state l.fn.host) (g.H.Host.state l.host);
 }
 

@@ -20,7 +20,8 @@ returns-in_default-clause-plays g c = λ m s next tells counts live stays.
     let d = g.B.Disk.state c.args.bench.now in
     let o = attempt_of m.machine (good_is_usable m.live) in
     breaks-silent (starter_step s m next o) x d d (still d)
-    (λ image crash. step_may s m next image o (live_closed m c.args.hive d live) stays (live_left m c.args.hive d c.requires.sound.0 live image crash))
+    (λ image crash. step_may s m next image o (live_closed m c.args.hive d live) stays
+    (live_left m c.args.hive d c.requires.sound.0 live image crash))
 
 pub returns-in_err-verdict-clause-plays : goal.returns-in_err-verdict-clause-plays
 returns-in_err-verdict-clause-plays g c = λ m s next tells counts live stays.
@@ -32,19 +33,28 @@ returns-in_err-verdict-clause-plays g c = λ m s next tells counts live stays.
     let there = attempt_there k c.in-Ok.usable c.requires.ready in
     let one = there.0 in
     let same : o ≡ attempt_of k c.in-Ok.usable =
-    ap (λ (n : MachineState). attempt_of n (good_is_usable m.live)) counts.machine ∙ ap (attempt_of k) (ap good_is_usable live.live ∙ sym c.in-Ok.ensures) in
+    ap (λ (n : MachineState). attempt_of n (good_is_usable m.live)) counts.machine
+    ∙ ap (attempt_of k) (ap good_is_usable live.live ∙ sym c.in-Ok.ensures) in
     let P : Option (MachineState × Tried) → Type 0 = λ t. Breaks (starter_step s m next t) x y.said d d in
     or-breaks _ c.from_residual.result c.from_residual.ensures.0 (starter_step s m next o) x y d d
     (subst P (sym (same ∙ there.1))
-    (breaks-line (try_line one.1) (judged one.1.judgement (with_machine one.0 m) next) x y.said d d (still d) refl (c.in_err-verdict.ensures.tells one tells there.1)
-    (λ image crash. judged_may one.1.judgement (with_machine one.0 m) next image (live_closed m c.args.hive d live) stays (live_left m c.args.hive d c.requires.sound.0 live image crash))))
+    (breaks-line (try_line one.1) (judged one.1.judgement (with_machine one.0 m) next) x y.said d d (still d) refl
+    (c.in_err-verdict.ensures.tells one tells there.1)
+    (λ image crash. judged_may one.1.judgement (with_machine one.0 m) next image (live_closed m c.args.hive d live)
+    stays (live_left m c.args.hive d c.requires.sound.0 live image crash))))
 
 pub end_where-requires : goal.end_where-requires
 end_where-requires g c =
     let a = c.in_ok-verdict.ensures.attempts in
     let tree = c.args.hive.tree in
     let P : MachineState → Type 0 = λ k. IsRunningBy k.start tree in
-    record { sound = (c.requires.sound.0, subst P (sym a.machine) (attempt_keeps c.args.runner.now.machine c.in-Ok.usable a.one tree a.is c.requires.sound.1)) }
+    record {
+      sound = (
+        c.requires.sound.0,
+        subst P (sym a.machine) (attempt_keeps c.args.runner.now.machine c.in-Ok.usable a.one tree a.is
+            c.requires.sound.1),
+      );
+    }
 
 pub returns-clause-plays : goal.returns-clause-plays
 returns-clause-plays g c = λ m s next tells counts live stays.
@@ -59,10 +69,15 @@ returns-clause-plays g c = λ m s next tells counts live stays.
     let n = with_machine one.0 m in
     let o = attempt_of m.machine (good_is_usable m.live) in
     let same : o ≡ attempt_of k c.in-Ok.usable =
-    ap (λ (q : MachineState). attempt_of q (good_is_usable m.live)) counts.machine ∙ ap (attempt_of k) (ap good_is_usable live.live ∙ sym c.in-Ok.ensures) in
+    ap (λ (q : MachineState). attempt_of q (good_is_usable m.live)) counts.machine
+    ∙ ap (attempt_of k) (ap good_is_usable live.live ∙ sym c.in-Ok.ensures) in
     let act = judged one.1.judgement n next in
     let Left = OnLeft next c.end_where.new.runner e in
-    let now : Counts n c.attempt.new.runner = record { machine = sym a.machine; starts = counts.starts ∙ sym c.attempt.ensures.starts } in
-    plays-as c.end_where.result Left Left (say (try_line one.1) act) (starter_step s m next o) x z d e (ap (starter_step s m next) (sym (same ∙ a.is))) (λ v b l. l)
-    (plays-then c.end_where.result Left (say (try_line one.1) act) act x y z d d e (goes-line (try_line one.1) act x y d d (still d) refl (c.in_ok-verdict.ensures.tells one tells a.is))
-    (c.end_where.ensures.plays n next one.1.judgement (c.in_ok-verdict.ensures.host.keeps.tells ∙ tells) now (live_machine one.0 m c.args.hive d live) a.ends))
+    let now : Counts n c.attempt.new.runner =
+    record { machine = sym a.machine; starts = counts.starts ∙ sym c.attempt.ensures.starts } in
+    plays-as c.end_where.result Left Left (say (try_line one.1) act) (starter_step s m next o) x z d e
+    (ap (starter_step s m next) (sym (same ∙ a.is))) (λ v b l. l)
+    (plays-then c.end_where.result Left (say (try_line one.1) act) act x y z d d e
+    (goes-line (try_line one.1) act x y d d (still d) refl (c.in_ok-verdict.ensures.tells one tells a.is))
+    (c.end_where.ensures.plays n next one.1.judgement (c.in_ok-verdict.ensures.host.keeps.tells ∙ tells) now
+    (live_machine one.0 m c.args.hive d live) a.ends))

@@ -32,4 +32,5 @@ returns-in-None-clause-plays g c = λ m tells agrees.
     let gone : m.machine.start ≡ None = counted m r agrees.counts ∙ sound.1 in
     let Left = TurnLeft c.idle.new.runner e in
     plays-as c.idle.result Left Left (idle_act choice ev m) (accepted_act choice m.machine.start ev m) x y d e
-    (ap (λ (o : Option Start). accepted_act choice o ev m) (sym gone)) (λ v a h. h) (c.idle.ensures.plays m tells (subst P c.in-None.is agrees))
+    (ap (λ (o : Option Start). accepted_act choice o ev m) (sym gone)) (λ v a h. h)
+    (c.idle.ensures.plays m tells (subst P c.in-None.is agrees))

@@ -9,28 +9,33 @@ use Rattle.boot_run.proofs.turning.aside.Goals as goal
 
 pub returns-in-Ok-clause-plays : goal.returns-in-Ok-clause-plays
 returns-in-Ok-clause-plays g c = λ m told left.
-    aside_goes (event_in c.args.event.now) m told (g.B.Disk.state c.args.bench.now) (fail_act (event_in c.args.event.now) c.in-Fail.name c.in-Fail.count m (ap event_in c.in-Fail.is))
+    aside_goes (event_in c.args.event.now) m told (g.B.Disk.state c.args.bench.now)
+    (fail_act (event_in c.args.event.now) c.in-Fail.name c.in-Fail.count m (ap event_in c.in-Fail.is))
 
 pub returns-in-Err-clause-plays : goal.returns-in-Err-clause-plays
-returns-in-Err-clause-plays g c = λ m told left. aside_breaks (event_in c.args.event.now) m told (g.B.Disk.state c.args.bench.now) left
+returns-in-Err-clause-plays g c =
+    λ m told left. aside_breaks (event_in c.args.event.now) m told (g.B.Disk.state c.args.bench.now) left
 
 pub returns-in-ArmCut-clause-plays : goal.returns-in-ArmCut-clause-plays
 returns-in-ArmCut-clause-plays g c = λ m told left.
     let d = g.B.Disk.state c.args.bench.now in
     let e = g.B.Disk.state c.arm_cut.new.bench in
-    let P : Event → Type 0 = λ v. PlaysOr (aside_act v m) told told d e c.arm_cut.result (λ u a. a ≡ done (record m { machine = aside_machine v m.machine })) in
+    let P : Event → Type 0 = λ v. PlaysOr (aside_act v m) told told d e c.arm_cut.result
+    (λ u a. a ≡ done (record m { machine = aside_machine v m.machine })) in
     subst P (sym (ap event_in c.in-ArmCut.is)) (c.arm_cut.ensures.plays m told left)
 
 pub returns-in-ArmFault-clause-plays : goal.returns-in-ArmFault-clause-plays
 returns-in-ArmFault-clause-plays g c = λ m told left.
     let d = g.B.Disk.state c.args.bench.now in
     let e = g.B.Disk.state c.arm_fault.new.bench in
-    let P : Event → Type 0 = λ v. PlaysOr (aside_act v m) told told d e c.arm_fault.result (λ u a. a ≡ done (record m { machine = aside_machine v m.machine })) in
+    let P : Event → Type 0 = λ v. PlaysOr (aside_act v m) told told d e c.arm_fault.result
+    (λ u a. a ≡ done (record m { machine = aside_machine v m.machine })) in
     subst P (sym (ap event_in c.in-ArmFault.is)) (c.arm_fault.ensures.plays m told left)
 
 pub returns-in_default : goal.returns-in_default
 returns-in_default g c =
-    let h = other_does_nothing c.args.event.now c.in_default.not-Fail c.in_default.not-ArmCut c.in_default.not-ArmFault in
+    let h = other_does_nothing c.args.event.now c.in_default.not-Fail c.in_default.not-ArmCut
+    c.in_default.not-ArmFault in
     record {
       machine = h.machine c.args.machine.now;
       disk = h.disk (g.B.Disk.state c.args.bench.now);

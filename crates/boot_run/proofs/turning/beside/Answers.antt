@@ -18,9 +18,11 @@ returns-in-Ok g c =
           beside_goes ev m r after told d e c.args.hive c.in-Ok.ensures.machine refl c.in-Ok.ensures.disk agrees
           (c.in-Ok.ensures.plays m told (agrees_left m r d c.args.hive c.requires.sound agrees.by));
       summary = refl;
-      host = λ h. let s = still-host h in record { keeps = s.keeps; files = s.files; unasked = s.unasked; counts = s.counts };
+      host = λ h. let s = still-host h in
+          record { keeps = s.keeps; files = s.files; unasked = s.unasked; counts = s.counts };
     }
 
 pub returns-in-Err-clause-plays : goal.returns-in-Err-clause-plays
 returns-in-Err-clause-plays g c = λ m told agrees.
-    c.in-Err.ensures.plays m told (agrees_left m c.args.runner.now (g.B.Disk.state c.args.bench.now) c.args.hive c.requires.sound agrees.by)
+    c.in-Err.ensures.plays m told
+    (agrees_left m c.args.runner.now (g.B.Disk.state c.args.bench.now) c.args.hive c.requires.sound agrees.by)

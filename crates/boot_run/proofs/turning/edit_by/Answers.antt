@@ -37,8 +37,10 @@ returns-in_default-clause-plays g c = λ m choice tells counts live.
     let edit = edited m.version m.live (book.step_of n.0 one.0 ∷ []) in
     let P : Option Start → Type 0 = λ o. RunsOnBy o n.0 in
     let on : RunsOnBy m.machine.start n.0 = subst P (sym (counted m r counts)) n.1 in
-    breaks_as (edit_done (Edits one.0) m edit) (accepted_act choice m.machine.start ev m) x x.said d d (edit_act choice m.machine.start n.0 ev one.0 m on one.1)
-    (breaks-silent (edit_done (Edits one.0) m edit) x d d (still d) (λ image crash. edit_may one.0 m image edit (live_left m h d c.requires.sound.0 live image crash)))
+    breaks_as (edit_done (Edits one.0) m edit) (accepted_act choice m.machine.start ev m) x x.said d d
+    (edit_act choice m.machine.start n.0 ev one.0 m on one.1)
+    (breaks-silent (edit_done (Edits one.0) m edit) x d d (still d)
+    (λ image crash. edit_may one.0 m image edit (live_left m h d c.requires.sound.0 live image crash)))
 
 pub returns-in-Err-clause-plays : goal.returns-in-Err-clause-plays
 returns-in-Err-clause-plays g c = λ m choice tells counts live.
@@ -54,7 +56,8 @@ returns-in-Err-clause-plays g c = λ m choice tells counts live.
     let edit = edited m.version m.live (book.step_of n.0 one.0 ∷ []) in
     let P : Option Start → Type 0 = λ o. RunsOnBy o n.0 in
     let on : RunsOnBy m.machine.start n.0 = subst P (sym (counted m r counts)) n.1 in
-    breaks_as (edit_done (Edits one.0) m edit) (accepted_act choice m.machine.start ev m) x y.said d d (edit_act choice m.machine.start n.0 ev one.0 m on one.1)
+    breaks_as (edit_done (Edits one.0) m edit) (accepted_act choice m.machine.start ev m) x y.said d d
+    (edit_act choice m.machine.start n.0 ev one.0 m on one.1)
     (c.in-Err.ensures.plays d m one.0 n.0 tells counts c.requires.sound live one.1 step)
 
 pub returns-in-Ok-edit-clause-plays : goal.returns-in-Ok-edit-clause-plays
@@ -72,7 +75,8 @@ returns-in-Ok-edit-clause-plays g c = λ m choice tells counts live.
     let P : Option Start → Type 0 = λ o. RunsOnBy o n.0 in
     let on : RunsOnBy m.machine.start n.0 = subst P (sym (counted m r counts)) n.1 in
     let Left : Act → Type 0 = λ a. TurnLeft c.edit.new.runner d (Some c.in-Ok-edit.hive) a in
-    goes_as (edit_done (Edits one.0) m edit) (accepted_act choice m.machine.start ev m) x y d d Left (edit_act choice m.machine.start n.0 ev one.0 m on one.1)
+    goes_as (edit_done (Edits one.0) m edit) (accepted_act choice m.machine.start ev m) x y d d Left
+    (edit_act choice m.machine.start n.0 ev one.0 m on one.1)
     (c.in-Ok-edit.ensures.plays d m one.0 n.0 tells counts c.requires.sound live one.1 step)
 
 pub returns-in-Ok-edit-clause-sound : goal.returns-in-Ok-edit-clause-sound
@@ -84,4 +88,5 @@ returns-in-Ok-edit-clause-sound g c =
     let one = edit_of ev c.requires.edit in
     let n = running_number r.machine.start h.tree c.requires.sound.1 in
     let step = edit_step r.machine.start n.0 ev one.0 c.in-Ok.step n.1 one.1 c.in-Ok.ensures.step in
-    c.in-Ok-edit.ensures.sound d one.0 n.0 c.requires.sound n.1 step (edit_free r.machine.start h.tree ev one.0 c.requires.sound.1 one.1 c.requires.accepted)
+    c.in-Ok-edit.ensures.sound d one.0 n.0 c.requires.sound n.1 step
+    (edit_free r.machine.start h.tree ev one.0 c.requires.sound.1 one.1 c.requires.accepted)

@@ -21,8 +21,10 @@ returns-in-Boot-clause-plays g c = λ m tells agrees.
     let x = told_in (g.H.Host.state c.args.host.now) c.args.runner.now in
     let y = told_in (g.H.Host.state c.boot.new.host) c.boot.new.runner in
     let Left = TurnLeft c.boot.new.runner e in
-    plays-as c.boot.result Left Left (boot_act choice c.in-Boot.entry c.in-Boot.last_known_good m) (idle_act choice (event_in c.args.event.now) m) x y d e
-    (sym (ap (λ (v : Event). idle_act choice v m) (ap event_in c.in-Boot.is))) (λ v a h. h) (c.boot.ensures.plays m tells agrees.counts agrees.by)
+    plays-as c.boot.result Left Left (boot_act choice c.in-Boot.entry c.in-Boot.last_known_good m)
+    (idle_act choice (event_in c.args.event.now) m) x y d e
+    (sym (ap (λ (v : Event). idle_act choice v m) (ap event_in c.in-Boot.is))) (λ v a h. h)
+    (c.boot.ensures.plays m tells agrees.counts agrees.by)
 
 pub returns-in_default-clause-plays : goal.returns-in_default-clause-plays
 returns-in_default-clause-plays g c = λ m tells agrees.
@@ -35,7 +37,8 @@ returns-in_default-clause-plays g c = λ m tells agrees.
     let ev = event_in c.args.event.now in
     let Left = TurnLeft c.beside.new.runner e in
     let P : Summary → Type 0 = λ s. PlaysOr (aside_act ev m) x (told_by host s) d e c.beside.result Left in
-    plays-as c.beside.result Left Left (aside_act ev m) (idle_act choice ev m) x y d e (other_idles choice c.args.event.now m c.in_default.not-Boot) (λ v a h. h)
+    plays-as c.beside.result Left Left (aside_act ev m) (idle_act choice ev m) x y d e
+    (other_idles choice c.args.event.now m c.in_default.not-Boot) (λ v a h. h)
     (subst P (sym c.beside.ensures.summary) (c.beside.ensures.plays m x agrees))
 
 pub returns-in_default-clause-host : goal.returns-in_default-clause-host

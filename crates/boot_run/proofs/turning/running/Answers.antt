@@ -27,7 +27,9 @@ returns-in-Go-clause-plays g c = λ m choice tells agrees.
     let Left = TurnLeft c.go.new.runner e in
     let act : Act = go_act c.in-Go.steps m in
     plays-as c.go.result Left Left act (accepted_act choice m.machine.start ev m) x y d e
-    (act_by choice m.machine.start act ev (Go c.in-Go.steps) m (ap event_in c.in-Go.is) (go_accepted choice m.machine.start c.in-Go.steps m there)) (λ v a h. h) (c.go.ensures.plays m tells agrees.counts agrees.by)
+    (act_by choice m.machine.start act ev (Go c.in-Go.steps) m (ap event_in c.in-Go.is)
+    (go_accepted choice m.machine.start c.in-Go.steps m there)) (λ v a h. h)
+    (c.go.ensures.plays m tells agrees.counts agrees.by)
 
 pub returns-in-Flush-clause-plays : goal.returns-in-Flush-clause-plays
 returns-in-Flush-clause-plays g c = λ m choice tells agrees.
@@ -41,7 +43,9 @@ returns-in-Flush-clause-plays g c = λ m choice tells agrees.
     let Left = TurnLeft c.flush.new.runner e in
     let act : Act = flush_act m in
     plays-as c.flush.result Left Left act (accepted_act choice m.machine.start ev m) x y d e
-    (act_by choice m.machine.start act ev Flush m (ap event_in c.in-Flush.is) (flush_accepted choice m.machine.start m there)) (λ v a h. h) (c.flush.ensures.plays m tells agrees.counts agrees.by)
+    (act_by choice m.machine.start act ev Flush m (ap event_in c.in-Flush.is)
+    (flush_accepted choice m.machine.start m there)) (λ v a h. h)
+    (c.flush.ensures.plays m tells agrees.counts agrees.by)
 
 pub returns-in-Logon-clause-plays : goal.returns-in-Logon-clause-plays
 returns-in-Logon-clause-plays g c = λ m choice tells agrees.
@@ -55,7 +59,9 @@ returns-in-Logon-clause-plays g c = λ m choice tells agrees.
     let Left = TurnLeft c.logon.new.runner e in
     let act : Act = option_map_or (λ s. logon_act s m) m.machine.start (done m) in
     plays-as c.logon.result Left Left act (accepted_act choice m.machine.start ev m) x y d e
-    (act_by choice m.machine.start act ev Logon m (ap event_in c.in-Logon.is) (logon_accepted choice m.machine.start m there)) (λ v a h. h) (c.logon.ensures.plays m tells agrees.counts agrees.by)
+    (act_by choice m.machine.start act ev Logon m (ap event_in c.in-Logon.is)
+    (logon_accepted choice m.machine.start m there)) (λ v a h. h)
+    (c.logon.ensures.plays m tells agrees.counts agrees.by)
 
 pub returns-in-Ok-clause-plays : goal.returns-in-Ok-clause-plays
 returns-in-Ok-clause-plays g c = λ m choice tells agrees.
@@ -67,9 +73,11 @@ returns-in-Ok-clause-plays g c = λ m choice tells agrees.
     let y = told_in (g.H.Host.state c.off.new.host) c.off.new.runner in
     let e = g.B.Disk.state c.off.new.bench in
     let act : Act = option_map_or (λ s. off_act s m) m.machine.start (done m) in
-    let same = act_by choice m.machine.start act ev Off m (ap event_in c.in-Off.is) (off_accepted choice m.machine.start m there) in
+    let same = act_by choice m.machine.start act ev Off m (ap event_in c.in-Off.is)
+    (off_accepted choice m.machine.start m there) in
     let Left : Act → Type 0 = λ a. TurnLeft c.off.new.runner e None a in
-    goes_as act (accepted_act choice m.machine.start ev m) x y d e Left same (c.in-Ok.ensures.plays m tells agrees.counts agrees.by)
+    goes_as act (accepted_act choice m.machine.start ev m) x y d e Left same
+    (c.in-Ok.ensures.plays m tells agrees.counts agrees.by)
 
 pub returns-in-Err-clause-plays : goal.returns-in-Err-clause-plays
 returns-in-Err-clause-plays g c = λ m choice tells agrees.
@@ -81,8 +89,10 @@ returns-in-Err-clause-plays g c = λ m choice tells agrees.
     let y = told_in (g.H.Host.state c.off.new.host) c.off.new.runner in
     let e = g.B.Disk.state c.off.new.bench in
     let act : Act = option_map_or (λ s. off_act s m) m.machine.start (done m) in
-    let same = act_by choice m.machine.start act ev Off m (ap event_in c.in-Off.is) (off_accepted choice m.machine.start m there) in
-    breaks_as act (accepted_act choice m.machine.start ev m) x y.said d e same (c.in-Err.ensures.plays m tells agrees.counts agrees.by)
+    let same = act_by choice m.machine.start act ev Off m (ap event_in c.in-Off.is)
+    (off_accepted choice m.machine.start m there) in
+    breaks_as act (accepted_act choice m.machine.start ev m) x y.said d e same
+    (c.in-Err.ensures.plays m tells agrees.counts agrees.by)
 
 pub returns-in-Ok-cut-clause-plays : goal.returns-in-Ok-cut-clause-plays
 returns-in-Ok-cut-clause-plays g c = λ m choice tells agrees.
@@ -94,9 +104,11 @@ returns-in-Ok-cut-clause-plays g c = λ m choice tells agrees.
     let y = told_in (g.H.Host.state c.cut.new.host) c.cut.new.runner in
     let e = g.B.Disk.state c.cut.new.bench in
     let act : Act = cut_act m in
-    let same = act_by choice m.machine.start act ev (CutNow (keep_of c.in-CutNow.keep)) m (ap event_in c.in-CutNow.is) (cut_accepted choice m.machine.start (keep_of c.in-CutNow.keep) m there) in
+    let same = act_by choice m.machine.start act ev (CutNow (keep_of c.in-CutNow.keep)) m (ap event_in c.in-CutNow.is)
+    (cut_accepted choice m.machine.start (keep_of c.in-CutNow.keep) m there) in
     let Left : Act → Type 0 = λ a. TurnLeft c.cut.new.runner e None a in
-    goes_as act (accepted_act choice m.machine.start ev m) x y d e Left same (c.in-Ok-cut.ensures.plays m tells agrees.counts agrees.by)
+    goes_as act (accepted_act choice m.machine.start ev m) x y d e Left same
+    (c.in-Ok-cut.ensures.plays m tells agrees.counts agrees.by)
 
 pub returns-in-Err-cut-clause-plays : goal.returns-in-Err-cut-clause-plays
 returns-in-Err-cut-clause-plays g c = λ m choice tells agrees.
@@ -108,20 +120,26 @@ returns-in-Err-cut-clause-plays g c = λ m choice tells agrees.
     let y = told_in (g.H.Host.state c.cut.new.host) c.cut.new.runner in
     let e = g.B.Disk.state c.cut.new.bench in
     let act : Act = cut_act m in
-    let same = act_by choice m.machine.start act ev (CutNow (keep_of c.in-CutNow.keep)) m (ap event_in c.in-CutNow.is) (cut_accepted choice m.machine.start (keep_of c.in-CutNow.keep) m there) in
-    breaks_as act (accepted_act choice m.machine.start ev m) x y.said d e same (c.in-Err-cut.ensures.plays m tells agrees.counts agrees.by)
+    let same = act_by choice m.machine.start act ev (CutNow (keep_of c.in-CutNow.keep)) m (ap event_in c.in-CutNow.is)
+    (cut_accepted choice m.machine.start (keep_of c.in-CutNow.keep) m there) in
+    breaks_as act (accepted_act choice m.machine.start ev m) x y.said d e same
+    (c.in-Err-cut.ensures.plays m tells agrees.counts agrees.by)
 
 pub returns-in-Set-clause-plays : goal.returns-in-Set-clause-plays
-returns-in-Set-clause-plays g c = λ m choice tells agrees. c.edit_by.ensures.plays m choice tells agrees.counts agrees.by
+returns-in-Set-clause-plays g c =
+    λ m choice tells agrees. c.edit_by.ensures.plays m choice tells agrees.counts agrees.by
 
 pub returns-in-Delete-clause-plays : goal.returns-in-Delete-clause-plays
-returns-in-Delete-clause-plays g c = λ m choice tells agrees. c.edit_by-in-Delete.ensures.plays m choice tells agrees.counts agrees.by
+returns-in-Delete-clause-plays g c =
+    λ m choice tells agrees. c.edit_by-in-Delete.ensures.plays m choice tells agrees.counts agrees.by
 
 pub returns-in-Make-clause-plays : goal.returns-in-Make-clause-plays
-returns-in-Make-clause-plays g c = λ m choice tells agrees. c.edit_by-in-Make.ensures.plays m choice tells agrees.counts agrees.by
+returns-in-Make-clause-plays g c =
+    λ m choice tells agrees. c.edit_by-in-Make.ensures.plays m choice tells agrees.counts agrees.by
 
 pub returns-in-Remove-clause-plays : goal.returns-in-Remove-clause-plays
-returns-in-Remove-clause-plays g c = λ m choice tells agrees. c.edit_by-in-Remove.ensures.plays m choice tells agrees.counts agrees.by
+returns-in-Remove-clause-plays g c =
+    λ m choice tells agrees. c.edit_by-in-Remove.ensures.plays m choice tells agrees.counts agrees.by
 
 pub returns-in_default-clause-plays : goal.returns-in_default-clause-plays
 returns-in_default-clause-plays g c = λ m choice tells agrees.

@@ -11,7 +11,8 @@ returns-in-Set c =
     let P : Event → Type 0 = λ v. IfOk c.set_step.result (IsStepOf c.args.number v) in
     record {
       step = subst P (sym (ap event_in c.in-Set.is)) c.set_step.ensures;
-      fits = made_all c.set_step.result c.args.number (Set c.in-Set.path c.in-Set.name c.in-Set.kind c.in-Set.bytes) c.set_step.ensures;
+      fits = made_all c.set_step.result c.args.number (Set c.in-Set.path c.in-Set.name c.in-Set.kind c.in-Set.bytes)
+          c.set_step.ensures;
     }
 
 pub returns-in-Delete : goal.returns-in-Delete
@@ -19,7 +20,8 @@ returns-in-Delete c =
     let P : Event → Type 0 = λ v. IfOk c.delete_step.result (IsStepOf c.args.number v) in
     record {
       step = subst P (sym (ap event_in c.in-Delete.is)) c.delete_step.ensures;
-      fits = made_all c.delete_step.result c.args.number (Delete c.in-Delete.path c.in-Delete.name) c.delete_step.ensures;
+      fits = made_all c.delete_step.result c.args.number (Delete c.in-Delete.path c.in-Delete.name)
+          c.delete_step.ensures;
     }
 
 pub returns-in-Make : goal.returns-in-Make

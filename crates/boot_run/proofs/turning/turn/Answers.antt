@@ -22,7 +22,8 @@ returns-in-Ok-clause-plays g c = λ m tells agrees.
     let x = told_in (g.H.Host.state c.args.host.now) r in
     let y = told_in (g.H.Host.state c.act.new.host) c.act.new.runner in
     let Left = TurnLeft c.act.new.runner e in
-    plays-as c.act.result Left Left (accepted_act choice m.machine.start ev m) (event_step_of choice ev m) x y d e (event_accepted choice ev m r agrees.counts c.in-Ok.ensures)
+    plays-as c.act.result Left Left (accepted_act choice m.machine.start ev m) (event_step_of choice ev m) x y d e
+    (event_accepted choice ev m r agrees.counts c.in-Ok.ensures)
     (λ v a h. h) (c.act.ensures.plays m tells agrees)
 
 pub returns-in-Ok-refuse-clause-plays : goal.returns-in-Ok-refuse-clause-plays
@@ -37,8 +38,10 @@ returns-in-Ok-refuse-clause-plays g c = λ m tells agrees.
     let y = told_by (g.H.Host.state c.refuse.new.host) c.refuse.new.summary in
     let said : Result (Unit {0}) RunStop = Ok tt in
     let Left : Act → Type 0 = λ a. TurnLeft after d c.args.hive a in
-    goes_as (say (RefusedLine (event_word_of ev) why) (done m)) (event_step_of choice ev m) x y d d Left (event_refused choice ev why m r agrees.counts c.in-Err.ensures)
-    (refused_plays said ev why m r after x y d c.args.hive refl refl c.requires.sound agrees (c.in-Ok-refuse.ensures.tells tells))
+    goes_as (say (RefusedLine (event_word_of ev) why) (done m)) (event_step_of choice ev m) x y d d Left
+    (event_refused choice ev why m r agrees.counts c.in-Err.ensures)
+    (refused_plays said ev why m r after x y d c.args.hive refl refl c.requires.sound agrees
+    (c.in-Ok-refuse.ensures.tells tells))
 
 pub returns-in-Err-refuse-clause-plays : goal.returns-in-Err-refuse-clause-plays
 returns-in-Err-refuse-clause-plays g c = λ m tells agrees.
@@ -51,5 +54,7 @@ returns-in-Err-refuse-clause-plays g c = λ m tells agrees.
     let x = told_in (g.H.Host.state c.args.host.now) r in
     let y = told_by (g.H.Host.state c.refuse.new.host) c.refuse.new.summary in
     let stopped : Result (Unit {0}) RunStop = Err c.in-Err-refuse.stop in
-    breaks_as (say (RefusedLine (event_word_of ev) why) (done m)) (event_step_of choice ev m) x y.said d d (event_refused choice ev why m r agrees.counts c.in-Err.ensures)
-    (refused_plays stopped ev why m r after x y d c.args.hive refl refl c.requires.sound agrees (c.in-Err-refuse.ensures.tells tells))
+    breaks_as (say (RefusedLine (event_word_of ev) why) (done m)) (event_step_of choice ev m) x y.said d d
+    (event_refused choice ev why m r agrees.counts c.in-Err.ensures)
+    (refused_plays stopped ev why m r after x y d c.args.hive refl refl c.requires.sound agrees
+    (c.in-Err-refuse.ensures.tells tells))

@@ -9,8 +9,11 @@ pub names-preserved : goal.names-preserved
 names-preserved g c = record {
   tells = λ tells.
       unmet_next c.names.waiting.now c.name-item.result c.in-Ok.name (map UnmetLine c.args.names.now)
-      (told_by (g.H.Host.state c.args.host.now) c.args.summary.now) (told_by (g.H.Host.state c.names.host) c.names.summary) (told_by (g.H.Host.state c.say.new.host) c.say.new.summary)
+      (told_by (g.H.Host.state c.args.host.now) c.args.summary.now)
+      (told_by (g.H.Host.state c.names.host) c.names.summary)
+      (told_by (g.H.Host.state c.say.new.host) c.say.new.summary)
       c.in-len1-up.len_at_least c.name-item.is c.in-Ok.ensures (c.names.invariant.tells tells)
       (c.in_ok-say.ensures.tells (c.names.invariant.host.keeps.tells ∙ tells));
-  host = still-then c.in_ok-say.field-0 (g.H.Host.state c.args.host.now) (g.H.Host.state c.names.host) (g.H.Host.state c.say.new.host) c.names.invariant.host c.in_ok-say.ensures.host;
+  host = still-then c.in_ok-say.field-0 (g.H.Host.state c.args.host.now) (g.H.Host.state c.names.host)
+      (g.H.Host.state c.say.new.host) c.names.invariant.host c.in_ok-say.ensures.host;
 }

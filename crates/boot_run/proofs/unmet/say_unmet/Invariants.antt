@@ -7,7 +7,8 @@ use Rattle.boot_run.proofs.unmet.say_unmet.Given as goal
 abbrev pub invariant-names : goal.invariant-names
 invariant-names g l = record {
   tells : (g.H.Host.state l.fn.host).tells ≡ true
-      → TellsBefore (map UnmetLine l.fn.names) (map UnmetLine l.waiting) (told_by (g.H.Host.state l.fn.host) l.fn.summary) (told_by (g.H.Host.state l.host) l.summary);
+      → TellsBefore (map UnmetLine l.fn.names) (map UnmetLine l.waiting)
+      (told_by (g.H.Host.state l.fn.host) l.fn.summary) (told_by (g.H.Host.state l.host) l.summary);
   host : StillHost (g.H.Host.state l.fn.host) (g.H.Host.state l.host);
 }
 

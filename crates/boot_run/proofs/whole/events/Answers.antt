@@ -18,7 +18,8 @@ events-init g c = record {
   sound = (c.requires.down, c.requires.off);
   counts = c.requires.counts;
   progress = λ m tells counts left.
-      started (choices c.args.ini.now c.args.system.now) m (map event_in c.args.script.now) c.args.runner.now _ (told_in (g.H.Host.state c.args.host.now) c.args.runner.now)
+      started (choices c.args.ini.now c.args.system.now) m (map event_in c.args.script.now) c.args.runner.now _
+      (told_in (g.H.Host.state c.args.host.now) c.args.runner.now)
       (g.B.Disk.state c.args.bench.now) (record { counts = counts; by = left });
   host = still-host (g.H.Host.state c.args.host.now);
 }
@@ -27,14 +28,19 @@ pub returns-in_default-clause-runs : goal.returns-in_default-clause-runs
 returns-in_default-clause-runs g c = λ m tells counts left.
     let choice = choices c.args.ini.now c.args.system.now in
     let e = g.B.Disk.state c.events.bench in
-    ended choice c.close.result (run_from choice (map event_in c.args.script.now) m) c.events.waiting.now (told_in (g.H.Host.state c.args.host.now) c.args.runner.now)
-    (told_in (g.H.Host.state c.events.host) c.events.runner) (told_in (g.H.Host.state c.close.new.host) c.close.new.runner) (g.B.Disk.state c.args.bench.now) e c.events.runner c.events.hive
-    c.in_default.len_below (λ n by. agrees_left n c.events.runner e c.events.hive c.events.invariant.sound by) (c.events.invariant.progress m tells counts left)
+    ended choice c.close.result (run_from choice (map event_in c.args.script.now) m) c.events.waiting.now
+    (told_in (g.H.Host.state c.args.host.now) c.args.runner.now)
+    (told_in (g.H.Host.state c.events.host) c.events.runner)
+    (told_in (g.H.Host.state c.close.new.host) c.close.new.runner) (g.B.Disk.state c.args.bench.now)
+    e c.events.runner c.events.hive
+    c.in_default.len_below (λ n by. agrees_left n c.events.runner e c.events.hive c.events.invariant.sound by)
+    (c.events.invariant.progress m tells counts left)
     (λ n stands may. c.close.ensures.plays n e (c.events.invariant.host.keeps.tells ∙ tells) stands may)
 
 pub returns-in_default-clause-host : goal.returns-in_default-clause-host
 returns-in_default-clause-host g c =
-    leaves-then c.close.result (g.H.Host.state c.args.host.now) (g.H.Host.state c.events.host) (g.H.Host.state c.close.new.host) c.events.invariant.host c.close.ensures.host
+    leaves-then c.close.result (g.H.Host.state c.args.host.now) (g.H.Host.state c.events.host)
+    (g.H.Host.state c.close.new.host) c.events.invariant.host c.close.ensures.host
 
 pub returns-in-Err-clause-runs : goal.returns-in-Err-clause-runs
 returns-in-Err-clause-runs g c = λ m tells counts left.
@@ -46,8 +52,10 @@ returns-in-Err-clause-runs g c = λ m tells counts left.
     let d = g.B.Disk.state c.args.bench.now in
     let e = g.B.Disk.state c.events.bench in
     let whole = run_from choice (map event_in c.args.script.now) m in
-    let p = first_event choice whole ws c.event-item.result x y d e c.events.runner c.events.hive c.in-len1-up.len_at_least c.event-item.is (c.events.invariant.progress m tells counts left) in
-    gave_up choice whole (event_in c.event-item.result) (map event_in (take (length ws - 1) (drop 1 ws))) x y z.said d e (g.B.Disk.state c.turn.new.bench) c.events.runner c.events.hive
+    let p = first_event choice whole ws c.event-item.result x y d e c.events.runner c.events.hive
+    c.in-len1-up.len_at_least c.event-item.is (c.events.invariant.progress m tells counts left) in
+    gave_up choice whole (event_in c.event-item.result) (map event_in (take (length ws - 1) (drop 1 ws))) x y z.said d e
+    (g.B.Disk.state c.turn.new.bench) c.events.runner c.events.hive
     p (agrees_closed p.state c.events.runner e c.events.hive c.events.invariant.sound p.agrees)
     (c.in-Err.ensures.plays p.state (c.events.invariant.host.keeps.tells ∙ tells) p.agrees)
 
@@ -55,7 +63,8 @@ pub returns-in-Err-clause-host : goal.returns-in-Err-clause-host
 returns-in-Err-clause-host g c =
     let r : Result (Unit {0}) RunStop = Err c.in-Err.stop in
     leaves-on r _ c.in-Err.stop (g.H.Host.state c.args.host.now) (g.H.Host.state c.turn.new.host) refl refl
-    (leaves-then (Err c.in-Err.stop) (g.H.Host.state c.args.host.now) (g.H.Host.state c.events.host) (g.H.Host.state c.turn.new.host) c.events.invariant.host c.in-Err.ensures.host)
+    (leaves-then (Err c.in-Err.stop) (g.H.Host.state c.args.host.now) (g.H.Host.state c.events.host)
+    (g.H.Host.state c.turn.new.host) c.events.invariant.host c.in-Err.ensures.host)
 
 pub events-preserved : goal.events-preserved
 events-preserved g c =
@@ -71,8 +80,11 @@ events-preserved g c =
       counts = All-take HasCounts (length ws - 1) (drop 1 ws) (All-drop HasCounts 1 ws c.events.invariant.counts);
       progress = λ m tells counts left.
           let whole = run_from choice (map event_in c.args.script.now) m in
-          let p = first_event choice whole ws c.event-item.result x y d e c.events.runner c.events.hive c.in-len1-up.len_at_least c.event-item.is (c.events.invariant.progress m tells counts left) in
-          went_on choice whole (event_in c.event-item.result) (map event_in (take (length ws - 1) (drop 1 ws))) x y z d e (g.B.Disk.state c.turn.new.bench) c.events.runner c.turn.new.runner c.events.hive c.in-Ok.after
+          let p = first_event choice whole ws c.event-item.result x y d e c.events.runner c.events.hive
+          c.in-len1-up.len_at_least c.event-item.is (c.events.invariant.progress m tells counts left) in
+          went_on choice whole (event_in c.event-item.result) (map event_in (take (length ws - 1) (drop 1 ws)))
+          x y z d e (g.B.Disk.state c.turn.new.bench) c.events.runner c.turn.new.runner c.events.hive c.in-Ok.after
           p (c.in-Ok.ensures.plays p.state (c.events.invariant.host.keeps.tells ∙ tells) p.agrees);
-      host = still-then c.in-Ok.after (g.H.Host.state c.args.host.now) (g.H.Host.state c.events.host) (g.H.Host.state c.turn.new.host) c.events.invariant.host c.in-Ok.ensures.host;
+      host = still-then c.in-Ok.after (g.H.Host.state c.args.host.now) (g.H.Host.state c.events.host)
+          (g.H.Host.state c.turn.new.host) c.events.invariant.host c.in-Ok.ensures.host;
     }

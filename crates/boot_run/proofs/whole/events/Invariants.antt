@@ -17,8 +17,10 @@ abbrev pub invariant-events : goal.invariant-events
 invariant-events g l = record {
   sound : IsSound l.runner (g.B.Disk.state l.bench) l.hive;
   counts : All HasCounts l.waiting;
-  progress : (m : RunState) → (g.H.Host.state l.fn.host).tells ≡ true → Counts m l.fn.runner → EachCrash (g.B.Disk.state l.fn.bench) (MayLoad m.disk)
-      → Progress (choices l.fn.ini l.fn.system) (run_from (choices l.fn.ini l.fn.system) (map event_in l.fn.script) m) (map event_in l.waiting) (told_in (g.H.Host.state l.fn.host) l.fn.runner)
+  progress : (m : RunState) → (g.H.Host.state l.fn.host).tells ≡ true → Counts m l.fn.runner
+      → EachCrash (g.B.Disk.state l.fn.bench) (MayLoad m.disk)
+      → Progress (choices l.fn.ini l.fn.system) (run_from (choices l.fn.ini l.fn.system) (map event_in l.fn.script) m)
+      (map event_in l.waiting) (told_in (g.H.Host.state l.fn.host) l.fn.runner)
       (told_in (g.H.Host.state l.host) l.runner) (g.B.Disk.state l.fn.bench) (g.B.Disk.state l.bench) l.runner l.hive;
   host : StillHost (g.H.Host.state l.fn.host) (g.H.Host.state l.host);
 }

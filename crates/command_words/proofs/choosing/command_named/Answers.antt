@@ -5,5 +5,6 @@ use Rattle.command_words.proofs.choosing.command_named.Goals as goal
 
 pub returns : goal.returns
 returns c =
-    sym (unnamed c.args.name.now (rows_of (found_of c.args.matches.now)) (search rules) (search rules) (search rules) (search rules)
+    sym (unnamed c.args.name.now (rows_of (found_of c.args.matches.now)) (search rules) (search rules) (search rules)
+    (search rules)
     (search rules) (search rules) (search rules) (search rules))

@@ -8,13 +8,15 @@ use Rattle.command_words.proofs.words.parsed.Goals as goal
 pub returns-in-Ok-clause-reads : goal.returns-in-Ok-clause-reads
 returns-in-Ok-clause-reads c =
     let words = map (λ w. w.now) c.args.words.now in
-    let command_is = (law words c.requires).1 c.in-Ok.ensures.kinds ∙ sym (ap asked_of (c.in-Ok.ensures.matches refl).1) in
+    let command_is = (law words c.requires).1 c.in-Ok.ensures.kinds
+    ∙ sym (ap asked_of (c.in-Ok.ensures.matches refl).1) in
     IfOk-weaker c.found.result _ _ (λ command is. command_is ∙ is) c.found.ensures.reads
 
 pub returns-in-Ok-clause-usage : goal.returns-in-Ok-clause-usage
 returns-in-Ok-clause-usage c =
     let words = map (λ w. w.now) c.args.words.now in
-    let command_is = (law words c.requires).1 c.in-Ok.ensures.kinds ∙ sym (ap asked_of (c.in-Ok.ensures.matches refl).1) in
+    let command_is = (law words c.requires).1 c.in-Ok.ensures.kinds
+    ∙ sym (ap asked_of (c.in-Ok.ensures.matches refl).1) in
     IfErr-weaker c.found.result _ _ (λ stop is usage. command_is ∙ is) c.found.ensures.usage
 
 pub returns-in-Err-clause-usage : goal.returns-in-Err-clause-usage

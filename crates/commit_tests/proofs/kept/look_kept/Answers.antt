@@ -12,7 +12,8 @@ at_ok : {T : Type 0} (old new : Traced) (whole : List Address) (result : Result 
     → MakesReads (HasKept old) (HasKept new) (λ sectors. true ≡ true → IsAsked whole result sectors)
     → OnOk result (KeepsMore old new (reads_of whole))
 at_ok old new whole (Ok x) asks =
-    subst (λ sectors. KeepsMore old new (reads_of sectors)) (asks.are refl) (keeps_more old new (reads_of asks.sectors) asks.made)
+    subst (λ sectors. KeepsMore old new (reads_of sectors)) (asks.are refl)
+    (keeps_more old new (reads_of asks.sectors) asks.made)
 at_ok old new whole (Err stop) asks = tt
 
 pub returns : goal.returns

@@ -11,7 +11,8 @@ at_ok : {T : Type 0} (old new : Traced) (whole : List Made) (result : Result T L
     → MakesRecovery (HasKept old) (HasKept new) (λ calls. true ≡ true → AreAll whole result calls)
     → OnOk result (KeepsMore old new whole)
 at_ok old new whole (Ok x) makes =
-    subst (λ calls. KeepsMore old new calls) (makes.are refl) (keeps_more old new (reads_of makes.sectors ++ makes.writes) makes.made)
+    subst (λ calls. KeepsMore old new calls) (makes.are refl)
+    (keeps_more old new (reads_of makes.sectors ++ makes.writes) makes.made)
 at_ok old new whole (Err stop) makes = tt
 
 pub returns : goal.returns

@@ -4,4 +4,5 @@ use Rattle.control_command.specs.Report.{answers_to}
 use Rattle.control_command.proofs.answering.answers.Given as goal
 
 abbrev pub invariant-loop-command : goal.invariant-loop-command
-invariant-loop-command l = l.out.items ++ answers_to l.control (drop l.command-index l.commands) ≡ answers_to (control_of l.set) l.commands
+invariant-loop-command l =
+    l.out.items ++ answers_to l.control (drop l.command-index l.commands) ≡ answers_to (control_of l.set) l.commands

@@ -8,6 +8,12 @@ use Rattle.control_command.proofs.answering.start.Goals as goal
 
 pub returns-in-Err : goal.returns-in-Err
 returns-in-Err c =
-    let done : Answered = record { text = name_lines (codes "started") (names_of (new_of c.args.control.now c.args.name.now)); state = after_start c.args.control.now c.args.name.now } in
-    refused_on c.push_refused.result _ _ (codes "start") c.args.name.now c.as_slice-in-Err.result.now _ _ done c.in-Err.stop _ _
-    (ap (start_refusal c.args.control.now) c.as_slice.ensures) c.in-Err.ensures.answer c.in-Err.ensures.kept c.as_slice-in-Err.ensures c.push_refused.ensures.text c.push_refused.ensures.named
+    let done : Answered = record {
+      text = name_lines (codes "started") (names_of (new_of c.args.control.now c.args.name.now));
+      state = after_start c.args.control.now c.args.name.now;
+    } in
+    refused_on c.push_refused.result _ _ (codes "start")
+    c.args.name.now c.as_slice-in-Err.result.now _ _ done c.in-Err.stop _ _
+    (ap (start_refusal c.args.control.now) c.as_slice.ensures)
+    c.in-Err.ensures.answer c.in-Err.ensures.kept c.as_slice-in-Err.ensures c.push_refused.ensures.text
+    c.push_refused.ensures.named

@@ -16,5 +16,7 @@ returns-in-Err-Stopped-clause-decides g c =
     let old = g.H.Host.state c.args.host.now in
     let new = g.H.Host.state c.inputs_in.new.host in
     let wanted = inputs_in (control_seen c.args.words) old.files in
-    let looks = subst (λ (o : Obstacle). Looks wanted (Err o) old new) c.in-Err-Stopped.field-0-is c.in-Err-Stopped.ensures.looks in
-    rw c.stopped.ensures (stopped_decides wanted EndsControl no_saves c.in-Err-Stopped.stop old new new_state refl (unsaid_control wanted c.in-Err-Stopped.stop) looks)
+    let looks = subst (λ (o : Obstacle). Looks wanted (Err o) old new)
+    c.in-Err-Stopped.field-0-is c.in-Err-Stopped.ensures.looks in
+    rw c.stopped.ensures (stopped_decides wanted EndsControl no_saves c.in-Err-Stopped.stop old new new_state refl
+    (unsaid_control wanted c.in-Err-Stopped.stop) looks)

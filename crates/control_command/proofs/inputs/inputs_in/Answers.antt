@@ -25,7 +25,8 @@ returns-in_err-commands-clause-asks g c = λ tells.
     let asked = control_seen c.args.words in
     let n = commands_asked old.files asked c.in_ok-text.text (c.in_ok-text.ensures.looks.found tells) in
     let reads = subst
-    (λ (t : List ℕ). Reads (commands_in (commands_of t)) (Err c.in_err-commands.field-0.0)) c.as_slice.ensures c.in_err-commands.ensures.read in
+    (λ (t : List ℕ). Reads (commands_in (commands_of t)) (Err c.in_err-commands.field-0.0))
+    c.as_slice.ensures c.in_err-commands.ensures.read in
     reads_asks (asks_control asked old.files) 1 _
     (λ cs. by_hive asked old.files) c.in_err-commands.field-0.0 c.from_residual-in_err-commands.result old.gets _
     n reads c.from_residual-in_err-commands.ensures.1 c.file_in.ensures.asks
@@ -38,9 +39,11 @@ returns-in_err-hive-clause-asks g c = λ tells.
     let asked = control_seen c.args.words in
     let first = c.in_ok-text.ensures.looks in
     let commands = subst
-    (λ (t : List ℕ). commands_in (commands_of t) ≡ Ok c.in_ok-commands.commands) c.as_slice.ensures c.in_ok-commands.ensures.read in
+    (λ (t : List ℕ). commands_in (commands_of t) ≡ Ok c.in_ok-commands.commands)
+    c.as_slice.ensures c.in_ok-commands.ensures.read in
     let all = hive_asked old.files asked c.in_ok-text.text c.in_ok-commands.commands (first.found tells) commands in
-    let here = subst (λ (f : Files). AsksUntil {A = HiveFiles} (by_hive asked f) (Err c.in_err-hive.field-0.0) mid.gets new.gets)
+    let here = subst (λ (f : Files). AsksUntil {A = HiveFiles} (by_hive asked f) (Err c.in_err-hive.field-0.0)
+    mid.gets new.gets)
     (first.files tells)
     (c.in_err-hive.ensures.asks (first.keeps.tells ∙ tells)) in
     behind_asks HiveFiles (asks_control asked old.files) 1 (by_hive asked old.files) c.in_err-hive.field-0.0
@@ -55,8 +58,10 @@ returns-clause-asks g c = λ tells.
     let asked = control_seen c.args.words in
     let first = c.in_ok-text.ensures.looks in
     let commands = subst
-    (λ (t : List ℕ). commands_in (commands_of t) ≡ Ok c.in_ok-commands.commands) c.as_slice.ensures c.in_ok-commands.ensures.read in
+    (λ (t : List ℕ). commands_in (commands_of t) ≡ Ok c.in_ok-commands.commands)
+    c.as_slice.ensures c.in_ok-commands.ensures.read in
     let all = hive_asked old.files asked c.in_ok-text.text c.in_ok-commands.commands (first.found tells) commands in
     let here = subst (λ (f : Files). new.gets ≡ more (by_hive asked f) mid.gets) (first.files tells)
     (c.in_ok-hive.ensures.asks (first.keeps.tells ∙ tells)) in
-    more_behind (asks_control asked old.files) 1 (by_hive asked old.files) old.gets mid.gets new.gets all c.file_in.ensures.asks here
+    more_behind (asks_control asked old.files) 1 (by_hive asked old.files)
+    old.gets mid.gets new.gets all c.file_in.ensures.asks here

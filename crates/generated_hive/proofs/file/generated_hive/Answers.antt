@@ -16,11 +16,14 @@ pack-requires c =
     let small = generated_size c.args.count c.requires.few in
     let is = sym c.in_ok-tree.ensures in
     record {
-      valid = subst IsValid is (valid_back V3 (generated c.args.count) (generated_sound c.args.count c.requires.few) small);
+      valid = subst IsValid is (valid_back V3 (generated c.args.count) (generated_sound c.args.count c.requires.few)
+          small);
       room = subst (λ (t : Tree). bulk_of V3 t ≤ 16773120) is small;
     }
 
 pub returns-clause-loads : goal.returns-clause-loads
 returns-clause-loads c =
-    given_loads c.file.result c.in_ok-bins.bins c.as_slice.result.now (packed_bins V3 c.in_ok-tree.tree) c.in_ok-tree.tree (generated c.args.count)
-    c.as_slice.ensures c.in_ok-tree.ensures c.in_ok-bins.ensures.sized c.in_ok-bins.ensures.bins c.in_ok-bins.ensures.well_formed c.file.ensures
+    given_loads c.file.result c.in_ok-bins.bins c.as_slice.result.now (packed_bins V3 c.in_ok-tree.tree)
+    c.in_ok-tree.tree (generated c.args.count)
+    c.as_slice.ensures c.in_ok-tree.ensures c.in_ok-bins.ensures.sized c.in_ok-bins.ensures.bins
+    c.in_ok-bins.ensures.well_formed c.file.ensures

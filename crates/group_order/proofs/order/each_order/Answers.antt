@@ -14,7 +14,8 @@ loop-name-preserved c =
     let few = λ (o : GroupOrder). length o.tags < 2 ^ 32 in
     record {
       items =
-          c.in_ok-push.ensures.items ∙ ap (λ os. os ++ read.field-0 ∷ []) at.invariant.items ∙ ap (λ o. map order (take at.name-index names) ++ o ∷ []) (read.ensures.order ∙ ap order c.name-item.is)
+          c.in_ok-push.ensures.items ∙ ap (λ os. os ++ read.field-0 ∷ []) at.invariant.items
+          ∙ ap (λ o. map order (take at.name-index names) ++ o ∷ []) (read.ensures.order ∙ ap order c.name-item.is)
           ∙ sym (map_more order names at.name-index name c.loop-name-test.true);
       few = rw c.in_ok-push.ensures.items (All-push few at.items.items read.field-0 at.invariant.few read.ensures.few);
     }

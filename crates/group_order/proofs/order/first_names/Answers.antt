@@ -15,6 +15,8 @@ loop-place-preserved c =
     let with_next = λ (first : Bool). first_names (take at.place names) ++ cond first (name ∷ []) [] in
     elim c.if-is_first.branch [
       | then-is_first+in_ok-copy+in_ok-push w ↦
-          w.first-is ∙ w.in_ok-push.ensures.ok ∙ ap (λ u. at.first ++ u ∷ []) w.in_ok-copy.ensures ∙ ap (λ ns. ns ++ name ∷ []) at.invariant ∙ ap with_next (sym w.if-is_first.true) ∙ next
-      | else-is_first w ↦ w.first-is ∙ at.invariant ∙ sym (append-nil (first_names (take at.place names))) ∙ ap with_next (sym w.if-is_first.false) ∙ next
+          w.first-is ∙ w.in_ok-push.ensures.ok ∙ ap (λ u. at.first ++ u ∷ []) w.in_ok-copy.ensures
+          ∙ ap (λ ns. ns ++ name ∷ []) at.invariant ∙ ap with_next (sym w.if-is_first.true) ∙ next
+      | else-is_first w ↦ w.first-is ∙ at.invariant ∙ sym (append-nil (first_names (take at.place names)))
+          ∙ ap with_next (sym w.if-is_first.false) ∙ next
     ]

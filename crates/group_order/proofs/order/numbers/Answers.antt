@@ -10,7 +10,8 @@ loop-k-preserved c =
     let f : ℕ → ℕ = λ k. number_in c.args.bytes.now (4 + 4 * k) in
     record {
       items =
-          c.in_ok-push.ensures.items ∙ ap (λ xs. xs ++ c.u32_at.result ∷ []) c.loop-k.invariant.items ∙ ap (λ x. map f (range_with_len 0 k) ++ x ∷ []) c.u32_at.ensures
+          c.in_ok-push.ensures.items ∙ ap (λ xs. xs ++ c.u32_at.result ∷ []) c.loop-k.invariant.items
+          ∙ ap (λ x. map f (range_with_len 0 k) ++ x ∷ []) c.u32_at.ensures
           ∙ sym (map-range_with_len_more f 0 k k (zero-add k));
       len = c.in_ok-push.ensures.len ∙ ap (λ n. n + 1) c.loop-k.invariant.len;
     }

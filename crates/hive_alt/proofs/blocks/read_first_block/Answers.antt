@@ -29,4 +29,5 @@ returns-in-Absent-clause-asked g c =
 pub returns-in_ok-read_base-in-Whole-clause-sized : goal.returns-in_ok-read_base-in-Whole-clause-sized
 returns-in_ok-read_base-in-Whole-clause-sized g c = λ b is.
     let same : c.in_ok-read_base-in-Whole.field-0 ≡ b = cc in
-    (base_checked c.read.new.into 0 b (sym c.read_base.ensures ∙ c.in_ok-read_base-in-Whole.was ∙ ap (λ (b : Base). Ok b) same)).size_is
+    (base_checked c.read.new.into 0 b
+    (sym c.read_base.ensures ∙ c.in_ok-read_base-in-Whole.was ∙ ap (λ (b : Base). Ok b) same)).size_is

@@ -21,8 +21,10 @@ returns-then-not-same-clause-same g c = λ tells.
     let h1 = (g.D.Disk.state c.loop-i.disk).held in
     let bins = c.args.bins.now in
     let i = c.loop-i.i in
-    let read = ok_is_bool (has_bytes (sector bins i) (log_in h1 (8 + i))) c.in_ok-same.same (c.in_ok-same.ensures.same tells) in
-    let here = sym (ap (λ (x : Image). has_bytes (sector bins i) (log_in x (8 + i))) (c.loop-i.invariant.look.held tells)) ∙ read in
+    let read = ok_is_bool (has_bytes (sector bins i) (log_in h1 (8 + i))) c.in_ok-same.same
+    (c.in_ok-same.ensures.same tells) in
+    let here = sym (ap (λ (x : Image). has_bytes (sector bins i) (log_in x (8 + i)))
+    (c.loop-i.invariant.look.held tells)) ∙ read in
     ap ok_bool (second_less h bins i (length bins / 512) c.loop-i-test.true (here ∙ c.if-not-same.true))
 
 pub loop-i-preserved : goal.loop-i-preserved
@@ -35,8 +37,10 @@ loop-i-preserved g c =
           let h1 = (g.D.Disk.state c.loop-i.disk).held in
           let bins = c.args.bins.now in
           let i = c.loop-i.i in
-          let read = ok_is_bool (has_bytes (sector bins i) (log_in h1 (8 + i))) c.in_ok-same.same (c.in_ok-same.ensures.same tells) in
-          let here = sym (ap (λ (x : Image). has_bytes (sector bins i) (log_in x (8 + i))) (c.loop-i.invariant.look.held tells)) ∙ read in
+          let read = ok_is_bool (has_bytes (sector bins i) (log_in h1 (8 + i))) c.in_ok-same.same
+          (c.in_ok-same.ensures.same tells) in
+          let here = sym (ap (λ (x : Image). has_bytes (sector bins i) (log_in x (8 + i)))
+          (c.loop-i.invariant.look.held tells)) ∙ read in
           second_more h bins i (c.loop-i.invariant.same tells) (here ∙ c.if-not-same.false);
       asked = reads_then c.loop-i.invariant.asked c.in_ok-same.ensures.asked;
     }

@@ -13,7 +13,8 @@ returns-then-not-same-clause-same g c = λ tells.
     let base = c.args.base.now in
     let bins = c.args.bins.now in
     let read = ok_is_bool (has_fields base (second_in h)) c.in_ok-same.same (c.in_ok-same.ensures.same tells) in
-    ap ok_bool (and_left (has_fields base (second_in h)) (second_has h bins (length bins / 512)) (read ∙ c.if-not-same.true))
+    ap ok_bool (and_left (has_fields base (second_in h)) (second_has h bins (length bins / 512))
+    (read ∙ c.if-not-same.true))
 
 pub returns-clause-asked : goal.returns-clause-asked
 returns-clause-asked g c = reads_then c.in_ok-same.ensures.asked c.second_bins_are.ensures.asked

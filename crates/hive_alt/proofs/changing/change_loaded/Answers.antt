@@ -17,8 +17,14 @@ returns-in_err-next-clause-crash g c = λ tells.
     let number = c.args.number in
     let holds = c.requires.holds tells in
     let s = g.D.Disk.state c.args.disk.now in
-    let kept : IsKeptAs stands found.base found.bins s.held = record { dirty = false; kept = c.settled_is_clean.ensures s.held found.base found.bins c.requires.sized (c.requires.settled tells) } in
-    kept_crash stands found tree number holds s (kept_still stands s s refl (c.requires.still tells) found.base found.bins kept)
+    let kept : IsKeptAs stands found.base found.bins s.held =
+    record {
+      dirty = false;
+      kept = c.settled_is_clean.ensures s.held found.base found.bins c.requires.sized
+          (c.requires.settled tells);
+    } in
+    kept_crash stands found tree number holds s
+    (kept_still stands s s refl (c.requires.still tells) found.base found.bins kept)
 
 pub returns-in-Nothing-clause-crash : goal.returns-in-Nothing-clause-crash
 returns-in-Nothing-clause-crash g c = λ tells.
@@ -28,8 +34,14 @@ returns-in-Nothing-clause-crash g c = λ tells.
     let number = c.args.number in
     let holds = c.requires.holds tells in
     let s = g.D.Disk.state c.args.disk.now in
-    let kept : IsKeptAs stands found.base found.bins s.held = record { dirty = false; kept = c.settled_is_clean.ensures s.held found.base found.bins c.requires.sized (c.requires.settled tells) } in
-    kept_crash stands found tree number holds s (kept_still stands s s refl (c.requires.still tells) found.base found.bins kept)
+    let kept : IsKeptAs stands found.base found.bins s.held =
+    record {
+      dirty = false;
+      kept = c.settled_is_clean.ensures s.held found.base found.bins c.requires.sized
+          (c.requires.settled tells);
+    } in
+    kept_crash stands found tree number holds s
+    (kept_still stands s s refl (c.requires.still tells) found.base found.bins kept)
 
 pub returns-in-NoSelect-clause-crash : goal.returns-in-NoSelect-clause-crash
 returns-in-NoSelect-clause-crash g c = λ tells.
@@ -39,8 +51,14 @@ returns-in-NoSelect-clause-crash g c = λ tells.
     let number = c.args.number in
     let holds = c.requires.holds tells in
     let s = g.D.Disk.state c.args.disk.now in
-    let kept : IsKeptAs stands found.base found.bins s.held = record { dirty = false; kept = c.settled_is_clean.ensures s.held found.base found.bins c.requires.sized (c.requires.settled tells) } in
-    kept_crash stands found tree number holds s (kept_still stands s s refl (c.requires.still tells) found.base found.bins kept)
+    let kept : IsKeptAs stands found.base found.bins s.held =
+    record {
+      dirty = false;
+      kept = c.settled_is_clean.ensures s.held found.base found.bins c.requires.sized
+          (c.requires.settled tells);
+    } in
+    kept_crash stands found tree number holds s
+    (kept_still stands s s refl (c.requires.still tells) found.base found.bins kept)
 
 pub returns-in-Full-clause-crash : goal.returns-in-Full-clause-crash
 returns-in-Full-clause-crash g c = λ tells.
@@ -50,8 +68,14 @@ returns-in-Full-clause-crash g c = λ tells.
     let number = c.args.number in
     let holds = c.requires.holds tells in
     let s = g.D.Disk.state c.args.disk.now in
-    let kept : IsKeptAs stands found.base found.bins s.held = record { dirty = false; kept = c.settled_is_clean.ensures s.held found.base found.bins c.requires.sized (c.requires.settled tells) } in
-    kept_crash stands found tree number holds s (kept_still stands s s refl (c.requires.still tells) found.base found.bins kept)
+    let kept : IsKeptAs stands found.base found.bins s.held =
+    record {
+      dirty = false;
+      kept = c.settled_is_clean.ensures s.held found.base found.bins c.requires.sized
+          (c.requires.settled tells);
+    } in
+    kept_crash stands found tree number holds s
+    (kept_still stands s s refl (c.requires.still tells) found.base found.bins kept)
 
 pub returns-in-Nothing-clause-answers : goal.returns-in-Nothing-clause-answers
 returns-in-Nothing-clause-answers g c = λ tells image read.
@@ -61,12 +85,19 @@ returns-in-Nothing-clause-answers g c = λ tells image read.
     let number = c.args.number in
     let holds = c.requires.holds tells in
     let s = g.D.Disk.state c.args.disk.now in
-    let kept : IsKeptAs stands found.base found.bins s.held = record { dirty = false; kept = c.settled_is_clean.ensures s.held found.base found.bins c.requires.sized (c.requires.settled tells) } in
+    let kept : IsKeptAs stands found.base found.bins s.held =
+    record {
+      dirty = false;
+      kept = c.settled_is_clean.ensures s.held found.base found.bins c.requires.sized
+          (c.requires.settled tells);
+    } in
     let loaded_is = ap (λ (b : Base). b.first) c.base.view_is ∙ ap (λ (r : Recovered). r.base.first) c.found.view_is in
     let mended_is = ap (λ (r : Recovered). r.dirty) c.found.view_is in
     let version_is = c.version.ensures ∙ ap (λ (r : Recovered). version_of r.base.minor) c.found.view_is in
-    let plan = subst (IsPlanOf c.version.result (change_of c.version.result tree number)) c.in-Nothing.is c.in_ok-next.ensures in
-    nothing_done stands found tree number holds c.base.inside.first c.found.inside.dirty loaded_is mended_is image s.held c.version.result version_is read plan kept
+    let plan = subst (IsPlanOf c.version.result (change_of c.version.result tree number))
+    c.in-Nothing.is c.in_ok-next.ensures in
+    nothing_done stands found tree number holds c.base.inside.first c.found.inside.dirty loaded_is mended_is image
+    s.held c.version.result version_is read plan kept
 
 pub returns-clause-answers : goal.returns-clause-answers
 returns-clause-answers g c = λ tells image read.
@@ -76,20 +107,33 @@ returns-clause-answers g c = λ tells image read.
     let number = c.args.number in
     let holds = c.requires.holds tells in
     let s = g.D.Disk.state c.args.disk.now in
-    let kept : IsKeptAs stands found.base found.bins s.held = record { dirty = false; kept = c.settled_is_clean.ensures s.held found.base found.bins c.requires.sized (c.requires.settled tells) } in
+    let kept : IsKeptAs stands found.base found.bins s.held =
+    record {
+      dirty = false;
+      kept = c.settled_is_clean.ensures s.held found.base found.bins c.requires.sized
+          (c.requires.settled tells);
+    } in
     let loaded_is = ap (λ (b : Base). b.first) c.base.view_is ∙ ap (λ (r : Recovered). r.base.first) c.found.view_is in
     let mended_is = ap (λ (r : Recovered). r.dirty) c.found.view_is in
     let version_is = c.version.ensures ∙ ap (λ (r : Recovered). version_of r.base.minor) c.found.view_is in
-    let x = subst (IsPlanOf c.version.result (change_of c.version.result tree number)) c.in-Pack.is c.in_ok-next.ensures in
+    let x = subst (IsPlanOf c.version.result (change_of c.version.result tree number))
+    c.in-Pack.is c.in_ok-next.ensures in
     let given_is = ap (λ (r : Recovered). r.base) c.found.view_is in
     let old_is = c.as_slice-old.ensures ∙ ap (λ (r : Recovered). r.bins) c.found.view_is in
     let t = g.D.Disk.state c.commit_change.new.disk in
     change_answers stands found tree number holds x.0 c.in-Pack.new c.version.result version_is x.1 x.2
     c.found.inside.base c.as_slice-old.result.now c.as_slice-packed.result.now given_is old_is c.as_slice-packed.ensures
     c.base.inside.first c.found.inside.dirty loaded_is mended_is image t.held read
-    (g.S.Scheme.settled t.held (closed_of c.found.inside.base c.as_slice-packed.result.now 32) c.as_slice-packed.result.now)
-    (λ settled. record { dirty = false; kept = c.settled_is_clean.ensures t.held (closed_of c.found.inside.base c.as_slice-packed.result.now 32) c.as_slice-packed.result.now (ap (λ l. is_bins_size (length l)) c.as_slice-packed.ensures ∙ x.2.sized) settled })
-    c.commit_change.result c.commit_change.ensures.answered c.commit_change.ensures.refused (c.commit_change.ensures.settled tells)
+    (g.S.Scheme.settled t.held (closed_of c.found.inside.base c.as_slice-packed.result.now 32)
+    c.as_slice-packed.result.now)
+    (λ settled. record {
+      dirty = false;
+      kept = c.settled_is_clean.ensures t.held (closed_of c.found.inside.base c.as_slice-packed.result.now 32)
+          c.as_slice-packed.result.now (ap (λ l. is_bins_size (length l)) c.as_slice-packed.ensures ∙ x.2.sized)
+          settled;
+    })
+    c.commit_change.result c.commit_change.ensures.answered c.commit_change.ensures.refused
+    (c.commit_change.ensures.settled tells)
 
 pub returns-clause-crash : goal.returns-clause-crash
 returns-clause-crash g c = λ tells.
@@ -99,11 +143,17 @@ returns-clause-crash g c = λ tells.
     let number = c.args.number in
     let holds = c.requires.holds tells in
     let s = g.D.Disk.state c.args.disk.now in
-    let kept : IsKeptAs stands found.base found.bins s.held = record { dirty = false; kept = c.settled_is_clean.ensures s.held found.base found.bins c.requires.sized (c.requires.settled tells) } in
+    let kept : IsKeptAs stands found.base found.bins s.held =
+    record {
+      dirty = false;
+      kept = c.settled_is_clean.ensures s.held found.base found.bins c.requires.sized
+          (c.requires.settled tells);
+    } in
     let loaded_is = ap (λ (b : Base). b.first) c.base.view_is ∙ ap (λ (r : Recovered). r.base.first) c.found.view_is in
     let mended_is = ap (λ (r : Recovered). r.dirty) c.found.view_is in
     let version_is = c.version.ensures ∙ ap (λ (r : Recovered). version_of r.base.minor) c.found.view_is in
-    let x = subst (IsPlanOf c.version.result (change_of c.version.result tree number)) c.in-Pack.is c.in_ok-next.ensures in
+    let x = subst (IsPlanOf c.version.result (change_of c.version.result tree number))
+    c.in-Pack.is c.in_ok-next.ensures in
     let given_is = ap (λ (r : Recovered). r.base) c.found.view_is in
     let old_is = c.as_slice-old.ensures ∙ ap (λ (r : Recovered). r.bins) c.found.view_is in
     change_crash stands found tree number holds x.0 c.in-Pack.new c.version.result version_is x.1 x.2

@@ -17,7 +17,9 @@ rewrite-requires-clause-stays g c = λ tells.
     let bits = bit c.mark_dirty.new.into in
     let h0 = (g.D.Disk.state c.args.disk.now).held in
     let is0 = c.requires.settled tells in
-    let is = asked (copy_in Primary h0) base old new root c.mark_dirty.new.into is0.first c.numbers_fit.ensures c.texts_fit.ensures c.requires.sized (search rules) c.mark_dirty.ensures in
+    let is = asked (copy_in Primary h0)
+    base old new root c.mark_dirty.new.into is0.first c.numbers_fit.ensures c.texts_fit.ensures c.requires.sized
+    (search rules) c.mark_dirty.ensures in
     second_stays base old new root bits is h0 is0
 
 pub rewrite-requires-2-clause-stays : goal.rewrite-requires-2-clause-stays
@@ -29,10 +31,13 @@ rewrite-requires-2-clause-stays g c = λ tells.
     let bits = bit c.mark_dirty.new.into in
     let h0 = (g.D.Disk.state c.args.disk.now).held in
     let is0 = c.requires.settled tells in
-    let is = asked (copy_in Primary h0) base old new root c.mark_dirty.new.into is0.first c.numbers_fit.ensures c.texts_fit.ensures c.requires.sized (search rules) c.mark_dirty.ensures in
+    let is = asked (copy_in Primary h0)
+    base old new root c.mark_dirty.new.into is0.first c.numbers_fit.ensures c.texts_fit.ensures c.requires.sized
+    (search rules) c.mark_dirty.ensures in
     let s1 = g.D.Disk.state c.rewrite.new.disk in
     let other1 = c.rewrite.ensures.other tells s1.held (held_left s1) in
-    let written1 = written_as Log s1.held c.closed_block-closed.result (closed_of base new root) new c.closed_block-closed.ensures (c.in_ok-rewrite.ensures.written tells) in
+    let written1 = written_as Log s1.held c.closed_block-closed.result (closed_of base new root)
+    new c.closed_block-closed.ensures (c.in_ok-rewrite.ensures.written tells) in
     first_stays base old new root bits is h0 is0 s1.held other1 written1
 
 pub returns-in_err-rewrite-clause-crash : goal.returns-in_err-rewrite-clause-crash
@@ -44,7 +49,9 @@ returns-in_err-rewrite-clause-crash g c = λ tells image left.
     let bits = bit c.mark_dirty.new.into in
     let h0 = (g.D.Disk.state c.args.disk.now).held in
     let is0 = c.requires.settled tells in
-    let is = asked (copy_in Primary h0) base old new root c.mark_dirty.new.into is0.first c.numbers_fit.ensures c.texts_fit.ensures c.requires.sized (search rules) c.mark_dirty.ensures in
+    let is = asked (copy_in Primary h0)
+    base old new root c.mark_dirty.new.into is0.first c.numbers_fit.ensures c.texts_fit.ensures c.requires.sized
+    (search rules) c.mark_dirty.ensures in
     inl (before_cut base old new root bits is h0 is0 image (c.rewrite.ensures.other tells image left))
 
 pub returns-in_err-rewrite-2-clause-crash : goal.returns-in_err-rewrite-2-clause-crash
@@ -56,12 +63,18 @@ returns-in_err-rewrite-2-clause-crash g c = λ tells image left.
     let bits = bit c.mark_dirty.new.into in
     let h0 = (g.D.Disk.state c.args.disk.now).held in
     let is0 = c.requires.settled tells in
-    let is = asked (copy_in Primary h0) base old new root c.mark_dirty.new.into is0.first c.numbers_fit.ensures c.texts_fit.ensures c.requires.sized (search rules) c.mark_dirty.ensures in
+    let is = asked (copy_in Primary h0)
+    base old new root c.mark_dirty.new.into is0.first c.numbers_fit.ensures c.texts_fit.ensures c.requires.sized
+    (search rules) c.mark_dirty.ensures in
     let s1 = g.D.Disk.state c.rewrite.new.disk in
     let other1 = c.rewrite.ensures.other tells s1.held (held_left s1) in
-    let written1 = written_as Log s1.held c.closed_block-closed.result (closed_of base new root) new c.closed_block-closed.ensures (c.in_ok-rewrite.ensures.written tells) in
-    first_cut base old new root bits is h0 is0 s1.held other1 written1 image (c.rewrite-2.ensures.other tells image left)
-    (rewriting_as Primary s1.held image c.opened_block-opened.result (opened_of base) c.closed_block-closed.result (closed_of base new root) new c.opened_block-opened.ensures c.closed_block-closed.ensures (c.rewrite-2.ensures.crash tells image left))
+    let written1 = written_as Log s1.held c.closed_block-closed.result (closed_of base new root)
+    new c.closed_block-closed.ensures (c.in_ok-rewrite.ensures.written tells) in
+    first_cut base old new root bits is h0 is0 s1.held other1 written1 image
+    (c.rewrite-2.ensures.other tells image left)
+    (rewriting_as Primary s1.held image c.opened_block-opened.result (opened_of base) c.closed_block-closed.result
+    (closed_of base new root) new c.opened_block-opened.ensures c.closed_block-closed.ensures
+    (c.rewrite-2.ensures.crash tells image left))
 
 pub returns-clause-crash : goal.returns-clause-crash
 returns-clause-crash g c = λ tells image left.
@@ -72,12 +85,18 @@ returns-clause-crash g c = λ tells image left.
     let bits = bit c.mark_dirty.new.into in
     let h0 = (g.D.Disk.state c.args.disk.now).held in
     let is0 = c.requires.settled tells in
-    let is = asked (copy_in Primary h0) base old new root c.mark_dirty.new.into is0.first c.numbers_fit.ensures c.texts_fit.ensures c.requires.sized (search rules) c.mark_dirty.ensures in
+    let is = asked (copy_in Primary h0)
+    base old new root c.mark_dirty.new.into is0.first c.numbers_fit.ensures c.texts_fit.ensures c.requires.sized
+    (search rules) c.mark_dirty.ensures in
     let s1 = g.D.Disk.state c.rewrite.new.disk in
     let other1 = c.rewrite.ensures.other tells s1.held (held_left s1) in
-    let written1 = written_as Log s1.held c.closed_block-closed.result (closed_of base new root) new c.closed_block-closed.ensures (c.in_ok-rewrite.ensures.written tells) in
-    first_cut base old new root bits is h0 is0 s1.held other1 written1 image (c.rewrite-2.ensures.other tells image left)
-    (rewriting_as Primary s1.held image c.opened_block-opened.result (opened_of base) c.closed_block-closed.result (closed_of base new root) new c.opened_block-opened.ensures c.closed_block-closed.ensures (c.rewrite-2.ensures.crash tells image left))
+    let written1 = written_as Log s1.held c.closed_block-closed.result (closed_of base new root)
+    new c.closed_block-closed.ensures (c.in_ok-rewrite.ensures.written tells) in
+    first_cut base old new root bits is h0 is0 s1.held other1 written1 image
+    (c.rewrite-2.ensures.other tells image left)
+    (rewriting_as Primary s1.held image c.opened_block-opened.result (opened_of base) c.closed_block-closed.result
+    (closed_of base new root) new c.opened_block-opened.ensures c.closed_block-closed.ensures
+    (c.rewrite-2.ensures.crash tells image left))
 
 pub returns-clause-settled : goal.returns-clause-settled
 returns-clause-settled g c = λ tells.
@@ -88,10 +107,15 @@ returns-clause-settled g c = λ tells.
     let bits = bit c.mark_dirty.new.into in
     let h0 = (g.D.Disk.state c.args.disk.now).held in
     let is0 = c.requires.settled tells in
-    let is = asked (copy_in Primary h0) base old new root c.mark_dirty.new.into is0.first c.numbers_fit.ensures c.texts_fit.ensures c.requires.sized (search rules) c.mark_dirty.ensures in
+    let is = asked (copy_in Primary h0)
+    base old new root c.mark_dirty.new.into is0.first c.numbers_fit.ensures c.texts_fit.ensures c.requires.sized
+    (search rules) c.mark_dirty.ensures in
     let s1 = g.D.Disk.state c.rewrite.new.disk in
     let other1 = c.rewrite.ensures.other tells s1.held (held_left s1) in
-    let written1 = written_as Log s1.held c.closed_block-closed.result (closed_of base new root) new c.closed_block-closed.ensures (c.in_ok-rewrite.ensures.written tells) in
+    let written1 = written_as Log s1.held c.closed_block-closed.result (closed_of base new root)
+    new c.closed_block-closed.ensures (c.in_ok-rewrite.ensures.written tells) in
     let s2 = g.D.Disk.state c.rewrite-2.new.disk in
-    pair_after base old new root bits is h0 is0 s1.held other1 written1 s2.held (c.rewrite-2.ensures.other tells s2.held (held_left s2))
-    (written_as Primary s2.held c.closed_block-closed.result (closed_of base new root) new c.closed_block-closed.ensures (c.in_ok-rewrite-2.ensures.written tells))
+    pair_after base old new root bits is h0 is0 s1.held other1 written1 s2.held
+    (c.rewrite-2.ensures.other tells s2.held (held_left s2))
+    (written_as Primary s2.held c.closed_block-closed.result (closed_of base new root) new c.closed_block-closed.ensures
+    (c.in_ok-rewrite-2.ensures.written tells))

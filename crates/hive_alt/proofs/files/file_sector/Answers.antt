@@ -10,10 +10,12 @@ take_short zero (x ∷ xs) small = absurd (omega arith)
 take_short (suc n) [] small = refl
 take_short (suc n) (x ∷ xs) small = ap (λ t. x ∷ t) (take_short n xs (omega arith))
 
-short : (bytes : List ℕ) (n zeros : ℕ) (r : List ℕ) → zeros ≡ 0 → 512 * n < length bytes → r ≡ drop (512 * n) bytes → length r < 512 → sector_of bytes n ≡ Some (Bytes (r ++ drop (length r) (replicate 512 zeros)))
+short : (bytes : List ℕ) (n zeros : ℕ) (r : List ℕ) → zeros ≡ 0 → 512 * n < length bytes → r ≡ drop (512 * n) bytes
+    → length r < 512 → sector_of bytes n ≡ Some (Bytes (r ++ drop (length r) (replicate 512 zeros)))
 short bytes n zeros r none inside is small =
     let part : take 512 (drop (512 * n) bytes) ≡ r = ap (take 512) (sym is) ∙ take_short 512 r (omega arith) in
-    ap (λ t. cond t (Some (Bytes (padded (take 512 (drop (512 * n) bytes))))) None) (lt-ltb (512 * n) (length bytes) inside)
+    ap (λ t. cond t (Some (Bytes (padded (take 512 (drop (512 * n) bytes))))) None)
+    (lt-ltb (512 * n) (length bytes) inside)
     ∙ ap (λ l. Some (Bytes (padded l))) part
     ∙ ap (λ z. Some (Bytes (r ++ replicate (512 - length r) z))) (sym none)
     ∙ ap (λ l. Some (Bytes (r ++ l))) (sym (drop-replicate (length r) 512 zeros))

@@ -11,6 +11,7 @@ invariant-loop-k g l = record {
   on : (g.D.Disk.state l.disk).on ≡ true;
   look : LeavesAsRead g.D.Disk.tells (g.D.Disk.state l.fn.disk) (g.D.Disk.state l.disk) ⊥ ⊥;
   long : length l.bytes ≡ 512 * l.k;
-  read : g.D.Disk.tells ≡ true → ReadSoFar (read_in (file_of l.file) (g.D.Disk.state l.fn.disk).held) l.count l.bytes l.k;
+  read : g.D.Disk.tells ≡ true
+      → ReadSoFar (read_in (file_of l.file) (g.D.Disk.state l.fn.disk).held) l.count l.bytes l.k;
   asked : OnlyReads (g.D.Disk.calls l.fn.disk) (g.D.Disk.calls l.disk);
 }

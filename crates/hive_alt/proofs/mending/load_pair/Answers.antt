@@ -12,31 +12,41 @@ pub mend-requires-clause-first : goal.mend-requires-clause-first
 mend-requires-clause-first g c = λ tells.
     let h0 = (g.D.Disk.state c.args.disk.now).held in
     let view = c.in_ok-found.field-0 in
-    good_first h0 (g.D.Disk.state c.read_pair.new.disk).held view.found view.second (c.in_ok-found.ensures.stands tells) (c.read_pair.ensures.look.held tells)
-    c.found.inside.base c.as_slice.result.now (ap (λ (r : Recovered). r.base) c.found.view_is) (c.as_slice.ensures ∙ ap (λ (r : Recovered). r.bins) c.found.view_is)
+    good_first h0 (g.D.Disk.state c.read_pair.new.disk).held view.found view.second (c.in_ok-found.ensures.stands tells)
+    (c.read_pair.ensures.look.held tells)
+    c.found.inside.base c.as_slice.result.now (ap (λ (r : Recovered). r.base) c.found.view_is)
+    (c.as_slice.ensures ∙ ap (λ (r : Recovered). r.bins) c.found.view_is)
 
 pub mend-requires-clause-behind : goal.mend-requires-clause-behind
 mend-requires-clause-behind g c = λ tells.
     let h0 = (g.D.Disk.state c.args.disk.now).held in
     let view = c.in_ok-found.field-0 in
-    behind_given h0 (g.D.Disk.state c.read_pair.new.disk).held view.found view.second (c.in_ok-found.ensures.stands tells) (c.read_pair.ensures.look.held tells)
-    c.found.inside.base c.as_slice.result.now (ap (λ (r : Recovered). r.base) c.found.view_is) (c.as_slice.ensures ∙ ap (λ (r : Recovered). r.bins) c.found.view_is)
+    behind_given h0 (g.D.Disk.state c.read_pair.new.disk).held view.found view.second
+    (c.in_ok-found.ensures.stands tells) (c.read_pair.ensures.look.held tells)
+    c.found.inside.base c.as_slice.result.now (ap (λ (r : Recovered). r.base) c.found.view_is)
+    (c.as_slice.ensures ∙ ap (λ (r : Recovered). r.bins) c.found.view_is)
 
 pub mend-requires-clause-second : goal.mend-requires-clause-second
 mend-requires-clause-second g c = λ tells.
     let h0 = (g.D.Disk.state c.args.disk.now).held in
     let view = c.in_ok-found.field-0 in
-    good_second h0 (g.D.Disk.state c.read_pair.new.disk).held view.found view.second (c.in_ok-found.ensures.stands tells) (c.read_pair.ensures.look.held tells)
-    c.found.inside.base c.as_slice.result.now (ap (λ (r : Recovered). r.base) c.found.view_is) (c.as_slice.ensures ∙ ap (λ (r : Recovered). r.bins) c.found.view_is)
+    good_second h0 (g.D.Disk.state c.read_pair.new.disk).held view.found view.second
+    (c.in_ok-found.ensures.stands tells) (c.read_pair.ensures.look.held tells)
+    c.found.inside.base c.as_slice.result.now (ap (λ (r : Recovered). r.base) c.found.view_is)
+    (c.as_slice.ensures ∙ ap (λ (r : Recovered). r.bins) c.found.view_is)
 
 pub returns-in_err-found-clause-crash : goal.returns-in_err-found-clause-crash
 returns-in_err-found-clause-crash g c = λ tells base bins is.
-    kept_still twin_of (g.D.Disk.state c.args.disk.now) (g.D.Disk.state c.read_pair.new.disk) (c.read_pair.ensures.look.held tells) (c.read_pair.ensures.look.flight tells ∙ c.requires.still tells) base bins is
+    kept_still twin_of (g.D.Disk.state c.args.disk.now) (g.D.Disk.state c.read_pair.new.disk)
+    (c.read_pair.ensures.look.held tells) (c.read_pair.ensures.look.flight tells ∙ c.requires.still tells)
+    base bins is
 
 pub returns-in_err-mend-clause-crash : goal.returns-in_err-mend-clause-crash
 returns-in_err-mend-clause-crash g c = λ tells base bins is.
-    kept_mended twin_of (g.D.Disk.state c.args.disk.now).held c.in_ok-found.field-0.found (c.in_ok-found.ensures.stands tells).exact
-    c.found.inside.base c.as_slice.result.now (ap (λ (r : Recovered). r.base) c.found.view_is) (c.as_slice.ensures ∙ ap (λ (r : Recovered). r.bins) c.found.view_is)
+    kept_mended twin_of (g.D.Disk.state c.args.disk.now).held c.in_ok-found.field-0.found
+    (c.in_ok-found.ensures.stands tells).exact
+    c.found.inside.base c.as_slice.result.now (ap (λ (r : Recovered). r.base) c.found.view_is)
+    (c.as_slice.ensures ∙ ap (λ (r : Recovered). r.bins) c.found.view_is)
     (g.D.Disk.state c.mend.new.disk) (c.mend.ensures.crash tells) base bins is
 
 pub returns-clause-crash : goal.returns-clause-crash
@@ -46,35 +56,48 @@ returns-clause-crash g c = λ tells base bins is.
     elim c.if-found.branch [
       | then-found+in_ok-mend w ↦ rw w.disk-is
           (kept_mended twin_of s0.held c.in_ok-found.field-0.found (c.in_ok-found.ensures.stands tells).exact
-          c.found.inside.base w.as_slice.result.now (ap (λ (r : Recovered). r.base) c.found.view_is) (w.as_slice.ensures ∙ ap (λ (r : Recovered). r.bins) c.found.view_is)
+          c.found.inside.base w.as_slice.result.now (ap (λ (r : Recovered). r.base) c.found.view_is)
+          (w.as_slice.ensures ∙ ap (λ (r : Recovered). r.bins) c.found.view_is)
           (g.D.Disk.state w.mend.new.disk) (w.mend.ensures.crash tells) base bins is)
-      | else-found w ↦ rw w.disk-is (kept_still twin_of s0 s1 (c.read_pair.ensures.look.held tells) (c.read_pair.ensures.look.flight tells ∙ c.requires.still tells) base bins is)
+      | else-found w ↦ rw w.disk-is
+          (kept_still twin_of s0 s1 (c.read_pair.ensures.look.held tells)
+          (c.read_pair.ensures.look.flight tells ∙ c.requires.still tells) base bins is)
     ]
 
 pub returns-in_err-found-clause-clean : goal.returns-in_err-found-clause-clean
-returns-in_err-found-clause-clean g c = λ tells base bins is. record { held = c.read_pair.ensures.look.held tells; flight = c.read_pair.ensures.look.flight tells }
+returns-in_err-found-clause-clean g c =
+    λ tells base bins is. record
+    { held = c.read_pair.ensures.look.held tells; flight = c.read_pair.ensures.look.flight tells }
 
 pub returns-in_err-mend-clause-clean : goal.returns-in_err-mend-clause-clean
 returns-in_err-mend-clause-clean g c = λ tells base bins is.
-    let undirty = pair_undirty (g.D.Disk.state c.args.disk.now).held c.in_ok-found.field-0.found (c.in_ok-found.ensures.stands tells).exact base bins is in
+    let undirty = pair_undirty (g.D.Disk.state c.args.disk.now).held c.in_ok-found.field-0.found
+    (c.in_ok-found.ensures.stands tells).exact base bins is in
     let dirty = sym (ap (λ (r : Recovered). r.dirty) c.found.view_is) ∙ c.if-found.true in
     absurd (cc)
 
 pub returns-clause-clean : goal.returns-clause-clean
 returns-clause-clean g c = λ tells base bins is.
-    let undirty = pair_undirty (g.D.Disk.state c.args.disk.now).held c.in_ok-found.field-0.found (c.in_ok-found.ensures.stands tells).exact base bins is in
+    let undirty = pair_undirty (g.D.Disk.state c.args.disk.now).held c.in_ok-found.field-0.found
+    (c.in_ok-found.ensures.stands tells).exact base bins is in
     elim c.if-found.branch [
       | then-found+in_ok-mend w ↦
           let dirty = sym (ap (λ (r : Recovered). r.dirty) c.found.view_is) ∙ w.if-found.true in
           absurd (cc)
-      | else-found w ↦ rw w.disk-is (record { held = c.read_pair.ensures.look.held tells; flight = c.read_pair.ensures.look.flight tells })
+      | else-found w ↦ rw w.disk-is
+          (record { held = c.read_pair.ensures.look.held tells; flight = c.read_pair.ensures.look.flight tells })
     ]
 
 pub returns-in_err-found-clause-faulty : goal.returns-in_err-found-clause-faulty
-returns-in_err-found-clause-faulty g c = λ tells fault is. record { held = c.read_pair.ensures.look.held tells; flight = c.read_pair.ensures.look.flight tells }
+returns-in_err-found-clause-faulty g c =
+    λ tells fault is. record {
+      held = c.read_pair.ensures.look.held tells;
+      flight = c.read_pair.ensures.look.flight tells;
+    }
 
 pub returns-in_err-mend-clause-faulty : goal.returns-in_err-mend-clause-faulty
-returns-in_err-mend-clause-faulty g c = λ tells fault is. let exact = (c.in_ok-found.ensures.stands tells).exact in absurd (cc)
+returns-in_err-mend-clause-faulty g c = λ tells fault is. let exact = (c.in_ok-found.ensures.stands tells).exact in
+    absurd (cc)
 
 pub returns-clause-faulty : goal.returns-clause-faulty
 returns-clause-faulty g c = λ tells fault is. let exact = (c.in_ok-found.ensures.stands tells).exact in absurd (cc)
@@ -84,9 +107,13 @@ returns-clause-mended g c = λ tells.
     let h0 = (g.D.Disk.state c.args.disk.now).held in
     elim c.if-found.branch [
       | then-found+in_ok-mend w ↦ rw w.disk-is
-          (pair_as (g.D.Disk.state w.mend.new.disk).held c.in_ok-found.field-0.found c.found.inside.base w.as_slice.result.now
-          (ap (λ (r : Recovered). r.base) c.found.view_is) (w.as_slice.ensures ∙ ap (λ (r : Recovered). r.bins) c.found.view_is) (w.in_ok-mend.ensures.pair tells))
+          (pair_as (g.D.Disk.state w.mend.new.disk).held c.in_ok-found.field-0.found c.found.inside.base
+          w.as_slice.result.now
+          (ap (λ (r : Recovered). r.base) c.found.view_is)
+          (w.as_slice.ensures ∙ ap (λ (r : Recovered). r.bins) c.found.view_is) (w.in_ok-mend.ensures.pair tells))
       | else-found w ↦ rw w.disk-is
-          (subst (λ (i : Image). IsPair i c.in_ok-found.field-0.found.base c.in_ok-found.field-0.found.bins) (sym (c.read_pair.ensures.look.held tells))
-          ((c.in_ok-found.ensures.stands tells).pair (sym (ap (λ (r : Recovered). r.dirty) c.found.view_is) ∙ w.if-found.false)))
+          (subst (λ (i : Image). IsPair i c.in_ok-found.field-0.found.base c.in_ok-found.field-0.found.bins)
+          (sym (c.read_pair.ensures.look.held tells))
+          ((c.in_ok-found.ensures.stands tells).pair
+          (sym (ap (λ (r : Recovered). r.dirty) c.found.view_is) ∙ w.if-found.false)))
     ]

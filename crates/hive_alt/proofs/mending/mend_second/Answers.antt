@@ -10,14 +10,17 @@ rewrite-requires-clause-stays g c = λ tells i small off.
 
 pub returns-in_err-rewrite-clause-crash : goal.returns-in_err-rewrite-clause-crash
 returns-in_err-rewrite-clause-crash g c = λ tells image left.
-    second_cut (g.D.Disk.state c.args.disk.now).held image c.args.base.now c.args.bins.now (c.requires.first tells) (whole_of (length c.args.bins.now) c.requires.sized) (c.rewrite.ensures.other tells image left)
+    second_cut (g.D.Disk.state c.args.disk.now).held image c.args.base.now c.args.bins.now (c.requires.first tells)
+    (whole_of (length c.args.bins.now) c.requires.sized) (c.rewrite.ensures.other tells image left)
 
 pub returns-clause-crash : goal.returns-clause-crash
 returns-clause-crash g c = λ tells image left.
-    second_cut (g.D.Disk.state c.args.disk.now).held image c.args.base.now c.args.bins.now (c.requires.first tells) (whole_of (length c.args.bins.now) c.requires.sized) (c.rewrite.ensures.other tells image left)
+    second_cut (g.D.Disk.state c.args.disk.now).held image c.args.base.now c.args.bins.now (c.requires.first tells)
+    (whole_of (length c.args.bins.now) c.requires.sized) (c.rewrite.ensures.other tells image left)
 
 pub returns-clause-pair : goal.returns-clause-pair
 returns-clause-pair g c = λ tells.
     let s1 = g.D.Disk.state c.rewrite.new.disk in
-    second_mended (g.D.Disk.state c.args.disk.now).held s1.held c.args.base.now c.args.bins.now (c.requires.first tells) c.numbers_fit.ensures c.texts_fit.ensures
+    second_mended (g.D.Disk.state c.args.disk.now).held s1.held c.args.base.now c.args.bins.now (c.requires.first tells)
+    c.numbers_fit.ensures c.texts_fit.ensures
     (c.rewrite.ensures.other tells s1.held (held_left s1)) (c.in_ok-rewrite.ensures.written tells)

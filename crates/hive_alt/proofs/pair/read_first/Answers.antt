@@ -18,14 +18,16 @@ returns-in_err-bins-clause-fault g c = λ tells.
     let p = err_from_is_err_and c.from_residual.result c.from_residual.ensures.1 in
     rw (p.1, p.2)
     (fault_on c.in_err-bins.field-0.0 (all c.base.inside.size) (twin_of h)
-    (λ f is. first_fault h base (c.requires.block tells) c.requires.clean f (ap all (sym e) ∙ is)) (c.in_err-bins.ensures.run tells))
+    (λ f is. first_fault h base (c.requires.block tells) c.requires.clean f (ap all (sym e) ∙ is))
+    (c.in_err-bins.ensures.run tells))
 
 pub returns-in_err-same-clause-fault : goal.returns-in_err-same-clause-fault
 returns-in_err-same-clause-fault g c = λ tells.
     let h1 = (g.D.Disk.state c.read_run.new.disk).held in
     let p = err_from_is_err_and c.from_residual-in_err-same.result c.from_residual-in_err-same.ensures.1 in
     rw (p.1, p.2)
-    (fault_on c.in_err-same.field-0.0 (ok_bool (is_second h1 c.args.base c.as_slice.result.now)) (twin_of (g.D.Disk.state c.args.disk.now).held) (λ f is. absurd (cc)) (c.in_err-same.ensures.same tells))
+    (fault_on c.in_err-same.field-0.0 (ok_bool (is_second h1 c.args.base c.as_slice.result.now))
+    (twin_of (g.D.Disk.state c.args.disk.now).held) (λ f is. absurd (cc)) (c.in_err-same.ensures.same tells))
 
 pub returns-clause-stands : goal.returns-clause-stands
 returns-clause-stands g c = λ tells.
@@ -34,7 +36,10 @@ returns-clause-stands g c = λ tells.
     let e : c.base.inside.size ≡ base.size = ap (λ (b : Base). b.size) c.base.view_is in
     let count : c.base.inside.size / 512 ≡ base.size / 512 = ap (λ n. n / 512) e in
     let bins = c.in_ok-bins.bins in
-    let read = ok_is_bool (is_second (g.D.Disk.state c.read_run.new.disk).held base c.as_slice.result.now) c.in_ok-same.same (c.in_ok-same.ensures.same tells) in
-    first_seen h base (c.requires.block tells) c.requires.clean bins c.requires.size (c.in_ok-bins.ensures.long ∙ ap (λ n. 512 * n) count)
+    let read = ok_is_bool (is_second (g.D.Disk.state c.read_run.new.disk).held base c.as_slice.result.now)
+    c.in_ok-same.same (c.in_ok-same.ensures.same tells) in
+    first_seen h base (c.requires.block tells) c.requires.clean bins c.requires.size
+    (c.in_ok-bins.ensures.long ∙ ap (λ n. 512 * n) count)
     (λ k small. c.in_ok-bins.ensures.sectors tells k (omega (arith, count))) c.in_ok-same.same
-    (sym (ap (λ (i : Image). is_second i base bins) (c.read_run.ensures.look.held tells)) ∙ sym (ap (is_second (g.D.Disk.state c.read_run.new.disk).held base) c.as_slice.ensures) ∙ read)
+    (sym (ap (λ (i : Image). is_second i base bins) (c.read_run.ensures.look.held tells))
+    ∙ sym (ap (is_second (g.D.Disk.state c.read_run.new.disk).held base) c.as_slice.ensures) ∙ read)

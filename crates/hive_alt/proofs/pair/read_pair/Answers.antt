@@ -9,4 +9,5 @@ pub returns-in_err-base-clause-fault : goal.returns-in_err-base-clause-fault
 returns-in_err-base-clause-fault g c = λ tells.
     let h = (g.D.Disk.state c.args.disk.now).held in
     let p = err_from_is_err_and c.from_residual.result c.from_residual.ensures.1 in
-    rw (p.1, p.2) (fault_on c.in_err-base.field-0.0 (base_in h) (twin_of h) (by_fault h) (c.in_err-base.ensures.block tells))
+    rw (p.1, p.2) (fault_on c.in_err-base.field-0.0 (base_in h) (twin_of h) (by_fault h)
+    (c.in_err-base.ensures.block tells))

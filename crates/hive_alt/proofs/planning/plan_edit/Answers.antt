@@ -22,7 +22,9 @@ returns-in-Ok c =
     let work = c.in_ok-work.work in
     let same : work ≡ tree = c.in_ok-work.ensures in
     let made = sym (ap (λ (t : Tree). edited version t steps) same) ∙ c.in-Ok.ensures.made in
-    subst (λ (x : Change). IfOk c.plan_pack.result (IsPlanOf version x)) (sym (plan_made version tree c.apply.new.self c.args.number steps c.requires.there c.in_ok-steps.ensures made)) c.plan_pack.ensures
+    subst (λ (x : Change). IfOk c.plan_pack.result (IsPlanOf version x))
+    (sym (plan_made version tree c.apply.new.self c.args.number steps c.requires.there c.in_ok-steps.ensures made))
+    c.plan_pack.ensures
 
 pub returns-in-Err-Full : goal.returns-in-Err-Full
 returns-in-Err-Full c =
@@ -31,5 +33,7 @@ returns-in-Err-Full c =
     let steps = map step_of c.in_ok-steps.steps in
     let work = c.in_ok-work.work in
     let same : work ≡ tree = c.in_ok-work.ensures in
-    let makes = subst (λ (s : EditStop). Makes work c.apply.new.self (Err s) (edited version work steps)) c.in-Err-Full.field-0-is c.in-Err-Full.ensures.made in
-    plan_full version tree c.args.number steps c.requires.there c.in_ok-steps.ensures (sym (ap (λ (t : Tree). edited version t steps) same) ∙ makes.0)
+    let makes = subst (λ (s : EditStop). Makes work c.apply.new.self (Err s) (edited version work steps))
+    c.in-Err-Full.field-0-is c.in-Err-Full.ensures.made in
+    plan_full version tree c.args.number steps c.requires.there c.in_ok-steps.ensures
+    (sym (ap (λ (t : Tree). edited version t steps) same) ∙ makes.0)

@@ -9,10 +9,12 @@ pub returns-in_err-write_marked-clause-crash : goal.returns-in_err-write_marked-
 returns-in_err-write_marked-clause-crash g c = λ tells.
     let p = is_bin (file_of c.args.file) (length c.args.new.now) (bit c.args.bitmap.now) in
     let first = g.D.Disk.state c.args.disk.now in
-    writing_crash p first (g.D.Disk.state c.write_marked.new.disk) (c.write_marked.ensures.writing tells first (writing_start p first first refl (c.requires.still tells)))
+    writing_crash p first (g.D.Disk.state c.write_marked.new.disk)
+    (c.write_marked.ensures.writing tells first (writing_start p first first refl (c.requires.still tells)))
 
 pub returns-clause-crash : goal.returns-clause-crash
 returns-clause-crash g c = λ tells.
     let p = is_bin (file_of c.args.file) (length c.args.new.now) (bit c.args.bitmap.now) in
     let first = g.D.Disk.state c.args.disk.now in
-    c.settle.ensures.crash tells p first (c.write_marked.ensures.writing tells first (writing_start p first first refl (c.requires.still tells)))
+    c.settle.ensures.crash tells p first
+    (c.write_marked.ensures.writing tells first (writing_start p first first refl (c.requires.still tells)))

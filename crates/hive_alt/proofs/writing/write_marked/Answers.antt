@@ -15,7 +15,8 @@ loop-i-preserved-then-not-has_bit g c =
     record {
       on = c.loop-i.invariant.on;
       writing = c.loop-i.invariant.writing;
-      written = λ tells. marked_skip (copy_in (file_of c.args.file) (now_of (g.D.Disk.state c.loop-i.disk))) bits c.args.new.now c.loop-i.i (c.loop-i.invariant.written tells) off;
+      written = λ tells. marked_skip (copy_in (file_of c.args.file) (now_of (g.D.Disk.state c.loop-i.disk)))
+          bits c.args.new.now c.loop-i.i (c.loop-i.invariant.written tells) off;
       goes = c.loop-i.invariant.goes;
     }
 
@@ -23,7 +24,9 @@ pub returns-in_err-put_sector-clause-writing : goal.returns-in_err-put_sector-cl
 returns-in_err-put_sector-clause-writing g c = λ tells first so_far.
     let bits = bit c.args.bitmap.now in
     let file = file_of c.args.file in
-    c.put_sector.ensures.writing tells (is_bin file (length c.args.new.now) bits) first (marked_at file (length c.args.new.now) bits c.loop-i.i (omega arith) (search rules)) (c.loop-i.invariant.writing tells first so_far)
+    c.put_sector.ensures.writing tells (is_bin file (length c.args.new.now) bits) first
+    (marked_at file (length c.args.new.now) bits c.loop-i.i (omega arith) (search rules))
+    (c.loop-i.invariant.writing tells first so_far)
 
 pub loop-i-preserved : goal.loop-i-preserved
 loop-i-preserved g c =
@@ -33,7 +36,10 @@ loop-i-preserved g c =
     let file = file_of c.args.file in
     record {
       on = on_ok c.in_ok-put_sector.ensures.goes;
-      writing = λ tells first so_far. c.put_sector.ensures.writing tells (is_bin file (length c.args.new.now) bits) first (marked_at file (length c.args.new.now) bits c.loop-i.i (omega arith) (search rules)) (c.loop-i.invariant.writing tells first so_far);
-      written = λ tells. marked_more file (now_of s) (now_of t) bits c.args.new.now c.copy_sector.new.into c.loop-i.i (c.loop-i.invariant.written tells) c.copy_sector.ensures (c.in_ok-put_sector.ensures.put tells);
+      writing = λ tells first so_far. c.put_sector.ensures.writing tells (is_bin file (length c.args.new.now) bits)
+          first (marked_at file (length c.args.new.now) bits c.loop-i.i (omega arith) (search rules))
+          (c.loop-i.invariant.writing tells first so_far);
+      written = λ tells. marked_more file (now_of s) (now_of t) bits c.args.new.now c.copy_sector.new.into c.loop-i.i
+          (c.loop-i.invariant.written tells) c.copy_sector.ensures (c.in_ok-put_sector.ensures.put tells);
       goes = goes_then c.loop-i.invariant.goes (goes_ok c.in_ok-put_sector.ensures.goes);
     }

@@ -14,6 +14,7 @@ invariant-loop-i g l = record {
   writing : g.D.Disk.tells ≡ true → (first : DiskState)
       → Writing (is_bin (file_of l.file) (length l.new) (bit l.bitmap)) first (g.D.Disk.state l.fn.disk)
       → Writing (is_bin (file_of l.file) (length l.new) (bit l.bitmap)) first (g.D.Disk.state l.disk);
-  written : g.D.Disk.tells ≡ true → HasMarkedBelow (copy_in (file_of l.file) (now_of (g.D.Disk.state l.disk))) (bit l.bitmap) l.new l.i;
+  written : g.D.Disk.tells ≡ true
+      → HasMarkedBelow (copy_in (file_of l.file) (now_of (g.D.Disk.state l.disk))) (bit l.bitmap) l.new l.i;
   goes : GoesOn (g.D.Disk.state l.fn.disk) (g.D.Disk.state l.disk) ⊥ ⊥ ⊥;
 }

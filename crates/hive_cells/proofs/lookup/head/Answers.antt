@@ -6,26 +6,34 @@ use Rattle.hive_cells.proofs.lookup.head.Goals as goal
 use Rattle.hive_cells.specs.Reading.{head_of}
 
 pub returns-then-at-ne0-clause-exact : goal.returns-then-at-ne0-clause-exact
-returns-then-at-ne0-clause-exact c = ap (option_map head_of) (sym (none_between c.args.bytes.now c.args.starts.now c.args.at c.requires c.if-at-ne0.true))
+returns-then-at-ne0-clause-exact c =
+    ap (option_map head_of) (sym
+    (none_between c.args.bytes.now c.args.starts.now c.args.at c.requires c.if-at-ne0.true))
 
 pub returns-then-not-begins-clause-exact : goal.returns-then-not-begins-clause-exact
-returns-then-not-begins-clause-exact c = ap (option_map head_of) (sym (none_there c.args.bytes.now c.args.starts.now c.args.at c.requires c.if-at-ne0.false (sym c.if-not-begins.ensures)))
+returns-then-not-begins-clause-exact c =
+    ap (option_map head_of) (sym
+    (none_there c.args.bytes.now c.args.starts.now c.args.at c.requires c.if-at-ne0.false
+    (sym c.if-not-begins.ensures)))
 
 pub u32_at-head-requires : goal.u32_at-head-requires
 u32_at-head-requires c =
-    let t = begins_there c.args.bytes.now c.args.starts.now c.args.at c.requires c.if-at-ne0.false (sym c.if-not-begins.ensures) in
+    let t = begins_there c.args.bytes.now c.args.starts.now c.args.at c.requires c.if-at-ne0.false
+    (sym c.if-not-begins.ensures) in
     omega (arith, (read_at c.args.bytes.now c.args.at t.0 t.1).long, t.1.sound.least)
 
 pub returns-then-head-lt2147483648-clause-exact : goal.returns-then-head-lt2147483648-clause-exact
 returns-then-head-lt2147483648-clause-exact c =
-    let t = begins_there c.args.bytes.now c.args.starts.now c.args.at c.requires c.if-at-ne0.false (sym c.if-not-begins.ensures) in
+    let t = begins_there c.args.bytes.now c.args.starts.now c.args.at c.requires c.if-at-ne0.false
+    (sym c.if-not-begins.ensures) in
     let is = c.u32_at-head.ensures ∙ (read_at c.args.bytes.now c.args.at t.0 t.1).head in
     let f = free_head t.0 t.1.sound (omega (arith, is, c.if-head-lt2147483648.true)) in
     some_head c.args.bytes.now c.args.at t.0 c.u32_at-head.result false t.1 f.0 (sym f.1 ∙ sym is)
 
 pub returns-then-head-lt2147483648-clause-within : goal.returns-then-head-lt2147483648-clause-within
 returns-then-head-lt2147483648-clause-within c =
-    let t = begins_there c.args.bytes.now c.args.starts.now c.args.at c.requires c.if-at-ne0.false (sym c.if-not-begins.ensures) in
+    let t = begins_there c.args.bytes.now c.args.starts.now c.args.at c.requires c.if-at-ne0.false
+    (sym c.if-not-begins.ensures) in
     let r = read_at c.args.bytes.now c.args.at t.0 t.1 in
     let is = c.u32_at-head.ensures ∙ r.head in
     let f = free_head t.0 t.1.sound (omega (arith, is, c.if-head-lt2147483648.true)) in
@@ -34,14 +42,17 @@ returns-then-head-lt2147483648-clause-within c =
 
 pub returns-else-head-lt2147483648-clause-exact : goal.returns-else-head-lt2147483648-clause-exact
 returns-else-head-lt2147483648-clause-exact c =
-    let t = begins_there c.args.bytes.now c.args.starts.now c.args.at c.requires c.if-at-ne0.false (sym c.if-not-begins.ensures) in
+    let t = begins_there c.args.bytes.now c.args.starts.now c.args.at c.requires c.if-at-ne0.false
+    (sym c.if-not-begins.ensures) in
     let is = c.u32_at-head.ensures ∙ (read_at c.args.bytes.now c.args.at t.0 t.1).head in
     let f = allocated_head t.0 t.1.sound (omega (arith, is, c.if-head-lt2147483648.false)) in
-    some_head c.args.bytes.now c.args.at t.0 (4294967296 - c.from.result) true t.1 f.0 (omega (arith, is, f.1, c.from.ensures))
+    some_head c.args.bytes.now c.args.at t.0 (4294967296 - c.from.result) true t.1 f.0
+    (omega (arith, is, f.1, c.from.ensures))
 
 pub returns-else-head-lt2147483648-clause-within : goal.returns-else-head-lt2147483648-clause-within
 returns-else-head-lt2147483648-clause-within c =
-    let t = begins_there c.args.bytes.now c.args.starts.now c.args.at c.requires c.if-at-ne0.false (sym c.if-not-begins.ensures) in
+    let t = begins_there c.args.bytes.now c.args.starts.now c.args.at c.requires c.if-at-ne0.false
+    (sym c.if-not-begins.ensures) in
     let r = read_at c.args.bytes.now c.args.at t.0 t.1 in
     let is = c.u32_at-head.ensures ∙ r.head in
     let f = allocated_head t.0 t.1.sound (omega (arith, is, c.if-head-lt2147483648.false)) in

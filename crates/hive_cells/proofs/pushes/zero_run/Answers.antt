@@ -5,12 +5,16 @@ use Rattle.hive_cells.proofs.pushes.zero_run.Goals as goal
 
 pub returns-clause-run : goal.returns-clause-run
 returns-clause-run c =
-    let head = c.push_word.ensures.items ∙ ap (λ (m : ℕ). c.reserve.new.self.items ++ to_le_bytes w32 (4294967296 - m)) c.from.ensures in
-    (zero_made c.args.payload ((c.args.payload + 11) / 8 * 8) c.reserve.new.self.items c.push_word.new.bytes.items c.push_zeros.new.bytes.items c.requires (omega arith)
+    let head = c.push_word.ensures.items
+    ∙ ap (λ (m : ℕ). c.reserve.new.self.items ++ to_le_bytes w32 (4294967296 - m)) c.from.ensures in
+    (zero_made c.args.payload ((c.args.payload + 11) / 8 * 8)
+    c.reserve.new.self.items c.push_word.new.bytes.items c.push_zeros.new.bytes.items c.requires (omega arith)
     (c.in_ok-reserve.ensures.items ∙ c.new-run.ensures.items) head c.push_zeros.ensures.items).run_is
 
 pub returns-clause-cells : goal.returns-clause-cells
 returns-clause-cells c =
-    let head = c.push_word.ensures.items ∙ ap (λ (m : ℕ). c.reserve.new.self.items ++ to_le_bytes w32 (4294967296 - m)) c.from.ensures in
-    (zero_made c.args.payload ((c.args.payload + 11) / 8 * 8) c.reserve.new.self.items c.push_word.new.bytes.items c.push_zeros.new.bytes.items c.requires (omega arith)
+    let head = c.push_word.ensures.items
+    ∙ ap (λ (m : ℕ). c.reserve.new.self.items ++ to_le_bytes w32 (4294967296 - m)) c.from.ensures in
+    (zero_made c.args.payload ((c.args.payload + 11) / 8 * 8)
+    c.reserve.new.self.items c.push_word.new.bytes.items c.push_zeros.new.bytes.items c.requires (omega arith)
     (c.in_ok-reserve.ensures.items ∙ c.new-run.ensures.items) head c.push_zeros.ensures.items).cells

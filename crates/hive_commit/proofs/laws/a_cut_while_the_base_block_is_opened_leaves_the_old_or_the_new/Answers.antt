@@ -3,4 +3,5 @@ use Rattle.hive_commit.proofs.laws.a_cut_while_the_base_block_is_opened_leaves_t
 
 pub returns : goal.returns
 returns c = λ before logged cut base old new root bits is log left.
-    opened_stage base old new root bits (change_asked before base old new root bits is) before is.carries logged log.alone log.log_there cut left.alone left.block
+    opened_stage base old new root bits (change_asked before base old new root bits is)
+    before is.carries logged log.alone log.log_there cut left.alone left.block

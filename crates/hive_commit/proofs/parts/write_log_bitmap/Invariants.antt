@@ -11,7 +11,8 @@ use Rattle.hive_commit.proofs.parts.write_log_bitmap.Given as goal
 abbrev pub invariant-loop-k : goal.invariant-loop-k
 invariant-loop-k g l = record {
   on : (g.D.Disk.state l.disk).on ≡ true;
-  writing : g.D.Disk.tells ≡ true → (first : DiskState) → Writing in_log first (g.D.Disk.state l.fn.disk) → Writing in_log first (g.D.Disk.state l.disk);
+  writing : g.D.Disk.tells ≡ true → (first : DiskState) → Writing in_log first (g.D.Disk.state l.fn.disk)
+      → Writing in_log first (g.D.Disk.state l.disk);
   made : (log : List ℕ) → HasBitmap log (bit l.bitmap) l.size
       → Makes (g.D.Disk.calls l.fn.disk) (g.D.Disk.calls l.disk) (writes_of (log_part log 1 l.k));
   front : g.D.Disk.tells ≡ true → (log : List ℕ) → HasBitmap log (bit l.bitmap) l.size

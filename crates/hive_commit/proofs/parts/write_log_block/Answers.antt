@@ -11,7 +11,8 @@ pub returns-clause-made : goal.returns-clause-made
 returns-clause-made g c = λ log is.
     let before = g.D.Disk.calls c.args.disk.now in
     let after = g.D.Disk.calls c.put_sector.new.disk in
-    let bytes_are : c.base_bytes.new.into ≡ sector log 0 = c.base_bytes.ensures ∙ ap base_text c.logged_block.ensures ∙ sym is in
+    let bytes_are : c.base_bytes.new.into ≡ sector log 0 =
+    c.base_bytes.ensures ∙ ap base_text c.logged_block.ensures ∙ sym is in
     all_made before after c.put_sector.result (Wrote (log_at 0, sector log 0) ∷ [])
     (subst (λ (l : List ℕ). Makes before after (Wrote (log_at 0, l) ∷ [])) bytes_are c.put_sector.ensures.made)
 

@@ -22,12 +22,17 @@ returns-in_err-put_sector-clause-made g c = λ log marked.
     let before = g.D.Disk.calls c.loop-i.disk in
     let after = g.D.Disk.calls c.put_sector.new.disk in
     let on : bits i ≡ true = search rules in
-    let more = log_more log first_one first before (rank bits i) (c.loop-i.invariant.made log marked) after c.copy_sector.new.into (c.copy_sector.ensures ∙ sym (marked i (omega arith) on))
-    (subst (λ n. Makes before after (Wrote (log_at n, c.copy_sector.new.into) ∷ [])) c.loop-i.invariant.place c.put_sector.ensures.made) in
-    log_stopped log first_one first after (rank bits i + 1) more c.from_residual.result (rank bits (length new / 512)) c.from_residual.ensures.0 (omega (arith, rank_below bits (length new / 512) i (omega arith) on))
+    let more = log_more log first_one first before (rank bits i) (c.loop-i.invariant.made log marked)
+    after c.copy_sector.new.into (c.copy_sector.ensures ∙ sym (marked i (omega arith) on))
+    (subst (λ n. Makes before after (Wrote (log_at n, c.copy_sector.new.into) ∷ []))
+    c.loop-i.invariant.place c.put_sector.ensures.made) in
+    log_stopped log first_one first after (rank bits i + 1) more c.from_residual.result (rank bits (length new / 512))
+    c.from_residual.ensures.0 (omega (arith, rank_below bits (length new / 512) i (omega arith) on))
 
 pub returns-in_err-put_sector-clause-writing : goal.returns-in_err-put_sector-clause-writing
-returns-in_err-put_sector-clause-writing g c = λ tells first so_far. c.put_sector.ensures.writing tells in_log first refl (c.loop-i.invariant.writing tells first so_far)
+returns-in_err-put_sector-clause-writing g c =
+    λ tells first so_far. c.put_sector.ensures.writing tells in_log first refl
+    (c.loop-i.invariant.writing tells first so_far)
 
 pub loop-i-preserved : goal.loop-i-preserved
 loop-i-preserved g c =
@@ -41,19 +46,26 @@ loop-i-preserved g c =
       on = on_ok c.in_ok-put_sector.ensures.goes;
       place = omega (arith, more, c.loop-i.invariant.place);
       small = omega arith;
-      writing = λ tells first so_far. c.put_sector.ensures.writing tells in_log first refl (c.loop-i.invariant.writing tells first so_far);
+      writing = λ tells first so_far. c.put_sector.ensures.writing tells in_log first refl
+          (c.loop-i.invariant.writing tells first so_far);
       made = λ log marked.
           let first = g.D.Disk.calls c.args.disk.now in
           let before = g.D.Disk.calls c.loop-i.disk in
           let after = g.D.Disk.calls c.put_sector.new.disk in
           subst (λ n. Makes first after (writes_of (log_part log first_one n))) (sym more)
-          (log_more log first_one first before (rank bits c.loop-i.i) (c.loop-i.invariant.made log marked) after c.copy_sector.new.into (c.copy_sector.ensures ∙ sym (marked c.loop-i.i (omega arith) on))
-          (subst (λ n. Makes before after (Wrote (log_at n, c.copy_sector.new.into) ∷ [])) c.loop-i.invariant.place c.put_sector.ensures.made));
+          (log_more log first_one first before (rank bits c.loop-i.i) (c.loop-i.invariant.made log marked)
+          after c.copy_sector.new.into (c.copy_sector.ensures ∙ sym (marked c.loop-i.i (omega arith) on))
+          (subst (λ n. Makes before after (Wrote (log_at n, c.copy_sector.new.into) ∷ []))
+          c.loop-i.invariant.place c.put_sector.ensures.made));
       front = λ tells log marked so_far.
-          let next : first_one + rank bits c.loop-i.i + 1 ≡ first_one + rank bits (c.loop-i.i + 1) = omega (arith, more) in
-          front_along (now_of t) log (first_one + rank bits c.loop-i.i + 1) (first_one + rank bits (c.loop-i.i + 1)) next
-          (front_more (now_of s) (now_of t) log c.copy_sector.new.into (first_one + rank bits c.loop-i.i) (c.loop-i.invariant.front tells log marked so_far)
+          let next : first_one + rank bits c.loop-i.i + 1 ≡ first_one + rank bits (c.loop-i.i + 1) =
+          omega (arith, more) in
+          front_along (now_of t) log (first_one + rank bits c.loop-i.i + 1) (first_one + rank bits (c.loop-i.i + 1))
+          next
+          (front_more (now_of s) (now_of t) log c.copy_sector.new.into (first_one + rank bits c.loop-i.i)
+          (c.loop-i.invariant.front tells log marked so_far)
           (c.copy_sector.ensures ∙ sym (marked c.loop-i.i (omega arith) on))
-          (c.in_ok-put_sector.ensures.put tells ∙ ap (λ n. put (now_of s) (log_at n, c.copy_sector.new.into)) c.loop-i.invariant.place));
+          (c.in_ok-put_sector.ensures.put tells
+          ∙ ap (λ n. put (now_of s) (log_at n, c.copy_sector.new.into)) c.loop-i.invariant.place));
       goes = goes_then c.loop-i.invariant.goes (goes_ok c.in_ok-put_sector.ensures.goes);
     }

@@ -13,10 +13,12 @@ invariant-loop-i g l = record {
   on : (g.D.Disk.state l.disk).on ≡ true;
   place : l.number ≡ first_dirty (length l.new) + rank (bit l.bitmap) l.i;
   small : l.number ≤ 100 + l.i;
-  writing : g.D.Disk.tells ≡ true → (first : DiskState) → Writing in_log first (g.D.Disk.state l.fn.disk) → Writing in_log first (g.D.Disk.state l.disk);
+  writing : g.D.Disk.tells ≡ true → (first : DiskState) → Writing in_log first (g.D.Disk.state l.fn.disk)
+      → Writing in_log first (g.D.Disk.state l.disk);
   made : (log : List ℕ)
       → HasRun log (bit l.bitmap) l.new
-      → Makes (g.D.Disk.calls l.fn.disk) (g.D.Disk.calls l.disk) (writes_of (log_part log (first_dirty (length l.new)) (rank (bit l.bitmap) l.i)));
+      → Makes (g.D.Disk.calls l.fn.disk) (g.D.Disk.calls l.disk)
+      (writes_of (log_part log (first_dirty (length l.new)) (rank (bit l.bitmap) l.i)));
   front : g.D.Disk.tells ≡ true → (log : List ℕ)
       → HasRun log (bit l.bitmap) l.new
       → HasFront (now_of (g.D.Disk.state l.fn.disk)) log (first_dirty (length l.new))

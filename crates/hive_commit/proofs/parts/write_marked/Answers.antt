@@ -15,8 +15,11 @@ returns-in_err-put_sector-clause-made g c =
     let i = c.loop-i.i in
     let first = g.D.Disk.calls c.args.disk.now in
     let after = g.D.Disk.calls c.put_sector.new.disk in
-    let more = calls.marked_more bits new first (g.D.Disk.calls c.loop-i.disk) i c.loop-i.invariant.made after c.copy_sector.new.into (search rules) c.copy_sector.ensures c.put_sector.ensures.made in
-    marked_stopped bits new first after (i + 1) more c.from_residual.result (length new / 512) c.from_residual.ensures.0 (omega arith)
+    let more = calls.marked_more bits new first (g.D.Disk.calls c.loop-i.disk)
+    i c.loop-i.invariant.made after c.copy_sector.new.into (search rules)
+    c.copy_sector.ensures c.put_sector.ensures.made in
+    marked_stopped bits new first after (i + 1) more c.from_residual.result (length new / 512) c.from_residual.ensures.0
+    (omega arith)
 
 pub loop-i-preserved-then-not-has_bit : goal.loop-i-preserved-then-not-has_bit
 loop-i-preserved-then-not-has_bit g c =
@@ -25,15 +28,19 @@ loop-i-preserved-then-not-has_bit g c =
     record {
       on = c.loop-i.invariant.on;
       writing = c.loop-i.invariant.writing;
-      made = calls.marked_skip bits c.args.new.now (g.D.Disk.calls c.args.disk.now) (g.D.Disk.calls c.loop-i.disk) c.loop-i.i c.loop-i.invariant.made off;
-      written = λ tells. marked_skip (now_of (g.D.Disk.state c.loop-i.disk)) bits c.args.new.now c.loop-i.i (c.loop-i.invariant.written tells) off;
+      made = calls.marked_skip bits c.args.new.now (g.D.Disk.calls c.args.disk.now) (g.D.Disk.calls c.loop-i.disk)
+          c.loop-i.i c.loop-i.invariant.made off;
+      written = λ tells. marked_skip (now_of (g.D.Disk.state c.loop-i.disk)) bits c.args.new.now c.loop-i.i
+          (c.loop-i.invariant.written tells) off;
       goes = c.loop-i.invariant.goes;
     }
 
 pub returns-in_err-put_sector-clause-writing : goal.returns-in_err-put_sector-clause-writing
 returns-in_err-put_sector-clause-writing g c = λ tells first so_far.
     let bits = bit c.args.bitmap.now in
-    c.put_sector.ensures.writing tells (is_marked (length c.args.new.now) bits) first (marked_at (length c.args.new.now) bits c.loop-i.i (omega arith) (search rules)) (c.loop-i.invariant.writing tells first so_far)
+    c.put_sector.ensures.writing tells (is_marked (length c.args.new.now) bits) first
+    (marked_at (length c.args.new.now) bits c.loop-i.i (omega arith) (search rules))
+    (c.loop-i.invariant.writing tells first so_far)
 
 pub loop-i-preserved : goal.loop-i-preserved
 loop-i-preserved g c =
@@ -42,8 +49,13 @@ loop-i-preserved g c =
     let bits = bit c.args.bitmap.now in
     record {
       on = on_ok c.in_ok-put_sector.ensures.goes;
-      writing = λ tells first so_far. c.put_sector.ensures.writing tells (is_marked (length c.args.new.now) bits) first (marked_at (length c.args.new.now) bits c.loop-i.i (omega arith) (search rules)) (c.loop-i.invariant.writing tells first so_far);
-      made = calls.marked_more bits c.args.new.now (g.D.Disk.calls c.args.disk.now) (g.D.Disk.calls c.loop-i.disk) c.loop-i.i c.loop-i.invariant.made (g.D.Disk.calls c.put_sector.new.disk) c.copy_sector.new.into (search rules) c.copy_sector.ensures c.put_sector.ensures.made;
-      written = λ tells. marked_more (now_of s) (now_of t) bits c.args.new.now c.copy_sector.new.into c.loop-i.i (c.loop-i.invariant.written tells) c.copy_sector.ensures (c.in_ok-put_sector.ensures.put tells);
+      writing = λ tells first so_far. c.put_sector.ensures.writing tells (is_marked (length c.args.new.now) bits) first
+          (marked_at (length c.args.new.now) bits c.loop-i.i (omega arith) (search rules))
+          (c.loop-i.invariant.writing tells first so_far);
+      made = calls.marked_more bits c.args.new.now (g.D.Disk.calls c.args.disk.now) (g.D.Disk.calls c.loop-i.disk)
+          c.loop-i.i c.loop-i.invariant.made (g.D.Disk.calls c.put_sector.new.disk) c.copy_sector.new.into
+          (search rules) c.copy_sector.ensures c.put_sector.ensures.made;
+      written = λ tells. marked_more (now_of s) (now_of t) bits c.args.new.now c.copy_sector.new.into c.loop-i.i
+          (c.loop-i.invariant.written tells) c.copy_sector.ensures (c.in_ok-put_sector.ensures.put tells);
       goes = goes_then c.loop-i.invariant.goes (goes_ok c.in_ok-put_sector.ensures.goes);
     }

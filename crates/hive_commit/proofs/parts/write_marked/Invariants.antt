@@ -11,7 +11,9 @@ use Rattle.hive_commit.proofs.parts.write_marked.Given as goal
 abbrev pub invariant-loop-i : goal.invariant-loop-i
 invariant-loop-i g l = record {
   on : (g.D.Disk.state l.disk).on ≡ true;
-  writing : g.D.Disk.tells ≡ true → (first : DiskState) → Writing (is_marked (length l.new) (bit l.bitmap)) first (g.D.Disk.state l.fn.disk) → Writing (is_marked (length l.new) (bit l.bitmap)) first (g.D.Disk.state l.disk);
+  writing : g.D.Disk.tells ≡ true → (first : DiskState)
+      → Writing (is_marked (length l.new) (bit l.bitmap)) first (g.D.Disk.state l.fn.disk)
+      → Writing (is_marked (length l.new) (bit l.bitmap)) first (g.D.Disk.state l.disk);
   made : Makes (g.D.Disk.calls l.fn.disk) (g.D.Disk.calls l.disk) (writes_of (marked_below (bit l.bitmap) l.new l.i));
   written : g.D.Disk.tells ≡ true → HasMarkedBelow (now_of (g.D.Disk.state l.disk)) (bit l.bitmap) l.new l.i;
   goes : GoesOn (g.D.Disk.state l.fn.disk) (g.D.Disk.state l.disk) ⊥ ⊥ ⊥;

@@ -16,7 +16,8 @@ returns-in_err-write_bins-clause-made g c =
     let block = block_calls c.args.closed.now in
     let start = g.D.Disk.calls c.args.disk.now in
     let one = g.D.Disk.calls c.write_bins.new.disk in
-    stopped start one c.from_residual.result (bins ++ Synced ∷ block) c.from_residual.ensures.0 (in_closing_bins bins block start one c.in_err-write_bins.ensures.made)
+    stopped start one c.from_residual.result (bins ++ Synced ∷ block) c.from_residual.ensures.0
+    (in_closing_bins bins block start one c.in_err-write_bins.ensures.made)
 
 pub returns-in_err-write_block-clause-made : goal.returns-in_err-write_block-clause-made
 returns-in_err-write_block-clause-made g c =
@@ -25,7 +26,8 @@ returns-in_err-write_block-clause-made g c =
     let start = g.D.Disk.calls c.args.disk.now in
     let one = g.D.Disk.calls c.write_bins.new.disk in
     let two = g.D.Disk.calls c.write_block.new.disk in
-    stopped start two c.from_residual-in_err-write_block.result (bins ++ Synced ∷ block) c.from_residual-in_err-write_block.ensures.0
+    stopped start two c.from_residual-in_err-write_block.result (bins ++ Synced ∷ block)
+    c.from_residual-in_err-write_block.ensures.0
     (in_closing_block bins block start one two c.in_ok-write_bins.ensures.made c.in_err-write_block.ensures.made)
 
 pub returns-clause-made : goal.returns-clause-made
@@ -44,7 +46,8 @@ returns-in_err-write_bins-clause-crash g c = λ tells left crash.
     let bitmap = c.args.bitmap.now in
     let bins = c.args.bins.now in
     let found = c.requires.found tells in
-    kept_in_bins image closed bitmap bins found c.numbers_fit.ensures c.texts_fit.ensures c.requires.whole left (c.write_bins.ensures.crash tells left crash)
+    kept_in_bins image closed bitmap bins found c.numbers_fit.ensures c.texts_fit.ensures c.requires.whole left
+    (c.write_bins.ensures.crash tells left crash)
 
 pub returns-in_err-write_block-clause-crash : goal.returns-in_err-write_block-clause-crash
 returns-in_err-write_block-clause-crash g c = λ tells left crash.
@@ -55,7 +58,8 @@ returns-in_err-write_block-clause-crash g c = λ tells left crash.
     let found = c.requires.found tells in
     let h = (g.D.Disk.state c.write_bins.new.disk).held in
     let agree1 = c.write_bins.ensures.crash tells h (held_left (g.D.Disk.state c.write_bins.new.disk)) in
-    kept_in_block image closed bitmap bins found c.numbers_fit.ensures c.texts_fit.ensures c.requires.whole h agree1 (c.in_ok-write_bins.ensures.written tells)
+    kept_in_block image closed bitmap bins found c.numbers_fit.ensures c.texts_fit.ensures c.requires.whole h agree1
+    (c.in_ok-write_bins.ensures.written tells)
     left (c.write_block.ensures.crash tells left crash) (c.write_block.ensures.block tells left crash)
 
 pub returns-clause-crash : goal.returns-clause-crash
@@ -67,7 +71,8 @@ returns-clause-crash g c = λ tells left crash.
     let found = c.requires.found tells in
     let h = (g.D.Disk.state c.write_bins.new.disk).held in
     let agree1 = c.write_bins.ensures.crash tells h (held_left (g.D.Disk.state c.write_bins.new.disk)) in
-    kept_in_block image closed bitmap bins found c.numbers_fit.ensures c.texts_fit.ensures c.requires.whole h agree1 (c.in_ok-write_bins.ensures.written tells)
+    kept_in_block image closed bitmap bins found c.numbers_fit.ensures c.texts_fit.ensures c.requires.whole h agree1
+    (c.in_ok-write_bins.ensures.written tells)
     left (c.write_block.ensures.crash tells left crash) (c.write_block.ensures.block tells left crash)
 
 pub returns-clause-carries : goal.returns-clause-carries
@@ -80,32 +85,39 @@ returns-clause-carries g c = λ tells.
     let h = (g.D.Disk.state c.write_bins.new.disk).held in
     let agree1 = c.write_bins.ensures.crash tells h (held_left (g.D.Disk.state c.write_bins.new.disk)) in
     let t = g.D.Disk.state c.write_block.new.disk in
-    closed_again image closed bitmap bins found c.numbers_fit.ensures c.texts_fit.ensures c.requires.whole h agree1 (c.in_ok-write_bins.ensures.written tells)
+    closed_again image closed bitmap bins found c.numbers_fit.ensures c.texts_fit.ensures c.requires.whole h agree1
+    (c.in_ok-write_bins.ensures.written tells)
     t.held (c.write_block.ensures.crash tells t.held (held_left t)) (c.in_ok-write_block.ensures.written tells)
 
 pub returns-in_err-write_bins-clause-log : goal.returns-in_err-write_bins-clause-log
-returns-in_err-write_bins-clause-log g c = λ tells left crash n. c.write_bins.ensures.crash tells left crash (log_at n) refl
+returns-in_err-write_bins-clause-log g c =
+    λ tells left crash n. c.write_bins.ensures.crash tells left crash (log_at n) refl
 
 pub returns-in_err-write_block-clause-log : goal.returns-in_err-write_block-clause-log
 returns-in_err-write_block-clause-log g c = λ tells left crash n.
     let s = g.D.Disk.state c.write_bins.new.disk in
-    c.write_block.ensures.crash tells left crash (log_at n) refl ∙ c.write_bins.ensures.crash tells s.held (held_left s) (log_at n) refl
+    c.write_block.ensures.crash tells left crash (log_at n) refl
+    ∙ c.write_bins.ensures.crash tells s.held (held_left s) (log_at n) refl
 
 pub returns-clause-log : goal.returns-clause-log
 returns-clause-log g c = λ tells left crash n.
     let s = g.D.Disk.state c.write_bins.new.disk in
-    c.write_block.ensures.crash tells left crash (log_at n) refl ∙ c.write_bins.ensures.crash tells s.held (held_left s) (log_at n) refl
+    c.write_block.ensures.crash tells left crash (log_at n) refl
+    ∙ c.write_bins.ensures.crash tells s.held (held_left s) (log_at n) refl
 
 pub returns-in_err-write_bins-clause-rest : goal.returns-in_err-write_bins-clause-rest
 returns-in_err-write_bins-clause-rest g c = λ tells left crash.
-    rest_marked (length c.args.bins.now) (g.D.Disk.state c.args.disk.now).held left (bit c.args.bitmap.now) (c.write_bins.ensures.crash tells left crash)
+    rest_marked (length c.args.bins.now) (g.D.Disk.state c.args.disk.now).held left (bit c.args.bitmap.now)
+    (c.write_bins.ensures.crash tells left crash)
 
 pub returns-in_err-write_block-clause-rest : goal.returns-in_err-write_block-clause-rest
 returns-in_err-write_block-clause-rest g c = λ tells left crash.
     let size = length c.args.bins.now in
     let s0 = g.D.Disk.state c.args.disk.now in
     let s1 = g.D.Disk.state c.write_bins.new.disk in
-    rest_then size s0.held s1.held left (rest_marked size s0.held s1.held (bit c.args.bitmap.now) (c.write_bins.ensures.crash tells s1.held (held_left s1)))
+    rest_then size s0.held s1.held left
+    (rest_marked size s0.held s1.held (bit c.args.bitmap.now)
+    (c.write_bins.ensures.crash tells s1.held (held_left s1)))
     (rest_base size s1.held left (c.write_block.ensures.crash tells left crash))
 
 pub returns-clause-rest : goal.returns-clause-rest
@@ -113,5 +125,7 @@ returns-clause-rest g c = λ tells left crash.
     let size = length c.args.bins.now in
     let s0 = g.D.Disk.state c.args.disk.now in
     let s1 = g.D.Disk.state c.write_bins.new.disk in
-    rest_then size s0.held s1.held left (rest_marked size s0.held s1.held (bit c.args.bitmap.now) (c.write_bins.ensures.crash tells s1.held (held_left s1)))
+    rest_then size s0.held s1.held left
+    (rest_marked size s0.held s1.held (bit c.args.bitmap.now)
+    (c.write_bins.ensures.crash tells s1.held (held_left s1)))
     (rest_base size s1.held left (c.write_block.ensures.crash tells left crash))

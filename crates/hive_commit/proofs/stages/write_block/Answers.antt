@@ -11,8 +11,10 @@ returns-in_err-write-clause-made g c =
     let before = g.D.Disk.calls c.args.disk.now in
     let after = g.D.Disk.calls c.write.new.self in
     let base = c.args.base.now in
-    let one = subst (λ (l : List ℕ). Makes before after (Wrote (primary_at 0, l) ∷ [])) c.base_bytes.ensures c.write.ensures.made in
-    stopped before after c.from_residual.result (block_calls base) c.from_residual.ensures.0 (front_made before after (Wrote (primary_at 0, base_text base) ∷ []) (Synced ∷ []) one)
+    let one = subst (λ (l : List ℕ). Makes before after (Wrote (primary_at 0, l) ∷ []))
+    c.base_bytes.ensures c.write.ensures.made in
+    stopped before after c.from_residual.result (block_calls base) c.from_residual.ensures.0
+    (front_made before after (Wrote (primary_at 0, base_text base) ∷ []) (Synced ∷ []) one)
 
 pub returns-clause-made : goal.returns-clause-made
 returns-clause-made g c =
@@ -20,5 +22,8 @@ returns-clause-made g c =
     let written = g.D.Disk.calls c.write.new.self in
     let after = g.D.Disk.calls c.sync.new.self in
     let base = c.args.base.now in
-    let one = subst (λ (l : List ℕ). Makes before written (Wrote (primary_at 0, l) ∷ [])) c.base_bytes.ensures c.write.ensures.made in
-    all_made before after c.sync.result (block_calls base) (made_then before written after (Wrote (primary_at 0, base_text base) ∷ []) (Synced ∷ []) one c.sync.ensures.made)
+    let one = subst (λ (l : List ℕ). Makes before written (Wrote (primary_at 0, l) ∷ []))
+    c.base_bytes.ensures c.write.ensures.made in
+    all_made before after c.sync.result (block_calls base)
+    (made_then before written after (Wrote (primary_at 0, base_text base) ∷ []) (Synced ∷ [])
+    one c.sync.ensures.made)

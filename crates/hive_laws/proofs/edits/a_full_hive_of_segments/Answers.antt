@@ -14,7 +14,8 @@ pub returns-clause-fits : goal.returns-clause-fits
 unfolding edited judged one_more
 returns-clause-fits c = λ block last long rest.
     let e : nat_lt most_bulk (bulk_of V5 (one_more block last)) ≡ false = rw (long, rest) in
-    ap (judged V5) (set block last 1030988 rest refl) ∙ passed (nat_lt most_bulk (bulk_of V5 (one_more block last))) (Err full) (Ok (one_more block last)) e
+    ap (judged V5) (set block last 1030988 rest refl)
+    ∙ passed (nat_lt most_bulk (bulk_of V5 (one_more block last))) (Err full) (Ok (one_more block last)) e
 
 pub returns-clause-bulk_then : goal.returns-clause-bulk_then
 returns-clause-bulk_then c = λ block last long rest. rw (long, rest)
@@ -23,4 +24,5 @@ pub returns-clause-refused : goal.returns-clause-refused
 unfolding edited judged one_more
 returns-clause-refused c = λ block last long rest.
     let e : nat_lt most_bulk (bulk_of V5 (one_more block last)) ≡ true = rw (long, rest) in
-    ap (judged V5) (set block last 1030989 rest refl) ∙ caught (nat_lt most_bulk (bulk_of V5 (one_more block last))) (Err full) (Ok (one_more block last)) e
+    ap (judged V5) (set block last 1030989 rest refl)
+    ∙ caught (nat_lt most_bulk (bulk_of V5 (one_more block last))) (Err full) (Ok (one_more block last)) e

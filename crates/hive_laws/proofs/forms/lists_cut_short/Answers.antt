@@ -12,17 +12,25 @@ use Rattle.hive_laws.specs.Samples.{root_alone}
 use Rattle.hive_laws.proofs.forms.lists_cut_short.Goals as goal
 
 pub returns-clause-list : goal.returns-clause-list
-unfolding key_name_at value_name_at key_node_at key_node_text key_value_at key_value_text bytes_in security_at security_text list_of list_at big_data_at big_data_text li_text lf_text lh_text ri_text offsets_in header_at size_at node_at big_data_of leaf_at root_alone
+unfolding key_name_at value_name_at key_node_at key_node_text key_value_at key_value_text bytes_in security_at
+    security_text list_of list_at big_data_at big_data_text li_text lf_text lh_text ri_text offsets_in header_at size_at
+    node_at big_data_of leaf_at root_alone
 returns-clause-list c = refl
 
 pub returns-clause-hinted_list : goal.returns-clause-hinted_list
-unfolding key_name_at value_name_at key_node_at key_node_text key_value_at key_value_text bytes_in security_at security_text list_of list_at big_data_at big_data_text li_text lf_text lh_text ri_text offsets_in header_at size_at node_at big_data_of leaf_at root_alone
+unfolding key_name_at value_name_at key_node_at key_node_text key_value_at key_value_text bytes_in security_at
+    security_text list_of list_at big_data_at big_data_text li_text lf_text lh_text ri_text offsets_in header_at size_at
+    node_at big_data_of leaf_at root_alone
 returns-clause-hinted_list c = refl
 
 pub returns-clause-values : goal.returns-clause-values
-unfolding key_name_at value_name_at key_node_at key_node_text key_value_at key_value_text bytes_in security_at security_text list_of list_at big_data_at big_data_text li_text lf_text lh_text ri_text offsets_in header_at size_at node_at big_data_of leaf_at root_alone
+unfolding key_name_at value_name_at key_node_at key_node_text key_value_at key_value_text bytes_in security_at
+    security_text list_of list_at big_data_at big_data_text li_text lf_text lh_text ri_text offsets_in header_at size_at
+    node_at big_data_of leaf_at root_alone
 returns-clause-values c = refl
 
 pub returns-clause-hashed_list : goal.returns-clause-hashed_list
-unfolding key_name_at value_name_at key_node_at key_node_text key_value_at key_value_text bytes_in security_at security_text list_of list_at big_data_at big_data_text li_text lf_text lh_text ri_text offsets_in header_at size_at node_at big_data_of leaf_at root_alone
+unfolding key_name_at value_name_at key_node_at key_node_text key_value_at key_value_text bytes_in security_at
+    security_text list_of list_at big_data_at big_data_text li_text lf_text lh_text ri_text offsets_in header_at size_at
+    node_at big_data_of leaf_at root_alone
 returns-clause-hashed_list c = refl

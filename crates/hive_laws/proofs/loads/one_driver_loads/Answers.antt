@@ -9,5 +9,6 @@ use Rattle.hive_laws.proofs.Faults.{loaded}
 use Rattle.hive_laws.proofs.loads.one_driver_loads.Goals as goal
 
 pub returns : goal.returns
-unfolding mixed_words head_text summed_text base_text base_of fields_of sector recovered_of cell_bytes head_bytes file_of driver_words driver_bin driver_with is_cell cells_in
+unfolding mixed_words head_text summed_text base_text base_of fields_of sector recovered_of cell_bytes head_bytes
+    file_of driver_words driver_bin driver_with is_cell cells_in
 returns c = loaded refl refl refl refl

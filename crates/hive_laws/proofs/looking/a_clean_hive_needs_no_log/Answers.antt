@@ -8,12 +8,14 @@ use Rattle.hive_laws.specs.Looking.{LooksAt}
 use Rattle.hive_laws.proofs.Alike.{recovered_alike}
 use Rattle.hive_laws.proofs.looking.a_clean_hive_needs_no_log.Goals as goal
 
-unread : (image : Image) (base : Base) (n : ℕ) → HasBase image base → base.first ≡ base.second → LooksAt image (log_at n) → ⊥
+unread : (image : Image) (base : Base) (n : ℕ) → HasBase image base → base.first ≡ base.second
+    → LooksAt image (log_at n) → ⊥
 unread image base n has even looks = grind (arith, common_steps)
 
 -- the primary stays, and the log is not looked at
 same : (image : Image) (base : Base) (log : List ℕ) → HasBase image base → base.first ≡ base.second
-    → (f : File) (n : ℕ) → LooksAt image (record { file = f; sector = n }) → image (record { file = f; sector = n }) ≡ with_file Log log image (record { file = f; sector = n })
+    → (f : File) (n : ℕ) → LooksAt image (record { file = f; sector = n })
+    → image (record { file = f; sector = n }) ≡ with_file Log log image (record { file = f; sector = n })
 same image base log has even Primary n looks = refl
 same image base log has even Log n looks = absurd (unread image base n has even looks)
 
@@ -21,4 +23,5 @@ pub returns-clause-unread : goal.returns-clause-unread
 returns-clause-unread c = unread
 
 pub returns-clause-any : goal.returns-clause-any
-returns-clause-any c = λ image base log has even. sym (recovered_alike image (with_file Log log image) (λ a looks. same image base log has even a.file a.sector looks))
+returns-clause-any c = λ image base log has even. sym
+    (recovered_alike image (with_file Log log image) (λ a looks. same image base log has even a.file a.sector looks))

@@ -8,7 +8,8 @@ use Rattle.hive_laws.specs.OneDriver.{driver_words, driver_bin, driver_with}
 use Rattle.hive_laws.proofs.looking.sectors_that_recovery_asks_for.Goals as goal
 
 pub returns-clause-clean : goal.returns-clause-clean
-unfolding mixed_words head_text summed_text base_text base_of fields_of sector asked_of file_of driver_words driver_bin driver_with
+unfolding mixed_words head_text summed_text base_text base_of fields_of sector asked_of file_of driver_words driver_bin
+    driver_with
 returns-clause-clean c = refl
 
 pub returns-clause-no_primary : goal.returns-clause-no_primary
@@ -20,13 +21,16 @@ unfolding mixed_words head_text summed_text base_text base_of fields_of sector a
 returns-clause-no_log c = refl
 
 pub returns-clause-logged : goal.returns-clause-logged
-unfolding mixed_words head_text summed_text base_text base_of fields_of bitmap_text log_of sector bit asked_of before after file_of
+unfolding mixed_words head_text summed_text base_text base_of fields_of bitmap_text log_of sector bit asked_of before
+    after file_of
 returns-clause-logged c = refl
 
 pub returns-clause-unreadable_block : goal.returns-clause-unreadable_block
-unfolding mixed_words head_text summed_text base_text base_of fields_of bitmap_text log_of sector bit asked_of before after file_of
+unfolding mixed_words head_text summed_text base_text base_of fields_of bitmap_text log_of sector bit asked_of before
+    after file_of
 returns-clause-unreadable_block c = refl
 
 pub returns-clause-unreadable_log : goal.returns-clause-unreadable_log
-unfolding mixed_words head_text summed_text base_text base_of fields_of bitmap_text log_of sector bit asked_of before after file_of
+unfolding mixed_words head_text summed_text base_text base_of fields_of bitmap_text log_of sector bit asked_of before
+    after file_of
 returns-clause-unreadable_log c = refl

@@ -9,7 +9,8 @@ pub returns-clause-one_state : goal.returns-clause-one_state
 returns-clause-one_state c = one-load one_list
 
 pub returns-clause-not_both : goal.returns-clause-not_both
-returns-clause-not_both c = load-or-fault one_list (λ bins fault is fails. not_both (spelled 0 bins) bins fault is refl fails)
+returns-clause-not_both c =
+    load-or-fault one_list (λ bins fault is fails. not_both (spelled 0 bins) bins fault is refl fails)
 
 pub returns-clause-one_fault : goal.returns-clause-one_fault
 returns-clause-one_fault c = one_first

@@ -17,7 +17,9 @@ block_of r = and_then r (λ block. as_log_base (base_of block 1))
 
 pub returns-clause-sized : goal.returns-clause-sized
 returns-clause-sized g c =
-    (base_checked c.read_sector.new.into 1 _ (log_base_back (base_of c.read_sector.new.into 1) _ (sym c.read_logged.ensures ∙ c.in_ok-read_logged.was))).size_is
+    (base_checked c.read_sector.new.into 1 _
+    (log_base_back (base_of c.read_sector.new.into 1) _
+    (sym c.read_logged.ensures ∙ c.in_ok-read_logged.was))).size_is
 
 pub returns-in_err-read_sector-clause-asked : goal.returns-in_err-read_sector-clause-asked
 returns-in_err-read_sector-clause-asked g c =
@@ -25,19 +27,26 @@ returns-in_err-read_sector-clause-asked g c =
     let e = c.in_err-read_sector.field-0.0 in
     let p = err_from_is_err_and c.from_residual.result c.from_residual.ensures.1 in
     rw (p.1, p.2)
-    (asks_sector (g.D.Disk.calls c.args.disk.now) (g.D.Disk.calls c.read_sector.new.disk) g.D.Disk.tells (log_at 0) (logged_in h) (Err e) c.read_sector.ensures.made
-    (λ tells. fault_on e (bytes_or (fault_at LogAbsent 0) (fault_at LogUnreadable 0) (h (log_at 0))) (logged_in h) (λ f is. ap block_of is) (c.in_err-read_sector.ensures.bytes tells)))
+    (asks_sector (g.D.Disk.calls c.args.disk.now) (g.D.Disk.calls c.read_sector.new.disk) g.D.Disk.tells (log_at 0)
+    (logged_in h) (Err e) c.read_sector.ensures.made
+    (λ tells. fault_on e (bytes_or (fault_at LogAbsent 0) (fault_at LogUnreadable 0) (h (log_at 0))) (logged_in h)
+    (λ f is. ap block_of is) (c.in_err-read_sector.ensures.bytes tells)))
 
 pub returns-in_err-read_logged-clause-asked : goal.returns-in_err-read_logged-clause-asked
 returns-in_err-read_logged-clause-asked g c =
     let h = (g.D.Disk.state c.args.disk.now).held in
-    let p = err_from_is_err_and c.from_residual-in_err-read_logged.result c.from_residual-in_err-read_logged.ensures.1 in
+    let p = err_from_is_err_and c.from_residual-in_err-read_logged.result
+    c.from_residual-in_err-read_logged.ensures.1 in
     rw (p.1, p.2)
-    (asks_sector (g.D.Disk.calls c.args.disk.now) (g.D.Disk.calls c.read_sector.new.disk) g.D.Disk.tells (log_at 0) (logged_in h) (Err (load.Fault c.in_err-read_logged.field-0.0)) c.read_sector.ensures.made
-    (λ tells. ap block_of (c.in_ok-read_sector.ensures.bytes tells) ∙ sym c.read_logged.ensures ∙ c.in_err-read_logged.was))
+    (asks_sector (g.D.Disk.calls c.args.disk.now) (g.D.Disk.calls c.read_sector.new.disk) g.D.Disk.tells (log_at 0)
+    (logged_in h) (Err (load.Fault c.in_err-read_logged.field-0.0)) c.read_sector.ensures.made
+    (λ tells. ap block_of (c.in_ok-read_sector.ensures.bytes tells) ∙ sym c.read_logged.ensures
+    ∙ c.in_err-read_logged.was))
 
 pub returns-clause-asked : goal.returns-clause-asked
 returns-clause-asked g c =
     let h = (g.D.Disk.state c.args.disk.now).held in
-    asks_sector (g.D.Disk.calls c.args.disk.now) (g.D.Disk.calls c.read_sector.new.disk) g.D.Disk.tells (log_at 0) (logged_in h) (Ok c.in_ok-read_logged.field-0) c.read_sector.ensures.made
-    (λ tells. ap block_of (c.in_ok-read_sector.ensures.bytes tells) ∙ sym c.read_logged.ensures ∙ c.in_ok-read_logged.was)
+    asks_sector (g.D.Disk.calls c.args.disk.now) (g.D.Disk.calls c.read_sector.new.disk) g.D.Disk.tells (log_at 0)
+    (logged_in h) (Ok c.in_ok-read_logged.field-0) c.read_sector.ensures.made
+    (λ tells. ap block_of (c.in_ok-read_sector.ensures.bytes tells) ∙ sym c.read_logged.ensures
+    ∙ c.in_ok-read_logged.was)

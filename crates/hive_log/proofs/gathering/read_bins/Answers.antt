@@ -20,7 +20,8 @@ pub sector_of-requires : goal.sector_of-requires
 sector_of-requires g c =
     let bits = bit c.args.bitmap.now in
     let on : bits c.loop-i.i ≡ true = sym c.has_bit.ensures ∙ c.if-has_bit.true in
-    let below : rank bits c.loop-i.i < rank bits c.args.count = rank_below bits c.args.count c.loop-i.i c.loop-i-test.true on in
+    let below : rank bits c.loop-i.i < rank bits c.args.count =
+    rank_below bits c.args.count c.loop-i.i c.loop-i-test.true on in
     omega (arith, below, c.loop-i.invariant.place, c.requires.run_long)
 
 pub loop-i-preserved-then-has_bit : goal.loop-i-preserved-then-has_bit
@@ -31,19 +32,28 @@ loop-i-preserved-then-has_bit g c =
     let on : bits c.loop-i.i ≡ true = sym c.has_bit.ensures ∙ c.if-has_bit.true in
     let more = rank_on bits c.loop-i.i on in
     let at : Sectors = mixed h run bits in
-    let taken : c.sector_of.result.now ≡ sector run (rank bits c.loop-i.i) = c.sector_of.ensures.value ∙ ap (sector run) c.loop-i.invariant.place in
+    let taken : c.sector_of.result.now ≡ sector run (rank bits c.loop-i.i) =
+    c.sector_of.ensures.value ∙ ap (sector run) c.loop-i.invariant.place in
     let appended : c.append.new.self ≡ c.loop-i.bytes ++ c.sector_of.result.now = c.in_ok-append.ensures.ok in
     record {
       on = c.loop-i.invariant.on;
       look = c.loop-i.invariant.look;
-      long = ap length appended ∙ omega (arith, length-append c.loop-i.bytes c.sector_of.result.now, c.sector_of.ensures.long, c.loop-i.invariant.long);
+      long = ap length appended
+          ∙ omega (
+            arith,
+            length-append c.loop-i.bytes c.sector_of.result.now,
+            c.sector_of.ensures.long,
+            c.loop-i.invariant.long,
+          );
       place = omega (arith, more, c.loop-i.invariant.place);
       small = omega (arith, c.loop-i.invariant.small);
       read = λ tells.
           subst (λ (b : List ℕ). ReadSoFar at c.args.count b (c.loop-i.i + 1)) (sym appended)
-          (read_more at c.args.count c.loop-i.bytes c.sector_of.result.now c.loop-i.i c.loop-i-test.true c.loop-i.invariant.long c.sector_of.ensures.long
+          (read_more at c.args.count c.loop-i.bytes c.sector_of.result.now c.loop-i.i c.loop-i-test.true
+          c.loop-i.invariant.long c.sector_of.ensures.long
           (mixed_on h run bits c.loop-i.i on ∙ ap (λ b. Ok b) (sym taken)) (c.loop-i.invariant.read tells));
-      asked = subst (λ (l : List Address). AsksSoFar (g.D.Disk.calls c.args.disk.now) (g.D.Disk.calls c.loop-i.disk) g.D.Disk.tells h l) (marked_more bits c.loop-i.i on) c.loop-i.invariant.asked;
+      asked = subst (λ (l : List Address). AsksSoFar (g.D.Disk.calls c.args.disk.now) (g.D.Disk.calls c.loop-i.disk)
+          g.D.Disk.tells h l) (marked_more bits c.loop-i.i on) c.loop-i.invariant.asked;
     }
 
 pub loop-i-preserved : goal.loop-i-preserved
@@ -56,19 +66,24 @@ loop-i-preserved g c =
     let at : Sectors = mixed h run bits in
     let bytes = c.read_bin_sector.new.into in
     let read : g.D.Disk.tells ≡ true → read_bin h i ≡ Ok bytes =
-    λ tells. ap (λ (m : Image). read_bin m i) (sym (c.loop-i.invariant.look.held tells)) ∙ c.in_ok-read_bin_sector.ensures.bytes tells in
+    λ tells. ap (λ (m : Image). read_bin m i) (sym (c.loop-i.invariant.look.held tells))
+    ∙ c.in_ok-read_bin_sector.ensures.bytes tells in
     let appended : c.append-in-loop-i.new.self ≡ c.loop-i.bytes ++ bytes = c.in_ok-append-2.ensures.ok in
     record {
       on = look_on c.in_ok-read_bin_sector.ensures.look;
       look = leaves_then c.loop-i.invariant.look (look_ok c.in_ok-read_bin_sector.ensures.look);
-      long = ap length appended ∙ omega (arith, length-append c.loop-i.bytes bytes, c.read_bin_sector.array_long, c.loop-i.invariant.long);
+      long = ap length appended
+          ∙ omega (arith, length-append c.loop-i.bytes bytes, c.read_bin_sector.array_long, c.loop-i.invariant.long);
       place = c.loop-i.invariant.place ∙ sym (rank_off bits i off);
       small = omega (arith, c.loop-i.invariant.small);
       read = λ tells.
           subst (λ (b : List ℕ). ReadSoFar at c.args.count b (i + 1)) (sym appended)
-          (read_more at c.args.count c.loop-i.bytes bytes i c.loop-i-test.true c.loop-i.invariant.long c.read_bin_sector.array_long (mixed_off h run bits i off ∙ read tells) (c.loop-i.invariant.read tells));
-      asked = subst (λ (l : List Address). AsksSoFar (g.D.Disk.calls c.args.disk.now) (g.D.Disk.calls c.read_bin_sector.new.disk) g.D.Disk.tells h l) (unmarked_more bits i off)
-          (asks_more c.loop-i.invariant.asked (bin_at i) (g.D.Disk.calls c.read_bin_sector.new.disk) c.read_bin_sector.ensures.made
+          (read_more at c.args.count c.loop-i.bytes bytes i c.loop-i-test.true c.loop-i.invariant.long
+          c.read_bin_sector.array_long (mixed_off h run bits i off ∙ read tells) (c.loop-i.invariant.read tells));
+      asked = subst (λ (l : List Address). AsksSoFar (g.D.Disk.calls c.args.disk.now)
+          (g.D.Disk.calls c.read_bin_sector.new.disk) g.D.Disk.tells h l) (unmarked_more bits i off)
+          (asks_more c.loop-i.invariant.asked (bin_at i) (g.D.Disk.calls c.read_bin_sector.new.disk)
+          c.read_bin_sector.ensures.made
           (λ tells. readable (fault_at Size 40) (fault_at Unreadable _) (h (bin_at i)) bytes (read tells)));
     }
 
@@ -81,7 +96,8 @@ returns-in_err-read_bin_sector-clause-bins g c = λ tells.
     let i = c.loop-i.i in
     let off : bits i ≡ false = sym c.has_bit.ensures ∙ c.if-has_bit.false in
     let at : Sectors = mixed h run bits in
-    let p = err_from_is_err_and c.from_residual-in_err-read_bin_sector.result c.from_residual-in_err-read_bin_sector.ensures.1 in
+    let p = err_from_is_err_and c.from_residual-in_err-read_bin_sector.result
+    c.from_residual-in_err-read_bin_sector.ensures.1 in
     rw (p.1, p.2)
     (fault_on c.in_err-read_bin_sector.field-0.0 (read_bin now i) (gathered at 0 c.args.count)
     (λ f is. read_fault at c.args.count c.loop-i.bytes i c.loop-i-test.true (c.loop-i.invariant.read tells) f
@@ -95,7 +111,8 @@ returns-in_err-append-clause-asked g c =
     let on : bits i ≡ true = sym c.has_bit.ensures ∙ c.if-has_bit.true in
     let p = err_from_is_err_and c.from_residual.result c.from_residual.ensures.1 in
     rw (p.1, p.2)
-    (asks_held {T = List ℕ} c.loop-i.invariant.asked (unmarked_at bits c.args.count) (unmarked_rest bits i c.args.count) (marked_split bits i c.args.count c.loop-i-test.true on))
+    (asks_held {T = List ℕ} c.loop-i.invariant.asked (unmarked_at bits c.args.count) (unmarked_rest bits i c.args.count)
+    (marked_split bits i c.args.count c.loop-i-test.true on))
 
 pub returns-in_err-read_bin_sector-clause-asked : goal.returns-in_err-read_bin_sector-clause-asked
 returns-in_err-read_bin_sector-clause-asked g c =
@@ -104,11 +121,14 @@ returns-in_err-read_bin_sector-clause-asked g c =
     let at : Address = bin_at i in
     let off : bits i ≡ false = sym c.has_bit.ensures ∙ c.if-has_bit.false in
     let e = c.in_err-read_bin_sector.field-0.0 in
-    let p = err_from_is_err_and c.from_residual-in_err-read_bin_sector.result c.from_residual-in_err-read_bin_sector.ensures.1 in
+    let p = err_from_is_err_and c.from_residual-in_err-read_bin_sector.result
+    c.from_residual-in_err-read_bin_sector.ensures.1 in
     rw (p.1, p.2)
-    (asks_refused c.loop-i.invariant.asked at (g.D.Disk.calls c.read_bin_sector.new.disk) c.read_bin_sector.ensures.made (unmarked_at bits c.args.count) (unmarked_rest bits i c.args.count)
+    (asks_refused c.loop-i.invariant.asked at (g.D.Disk.calls c.read_bin_sector.new.disk) c.read_bin_sector.ensures.made
+    (unmarked_at bits c.args.count) (unmarked_rest bits i c.args.count)
     (unmarked_split bits i c.args.count c.loop-i-test.true off) (List ℕ) e (fault_at Size 40) (fault_at Unreadable _)
-    (λ tells. subst (λ (m : Image). IsFaultOf e (read_bin m i)) (c.loop-i.invariant.look.held tells) (c.in_err-read_bin_sector.ensures.bytes tells)))
+    (λ tells. subst (λ (m : Image). IsFaultOf e (read_bin m i)) (c.loop-i.invariant.look.held tells)
+    (c.in_err-read_bin_sector.ensures.bytes tells)))
 
 pub returns-in_err-append-2-clause-asked : goal.returns-in_err-append-2-clause-asked
 returns-in_err-append-2-clause-asked g c =
@@ -118,11 +138,14 @@ returns-in_err-append-2-clause-asked g c =
     let off : bits i ≡ false = sym c.has_bit.ensures ∙ c.if-has_bit.false in
     let p = err_from_is_err_and c.from_residual-in_err-append-2.result c.from_residual-in_err-append-2.ensures.1 in
     rw (p.1, p.2)
-    (asks_unheld c.loop-i.invariant.asked at (g.D.Disk.calls c.read_bin_sector.new.disk) c.read_bin_sector.ensures.made (unmarked_at bits c.args.count) (unmarked_rest bits i c.args.count)
+    (asks_unheld c.loop-i.invariant.asked at (g.D.Disk.calls c.read_bin_sector.new.disk) c.read_bin_sector.ensures.made
+    (unmarked_at bits c.args.count) (unmarked_rest bits i c.args.count)
     (unmarked_split bits i c.args.count c.loop-i-test.true off) (List ℕ))
 
 pub returns-clause-asked : goal.returns-clause-asked
 returns-clause-asked g c =
     let all : c.loop-i.i ≡ c.args.count = omega arith in
-    subst (λ (n : ℕ). AsksFirst (g.D.Disk.calls c.args.disk.now) (g.D.Disk.calls c.loop-i.disk) g.D.Disk.tells (one_by_one (g.D.Disk.state c.args.disk.now).held (unmarked_at (bit c.args.bitmap.now) n)) (Ok c.loop-i.bytes)) all
+    subst (λ (n : ℕ). AsksFirst (g.D.Disk.calls c.args.disk.now) (g.D.Disk.calls c.loop-i.disk) g.D.Disk.tells
+    (one_by_one (g.D.Disk.state c.args.disk.now).held (unmarked_at (bit c.args.bitmap.now) n)) (Ok c.loop-i.bytes))
+    all
     (asks_all c.loop-i.invariant.asked c.loop-i.bytes)

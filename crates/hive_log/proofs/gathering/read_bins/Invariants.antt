@@ -14,6 +14,8 @@ invariant-loop-i g l = record {
   long : length l.bytes ≡ 512 * l.i;
   place : l.taken ≡ rank (bit l.bitmap) l.i;
   small : l.taken ≤ l.i;
-  read : g.D.Disk.tells ≡ true → ReadSoFar (mixed (g.D.Disk.state l.fn.disk).held l.run (bit l.bitmap)) l.count l.bytes l.i;
-  asked : AsksSoFar (g.D.Disk.calls l.fn.disk) (g.D.Disk.calls l.disk) g.D.Disk.tells (g.D.Disk.state l.fn.disk).held (unmarked_at (bit l.bitmap) l.i);
+  read : g.D.Disk.tells ≡ true
+      → ReadSoFar (mixed (g.D.Disk.state l.fn.disk).held l.run (bit l.bitmap)) l.count l.bytes l.i;
+  asked : AsksSoFar (g.D.Disk.calls l.fn.disk) (g.D.Disk.calls l.disk) g.D.Disk.tells (g.D.Disk.state l.fn.disk).held
+      (unmarked_at (bit l.bitmap) l.i);
 }

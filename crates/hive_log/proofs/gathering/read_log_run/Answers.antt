@@ -24,7 +24,9 @@ returns-in_err-read_log_sector-clause-run g c = λ tells.
     rw (p.1, p.2)
     (fault_on c.in_err-read_log_sector.field-0.0 (read_log now (first + k)) (gathered (read_log h) first c.args.count)
     (λ f is. run_counted (read_log h) first c.args.count
-    ∙ read_fault (λ k. read_log h (first + k)) c.args.count c.loop-k.bytes k c.loop-k-test.true (c.loop-k.invariant.read tells) f (ap (λ (i : Image). read_log i (first + k)) (sym (c.loop-k.invariant.look.held tells)) ∙ is))
+    ∙ read_fault (λ k. read_log h (first + k)) c.args.count c.loop-k.bytes k c.loop-k-test.true
+    (c.loop-k.invariant.read tells) f
+    (ap (λ (i : Image). read_log i (first + k)) (sym (c.loop-k.invariant.look.held tells)) ∙ is))
     (c.in_err-read_log_sector.ensures.bytes tells))
 
 pub loop-k-preserved : goal.loop-k-preserved
@@ -36,18 +38,24 @@ loop-k-preserved g c =
     let at : Sectors = λ k. read_log h (first + k) in
     let bytes = c.read_log_sector.new.into in
     let read : g.D.Disk.tells ≡ true → read_log h (first + k) ≡ Ok bytes =
-    λ tells. ap (λ (i : Image). read_log i (first + k)) (sym (c.loop-k.invariant.look.held tells)) ∙ c.in_ok-read_log_sector.ensures.bytes tells in
+    λ tells. ap (λ (i : Image). read_log i (first + k)) (sym (c.loop-k.invariant.look.held tells))
+    ∙ c.in_ok-read_log_sector.ensures.bytes tells in
     let appended : c.append.new.self ≡ c.loop-k.bytes ++ bytes = c.in_ok-append.ensures.ok in
     record {
       on = look_on c.in_ok-read_log_sector.ensures.look;
       look = leaves_then c.loop-k.invariant.look (look_ok c.in_ok-read_log_sector.ensures.look);
-      long = ap length appended ∙ omega (arith, length-append c.loop-k.bytes bytes, c.read_log_sector.array_long, c.loop-k.invariant.long);
+      long = ap length appended
+          ∙ omega (arith, length-append c.loop-k.bytes bytes, c.read_log_sector.array_long, c.loop-k.invariant.long);
       read = λ tells.
           subst (λ (b : List ℕ). ReadSoFar at c.args.count b (k + 1)) (sym appended)
-          (read_more at c.args.count c.loop-k.bytes bytes k c.loop-k-test.true c.loop-k.invariant.long c.read_log_sector.array_long (read tells) (c.loop-k.invariant.read tells));
-      asked = subst (λ (l : List Address). AsksSoFar (g.D.Disk.calls c.args.disk.now) (g.D.Disk.calls c.read_log_sector.new.disk) g.D.Disk.tells h l) (run_more Log first k)
-          (asks_more c.loop-k.invariant.asked (log_at (first + k)) (g.D.Disk.calls c.read_log_sector.new.disk) c.read_log_sector.ensures.made
-          (λ tells. readable (fault_at LogShort _) (fault_at LogUnreadable _) (h (log_at (first + k))) bytes (read tells)));
+          (read_more at c.args.count c.loop-k.bytes bytes k c.loop-k-test.true c.loop-k.invariant.long
+          c.read_log_sector.array_long (read tells) (c.loop-k.invariant.read tells));
+      asked = subst (λ (l : List Address). AsksSoFar (g.D.Disk.calls c.args.disk.now)
+          (g.D.Disk.calls c.read_log_sector.new.disk) g.D.Disk.tells h l) (run_more Log first k)
+          (asks_more c.loop-k.invariant.asked (log_at (first + k)) (g.D.Disk.calls c.read_log_sector.new.disk)
+          c.read_log_sector.ensures.made
+          (λ tells. readable (fault_at LogShort _) (fault_at LogUnreadable _) (h (log_at (first + k))) bytes
+          (read tells)));
     }
 
 pub returns-in_err-read_log_sector-clause-asked : goal.returns-in_err-read_log_sector-clause-asked
@@ -60,9 +68,11 @@ returns-in_err-read_log_sector-clause-asked g c =
     let e = c.in_err-read_log_sector.field-0.0 in
     let p = err_from_is_err_and c.from_residual.result c.from_residual.ensures.1 in
     rw (p.1, p.2)
-    (asks_refused c.loop-k.invariant.asked at (g.D.Disk.calls c.read_log_sector.new.disk) c.read_log_sector.ensures.made (run_at Log first c.args.count) (run_rest Log first k c.args.count)
+    (asks_refused c.loop-k.invariant.asked at (g.D.Disk.calls c.read_log_sector.new.disk) c.read_log_sector.ensures.made
+    (run_at Log first c.args.count) (run_rest Log first k c.args.count)
     (run_split Log first k c.args.count c.loop-k-test.true) (List ℕ) e (fault_at LogShort _) (fault_at LogUnreadable _)
-    (λ tells. subst (λ (i : Image). IsFaultOf e (read_log i (first + k))) (c.loop-k.invariant.look.held tells) (c.in_err-read_log_sector.ensures.bytes tells)))
+    (λ tells. subst (λ (i : Image). IsFaultOf e (read_log i (first + k))) (c.loop-k.invariant.look.held tells)
+    (c.in_err-read_log_sector.ensures.bytes tells)))
 
 pub returns-in_err-append-clause-asked : goal.returns-in_err-append-clause-asked
 returns-in_err-append-clause-asked g c =
@@ -70,17 +80,20 @@ returns-in_err-append-clause-asked g c =
     let at : Address = log_at (c.args.first + k) in
     let p = err_from_is_err_and c.from_residual-in_err-append.result c.from_residual-in_err-append.ensures.1 in
     rw (p.1, p.2)
-    (asks_unheld c.loop-k.invariant.asked at (g.D.Disk.calls c.read_log_sector.new.disk) c.read_log_sector.ensures.made (run_at Log c.args.first c.args.count) (run_rest Log c.args.first k c.args.count)
+    (asks_unheld c.loop-k.invariant.asked at (g.D.Disk.calls c.read_log_sector.new.disk) c.read_log_sector.ensures.made
+    (run_at Log c.args.first c.args.count) (run_rest Log c.args.first k c.args.count)
     (run_split Log c.args.first k c.args.count c.loop-k-test.true) (List ℕ))
 
 pub returns-clause-run : goal.returns-clause-run
 returns-clause-run g c = λ tells.
     let h = (g.D.Disk.state c.args.disk.now).held in
     run_counted (read_log h) c.args.first c.args.count
-    ∙ read_end (λ k. read_log h (c.args.first + k)) c.args.count c.loop-k.bytes c.loop-k.k (omega arith) (c.loop-k.invariant.read tells)
+    ∙ read_end (λ k. read_log h (c.args.first + k)) c.args.count c.loop-k.bytes c.loop-k.k (omega arith)
+    (c.loop-k.invariant.read tells)
 
 pub returns-clause-asked : goal.returns-clause-asked
 returns-clause-asked g c =
     let all : c.loop-k.k ≡ c.args.count = omega arith in
-    subst (λ (n : ℕ). AsksFirst (g.D.Disk.calls c.args.disk.now) (g.D.Disk.calls c.loop-k.disk) g.D.Disk.tells (one_by_one (g.D.Disk.state c.args.disk.now).held (run_at Log c.args.first n)) (Ok c.loop-k.bytes)) all
+    subst (λ (n : ℕ). AsksFirst (g.D.Disk.calls c.args.disk.now) (g.D.Disk.calls c.loop-k.disk) g.D.Disk.tells
+    (one_by_one (g.D.Disk.state c.args.disk.now).held (run_at Log c.args.first n)) (Ok c.loop-k.bytes)) all
     (asks_all c.loop-k.invariant.asked c.loop-k.bytes)

@@ -12,6 +12,8 @@ invariant-loop-k g l = record {
   on : (g.D.Disk.state l.disk).on ≡ true;
   look : LeavesAsRead g.D.Disk.tells (g.D.Disk.state l.fn.disk) (g.D.Disk.state l.disk) ⊥ ⊥;
   long : length l.bytes ≡ 512 * l.k;
-  read : g.D.Disk.tells ≡ true → ReadSoFar (λ k. read_log (g.D.Disk.state l.fn.disk).held (l.first + k)) l.count l.bytes l.k;
-  asked : AsksSoFar (g.D.Disk.calls l.fn.disk) (g.D.Disk.calls l.disk) g.D.Disk.tells (g.D.Disk.state l.fn.disk).held (run_at Log l.first l.k);
+  read : g.D.Disk.tells ≡ true
+      → ReadSoFar (λ k. read_log (g.D.Disk.state l.fn.disk).held (l.first + k)) l.count l.bytes l.k;
+  asked : AsksSoFar (g.D.Disk.calls l.fn.disk) (g.D.Disk.calls l.disk) g.D.Disk.tells (g.D.Disk.state l.fn.disk).held
+      (run_at Log l.first l.k);
 }

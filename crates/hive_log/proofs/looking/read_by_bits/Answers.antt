@@ -21,9 +21,11 @@ returns-clause-bins g c = λ tells.
     let first_is : c.first_dirty.result ≡ first_dirty size = c.first_dirty.ensures.value in
     let marked_is : c.count_bits-marked.result ≡ rank bits count = c.count_bits-marked.ensures.count in
     let there : gathered (read_log h) (first_dirty size) (rank bits count) ≡ Ok run =
-    ap (λ n. gathered (read_log h) n (rank bits count)) (sym first_is) ∙ ap (gathered (read_log h) c.first_dirty.result) (sym marked_is) ∙ c.in_ok-run.ensures.run tells in
+    ap (λ n. gathered (read_log h) n (rank bits count)) (sym first_is)
+    ∙ ap (gathered (read_log h) c.first_dirty.result) (sym marked_is) ∙ c.in_ok-run.ensures.run tells in
     let pieces : (k : ℕ) → k < rank bits count → read_log h (first_dirty size + k) ≡ Ok (sector run k) =
-    λ k small. ap (λ n. read_log h (n + k)) (sym first_is) ∙ c.in_ok-run.ensures.sectors tells k (omega (arith, marked_is)) in
+    λ k small. ap (λ n. read_log h (n + k)) (sym first_is)
+    ∙ c.in_ok-run.ensures.sectors tells k (omega (arith, marked_is)) in
     let same : gathered (mixed h1 c.as_slice.result.now bits) 0 count ≡ bins_by h size bits =
     ap (λ (i : Image). gathered (mixed i c.as_slice.result.now bits) 0 count) (c.read_log_run.ensures.look.held tells)
     ∙ ap (λ l. gathered (mixed h l bits) 0 count) c.as_slice.ensures ∙ sym (bins_mixed h size bits run there pieces) in
@@ -38,8 +40,11 @@ returns-clause-asked g c =
     let count = size / 512 in
     let run_part : ℕ → ℕ → List Address → List Address = λ first n. one_by_one h (run_at Log first n) in
     let bins_part : Image → List Address → List Address = λ i. one_by_one i (unmarked_at bits count) in
-    let part : List Address → List Address = λ more. run_part c.first_dirty.result c.count_bits-marked.result (bins_part h1 more) in
-    asks_as {part = part} (asks_behind {first = run_part c.first_dirty.result c.count_bits-marked.result} {second = bins_part h1} c.in_ok-run.ensures.asked c.read_bins.ensures.asked) (asked_by_bits h size bits)
-    (λ tells more. ap (λ (i : Image). run_part c.first_dirty.result c.count_bits-marked.result (bins_part i more)) (c.read_log_run.ensures.look.held tells)
+    let part : List Address → List Address =
+    λ more. run_part c.first_dirty.result c.count_bits-marked.result (bins_part h1 more) in
+    asks_as {part = part} (asks_behind {first = run_part c.first_dirty.result c.count_bits-marked.result}
+    {second = bins_part h1} c.in_ok-run.ensures.asked c.read_bins.ensures.asked) (asked_by_bits h size bits)
+    (λ tells more. ap (λ (i : Image). run_part c.first_dirty.result c.count_bits-marked.result (bins_part i more))
+    (c.read_log_run.ensures.look.held tells)
     ∙ ap (λ n. run_part n c.count_bits-marked.result (bins_part h more)) c.first_dirty.ensures.value
     ∙ ap (λ n. run_part (first_dirty size) n (bins_part h more)) c.count_bits-marked.ensures.count)

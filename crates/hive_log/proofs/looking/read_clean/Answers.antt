@@ -25,21 +25,25 @@ returns-in_err-bins-clause-exact g c = λ tells.
     let p = err_from_is_err_and c.from_residual.result c.from_residual.ensures.1 in
     rw (p.1, p.2)
     (fault_on c.in_err-bins.field-0.0 (all c.base.inside.size) (recovered_of h)
-    (λ f is. clean_fault h base (c.requires.block tells) c.requires.clean f (ap all (sym e) ∙ is)) (c.in_err-bins.ensures.bins tells))
+    (λ f is. clean_fault h base (c.requires.block tells) c.requires.clean f (ap all (sym e) ∙ is))
+    (c.in_err-bins.ensures.bins tells))
 
 pub returns-clause-exact : goal.returns-clause-exact
 returns-clause-exact g c = λ tells.
     let h = (g.D.Disk.state c.args.disk.now).held in
     let e : c.base.inside.size ≡ c.args.base.size = ap (λ (b : Base). b.size) c.base.view_is in
     let all : ℕ → Result (List ℕ) HiveFault = λ s. gathered (mixed h [] (bit [])) 0 (s / 512) in
-    clean_ok h c.args.base (c.requires.block tells) c.requires.clean c.in_ok-bins.bins (ap all (sym e) ∙ c.in_ok-bins.ensures.bins tells)
+    clean_ok h c.args.base (c.requires.block tells) c.requires.clean c.in_ok-bins.bins
+    (ap all (sym e) ∙ c.in_ok-bins.ensures.bins tells)
 
 pub returns-clause-carries : goal.returns-clause-carries
 returns-clause-carries g c = λ tells.
     let e : c.base.inside.size ≡ c.args.base.size = ap (λ (b : Base). b.size) c.base.view_is in
     let count : c.base.inside.size / 512 ≡ c.args.base.size / 512 = ap (λ n. n / 512) e in
-    clean_carries (g.D.Disk.state c.args.disk.now).held c.args.base (c.requires.block tells) c.requires.clean c.in_ok-bins.bins c.requires.size
-    (c.in_ok-bins.ensures.long ∙ ap (λ n. 512 * n) count) (λ i small. c.in_ok-bins.ensures.sectors tells i (omega (arith, count)))
+    clean_carries (g.D.Disk.state c.args.disk.now).held c.args.base (c.requires.block tells)
+    c.requires.clean c.in_ok-bins.bins c.requires.size
+    (c.in_ok-bins.ensures.long ∙ ap (λ n. 512 * n) count)
+    (λ i small. c.in_ok-bins.ensures.sectors tells i (omega (arith, count)))
 
 pub returns-in_err-bins-clause-asked : goal.returns-in_err-bins-clause-asked
 returns-in_err-bins-clause-asked g c =
@@ -47,7 +51,8 @@ returns-in_err-bins-clause-asked g c =
     let e : c.base.inside.size ≡ c.args.base.size = ap (λ (b : Base). b.size) c.base.view_is in
     let whole = one_by_one h (run_at Primary 8 (c.args.base.size / 512)) [] in
     let same : one_by_one h (unmarked_at (bit []) (c.base.inside.size / 512)) [] ≡ whole =
-    ap (λ (l : List Address). one_by_one h l []) (none_marked (c.base.inside.size / 512)) ∙ ap (λ n. one_by_one h (run_at Primary 8 (n / 512)) []) e in
+    ap (λ (l : List Address). one_by_one h l []) (none_marked (c.base.inside.size / 512))
+    ∙ ap (λ n. one_by_one h (run_at Primary 8 (n / 512)) []) e in
     let p = err_from_is_err_and c.from_residual.result c.from_residual.ensures.1 in
     rw (p.1, p.2) (asks_no_more c.in_err-bins.ensures.asked Reading [] whole (λ tells. same))
 
@@ -57,5 +62,6 @@ returns-clause-asked g c =
     let e : c.base.inside.size ≡ c.args.base.size = ap (λ (b : Base). b.size) c.base.view_is in
     let whole = one_by_one h (run_at Primary 8 (c.args.base.size / 512)) [] in
     let same : one_by_one h (unmarked_at (bit []) (c.base.inside.size / 512)) [] ≡ whole =
-    ap (λ (l : List Address). one_by_one h l []) (none_marked (c.base.inside.size / 512)) ∙ ap (λ n. one_by_one h (run_at Primary 8 (n / 512)) []) e in
+    ap (λ (l : List Address). one_by_one h l []) (none_marked (c.base.inside.size / 512))
+    ∙ ap (λ n. one_by_one h (run_at Primary 8 (n / 512)) []) e in
     asks_in_whole c.in_ok-bins.ensures.asked whole (λ tells. same)

@@ -18,14 +18,16 @@ returns-in_err-logged-clause-exact g c = λ tells.
     let h = (g.D.Disk.state c.args.disk.now).held in
     let opened = c.args.opened.now in
     let p = err_from_is_err_and c.from_residual.result c.from_residual.ensures.1 in
-    rw (p.1, p.2) (fault_on c.in_err-logged.field-0.0 (by_log h opened) (recovered_of h) (fault_of_log h opened (c.requires.block tells) c.requires.unfinished) (c.in_err-logged.ensures.fault tells))
+    rw (p.1, p.2) (fault_on c.in_err-logged.field-0.0 (by_log h opened) (recovered_of h)
+    (fault_of_log h opened (c.requires.block tells) c.requires.unfinished) (c.in_err-logged.ensures.fault tells))
 
 pub returns-in_err-logged-clause-asked : goal.returns-in_err-logged-clause-asked
 returns-in_err-logged-clause-asked g c =
     let h = (g.D.Disk.state c.args.disk.now).held in
     let opened = c.args.opened.now in
     let p = err_from_is_err_and c.from_residual.result c.from_residual.ensures.1 in
-    rw (p.1, p.2) (asks_no_more c.in_err-logged.ensures.asked Reading (behind_bits h opened) (asked_log h opened) (λ tells. log_asked h opened))
+    rw (p.1, p.2) (asks_no_more c.in_err-logged.ensures.asked Reading (behind_bits h opened) (asked_log h opened)
+    (λ tells. log_asked h opened))
 
 pub returns-in_err-bins-clause-exact : goal.returns-in_err-bins-clause-exact
 returns-in_err-bins-clause-exact g c = λ tells.
@@ -36,12 +38,15 @@ returns-in_err-bins-clause-exact g c = λ tells.
     let bits = c.in_ok-logged.field-0.bitmap in
     let size : c.logged.inside.size ≡ logged.size = ap (λ (b : Base). b.size) c.logged.view_is in
     let same : bins_by h logged.size (bit bits) ≡ bins_by h1 c.logged.inside.size (bit c.as_slice.result.now) =
-    sym (ap (λ (i : Image). bins_by i c.logged.inside.size (bit c.as_slice.result.now)) (c.read_log_bits.ensures.look.held tells)
-    ∙ ap (λ n. bins_by h n (bit c.as_slice.result.now)) size ∙ ap (λ (l : List ℕ). bins_by h logged.size (bit l)) c.as_slice.ensures) in
+    sym (ap (λ (i : Image). bins_by i c.logged.inside.size (bit c.as_slice.result.now))
+    (c.read_log_bits.ensures.look.held tells)
+    ∙ ap (λ n. bins_by h n (bit c.as_slice.result.now)) size
+    ∙ ap (λ (l : List ℕ). bins_by h logged.size (bit l)) c.as_slice.ensures) in
     let p = err_from_is_err_and c.from_residual-in_err-bins.result c.from_residual-in_err-bins.ensures.1 in
     rw (p.1, p.2)
     (fault_on c.in_err-bins.field-0.0 (bins_by h1 c.logged.inside.size (bit c.as_slice.result.now)) (recovered_of h)
-    (λ f is. no_bins h opened (c.requires.block tells) c.requires.unfinished logged bits (c.in_ok-logged.ensures.bits tells) f (same ∙ is))
+    (λ f is. no_bins h opened (c.requires.block tells) c.requires.unfinished logged bits
+    (c.in_ok-logged.ensures.bits tells) f (same ∙ is))
     (c.in_err-bins.ensures.bins tells))
 
 pub returns-in_err-bins-clause-asked : goal.returns-in_err-bins-clause-asked
@@ -55,8 +60,10 @@ returns-in_err-bins-clause-asked g c =
     let part = asked_log_bits h opened in
     let p = err_from_is_err_and c.from_residual-in_err-bins.result c.from_residual-in_err-bins.ensures.1 in
     rw (p.1, p.2)
-    (asks_no_more (asks_behind {second = asked_by_bits h1 c.logged.inside.size (bit c.as_slice.result.now)} c.in_ok-logged.ensures.asked c.in_err-bins.ensures.asked) Reading [] (asked_log h opened)
-    (λ tells. ap (λ (i : Image). part (asked_by_bits i c.logged.inside.size (bit c.as_slice.result.now) [])) (c.read_log_bits.ensures.look.held tells)
+    (asks_no_more (asks_behind {second = asked_by_bits h1 c.logged.inside.size (bit c.as_slice.result.now)}
+    c.in_ok-logged.ensures.asked c.in_err-bins.ensures.asked) Reading [] (asked_log h opened)
+    (λ tells. ap (λ (i : Image). part (asked_by_bits i c.logged.inside.size (bit c.as_slice.result.now) []))
+    (c.read_log_bits.ensures.look.held tells)
     ∙ ap (λ n. part (asked_by_bits h n (bit c.as_slice.result.now) [])) size
     ∙ ap (λ (l : List ℕ). part (asked_by_bits h logged.size (bit l) [])) c.as_slice.ensures
     ∙ all_asked h opened logged bits (c.in_ok-logged.ensures.bits tells)))
@@ -70,9 +77,12 @@ returns-clause-exact g c = λ tells.
     let bits = c.in_ok-logged.field-0.bitmap in
     let size : c.logged.inside.size ≡ logged.size = ap (λ (b : Base). b.size) c.logged.view_is in
     let same : bins_by h logged.size (bit bits) ≡ bins_by h1 c.logged.inside.size (bit c.as_slice.result.now) =
-    sym (ap (λ (i : Image). bins_by i c.logged.inside.size (bit c.as_slice.result.now)) (c.read_log_bits.ensures.look.held tells)
-    ∙ ap (λ n. bins_by h n (bit c.as_slice.result.now)) size ∙ ap (λ (l : List ℕ). bins_by h logged.size (bit l)) c.as_slice.ensures) in
-    dirty_ok h opened (c.requires.block tells) c.requires.unfinished logged bits (c.in_ok-logged.ensures.bits tells) c.in_ok-bins.bins (same ∙ c.in_ok-bins.ensures.bins tells)
+    sym (ap (λ (i : Image). bins_by i c.logged.inside.size (bit c.as_slice.result.now))
+    (c.read_log_bits.ensures.look.held tells)
+    ∙ ap (λ n. bins_by h n (bit c.as_slice.result.now)) size
+    ∙ ap (λ (l : List ℕ). bins_by h logged.size (bit l)) c.as_slice.ensures) in
+    dirty_ok h opened (c.requires.block tells) c.requires.unfinished logged bits (c.in_ok-logged.ensures.bits tells)
+    c.in_ok-bins.bins (same ∙ c.in_ok-bins.ensures.bins tells)
     ∙ ap (λ (b : Base). Ok (record { base = b; bins = c.in_ok-bins.bins; dirty = true })) (sym c.closed_block.ensures)
 
 pub returns-clause-asked : goal.returns-clause-asked
@@ -84,8 +94,10 @@ returns-clause-asked g c =
     let bits = c.in_ok-logged.field-0.bitmap in
     let size : c.logged.inside.size ≡ logged.size = ap (λ (b : Base). b.size) c.logged.view_is in
     let part = asked_log_bits h opened in
-    asks_in_whole (asks_behind {second = asked_by_bits h1 c.logged.inside.size (bit c.as_slice.result.now)} {result = Ok c.in_ok-bins.bins} c.in_ok-logged.ensures.asked c.in_ok-bins.ensures.asked) (asked_log h opened)
-    (λ tells. ap (λ (i : Image). part (asked_by_bits i c.logged.inside.size (bit c.as_slice.result.now) [])) (c.read_log_bits.ensures.look.held tells)
+    asks_in_whole (asks_behind {second = asked_by_bits h1 c.logged.inside.size (bit c.as_slice.result.now)}
+    {result = Ok c.in_ok-bins.bins} c.in_ok-logged.ensures.asked c.in_ok-bins.ensures.asked) (asked_log h opened)
+    (λ tells. ap (λ (i : Image). part (asked_by_bits i c.logged.inside.size (bit c.as_slice.result.now) []))
+    (c.read_log_bits.ensures.look.held tells)
     ∙ ap (λ n. part (asked_by_bits h n (bit c.as_slice.result.now) [])) size
     ∙ ap (λ (l : List ℕ). part (asked_by_bits h logged.size (bit l) [])) c.as_slice.ensures
     ∙ all_asked h opened logged bits (c.in_ok-logged.ensures.bits tells))

@@ -17,7 +17,8 @@ returns-in_err-logged-clause-asked g c =
     let opened = c.args.opened.now in
     let p = err_from_is_err_and c.from_residual.result c.from_residual.ensures.1 in
     rw (p.1, p.2)
-    (asks_as (asks_cut c.in_err-logged.ensures.asked LogBits (λ more. unless_fault (logged_in h) (behind_block h opened more))) (asked_log_bits h opened)
+    (asks_as (asks_cut c.in_err-logged.ensures.asked LogBits
+    (λ more. unless_fault (logged_in h) (behind_block h opened more))) (asked_log_bits h opened)
     (λ tells more. block_refused h opened more))
 
 pub returns-then-not-goes_with-clause-asked : goal.returns-then-not-goes_with-clause-asked
@@ -25,7 +26,8 @@ returns-then-not-goes_with-clause-asked g c =
     let h = (g.D.Disk.state c.args.disk.now).held in
     let opened = c.args.opened.now in
     asks_end c.in_ok-logged.ensures.asked LogBits (fault_at LogSequence 4) (asked_log_bits h opened)
-    (λ tells more. numbers_asked h opened c.in_ok-logged.logged (c.in_ok-logged.ensures.block tells) (sym c.goes_with.ensures ∙ c.if-not-goes_with.true) more)
+    (λ tells more. numbers_asked h opened c.in_ok-logged.logged (c.in_ok-logged.ensures.block tells)
+    (sym c.goes_with.ensures ∙ c.if-not-goes_with.true) more)
 
 pub returns-in_err-text-clause-asked : goal.returns-in_err-text-clause-asked
 returns-in_err-text-clause-asked g c =
@@ -38,10 +40,13 @@ returns-in_err-text-clause-asked g c =
     let p = err_from_is_err_and c.from_residual-in_err-text.result c.from_residual-in_err-text.ensures.1 in
     rw (p.1, p.2)
     (asks_cut
-    (asks_as (asks_behind {second = asked_bitmap h1 size} c.in_ok-logged.ensures.asked c.in_err-text.ensures.asked) (asked_log_bits h opened)
-    (λ tells more. ap (λ (i : Image). log_part h opened (asked_bitmap i size more)) (c.read_log_block.ensures.look.held tells)
+    (asks_as (asks_behind {second = asked_bitmap h1 size} c.in_ok-logged.ensures.asked c.in_err-text.ensures.asked)
+    (asked_log_bits h opened)
+    (λ tells more. ap (λ (i : Image). log_part h opened (asked_bitmap i size more))
+    (c.read_log_block.ensures.look.held tells)
     ∙ ap (λ n. log_part h opened (asked_bitmap h n more)) e
-    ∙ bits_asked h opened logged (c.in_ok-logged.ensures.block tells) (sym c.goes_with.ensures ∙ c.if-not-goes_with.false) more)) LogBits (λ more. more))
+    ∙ bits_asked h opened logged (c.in_ok-logged.ensures.block tells)
+    (sym c.goes_with.ensures ∙ c.if-not-goes_with.false) more)) LogBits (λ more. more))
 
 pub returns-in_err-bitmap-clause-asked : goal.returns-in_err-bitmap-clause-asked
 returns-in_err-bitmap-clause-asked g c =
@@ -54,10 +59,13 @@ returns-in_err-bitmap-clause-asked g c =
     let p = err_from_is_err_and c.from_residual-in_err-bitmap.result c.from_residual-in_err-bitmap.ensures.1 in
     rw (p.1, p.2)
     (asks_unkept
-    (asks_as (asks_behind {second = asked_bitmap h1 size} {result = Ok c.in_ok-text.text} c.in_ok-logged.ensures.asked c.in_ok-text.ensures.asked) (asked_log_bits h opened)
-    (λ tells more. ap (λ (i : Image). log_part h opened (asked_bitmap i size more)) (c.read_log_block.ensures.look.held tells)
+    (asks_as (asks_behind {second = asked_bitmap h1 size} {result = Ok c.in_ok-text.text} c.in_ok-logged.ensures.asked
+    c.in_ok-text.ensures.asked) (asked_log_bits h opened)
+    (λ tells more. ap (λ (i : Image). log_part h opened (asked_bitmap i size more))
+    (c.read_log_block.ensures.look.held tells)
     ∙ ap (λ n. log_part h opened (asked_bitmap h n more)) e
-    ∙ bits_asked h opened logged (c.in_ok-logged.ensures.block tells) (sym c.goes_with.ensures ∙ c.if-not-goes_with.false) more)) LogBits)
+    ∙ bits_asked h opened logged (c.in_ok-logged.ensures.block tells)
+    (sym c.goes_with.ensures ∙ c.if-not-goes_with.false) more)) LogBits)
 
 pub returns-clause-asked : goal.returns-clause-asked
 returns-clause-asked g c =
@@ -68,8 +76,11 @@ returns-clause-asked g c =
     let size = c.logged.inside.size in
     let e : size ≡ logged.size = ap (λ (b : Base). b.size) c.logged.view_is in
     asks_kept
-    (asks_as (asks_behind {second = asked_bitmap h1 size} {result = Ok c.in_ok-text.text} c.in_ok-logged.ensures.asked c.in_ok-text.ensures.asked) (asked_log_bits h opened)
-    (λ tells more. ap (λ (i : Image). log_part h opened (asked_bitmap i size more)) (c.read_log_block.ensures.look.held tells)
+    (asks_as (asks_behind {second = asked_bitmap h1 size} {result = Ok c.in_ok-text.text} c.in_ok-logged.ensures.asked
+    c.in_ok-text.ensures.asked) (asked_log_bits h opened)
+    (λ tells more. ap (λ (i : Image). log_part h opened (asked_bitmap i size more))
+    (c.read_log_block.ensures.look.held tells)
     ∙ ap (λ n. log_part h opened (asked_bitmap h n more)) e
-    ∙ bits_asked h opened logged (c.in_ok-logged.ensures.block tells) (sym c.goes_with.ensures ∙ c.if-not-goes_with.false) more))
+    ∙ bits_asked h opened logged (c.in_ok-logged.ensures.block tells)
+    (sym c.goes_with.ensures ∙ c.if-not-goes_with.false) more))
     _

@@ -15,28 +15,33 @@ pub returns-in_err-base-clause-exact : goal.returns-in_err-base-clause-exact
 returns-in_err-base-clause-exact g c = λ tells.
     let h = (g.D.Disk.state c.args.disk.now).held in
     let p = err_from_is_err_and c.from_residual.result c.from_residual.ensures.1 in
-    rw (p.1, p.2) (fault_on c.in_err-base.field-0.0 (base_in h) (recovered_of h) (by_fault h) (c.in_err-base.ensures.block tells))
+    rw (p.1, p.2) (fault_on c.in_err-base.field-0.0 (base_in h) (recovered_of h) (by_fault h)
+    (c.in_err-base.ensures.block tells))
 
 pub returns-in_err-base-clause-asked : goal.returns-in_err-base-clause-asked
 returns-in_err-base-clause-asked g c =
     let h = (g.D.Disk.state c.args.disk.now).held in
     let p = err_from_is_err_and c.from_residual.result c.from_residual.ensures.1 in
     rw (p.1, p.2)
-    (asks_no_more c.in_err-base.ensures.asked Reading (unless_fault (base_in h) (asked_behind_base h)) (asked_of h) (λ tells. base_refused h))
+    (asks_no_more c.in_err-base.ensures.asked Reading (unless_fault (base_in h) (asked_behind_base h)) (asked_of h)
+    (λ tells. base_refused h))
 
 pub returns-in-Some-clause-asked : goal.returns-in-Some-clause-asked
 returns-in-Some-clause-asked g c =
     let h = (g.D.Disk.state c.args.disk.now).held in
     let h1 = (g.D.Disk.state c.read_primary_block.new.disk).held in
     let opened : Option Base = Some c.in-Some.base in
-    asks_last c.in_ok-base.ensures.asked (asked_behind_base h1 opened) (asked_of h) c.read_behind.result c.read_behind.ensures.asked
-    (λ tells. ap (λ (i : Image). base_part h (asked_behind_base i opened)) (c.read_primary_block.ensures.look.held tells)
+    asks_last c.in_ok-base.ensures.asked (asked_behind_base h1 opened) (asked_of h)
+    c.read_behind.result c.read_behind.ensures.asked
+    (λ tells. ap (λ (i : Image). base_part h (asked_behind_base i opened))
+    (c.read_primary_block.ensures.look.held tells)
     ∙ base_asked h opened (c.in_ok-base.ensures.block tells ∙ ap (λ (o : Option Base). Ok o) c.in-Some.is))
 
 pub returns-in-None-clause-asked : goal.returns-in-None-clause-asked
 returns-in-None-clause-asked g c =
     let h = (g.D.Disk.state c.args.disk.now).held in
     let h1 = (g.D.Disk.state c.read_primary_block.new.disk).held in
-    asks_last c.in_ok-base.ensures.asked (asked_behind_base h1 None) (asked_of h) c.read_dirty.result c.read_dirty.ensures.asked
+    asks_last c.in_ok-base.ensures.asked (asked_behind_base h1 None) (asked_of h)
+    c.read_dirty.result c.read_dirty.ensures.asked
     (λ tells. ap (λ (i : Image). base_part h (asked_behind_base i None)) (c.read_primary_block.ensures.look.held tells)
     ∙ base_asked h None (c.in_ok-base.ensures.block tells ∙ ap (λ (o : Option Base). Ok o) c.in-None.is))

@@ -4,5 +4,7 @@ use Rattle.hive_log.proofs.marking.dirty_byte.Goals as goal
 
 pub returns : goal.returns
 returns c =
-    eight (dirty c.args.old.now c.args.new.now) c.args.first _ _ _ _ _ _ _ _ c.dirty_bit.ensures.value c.dirty_bit-2.ensures.value c.dirty_bit-3.ensures.value c.dirty_bit-4.ensures.value c.dirty_bit-5.ensures.value c.dirty_bit-6.ensures.value
+    eight (dirty c.args.old.now c.args.new.now)
+    c.args.first _ _ _ _ _ _ _ _ c.dirty_bit.ensures.value c.dirty_bit-2.ensures.value c.dirty_bit-3.ensures.value
+    c.dirty_bit-4.ensures.value c.dirty_bit-5.ensures.value c.dirty_bit-6.ensures.value
     c.dirty_bit-7.ensures.value c.dirty_bit-8.ensures.value

@@ -8,4 +8,5 @@ pub returns : goal.returns
 returns c i below =
     let whole = sized (length c.args.new.now) c.requires in
     let done = c.loop-k.invariant in
-    bits_there (dirty c.args.old.now c.args.new.now) (length c.args.new.now / 4096) c.loop-k.into (omega (arith, whole.high)) (λ j under. done.each j (omega arith)) i (omega (arith, whole.high, whole.pages))
+    bits_there (dirty c.args.old.now c.args.new.now) (length c.args.new.now / 4096) c.loop-k.into
+    (omega (arith, whole.high)) (λ j under. done.each j (omega arith)) i (omega (arith, whole.high, whole.pages))

@@ -19,5 +19,11 @@ pub returns : goal.returns
 returns c =
     let text = bitmap_text (bit c.args.bitmap.now) c.args.size in
     c.loop-k.invariant
-    ∙ ap (λ n. c.args.log.now ++ take n text) (let long : 512 * c.loop-k.k ≡ length text = omega (arith, bitmap_long (bit c.args.bitmap.now) c.args.size, c.bitmap_sectors-k-end.ensures) in long)
+    ∙ ap (λ n. c.args.log.now ++ take n text)
+    (let long : 512 * c.loop-k.k
+    ≡ length text = omega (
+      arith,
+      bitmap_long (bit c.args.bitmap.now) c.args.size,
+      c.bitmap_sectors-k-end.ensures,
+    ) in long)
     ∙ ap (λ l. c.args.log.now ++ l) (take-length text)

@@ -15,7 +15,8 @@ loop-i-preserved c =
       | then-has_bit+in_ok-append w ↦
           let on : bits i ≡ true = sym c.has_bit.ensures ∙ w.if-has_bit.true in
           rw w.log-is
-          (ap (λ l. l ++ marked_sectors bits new (i + 1) (count - (i + 1))) (w.in_ok-append.ensures.ok ∙ ap (λ s. c.loop-i.log ++ s) w.sector_of.ensures.value)
+          (ap (λ l. l ++ marked_sectors bits new (i + 1) (count - (i + 1)))
+          (w.in_ok-append.ensures.ok ∙ ap (λ s. c.loop-i.log ++ s) w.sector_of.ensures.value)
           ∙ marked_on bits new i count (search rules) c.loop-i.log _ on c.loop-i.invariant)
       | else-has_bit w ↦
           let off : bits i ≡ false = sym c.has_bit.ensures ∙ w.if-has_bit.false in

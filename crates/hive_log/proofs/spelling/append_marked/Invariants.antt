@@ -5,4 +5,5 @@ use Rattle.hive_log.proofs.spelling.append_marked.Given as goal
 
 abbrev pub invariant-loop-i : goal.invariant-loop-i
 invariant-loop-i l =
-    l.log ++ marked_sectors (bit l.bitmap) l.new l.i (length l.new / 512 - l.i) ≡ l.fn.log ++ marked_sectors (bit l.bitmap) l.new 0 (length l.new / 512)
+    l.log ++ marked_sectors (bit l.bitmap) l.new l.i (length l.new / 512 - l.i) ≡ l.fn.log
+    ++ marked_sectors (bit l.bitmap) l.new 0 (length l.new / 512)

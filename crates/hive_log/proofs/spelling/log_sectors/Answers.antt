@@ -12,5 +12,7 @@ returns c =
     let new = c.args.new.now in
     c.in_ok-append_marked.ensures
     ∙ ap (λ l. l ++ marked_sectors bits new 0 (length new / 512)) c.in_ok-append_bitmap.ensures
-    ∙ ap (λ l. (l ++ bitmap_text bits (length new)) ++ marked_sectors bits new 0 (length new / 512)) (c.in_ok-log.ensures ∙ c.base_bytes.ensures ∙ ap base_text c.logged_block.ensures)
-    ∙ log_same bits (dirty c.args.old.now new) new c.args.base.now (λ j small. c.mark_dirty.ensures j (omega (arith, (sized (length new) c.requires).pages)))
+    ∙ ap (λ l. (l ++ bitmap_text bits (length new)) ++ marked_sectors bits new 0 (length new / 512))
+    (c.in_ok-log.ensures ∙ c.base_bytes.ensures ∙ ap base_text c.logged_block.ensures)
+    ∙ log_same bits (dirty c.args.old.now new) new c.args.base.now
+    (λ j small. c.mark_dirty.ensures j (omega (arith, (sized (length new) c.requires).pages)))

@@ -10,4 +10,5 @@ returns-clause-exact c =
     let number = ap (λ (b : Base). b.first) c.base.view_is ∙ ap (λ (r : Recovered). r.base.first) c.found.view_is in
     let version = c.version.ensures ∙ ap (λ (r : Recovered). version_of r.base.minor) c.found.view_is in
     rw (number, version)
-    (found_loads (image_of c.args.primary.now c.args.log.now) c.in_ok-found.found c.in_ok-tree.tree c.in_ok-found.ensures.exact c.in_ok-tree.ensures.exact)
+    (found_loads (image_of c.args.primary.now c.args.log.now)
+    c.in_ok-found.found c.in_ok-tree.tree c.in_ok-found.ensures.exact c.in_ok-tree.ensures.exact)

@@ -11,5 +11,9 @@ returns c =
     let version = c.version.ensures ∙ ap (λ (r : Recovered). version_of r.base.minor) c.found.view_is in
     let held = c.in_ok-judge_in.ensures.exact in
     rw (number, version) (record {
-      exact = (held.0, found_loads (image_of c.args.primary.now c.args.log.now) c.in_ok-found.found held.0 c.in_ok-found.ensures.exact held.1);
+      exact = (
+        held.0,
+        found_loads (image_of c.args.primary.now c.args.log.now)
+            c.in_ok-found.found held.0 c.in_ok-found.ensures.exact held.1,
+      );
     })

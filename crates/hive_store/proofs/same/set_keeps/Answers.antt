@@ -5,25 +5,32 @@ use Rattle.hive_store.proofs.same.set_keeps.Goals as goal
 pub returns-then-bulk-gt-MOST_BULK : goal.returns-then-bulk-gt-MOST_BULK
 returns-then-bulk-gt-MOST_BULK c =
     let h = c.args.cells.now in
-    not_small h.version h.tree c.args.path.now c.args.name.now c.args.kind c.args.bytes.now c.bulk.result c.bulk.ensures c.if-bulk-gt-MOST_BULK.true
+    not_small h.version h.tree c.args.path.now c.args.name.now c.args.kind c.args.bytes.now c.bulk.result c.bulk.ensures
+    c.if-bulk-gt-MOST_BULK.true
 
 pub returns-then-name-gt-LONGEST_NAME : goal.returns-then-name-gt-LONGEST_NAME
 returns-then-name-gt-LONGEST_NAME c =
     let h = c.args.cells.now in
-    not_short h.version h.tree c.args.path.now c.args.name.now c.args.kind c.args.bytes.now (omega (arith, c.if-name-gt-LONGEST_NAME.true))
+    not_short h.version h.tree c.args.path.now c.args.name.now c.args.kind c.args.bytes.now
+    (omega (arith, c.if-name-gt-LONGEST_NAME.true))
 
 pub returns-then-bytes-gt-MOST_DATA : goal.returns-then-bytes-gt-MOST_DATA
 returns-then-bytes-gt-MOST_DATA c =
     let h = c.args.cells.now in
-    not_few h.version h.tree c.args.path.now c.args.name.now c.args.kind c.args.bytes.now (omega (arith, c.if-bytes-gt-MOST_DATA.true))
+    not_few h.version h.tree c.args.path.now c.args.name.now c.args.kind c.args.bytes.now
+    (omega (arith, c.if-bytes-gt-MOST_DATA.true))
 
 pub returns-in-Some : goal.returns-in-Some
 returns-in-Some c =
     let h = c.args.cells.now in
-    set_same h.version h.tree c.in-Some.key c.args.path.now c.args.name.now c.args.kind c.args.bytes.now c.has_value.result c.bulk.result c.bulk.ensures
-    c.if-bulk-gt-MOST_BULK.false (omega (arith, c.if-name-gt-LONGEST_NAME.false)) (omega (arith, c.if-bytes-gt-MOST_DATA.false)) (sym c.in-Some.is ∙ c.in_ok-key.ensures.found) c.has_value.ensures
+    set_same h.version h.tree c.in-Some.key c.args.path.now c.args.name.now c.args.kind c.args.bytes.now
+    c.has_value.result c.bulk.result c.bulk.ensures
+    c.if-bulk-gt-MOST_BULK.false (omega (arith, c.if-name-gt-LONGEST_NAME.false))
+    (omega (arith, c.if-bytes-gt-MOST_DATA.false)) (sym c.in-Some.is ∙ c.in_ok-key.ensures.found)
+    c.has_value.ensures
 
 pub returns-in-None : goal.returns-in-None
 returns-in-None c =
     let h = c.args.cells.now in
-    not_there h.version h.tree c.args.path.now c.args.name.now c.args.kind c.args.bytes.now (sym c.in_ok-key.ensures.found ∙ c.in-None.is)
+    not_there h.version h.tree c.args.path.now c.args.name.now c.args.kind c.args.bytes.now
+    (sym c.in_ok-key.ensures.found ∙ c.in-None.is)

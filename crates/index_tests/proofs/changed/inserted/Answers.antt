@@ -9,14 +9,18 @@ use Rattle.index_tests.proofs.changed.inserted.Goals as goal
 pub insert_child-requires-clause-siblings : goal.insert_child-requires-clause-siblings
 insert_child-requires-clause-siblings c =
     let node = key_node_of c.args.node.now in
-    let all = root_lists (look_up c.args.version c.args.cells) 32 c.args.tree.now node c.requires.formed c.requires.read in
-    subst (λ (bins : List Bin). ListsSiblings (look_up c.args.version bins) node.child_list node.child_count) (sym c.in_ok-heap.ensures) all.0
+    let all = root_lists (look_up c.args.version c.args.cells)
+    32 c.args.tree.now node c.requires.formed c.requires.read in
+    subst (λ (bins : List Bin). ListsSiblings (look_up c.args.version bins) node.child_list node.child_count)
+    (sym c.in_ok-heap.ensures) all.0
 
 pub insert_child-requires-clause-apart : goal.insert_child-requires-clause-apart
 insert_child-requires-clause-apart c =
     let node = key_node_of c.args.node.now in
-    let all = root_lists (look_up c.args.version c.args.cells) 32 c.args.tree.now node c.requires.formed c.requires.read in
-    subst (λ (bins : List Bin). AreApart (lists_at (look_up c.args.version bins) node.child_list node.child_count)) (sym c.in_ok-heap.ensures) all.1
+    let all = root_lists (look_up c.args.version c.args.cells)
+    32 c.args.tree.now node c.requires.formed c.requires.read in
+    subst (λ (bins : List Bin). AreApart (lists_at (look_up c.args.version bins) node.child_list node.child_count))
+    (sym c.in_ok-heap.ensures) all.1
 
 pub insert_child-requires-clause-child : goal.insert_child-requires-clause-child
 insert_child-requires-clause-child c =

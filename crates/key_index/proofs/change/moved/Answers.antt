@@ -6,7 +6,8 @@ use Rattle.key_index.proofs.Runs.{few_moved, moved_is}
 use Rattle.key_index.proofs.change.moved.Goals as goal
 
 pub returns-then-n-lt501 : goal.returns-then-n-lt501
-returns-then-n-lt501 c = λ version offsets hints l e. e ∙ ap text (few_moved version c.args.place offsets hints (omega arith))
+returns-then-n-lt501 c = λ version offsets hints l e. e
+    ∙ ap text (few_moved version c.args.place offsets hints (omega arith))
 
 pub returns : goal.returns
 returns c =

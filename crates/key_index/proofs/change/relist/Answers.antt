@@ -26,23 +26,40 @@ moved-run-requires-clause-long c =
 
 pub moved-run-requires-clause-room : goal.moved-run-requires-clause-room
 moved-run-requires-clause-room c =
-    let found : FindsRoom c.list_len-size.result c.args.heap.now c.make_room.new.self c.in-Some.at = rw c.in-Some.is at c.in_ok-make_room.ensures.exact in
-    omega (arith, room_inside c.list_len-size.result c.args.heap.now c.make_room.new.self c.in-Some.at found c.bins_fit.ensures, c.list_len-size.ensures)
+    let found : FindsRoom c.list_len-size.result c.args.heap.now c.make_room.new.self c.in-Some.at =
+    rw c.in-Some.is at c.in_ok-make_room.ensures.exact in
+    omega (
+      arith,
+      room_inside c.list_len-size.result c.args.heap.now c.make_room.new.self c.in-Some.at found
+          c.bins_fit.ensures,
+      c.list_len-size.ensures,
+    )
 
 pub put-requires-clause-room : goal.put-requires-clause-room
 put-requires-clause-room c =
-    let found : FindsRoom c.list_len-size.result c.args.heap.now c.make_room.new.self c.in-Some.at = rw c.in-Some.is at c.in_ok-make_room.ensures.exact in
-    omega (arith, room_inside c.list_len-size.result c.args.heap.now c.make_room.new.self c.in-Some.at found c.bins_fit.ensures, c.list_len-size.ensures)
+    let found : FindsRoom c.list_len-size.result c.args.heap.now c.make_room.new.self c.in-Some.at =
+    rw c.in-Some.is at c.in_ok-make_room.ensures.exact in
+    omega (
+      arith,
+      room_inside c.list_len-size.result c.args.heap.now c.make_room.new.self c.in-Some.at found
+          c.bins_fit.ensures,
+      c.list_len-size.ensures,
+    )
 
 pub returns-in-None-clause-exact : goal.returns-in-None-clause-exact
 returns-in-None-clause-exact c =
     let full = rw c.in-None.is at c.in_ok-make_room.ensures.exact in
-    let n = length c.args.offsets.now in
-    (none_over c.list_len-size.result (bins_size c.args.heap.now) n c.list_len-size.ensures c.requires.some full.1.0, full.1.1)
+    let n = length c.args.offsets.now in (
+      none_over c.list_len-size.result (bins_size c.args.heap.now) n c.list_len-size.ensures c.requires.some full.1.0,
+      full.1.1,
+    )
 
 pub returns-in-Some-clause-exact : goal.returns-in-Some-clause-exact
 returns-in-Some-clause-exact c =
-    let found : FindsRoom c.list_len-size.result c.args.heap.now c.make_room.new.self c.in-Some.at = rw c.in-Some.is at c.in_ok-make_room.ensures.exact in
-    relisted c.args.version c.args.gone.now c.args.offsets.now c.args.hints.now c.args.heap.now c.make_room.new.self c.put.new.heap c.in-Some.at c.list_len-size.result
+    let found : FindsRoom c.list_len-size.result c.args.heap.now c.make_room.new.self c.in-Some.at =
+    rw c.in-Some.is at c.in_ok-make_room.ensures.exact in
+    relisted c.args.version c.args.gone.now c.args.offsets.now c.args.hints.now c.args.heap.now c.make_room.new.self
+    c.put.new.heap c.in-Some.at c.list_len-size.result
     c.put.ensures c.in_ok-make_room.ensures.held c.in_ok-make_room.ensures.long
-    (room_longer c.list_len-size.result c.args.heap.now c.make_room.new.self c.in-Some.at found) c.list_len-size.ensures c.requires.some
+    (room_longer c.list_len-size.result c.args.heap.now c.make_room.new.self c.in-Some.at found)
+    c.list_len-size.ensures c.requires.some

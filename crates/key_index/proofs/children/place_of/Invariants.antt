@@ -7,4 +7,5 @@ use Rattle.key_index.proofs.children.place_of.Given as goal
 abbrev pub invariant-loop-at : goal.invariant-loop-at
 invariant-loop-at l =
     (l.place ≡ l.at-index)
-    × (l.at-index + position_or_len (is_behind (cells_of l.cells) l.name) (drop l.at-index l.offsets) ≡ position_or_len (is_behind (cells_of l.cells) l.name) l.offsets)
+    × (l.at-index + position_or_len (is_behind (cells_of l.cells) l.name) (drop l.at-index l.offsets)
+    ≡ position_or_len (is_behind (cells_of l.cells) l.name) l.offsets)

@@ -9,4 +9,5 @@ pub returns-in-Some : goal.returns-in-Some
 returns-in-Some c =
     let cells = cells_of c.args.cells.now in
     let lists = offsets_of c.args.list.now in
-    sym (found_is cells c.args.name.now (offsets_in_lists cells lists) c.in-Some.at (all_nodes cells lists c.requires.lists) c.requires.apart c.in-Some.ensures)
+    sym (found_is cells c.args.name.now (offsets_in_lists cells lists) c.in-Some.at
+    (all_nodes cells lists c.requires.lists) c.requires.apart c.in-Some.ensures)

@@ -12,10 +12,12 @@ returns-then-is_eq c =
     let offsets = offsets_of c.args.list.now in
     let i = c.loop-place.place in
     let lt : i < length offsets = omega (arith, c.entry_count-place-end.ensures) in
-    let t = tested cells name offsets i c.entry-at.result c.compare_name.result c.requires.nodes lt c.entry-at.ensures c.compare_name.ensures in
+    let t = tested cells name offsets i c.entry-at.result c.compare_name.result c.requires.nodes lt c.entry-at.ensures
+    c.compare_name.ensures in
     let passes = t ∙ sym c.is_eq.ensures ∙ c.if-is_eq.true in
     ap Some c.entry-at.ensures
-    ∙ sym (find_here (is_node_named cells name) offsets i lt c.loop-place.invariant (ap (is_node_named cells name) (sym c.entry-at.ensures) ∙ passes))
+    ∙ sym (find_here (is_node_named cells name) offsets i lt c.loop-place.invariant
+    (ap (is_node_named cells name) (sym c.entry-at.ensures) ∙ passes))
 
 pub loop-place-preserved : goal.loop-place-preserved
 loop-place-preserved c =
@@ -24,6 +26,8 @@ loop-place-preserved c =
     let offsets = offsets_of c.args.list.now in
     let i = c.loop-place.place in
     let lt : i < length offsets = omega (arith, c.entry_count-place-end.ensures) in
-    let t = tested cells name offsets i c.entry-at.result c.compare_name.result c.requires.nodes lt c.entry-at.ensures c.compare_name.ensures in
+    let t = tested cells name offsets i c.entry-at.result c.compare_name.result c.requires.nodes lt c.entry-at.ensures
+    c.compare_name.ensures in
     let fails = t ∙ sym c.is_eq.ensures ∙ c.if-is_eq.false in
-    find_on (is_node_named cells name) offsets i lt c.loop-place.invariant (ap (is_node_named cells name) (sym c.entry-at.ensures) ∙ fails)
+    find_on (is_node_named cells name) offsets i lt c.loop-place.invariant
+    (ap (is_node_named cells name) (sym c.entry-at.ensures) ∙ fails)

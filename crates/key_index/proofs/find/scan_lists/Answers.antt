@@ -12,8 +12,10 @@ returns-then-is_some c =
     let offsets = offsets_of c.args.list.now in
     let i = c.loop-place.place in
     let lt : i < length offsets = omega (arith, c.entry_count-place-end.ensures) in
-    let part : c.payload-part.result.now ≡ payload_in cells (get_or offsets i 0) = c.payload-part.ensures ∙ ap (payload_in cells) c.entry.ensures in
-    find_some (is_node_named cells c.args.name.now) (offsets_in_list cells) offsets i c.scan_list-found.result lt c.loop-place.invariant
+    let part : c.payload-part.result.now ≡ payload_in cells (get_or offsets i 0) =
+    c.payload-part.ensures ∙ ap (payload_in cells) c.entry.ensures in
+    find_some (is_node_named cells c.args.name.now) (offsets_in_list cells)
+    offsets i c.scan_list-found.result lt c.loop-place.invariant
     (c.scan_list-found.ensures ∙ ap (λ (p : List ℕ). find (is_node_named cells c.args.name.now) (offsets_of p)) part)
     (sym c.is_some.ensures ∙ c.if-is_some.true)
 
@@ -23,7 +25,9 @@ loop-place-preserved c =
     let offsets = offsets_of c.args.list.now in
     let i = c.loop-place.place in
     let lt : i < length offsets = omega (arith, c.entry_count-place-end.ensures) in
-    let part : c.payload-part.result.now ≡ payload_in cells (get_or offsets i 0) = c.payload-part.ensures ∙ ap (payload_in cells) c.entry.ensures in
-    find_past (is_node_named cells c.args.name.now) (offsets_in_list cells) offsets i c.scan_list-found.result lt c.loop-place.invariant
+    let part : c.payload-part.result.now ≡ payload_in cells (get_or offsets i 0) =
+    c.payload-part.ensures ∙ ap (payload_in cells) c.entry.ensures in
+    find_past (is_node_named cells c.args.name.now) (offsets_in_list cells)
+    offsets i c.scan_list-found.result lt c.loop-place.invariant
     (c.scan_list-found.ensures ∙ ap (λ (p : List ℕ). find (is_node_named cells c.args.name.now) (offsets_of p)) part)
     (sym c.is_some.ensures ∙ c.if-is_some.false)

@@ -7,5 +7,6 @@ use Rattle.key_index.proofs.find.scan_lists.Given as goal
 
 abbrev pub invariant-loop-place : goal.invariant-loop-place
 invariant-loop-place l =
-    find (is_node_named (cells_of l.cells) l.name) (offsets_in_lists (cells_of l.cells) (drop l.place (offsets_of l.list)))
+    find (is_node_named (cells_of l.cells) l.name)
+    (offsets_in_lists (cells_of l.cells) (drop l.place (offsets_of l.list)))
     ≡ find (is_node_named (cells_of l.cells) l.name) (offsets_in_lists (cells_of l.cells) (offsets_of l.list))

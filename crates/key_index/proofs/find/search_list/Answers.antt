@@ -11,5 +11,6 @@ returns-in-Equal c =
     let offsets = offsets_of c.args.list.now in
     let i = c.halves.low + (c.halves.high - c.halves.low) / 2 in
     let lt : i < length offsets = omega arith in
-    let t = tested cells c.args.name.now offsets i c.entry-at.result c.compare_name.result c.requires.nodes lt c.entry-at.ensures c.compare_name.ensures in
+    let t = tested cells c.args.name.now offsets i c.entry-at.result c.compare_name.result c.requires.nodes lt
+    c.entry-at.ensures c.compare_name.ensures in
     (contains_at offsets i c.entry-at.result lt c.entry-at.ensures, t ∙ ap is_eq c.in-Equal.is)

@@ -11,7 +11,9 @@ returns c =
     let lists = offsets_of c.args.list.now in
     let i = c.lists_before-before.result - 1 in
     let lt : i < length lists = omega (arith, c.lists_before-before.ensures) in
-    let part : c.payload.result.now ≡ payload_in cells (get_or lists i 0) = c.payload.ensures ∙ ap (payload_in cells) c.entry.ensures in
+    let part : c.payload.result.now ≡ payload_in cells (get_or lists i 0) =
+    c.payload.ensures ∙ ap (payload_in cells) c.entry.ensures in
     wider cells c.args.name.now (offsets_of c.payload.result.now) (offsets_in_lists cells lists) c.search_list.result
-    (λ x h. contains_one (offsets_in_list cells) lists i x lt (subst (λ (p : List ℕ). Contains (offsets_of p) x) part h))
+    (λ x h. contains_one (offsets_in_list cells) lists i x lt
+    (subst (λ (p : List ℕ). Contains (offsets_of p) x) part h))
     c.search_list.ensures

@@ -8,7 +8,8 @@ use Rattle.key_index.proofs.lists.write_parts.Goals as goal
 
 pub write_part-requires-clause-four : goal.write_part-requires-clause-four
 write_part-requires-clause-four c =
-    subst AreHints (sym c.split_at-in-parts.ensures.front) (hints_take c.min-n.result c.parts.rest_hints.now c.parts.invariant.four)
+    subst AreHints (sym c.split_at-in-parts.ensures.front)
+    (hints_take c.min-n.result c.parts.rest_hints.now c.parts.invariant.four)
 
 pub parts-preserved : goal.parts-preserved
 parts-preserved c =

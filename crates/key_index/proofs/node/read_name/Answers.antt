@@ -7,5 +7,6 @@ use Rattle.key_index.proofs.node.read_name.Goals as goal
 pub returns : goal.returns
 returns c =
     if_ok c.read_stored.result _ _
-    (λ u e. e ∙ (λ j. stored_name (c.is_narrow.ensures j) (c.stored_bytes.ensures j)) ∙ sym (name_is c.args.node.now c.requires))
+    (λ u e. e ∙ (λ j. stored_name (c.is_narrow.ensures j) (c.stored_bytes.ensures j))
+    ∙ sym (name_is c.args.node.now c.requires))
     c.read_stored.ensures

@@ -15,5 +15,8 @@ loop-sector-preserved c =
     let inside : i < c.count_of.result = omega (arith, length-take c.count_of.result c.args.sectors.now) in
     record {
       long = omega (arith, ap length pushed, length-append old c.bytes_in.result, c.bytes_in.ensures.whole);
-      each = joined_each c.args.sectors.now i old c.bytes_in.result _ so_far.long c.bytes_in.ensures.whole (c.bytes_in.ensures.bytes ∙ ap (λ s. bytes_of (content_of s)) (get_or-take c.count_of.result c.args.sectors.now i Absent inside)) pushed so_far.each;
+      each = joined_each c.args.sectors.now i old c.bytes_in.result _ so_far.long c.bytes_in.ensures.whole
+          (c.bytes_in.ensures.bytes
+          ∙ ap (λ s. bytes_of (content_of s)) (get_or-take c.count_of.result c.args.sectors.now i Absent inside))
+          pushed so_far.each;
     }

@@ -15,13 +15,16 @@ returns-in-Ok-clause-faulty g c = λ tells fault fails.
     absurd (loads_or_fails (g.D.Disk.state c.args.disk.now).held _ _ fault (c.in-Ok.ensures.exact tells).loads fails)
 
 pub returns-in-Err-Fault-clause-crash : goal.returns-in-Err-Fault-clause-crash
-returns-in-Err-Fault-clause-crash g c = λ tells s dirty loads image crash. inl (c.load.ensures.crash tells s dirty loads image crash)
+returns-in-Err-Fault-clause-crash g c =
+    λ tells s dirty loads image crash. inl (c.load.ensures.crash tells s dirty loads image crash)
 
 pub returns-in-Err-PowerLost-clause-crash : goal.returns-in-Err-PowerLost-clause-crash
-returns-in-Err-PowerLost-clause-crash g c = λ tells s dirty loads image crash. inl (c.load.ensures.crash tells s dirty loads image crash)
+returns-in-Err-PowerLost-clause-crash g c =
+    λ tells s dirty loads image crash. inl (c.load.ensures.crash tells s dirty loads image crash)
 
 pub returns-in-Err-Device-clause-crash : goal.returns-in-Err-Device-clause-crash
-returns-in-Err-Device-clause-crash g c = λ tells s dirty loads image crash. inl (c.load.ensures.crash tells s dirty loads image crash)
+returns-in-Err-Device-clause-crash g c =
+    λ tells s dirty loads image crash. inl (c.load.ensures.crash tells s dirty loads image crash)
 
 pub returns-in-Err-Memory-clause-said : goal.returns-in-Err-Memory-clause-said
 returns-in-Err-Memory-clause-said g c = λ tells. record {
@@ -32,4 +35,5 @@ returns-in-Err-Memory-clause-said g c = λ tells. record {
 }
 
 pub returns-in-Err-Memory-clause-crash : goal.returns-in-Err-Memory-clause-crash
-returns-in-Err-Memory-clause-crash g c = λ tells s dirty loads image crash. inl (c.load.ensures.crash tells s dirty loads image crash)
+returns-in-Err-Memory-clause-crash g c =
+    λ tells s dirty loads image crash. inl (c.load.ensures.crash tells s dirty loads image crash)

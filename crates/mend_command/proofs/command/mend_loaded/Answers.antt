@@ -34,7 +34,8 @@ returns-in_default g c =
         told = Done;
         text = packed_text c.args.hive (shorter c.args.hive);
         rest = refl;
-        said = told_cut Done first (packed_text c.args.hive (shorter c.args.hive)) status old new c.in_default.not-Done told;
+        said = told_cut Done first (packed_text c.args.hive (shorter c.args.hive))
+            status old new c.in_default.not-Done told;
       };
       mended = λ tells done. absurd (c.in_default.not-Done done);
       crash = λ tells. kept_crash disk (c.requires.still tells);

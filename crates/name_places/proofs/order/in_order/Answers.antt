@@ -11,7 +11,9 @@ returns c =
     let lt = comes_before c.args.names.now in
     let order = is_order c.args.names.now in
     record {
-      each_once = subst (λ (xs : List ℕ). IsPermutation xs c.sort_by.new.self.items) c.in_ok-order.ensures facts.permutation;
+      each_once = subst (λ (xs : List ℕ). IsPermutation xs c.sort_by.new.self.items)
+          c.in_ok-order.ensures facts.permutation;
       by_name = facts.sorted lt order (always_returns_same _ _ _ (λ a r f k. search rules));
-      by_place = subst (λ (xs : List ℕ). IsStableBy lt xs c.sort_by.new.self.items) c.in_ok-order.ensures (facts.stable lt order (always_returns_same _ _ _ (λ a r f k. search rules)));
+      by_place = subst (λ (xs : List ℕ). IsStableBy lt xs c.sort_by.new.self.items) c.in_ok-order.ensures
+          (facts.stable lt order (always_returns_same _ _ _ (λ a r f k. search rules)));
     }

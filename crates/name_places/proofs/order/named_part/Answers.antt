@@ -12,7 +12,8 @@ slice_bounds-result-count c =
     let high = c.partition_point-high in
     (searched names c.args.order.now name low.result high.result c.requires low.ensures.bound high.ensures.bound
     (low.ensures.partitioned (λ k. is_lt (compared names name k)) (always_returns_same _ _ _ (λ a r f k. search rules)))
-    (high.ensures.partitioned (λ k. is_le (compared names name k)) (always_returns_same _ _ _ (λ a r f k. search rules)))).rises
+    (high.ensures.partitioned (λ k. is_le (compared names name k))
+    (always_returns_same _ _ _ (λ a r f k. search rules)))).rises
 
 pub slice_bounds-result-start : goal.slice_bounds-result-start
 slice_bounds-result-start c = search (rules, slice_bounds-result-count c)
@@ -25,4 +26,5 @@ returns c =
     let high = c.partition_point-high in
     (searched names c.args.order.now name low.result high.result c.requires low.ensures.bound high.ensures.bound
     (low.ensures.partitioned (λ k. is_lt (compared names name k)) (always_returns_same _ _ _ (λ a r f k. search rules)))
-    (high.ensures.partitioned (λ k. is_le (compared names name k)) (always_returns_same _ _ _ (λ a r f k. search rules)))).named
+    (high.ensures.partitioned (λ k. is_le (compared names name k))
+    (always_returns_same _ _ _ (λ a r f k. search rules)))).named

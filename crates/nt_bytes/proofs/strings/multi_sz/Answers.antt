@@ -14,7 +14,10 @@ items-preserved c =
     let names = c.items.names in
     let pushed = c.in_ok-push.ensures.ok ∙ ap (λ (x : List ℕ). names ++ x ∷ []) c.in_ok-from_slice.ensures in
     record {
-      so_far = found_one c.items.rest.now item c.split_item.result.1.now names c.push.new.self (multi_sz_of c.args.bytes.now) c.is_empty.result
-          c.split_item.ensures.item c.split_item.ensures.after c.is_empty.ensures c.if-is_empty.false pushed c.items.invariant.so_far;
-      half = room_for_one names c.push.new.self item c.is_empty.result _ _ _ c.is_empty.ensures c.if-is_empty.false pushed c.split_item.ensures.shorter c.items.invariant.half;
+      so_far = found_one c.items.rest.now item c.split_item.result.1.now names c.push.new.self
+          (multi_sz_of c.args.bytes.now) c.is_empty.result
+          c.split_item.ensures.item c.split_item.ensures.after c.is_empty.ensures c.if-is_empty.false pushed
+          c.items.invariant.so_far;
+      half = room_for_one names c.push.new.self item c.is_empty.result _ _ _ c.is_empty.ensures c.if-is_empty.false
+          pushed c.split_item.ensures.shorter c.items.invariant.half;
     }

@@ -35,7 +35,8 @@ returns-in_err-script-2-clause-asks g c = λ tells.
     let found = c.in_ok-script.ensures.looks.found tells in
     let n = events_asked old.files asked c.in_ok-system.system c.in_ok-script.script system found in
     let reads = subst
-    (λ (t : List ℕ). Reads (events_in (script_of t)) (Err c.in_err-script-2.field-0.0)) c.as_slice.ensures c.in_err-script-2.ensures.read in
+    (λ (t : List ℕ). Reads (events_in (script_of t)) (Err c.in_err-script-2.field-0.0))
+    c.as_slice.ensures c.in_err-script-2.ensures.read in
     reads_asks (asks_run asked old.files) 1 _
     (λ es. by_events asked old.files) c.in_err-script-2.field-0.0 c.from_residual-in_err-script-2.result old.gets _
     n reads c.from_residual-in_err-script-2.ensures.1 c.file_in.ensures.asks
@@ -48,14 +49,16 @@ returns-in_err-text-clause-asks g c = λ tells.
     (λ (p : List ℕ). system_in (arc_of p) ≡ Ok c.in_ok-system.system) c.as_bytes.ensures.value c.in_ok-system.ensures in
     let found = c.in_ok-script.ensures.looks.found tells in
     let events = subst
-    (λ (t : List ℕ). events_in (script_of t) ≡ Ok c.in_ok-script-2.script) c.as_slice.ensures c.in_ok-script-2.ensures.read in
+    (λ (t : List ℕ). events_in (script_of t) ≡ Ok c.in_ok-script-2.script)
+    c.as_slice.ensures c.in_ok-script-2.ensures.read in
     let n = text_asked old.files asked c.in_ok-system.system c.in_ok-script.script c.in_ok-script-2.script
     system found events in
     let first = c.in_ok-script.ensures.looks in
     let named_ini = named asked.boot_ini in
     let asks = c.in_err-text.ensures.asks ∙ ap (more named_ini) c.file_in.ensures.asks
     ∙ more_more named_ini 1 old.gets in
-    let gives = subst (λ (f : Files). Gives (bytes_in f asked.boot_ini) (Err c.in_err-text.field-0.0)) (first.files tells)
+    let gives = subst (λ (f : Files). Gives (bytes_in f asked.boot_ini) (Err c.in_err-text.field-0.0))
+    (first.files tells)
     (c.in_err-text.ensures.looks.found (first.keeps.tells ∙ tells)) in
     file_asks (asks_run asked old.files) (named_ini + 1) _
     (by_text asked old.files) c.in_err-text.field-0.0 c.from_residual-in_err-text.result old.gets _
@@ -69,7 +72,8 @@ returns-in_err-ini-clause-asks g c = λ tells.
     (λ (p : List ℕ). system_in (arc_of p) ≡ Ok c.in_ok-system.system) c.as_bytes.ensures.value c.in_ok-system.ensures in
     let found = c.in_ok-script.ensures.looks.found tells in
     let events = subst
-    (λ (t : List ℕ). events_in (script_of t) ≡ Ok c.in_ok-script-2.script) c.as_slice.ensures c.in_ok-script-2.ensures.read in
+    (λ (t : List ℕ). events_in (script_of t) ≡ Ok c.in_ok-script-2.script)
+    c.as_slice.ensures c.in_ok-script-2.ensures.read in
     let n = text_asked old.files asked c.in_ok-system.system c.in_ok-script.script c.in_ok-script-2.script
     system found events in
     let first = c.in_ok-script.ensures.looks in
@@ -80,7 +84,8 @@ returns-in_err-ini-clause-asks g c = λ tells.
     (c.in_ok-text.ensures.looks.found (first.keeps.tells ∙ tells)) in
     let m = ini_asked old.files asked c.in_ok-text.text n text in
     let reads = subst (λ (t : List ℕ). Reads (ini_in t asked.system) (Err c.in_err-ini.field-0.0)) c.as_slice-2.ensures
-    (subst (λ (p : List ℕ). Reads (ini_in c.as_slice-2.result.now p) (Err c.in_err-ini.field-0.0)) c.as_bytes-2.ensures.value c.in_err-ini.ensures) in
+    (subst (λ (p : List ℕ). Reads (ini_in c.as_slice-2.result.now p) (Err c.in_err-ini.field-0.0))
+    c.as_bytes-2.ensures.value c.in_err-ini.ensures) in
     reads_asks (asks_run asked old.files) (named_ini + 1) _
     (λ i. by_hive asked old.files) c.in_err-ini.field-0.0 c.from_residual-in_err-ini.result old.gets _
     m reads c.from_residual-in_err-ini.ensures.1 asks
@@ -93,7 +98,8 @@ returns-in_err-hive-clause-asks g c = λ tells.
     (λ (p : List ℕ). system_in (arc_of p) ≡ Ok c.in_ok-system.system) c.as_bytes.ensures.value c.in_ok-system.ensures in
     let found = c.in_ok-script.ensures.looks.found tells in
     let events = subst
-    (λ (t : List ℕ). events_in (script_of t) ≡ Ok c.in_ok-script-2.script) c.as_slice.ensures c.in_ok-script-2.ensures.read in
+    (λ (t : List ℕ). events_in (script_of t) ≡ Ok c.in_ok-script-2.script)
+    c.as_slice.ensures c.in_ok-script-2.ensures.read in
     let n = text_asked old.files asked c.in_ok-system.system c.in_ok-script.script c.in_ok-script-2.script
     system found events in
     let first = c.in_ok-script.ensures.looks in
@@ -104,13 +110,16 @@ returns-in_err-hive-clause-asks g c = λ tells.
     (c.in_ok-text.ensures.looks.found (first.keeps.tells ∙ tells)) in
     let m = ini_asked old.files asked c.in_ok-text.text n text in
     let ini = subst (λ (t : List ℕ). ini_in t asked.system ≡ Ok c.in_ok-ini.ini) c.as_slice-2.ensures
-    (subst (λ (p : List ℕ). ini_in c.as_slice-2.result.now p ≡ Ok c.in_ok-ini.ini) c.as_bytes-2.ensures.value c.in_ok-ini.ensures) in
+    (subst (λ (p : List ℕ). ini_in c.as_slice-2.result.now p ≡ Ok c.in_ok-ini.ini)
+    c.as_bytes-2.ensures.value c.in_ok-ini.ensures) in
     let all = hive_asked old.files asked c.in_ok-text.text c.in_ok-ini.ini m ini in
     let mid = g.H.Host.state c.bytes_in.new.host in
     let new = g.H.Host.state c.hive_in.new.host in
-    let keeps = looks_then old (g.H.Host.state c.file_in.new.host) mid first.keeps c.in_ok-text.ensures.looks.keeps first.files c.in_ok-text.ensures.looks.files in
+    let keeps = looks_then old (g.H.Host.state c.file_in.new.host)
+    mid first.keeps c.in_ok-text.ensures.looks.keeps first.files c.in_ok-text.ensures.looks.files in
     let told = keeps.0.tells ∙ tells in
-    let here = subst (λ (f : Files). AsksUntil {A = HiveFiles} (by_hive asked f) (Err c.in_err-hive.field-0.0) mid.gets new.gets)
+    let here = subst (λ (f : Files). AsksUntil {A = HiveFiles} (by_hive asked f) (Err c.in_err-hive.field-0.0)
+    mid.gets new.gets)
     (keeps.1 tells)
     (c.in_err-hive.ensures.asks told) in
     behind_asks HiveFiles (asks_run asked old.files) (named_ini + 1) (by_hive asked old.files) c.in_err-hive.field-0.0
@@ -125,7 +134,8 @@ returns-clause-asks g c = λ tells.
     (λ (p : List ℕ). system_in (arc_of p) ≡ Ok c.in_ok-system.system) c.as_bytes.ensures.value c.in_ok-system.ensures in
     let found = c.in_ok-script.ensures.looks.found tells in
     let events = subst
-    (λ (t : List ℕ). events_in (script_of t) ≡ Ok c.in_ok-script-2.script) c.as_slice.ensures c.in_ok-script-2.ensures.read in
+    (λ (t : List ℕ). events_in (script_of t) ≡ Ok c.in_ok-script-2.script)
+    c.as_slice.ensures c.in_ok-script-2.ensures.read in
     let n = text_asked old.files asked c.in_ok-system.system c.in_ok-script.script c.in_ok-script-2.script
     system found events in
     let first = c.in_ok-script.ensures.looks in
@@ -136,11 +146,15 @@ returns-clause-asks g c = λ tells.
     (c.in_ok-text.ensures.looks.found (first.keeps.tells ∙ tells)) in
     let m = ini_asked old.files asked c.in_ok-text.text n text in
     let ini = subst (λ (t : List ℕ). ini_in t asked.system ≡ Ok c.in_ok-ini.ini) c.as_slice-2.ensures
-    (subst (λ (p : List ℕ). ini_in c.as_slice-2.result.now p ≡ Ok c.in_ok-ini.ini) c.as_bytes-2.ensures.value c.in_ok-ini.ensures) in
+    (subst (λ (p : List ℕ). ini_in c.as_slice-2.result.now p ≡ Ok c.in_ok-ini.ini)
+    c.as_bytes-2.ensures.value c.in_ok-ini.ensures) in
     let all = hive_asked old.files asked c.in_ok-text.text c.in_ok-ini.ini m ini in
     let mid = g.H.Host.state c.bytes_in.new.host in
     let new = g.H.Host.state c.hive_in.new.host in
-    let keeps = looks_then old (g.H.Host.state c.file_in.new.host) mid first.keeps c.in_ok-text.ensures.looks.keeps first.files c.in_ok-text.ensures.looks.files in
+    let keeps = looks_then old (g.H.Host.state c.file_in.new.host)
+    mid first.keeps c.in_ok-text.ensures.looks.keeps first.files c.in_ok-text.ensures.looks.files in
     let told = keeps.0.tells ∙ tells in
-    let here = subst (λ (f : Files). new.gets ≡ more (by_hive asked f) mid.gets) (keeps.1 tells) (c.in_ok-hive.ensures.asks told) in
-    more_behind (asks_run asked old.files) (named_ini + 1) (by_hive asked old.files) old.gets mid.gets new.gets all asks here
+    let here = subst (λ (f : Files). new.gets ≡ more (by_hive asked f) mid.gets) (keeps.1 tells)
+    (c.in_ok-hive.ensures.asks told) in
+    more_behind (asks_run asked old.files) (named_ini + 1) (by_hive asked old.files)
+    old.gets mid.gets new.gets all asks here

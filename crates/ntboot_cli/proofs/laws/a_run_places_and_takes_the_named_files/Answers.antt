@@ -6,7 +6,8 @@ pub returns-clause-placed : goal.returns-clause-placed
 returns-clause-placed c = λ inputs woken taken after old new r. r.settles.placings ∙ r.reports.grew.placings
 
 pub returns-clause-taken : goal.returns-clause-taken
-returns-clause-taken c = λ inputs woken taken after old new r. r.settles.takings ∙ ap (more taken) r.reports.grew.takings
+returns-clause-taken c = λ inputs woken taken after old new r. r.settles.takings
+    ∙ ap (more taken) r.reports.grew.takings
 
 pub returns-clause-placed_front : goal.returns-clause-placed_front
 returns-clause-placed_front c = λ run files after old new r. r.grew.placings

@@ -6,30 +6,37 @@ use Rattle.ntboot_cli.proofs.making.generate.Goals as goal
 
 pub play-requires : goal.play-requires
 play-requires g c = record {
-  down = placed_down (record { primary = c.in_ok-primary.primary; log = None }) (g.B.Disk.state c.place.new.bench) c.in-Ok.ensures.placed
+  down = placed_down (record { primary = c.in_ok-primary.primary; log = None }) (g.B.Disk.state c.place.new.bench)
+      c.in-Ok.ensures.placed
       (made_state c.args.count, c.in_ok-primary.ensures.loads);
 }
 
 pub returns-in-Ok-clause-summary : goal.returns-in-Ok-clause-summary
 returns-in-Ok-clause-summary g c =
-    played_summary c.args.usual.now c.args.count c.in_ok-primary.primary (g.B.Disk.state c.place.new.bench) (g.B.Disk.state c.play.new.bench)
+    played_summary c.args.usual.now c.args.count c.in_ok-primary.primary (g.B.Disk.state c.place.new.bench)
+    (g.B.Disk.state c.play.new.bench)
     c.in-Ok.ensures.placed (g.met.B.Bench.ordered c.play.new.bench) c.play.result
     (c.play.ensures.played (made_state c.args.count)
-    (placed_loads (record { primary = c.in_ok-primary.primary; log = None }) (g.B.Disk.state c.place.new.bench) (made_state c.args.count)
+    (placed_loads (record { primary = c.in_ok-primary.primary; log = None }) (g.B.Disk.state c.place.new.bench)
+    (made_state c.args.count)
     c.in-Ok.ensures.placed c.in_ok-primary.ensures.loads))
 
 pub returns-in-Ok-clause-made : goal.returns-in-Ok-clause-made
 returns-in-Ok-clause-made g c =
-    played_made c.args.usual.now c.args.count c.in_ok-primary.primary (g.B.Disk.state c.place.new.bench) (g.B.Disk.state c.play.new.bench)
+    played_made c.args.usual.now c.args.count c.in_ok-primary.primary (g.B.Disk.state c.place.new.bench)
+    (g.B.Disk.state c.play.new.bench)
     c.in-Ok.ensures.placed (g.met.B.Bench.ordered c.play.new.bench) c.play.result
     (c.play.ensures.played (made_state c.args.count)
-    (placed_loads (record { primary = c.in_ok-primary.primary; log = None }) (g.B.Disk.state c.place.new.bench) (made_state c.args.count)
+    (placed_loads (record { primary = c.in_ok-primary.primary; log = None }) (g.B.Disk.state c.place.new.bench)
+    (made_state c.args.count)
     c.in-Ok.ensures.placed c.in_ok-primary.ensures.loads))
 
 pub returns-in-Ok-clause-part : goal.returns-in-Ok-clause-part
 returns-in-Ok-clause-part g c =
-    played_part c.args.usual.now c.args.count c.in_ok-primary.primary (g.B.Disk.state c.place.new.bench) (g.B.Disk.state c.play.new.bench)
+    played_part c.args.usual.now c.args.count c.in_ok-primary.primary (g.B.Disk.state c.place.new.bench)
+    (g.B.Disk.state c.play.new.bench)
     c.in-Ok.ensures.placed (g.met.B.Bench.ordered c.play.new.bench) c.play.result
     (c.play.ensures.played (made_state c.args.count)
-    (placed_loads (record { primary = c.in_ok-primary.primary; log = None }) (g.B.Disk.state c.place.new.bench) (made_state c.args.count)
+    (placed_loads (record { primary = c.in_ok-primary.primary; log = None }) (g.B.Disk.state c.place.new.bench)
+    (made_state c.args.count)
     c.in-Ok.ensures.placed c.in_ok-primary.ensures.loads))

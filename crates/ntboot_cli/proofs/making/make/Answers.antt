@@ -9,10 +9,12 @@ use Rattle.ntboot_cli.proofs.making.make.Goals as goal
 
 pub returns-in-Err-Refused : goal.returns-in-Err-Refused
 returns-in-Err-Refused g c =
-    absurd (never_refused c.in-Err-Refused.why (subst (λ (o : Obstacle). Reads usual_in (Err o)) c.in-Err-Refused.field-0-is c.in-Err-Refused.ensures))
+    absurd (never_refused c.in-Err-Refused.why
+    (subst (λ (o : Obstacle). Reads usual_in (Err o)) c.in-Err-Refused.field-0-is c.in-Err-Refused.ensures))
 
 pub returns-in-Err-Stopped : goal.returns-in-Err-Stopped
 returns-in-Err-Stopped g c =
     let reads = subst (λ (o : Obstacle). Reads usual_in (Err o)) c.in-Err-Stopped.field-0-is c.in-Err-Stopped.ensures in
     rw c.stopped.ensures
-    (unread_usual (make_seen c.args.words) c.in-Err-Stopped.stop (g.H.Host.state c.args.host.now) (g.B.Disk.state c.args.bench.now) c.requires.fresh reads)
+    (unread_usual (make_seen c.args.words) c.in-Err-Stopped.stop (g.H.Host.state c.args.host.now)
+    (g.B.Disk.state c.args.bench.now) c.requires.fresh reads)

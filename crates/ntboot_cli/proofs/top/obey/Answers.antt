@@ -29,4 +29,5 @@ returns-in-Ok-Export g c =
 
 pub returns-in-Err-Memory : goal.returns-in-Err-Memory
 returns-in-Err-Memory g c =
-    by_memory (command_of (map (λ w. w.now) c.args.words.now)) (g.H.Host.state c.args.host.now) (g.B.Disk.state c.args.bench.now) c.requires.fresh
+    by_memory (command_of (map (λ w. w.now) c.args.words.now)) (g.H.Host.state c.args.host.now)
+    (g.B.Disk.state c.args.bench.now) c.requires.fresh

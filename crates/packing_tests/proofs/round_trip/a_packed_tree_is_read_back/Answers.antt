@@ -16,10 +16,13 @@ returns-clause-no_bad_bin c = λ version t fault room fails.
     not_both (packed version t) (packed_bins version t) fault is.0 is.1 fails
 
 pub returns-clause-no_fault : goal.returns-clause-no_fault
-returns-clause-no_fault c = λ version t bins is. well-formed-passes (look_up version bins) 32 t (well_formed_packed version t bins is)
+returns-clause-no_fault c =
+    λ version t bins is. well-formed-passes (look_up version bins) 32 t (well_formed_packed version t bins is)
 
 pub returns-clause-stands : goal.returns-clause-stands
 returns-clause-stands c = λ version t bins is. (well_formed_packed version t bins is).stands
 
 pub returns-clause-no_other : goal.returns-clause-no_other
-returns-clause-no_other c = λ version t u bins is stands. one_stands (look_up version bins) 32 u t stands (well_formed_packed version t bins is).stands
+returns-clause-no_other c =
+    λ version t u bins is stands. one_stands (look_up version bins) 32 u t stands
+    (well_formed_packed version t bins is).stands

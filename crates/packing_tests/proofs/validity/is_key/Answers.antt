@@ -6,7 +6,14 @@ use Rattle.packing_tests.proofs.validity.is_key.Goals as goal
 pub returns-then-are_items : goal.returns-then-are_items
 returns-then-are_items c =
     let i = c.key.inside in
-    let h : Head = record { name = i.name; flags = i.flags; stamp = i.stamp; class = i.class; security = i.security; values = i.values } in
+    let h : Head = record {
+      name = i.name;
+      flags = i.flags;
+      stamp = i.stamp;
+      class = i.class;
+      security = i.security;
+      values = i.values;
+    } in
     λ named. whole_key h i.children c.args.key.now c.key.view_is (record {
       name = search rules;
       no_backslash = search rules;

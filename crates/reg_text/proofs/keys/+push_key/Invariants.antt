@@ -14,7 +14,8 @@ decreases-push_keys l = 2 * weights l.keys.now
 
 abbrev pub invariant-push_keys-keys : goal.invariant-push_keys-keys
 invariant-push_keys-keys l = record {
-  text : l.out.items ++ keys_text l.place.items (trees l.rest) ≡ l.fn.out.items ++ keys_text l.fn.place.items (trees l.keys);
+  text : l.out.items ++ keys_text l.place.items (trees l.rest) ≡ l.fn.out.items
+      ++ keys_text l.fn.place.items (trees l.keys);
   place : l.place.items ≡ l.fn.place.items;
   fewer : weights l.rest ≤ weights l.keys;
 }

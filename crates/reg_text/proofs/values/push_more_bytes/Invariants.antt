@@ -5,4 +5,5 @@ use Rattle.reg_text.specs.Writing.{byte_digits}
 use Rattle.reg_text.proofs.values.push_more_bytes.Given as goal
 
 abbrev pub invariant-loop-byte : goal.invariant-loop-byte
-invariant-loop-byte l = l.out.items ≡ l.fn.out.items ++ flat_map (λ b. codes "," ++ byte_digits b) (take l.byte-index l.bytes)
+invariant-loop-byte l = l.out.items ≡ l.fn.out.items
+    ++ flat_map (λ b. codes "," ++ byte_digits b) (take l.byte-index l.bytes)

@@ -11,4 +11,5 @@ returns c =
     let end = c.partition_point in
     sym
     (halved_gap key_name name keys end.result
-    (end.ensures.partitioned (not_greater key_name name) (always_returns_same _ _ _ (λ a r f k. search rules)) (not_greater_first key_name name keys c.requires)) end.ensures.bound)
+    (end.ensures.partitioned (not_greater key_name name) (always_returns_same _ _ _ (λ a r f k. search rules))
+    (not_greater_first key_name name keys c.requires)) end.ensures.bound)

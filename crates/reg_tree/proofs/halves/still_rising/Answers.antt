@@ -11,4 +11,5 @@ returns-in-Some c = λ follows.
     let more = c.args.more.now in
     rising_push key_name c.args.keys.now more (c.requires c.if-not-rising.false)
     (λ some d.
-    sym (ap (λ (t : Tree). is_lt (folded_order (key_name more) (key_name t))) (c.in-Some.ensures.item.3.1 d)) ∙ not_of _ (sym c.may_follow.ensures ∙ follows))
+    sym (ap (λ (t : Tree). is_lt (folded_order (key_name more) (key_name t))) (c.in-Some.ensures.item.3.1 d))
+    ∙ not_of _ (sym c.may_follow.ensures ∙ follows))

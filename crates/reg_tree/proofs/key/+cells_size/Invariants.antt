@@ -4,4 +4,5 @@ use Rattle.std.specs.Prelude.{sum_by}
 use Rattle.reg_tree.proofs.key.+cells_size.Given as goal
 
 abbrev pub invariant-Keys::cells_size-loop-child : goal.invariant-Keys::cells_size-loop-child
-invariant-Keys::cells_size-loop-child l = l.total ≡ capped (sum_by (size l.version l.shared) (take l.child-index l.child-items))
+invariant-Keys::cells_size-loop-child l =
+    l.total ≡ capped (sum_by (size l.version l.shared) (take l.child-index l.child-items))

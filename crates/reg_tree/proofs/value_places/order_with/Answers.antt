@@ -16,7 +16,9 @@ returns c = λ v named some.
     let kept : IsOrderOf items order = c.requires.kept (search rules) in
     let slice = c.as_slice.ensures.value in
     let ends = subst (λ (xs : List ℕ). EndsAt (less (name_at items) name) xs at.result) slice
-    (at.ensures.partitioned (less (name_at items) name) (always_returns_same _ _ _ (λ a r f k. search rules)) (less_first (name_at items) name c.as_slice.result.now (subst (λ (xs : List ℕ). Rising (name_at items) xs) (sym slice) (weak items order kept.rises)))) in
+    (at.ensures.partitioned (less (name_at items) name) (always_returns_same _ _ _ (λ a r f k. search rules))
+    (less_first (name_at items) name c.as_slice.result.now
+    (subst (λ (xs : List ℕ). Rising (name_at items) xs) (sym slice) (weak items order kept.rises)))) in
     let most : at.result ≤ length order = omega (arith, at.ensures.bound, ap length slice) in
     let none = none_in_order items order name kept c.requires.new in
     rw c.in_ok-insert.ensures.items

@@ -9,4 +9,5 @@ pub returns-clause-settled : goal.returns-clause-settled
 returns-clause-settled c = λ tree m. refl
 
 pub returns-clause-next : goal.returns-clause-next
-returns-clause-next c = λ choice script m wakes outcomes before after p is still. run-expects choice script m wakes outcomes before after p is still
+returns-clause-next c = λ choice script m wakes outcomes before after p is still. run-expects choice script m wakes
+    outcomes before after p is still

@@ -6,5 +6,7 @@ use Rattle.safe_command.proofs.report.other_text.Goals as goal
 
 pub returns : goal.returns
 returns c =
-    two_parts c.new-text.result c.put_entry.new.text c.put_verdict.new.text (EntryLine c.args.number (path_at c.args.ini.now c.args.number)) (verdict_lines (verdict_of c.args.verdict)) c.new-text.ensures
+    two_parts c.new-text.result c.put_entry.new.text c.put_verdict.new.text
+    (EntryLine c.args.number (path_at c.args.ini.now c.args.number)) (verdict_lines (verdict_of c.args.verdict))
+    c.new-text.ensures
     c.in_ok-put_entry.ensures c.in_ok-put_verdict.ensures

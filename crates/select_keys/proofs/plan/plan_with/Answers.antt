@@ -11,7 +11,8 @@ pub returns-clause-fits : goal.returns-clause-fits
 returns-clause-fits c = λ fits.
     let first : List Step = map step_of c.args.first in
     let writes : List Step = writes_of c.args.old c.args.new in
-    let is : map step_of c.write_numbers.new.steps ≡ (first ++ deletions_of c.args.taken.now c.args.old c.args.new) ++ writes =
+    let is : map step_of c.write_numbers.new.steps ≡ (first ++ deletions_of c.args.taken.now c.args.old c.args.new)
+    ++ writes =
     c.in_ok-write_numbers.ensures ∙ ap (λ (s : List Step). s ++ writes) c.in_ok-delete_retired.ensures in
     let P : List Step → Type 0 = λ s. All Fits s in
     subst P (sym is) (plan_fits c.args.chosen c.args.taken.now c.args.old c.args.new first fits)

@@ -13,10 +13,14 @@ loop-child-preserved c =
     let at = c.loop-child in
     elim c.match-set_number.branch [
       | in-Some w ↦ w.taken-is ∙ w.add.ensures.listed ∙ ap (with_number w.in-Some.number) at.invariant
-          ∙ among_next_named _ at.child-index _ _ _ c.loop-child-test.true c.child-item.is c.name.ensures w.in-Some.ensures
-      | in_default w ↦ w.taken-is ∙ at.invariant ∙ among_next_unnamed _ at.child-index _ _ c.loop-child-test.true c.child-item.is c.name.ensures w.in_default.ensures
+          ∙ among_next_named _ at.child-index _ _ _ c.loop-child-test.true c.child-item.is c.name.ensures
+          w.in-Some.ensures
+      | in_default w ↦ w.taken-is ∙ at.invariant
+          ∙ among_next_unnamed _ at.child-index _ _ c.loop-child-test.true c.child-item.is c.name.ensures
+          w.in_default.ensures
     ]
 
 pub returns : goal.returns
 returns c =
-    c.loop-child.invariant ∙ ap numbers_among (take_all _ c.subkeys-child-items.result.now (omega arith)) ∙ ap numbers_among c.subkeys-child-items.ensures ∙ among_children c.args.root.now
+    c.loop-child.invariant ∙ ap numbers_among (take_all _ c.subkeys-child-items.result.now (omega arith))
+    ∙ ap numbers_among c.subkeys-child-items.ensures ∙ among_children c.args.root.now

@@ -13,10 +13,14 @@ loop-name-preserved c =
     let at = c.loop-name in
     elim c.match-set_number.branch [
       | in-Some w ↦ w.taken-is ∙ w.add.ensures.listed ∙ ap (with_number w.in-Some.number) at.invariant
-          ∙ named_next_set _ at.name-index _ _ _ c.loop-name-test.true c.name-item.is c.as_slice.ensures w.in-Some.ensures
-      | in_default w ↦ w.taken-is ∙ at.invariant ∙ named_next_other _ at.name-index _ _ c.loop-name-test.true c.name-item.is c.as_slice.ensures w.in_default.ensures
+          ∙ named_next_set _ at.name-index _ _ _ c.loop-name-test.true c.name-item.is c.as_slice.ensures
+          w.in-Some.ensures
+      | in_default w ↦ w.taken-is ∙ at.invariant
+          ∙ named_next_other _ at.name-index _ _ c.loop-name-test.true c.name-item.is c.as_slice.ensures
+          w.in_default.ensures
     ]
 
 pub returns : goal.returns
 returns c = λ t is.
-    c.loop-name.invariant ∙ ap numbers_named (take_all _ c.args.names.now (omega arith)) ∙ named_children t c.args.names.now is
+    c.loop-name.invariant ∙ ap numbers_named (take_all _ c.args.names.now (omega arith))
+    ∙ named_children t c.args.names.now is

@@ -6,6 +6,8 @@ use Rattle.text_commands.proofs.changing.edit.Goals as goal
 
 pub returns-in-Ok-clause-changed : goal.returns-in-Ok-clause-changed
 returns-in-Ok-clause-changed g c =
-    edit_settles g.D.Disk.tells c.settle.result c.args.hive c.apply.new.self (map step_of c.args.steps) (g.D.Disk.state c.args.disk.now)
-    (g.D.Disk.state c.settle.new.disk) c.requires.still c.requires.loads c.in-Ok.ensures.made c.in-Ok.ensures.base c.requires.unchanged
+    edit_settles g.D.Disk.tells c.settle.result c.args.hive c.apply.new.self (map step_of c.args.steps)
+    (g.D.Disk.state c.args.disk.now)
+    (g.D.Disk.state c.settle.new.disk)
+    c.requires.still c.requires.loads c.in-Ok.ensures.made c.in-Ok.ensures.base c.requires.unchanged
     c.in-Ok.ensures.changed c.settle.ensures.settled

@@ -5,4 +5,5 @@ use Rattle.text_commands.proofs.counts.+keys.Goals as goal
 
 pub keys_count-returns-in_default : goal.keys_count-returns-in_default
 keys_count-returns-in_default t c =
-    all_keys_count c.keys.total (capped (keys_count (trees c.args.keys.now))) c.keys.rest.now c.in_default.len_below c.keys.invariant.small c.keys.invariant.so_far
+    all_keys_count c.keys.total (capped (keys_count (trees c.args.keys.now)))
+    c.keys.rest.now c.in_default.len_below c.keys.invariant.small c.keys.invariant.so_far

@@ -17,11 +17,15 @@ returns-in-Err-Stopped-clause-decides g c =
     let old = g.H.Host.state c.args.host.now in
     let new = g.H.Host.state c.hive_in.new.host in
     let looks = subst
-    (λ (o : Obstacle). Looks {A = HiveFiles} (hive_in old.files (import_seen c.args.words).hive (import_seen c.args.words).log) (Err o) old new)
+    (λ (o : Obstacle). Looks {A = HiveFiles}
+    (hive_in old.files (import_seen c.args.words).hive (import_seen c.args.words).log) (Err o) old new)
     c.in-Err-Stopped.field-0-is c.in-Err-Stopped.ensures.looks in
-    let done = unfound_import (import_seen c.args.words) c.in-Err-Stopped.stop old new (g.B.Disk.state c.args.bench.now) c.requires.fresh looks in
-    let told : c.stopped.result ≡ stopped_as c.in-Err-Stopped.stop = rw c.in-Err-Stopped.field-0-is at c.stopped.ensures in
-    subst (λ (s : Status). DecidesImport (import_seen c.args.words) s old new (g.B.Disk.state c.args.bench.now)) (sym told) done
+    let done = unfound_import (import_seen c.args.words) c.in-Err-Stopped.stop old new (g.B.Disk.state c.args.bench.now)
+    c.requires.fresh looks in
+    let told : c.stopped.result ≡ stopped_as c.in-Err-Stopped.stop =
+    rw c.in-Err-Stopped.field-0-is at c.stopped.ensures in
+    subst (λ (s : Status). DecidesImport (import_seen c.args.words) s old new (g.B.Disk.state c.args.bench.now))
+    (sym told) done
 
 pub returns-in-Err-Stopped-clause-asked : goal.returns-in-Err-Stopped-clause-asked
 returns-in-Err-Stopped-clause-asked g c =
@@ -32,10 +36,13 @@ returns-in-Err-Stopped-clause-asked g c =
     c.in-Err-Stopped.field-0-is c.in-Err-Stopped.ensures.looks in
     let asks = subst (λ (o : Obstacle). AsksHive {A = HiveFiles} words.hive words.log (Err o) old new)
     c.in-Err-Stopped.field-0-is c.in-Err-Stopped.ensures.asks in
-    let told : c.stopped.result ≡ stopped_as c.in-Err-Stopped.stop = rw c.in-Err-Stopped.field-0-is at c.stopped.ensures in
-    subst (λ (s : Status). AsksImport words s old new) (sym told) (stopped_asked words c.in-Err-Stopped.stop old new looks asks)
+    let told : c.stopped.result ≡ stopped_as c.in-Err-Stopped.stop =
+    rw c.in-Err-Stopped.field-0-is at c.stopped.ensures in
+    subst (λ (s : Status). AsksImport words s old new) (sym told)
+    (stopped_asked words c.in-Err-Stopped.stop old new looks asks)
 
 pub returns-in-Ok-clause-asked : goal.returns-in-Ok-clause-asked
 returns-in-Ok-clause-asked g c =
-    found_asked (import_seen c.args.words) c.in-Ok.files c.import_hive.result (g.H.Host.state c.args.host.now) (g.H.Host.state c.hive_in.new.host)
+    found_asked (import_seen c.args.words) c.in-Ok.files c.import_hive.result (g.H.Host.state c.args.host.now)
+    (g.H.Host.state c.hive_in.new.host)
     (g.H.Host.state c.import_hive.new.host) c.in-Ok.ensures.looks c.in-Ok.ensures.asks c.import_hive.ensures.asks

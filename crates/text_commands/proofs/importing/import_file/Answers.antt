@@ -11,8 +11,10 @@ use Rattle.text_commands.proofs.importing.import_file.Goals as goal
 
 pub returns-in-Ok : goal.returns-in-Ok
 returns-in-Ok g c =
-    found_file c.args.files.now (saves_seen c.args.saves) c.args.name.now c.in-Ok.text c.import_text.result (g.H.Host.state c.args.host.now)
-    (g.H.Host.state c.file_in.new.host) (g.H.Host.state c.import_text.new.host) (g.B.Disk.state c.import_text.new.bench) c.requires.loads
+    found_file c.args.files.now (saves_seen c.args.saves) c.args.name.now c.in-Ok.text c.import_text.result
+    (g.H.Host.state c.args.host.now)
+    (g.H.Host.state c.file_in.new.host) (g.H.Host.state c.import_text.new.host) (g.B.Disk.state c.import_text.new.bench)
+    c.requires.loads
     c.in-Ok.ensures.looks c.in-Ok.ensures.asks (rw c.as_slice.ensures at c.import_text.ensures)
 
 pub returns-in-Err-Refused : goal.returns-in-Err-Refused
@@ -22,7 +24,10 @@ returns-in-Err-Refused g c =
     let name : List ℕ = c.args.name.now in
     let looks = subst (λ (o : Obstacle). Looks {A = List ℕ} (file_in name (old.files name)) (Err o) old mid)
     c.in-Err-Refused.field-0-is c.in-Err-Refused.ensures.looks in
-    absent_file c.args.files.now (saves_seen c.args.saves) name c.in-Err-Refused.why c.refuse.result old mid (g.H.Host.state c.refuse.new.host)
-    (g.B.Disk.state c.args.bench.now) c.requires.loads c.requires.fresh looks c.in-Err-Refused.ensures.asks c.refuse.ensures.unasked
-    (λ e. c.in-Err-Refused.ensures.kept (ap (λ (o : Obstacle). Err o) (c.in-Err-Refused.field-0-is ∙ ap (λ (w : Refusal). Refused w) e)))
+    absent_file c.args.files.now (saves_seen c.args.saves) name c.in-Err-Refused.why c.refuse.result old mid
+    (g.H.Host.state c.refuse.new.host)
+    (g.B.Disk.state c.args.bench.now)
+    c.requires.loads c.requires.fresh looks c.in-Err-Refused.ensures.asks c.refuse.ensures.unasked
+    (λ e. c.in-Err-Refused.ensures.kept
+    (ap (λ (o : Obstacle). Err o) (c.in-Err-Refused.field-0-is ∙ ap (λ (w : Refusal). Refused w) e)))
     c.refuse.ensures.leaves c.refuse.ensures.files c.refuse.ensures.kept

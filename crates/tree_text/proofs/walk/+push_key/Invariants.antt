@@ -11,7 +11,8 @@ decreases-push_keys l = weights l.keys.now
 
 abbrev pub invariant-push_keys-keys : goal.invariant-push_keys-keys
 invariant-push_keys-keys l = record {
-  text : l.out.items ++ keys_text l.margin.items (trees l.rest) ≡ l.fn.out.items ++ keys_text l.fn.margin.items (trees l.keys);
+  text : l.out.items ++ keys_text l.margin.items (trees l.rest) ≡ l.fn.out.items
+      ++ keys_text l.fn.margin.items (trees l.keys);
   margin : l.margin.items ≡ l.fn.margin.items;
   fewer : weights l.rest ≤ weights l.keys;
 }

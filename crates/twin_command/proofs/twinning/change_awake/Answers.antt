@@ -3,21 +3,38 @@ use Rattle.twin_command.proofs.twinning.change_awake.Goals as goal
 
 pub told_by-requires-clause-sound : goal.told_by-requires-clause-sound
 told_by-requires-clause-sound g c =
-    sound g.S.Scheme.stands c.args.number (g.B.Disk.state c.args.bench.now) (g.B.Disk.state c.change_default-done.new.disk) (g.B.Disk.state c.power_off.new.self) c.power_off.ensures.off c.requires.awake (g.met.B.Bench.ordered c.change_default-done.new.disk) c.requires.some c.change_default-done.result (c.change_default-done.ensures.answers g.met.B.Bench.told)
+    sound g.S.Scheme.stands c.args.number (g.B.Disk.state c.args.bench.now)
+    (g.B.Disk.state c.change_default-done.new.disk) (g.B.Disk.state c.power_off.new.self)
+    c.power_off.ensures.off c.requires.awake (g.met.B.Bench.ordered c.change_default-done.new.disk)
+    c.requires.some c.change_default-done.result (c.change_default-done.ensures.answers g.met.B.Bench.told)
 
 pub told_by-requires-clause-powered : goal.told_by-requires-clause-powered
 told_by-requires-clause-powered g c =
-    lost_never g.S.Scheme.stands c.args.number (g.B.Disk.state c.args.bench.now) (g.B.Disk.state c.change_default-done.new.disk) (g.B.Disk.state c.power_off.new.self) c.power_off.ensures.off c.requires.awake (g.met.B.Bench.ordered c.change_default-done.new.disk) c.requires.some c.change_default-done.result c.change_default-done.ensures.goes
+    lost_never g.S.Scheme.stands c.args.number (g.B.Disk.state c.args.bench.now)
+    (g.B.Disk.state c.change_default-done.new.disk) (g.B.Disk.state c.power_off.new.self)
+    c.power_off.ensures.off c.requires.awake (g.met.B.Bench.ordered c.change_default-done.new.disk)
+    c.requires.some c.change_default-done.result c.change_default-done.ensures.goes
 
 pub told_by-requires-clause-working : goal.told_by-requires-clause-working
 told_by-requires-clause-working g c =
-    failed_never g.S.Scheme.stands c.args.number (g.B.Disk.state c.args.bench.now) (g.B.Disk.state c.change_default-done.new.disk) (g.B.Disk.state c.power_off.new.self) c.power_off.ensures.off c.requires.awake (g.met.B.Bench.ordered c.change_default-done.new.disk) c.requires.some c.change_default-done.result c.change_default-done.ensures.goes
+    failed_never g.S.Scheme.stands c.args.number (g.B.Disk.state c.args.bench.now)
+    (g.B.Disk.state c.change_default-done.new.disk) (g.B.Disk.state c.power_off.new.self)
+    c.power_off.ensures.off c.requires.awake (g.met.B.Bench.ordered c.change_default-done.new.disk)
+    c.requires.some c.change_default-done.result c.change_default-done.ensures.goes
 
 pub returns-clause-told : goal.returns-clause-told
 returns-clause-told g c =
-    awake_told g.S.Scheme.stands c.args.number (g.B.Disk.state c.args.bench.now) (g.B.Disk.state c.change_default-done.new.disk) (g.B.Disk.state c.power_off.new.self) c.power_off.ensures.off c.requires.awake (g.met.B.Bench.ordered c.change_default-done.new.disk) c.requires.some (c.change_default-done.ensures.crash g.met.B.Bench.told)
-    c.change_default-done.result (c.change_default-done.ensures.answers g.met.B.Bench.told) c.change_default-done.ensures.goes (c.change_default-done.ensures.still g.met.B.Bench.told) c.told_by.result c.told_by.ensures
+    awake_told g.S.Scheme.stands c.args.number (g.B.Disk.state c.args.bench.now)
+    (g.B.Disk.state c.change_default-done.new.disk) (g.B.Disk.state c.power_off.new.self)
+    c.power_off.ensures.off c.requires.awake (g.met.B.Bench.ordered c.change_default-done.new.disk) c.requires.some
+    (c.change_default-done.ensures.crash g.met.B.Bench.told)
+    c.change_default-done.result (c.change_default-done.ensures.answers g.met.B.Bench.told)
+    c.change_default-done.ensures.goes (c.change_default-done.ensures.still g.met.B.Bench.told)
+    c.told_by.result c.told_by.ensures
 
 pub returns-clause-part : goal.returns-clause-part
 returns-clause-part g c =
-    told_part g.S.Scheme.stands c.args.number (g.B.Disk.state c.args.bench.now) (g.B.Disk.state c.change_default-done.new.disk) (g.B.Disk.state c.power_off.new.self) c.power_off.ensures.off c.requires.awake (g.met.B.Bench.ordered c.change_default-done.new.disk) c.requires.some c.change_default-done.result c.change_default-done.ensures.goes c.told_by.result
+    told_part g.S.Scheme.stands c.args.number (g.B.Disk.state c.args.bench.now)
+    (g.B.Disk.state c.change_default-done.new.disk) (g.B.Disk.state c.power_off.new.self)
+    c.power_off.ensures.off c.requires.awake (g.met.B.Bench.ordered c.change_default-done.new.disk)
+    c.requires.some c.change_default-done.result c.change_default-done.ensures.goes c.told_by.result

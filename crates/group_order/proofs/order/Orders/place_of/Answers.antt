@@ -8,5 +8,6 @@ use Rattle.group_order.proofs.order.Orders.place_of.Goals as goal
 pub returns-clause-place : goal.returns-clause-place
 returns-clause-place c =
     let name = c.args.name.now in
-    c.place_of.ensures.place ∙ ap (position (folds_same name)) c.self.invariant.1 ∙ position-map (folds_same name) (λ (o : GroupOrder). o.name) c.self.inside.items.items
+    c.place_of.ensures.place ∙ ap (position (folds_same name)) c.self.invariant.1
+    ∙ position-map (folds_same name) (λ (o : GroupOrder). o.name) c.self.inside.items.items
     ∙ ap (position (λ (o : GroupOrder). folds_same name o.name)) c.self.view_is

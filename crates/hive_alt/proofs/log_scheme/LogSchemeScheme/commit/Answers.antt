@@ -4,4 +4,6 @@ use Rattle.hive_alt.proofs.log_scheme.LogSchemeScheme.commit.Goals as goal
 
 pub returns-clause-crash : goal.returns-clause-crash
 returns-clause-crash g c = λ tells.
-    either_crash (g.D.Disk.state c.commit.new.disk) c.args.base.now (closed_of c.args.base.now c.args.new.now c.args.root) c.args.old.now c.args.new.now (c.commit.ensures.crash tells)
+    either_crash (g.D.Disk.state c.commit.new.disk) c.args.base.now
+    (closed_of c.args.base.now c.args.new.now c.args.root) c.args.old.now c.args.new.now
+    (c.commit.ensures.crash tells)

@@ -5,4 +5,5 @@ use Rattle.hive_alt.proofs.twin_scheme.TwinSchemeScheme.commit.Goals as goal
 pub returns-in_err-closed-clause-goes : goal.returns-in_err-closed-clause-goes
 returns-in_err-closed-clause-goes g c =
     let p = err_from_is_err_and c.from_residual.result c.from_residual.ensures.1 in
-    rw (p.1, p.2) (commit_goes (g.D.Disk.state c.args.disk.now) (g.D.Disk.state c.change_pair.new.disk) c.in_err-closed.field-0.0 c.in_err-closed.ensures.goes)
+    rw (p.1, p.2) (commit_goes (g.D.Disk.state c.args.disk.now) (g.D.Disk.state c.change_pair.new.disk)
+    c.in_err-closed.field-0.0 c.in_err-closed.ensures.goes)

@@ -23,7 +23,8 @@ pub returns-clause-exact : goal.returns-clause-exact
 returns-clause-exact c =
     let z = sizes c.self.inside.bytes.items c.self.inside.starts.items _ (alone c.self.invariant) in
     let bin : (c.from.result + 4127) / 4096 * 4096 ≡ new_bin_size c.args.size = omega (arith, c.from.ensures) in
-    let whole : c.len-long.result ≡ bins_size c.args.self.now = omega (arith, c.len-long.ensures, z.whole, ap bins_size c.self.view_is) in
+    let whole : c.len-long.result ≡ bins_size c.args.self.now =
+    omega (arith, c.len-long.ensures, z.whole, ap bins_size c.self.view_is) in
     record {
       fits = omega (arith, c.if-long-bin-gt16777216.false, whole, bin);
       place = omega (arith, whole);
@@ -34,13 +35,17 @@ pub returns-clause-hole : goal.returns-clause-hole
 returns-clause-hole c =
     let z = sizes c.self.inside.bytes.items c.self.inside.starts.items _ (alone c.self.invariant) in
     let bin : (c.from.result + 4127) / 4096 * 4096 ≡ new_bin_size c.args.size = omega (arith, c.from.ensures) in
-    let whole : c.len-long.result + 32 ≡ bins_size (bins_of c.self.inside.bytes.items) + 32 = omega (arith, c.len-long.ensures, z.whole) in
+    let whole : c.len-long.result + 32 ≡ bins_size (bins_of c.self.inside.bytes.items) + 32 =
+    omega (arith, c.len-long.ensures, z.whole) in
     let sound = (kept_seen c.self.inside.bytes.items c.self.inside.starts.items c.self.invariant).0 in
-    let new = c.in_ok-append_bin.ensures.ok ∙ ap (λ (n : ℕ). c.args.self.now ++ free_bin n ∷ []) bin ∙ ap (λ b. b ++ free_bin (new_bin_size c.args.size) ∷ []) (sym c.self.view_is) in
+    let new = c.in_ok-append_bin.ensures.ok ∙ ap (λ (n : ℕ). c.args.self.now ++ free_bin n ∷ []) bin
+    ∙ ap (λ b. b ++ free_bin (new_bin_size c.args.size) ∷ []) (sym c.self.view_is) in
     rw (new, whole) (new_hole (bins_of c.self.inside.bytes.items) c.args.size sound.each)
 
 pub returns-clause-held : goal.returns-clause-held
-returns-clause-held c o = ap (λ b. held_at b o) c.in_ok-append_bin.ensures.ok ∙ held_before c.args.self.now ((c.from.result + 4127) / 4096 * 4096) o 0
+returns-clause-held c o =
+    ap (λ b. held_at b o) c.in_ok-append_bin.ensures.ok
+    ∙ held_before c.args.self.now ((c.from.result + 4127) / 4096 * 4096) o 0
 
 pub returns-clause-long : goal.returns-clause-long
 returns-clause-long c =

@@ -7,4 +7,5 @@ use Rattle.hive_cells.proofs.heap.CellHeap.into_bytes.Goals as goal
 pub returns : goal.returns
 returns c =
     let i = c.self.invariant in
-    c.from_vec.ensures ∙ i.bytes ∙ ap (spelled 0) (sym (bins_of_again i.bins i.sound) ∙ ap bins_of (sym i.bytes) ∙ c.self.view_is)
+    c.from_vec.ensures ∙ i.bytes
+    ∙ ap (spelled 0) (sym (bins_of_again i.bins i.sound) ∙ ap bins_of (sym i.bytes) ∙ c.self.view_is)

@@ -7,7 +7,8 @@ use Rattle.hive_mend.proofs.hive.LoadedHive.load.Goals.{then-dirty+in_ok-restore
 
 pub returns-in_err-hive-clause-crash : goal.returns-in_err-hive-clause-crash
 returns-in_err-hive-clause-crash g c = λ tells.
-    kept_loads (g.D.Disk.state c.args.disk.now) (g.D.Disk.state c.look.new.disk) (c.look.ensures.look.held tells) (c.look.ensures.look.flight tells ∙ c.requires.still tells)
+    kept_loads (g.D.Disk.state c.args.disk.now) (g.D.Disk.state c.look.new.disk) (c.look.ensures.look.held tells)
+    (c.look.ensures.look.flight tells ∙ c.requires.still tells)
 
 pub returns-in_err-restore-clause-crash : goal.returns-in_err-restore-clause-crash
 returns-in_err-restore-clause-crash g c = λ tells.
@@ -30,7 +31,8 @@ returns-clause-crash g c = λ tells.
           (w.as_slice-then-dirty.ensures ∙ ap (λ (h : Loaded). h.bins) c.hive.view_is)
           (g.D.Disk.state w.restore.new.disk) (w.restore.ensures.crash tells))
       | else-dirty w ↦ rw w.disk-is
-          (kept_loads s0 (g.D.Disk.state c.look.new.disk) (c.look.ensures.look.held tells) (c.look.ensures.look.flight tells ∙ c.requires.still tells))
+          (kept_loads s0 (g.D.Disk.state c.look.new.disk) (c.look.ensures.look.held tells)
+          (c.look.ensures.look.flight tells ∙ c.requires.still tells))
     ]
 
 pub returns-clause-loads : goal.returns-clause-loads
@@ -39,22 +41,26 @@ returns-clause-loads g c = λ tells.
     let looked = c.in_ok-hive.field-0 in
     let view : Recovered = record { base = looked.hive.base; bins = looked.hive.bins; dirty = looked.dirty } in
     let is = c.in_ok-hive.ensures.exact tells in
-    let found = found_again s0.held (loaded_state looked.hive) looked.dirty view is.loads is.recovered c.in_ok-hive.ensures.sized in
+    let found = found_again s0.held (loaded_state looked.hive)
+    looked.dirty view is.loads is.recovered c.in_ok-hive.ensures.sized in
     elim c.if-dirty.branch [
       | then-dirty+in_ok-restore w ↦ rw w.disk-is
           (found c.hive.inside.base w.as_slice-then-dirty.result.now (ap (λ (h : Loaded). h.base) c.hive.view_is)
           (w.as_slice-then-dirty.ensures ∙ ap (λ (h : Loaded). h.bins) c.hive.view_is)
           (g.D.Disk.state w.restore.new.disk).held (w.in_ok-restore.ensures.carries tells))
       | else-dirty w ↦ rw (w.disk-is, c.look.ensures.look.held tells)
-          (found looked.hive.base looked.hive.bins refl refl s0.held (c.in_ok-hive.ensures.carries tells w.if-dirty.false))
+          (found looked.hive.base looked.hive.bins refl refl s0.held
+          (c.in_ok-hive.ensures.carries tells w.if-dirty.false))
     ]
 
 pub returns-in_err-restore-clause-faulty : goal.returns-in_err-restore-clause-faulty
 returns-in_err-restore-clause-faulty g c = λ tells fault fails.
     let looked = c.in_ok-hive.field-0 in
-    absurd (loads_or_fails (g.D.Disk.state c.args.disk.now).held (loaded_state looked.hive) looked.dirty fault (c.in_ok-hive.ensures.exact tells).loads fails)
+    absurd (loads_or_fails (g.D.Disk.state c.args.disk.now).held (loaded_state looked.hive) looked.dirty fault
+    (c.in_ok-hive.ensures.exact tells).loads fails)
 
 pub returns-clause-faulty : goal.returns-clause-faulty
 returns-clause-faulty g c = λ tells fault fails.
     let looked = c.in_ok-hive.field-0 in
-    absurd (loads_or_fails (g.D.Disk.state c.args.disk.now).held (loaded_state looked.hive) looked.dirty fault (c.in_ok-hive.ensures.exact tells).loads fails)
+    absurd (loads_or_fails (g.D.Disk.state c.args.disk.now).held (loaded_state looked.hive) looked.dirty fault
+    (c.in_ok-hive.ensures.exact tells).loads fails)

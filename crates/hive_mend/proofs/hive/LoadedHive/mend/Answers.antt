@@ -7,12 +7,14 @@ use Rattle.hive_mend.proofs.hive.LoadedHive.mend.Goals as goal
 pub returns-in_err-hive-in-Ok-Some-clause-crash : goal.returns-in_err-hive-in-Ok-Some-clause-crash
 returns-in_err-hive-in-Ok-Some-clause-crash g c = λ tells.
     let has = subst (λ (v : Loaded). HasItsTree v v.bins v.base.root) c.self.view_is c.self.invariant.has in
-    crash_again c.args.self has (g.D.Disk.state c.args.disk.now).held (c.requires.carries tells) (g.D.Disk.state c.replace.new.disk) (c.replace.ensures.crash tells)
+    crash_again c.args.self has (g.D.Disk.state c.args.disk.now).held (c.requires.carries tells)
+    (g.D.Disk.state c.replace.new.disk) (c.replace.ensures.crash tells)
 
 pub returns-in_ok-hive-in-Ok-Some-clause-crash : goal.returns-in_ok-hive-in-Ok-Some-clause-crash
 returns-in_ok-hive-in-Ok-Some-clause-crash g c = λ tells.
     let has = subst (λ (v : Loaded). HasItsTree v v.bins v.base.root) c.self.view_is c.self.invariant.has in
-    crash_again c.args.self has (g.D.Disk.state c.args.disk.now).held (c.requires.carries tells) (g.D.Disk.state c.replace.new.disk) (c.replace.ensures.crash tells)
+    crash_again c.args.self has (g.D.Disk.state c.args.disk.now).held (c.requires.carries tells)
+    (g.D.Disk.state c.replace.new.disk) (c.replace.ensures.crash tells)
 
 pub returns-in-Ok-None-clause-loads : goal.returns-in-Ok-None-clause-loads
 returns-in-Ok-None-clause-loads g c = λ tells.

@@ -17,13 +17,15 @@ returns-in_err-closed-clause-crash g c = λ tells.
     let state = g.D.Disk.state c.commit.new.disk in
     subst (λ (v : Loaded). EachCrash state (LoadsAsOrNext (loaded_state v))) c.self.view_is
     (replaced_crash h c.self.invariant.has c.args.new ready state
-    (as_written (λ old new. EachCrash state (IsBeforeOrAfter h.base old (closed_of h.base new 32) new)) _ _ _ _ c.as_slice.ensures c.as_slice-2.ensures
+    (as_written (λ old new. EachCrash state (IsBeforeOrAfter h.base old (closed_of h.base new 32) new))
+    _ _ _ _ c.as_slice.ensures c.as_slice-2.ensures
     (c.commit.ensures.crash tells)))
 
 pub returns-in_err-closed-clause-goes : goal.returns-in_err-closed-clause-goes
 returns-in_err-closed-clause-goes g c =
     let p = err_from_is_err_and c.from_residual.result c.from_residual.ensures.1 in
-    rw (p.1, p.2) (goes_again _ _ (g.D.Disk.state c.args.disk.now) (g.D.Disk.state c.commit.new.disk) c.in_err-closed.field-0.0 c.in_err-closed.ensures.goes)
+    rw (p.1, p.2) (goes_again _ _ (g.D.Disk.state c.args.disk.now) (g.D.Disk.state c.commit.new.disk)
+    c.in_err-closed.field-0.0 c.in_err-closed.ensures.goes)
 
 pub returns-clause-loads : goal.returns-clause-loads
 returns-clause-loads g c = λ tells.
@@ -33,7 +35,8 @@ returns-clause-loads g c = λ tells.
     let held = (g.D.Disk.state c.commit.new.disk).held in
     subst (λ (v : Loaded). Loads held (next_state (loaded_state v)) false) c.self.view_is
     (replaced_loads h c.args.new ready held
-    (subst (λ new. Carries held (closed_of h.base new 32) new) c.as_slice-2.ensures (c.in_ok-closed.ensures.carries tells)))
+    (subst (λ new. Carries held (closed_of h.base new 32) new) c.as_slice-2.ensures
+    (c.in_ok-closed.ensures.carries tells)))
 
 pub returns-clause-crash : goal.returns-clause-crash
 returns-clause-crash g c = λ tells.
@@ -43,5 +46,6 @@ returns-clause-crash g c = λ tells.
     let state = g.D.Disk.state c.commit.new.disk in
     subst (λ (v : Loaded). EachCrash state (LoadsAsOrNext (loaded_state v))) c.self.view_is
     (replaced_crash h c.self.invariant.has c.args.new ready state
-    (as_written (λ old new. EachCrash state (IsBeforeOrAfter h.base old (closed_of h.base new 32) new)) _ _ _ _ c.as_slice.ensures c.as_slice-2.ensures
+    (as_written (λ old new. EachCrash state (IsBeforeOrAfter h.base old (closed_of h.base new 32) new))
+    _ _ _ _ c.as_slice.ensures c.as_slice-2.ensures
     (c.commit.ensures.crash tells)))

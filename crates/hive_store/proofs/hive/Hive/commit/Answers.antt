@@ -18,12 +18,14 @@ use Rattle.hive_store.proofs.hive.Hive.commit.Goals as goal
 pub commit-requires-clause-sized : goal.commit-requires-clause-sized
 commit-requires-clause-sized g c =
     let cells = c.self.inside.cells in
-    sized_bytes cells.version cells.bins cells.root cells.tree c.bytes-new.result.now c.bytes-new.ensures.sound c.root.ensures.stands c.bytes-new.ensures.exact
+    sized_bytes cells.version cells.bins cells.root cells.tree c.bytes-new.result.now c.bytes-new.ensures.sound
+    c.root.ensures.stands c.bytes-new.ensures.exact
 
 pub keep-requires-clause-sized : goal.keep-requires-clause-sized
 keep-requires-clause-sized g c =
     let cells = c.self.inside.cells in
-    sized_bytes cells.version cells.bins cells.root cells.tree c.bytes-new.result.now c.bytes-new.ensures.sound c.root.ensures.stands c.bytes-new.ensures.exact
+    sized_bytes cells.version cells.bins cells.root cells.tree c.bytes-new.result.now c.bytes-new.ensures.sound
+    c.root.ensures.stands c.bytes-new.ensures.exact
 
 pub keep-requires-clause-marked : goal.keep-requires-clause-marked
 keep-requires-clause-marked g c = λ i below.
@@ -33,8 +35,10 @@ pub invariant_of-hive : goal.invariant_of-hive
 invariant_of-hive g c =
     let i = c.self.inside in
     let s : Session = session_of i.base i.bins i.cells i.changed in
-    let ready = is_ready i.base i.bins i.cells i.changed c.self.invariant c.bytes-new.ensures.sound c.root.ensures.stands in
-    next_session s ready c.self.invariant.version _ _ _ _ c.in_ok-closed.ensures.answered c.keep.ensures c.bytes-new.ensures.exact c.root.ensures.root
+    let ready = is_ready i.base i.bins i.cells i.changed c.self.invariant c.bytes-new.ensures.sound
+    c.root.ensures.stands in
+    next_session s ready c.self.invariant.version _ _ _ _ c.in_ok-closed.ensures.answered c.keep.ensures
+    c.bytes-new.ensures.exact c.root.ensures.root
 
 pub returns-clause-answered : goal.returns-clause-answered
 returns-clause-answered g c =
@@ -45,7 +49,8 @@ returns-clause-answered g c =
 
 pub returns-clause-number : goal.returns-clause-number
 returns-clause-number g c =
-    ap (λ (b : Base). b.first) (c.closed.view_is ∙ c.in_ok-closed.ensures.answered) ∙ ap (λ (s : Session). next_number s.base.first) c.self.view_is
+    ap (λ (b : Base). b.first) (c.closed.view_is ∙ c.in_ok-closed.ensures.answered)
+    ∙ ap (λ (s : Session). next_number s.base.first) c.self.view_is
 
 pub returns-clause-made : goal.returns-clause-made
 returns-clause-made g c =
@@ -54,7 +59,8 @@ returns-clause-made g c =
     let before = g.D.Disk.calls c.args.disk.now in
     let after = g.D.Disk.calls c.commit.new.disk in
     subst (λ (v : Session). Makes before after (change_calls v.base v.bins (next_bins v) (next_root v))) c.self.view_is
-    (as_written s (λ old new root. Makes before after (change_calls s.base old new root)) _ _ _ c.as_slice.ensures c.bytes-new.ensures.exact c.root.ensures.root c.in_ok-closed.ensures.made)
+    (as_written s (λ old new root. Makes before after (change_calls s.base old new root))
+    _ _ _ c.as_slice.ensures c.bytes-new.ensures.exact c.root.ensures.root c.in_ok-closed.ensures.made)
 
 pub returns-in_err-closed-clause-made : goal.returns-in_err-closed-clause-made
 returns-in_err-closed-clause-made g c =
@@ -64,8 +70,10 @@ returns-in_err-closed-clause-made g c =
     let after = g.D.Disk.calls c.commit.new.disk in
     let p = err_from_is_err_and c.from_residual.result c.from_residual.ensures.1 in
     rw p.1
-    (subst (λ (v : Session). MakesFront before after (change_calls v.base v.bins (next_bins v) (next_root v))) c.self.view_is
-    (as_written s (λ old new root. MakesFront before after (change_calls s.base old new root)) _ _ _ c.as_slice.ensures c.bytes-new.ensures.exact c.root.ensures.root c.in_err-closed.ensures.made))
+    (subst (λ (v : Session). MakesFront before after (change_calls v.base v.bins (next_bins v) (next_root v)))
+    c.self.view_is
+    (as_written s (λ old new root. MakesFront before after (change_calls s.base old new root))
+    _ _ _ c.as_slice.ensures c.bytes-new.ensures.exact c.root.ensures.root c.in_err-closed.ensures.made))
 
 pub returns-clause-carries : goal.returns-clause-carries
 returns-clause-carries g c = λ tells.
@@ -73,7 +81,8 @@ returns-clause-carries g c = λ tells.
     let s : Session = session_of i.base i.bins i.cells i.changed in
     let held = (g.D.Disk.state c.commit.new.disk).held in
     subst (λ (v : Session). Carries held (next_base v) (next_bins v)) c.self.view_is
-    (as_written s (λ old new root. Carries held (closed_of s.base new root) new) _ _ _ c.as_slice.ensures c.bytes-new.ensures.exact c.root.ensures.root (c.in_ok-closed.ensures.carries tells))
+    (as_written s (λ old new root. Carries held (closed_of s.base new root) new)
+    _ _ _ c.as_slice.ensures c.bytes-new.ensures.exact c.root.ensures.root (c.in_ok-closed.ensures.carries tells))
 
 pub returns-clause-logged : goal.returns-clause-logged
 returns-clause-logged g c = λ tells.
@@ -81,60 +90,74 @@ returns-clause-logged g c = λ tells.
     let s : Session = session_of i.base i.bins i.cells i.changed in
     let held = (g.D.Disk.state c.commit.new.disk).held in
     subst (λ (v : Session). HasLog held (session_log v)) c.self.view_is
-    (as_written s (λ old new root. HasLog held (log_of (dirty old new) new (closed_of s.base new root))) _ _ _ c.as_slice.ensures c.bytes-new.ensures.exact c.root.ensures.root
+    (as_written s (λ old new root. HasLog held (log_of (dirty old new) new (closed_of s.base new root)))
+    _ _ _ c.as_slice.ensures c.bytes-new.ensures.exact c.root.ensures.root
     (c.in_ok-closed.ensures.logged tells))
 
 pub returns-clause-loads : goal.returns-clause-loads
 returns-clause-loads g c = λ tells.
     let i = c.self.inside in
     let s : Session = session_of i.base i.bins i.cells i.changed in
-    let ready = is_ready i.base i.bins i.cells i.changed c.self.invariant c.bytes-new.ensures.sound c.root.ensures.stands in
+    let ready = is_ready i.base i.bins i.cells i.changed c.self.invariant c.bytes-new.ensures.sound
+    c.root.ensures.stands in
     let held = (g.D.Disk.state c.commit.new.disk).held in
     subst (λ (v : Session). Loads held (committed_state v) false) c.self.view_is
     (commit_loads s ready held
-    (as_written s (λ old new root. Carries held (closed_of s.base new root) new) _ _ _ c.as_slice.ensures c.bytes-new.ensures.exact c.root.ensures.root (c.in_ok-closed.ensures.carries tells)))
+    (as_written s (λ old new root. Carries held (closed_of s.base new root) new)
+    _ _ _ c.as_slice.ensures c.bytes-new.ensures.exact c.root.ensures.root (c.in_ok-closed.ensures.carries tells)))
 
 pub returns-clause-crash : goal.returns-clause-crash
 returns-clause-crash g c = λ tells.
     let i = c.self.inside in
     let s : Session = session_of i.base i.bins i.cells i.changed in
-    let ready = is_ready i.base i.bins i.cells i.changed c.self.invariant c.bytes-new.ensures.sound c.root.ensures.stands in
+    let ready = is_ready i.base i.bins i.cells i.changed c.self.invariant c.bytes-new.ensures.sound
+    c.root.ensures.stands in
     let start = (g.D.Disk.state c.args.disk.now).held in
     let state = g.D.Disk.state c.commit.new.disk in
-    let carries = subst (λ (v : Session). Carries start v.base v.bins) (sym c.self.view_is) (c.requires.carries tells) in
-    subst (λ (v : Session). (before : HiveState) (was : Bool) → Loads start before was → EachCrash state (LoadsAsEither before (committed_state v))) c.self.view_is
+    let carries = subst (λ (v : Session). Carries start v.base v.bins) (sym c.self.view_is)
+    (c.requires.carries tells) in
+    subst (λ (v : Session). (before : HiveState) (was : Bool) → Loads start before was
+    → EachCrash state (LoadsAsEither before (committed_state v))) c.self.view_is
     (commit_crash s ready c.self.invariant.carried.sized start state carries
-    (as_written s (λ old new root. EachCrash state (IsBeforeOrAfter s.base old (closed_of s.base new root) new)) _ _ _ c.as_slice.ensures c.bytes-new.ensures.exact c.root.ensures.root
+    (as_written s (λ old new root. EachCrash state (IsBeforeOrAfter s.base old (closed_of s.base new root) new))
+    _ _ _ c.as_slice.ensures c.bytes-new.ensures.exact c.root.ensures.root
     (c.commit.ensures.crash tells)))
 
 pub returns-in_err-closed-clause-crash : goal.returns-in_err-closed-clause-crash
 returns-in_err-closed-clause-crash g c = λ tells.
     let i = c.self.inside in
     let s : Session = session_of i.base i.bins i.cells i.changed in
-    let ready = is_ready i.base i.bins i.cells i.changed c.self.invariant c.bytes-new.ensures.sound c.root.ensures.stands in
+    let ready = is_ready i.base i.bins i.cells i.changed c.self.invariant c.bytes-new.ensures.sound
+    c.root.ensures.stands in
     let start = (g.D.Disk.state c.args.disk.now).held in
     let state = g.D.Disk.state c.commit.new.disk in
-    let carries = subst (λ (v : Session). Carries start v.base v.bins) (sym c.self.view_is) (c.requires.carries tells) in
-    subst (λ (v : Session). (before : HiveState) (was : Bool) → Loads start before was → EachCrash state (LoadsAsEither before (committed_state v))) c.self.view_is
+    let carries = subst (λ (v : Session). Carries start v.base v.bins) (sym c.self.view_is)
+    (c.requires.carries tells) in
+    subst (λ (v : Session). (before : HiveState) (was : Bool) → Loads start before was
+    → EachCrash state (LoadsAsEither before (committed_state v))) c.self.view_is
     (commit_crash s ready c.self.invariant.carried.sized start state carries
-    (as_written s (λ old new root. EachCrash state (IsBeforeOrAfter s.base old (closed_of s.base new root) new)) _ _ _ c.as_slice.ensures c.bytes-new.ensures.exact c.root.ensures.root
+    (as_written s (λ old new root. EachCrash state (IsBeforeOrAfter s.base old (closed_of s.base new root) new))
+    _ _ _ c.as_slice.ensures c.bytes-new.ensures.exact c.root.ensures.root
     (c.commit.ensures.crash tells)))
 
 pub returns-in_err-closed-clause-goes : goal.returns-in_err-closed-clause-goes
 returns-in_err-closed-clause-goes g c =
     let p = err_from_is_err_and c.from_residual.result c.from_residual.ensures.1 in
-    rw (p.1, p.2) (goes_again _ _ (g.D.Disk.state c.args.disk.now) (g.D.Disk.state c.commit.new.disk) c.in_err-closed.field-0.0 c.in_err-closed.ensures.goes)
+    rw (p.1, p.2) (goes_again _ _ (g.D.Disk.state c.args.disk.now) (g.D.Disk.state c.commit.new.disk)
+    c.in_err-closed.field-0.0 c.in_err-closed.ensures.goes)
 
 pub returns-in_err-closed-clause-before : goal.returns-in_err-closed-clause-before
 returns-in_err-closed-clause-before g c = λ tells.
     let i = c.self.inside in
     let s : Session = session_of i.base i.bins i.cells i.changed in
     let start = (g.D.Disk.state c.args.disk.now).held in
-    stood s _ c.self.invariant.carried start (subst (λ (v : Session). Carries start v.base v.bins) (sym c.self.view_is) (c.requires.carries tells))
+    stood s _ c.self.invariant.carried start
+    (subst (λ (v : Session). Carries start v.base v.bins) (sym c.self.view_is) (c.requires.carries tells))
 
 pub returns-clause-before : goal.returns-clause-before
 returns-clause-before g c = λ tells.
     let i = c.self.inside in
     let s : Session = session_of i.base i.bins i.cells i.changed in
     let start = (g.D.Disk.state c.args.disk.now).held in
-    stood s _ c.self.invariant.carried start (subst (λ (v : Session). Carries start v.base v.bins) (sym c.self.view_is) (c.requires.carries tells))
+    stood s _ c.self.invariant.carried start
+    (subst (λ (v : Session). Carries start v.base v.bins) (sym c.self.view_is) (c.requires.carries tells))

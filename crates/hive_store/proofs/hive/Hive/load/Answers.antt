@@ -15,7 +15,8 @@ pub returns-in_err-hive-clause-made : goal.returns-in_err-hive-clause-made
 returns-in_err-hive-clause-made g c =
     let asked = c.in_err-hive.ensures.asked in
     only_read (g.D.Disk.calls c.args.disk.now) (g.D.Disk.calls c.look.new.disk) _ asked.sectors asked.made
-    (λ tells. stopped_look (g.D.Disk.state c.args.disk.now).held c.from_residual.result c.in_err-hive.field-0.0 asked.sectors c.from_residual.ensures.1 (asked.are tells))
+    (λ tells. stopped_look (g.D.Disk.state c.args.disk.now).held c.from_residual.result c.in_err-hive.field-0.0
+    asked.sectors c.from_residual.ensures.1 (asked.are tells))
 
 pub returns-in_err-restore-clause-made : goal.returns-in_err-restore-clause-made
 returns-in_err-restore-clause-made g c =
@@ -27,11 +28,14 @@ returns-in_err-restore-clause-made g c =
     let bitmap = c.as_slice.result.now in
     let bins = c.as_slice-then-dirty.result.now in
     let made = c.in_err-restore.ensures.made in
-    read_then (g.D.Disk.calls c.args.disk.now) (g.D.Disk.calls c.look.new.disk) _ asked.sectors asked.made (g.D.Disk.calls c.restore.new.disk) closed (bit bitmap) bins made
-    (λ tells. stopped_restore image c.from_residual-in_err-restore.result c.in_err-restore.field-0.0 (reads_of asked.sectors ++ made.front) c.from_residual-in_err-restore.ensures.1
+    read_then (g.D.Disk.calls c.args.disk.now) (g.D.Disk.calls c.look.new.disk) _ asked.sectors asked.made
+    (g.D.Disk.calls c.restore.new.disk) closed (bit bitmap) bins made
+    (λ tells. stopped_restore image c.from_residual-in_err-restore.result c.in_err-restore.field-0.0
+    (reads_of asked.sectors ++ made.front) c.from_residual-in_err-restore.ensures.1
     (restored_front image asked.sectors (asked.are tells) view (c.in_ok-hive.ensures.recovered tells)
     closed bitmap bins looked.bitmap c.if-dirty.true (c.in_ok-hive.ensures.found tells c.if-dirty.true)
-    (ap (λ (s : Session). s.base) c.hive.view_is) c.as_slice.ensures (c.as_slice-then-dirty.ensures ∙ ap (λ (s : Session). s.bins) c.hive.view_is)
+    (ap (λ (s : Session). s.base) c.hive.view_is) c.as_slice.ensures
+    (c.as_slice-then-dirty.ensures ∙ ap (λ (s : Session). s.bins) c.hive.view_is)
     made.front (record { rest = made.rest; cut = made.cut }))
     (λ fault. loads_or_fails image (loaded_state looked.hive) looked.dirty fault (c.in_ok-hive.ensures.exact tells)))
 
@@ -54,21 +58,27 @@ returns-clause-made g c =
           (record { front = calls; rest = []; cut = sym (append-nil calls); made = w.in_ok-restore.ensures.made })
           (λ tells. restored_all image asked.sectors (asked.are tells) view (c.in_ok-hive.ensures.recovered tells)
           closed bitmap bins looked.bitmap w.if-dirty.true (c.in_ok-hive.ensures.found tells w.if-dirty.true)
-          (ap (λ (s : Session). s.base) c.hive.view_is) w.as_slice.ensures (w.as_slice-then-dirty.ensures ∙ ap (λ (s : Session). s.bins) c.hive.view_is)))
+          (ap (λ (s : Session). s.base) c.hive.view_is) w.as_slice.ensures
+          (w.as_slice-then-dirty.ensures ∙ ap (λ (s : Session). s.bins) c.hive.view_is)))
       | else-dirty w ↦ rw w.disk-is
           (only_read start one _ asked.sectors asked.made
-          (λ tells. clean_all image asked.sectors (asked.are tells) view (c.in_ok-hive.ensures.recovered tells) w.if-dirty.false))
+          (λ tells. clean_all image asked.sectors (asked.are tells) view (c.in_ok-hive.ensures.recovered tells)
+          w.if-dirty.false))
     ]
 
 pub returns-in_err-hive-clause-crash : goal.returns-in_err-hive-clause-crash
 returns-in_err-hive-clause-crash g c = λ tells.
-    kept_loads (g.D.Disk.state c.args.disk.now) (g.D.Disk.state c.look.new.disk) (c.look.ensures.look.held tells) (c.look.ensures.look.flight tells ∙ c.requires.still tells)
+    kept_loads (g.D.Disk.state c.args.disk.now) (g.D.Disk.state c.look.new.disk) (c.look.ensures.look.held tells)
+    (c.look.ensures.look.flight tells ∙ c.requires.still tells)
 
 pub returns-in_err-restore-clause-crash : goal.returns-in_err-restore-clause-crash
 returns-in_err-restore-clause-crash g c = λ tells.
     let looked = c.in_ok-hive.field-0 in
-    restored_loads (g.D.Disk.state c.args.disk.now).held (record { base = looked.hive.base; bins = looked.hive.bins; dirty = looked.dirty }) (c.in_ok-hive.ensures.recovered tells)
-    c.hive.inside.base c.as_slice-then-dirty.result.now (ap (λ (s : Session). s.base) c.hive.view_is) (c.as_slice-then-dirty.ensures ∙ ap (λ (s : Session). s.bins) c.hive.view_is)
+    restored_loads (g.D.Disk.state c.args.disk.now).held
+    (record { base = looked.hive.base; bins = looked.hive.bins; dirty = looked.dirty })
+    (c.in_ok-hive.ensures.recovered tells)
+    c.hive.inside.base c.as_slice-then-dirty.result.now (ap (λ (s : Session). s.base) c.hive.view_is)
+    (c.as_slice-then-dirty.ensures ∙ ap (λ (s : Session). s.bins) c.hive.view_is)
     (g.D.Disk.state c.restore.new.disk) (c.restore.ensures.crash tells)
 
 pub returns-clause-crash : goal.returns-clause-crash
@@ -77,30 +87,39 @@ returns-clause-crash g c = λ tells.
     let looked = c.in_ok-hive.field-0 in
     elim c.if-dirty.branch [
       | then-dirty+in_ok-restore w ↦ rw w.disk-is
-          (restored_loads s0.held (record { base = looked.hive.base; bins = looked.hive.bins; dirty = looked.dirty }) (c.in_ok-hive.ensures.recovered tells)
-          c.hive.inside.base w.as_slice-then-dirty.result.now (ap (λ (s : Session). s.base) c.hive.view_is) (w.as_slice-then-dirty.ensures ∙ ap (λ (s : Session). s.bins) c.hive.view_is)
+          (restored_loads s0.held (record { base = looked.hive.base; bins = looked.hive.bins; dirty = looked.dirty })
+          (c.in_ok-hive.ensures.recovered tells)
+          c.hive.inside.base w.as_slice-then-dirty.result.now (ap (λ (s : Session). s.base) c.hive.view_is)
+          (w.as_slice-then-dirty.ensures ∙ ap (λ (s : Session). s.bins) c.hive.view_is)
           (g.D.Disk.state w.restore.new.disk) (w.restore.ensures.crash tells))
-      | else-dirty w ↦ rw w.disk-is (kept_loads s0 (g.D.Disk.state c.look.new.disk) (c.look.ensures.look.held tells) (c.look.ensures.look.flight tells ∙ c.requires.still tells))
+      | else-dirty w ↦ rw w.disk-is
+          (kept_loads s0 (g.D.Disk.state c.look.new.disk) (c.look.ensures.look.held tells)
+          (c.look.ensures.look.flight tells ∙ c.requires.still tells))
     ]
 
 pub returns-clause-loads : goal.returns-clause-loads
 returns-clause-loads g c = λ tells.
     let s0 = g.D.Disk.state c.args.disk.now in
     let looked = c.in_ok-hive.field-0 in
-    let found = found_again s0.held (loaded_state looked.hive) looked.dirty (record { base = looked.hive.base; bins = looked.hive.bins; dirty = looked.dirty })
+    let found = found_again s0.held (loaded_state looked.hive) looked.dirty
+    (record { base = looked.hive.base; bins = looked.hive.bins; dirty = looked.dirty })
     (c.in_ok-hive.ensures.exact tells) (c.in_ok-hive.ensures.recovered tells) c.in_ok-hive.ensures.sized in
     elim c.if-dirty.branch [
       | then-dirty+in_ok-restore w ↦ rw w.disk-is
-          (found c.hive.inside.base w.as_slice-then-dirty.result.now (ap (λ (s : Session). s.base) c.hive.view_is) (w.as_slice-then-dirty.ensures ∙ ap (λ (s : Session). s.bins) c.hive.view_is)
+          (found c.hive.inside.base w.as_slice-then-dirty.result.now (ap (λ (s : Session). s.base) c.hive.view_is)
+          (w.as_slice-then-dirty.ensures ∙ ap (λ (s : Session). s.bins) c.hive.view_is)
           (g.D.Disk.state w.restore.new.disk).held (w.in_ok-restore.ensures.carries tells))
       | else-dirty w ↦ rw (w.disk-is, c.look.ensures.look.held tells)
-          (found looked.hive.base looked.hive.bins refl refl s0.held (c.in_ok-hive.ensures.carries tells w.if-dirty.false))
+          (found looked.hive.base looked.hive.bins refl refl s0.held
+          (c.in_ok-hive.ensures.carries tells w.if-dirty.false))
     ]
 
 pub returns-in_err-restore-clause-faulty : goal.returns-in_err-restore-clause-faulty
 returns-in_err-restore-clause-faulty g c = λ tells fault fails.
-    absurd (loads_or_fails (g.D.Disk.state c.args.disk.now).held (loaded_state c.in_ok-hive.field-0.hive) c.in_ok-hive.field-0.dirty fault (c.in_ok-hive.ensures.exact tells) fails)
+    absurd (loads_or_fails (g.D.Disk.state c.args.disk.now).held (loaded_state c.in_ok-hive.field-0.hive)
+    c.in_ok-hive.field-0.dirty fault (c.in_ok-hive.ensures.exact tells) fails)
 
 pub returns-clause-faulty : goal.returns-clause-faulty
 returns-clause-faulty g c = λ tells fault fails.
-    absurd (loads_or_fails (g.D.Disk.state c.args.disk.now).held (loaded_state c.in_ok-hive.field-0.hive) c.in_ok-hive.field-0.dirty fault (c.in_ok-hive.ensures.exact tells) fails)
+    absurd (loads_or_fails (g.D.Disk.state c.args.disk.now).held (loaded_state c.in_ok-hive.field-0.hive)
+    c.in_ok-hive.field-0.dirty fault (c.in_ok-hive.ensures.exact tells) fails)

@@ -8,4 +8,5 @@ pub put_marked-requires-clause-stays : goal.put_marked-requires-clause-stays
 put_marked-requires-clause-stays c = λ i inside off.
     let whole = sized (length c.args.bytes.now) c.requires.sized in
     ap (λ (l : List ℕ). sector l i) (c.as_mut_slice.ensures.value ∙ c.self.view_is ∙ c.fit.ensures)
-    ∙ fitted_sector c.args.self.now c.args.bytes.now i (sym (c.requires.marked i (omega (arith, whole.pages, inside))) ∙ off) (omega (arith, whole.pages, inside))
+    ∙ fitted_sector c.args.self.now c.args.bytes.now i
+    (sym (c.requires.marked i (omega (arith, whole.pages, inside))) ∙ off) (omega (arith, whole.pages, inside))

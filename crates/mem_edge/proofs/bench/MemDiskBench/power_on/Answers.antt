@@ -19,20 +19,27 @@ returns-clause-does c =
     c.settle.ensures
     ∙ ap (λ ws. left d.keep (held_of c.make_room.new.self) (writes_of ws)) c.deref-2.ensures.value
     ∙ ap (λ held. left d.keep held (writes_of flight)) c.make_room.ensures.same in
-    let pushed : c.push.new.self.items ≡ d.wakes.items ++ record { image = c.in-Ok.image; cuts = d.cuts; faults = d.faults } ∷ [] = search rules in
-    let mark : Image → List Wake = λ i. map wake_of d.wakes.items ++ record { image = i; cuts = d.cuts; faults = d.faults } ∷ [] in
+    let pushed : c.push.new.self.items ≡ d.wakes.items
+    ++ record { image = c.in-Ok.image; cuts = d.cuts; faults = d.faults } ∷ [] = search rules in
+    let mark : Image → List Wake =
+    λ i. map wake_of d.wakes.items ++ record { image = i; cuts = d.cuts; faults = d.faults } ∷ [] in
     let make : Image → List Write → List Wake → Seen = λ i f w. record (seen_of d) {
-      disk = record (state_of d) { held = i; flight = f; on = true; history = record (state_of d).history { wakes = w } };
+      disk = record (state_of d)
+          { held = i; flight = f; on = true; history = record (state_of d).history { wakes = w } };
       keep = Everything;
     } in
     ap (λ f. make image (writes_of f) (map wake_of c.push.new.self.items)) c.clear.ensures
     ∙ ap (λ w. make image [] (map wake_of w)) pushed
-    ∙ ap (make image []) (map_push wake_of d.wakes.items (record { image = c.in-Ok.image; cuts = d.cuts; faults = d.faults }) ∙ ap mark (c.in-Ok.ensures))
+    ∙ ap (make image []) (map_push wake_of d.wakes.items
+    (record { image = c.in-Ok.image; cuts = d.cuts; faults = d.faults }) ∙ ap mark (c.in-Ok.ensures))
     ∙ ap (λ i. make i [] (mark (left d.keep (held_of d.image) (writes_of flight)))) is_left
 
 -- so they are a crash image
 pub returns-clause-woken : goal.returns-clause-woken
 returns-clause-woken c =
     let d = c.args.self.now in
-    let flight = writes_of d.flight.writes.items in
-    (left d.keep (held_of d.image) flight, left_crash (held_of d.image) flight d.keep, ap (λ (s : Seen). s.disk) (returns-clause-does c))
+    let flight = writes_of d.flight.writes.items in (
+      left d.keep (held_of d.image) flight,
+      left_crash (held_of d.image) flight d.keep,
+      ap (λ (s : Seen). s.disk) (returns-clause-does c),
+    )

@@ -7,10 +7,14 @@ use Rattle.mem_edge.proofs.StopLemmas.{stop_cause, does_stop}
 use Rattle.mem_edge.proofs.disk.MemDiskDisk.sync.Goals as goal
 
 pub returns-in-Some-clause-cause : goal.returns-in-Some-clause-cause
-returns-in-Some-clause-cause c = stop_cause (Unit {0}) c.args.self.now c.stop.new.self Sync c.in-Some.stop c.stop.ensures.seen (sym c.stop.ensures.stop ∙ c.in-Some.is)
+returns-in-Some-clause-cause c =
+    stop_cause (Unit {0}) c.args.self.now c.stop.new.self Sync c.in-Some.stop c.stop.ensures.seen
+    (sym c.stop.ensures.stop ∙ c.in-Some.is)
 
 pub returns-in-Some-clause-does : goal.returns-in-Some-clause-does
-returns-in-Some-clause-does c = does_stop (Unit {0}) c.args.self.now c.stop.new.self Sync c.in-Some.stop c.stop.ensures.seen (sym c.stop.ensures.stop ∙ c.in-Some.is) synced
+returns-in-Some-clause-does c =
+    does_stop (Unit {0}) c.args.self.now c.stop.new.self Sync c.in-Some.stop c.stop.ensures.seen
+    (sym c.stop.ensures.stop ∙ c.in-Some.is) synced
 
 pub returns-then-is_err-clause-made : goal.returns-then-is_err-clause-made
 returns-then-is_err-clause-made c = makes_one c.args.self.now c.stop.new.self Synced c.stop.ensures.calls

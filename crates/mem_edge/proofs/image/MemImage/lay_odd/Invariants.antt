@@ -5,7 +5,8 @@ use Rattle.mem_edge.proofs.image.MemImage.lay_odd.Given as goal
 
 abbrev pub invariant-loop-rest : goal.invariant-loop-rest
 invariant-loop-rest l = record {
-  laid : overlaid (held_of l.self) (odd_ones (writes_of l.rest)) ≡ overlaid (held_of l.fn.self) (odd_ones (writes_of l.flight));
+  laid : overlaid (held_of l.self) (odd_ones (writes_of l.rest))
+      ≡ overlaid (held_of l.fn.self) (odd_ones (writes_of l.flight));
   room : Holds l.self l.rest;
 }
 

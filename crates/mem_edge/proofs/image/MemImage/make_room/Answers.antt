@@ -10,5 +10,6 @@ loop-rest-preserved c =
       same = made.same ∙ c.loop-rest.invariant.same;
       room = λ primary log hp hl room.
           c.loop-rest.invariant.room primary log (omega arith) (omega arith)
-          (room_step c.loop-rest.rest.now c.w-item.result (length new.primary.items) (length new.log.items) primary log c.in-len1-up.len_at_least c.w-item.is c.in_ok-make_place_for.ensures.place hp hl room);
+          (room_step c.loop-rest.rest.now c.w-item.result (length new.primary.items) (length new.log.items)
+          primary log c.in-len1-up.len_at_least c.w-item.is c.in_ok-make_place_for.ensures.place hp hl room);
     }

@@ -6,7 +6,8 @@ use Rattle.mem_edge.proofs.store.MemDisk.latest.Goals as goal
 pub returns-in-Some : goal.returns-in-Some
 returns-in-Some c =
     let d = c.args.self.now in
-    ap (λ x. or_else x (held_of d.image c.args.at)) c.in-Some.ensures ∙ sym (overlaid_else (held_of d.image) (writes_of d.flight.writes.items) c.args.at)
+    ap (λ x. or_else x (held_of d.image c.args.at)) c.in-Some.ensures
+    ∙ sym (overlaid_else (held_of d.image) (writes_of d.flight.writes.items) c.args.at)
 
 pub returns-in-None : goal.returns-in-None
 returns-in-None c =

@@ -13,13 +13,16 @@ invariant_of-self c =
     let keys = c.self.inside.items.items in
     let found : position (is_named c.args.name.now) keys ≡ Some c.in-Some.at = cc in
     let within = (position-Some (is_named c.args.name.now) keys c.in-Some.at c.remove-gone.result found).0 in
-    λ rising. rw c.remove-gone.ensures.items (all_pairs_remove (λ a b. is_lt (folded_order (head b).name (head a).name) ≡ false) keys c.in-Some.at within (c.self.invariant rising))
+    λ rising. rw c.remove-gone.ensures.items
+    (all_pairs_remove (λ a b. is_lt (folded_order (head b).name (head a).name) ≡ false) keys c.in-Some.at within
+    (c.self.invariant rising))
 
 pub returns-in-Some : goal.returns-in-Some
 returns-in-Some c =
     let ks = c.self.inside.items.items in
     let found : position (is_named c.args.name.now) ks ≡ Some c.in-Some.at = cc in
-    c.remove-gone.ensures.items ∙ sym (gone_at (is_named c.args.name.now) ks c.in-Some.at c.remove-gone.result found) ∙ ap (without_first (is_named c.args.name.now)) c.self.view_is
+    c.remove-gone.ensures.items ∙ sym (gone_at (is_named c.args.name.now) ks c.in-Some.at c.remove-gone.result found)
+    ∙ ap (without_first (is_named c.args.name.now)) c.self.view_is
 
 pub returns-in_default : goal.returns-in_default
 returns-in_default c =

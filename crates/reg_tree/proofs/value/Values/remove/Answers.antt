@@ -15,7 +15,8 @@ pub returns-in-Some : goal.returns-in-Some
 returns-in-Some c =
     let ks = c.self.inside.items.items in
     let found : position (is_item c.args.name.now) ks ≡ Some c.in-Some.at = cc in
-    c.remove-gone.ensures.items ∙ sym (gone_at (is_item c.args.name.now) ks c.in-Some.at c.remove-gone.result found) ∙ ap (without_first (is_item c.args.name.now)) c.self.view_is
+    c.remove-gone.ensures.items ∙ sym (gone_at (is_item c.args.name.now) ks c.in-Some.at c.remove-gone.result found)
+    ∙ ap (without_first (is_item c.args.name.now)) c.self.view_is
 
 pub returns-in_default : goal.returns-in_default
 returns-in_default c =
@@ -31,5 +32,6 @@ invariant_of-self c =
     let within = (position-Some (is_item c.args.name.now) ks at c.remove-gone.result found).0 in
     λ some.
     let few = length-filter_both (is_other at) (λ k. not (is_other at k)) (λ _. refl) order in
-    let kept : 0 < length order = omega (arith, some, ap length c.close_up.ensures, length-map (filter (is_other at) order) (lowered at), few) in
+    let kept : 0 < length order =
+    omega (arith, some, ap length c.close_up.ensures, length-map (filter (is_other at) order) (lowered at), few) in
     rw (c.remove-gone.ensures.items, c.close_up.ensures) (order_removed ks order at (c.self.invariant kept) within)

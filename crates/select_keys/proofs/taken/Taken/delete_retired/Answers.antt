@@ -16,13 +16,16 @@ loop-number-preserved c =
     let done = map step_of at.steps in
     let marks = c.self.inside.marks in
     elim c.if-marks-number.branch [
-      | then-marks-number+then-gives_up+in_ok-path+in_ok-push w ↦ deleted_next first done _ marks c.args.old c.args.new at.number _ (omega arith) at.invariant
+      | then-marks-number+then-gives_up+in_ok-path+in_ok-push w ↦
+          deleted_next first done _ marks c.args.old c.args.new at.number _ (omega arith) at.invariant
           (ap (map step_of) (w.steps-is ∙ w.in_ok-push.ensures.ok) ∙ map-append step_of at.steps _)
           w.in_ok-path.ensures
           (and_from _ _ w.if-marks-number.true (sym w.gives_up.ensures ∙ w.if-gives_up.true))
-      | else-marks-number w ↦ ap (map step_of) w.steps-is ∙ deleted_same first done marks c.args.old c.args.new at.number (omega arith) at.invariant
+      | else-marks-number w ↦ ap (map step_of) w.steps-is
+          ∙ deleted_same first done marks c.args.old c.args.new at.number (omega arith) at.invariant
           (elim w.else-marks-number.branch [
-            | else-marks-number-via-then-marks-number+else-gives_up v ↦ and_right _ _ (sym v.gives_up.ensures ∙ v.if-gives_up.false)
+            | else-marks-number-via-then-marks-number+else-gives_up v ↦
+                and_right _ _ (sym v.gives_up.ensures ∙ v.if-gives_up.false)
             | else-marks-number-via-else-marks-number v ↦ and_left _ _ v.if-marks-number.false
           ])
     ]

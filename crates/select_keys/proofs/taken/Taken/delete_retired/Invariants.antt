@@ -4,4 +4,5 @@ use Rattle.select_keys.proofs.StepLemmas.{deleted_before}
 use Rattle.select_keys.proofs.taken.Taken.delete_retired.Given as goal
 
 abbrev pub invariant-loop-number : goal.invariant-loop-number
-invariant-loop-number l = map step_of l.steps ≡ map step_of l.initial.steps ++ deleted_before l.marks l.old l.new l.number
+invariant-loop-number l =
+    map step_of l.steps ≡ map step_of l.initial.steps ++ deleted_before l.marks l.old l.new l.number

@@ -15,5 +15,6 @@ returns-then-number-lt1-clause-is c =
 
 pub returns-clause-is : goal.returns-clause-is
 returns-clause-is c =
-    sym (has-numbers_where (λ n. get_or c.self.inside.marks n false) c.args.number (omega (arith, c.if-number-lt1.false)) (omega (arith, c.if-number-gt999.false)))
+    sym (has-numbers_where (λ n. get_or c.self.inside.marks n false) c.args.number
+    (omega (arith, c.if-number-lt1.false)) (omega (arith, c.if-number-gt999.false)))
     ∙ ap (λ ns. has_number ns c.args.number) c.self.view_is
