@@ -33,6 +33,10 @@ PullsIn table place = TakesIn table (pulls table place)
 abbrev pub names_of : List Need → List (List ℕ)
 names_of table = map (λ n. n.name) table
 
+-- the Start of the entry at a place
+abbrev pub start_at : List Need → ℕ → ℕ
+start_at table place = option_map_or (λ n. n.start) (slice_get table place) 0
+
 -- the names that the entry at a place gives
 abbrev pub given_at : List Need → ℕ → List (List ℕ)
 given_at table place = option_map_or (λ n. n.services) (slice_get table place) []

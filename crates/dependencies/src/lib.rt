@@ -9,13 +9,15 @@ mod order;
 mod place_set;
 mod runs;
 mod started;
+mod table;
 mod test_count;
 mod waiting;
 mod wants;
 
-pub use demand::{automatic, pulled, taken_is_the_least_closed_set};
+pub use demand::{automatic, automatic_in, pulled, taken_is_the_least_closed_set};
 pub use need::{Need, Needs, Places};
 pub use next::{all_met, both_ways_try_the_same, groups_met, next_ready, ready, services_met};
 pub use started::Started;
+pub use table::NeedTable;
 pub use test_count::TestCount;
 pub use waiting::Waiting;

@@ -12,7 +12,13 @@ use Rattle.start_model.specs.Entries.{Entry, entry_of, entry_with}
 use Rattle.service_entries.specs.Keyed.{AreKeyed}
 use Rattle.service_entries.specs.Named.{place_named}
 use Rattle.std.specs.List.{position_or_len}
-use Rattle.std.specs.Prelude.{position, not, nat_lt}
+use Rattle.std.specs.Prelude.{position, not, nat_lt, slice_get, true, zero, suc}
+use Rattle.std.specs.Option.{option_map_or}
+use Rattle.std.specs.Cmp.Lexicographic.{nat_list_eq_equiv}
+use Rattle.std.proofs.lemmas.Bool.{false≢true, lt-ltb}
+use Rattle.std.proofs.lemmas.Bool.Decides.{nat_tests}
+use Rattle.reg_tree.proofs.Unlike.{Each, Lacks, Unlike, unlike_from, unlike_pairs, unlike_push, each_from, folds_swap}
+use Rattle.service_entries.specs.Named.{NamesDiffer, is_named_at, IsOnlyPlace}
 
 abbrev Pair : Type 0
 Pair = Vec ℕ Global × Entry
@@ -38,15 +44,25 @@ pub pushed : (es : List Pair) (key : Vec ℕ Global) (entry : Entry) → AreKeye
 pushed es key entry keyed is new =
     insert_new es key entry (recursion_from_All _ es keyed.keyed) is (recursion_from_All (λ (e : Entry). folds_same entry.name e.name ≡ false) (map (λ (e : Pair). e.1) es) new)
 
-pub keyed_push : (es : List Pair) (key : Vec ℕ Global) (entry : Entry) → AreKeyed es → key.items ≡ folded entry.name → length (map (λ (e : Pair). e.1) es) + 1 < 2 ^ 32 → AreKeyed (es ++ (key, entry) ∷ [])
-keyed_push es key entry keyed is room = record {
-  keyed = All-push (λ (e : Pair). e.0.items ≡ folded e.1.name) es (key, entry) keyed.keyed is;
-  few = omega (arith, room, length-map es (λ (e : Pair). e.1), length_push es (key, entry));
-}
-
 pub values_push : (es : List Pair) (key : Vec ℕ Global) (entry : Entry) → map (λ (e : Pair). e.1) (es ++ (key, entry) ∷ []) ≡ map (λ (e : Pair). e.1) es ++ entry ∷ []
 values_push [] key entry = refl
 values_push (e ∷ es) key entry = ap (λ xs. e.1 ∷ xs) (values_push es key entry)
+
+differ_push : (es : List Entry) (entry : Entry) → NamesDiffer es → All (λ (e : Entry). folds_same entry.name e.name ≡ false) es
+    → NamesDiffer (es ++ entry ∷ [])
+differ_push es entry differ new =
+    unlike_pairs (λ (e : Entry). e.name) (es ++ entry ∷ [])
+    (unlike_push (λ (e : Entry). e.name) es entry (unlike_from (λ (e : Entry). e.name) es differ)
+    (each_from (λ (e : Entry). folds_same entry.name e.name ≡ false) es new))
+
+pub keyed_push : (es : List Pair) (key : Vec ℕ Global) (entry : Entry) → AreKeyed es → key.items ≡ folded entry.name
+    → All (λ (e : Entry). folds_same entry.name e.name ≡ false) (map (λ (e : Pair). e.1) es)
+    → length (map (λ (e : Pair). e.1) es) + 1 < 2 ^ 32 → AreKeyed (es ++ (key, entry) ∷ [])
+keyed_push es key entry keyed is new room = record {
+  keyed = All-push (λ (e : Pair). e.0.items ≡ folded e.1.name) es (key, entry) keyed.keyed is;
+  differ = rw (values_push es key entry) (differ_push (map (λ (e : Pair). e.1) es) entry keyed.differ new);
+  few = omega (arith, room, length-map es (λ (e : Pair). e.1), length_push es (key, entry));
+}
 
 name_of : (t : Tree) (e : Entry) (start kind : Option ℕ) → entry_with t start kind ≡ Some e → e.name ≡ (head t).name
 name_of t e (Some start) (Some kind) h = sym (ap (λ (o : Option Entry). elim o [ Some e ↦ e.name | None ↦ [] ]) h)
@@ -124,3 +140,60 @@ place_of_key es name keyed =
     let same = same_places es name (recursion_from_All _ es keyed.keyed) in
     let n : length (map (λ (e : Pair). e.0) es) ≡ length (map (λ (e : Pair). e.1) es) = length-map es (λ (e : Pair). e.0) ∙ sym (length-map es (λ (e : Pair). e.1)) in
     λ j. cond (nat_lt (same j) (n j)) (Some (same j)) None
+
+-- ---- the only place of a name
+
+abbrev is_key : List ℕ → Entry → Bool
+is_key name e = pointwise nat_eq (folded name) (folded e.name)
+
+-- what has no name of those that fold to one has not the other either
+alike_off : (q n m : List ℕ) → folds_same q n ≡ true → folds_same m n ≡ false → folds_same q m ≡ false
+alike_off q n m same off =
+    sym (folded_pointwise q m) ∙ nat_list_eq_equiv.congr (folded q) (folded n) (folded m) (folded_pointwise q n ∙ same)
+    ∙ folded_pointwise n m ∙ folds_swap n m ∙ off
+
+none_later : (name n : List ℕ) (es : List Entry) (q : ℕ) → folds_same name n ≡ true → Each (λ (e : Entry). folds_same e.name n ≡ false) es
+    → is_named_at name es q ≡ false
+none_later name n [] q same off = refl
+none_later name n (e ∷ es) zero same off = alike_off name n e.name same off.0
+none_later name n (e ∷ es) (suc q) same off = none_later name n es q same off.1
+
+first_here : (b : Bool) (n m : ℕ) → (nat_eq 0 (cond (not b) (1 + n) 0) && nat_lt 0 (suc m)) ≡ b
+first_here b n m = grind (arith, nat_tests)
+
+later_where : (q n m : ℕ) → (nat_eq (suc q) (1 + n) && nat_lt (suc q) (suc m)) ≡ (nat_eq q n && nat_lt q m)
+later_where q n m = grind (arith, nat_tests)
+
+not_later : (q m : ℕ) → (nat_eq (suc q) 0 && nat_lt (suc q) (suc m)) ≡ false
+not_later q m = grind (arith, nat_tests)
+
+none_at_all : (q : ℕ) → (nat_eq q 0 && nat_lt q 0) ≡ false
+none_at_all q = grind (arith, nat_tests)
+
+where_named : (name : List ℕ) (es : List Entry) (q : ℕ) → Unlike (λ (e : Entry). e.name) es
+    → is_named_at name es q ≡ (nat_eq q (position_or_len (is_key name) es) && nat_lt q (length es))
+where_named name [] q h = sym (none_at_all q)
+where_named name (e ∷ es) zero h =
+    sym (folded_pointwise name e.name) ∙ sym (first_here (is_key name e) (position_or_len (is_key name) es) (length es))
+where_named name (e ∷ es) (suc q) h = by_case (is_key name e) refl (where_named name es q h.1)
+  where
+    rest : ℕ
+    rest = position_or_len (is_key name) es
+
+    by_case : (b : Bool) → is_key name e ≡ b → is_named_at name es q ≡ (nat_eq q rest && nat_lt q (length es))
+        → is_named_at name es q ≡ (nat_eq (suc q) (cond (not b) (1 + rest) 0) && nat_lt (suc q) (suc (length es)))
+    by_case true is deep =
+        none_later name e.name es q (sym (folded_pointwise name e.name) ∙ is) h.0 ∙ sym (not_later q (length es))
+    by_case false is deep = deep ∙ sym (later_where q rest (length es))
+
+at_most : (q n m : ℕ) → (nat_eq q n && nat_lt q m) ≡ cond (nat_lt n m) (nat_eq q n) false
+at_most q n m = grind (arith, nat_tests)
+
+given : (b : Bool) (q n : ℕ) → cond b (nat_eq q n) false ≡ option_map_or (nat_eq q) (cond b (Some n) None) false
+given true q n = refl
+given false q n = refl
+
+pub only_place : (name : List ℕ) (es : List Entry) → NamesDiffer es → IsOnlyPlace name es (place_named (folded name) es)
+only_place name es differ q =
+    let n = position_or_len (is_key name) es in
+    where_named name es q (unlike_from (λ (e : Entry). e.name) es differ) ∙ at_most q n (length es) ∙ given (nat_lt n (length es)) q n

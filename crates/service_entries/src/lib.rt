@@ -1,6 +1,6 @@
 //! The entries of a control set's services, by name and in registry order.
 //!
-//! `entries` reads them once; a table finds an entry by its place or by its folded name. Rules: Microsoft's
+//! `entries` reads them once; a table finds an entry by its place or by its name. Rules: Microsoft's
 //! documentation of service entries.
 #![tactic(auto)]
 
@@ -8,4 +8,4 @@ mod entry;
 mod table;
 
 pub use entry::{Entries, Entry};
-pub use table::{ServiceTable, entries, folded};
+pub use table::{ServiceTable, entries};

@@ -5,10 +5,10 @@ ghost use Rattle.std.specs.List.{filter_map};
 ghost use Rattle.std.specs.Option.{option_copied};
 ghost use Rattle.nt_bytes.specs.Folding.{folds_same, folded};
 ghost use Rattle.hive_model.specs.Valid.{HoldsKeys, KeysDiffer};
-ghost use Rattle.service_entries.specs.Named.{place_named};
+ghost use Rattle.service_entries.specs.Named.{IsOnlyPlace, NamesDiffer, place_named};
 ghost use Rattle.start_model.specs.Entries.{entries_of, entry_of, services_of};
 
-use crate::entry::{Entry, read_entry};
+use crate::entry::{Entries, Entry, read_entry};
 use indexmap::IndexMap;
 use nt_bytes::{Units, fold};
 use reg_tree::Key;
@@ -62,9 +62,18 @@ impl ServiceTable {
         Some(entry)
     }
 
+    /// The place of the entry of this name, whatever the case of its letters, or none where no entry has it.
+    pub fn place_of(&self, alloc: Global, name: &[u16]) -> Result<Option<u32>, AllocError>
+        ensures { IfOk result (IsOnlyPlace name.now self.now) }
+    {
+        let key = folded(alloc, name)?;
+        Ok(self.place_of_folded(key.as_slice()))
+    }
+
     /// The place of the entry with this folded name, or none where no entry has it.
-    pub fn place_of(&self, folded: &[u16]) -> Option<u32>
-        ensures { result ≡ place_named folded.now self.now }
+    fn place_of_folded(&self, folded: &[u16]) -> Option<u32>
+        ensures place { result ≡ place_named folded.now self.now }
+        ensures differ { NamesDiffer self.now }
     {
         self.by_name.get_index_of(folded).map(|at| at as u32)
     }
@@ -76,10 +85,18 @@ impl ServiceTable {
     {
         self.by_name.len()
     }
+
+    /// The entries, in their order. No entry is copied.
+    pub fn into_entries(self, alloc: Global) -> Result<Entries, AllocError>
+        ensures { IfOk result (λ e. e ≡ self) }
+    {
+        let entries = self.by_name.into_values().collect(alloc)?;
+        Ok(Entries::from_vec(entries))
+    }
 }
 
 /// A name with each unit folded.
-pub fn folded(alloc: Global, name: &[u16]) -> Result<Vec<u16>, AllocError>
+fn folded(alloc: Global, name: &[u16]) -> Result<Vec<u16>, AllocError>
     ensures { IfOk result (λ v. v.items ≡ folded name.now) }
 {
     name.iter().map(|u| fold(*u)).collect(alloc)

@@ -6,8 +6,8 @@ use Rattle.dependencies.proofs.demand.places_of.Goals as goal
 use Rattle.dependencies.proofs.demand.places_of.Goals.{then-is_asked+in_ok-push, else-is_asked}
 
 pub loop-place-preserved : goal.loop-place-preserved
-loop-place-preserved c =
-    let p : ℕ → Bool = is_asked c.args.needs.now c.args.taken.now c.args.on_demand in
+loop-place-preserved g c =
+    let p : ℕ → Bool = is_asked (g.T.NeedTable.needs c.args.table.now) c.args.taken.now c.args.on_demand in
     elim c.if-is_asked.branch [
       | then-is_asked+in_ok-push w ↦
           w.places-is ∙ w.in_ok-push.ensures.ok ∙ filter-range_push p c.loop-place.place c.loop-place.places c.loop-place.invariant (sym w.if-is_asked.ensures)
@@ -15,8 +15,8 @@ loop-place-preserved c =
     ]
 
 pub returns : goal.returns
-returns c =
-    let needs = c.args.needs.now in
+returns g c =
+    let needs = (g.T.NeedTable.needs c.args.table.now) in
     let p : ℕ → Bool = is_asked needs c.args.taken.now c.args.on_demand in
     let n : c.loop-place.place ≡ length needs = omega arith in
     c.loop-place.invariant ∙ ap (λ k. filter p (range_with_len 0 k)) n ∙ sym (asked_of-least needs c.args.taken.now c.args.on_demand c.requires.least)

@@ -1,10 +1,14 @@
-use Rattle.std.proofs.Common.{◌≡◌, ap, ◌∙◌, arith}
-use Rattle.std.proofs.lemmas.Grind.{common_steps}
+use Rattle.std.proofs.Common.{◌≡◌, ℕ, List, Option, nat_eq, false, sym, ap, ◌∙◌}
+use Rattle.std.specs.Option.{option_map_or}
+use Rattle.nt_bytes.specs.Folding.{folded}
 use Rattle.service_entries.specs.Named.{place_named}
-use Rattle.service_entries.proofs.TableLemmas.{place_of_key}
+use Rattle.service_entries.proofs.TableLemmas.{only_place}
 use Rattle.service_entries.proofs.table.ServiceTable.place_of.Goals as goal
 
 pub returns : goal.returns
 returns c =
-    let same : c.map.result ≡ c.get_index_of.result = grind (arith, common_steps, c.map.ensures.cases, c.map.ensures.variant) in
-    same ∙ c.get_index_of.ensures.index ∙ place_of_key c.self.inside.by_name.entries c.args.folded.now c.self.invariant ∙ ap (place_named c.args.folded.now) c.self.view_is
+    let name = c.args.name.now in
+    let entries = c.args.self.now in
+    let is : c.place_of_folded.result ≡ place_named (folded name) entries =
+    c.place_of_folded.ensures.place ∙ ap (λ k. place_named k entries) (c.as_slice.ensures.value ∙ c.in_ok-key.ensures) in
+    λ q. only_place name entries c.place_of_folded.ensures.differ q ∙ sym (ap (λ (o : Option ℕ). option_map_or (nat_eq q) o false) is)
