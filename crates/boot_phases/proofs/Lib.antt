@@ -1,6 +1,9 @@
+pub mod ApartLemmas
 pub mod ListLemmas
 pub mod PlaceLemmas
 pub mod PlanLemmas
 pub mod RankLemmas
 pub mod RisingLemmas
+pub mod SlotLemmas
 pub mod TriedLemmas
+pub mod UntriedLemmas

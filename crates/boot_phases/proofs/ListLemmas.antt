@@ -1,7 +1,7 @@
 -- A list that is made of another, item by item.
-use Rattle.std.proofs.Common.{◌≡◌, ℕ, ◌+◌, ◌<◌, ◌≤◌, List, [], ◌∷◌, ◌++◌, length, take, get_or, Option, Some, None, sym, ap, ◌∙◌, arith}
+use Rattle.std.proofs.Common.{◌≡◌, ℕ, ◌+◌, ◌<◌, List, [], ◌∷◌, ◌++◌, length, take, get_or, Option, Some, None, sym, ap, ◌∙◌}
 use Rattle.std.specs.List.{filter_map, cons_option}
-use Rattle.std.proofs.lemmas.List.{take_more, length_push, append-nil}
+use Rattle.std.proofs.lemmas.List.{take_more, append-nil}
 use Rattle.std.proofs.lemmas.List.Elements.{filter_map-append}
 
 filter_map_more : {X Y : Type 0} (h : X → Option Y) (xs : List X) (i : ℕ) (d : X) → i < length xs
@@ -19,9 +19,3 @@ pub more_none : {X Y : Type 0} (h : X → Option Y) (xs : List X) (i : ℕ) (d :
     → i < length xs → o ≡ h (get_or xs i d) → o ≡ None → ys ≡ filter_map h (take i xs) → ys ≡ filter_map h (take (i + 1) xs)
 more_none h xs i d o ys lt is none so_far =
     so_far ∙ sym (append-nil (filter_map h (take i xs))) ∙ ap (λ o. filter_map h (take i xs) ++ cons_option o []) (sym none ∙ is) ∙ sym (filter_map_more h xs i d lt)
-
-pub one_longer : {X : Type 0} (xs ys : List X) (x : X) (n : ℕ) → ys ≡ xs ++ x ∷ [] → length xs ≤ n → length ys ≤ n + 1
-one_longer xs ys x n is le = omega (arith, ap length is, length_push xs x)
-
-pub as_long : {X : Type 0} (xs ys : List X) (n : ℕ) → ys ≡ xs → length xs ≤ n → length ys ≤ n + 1
-as_long xs ys n is le = omega (arith, ap length is)

@@ -4,11 +4,13 @@
 //! the next. Rules: Windows Internals, 4th edition, startup; Microsoft's documentation of service entries.
 #![tactic(auto)]
 
+mod kind;
 mod phase;
 mod planning;
 mod rank;
 mod taken;
 mod tried;
+mod untried;
 
 pub use phase::Phase;
 pub use planning::plan;

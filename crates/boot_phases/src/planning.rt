@@ -1,10 +1,11 @@
 //! The entries of a phase, each before the next.
 
-ghost use Rattle.std.specs.Prelude.{◌≡◌, slice_get, IfOk};
+ghost use Rattle.std.specs.Prelude.{◌≡◌, Some, None, map, slice_get, slice_index_or, slice_set, IfOk};
 ghost use Rattle.std.specs.List.{filter_map};
 ghost use Rattle.hive_model.specs.Valid.{HoldsKeys};
 ghost use Rattle.start_model.specs.Order.{plan_of};
 ghost use Rattle.boot_phases.specs.Phases.{phase_in};
+ghost use Rattle.boot_phases.specs.Apart.{StandApart};
 
 use crate::phase::{Phase, tags_count};
 use crate::rank::{Rank, in_order, ranks_at};
@@ -44,27 +45,40 @@ fn plan_phase(
     let places = taken(alloc, &table, phase, &tried)?;
     let mut ranks = ranks_at(alloc, &table, &orders, tags_count(phase), places.as_slice())?;
     in_order(&mut ranks);
-    entries_at(alloc, &table, ranks.as_slice())
+    entries_at(alloc, table, ranks.as_slice())
 }
 
-/// The entries of these ranks.
-fn entries_at(alloc: Global, table: &ServiceTable, ranks: &[Rank]) -> Result<Entries, AllocError>
-    ensures { IfOk result (λ e. e ≡ filter_map (λ r. slice_get table.now r.place) ranks.now) }
+/// The entries of these ranks, each moved out of its place.
+fn entries_at(alloc: Global, table: ServiceTable, ranks: &[Rank]) -> Result<Entries, AllocError>
+    requires { StandApart ranks.now }
+    ensures { IfOk result (λ e. e ≡ filter_map (λ r. slice_get table r.place) ranks.now) }
 {
+    let mut slots = slots_of(alloc, table)?;
     let mut entries = Entries::new(alloc);
     for rank in ranks {
-        if let Some(entry) = entry_at(alloc, table, rank)? {
+        if let Some(entry) = take_at(&mut slots, rank.place as usize) {
             entries.push(entry)?;
         }
     }
     Ok(entries)
 }
 
-fn entry_at(alloc: Global, table: &ServiceTable, rank: &Rank) -> Result<Option<Entry>, AllocError>
-    ensures { IfOk result (λ e. e ≡ slice_get table.now rank.now.place) }
+/// The entries of a table, each in a slot that it can be taken from.
+fn slots_of(alloc: Global, table: ServiceTable) -> Result<Vec<Option<Entry>>, AllocError>
+    ensures { IfOk result (λ s. s.items ≡ map (λ e. Some e) table) }
 {
-    match table.get(rank.place) {
-        Some(entry) => Ok(Some(entry.copy(alloc)?)),
-        None => Ok(None),
+    let entries = table.into_entries(alloc)?;
+    entries.into_vec().into_iter().map(Some).collect(alloc)
+}
+
+/// Takes what stands in a slot, and leaves it empty.
+fn take_at(slots: &mut Vec<Option<Entry>>, place: usize) -> Option<Entry>
+    ensures taken { result ≡ slice_index_or slots.old.items place None }
+    ensures left { slots.new.items ≡ slice_set slots.old.items place None }
+{
+    if place < slots.len() {
+        slots[place].take()
+    } else {
+        None
     }
 }

@@ -1,14 +1,16 @@
 //! Which entries a phase takes.
 
-ghost use Rattle.std.specs.Prelude.{◌≡◌, ◌<◌, ◌^◌, false, slice_get, length, IfOk};
+ghost use Rattle.std.specs.Prelude.{◌≡◌, false, slice_get, IfOk};
 ghost use Rattle.std.specs.List.{filter_map};
-ghost use Rattle.std.specs.Option.{option_map, option_map_or};
-ghost use Rattle.start_model.specs.Entries.{is_driver, is_driver_of, is_open, is_service, automatic_among, need_of, needs_at, places_of, taken_of};
+ghost use Rattle.std.specs.Option.{option_map_or};
+ghost use Rattle.start_model.specs.Entries.{is_driver_of, is_open, automatic_among, need_of, places_of, taken_of};
 ghost use Rattle.boot_phases.specs.Phases.{phase_in};
 
+use crate::kind::is_driver;
 use crate::phase::Phase;
 use crate::tried::Tried;
-use dependencies::{Need, Needs, Places, automatic};
+use crate::untried::Untried;
+use dependencies::{Need, Places, automatic_in};
 use nt_bytes::Units;
 use service_entries::{Entry, ServiceTable};
 use std::alloc::{AllocError, Global};
@@ -64,20 +66,6 @@ fn is_driver_of(entry: &Entry, start: u32, tried: &Tried) -> bool
     is_driver(entry.kind) && entry.start == start && !tried.has(entry)
 }
 
-/// Whether this Type is that of a driver.
-fn is_driver(kind: u32) -> bool
-    ensures { result ≡ is_driver kind }
-{
-    kind & 0x0b != 0
-}
-
-/// Whether this Type is that of a service.
-fn is_service(kind: u32) -> bool
-    ensures { result ≡ is_service kind }
-{
-    kind & 0x30 != 0 && kind & 0x0b == 0
-}
-
 // ---- the automatic phase
 
 /// The places of the entries that the automatic phase takes.
@@ -88,60 +76,10 @@ fn automatic_places(
 ) -> Result<Places, AllocError>
     ensures { IfOk result (λ p. p ≡ automatic_among table.now (places_of (is_open tried.now) table.now)) }
 {
-    let open = open_places(alloc, table, tried)?;
-    let needs = needs_at(alloc, table, open.as_slice())?;
-    let taken = automatic(alloc, &needs)?;
-    chosen(alloc, open.as_slice(), taken.as_slice())
-}
-
-/// The places of the untried drivers and services.
-fn open_places(alloc: Global, table: &ServiceTable, tried: &Tried) -> Result<Places, AllocError>
-    ensures places { IfOk result (λ p. p ≡ places_of (is_open tried.now) table.now) }
-    ensures few { IfOk result (λ p. length p < 2 ^ 32) }
-{
-    let mut places = Places::new(alloc);
-    for place in 0..table.len() {
-        if is_open_at(table, place as u32, tried) {
-            places.push(place as u32)?;
-        }
-    }
-    Ok(places)
-}
-
-fn is_open_at(table: &ServiceTable, place: u32, tried: &Tried) -> bool
-    ensures { result ≡ option_map_or (is_open tried.now) (slice_get table.now place) false }
-{
-    table.get(place).is_some_and(|entry| is_open(entry, tried))
-}
-
-fn is_open(entry: &Entry, tried: &Tried) -> bool
-    ensures { result ≡ is_open tried.now entry.now }
-{
-    (is_driver(entry.kind) || is_service(entry.kind)) && !tried.has(entry)
-}
-
-/// What the entries at these places need.
-fn needs_at(alloc: Global, table: &ServiceTable, places: &[u32]) -> Result<Needs, AllocError>
-    requires { length places.now < 2 ^ 32 }
-    ensures needs { IfOk result (λ n. n ≡ needs_at table.now places.now) }
-    ensures few { IfOk result (λ n. length n < 2 ^ 32) }
-{
-    let mut needs = Needs::new(alloc);
-    for place in places {
-        if let Some(need) = need_at(alloc, table, *place)? {
-            needs.push(need)?;
-        }
-    }
-    Ok(needs)
-}
-
-fn need_at(alloc: Global, table: &ServiceTable, place: u32) -> Result<Option<Need>, AllocError>
-    ensures { IfOk result (λ n. n ≡ option_map need_of (slice_get table.now place)) }
-{
-    match table.get(place) {
-        Some(entry) => Ok(Some(need_of(alloc, entry)?)),
-        None => Ok(None),
-    }
+    let untried = Untried::new(alloc, table, tried)?;
+    let places = untried.in_table();
+    let taken = automatic_in(alloc, &untried)?;
+    chosen(alloc, places, taken.as_slice())
 }
 
 /// What an entry needs. Of the entry nothing else is copied.

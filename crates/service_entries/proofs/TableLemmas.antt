@@ -12,12 +12,11 @@ use Rattle.start_model.specs.Entries.{Entry, entry_of, entry_with}
 use Rattle.service_entries.specs.Keyed.{AreKeyed}
 use Rattle.service_entries.specs.Named.{place_named}
 use Rattle.std.specs.List.{position_or_len}
-use Rattle.std.specs.Prelude.{position, not, nat_lt, slice_get, true, zero, suc}
+use Rattle.std.specs.Prelude.{position, not, nat_lt, true, zero, suc}
 use Rattle.std.specs.Option.{option_map_or}
 use Rattle.std.specs.Cmp.Lexicographic.{nat_list_eq_equiv}
-use Rattle.std.proofs.lemmas.Bool.{false≢true, lt-ltb}
 use Rattle.std.proofs.lemmas.Bool.Decides.{nat_tests}
-use Rattle.reg_tree.proofs.Unlike.{Each, Lacks, Unlike, unlike_from, unlike_pairs, unlike_push, each_from, folds_swap}
+use Rattle.reg_tree.proofs.Unlike.{Each, Unlike, unlike_from, unlike_pairs, unlike_push, each_from, folds_swap}
 use Rattle.service_entries.specs.Named.{NamesDiffer, is_named_at, IsOnlyPlace}
 
 abbrev Pair : Type 0
