@@ -96,7 +96,7 @@ impl ServiceTable {
 }
 
 /// A name with each unit folded.
-fn folded(alloc: Global, name: &[u16]) -> Result<Vec<u16>, AllocError>
+pub fn folded(alloc: Global, name: &[u16]) -> Result<Vec<u16>, AllocError>
     ensures { IfOk result (λ v. v.items ≡ folded name.now) }
 {
     name.iter().map(|u| fold(*u)).collect(alloc)

@@ -4,7 +4,7 @@ use super::*;
 use crate::plans::is_text;
 use nt_bytes::narrow;
 use reg_tree::Key;
-use service_entries::{Entry, ServiceTable, entries, folded};
+use service_entries::{Entry, ServiceTable, entries};
 use std::alloc::Global;
 use std::process::Abort;
 use std::test::Fail;
@@ -24,8 +24,8 @@ fn stands(
     place: u32,
     name: &[u8],
 ) -> Result<(), Fail> {
-    let name = folded(alloc, narrow(alloc, name)?.as_slice())?;
-    assert_eq!(rt; table.place_of(name.as_slice()), Some(place));
+    let name = narrow(alloc, name)?;
+    assert_eq!(rt; table.place_of(alloc, name.as_slice())?, Some(place));
     Ok(())
 }
 
