@@ -8,22 +8,27 @@ use Rattle.boot_machine.specs.declared.tried.Tried as code
 use Rattle.boot_machine.specs.Steps.{AttemptsNext}
 use Rattle.boot_machine.specs.Views.{tried_in}
 
-pub attempted : (m : MachineState) (s s2 : Start) (old fs : List (List ℕ × ℕ)) (usable : Bool) (e : Entry) (ok : Bool) (word : Judgement)
+pub attempted : (m : MachineState) (s s2 : Start) (old fs : List (List ℕ × ℕ)) (usable : Bool) (e : Entry) (ok : Bool)
+    (word : Judgement)
     → AttemptsNext s s2 e ok → m.failures ≡ old → ok ≡ (failures_of old e.name == 0) → fs ≡ one_failure_less old e.name
     → word ≡ (if ok then Ignore else judgement_of e.control s.on_good usable)
-    → attempt_in m s usable ≡ Some (record m { start = Some s2; failures = fs }, record { name = e.name; ok = ok; judgement = word })
+    → attempt_in m s usable ≡ Some
+    (record m { start = Some s2; failures = fs }, record { name = e.name; ok = ok; judgement = word })
 attempted m s s2 old fs usable e ok word t same good l w = rw (t.next, t.entry, t.after, l, w, same, good) refl
 
-attempt_running : (m : MachineState) (s : Start) (usable : Bool) → m.start ≡ Some s → attempt_of m usable ≡ attempt_in m s usable
+attempt_running : (m : MachineState) (s : Start) (usable : Bool) → m.start ≡ Some s
+    → attempt_of m usable ≡ attempt_in m s usable
 unfolding attempt_of
 attempt_running m s usable h = rw h refl
 
 abbrev made : Option Start → List (List ℕ × ℕ) → Bool → MachineState
 made start failures due = record { start = start; failures = failures; fallback_due = due }
 
-pub attempt_whole : {E : Type 0} (m : MachineState) (inner : Option Start) (s s2 : Start) (old fs : List (List ℕ × ℕ)) (due usable : Bool) (r : Result code.Tried E)
+pub attempt_whole : {E : Type 0} (m : MachineState) (inner : Option Start) (s s2 : Start) (old fs : List (List ℕ × ℕ))
+    (due usable : Bool) (r : Result code.Tried E)
     → made inner old due ≡ m → inner ≡ Some s
-    → IfOk r (λ t. (m : MachineState) → m.failures ≡ old → attempt_in m s usable ≡ Some (record m { start = Some s2; failures = fs }, tried_in t))
+    → IfOk r (λ t. (m : MachineState) → m.failures ≡ old
+    → attempt_in m s usable ≡ Some (record m { start = Some s2; failures = fs }, tried_in t))
     → IfOk r (λ t. attempt_of m usable ≡ Some (made (Some s2) fs due, tried_in t))
 attempt_whole m inner s s2 old fs due usable (Ok t) same running h =
     subst (λ (m : MachineState). attempt_of m usable ≡ Some (made (Some s2) fs due, tried_in t)) same

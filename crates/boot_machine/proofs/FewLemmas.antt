@@ -21,13 +21,19 @@ mapped h [] = omega arith
 mapped h (x ∷ xs) = one_more (h x) (filter_map h xs) (length xs) (mapped h xs)
 
 filtered : (p : ℕ → Bool) (n : ℕ) → length (filter p (range_with_len 0 n)) ≤ n
-filtered p n = omega (arith, length-filter p (range_with_len 0 n), count_by-le-length p (range_with_len 0 n), length-range_with_len 0 n)
+filtered p n = omega (
+  arith,
+  length-filter p (range_with_len 0 n),
+  count_by-le-length p (range_with_len 0 n),
+  length-range_with_len 0 n,
+)
 
 length-placed : (r : Rank) (rs : List Rank) → length (placed r rs) ≡ suc (length rs)
 length-placed r [] = refl
 length-placed r (s ∷ rs) = by_order (is_before r s) (length-placed r rs)
   where
-    by_order : (b : Bool) → length (placed r rs) ≡ suc (length rs) → length (cond b (r ∷ s ∷ rs) (s ∷ placed r rs)) ≡ suc (length (s ∷ rs))
+    by_order : (b : Bool) → length (placed r rs) ≡ suc (length rs)
+        → length (cond b (r ∷ s ∷ rs) (s ∷ placed r rs)) ≡ suc (length (s ∷ rs))
     by_order true e = refl
     by_order false e = ap suc e
 
@@ -35,9 +41,12 @@ length-ordered_of : (rs : List Rank) → length (ordered_of rs) ≡ length rs
 length-ordered_of [] = refl
 length-ordered_of (r ∷ rs) = length-placed r (ordered_of rs) ∙ ap suc (length-ordered_of rs)
 
-taken : (entries : List Entry) (phase : Phase) (tried : List (List ℕ)) → length (taken_of entries phase tried) ≤ length entries
-taken entries Boot tried = filtered (λ p. option_map_or (is_driver_of 0 tried) (slice_get entries p) false) (length entries)
-taken entries System tried = filtered (λ p. option_map_or (is_driver_of 1 tried) (slice_get entries p) false) (length entries)
+taken : (entries : List Entry) (phase : Phase) (tried : List (List ℕ))
+    → length (taken_of entries phase tried) ≤ length entries
+taken entries Boot tried =
+    filtered (λ p. option_map_or (is_driver_of 0 tried) (slice_get entries p) false) (length entries)
+taken entries System tried =
+    filtered (λ p. option_map_or (is_driver_of 1 tried) (slice_get entries p) false) (length entries)
 taken entries Automatic tried =
     let open_places = places_of (is_open tried) entries in
     let needs = needs_at entries open_places in
@@ -50,7 +59,8 @@ taken entries Automatic tried =
     )
 taken entries Done tried = omega arith
 
-pub plan_few : (set : Tree) (phase : Phase) (tried : List (List ℕ)) → HoldsKeys set → length (plan_of set phase tried) < 2 ^ 32
+pub plan_few : (set : Tree) (phase : Phase) (tried : List (List ℕ)) → HoldsKeys set
+    → length (plan_of set phase tried) < 2 ^ 32
 plan_few set phase tried held =
     let entries = entries_of set in
     let places = taken_of entries phase tried in

@@ -30,11 +30,16 @@ at_from name i (f ∷ fs) at d h =
           let below = at_from name (i + 1) fs at d more in (
             suc below.0,
             omega (arith, below.1),
-            record { count = rw (e, below.2.count) refl; less = rw (e, below.2.less) refl; others = λ n. rw (e, below.2.others n) refl },
+            record {
+              count = rw (e, below.2.count) refl;
+              less = rw (e, below.2.less) refl;
+              others = λ n. rw (e, below.2.others n) refl;
+            },
           )
     ]
 
-pub at_place : (name : List ℕ) (fs : List Failing) (at : ℕ) (d : Failing) → position (names name) fs ≡ Some at → At name fs at (get_or fs at d)
+pub at_place : (name : List ℕ) (fs : List Failing) (at : ℕ) (d : Failing) → position (names name) fs ≡ Some at
+    → At name fs at (get_or fs at d)
 at_place name fs at d h =
     let f = at_from name 0 fs at d (sym (position_from-zero (names name) fs) ∙ h) in
     let same : at ≡ f.0 = omega (arith, f.1) in
@@ -51,27 +56,38 @@ nowhere_from name i [] h = record { count = refl; less = refl; others = λ n. re
 nowhere_from name i (f ∷ fs) h =
     let e = no_place (names name) i f fs h in
     let below = nowhere_from name (i + 1) fs e.1 in
-    record { count = rw (e.0, below.count) refl; less = rw (e.0, below.less) refl; others = λ n. rw (e.0, below.others n) refl }
+    record {
+      count = rw (e.0, below.count) refl;
+      less = rw (e.0, below.less) refl;
+      others = λ n. rw (e.0, below.others n) refl;
+    }
 
 pub nowhere : (name : List ℕ) (fs : List Failing) → position (names name) fs ≡ None → Nowhere name fs
 nowhere name fs h = nowhere_from name 0 fs (sym (position_from-zero (names name) fs) ∙ h)
 
 -- ---- what the code does at the place
 
-at_old : (name : List ℕ) (items fs : List Failing) (at : ℕ) (old : Failing) → items ≡ fs → Some at ≡ position (names name) fs → old ≡ get_or items at old → At name items at old
+at_old : (name : List ℕ) (items fs : List Failing) (at : ℕ) (old : Failing) → items ≡ fs
+    → Some at ≡ position (names name) fs → old ≡ get_or items at old → At name items at old
 at_old name items fs at old i h e =
     let place : position (names name) items ≡ Some at = rw i (sym h) in
     let P : Failing → Type 0 = λ f. At name items at f in
     subst P (sym e) (at_place name items at old place)
 
-pub fails_there : (name : List ℕ) (items fs : List Failing) (at : ℕ) (old : Failing) (fails : Bool) → items ≡ fs → Some at ≡ position (names name) fs → old ≡ get_or items at old
+pub fails_there : (name : List ℕ) (items fs : List Failing) (at : ℕ) (old : Failing) (fails : Bool) → items ≡ fs
+    → Some at ≡ position (names name) fs → old ≡ get_or items at old
     → fails ≡ not (old.1 == 0) → fails ≡ not (failures_of fs name == 0)
-fails_there name items fs at old fails i h e f = rw (← i) (f ∙ ap (λ n. not (n == 0)) (sym (at_old name items fs at old i h e).count))
+fails_there name items fs at old fails i h e f =
+    rw (← i) (f ∙ ap (λ n. not (n == 0)) (sym (at_old name items fs at old i h e).count))
 
-pub less_there : (name : List ℕ) (items fs : List Failing) (at : ℕ) (old new : Failing) → items ≡ fs → Some at ≡ position (names name) fs → old ≡ get_or items at old
+pub less_there : (name : List ℕ) (items fs : List Failing) (at : ℕ) (old new : Failing) → items ≡ fs
+    → Some at ≡ position (names name) fs → old ≡ get_or items at old
     → new ≡ (old.0, old.1 - 1) → set items at new ≡ one_failure_less fs name
-less_there name items fs at old new i h e n = rw (← i) (ap (set items at) n ∙ sym (at_old name items fs at old i h e).less)
+less_there name items fs at old new i h e n =
+    rw (← i) (ap (set items at) n ∙ sym (at_old name items fs at old i h e).less)
 
-pub others_there : (name : List ℕ) (items fs : List Failing) (at count : ℕ) (old new : Failing) → items ≡ fs → Some at ≡ position (names name) fs → old ≡ get_or items at old
+pub others_there : (name : List ℕ) (items fs : List Failing) (at count : ℕ) (old new : Failing) → items ≡ fs
+    → Some at ≡ position (names name) fs → old ≡ get_or items at old
     → new ≡ (old.0, count) → set items at new ≡ with_failures fs name count
-others_there name items fs at count old new i h e n = rw (← i) (ap (set items at) n ∙ sym ((at_old name items fs at old i h e).others count))
+others_there name items fs at count old new i h e n =
+    rw (← i) (ap (set items at) n ∙ sym ((at_old name items fs at old i h e).others count))

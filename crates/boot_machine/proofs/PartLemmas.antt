@@ -12,7 +12,8 @@ joined_again [] = refl
 joined_again (e ∷ es) = ap (λ l. e ∷ l) (joined_again es)
 
 -- what the entries need that were put together
-pub needs_joined : (needs : List Need) (rests : List Rest) → length rests ≡ length needs → needs ≡ map need_of (all_joined needs rests)
+pub needs_joined : (needs : List Need) (rests : List Rest) → length rests ≡ length needs
+    → needs ≡ map need_of (all_joined needs rests)
 needs_joined [] rests as_many = refl
 needs_joined (n ∷ ns) [] as_many = absurd (omega (arith, as_many))
 needs_joined (n ∷ ns) (r ∷ rs) as_many = ap (λ l. n ∷ l) (needs_joined ns rs (omega (arith, as_many)))
@@ -24,7 +25,8 @@ same_rest : (a b : Rest) → Some a ≡ Some b → a ≡ b
 same_rest a b e = cc
 
 -- the entry at a place, by its parts there
-pub joined_at : (needs : List Need) (rests : List Rest) (at : ℕ) (n : Need) (r : Rest) → slice_get needs at ≡ Some n → slice_get rests at ≡ Some r
+pub joined_at : (needs : List Need) (rests : List Rest) (at : ℕ) (n : Need) (r : Rest) → slice_get needs at ≡ Some n
+    → slice_get rests at ≡ Some r
     → slice_get (all_joined needs rests) at ≡ Some (joined n r)
 joined_at [] rests at n r here beside = absurd cc
 joined_at (m ∷ ms) [] at n r here beside = absurd cc

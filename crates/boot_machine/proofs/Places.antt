@@ -12,24 +12,29 @@ pub data Place {X : Type 0} (p : X → Bool) (i : ℕ) (x : X) (xs : List X) (at
   here : p x ≡ true → at ≡ i → Place p i x xs at
   there : p x ≡ false → position_from p (i + 1) xs ≡ Some at → Place p i x xs at
 
-pub place_of : {X : Type 0} (p : X → Bool) (i : ℕ) (x : X) (xs : List X) (at : ℕ) → position_from p i (x ∷ xs) ≡ Some at → Place p i x xs at
+pub place_of : {X : Type 0} (p : X → Bool) (i : ℕ) (x : X) (xs : List X) (at : ℕ) → position_from p i (x ∷ xs) ≡ Some at
+    → Place p i x xs at
 place_of p i x xs at h = split (p x) refl h
   where
     split : (b : Bool) → p x ≡ b → cond b (Some i) (position_from p (i + 1) xs) ≡ Some at → Place p i x xs at
     split true e k = here e (sym (some_is i at k))
     split false e k = there e k
 
-pub no_place : {X : Type 0} (p : X → Bool) (i : ℕ) (x : X) (xs : List X) → position_from p i (x ∷ xs) ≡ None → (p x ≡ false) × (position_from p (i + 1) xs ≡ None)
+pub no_place : {X : Type 0} (p : X → Bool) (i : ℕ) (x : X) (xs : List X) → position_from p i (x ∷ xs) ≡ None
+    → (p x ≡ false) × (position_from p (i + 1) xs ≡ None)
 no_place p i x xs h = split (p x) refl h
   where
-    split : (b : Bool) → p x ≡ b → cond b (Some i) (position_from p (i + 1) xs) ≡ None → (p x ≡ false) × (position_from p (i + 1) xs ≡ None)
+    split : (b : Bool) → p x ≡ b → cond b (Some i) (position_from p (i + 1) xs) ≡ None
+        → (p x ≡ false) × (position_from p (i + 1) xs ≡ None)
     split true e k = absurd cc
     split false e k = (e, k)
 
-map_from : {X Y : Type 0} (f : X → Y) (p : Y → Bool) (i : ℕ) (xs : List X) → position_from p i (map f xs) ≡ position_from (λ x. p (f x)) i xs
+map_from : {X Y : Type 0} (f : X → Y) (p : Y → Bool) (i : ℕ) (xs : List X)
+    → position_from p i (map f xs) ≡ position_from (λ x. p (f x)) i xs
 map_from f p i [] = refl
 map_from f p i (x ∷ xs) = ap (cond (p (f x)) (Some i)) (map_from f p (i + 1) xs)
 
 -- a place among images
-pub position_map : {X Y : Type 0} (f : X → Y) (p : Y → Bool) (xs : List X) → position p (map f xs) ≡ position (λ x. p (f x)) xs
+pub position_map : {X Y : Type 0} (f : X → Y) (p : Y → Bool) (xs : List X)
+    → position p (map f xs) ≡ position (λ x. p (f x)) xs
 position_map f p xs = position_from-zero p (map f xs) ∙ (map_from f p 0 xs ∙ sym (position_from-zero (λ x. p (f x)) xs))

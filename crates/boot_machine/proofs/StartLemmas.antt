@@ -8,8 +8,10 @@ use Rattle.start_model.specs.Machine.{Start, label_of}
 use Rattle.boot_machine.specs.Steps.{AttemptsNext}
 use Rattle.boot_machine.specs.Queue.{QueueState, TakesFirst}
 
-pub attempts : (s : Start) (q q' : QueueState) (e : Entry) (ok : Bool) (tried : List (List ℕ)) → TakesFirst q q' e ok → s.waiting ≡ q.waiting → s.started ≡ q.started
-    → tried ≡ s.tried ++ folded e.name ∷ [] → AttemptsNext s (record s { waiting = q'.waiting; tried = tried; started = q'.started }) e ok
+pub attempts : (s : Start) (q q' : QueueState) (e : Entry) (ok : Bool) (tried : List (List ℕ)) → TakesFirst q q' e ok
+    → s.waiting ≡ q.waiting → s.started ≡ q.started
+    → tried ≡ s.tried ++ folded e.name ∷ []
+    → AttemptsNext s (record s { waiting = q'.waiting; tried = tried; started = q'.started }) e ok
 attempts s q q' e ok tried takes waits same name = record {
   place = takes.place;
   next = (λ i. next_of (same i) (map need_of (waits i))) ∙ takes.next;

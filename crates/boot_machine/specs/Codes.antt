@@ -41,7 +41,9 @@ coded_names = coded_list coded_name
 abbrev pub coded_entry : Coded Entry
 coded_entry =
     code_by (List ℕ × (ℕ × (ℕ × (ℕ × (Option (List ℕ) × (Option ℕ × (List (List ℕ) × List (List ℕ))))))))
-    (coded× coded_name (coded× coded_ℕ (coded× coded_ℕ (coded× coded_ℕ (coded× (coded_option coded_name) (coded× (coded_option coded_ℕ) (coded× coded_names coded_names)))))))
+    (coded× coded_name (coded× coded_ℕ
+    (coded× coded_ℕ (coded× coded_ℕ
+    (coded× (coded_option coded_name) (coded× (coded_option coded_ℕ) (coded× coded_names coded_names)))))))
     (λ e. (e.name, (e.start, (e.kind, (e.control, (e.group, (e.tag, (e.services, e.groups))))))))
     (λ p. record {
       name = p.0;
@@ -61,7 +63,10 @@ coded_label = coded× coded_name (coded_option coded_name)
 abbrev pub coded_start : Coded Start
 coded_start =
     code_by (ℕ × (Bool × (Phase × (List Entry × (List (List ℕ) × (List Label × (Bool × (Option Bool × Option Tree))))))))
-    (coded× coded_ℕ (coded× coded_bool (coded× coded_phase (coded× (coded_list coded_entry) (coded× coded_names (coded× (coded_list coded_label) (coded× coded_bool (coded× (coded_option coded_bool) (coded_option coded_tree)))))))))
+    (coded× coded_ℕ (coded× coded_bool
+    (coded× coded_phase (coded× (coded_list coded_entry)
+    (coded× coded_names (coded× (coded_list coded_label)
+    (coded× coded_bool (coded× (coded_option coded_bool) (coded_option coded_tree)))))))))
     (λ s. (s.number, (s.on_good, (s.phase, (s.waiting, (s.tried, (s.started, (s.logged_on, (s.saved, s.clone)))))))))
     (λ p. record {
       number = p.0;
@@ -82,4 +87,5 @@ coded_machine =
     (λ m. (m.start, (m.failures, m.fallback_due))) (λ p. record { start = p.0; failures = p.1.0; fallback_due = p.1.1 }) (λ _. refl)
 
 abbrev pub coded_queue : Coded QueueState
-coded_queue = code_by (List Entry × List Label) (coded× (coded_list coded_entry) (coded_list coded_label)) (λ q. (q.waiting, q.started)) (λ p. record { waiting = p.0; started = p.1 }) (λ _. refl)
+coded_queue = code_by (List Entry × List Label) (coded× (coded_list coded_entry) (coded_list coded_label)) (λ q. (q.waiting, q.started))
+    (λ p. record { waiting = p.0; started = p.1 }) (λ _. refl)

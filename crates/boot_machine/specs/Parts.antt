@@ -11,7 +11,16 @@ rest_of e = record { kind = e.kind; control = e.control; tag = e.tag }
 
 -- the entry of a need and a rest
 abbrev pub joined : Need → Rest → Entry
-joined n r = record { name = n.name; start = n.start; kind = r.kind; control = r.control; group = n.group; tag = r.tag; services = n.services; groups = n.groups }
+joined n r = record {
+  name = n.name;
+  start = n.start;
+  kind = r.kind;
+  control = r.control;
+  group = n.group;
+  tag = r.tag;
+  services = n.services;
+  groups = n.groups;
+}
 
 -- the entries of needs and rests, place by place
 abbrev pub all_joined : List Need → List Rest → List Entry

@@ -53,14 +53,18 @@ apart_ordered : (rs : List Rank) → Rises rs → Apart (ordered_of rs)
 apart_ordered [] h = tt
 apart_ordered (r ∷ rs) h = apart_placed r (ordered_of rs) (off_ordered r rs (lower_off r rs h.0)) (apart_ordered rs h.1)
 
-pair_at : (rs : List Rank) → Apart rs → (i j : ℕ) (d : Rank) → i < j → j < length rs → nat_eq (get_or rs i d).place (get_or rs j d).place ≡ false
+pair_at : (rs : List Rank) → Apart rs → (i j : ℕ) (d : Rank) → i < j → j < length rs
+    → nat_eq (get_or rs i d).place (get_or rs j d).place ≡ false
 pair_at [] h i j d lt below = absurd (omega arith)
 pair_at (r ∷ rs) h zero zero d lt below = absurd (omega arith)
-pair_at (r ∷ rs) h zero (suc j) d lt below = All-from_recursion (λ (s : Rank). nat_eq r.place s.place ≡ false) rs h.0 j d (omega arith)
+pair_at (r ∷ rs) h zero (suc j) d lt below =
+    All-from_recursion (λ (s : Rank). nat_eq r.place s.place ≡ false) rs h.0 j d (omega arith)
 pair_at (r ∷ rs) h (suc i) zero d lt below = absurd (omega arith)
 pair_at (r ∷ rs) h (suc i) (suc j) d lt below = pair_at rs h.1 i j d (omega arith) (omega arith)
 
 -- no two ranks of a plan are of one place
-pub plan_apart : (set : Tree) (phase : Phase) (tried : List (List ℕ)) → StandApart (ordered_of (ranks_of set phase tried))
+pub plan_apart : (set : Tree) (phase : Phase) (tried : List (List ℕ))
+    → StandApart (ordered_of (ranks_of set phase tried))
 plan_apart set phase tried =
-    pair_at (ordered_of (ranks_of set phase tried)) (apart_ordered (ranks_of set phase tried) (ranks_rise set phase tried))
+    pair_at (ordered_of (ranks_of set phase tried))
+    (apart_ordered (ranks_of set phase tried) (ranks_rise set phase tried))

@@ -14,7 +14,8 @@ use Rattle.std.proofs.lemmas.List.Sums.{sum_by-cons}
 use Rattle.start_model.specs.Order.{Rank, rank_order, is_before, placed, ordered_of}
 
 rank_total : IsTotalOrder rank_order
-rank_total = then_total (on_total (λ (r : Rank). r.group) nat_cmp_total) (then_total (on_total (λ (r : Rank). r.tag) nat_cmp_total) (on_total (λ (r : Rank). r.place) nat_cmp_total))
+rank_total = then_total (on_total (λ (r : Rank). r.group) nat_cmp_total)
+    (then_total (on_total (λ (r : Rank). r.tag) nat_cmp_total) (on_total (λ (r : Rank). r.place) nat_cmp_total))
 
 pub rank_weak : IsStrictWeakOrder is_before
 rank_weak = ranks_by rank_total (λ r. r)
@@ -24,7 +25,8 @@ abbrev pub InOrder : List Rank → Type 0
 InOrder [] = Unit {0}
 InOrder (r ∷ rs) = AllByRecursion (λ s. is_before s r ≡ false) rs × InOrder rs
 
-far : (r : Rank) (rs : List Rank) → ((k : ℕ) (d : Rank) → k < length rs → is_before (get_or rs k d) r ≡ false) → AllByRecursion (λ s. is_before s r ≡ false) rs
+far : (r : Rank) (rs : List Rank) → ((k : ℕ) (d : Rank) → k < length rs → is_before (get_or rs k d) r ≡ false)
+    → AllByRecursion (λ s. is_before s r ≡ false) rs
 far r [] h = tt
 far r (s ∷ rs) h = (h 0 r (omega arith), far r rs (λ k d lt. h (suc k) d (omega arith)))
 
@@ -38,16 +40,19 @@ in_order_from_sorted (r ∷ rs) h = (
       subst P e (h (suc k) d (omega arith) (omega arith)))),
 )
 
-all_placed : (r s : Rank) (rs : List Rank) → is_before s r ≡ false → AllByRecursion (λ t. is_before t r ≡ false) rs → AllByRecursion (λ t. is_before t r ≡ false) (placed s rs)
+all_placed : (r s : Rank) (rs : List Rank) → is_before s r ≡ false → AllByRecursion (λ t. is_before t r ≡ false) rs
+    → AllByRecursion (λ t. is_before t r ≡ false) (placed s rs)
 all_placed r s [] h hs = (h, tt)
 all_placed r s (t ∷ rs) h hs =
     by_case (is_before s t) (all_placed r s rs h hs.1)
   where
-    by_case : (b : Bool) → AllByRecursion (λ t. is_before t r ≡ false) (placed s rs) → AllByRecursion (λ t. is_before t r ≡ false) (cond b (s ∷ t ∷ rs) (t ∷ placed s rs))
+    by_case : (b : Bool) → AllByRecursion (λ t. is_before t r ≡ false) (placed s rs)
+        → AllByRecursion (λ t. is_before t r ≡ false) (cond b (s ∷ t ∷ rs) (t ∷ placed s rs))
     by_case true deep = (h, hs)
     by_case false deep = (hs.0, deep)
 
-weaker : (r s : Rank) (rs : List Rank) → is_before s r ≡ false → AllByRecursion (λ t. is_before t s ≡ false) rs → AllByRecursion (λ t. is_before t r ≡ false) rs
+weaker : (r s : Rank) (rs : List Rank) → is_before s r ≡ false → AllByRecursion (λ t. is_before t s ≡ false) rs
+    → AllByRecursion (λ t. is_before t r ≡ false) rs
 weaker r s [] h hs = tt
 weaker r s (t ∷ rs) h hs = (rank_weak.chain t s r hs.0 h, weaker r s rs h hs.1)
 
@@ -74,13 +79,15 @@ count_placed : (z r : Rank) (rs : List Rank) → count z (placed r rs) ≡ one z
 count_placed z r [] = sum_by-cons (one z) r []
 count_placed z r (s ∷ rs) = by_case (is_before r s) (count_placed z r rs)
   where
-    by_case : (b : Bool) → count z (placed r rs) ≡ one z r + count z rs → count z (cond b (r ∷ s ∷ rs) (s ∷ placed r rs)) ≡ one z r + count z (s ∷ rs)
+    by_case : (b : Bool) → count z (placed r rs) ≡ one z r + count z rs
+        → count z (cond b (r ∷ s ∷ rs) (s ∷ placed r rs)) ≡ one z r + count z (s ∷ rs)
     by_case true deep = sum_by-cons (one z) r (s ∷ rs)
     by_case false deep = omega (arith, deep, sum_by-cons (one z) s (placed r rs), sum_by-cons (one z) s rs)
 
 pub count_ordered : (z : Rank) (rs : List Rank) → count z (ordered_of rs) ≡ count z rs
 count_ordered z [] = refl
-count_ordered z (r ∷ rs) = count_placed z r (ordered_of rs) ∙ omega (arith, count_ordered z rs, sum_by-cons (one z) r rs)
+count_ordered z (r ∷ rs) =
+    count_placed z r (ordered_of rs) ∙ omega (arith, count_ordered z rs, sum_by-cons (one z) r rs)
 
 pub one_self : (z : Rank) → ◌≡◌ {A = ℕ} (one z z) 1
 one_self z = ap (λ o. cond (is_eq o) 1 0) (tied_itself rank_total z)
@@ -96,7 +103,8 @@ equal_not_before Equal h = refl
 equal_not_before Greater h = absurd (false≢true h)
 
 -- what stands in a list is not before what the list is not before
-not_before_deep : (z r : Rank) (rs : List Rank) → AllByRecursion (λ s. is_before s r ≡ false) rs → 0 < count z rs → is_before z r ≡ false
+not_before_deep : (z r : Rank) (rs : List Rank) → AllByRecursion (λ s. is_before s r ≡ false) rs → 0 < count z rs
+    → is_before z r ≡ false
 not_before_deep z r [] all some = absurd (omega arith)
 not_before_deep z r (s ∷ rs) all some = by_case (is_eq (rank_order z s)) refl (not_before_deep z r rs all.1)
   where
@@ -106,7 +114,8 @@ not_before_deep z r (s ∷ rs) all some = by_case (is_eq (rank_order z s)) refl 
         let n : ◌≡◌ {A = ℕ} (one z s) 0 = ap (λ b. cond b 1 0) e in
         deep (omega (arith, some, n, sum_by-cons (one z) s rs))
 
-not_before_first : (z r : Rank) (rs : List Rank) → AllByRecursion (λ s. is_before s r ≡ false) rs → 0 < one z r + count z rs → is_before z r ≡ false
+not_before_first : (z r : Rank) (rs : List Rank) → AllByRecursion (λ s. is_before s r ≡ false) rs
+    → 0 < one z r + count z rs → is_before z r ≡ false
 not_before_first z r rs all some = by_case (is_eq (rank_order z r)) refl
   where
     by_case : (b : Bool) → is_eq (rank_order z r) ≡ b → is_before z r ≡ false
@@ -127,7 +136,11 @@ pub same_rank : (a b : Rank) → rank_order a b ≡ Equal → a ≡ b
 same_rank a b h =
     let g = then_ties _ _ h in
     let t = then_ties _ _ g.1 in
-    λ j. record { group = nat_tie a.group b.group g.0 j; tag = nat_tie a.tag b.tag t.0 j; place = nat_tie a.place b.place t.1 j }
+    λ j. record {
+      group = nat_tie a.group b.group g.0 j;
+      tag = nat_tie a.tag b.tag t.0 j;
+      place = nat_tie a.place b.place t.1 j;
+    }
 
 pub tie : (a b : Rank) → is_before a b ≡ false → is_before b a ≡ false → a ≡ b
 tie a b g h = by_case (rank_order a b) refl
@@ -143,8 +156,10 @@ in_order_unique [] (s ∷ ss) g h same = absurd (omega (arith, same s, sum_by-co
 in_order_unique (r ∷ rs) [] g h same = absurd (omega (arith, same r, sum_by-cons (one r) r rs, one_self r))
 in_order_unique (r ∷ rs) (s ∷ ss) g h same =
     let first : r ≡ s = tie r s
-    (not_before_first r s ss h.0 (omega (arith, same r, sum_by-cons (one r) r rs, sum_by-cons (one r) s ss, one_self r)))
-    (not_before_first s r rs g.0 (omega (arith, same s, sum_by-cons (one s) r rs, sum_by-cons (one s) s ss, one_self s))) in
+    (not_before_first r s ss h.0
+    (omega (arith, same r, sum_by-cons (one r) r rs, sum_by-cons (one r) s ss, one_self r)))
+    (not_before_first s r rs g.0
+    (omega (arith, same s, sum_by-cons (one s) r rs, sum_by-cons (one s) s ss, one_self s))) in
     let rest : rs ≡ ss = in_order_unique rs ss g.1 h.1 (λ z.
     (let e : ◌≡◌ {A = ℕ} (one z r) (one z s) = ap (one z) first in
     omega (arith, same z, sum_by-cons (one z) r rs, sum_by-cons (one z) s ss))) in

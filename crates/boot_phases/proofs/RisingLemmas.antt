@@ -21,7 +21,8 @@ above p zero a b lt = tt
 above p (suc n) a b lt = by_case (p b) (above p n a (b + 1) (omega arith))
   where
     by_case : (t : Bool) → AllByRecursion (λ y. a < y) (filter p (range_with_len (b + 1) n))
-        → AllByRecursion (λ y. a < y) (cond t (b ∷ filter p (range_with_len (b + 1) n)) (filter p (range_with_len (b + 1) n)))
+        → AllByRecursion (λ y. a < y)
+        (cond t (b ∷ filter p (range_with_len (b + 1) n)) (filter p (range_with_len (b + 1) n)))
     by_case true rest = (lt, rest)
     by_case false rest = rest
 
@@ -29,7 +30,8 @@ rising_filter : (p : ℕ → Bool) (n b : ℕ) → Rising (filter p (range_with_
 rising_filter p zero b = tt
 rising_filter p (suc n) b = by_case (p b) (above p n b (b + 1) (omega arith)) (rising_filter p n (b + 1))
   where
-    by_case : (t : Bool) → AllByRecursion (λ y. b < y) (filter p (range_with_len (b + 1) n)) → Rising (filter p (range_with_len (b + 1) n))
+    by_case : (t : Bool) → AllByRecursion (λ y. b < y) (filter p (range_with_len (b + 1) n))
+        → Rising (filter p (range_with_len (b + 1) n))
         → Rising (cond t (b ∷ filter p (range_with_len (b + 1) n)) (filter p (range_with_len (b + 1) n)))
     by_case true all rest = (all, rest)
     by_case false all rest = rest
@@ -48,11 +50,13 @@ get_rises (z ∷ zs) zero (suc j) x y h lt at_i at_j = let e : z ≡ x = cc in o
 get_rises (z ∷ zs) (suc i) zero x y h lt at_i at_j = absurd (omega arith)
 get_rises (z ∷ zs) (suc i) (suc j) x y h lt at_i at_j = get_rises zs i j x y h.1 (omega arith) at_i at_j
 
-chosen_above : (xs js : List ℕ) (i x : ℕ) → Rising xs → AllByRecursion (λ j. i < j) js → slice_get xs i ≡ Some x → AllByRecursion (λ y. x < y) (filter_map (slice_get xs) js)
+chosen_above : (xs js : List ℕ) (i x : ℕ) → Rising xs → AllByRecursion (λ j. i < j) js → slice_get xs i ≡ Some x
+    → AllByRecursion (λ y. x < y) (filter_map (slice_get xs) js)
 chosen_above xs [] i x h all is = tt
 chosen_above xs (j ∷ js) i x h all is = by_case (slice_get xs j) refl (chosen_above xs js i x h all.1 is)
   where
-    by_case : (o : Option ℕ) → slice_get xs j ≡ o → AllByRecursion (λ y. x < y) (filter_map (slice_get xs) js) → AllByRecursion (λ y. x < y) (cons_option o (filter_map (slice_get xs) js))
+    by_case : (o : Option ℕ) → slice_get xs j ≡ o → AllByRecursion (λ y. x < y) (filter_map (slice_get xs) js)
+        → AllByRecursion (λ y. x < y) (cons_option o (filter_map (slice_get xs) js))
     by_case None e rest = rest
     by_case (Some y) e rest = (get_rises xs i j x y h all.0 is e, rest)
 
@@ -60,7 +64,8 @@ chosen_rises : (xs js : List ℕ) → Rising xs → Rising js → Rising (filter
 chosen_rises xs [] h g = tt
 chosen_rises xs (j ∷ js) h g = by_case (slice_get xs j) refl (chosen_rises xs js h g.1)
   where
-    by_case : (o : Option ℕ) → slice_get xs j ≡ o → Rising (filter_map (slice_get xs) js) → Rising (cons_option o (filter_map (slice_get xs) js))
+    by_case : (o : Option ℕ) → slice_get xs j ≡ o → Rising (filter_map (slice_get xs) js)
+        → Rising (cons_option o (filter_map (slice_get xs) js))
     by_case None e rest = rest
     by_case (Some y) e rest = (chosen_above xs js j y h g.0 e, rest)
 
@@ -78,26 +83,40 @@ taken_rises entries Automatic tried =
     chosen_rises places _ (places_rise (is_open tried) entries) (rising_filter (is_taken table) (length table) 0)
 taken_rises entries Done tried = tt
 
-ranks_above : (entries : List Entry) (orders : List GroupOrder) (counts : Bool) (ps : List ℕ) (p : ℕ) → AllByRecursion (λ q. p < q) ps
-    → AllByRecursion (λ (r : Rank). p < r.place) (filter_map (λ q. option_map (rank_of orders counts q) (slice_get entries q)) ps)
+ranks_above : (entries : List Entry) (orders : List GroupOrder) (counts : Bool) (ps : List ℕ) (p : ℕ)
+    → AllByRecursion (λ q. p < q) ps
+    → AllByRecursion (λ (r : Rank). p < r.place)
+    (filter_map (λ q. option_map (rank_of orders counts q) (slice_get entries q)) ps)
 ranks_above entries orders counts [] p all = tt
-ranks_above entries orders counts (q ∷ qs) p all = by_case (slice_get entries q) (ranks_above entries orders counts qs p all.1)
+ranks_above entries orders counts (q ∷ qs) p all =
+    by_case (slice_get entries q) (ranks_above entries orders counts qs p all.1)
   where
-    by_case : (o : Option Entry) → AllByRecursion (λ (r : Rank). p < r.place) (filter_map (λ q. option_map (rank_of orders counts q) (slice_get entries q)) qs)
-        → AllByRecursion (λ (r : Rank). p < r.place) (cons_option (option_map (rank_of orders counts q) o) (filter_map (λ q. option_map (rank_of orders counts q) (slice_get entries q)) qs))
+    by_case : (o : Option Entry)
+        → AllByRecursion (λ (r : Rank). p < r.place)
+        (filter_map (λ q. option_map (rank_of orders counts q) (slice_get entries q)) qs)
+        → AllByRecursion (λ (r : Rank). p < r.place)
+        (cons_option (option_map (rank_of orders counts q) o)
+        (filter_map (λ q. option_map (rank_of orders counts q) (slice_get entries q)) qs))
     by_case None rest = rest
     by_case (Some e) rest = (all.0, rest)
 
-ranks_rise_by : (entries : List Entry) (orders : List GroupOrder) (counts : Bool) (ps : List ℕ) → Rising ps → Rises (filter_map (λ q. option_map (rank_of orders counts q) (slice_get entries q)) ps)
+ranks_rise_by : (entries : List Entry) (orders : List GroupOrder) (counts : Bool) (ps : List ℕ) → Rising ps
+    → Rises (filter_map (λ q. option_map (rank_of orders counts q) (slice_get entries q)) ps)
 ranks_rise_by entries orders counts [] h = tt
-ranks_rise_by entries orders counts (q ∷ qs) h = by_case (slice_get entries q) (ranks_above entries orders counts qs q h.0) (ranks_rise_by entries orders counts qs h.1)
+ranks_rise_by entries orders counts (q ∷ qs) h =
+    by_case (slice_get entries q) (ranks_above entries orders counts qs q h.0)
+    (ranks_rise_by entries orders counts qs h.1)
   where
-    by_case : (o : Option Entry) → AllByRecursion (λ (r : Rank). q < r.place) (filter_map (λ q. option_map (rank_of orders counts q) (slice_get entries q)) qs)
+    by_case : (o : Option Entry)
+        → AllByRecursion (λ (r : Rank). q < r.place)
+        (filter_map (λ q. option_map (rank_of orders counts q) (slice_get entries q)) qs)
         → Rises (filter_map (λ q. option_map (rank_of orders counts q) (slice_get entries q)) qs)
-        → Rises (cons_option (option_map (rank_of orders counts q) o) (filter_map (λ q. option_map (rank_of orders counts q) (slice_get entries q)) qs))
+        → Rises (cons_option (option_map (rank_of orders counts q) o)
+        (filter_map (λ q. option_map (rank_of orders counts q) (slice_get entries q)) qs))
     by_case None all rest = rest
     by_case (Some e) all rest = (all, rest)
 
 pub ranks_rise : (set : Tree) (phase : Phase) (tried : List (List ℕ)) → Rises (ranks_of set phase tried)
 ranks_rise set phase tried =
-    ranks_rise_by (entries_of set) (orders_of set) (tags_count_in phase) (taken_of (entries_of set) phase tried) (taken_rises (entries_of set) phase tried)
+    ranks_rise_by (entries_of set) (orders_of set) (tags_count_in phase) (taken_of (entries_of set) phase tried)
+    (taken_rises (entries_of set) phase tried)

@@ -11,19 +11,23 @@ use Rattle.boot_phases.specs.Apart.{StandApart}
 
 -- the entries that none of these ranks is of still stand in their slots
 abbrev pub AreLeft : List Entry → List Rank → List (Option Entry) → Type 0
-AreLeft es gone slots = (q : ℕ) → list_any (λ (r : Rank). nat_eq r.place q) gone ≡ false → get_or slots q None ≡ slice_get es q
+AreLeft es gone slots = (q : ℕ) → list_any (λ (r : Rank). nat_eq r.place q) gone ≡ false
+    → get_or slots q None ≡ slice_get es q
 
 all_there : (es : List Entry) (q : ℕ) → get_or (map (λ (e : Entry). Some e) es) q None ≡ slice_get es q
 all_there [] q = refl
 all_there (e ∷ es) zero = refl
 all_there (e ∷ es) (suc q) = all_there es q
 
-pub left_start : (es : List Entry) (slots : List (Option Entry)) → slots ≡ map (λ (e : Entry). Some e) es → AreLeft es [] slots
+pub left_start : (es : List Entry) (slots : List (Option Entry)) → slots ≡ map (λ (e : Entry). Some e) es
+    → AreLeft es [] slots
 left_start es slots is q none = ap (λ (s : List (Option Entry)). get_or s q None) is ∙ all_there es q
 
-none_passes : (p : Rank → Bool) (rs : List Rank) → ((k : ℕ) (d : Rank) → k < length rs → p (get_or rs k d) ≡ false) → list_any p rs ≡ false
+none_passes : (p : Rank → Bool) (rs : List Rank) → ((k : ℕ) (d : Rank) → k < length rs → p (get_or rs k d) ≡ false)
+    → list_any p rs ≡ false
 none_passes p [] h = refl
-none_passes p (r ∷ rs) h = or_none (p r) (list_any p rs) (h 0 r (omega arith)) (none_passes p rs (λ k d lt. h (suc k) d (omega arith)))
+none_passes p (r ∷ rs) h =
+    or_none (p r) (list_any p rs) (h 0 r (omega arith)) (none_passes p rs (λ k d lt. h (suc k) d (omega arith)))
   where
     or_none : (a b : Bool) → a ≡ false → b ≡ false → (a || b) ≡ false
     or_none true b f g = absurd (false≢true (sym f))
@@ -50,11 +54,14 @@ or_off true b h = absurd (false≢true (sym h))
 or_off false b h = (refl, h)
 
 pub left_next : (es : List Entry) (ranks : List Rank) (i : ℕ) (r : Rank) (slots : List (Option Entry))
-    → i < length ranks → r ≡ get_or ranks i r → AreLeft es (take i ranks) slots → AreLeft es (take (i + 1) ranks) (set slots r.place None)
+    → i < length ranks → r ≡ get_or ranks i r → AreLeft es (take i ranks) slots
+    → AreLeft es (take (i + 1) ranks) (set slots r.place None)
 left_next es ranks i r slots lt at left q off =
     let p : Rank → Bool = λ s. nat_eq s.place q in
-    let grown : take (i + 1) ranks ≡ take i ranks ++ r ∷ [] = take_more ranks i r lt ∙ ap (λ (s : Rank). take i ranks ++ s ∷ []) (sym at) in
+    let grown : take (i + 1) ranks ≡ take i ranks ++ r ∷ [] =
+    take_more ranks i r lt ∙ ap (λ (s : Rank). take i ranks ++ s ∷ []) (sym at) in
     let parts = or_off (list_any p (take i ranks)) (list_any p (r ∷ []))
     (sym (list_any-append p (take i ranks) (r ∷ [])) ∙ ap (list_any p) (sym grown) ∙ off) in
     let here = or_off (nat_eq r.place q) false parts.1 in
-    get_or-set_other slots r.place q None None (λ e. false≢true (sym here.0 ∙ eq-eqb r.place q (sym e))) ∙ left q parts.0
+    get_or-set_other slots r.place q None None (λ e. false≢true (sym here.0 ∙ eq-eqb r.place q (sym e)))
+    ∙ left q parts.0

@@ -17,7 +17,8 @@ within : {X : Type 0} (p : X → Bool) (xs : List X) → ltb (position_or_len p 
 within p [] = refl
 within p (x ∷ xs) = by_case (p x) (within p xs)
   where
-    by_case : (b : Bool) → ltb (position_or_len p xs) (length xs) ≡ list_any p xs → ltb (cond (not b) (1 + position_or_len p xs) 0) (suc (length xs)) ≡ (b || list_any p xs)
+    by_case : (b : Bool) → ltb (position_or_len p xs) (length xs) ≡ list_any p xs
+        → ltb (cond (not b) (1 + position_or_len p xs) 0) (suc (length xs)) ≡ (b || list_any p xs)
     by_case true rest = lt-ltb 0 (suc (length xs)) (omega arith)
     by_case false rest = shorter (position_or_len p xs) (length xs) ∙ rest
 
@@ -26,4 +27,5 @@ some_where true n = refl
 some_where false n = refl
 
 pub is_tried : (tried : List (List ℕ)) (e : Entry) → is_some (position (folds_same e.name) tried) ≡ was_tried tried e
-is_tried tried e = some_where _ (position_or_len (folds_same e.name) tried) ∙ within (folds_same e.name) tried ∙ (λ j. list_any (λ name. folds_swap e.name name j) tried)
+is_tried tried e = some_where _ (position_or_len (folds_same e.name) tried) ∙ within (folds_same e.name) tried
+    ∙ (λ j. list_any (λ name. folds_swap e.name name j) tried)

@@ -18,13 +18,16 @@ use Rattle.boot_phases.specs.Untried.{AreLedTo, indices_of}
 
 -- ---- the numbers below n that pass
 
-more : (p : ℕ → Bool) (n : ℕ) → filter p (range_with_len 0 (suc n)) ≡ filter p (range_with_len 0 n) ++ cond (p n) (n ∷ []) []
+more : (p : ℕ → Bool) (n : ℕ)
+    → filter p (range_with_len 0 (suc n)) ≡ filter p (range_with_len 0 n) ++ cond (p n) (n ∷ []) []
 more p n = ap (λ m. filter p (range_with_len 0 m)) (sym (add-one n)) ∙ filter-range_more p n
 
-agree_below : (p q : ℕ → Bool) (n : ℕ) → ((k : ℕ) → k < n → p k ≡ q k) → filter p (range_with_len 0 n) ≡ filter q (range_with_len 0 n)
+agree_below : (p q : ℕ → Bool) (n : ℕ) → ((k : ℕ) → k < n → p k ≡ q k)
+    → filter p (range_with_len 0 n) ≡ filter q (range_with_len 0 n)
 agree_below p q zero same = refl
 agree_below p q (suc n) same =
-    more p n ∙ (λ j. agree_below p q n (λ k lt. same k (omega arith)) j ++ cond (same n (omega arith) j) (n ∷ []) []) ∙ sym (more q n)
+    more p n ∙ (λ j. agree_below p q n (λ k lt. same k (omega arith)) j ++ cond (same n (omega arith) j) (n ∷ []) [])
+    ∙ sym (more q n)
 
 pub none_below : (p : ℕ → Bool) (n : ℕ) → ((k : ℕ) → k < n → p k ≡ false) → filter p (range_with_len 0 n) ≡ []
 none_below p zero off = refl
@@ -36,7 +39,8 @@ not_true : (b : Bool) → b ≢ true → b ≡ false
 not_true true ne = absurd (ne refl)
 not_true false ne = refl
 
-one_below : (p : ℕ → Bool) (n k : ℕ) → k < n → p k ≡ true → ((j : ℕ) → j < n → p j ≡ true → j ≡ k) → filter p (range_with_len 0 n) ≡ k ∷ []
+one_below : (p : ℕ → Bool) (n k : ℕ) → k < n → p k ≡ true → ((j : ℕ) → j < n → p j ≡ true → j ≡ k)
+    → filter p (range_with_len 0 n) ≡ k ∷ []
 one_below p zero k lt here only = absurd (omega arith)
 one_below p (suc n) k lt here only =
     elim (cases_eq k n) [
@@ -60,7 +64,8 @@ stands (e ∷ es) zero lt = (e, refl)
 stands (e ∷ es) (suc p) lt = stands es p (omega arith)
 
 -- the first need is that of the entry at the first place
-first_need : (es : List Entry) (p : ℕ) (ps : List ℕ) (e : Entry) → slice_get es p ≡ Some e → needs_at es (p ∷ ps) ≡ need_of e ∷ needs_at es ps
+first_need : (es : List Entry) (p : ℕ) (ps : List ℕ) (e : Entry) → slice_get es p ≡ Some e
+    → needs_at es (p ∷ ps) ≡ need_of e ∷ needs_at es ps
 first_need es p ps e is = ap (λ (o : Option Entry). cons_option (option_map need_of o) (needs_at es ps)) is
 
 length_by : (es : List Entry) (ps : List ℕ) → Within es ps → length (needs_at es ps) ≡ length ps
@@ -69,7 +74,8 @@ length_by es (p ∷ ps) h =
     let s = stands es p h.0 in
     ap length (first_need es p ps s.0 s.1) ∙ ap suc (length_by es ps h.1)
 
-pub length-needs_at : (es : List Entry) (ps : List ℕ) → All (λ p. p < length es) ps → length (needs_at es ps) ≡ length ps
+pub length-needs_at : (es : List Entry) (ps : List ℕ) → All (λ p. p < length es) ps
+    → length (needs_at es ps) ≡ length ps
 length-needs_at es ps h = length_by es ps (recursion_from_All (λ p. p < length es) ps h)
 
 need_by : (es : List Entry) (ps : List ℕ) (k : ℕ) → Within es ps
@@ -102,8 +108,10 @@ named_by name es (p ∷ ps) (suc k) h lt =
     ∙ named_by name es ps k h.1 (omega arith)
 
 -- the indices of a name are those at which its place stands
-pub found_places : (name : List ℕ) (es : List Entry) (ps : List ℕ) (found : Option ℕ) → All (λ p. p < length es) ps → IsOnlyPlace name es found
-    → filter (λ k. option_map_or (nat_eq (get_or ps k 0)) found false) (range_with_len 0 (length ps)) ≡ places_named name (names_of (needs_at es ps))
+pub found_places : (name : List ℕ) (es : List Entry) (ps : List ℕ) (found : Option ℕ) → All (λ p. p < length es) ps
+    → IsOnlyPlace name es found
+    → filter (λ k. option_map_or (nat_eq (get_or ps k 0)) found false) (range_with_len 0 (length ps))
+    ≡ places_named name (names_of (needs_at es ps))
 found_places name es ps found within only =
     let in_es = recursion_from_All (λ p. p < length es) ps within in
     let names = names_of (needs_at es ps) in
@@ -115,16 +123,19 @@ found_places name es ps found within only =
 -- ---- the index of a place
 
 -- an index at which a place stands is the one that the place leads to
-leads_to : (es : List Entry) (ps bs : List ℕ) (q k : ℕ) → AreLedTo es ps bs → k < length ps → nat_eq (get_or ps k 0) q ≡ true
+leads_to : (es : List Entry) (ps bs : List ℕ) (q k : ℕ) → AreLedTo es ps bs → k < length ps
+    → nat_eq (get_or ps k 0) q ≡ true
     → k ≡ get_or bs q 0
 leads_to es ps bs q k is lt same = sym (is.leads k lt) ∙ ap (λ p. get_or bs p 0) (eqb-true (get_or ps k 0) q same)
 
-at_index : (ps : List ℕ) (k q : ℕ) → option_map_or (nat_eq q) (slice_get ps k) false ≡ true → (k < length ps) × (nat_eq (get_or ps k 0) q ≡ true)
+at_index : (ps : List ℕ) (k q : ℕ) → option_map_or (nat_eq q) (slice_get ps k) false ≡ true
+    → (k < length ps) × (nat_eq (get_or ps k 0) q ≡ true)
 at_index [] k q h = absurd (false≢true h)
 at_index (p ∷ ps) zero q h = (omega arith, eq-eqb p q (sym (eqb-true q p h)))
 at_index (p ∷ ps) (suc k) q h = let deep = at_index ps k q h in (omega (arith, deep.0), deep.1)
 
-index_at : (ps : List ℕ) (k q : ℕ) → k < length ps → nat_eq (get_or ps k 0) q ≡ true → option_map_or (nat_eq q) (slice_get ps k) false ≡ true
+index_at : (ps : List ℕ) (k q : ℕ) → k < length ps → nat_eq (get_or ps k 0) q ≡ true
+    → option_map_or (nat_eq q) (slice_get ps k) false ≡ true
 index_at [] k q lt h = absurd (omega arith)
 index_at (p ∷ ps) zero q lt h = eq-eqb q p (sym (eqb-true p q h))
 index_at (p ∷ ps) (suc k) q lt h = index_at ps k q (omega arith) h
@@ -139,15 +150,18 @@ index_is es ps bs q i is led = by_case (option_map_or (nat_eq q) (slice_get ps i
     by_case : (b : Bool) → option_map_or (nat_eq q) (slice_get ps i) false ≡ b → cond b (i ∷ []) [] ≡ indices_of ps q
     by_case true e =
         let there = at_index ps i q e in
-        sym (one_below (λ k. nat_eq (get_or ps k 0) q) (length ps) i there.0 there.1 (λ j lt t. leads_to es ps bs q j is lt t ∙ here))
+        sym (one_below (λ k. nat_eq (get_or ps k 0) q) (length ps) i there.0 there.1
+        (λ j lt t. leads_to es ps bs q j is lt t ∙ here))
     by_case false e =
         sym (none_below (λ k. nat_eq (get_or ps k 0) q) (length ps)
         (λ j lt. not_true (nat_eq (get_or ps j 0) q)
         (λ t. (let same : j ≡ i = leads_to es ps bs q j is lt t ∙ here in
-        false≢true (sym e ∙ ap (λ k. option_map_or (nat_eq q) (slice_get ps k) false) (sym same) ∙ index_at ps j q lt t)))))
+        false≢true (sym e ∙ ap (λ k. option_map_or (nat_eq q) (slice_get ps k) false) (sym same)
+        ∙ index_at ps j q lt t)))))
 
 -- a place past the end of the table is that of no index
-pub no_index : (es : List Entry) (ps bs : List ℕ) (q : ℕ) → AreLedTo es ps bs → slice_get bs q ≡ None → [] ≡ indices_of ps q
+pub no_index : (es : List Entry) (ps bs : List ℕ) (q : ℕ) → AreLedTo es ps bs → slice_get bs q ≡ None
+    → [] ≡ indices_of ps q
 no_index es ps bs q is none =
     sym (none_below (λ k. nat_eq (get_or ps k 0) q) (length ps)
     (λ j lt. not_true (nat_eq (get_or ps j 0) q)
@@ -176,7 +190,8 @@ seen_start = record {
 }
 
 -- what stands in front stays
-still : (n : ℕ) (ps bs : List ℕ) (b : ℕ) → IsSeen n ps bs → (k : ℕ) → k < length ps → get_or (bs ++ b ∷ []) (get_or ps k 0) 0 ≡ k
+still : (n : ℕ) (ps bs : List ℕ) (b : ℕ) → IsSeen n ps bs → (k : ℕ) → k < length ps
+    → get_or (bs ++ b ∷ []) (get_or ps k 0) 0 ≡ k
 still n ps bs b is k lt =
     get_or_append_left bs (b ∷ []) 0 (get_or ps k 0) (omega (arith, is.within k 0 lt, is.len)) ∙ is.leads k lt
 
@@ -191,18 +206,22 @@ seen_skip n ps bs b is = record {
 pub seen_push : (n : ℕ) (ps bs : List ℕ) → IsSeen n ps bs → IsSeen (n + 1) (ps ++ n ∷ []) (bs ++ length ps ∷ [])
 seen_push n ps bs is = record {
   few = omega (arith, is.few, length_push ps n);
-  within = All-push (λ p. p < n + 1) ps n (All-weaker (λ p. p < n) (λ p. p < n + 1) (λ x h. omega arith) ps is.within) (omega arith);
+  within = All-push (λ p. p < n + 1) ps n (All-weaker (λ p. p < n) (λ p. p < n + 1) (λ x h. omega arith) ps is.within)
+      (omega arith);
   len = length_push bs (length ps) ∙ ap (λ n. n + 1) is.len;
   leads = λ k lt. elim (cases_lt k (length ps)) [
     | inl before ↦
-        ap (λ p. get_or (bs ++ length ps ∷ []) p 0) (get_or_append_left ps (n ∷ []) 0 k before) ∙ still n ps bs (length ps) is k before
+        ap (λ p. get_or (bs ++ length ps ∷ []) p 0) (get_or_append_left ps (n ∷ []) 0 k before)
+        ∙ still n ps bs (length ps) is k before
     | inr past ↦
         (let last : length ps ≡ k = omega (arith, lt, length_push ps n) in
-        ap (λ p. get_or (bs ++ length ps ∷ []) p 0) (get_or_push ps n 0 k last) ∙ get_or_push bs (length ps) 0 n is.len ∙ last)
+        ap (λ p. get_or (bs ++ length ps ∷ []) p 0) (get_or_push ps n 0 k last) ∙ get_or_push bs (length ps) 0 n is.len
+        ∙ last)
   ];
 }
 
-pub seen_end : (es : List Entry) (n : ℕ) (ps bs : List ℕ) → n ≡ length es → n < 2 ^ 32 → IsSeen n ps bs → AreLedTo es ps bs
+pub seen_end : (es : List Entry) (n : ℕ) (ps bs : List ℕ) → n ≡ length es → n < 2 ^ 32 → IsSeen n ps bs
+    → AreLedTo es ps bs
 seen_end es n ps bs all room is = record {
   few = omega (arith, is.few);
   within = All-weaker (λ p. p < n) (λ p. p < length es) (λ x h. omega arith) ps is.within;

@@ -10,39 +10,51 @@ use Rattle.dependencies.specs.Firsts.{AreNodesBut, IsTreeOf, leaf_of}
 
 -- ---- the first element that passes
 
-some_at : {X : Type 0} (p : X → Bool) (i at : ℕ) (xs : List X) (d : X) → at < length xs → ((k : ℕ) → k < at → p (get_or xs k d) ≡ false) → p (get_or xs at d) ≡ true
+some_at : {X : Type 0} (p : X → Bool) (i at : ℕ) (xs : List X) (d : X) → at < length xs
+    → ((k : ℕ) → k < at → p (get_or xs k d) ≡ false) → p (get_or xs at d) ≡ true
     → position_from p i xs ≡ Some (i + at)
 some_at p i at [] d lt before here = absurd (omega (arith, lt))
-some_at p i zero (x ∷ xs) d lt before here = ap (λ b. cond b (Some i) (position_from p (i + 1) xs)) here ∙ ap Some (let e : i ≡ i + 0 = omega arith in e)
+some_at p i zero (x ∷ xs) d lt before here =
+    ap (λ b. cond b (Some i) (position_from p (i + 1) xs)) here ∙ ap Some (let e : i ≡ i + 0 = omega arith in e)
 some_at p i (suc at) (x ∷ xs) d lt before here =
     ap (λ b. cond b (Some i) (position_from p (i + 1) xs)) (before 0 (omega arith))
     ∙ some_at p (i + 1) at xs d (omega (arith, lt)) (λ k l. before (suc k) (omega (arith, l))) here
     ∙ ap Some (let e : i + 1 + at ≡ i + suc at = omega arith in e)
 
-none_at : {X : Type 0} (p : X → Bool) (i : ℕ) (xs : List X) (d : X) → ((k : ℕ) → k < length xs → p (get_or xs k d) ≡ false) → position_from p i xs ≡ None
+none_at : {X : Type 0} (p : X → Bool) (i : ℕ) (xs : List X) (d : X)
+    → ((k : ℕ) → k < length xs → p (get_or xs k d) ≡ false) → position_from p i xs ≡ None
 none_at p i [] d h = refl
-none_at p i (x ∷ xs) d h = ap (λ b. cond b (Some i) (position_from p (i + 1) xs)) (h 0 (omega arith)) ∙ none_at p (i + 1) xs d (λ k l. h (suc k) (omega (arith, l)))
+none_at p i (x ∷ xs) d h =
+    ap (λ b. cond b (Some i) (position_from p (i + 1) xs)) (h 0 (omega arith))
+    ∙ none_at p (i + 1) xs d (λ k l. h (suc k) (omega (arith, l)))
 
-pub first_is : {X : Type 0} (p : X → Bool) (at : ℕ) (xs : List X) (d : X) → at < length xs → ((k : ℕ) → k < at → p (get_or xs k d) ≡ false) → p (get_or xs at d) ≡ true → position p xs ≡ Some at
-first_is p at xs d lt before here = position_from-zero p xs ∙ some_at p 0 at xs d lt before here ∙ ap Some (let e : 0 + at ≡ at = omega arith in e)
+pub first_is : {X : Type 0} (p : X → Bool) (at : ℕ) (xs : List X) (d : X) → at < length xs
+    → ((k : ℕ) → k < at → p (get_or xs k d) ≡ false) → p (get_or xs at d) ≡ true → position p xs ≡ Some at
+first_is p at xs d lt before here =
+    position_from-zero p xs ∙ some_at p 0 at xs d lt before here ∙ ap Some (let e : 0 + at ≡ at = omega arith in e)
 
-pub first_is_none : {X : Type 0} (p : X → Bool) (xs : List X) (d : X) → ((k : ℕ) → k < length xs → p (get_or xs k d) ≡ false) → position p xs ≡ None
+pub first_is_none : {X : Type 0} (p : X → Bool) (xs : List X) (d : X)
+    → ((k : ℕ) → k < length xs → p (get_or xs k d) ≡ false) → position p xs ≡ None
 first_is_none p xs d h = position_from-zero p xs ∙ none_at p 0 xs d h
 
 -- ---- the root
 
 -- the root has no more than any node
-below_all : (firsts : List ℕ) (count fuel k : ℕ) → AreNodesBut 0 firsts count → k ≤ fuel → 0 < k → k < 2 * count → get_or firsts 1 0 ≤ get_or firsts k 0
+below_all : (firsts : List ℕ) (count fuel k : ℕ) → AreNodesBut 0 firsts count → k ≤ fuel → 0 < k → k < 2 * count
+    → get_or firsts 1 0 ≤ get_or firsts k 0
 below_all firsts count zero k nodes le pos lt = absurd (omega (arith, le, pos))
 below_all firsts count (suc fuel) k nodes le pos lt = elim (cases_eq k 1) [
   | inl e ↦ (let same : get_or firsts k 0 ≡ get_or firsts 1 0 = ap (λ j. get_or firsts j 0) e in omega (arith, same))
   | inr ne ↦
       let up = k / 2 in
       let two : 2 ≤ k = omega (arith, ne, pos) in
-      let above : get_or firsts 1 0 ≤ get_or firsts up 0 = below_all firsts count fuel up nodes (omega (arith, le, two)) (omega (arith, two)) (omega (arith, lt)) in
-      let node : get_or firsts up 0 ≡ min (get_or firsts (2 * up) 0) (get_or firsts (2 * up + 1) 0) = nodes up (omega (arith, two)) (omega (arith, lt)) (omega (arith, two)) in
+      let above : get_or firsts 1 0 ≤ get_or firsts up 0 =
+      below_all firsts count fuel up nodes (omega (arith, le, two)) (omega (arith, two)) (omega (arith, lt)) in
+      let node : get_or firsts up 0 ≡ min (get_or firsts (2 * up) 0) (get_or firsts (2 * up + 1) 0) =
+      nodes up (omega (arith, two)) (omega (arith, lt)) (omega (arith, two)) in
       elim (cases_eq k (2 * up)) [
-        | inl even ↦ (let same : get_or firsts k 0 ≡ get_or firsts (2 * up) 0 = ap (λ j. get_or firsts j 0) even in omega (arith, above, node, same))
+        | inl even ↦ (let same : get_or firsts k 0 ≡ get_or firsts (2 * up) 0 = ap (λ j. get_or firsts j 0) even in
+            omega (arith, above, node, same))
         | inr odd ↦
             let one : k ≡ 2 * up + 1 = omega (arith, odd) in
             let same : get_or firsts k 0 ≡ get_or firsts (2 * up + 1) 0 = ap (λ j. get_or firsts j 0) one in
@@ -57,18 +69,22 @@ pub record HasLeaf (firsts : List ℕ) (count k : ℕ) : Type 0 where
   pub high : at < 2 * count
   pub same : get_or firsts k 0 ≡ get_or firsts at 0
 
-from_leaf : (firsts : List ℕ) (count fuel k : ℕ) → AreNodesBut 0 firsts count → 2 * count ≤ k + fuel → 0 < k → k < 2 * count → HasLeaf firsts count k
+from_leaf : (firsts : List ℕ) (count fuel k : ℕ) → AreNodesBut 0 firsts count → 2 * count ≤ k + fuel → 0 < k
+    → k < 2 * count → HasLeaf firsts count k
 from_leaf firsts count zero k nodes enough pos lt = absurd (omega (arith, enough, lt))
 from_leaf firsts count (suc fuel) k nodes enough pos lt = elim (cases_lt k count) [
   | inr leaf ↦ record { at = k; low = leaf; high = lt; same = refl }
   | inl inner ↦
-      let node : get_or firsts k 0 ≡ min (get_or firsts (2 * k) 0) (get_or firsts (2 * k + 1) 0) = nodes k pos inner (omega (arith, pos)) in
+      let node : get_or firsts k 0 ≡ min (get_or firsts (2 * k) 0) (get_or firsts (2 * k + 1) 0) =
+      nodes k pos inner (omega (arith, pos)) in
       elim (cases_lt (get_or firsts (2 * k) 0) (get_or firsts (2 * k + 1) 0)) [
         | inl left ↦
-            let down = from_leaf firsts count fuel (2 * k) nodes (omega (arith, enough, pos)) (omega (arith, pos)) (omega (arith, inner)) in
+            let down = from_leaf firsts count fuel (2 * k) nodes (omega (arith, enough, pos)) (omega (arith, pos))
+            (omega (arith, inner)) in
             record { at = down.at; low = down.low; high = down.high; same = omega (arith, node, left, down.same) }
         | inr right ↦
-            let down = from_leaf firsts count fuel (2 * k + 1) nodes (omega (arith, enough, pos)) (omega (arith, pos)) (omega (arith, inner)) in
+            let down = from_leaf firsts count fuel (2 * k + 1) nodes (omega (arith, enough, pos)) (omega (arith, pos))
+            (omega (arith, inner)) in
             record { at = down.at; low = down.low; high = down.high; same = omega (arith, node, right, down.same) }
       ]
 ]
@@ -81,34 +97,44 @@ out_of_leaf : (b : Bool) (p r : ℕ) → r ≤ leaf_of b p → p < r → b ≡ f
 out_of_leaf true p r le lt = absurd (omega (arith, le, lt))
 out_of_leaf false p r le lt = refl
 
-root_below : (s : List Bool) (firsts : List ℕ) → IsTreeOf s firsts → (p : ℕ) → p < length s → get_or firsts 1 0 ≤ leaf_of (member s p) p
+root_below : (s : List Bool) (firsts : List ℕ) → IsTreeOf s firsts → (p : ℕ) → p < length s
+    → get_or firsts 1 0 ≤ leaf_of (member s p) p
 root_below s firsts tree p lt =
     let count = length s in
-    let le = below_all firsts count (count + p) (count + p) tree.nodes (omega arith) (omega (arith, lt)) (omega (arith, lt)) in
+    let le = below_all firsts count (count + p) (count + p) tree.nodes (omega arith) (omega (arith, lt))
+    (omega (arith, lt)) in
     omega (arith, le, tree.leaves p lt)
 
-pub root_some : (s : List Bool) (firsts : List ℕ) (root : ℕ) → IsTreeOf s firsts → root ≡ get_or firsts 1 0 → root < length s → length s < 2 ^ 64 → Some root ≡ position (λ b. b) s
+pub root_some : (s : List Bool) (firsts : List ℕ) (root : ℕ) → IsTreeOf s firsts → root ≡ get_or firsts 1 0
+    → root < length s → length s < 2 ^ 64 → Some root ≡ position (λ b. b) s
 root_some s firsts root tree is lt small =
     let count = length s in
     let leaf = from_leaf firsts count (2 * count) 1 tree.nodes (omega arith) (omega arith) (omega (arith, lt)) in
     let p = leaf.at - count in
     let within : p < count = omega (arith, leaf.high, leaf.low) in
     let at : count + p ≡ leaf.at = omega (arith, leaf.low) in
-    let has : leaf_of (member s p) p ≡ root = sym (tree.leaves p within) ∙ ap (λ j. get_or firsts j 0) at ∙ sym leaf.same ∙ sym is in
+    let has : leaf_of (member s p) p ≡ root =
+    sym (tree.leaves p within) ∙ ap (λ j. get_or firsts j 0) at ∙ sym leaf.same ∙ sym is in
     let here = in_leaf (member s p) p root count has lt small in
     let there : member s root ≡ true = ap (member s) (sym here.1) ∙ here.0 in
-    sym (first_is (λ b. b) root s false lt (λ k l. out_of_leaf (member s k) k root (omega (arith, is, root_below s firsts tree k (omega (arith, l, lt)))) l) there)
+    sym (first_is (λ b. b) root s false lt
+    (λ k l. out_of_leaf (member s k) k root (omega (arith, is, root_below s firsts tree k (omega (arith, l, lt))))
+    l) there)
 
-pub root_none : (s : List Bool) (firsts : List ℕ) (root : ℕ) → IsTreeOf s firsts → root ≡ get_or firsts 1 0 → length s ≤ root → None ≡ position (λ b. b) s
+pub root_none : (s : List Bool) (firsts : List ℕ) (root : ℕ) → IsTreeOf s firsts → root ≡ get_or firsts 1 0
+    → length s ≤ root → None ≡ position (λ b. b) s
 root_none s firsts root tree is le =
-    sym (first_is_none (λ b. b) s false (λ k l. out_of_leaf (member s k) k root (omega (arith, is, root_below s firsts tree k l)) (omega (arith, l, le))))
+    sym (first_is_none (λ b. b) s false
+    (λ k l. out_of_leaf (member s k) k root (omega (arith, is, root_below s firsts tree k l))
+    (omega (arith, l, le))))
 
 -- ---- a new tree, and one after a change
 
 pub empty_tree : (count : ℕ) → IsTreeOf (replicate count false) (replicate (2 * count) (2 ^ 64 - 1))
 empty_tree count =
     let same : length (replicate count false) ≡ count = length-replicate count false in
-    let none : (k : ℕ) → k < 2 * count → get_or (replicate (2 * count) (2 ^ 64 - 1)) k 0 ≡ 2 ^ 64 - 1 = λ k lt. get_or-replicate (2 * count) k (2 ^ 64 - 1) 0 lt in
+    let none : (k : ℕ) → k < 2 * count → get_or (replicate (2 * count) (2 ^ 64 - 1)) k 0 ≡ 2 ^ 64 - 1 =
+    λ k lt. get_or-replicate (2 * count) k (2 ^ 64 - 1) 0 lt in
     record {
       len = length-replicate (2 * count) (2 ^ 64 - 1) ∙ ap (λ n. 2 * n) (sym same);
       leaves = λ p lt.
@@ -121,34 +147,42 @@ empty_tree count =
     }
 
 -- a leaf that changes leaves all nodes right but the one above it
-pub leaf_changes : (firsts : List ℕ) (count place v : ℕ) → length firsts ≡ 2 * count → place < count → AreNodesBut 0 firsts count → AreNodesBut ((count + place) / 2) (set firsts (count + place) v) count
+pub leaf_changes : (firsts : List ℕ) (count place v : ℕ) → length firsts ≡ 2 * count → place < count
+    → AreNodesBut 0 firsts count → AreNodesBut ((count + place) / 2) (set firsts (count + place) v) count
 leaf_changes firsts count place v len lt nodes k pos below ne =
     let leaf = count + place in
-    let kept : (j : ℕ) → j ≢ leaf → get_or (set firsts leaf v) j 0 ≡ get_or firsts j 0 = λ j other. get_or-set_other firsts leaf j v 0 other in
+    let kept : (j : ℕ) → j ≢ leaf → get_or (set firsts leaf v) j 0 ≡ get_or firsts j 0 =
+    λ j other. get_or-set_other firsts leaf j v 0 other in
     let here = kept k (omega (arith, below)) in
     let a = kept (2 * k) (omega (arith, ne)) in
     let b = kept (2 * k + 1) (omega (arith, ne)) in
     omega (arith, here, a, b, nodes k pos below (omega (arith, pos)))
 
 -- a node that is put right leaves all right but the one above it
-pub node_settles : (firsts : List ℕ) (count at v : ℕ) → length firsts ≡ 2 * count → 0 < at → at < count → AreNodesBut at firsts count
+pub node_settles : (firsts : List ℕ) (count at v : ℕ) → length firsts ≡ 2 * count → 0 < at → at < count
+    → AreNodesBut at firsts count
     → v ≡ min (get_or firsts (2 * at) 0) (get_or firsts (2 * at + 1) 0) → AreNodesBut (at / 2) (set firsts at v) count
 node_settles firsts count at v len pos lt nodes is k kpos below ne =
-    let kept : (j : ℕ) → j ≢ at → get_or (set firsts at v) j 0 ≡ get_or firsts j 0 = λ j other. get_or-set_other firsts at j v 0 other in
+    let kept : (j : ℕ) → j ≢ at → get_or (set firsts at v) j 0 ≡ get_or firsts j 0 =
+    λ j other. get_or-set_other firsts at j v 0 other in
     let a = kept (2 * k) (omega (arith, ne)) in
     let b = kept (2 * k + 1) (omega (arith, ne)) in
     elim (cases_eq k at) [
       | inl e ↦
-          let same : get_or (set firsts at v) k 0 ≡ v = ap (λ j. get_or (set firsts at v) j 0) e ∙ get_or-set_same firsts at v 0 (omega (arith, len, lt)) in
+          let same : get_or (set firsts at v) k 0 ≡ v =
+          ap (λ j. get_or (set firsts at v) j 0) e ∙ get_or-set_same firsts at v 0 (omega (arith, len, lt)) in
           let left : get_or firsts (2 * k) 0 ≡ get_or firsts (2 * at) 0 = ap (λ j. get_or firsts (2 * j) 0) e in
-          let right : get_or firsts (2 * k + 1) 0 ≡ get_or firsts (2 * at + 1) 0 = ap (λ j. get_or firsts (2 * j + 1) 0) e in
+          let right : get_or firsts (2 * k + 1) 0 ≡ get_or firsts (2 * at + 1) 0 =
+          ap (λ j. get_or firsts (2 * j + 1) 0) e in
           omega (arith, same, left, right, a, b, is)
       | inr other ↦ omega (arith, kept k other, a, b, nodes k kpos below other)
     ]
 
 -- the tree after a place was put in or taken out
-pub settled_tree : (s : List Bool) (firsts after : List ℕ) (place : ℕ) (is_in : Bool) → IsTreeOf s firsts → place < length s → length after ≡ length firsts
-    → AreNodesBut 0 after (length s) → ((k : ℕ) → length s ≤ k → get_or after k 0 ≡ get_or (set firsts (length s + place) (leaf_of is_in place)) k 0)
+pub settled_tree : (s : List Bool) (firsts after : List ℕ) (place : ℕ) (is_in : Bool) → IsTreeOf s firsts
+    → place < length s → length after ≡ length firsts
+    → AreNodesBut 0 after (length s)
+    → ((k : ℕ) → length s ≤ k → get_or after k 0 ≡ get_or (set firsts (length s + place) (leaf_of is_in place)) k 0)
     → IsTreeOf (set s place is_in) after
 settled_tree s firsts after place is_in tree lt len nodes leaves =
     let count = length s in
@@ -159,13 +193,16 @@ settled_tree s firsts after place is_in tree lt len nodes leaves =
       nodes = rw same nodes;
     }
   where
-    leaf : (p : ℕ) → p < length s → get_or (set firsts (length s + place) (leaf_of is_in place)) (length s + p) 0 ≡ leaf_of (member (set s place is_in) p) p
+    leaf : (p : ℕ) → p < length s
+        → get_or (set firsts (length s + place) (leaf_of is_in place)) (length s + p) 0
+        ≡ leaf_of (member (set s place is_in) p) p
     leaf p below = elim (cases_eq p place) [
       | inl e ↦
           let at : length s + p ≡ length s + place = omega (arith, e) in
           ap (λ j. get_or (set firsts (length s + place) (leaf_of is_in place)) j 0) at
           ∙ get_or-set_same firsts (length s + place) (leaf_of is_in place) 0 (omega (arith, tree.len, lt))
-          ∙ sym (ap (λ j. leaf_of (member (set s place is_in) j) j) e ∙ ap (λ b. leaf_of b place) (get_or-set_same s place is_in false lt))
+          ∙ sym (ap (λ j. leaf_of (member (set s place is_in) j) j) e
+          ∙ ap (λ b. leaf_of b place) (get_or-set_same s place is_in false lt))
       | inr ne ↦
           get_or-set_other firsts (length s + place) (length s + p) (leaf_of is_in place) 0 (omega (arith, ne))
           ∙ tree.leaves p below

@@ -47,14 +47,23 @@ or_by false false h = refl
 abbrev pub with_met : WantsState → List Bool → WantsState
 with_met w met = record w { met = met }
 
-pub one_fewer : (met : List Bool) (k : ℕ) → k < length met → member met k ≡ false → count_by not (set met k true) + 1 ≡ count_by not met
+pub one_fewer : (met : List Bool) (k : ℕ) → k < length met → member met k ≡ false
+    → count_by not (set met k true) + 1 ≡ count_by not met
 one_fewer met k lt un =
-    let s : ◌≡◌ {A = ℕ} (count_by not (set met k true) + cond (not (member met k)) 1 0) (count_by not met + 0) = sum_by-set (λ x. cond (not x) 1 0) met k true false lt in
+    let s : ◌≡◌ {A = ℕ} (count_by not (set met k true) + cond (not (member met k)) 1 0) (count_by not met + 0) =
+    sum_by-set (λ x. cond (not x) 1 0) met k true false lt in
     let one : ◌≡◌ {A = ℕ} (cond (not (member met k)) 1 0) 1 = ap (λ b. cond (not b) 1 0) un in
     omega (arith, s, one)
 
-pub nearer_by_one : (w : WantsState) (k : ℕ) → k < length w.met → member w.met k ≡ false → IsNearer w (with_met w (set w.met k true))
-nearer_by_one w k lt un = record { count = refl; owners = refl; len = length-set w.met k true; fewer = omega (arith, one_fewer w.met k lt un) }
+pub nearer_by_one : (w : WantsState) (k : ℕ) → k < length w.met → member w.met k ≡ false
+    → IsNearer w (with_met w (set w.met k true))
+nearer_by_one w k lt un =
+    record {
+      count = refl;
+      owners = refl;
+      len = length-set w.met k true;
+      fewer = omega (arith, one_fewer w.met k lt un);
+    }
 
 pub no_nearer : (w : WantsState) → IsNearer w w
 no_nearer w = record { count = refl; owners = refl; len = refl; fewer = omega arith }
@@ -68,11 +77,14 @@ nearer_again a b c one two = record {
 }
 
 pub same_again : (w : WantsState) (k : ℕ) → member w.met k ≡ true → w ≡ with_met w (set w.met k true)
-same_again w k h = let e = sym (marked_again w.met k h) in (λ i. record { count = w.count; owners = w.owners; met = e i })
+same_again w k h = let e = sym (marked_again w.met k h) in
+    (λ i. record { count = w.count; owners = w.owners; met = e i })
 
-pub one_met : (w other : WantsState) (ready waits : List Bool) (want : ℕ) → AreReadyBut w.count ready waits w other → want < length w.met → length w.owners ≡ length w.met → member w.met want ≡ false
+pub one_met : (w other : WantsState) (ready waits : List Bool) (want : ℕ) → AreReadyBut w.count ready waits w other
+    → want < length w.met → length w.owners ≡ length w.met → member w.met want ≡ false
     → (owner : ℕ) → owner ≡ get_or w.owners want 0 → owner < w.count
-    → AreReadyBut w.count (set ready owner (is_ready_at waits (with_met w (set w.met want true)) other owner)) waits (with_met w (set w.met want true)) other
+    → AreReadyBut w.count (set ready owner (is_ready_at waits (with_met w (set w.met want true)) other owner)) waits
+    (with_met w (set w.met want true)) other
 one_met w other ready waits want old lt paired un owner is small = record {
   len = length-set ready owner (is_ready_at waits new other owner) ∙ old.len;
   waits_len = old.waits_len;
@@ -85,7 +97,8 @@ one_met w other ready waits want old lt paired un owner is small = record {
     | inr ne ↦
         get_or-set_other ready owner p (is_ready_at waits new other owner) false ne
         ∙ old.each p below but
-        ∙ ap (λ n. (member waits p && nat_eq n 0) && is_free other p) (sym (others_keep w.owners w.met want p (omega (arith, lt, paired)) (sym paired) un (λ e. ne (e ∙ sym is))))
+        ∙ ap (λ n. (member waits p && nat_eq n 0) && is_free other p)
+        (sym (others_keep w.owners w.met want p (omega (arith, lt, paired)) (sym paired) un (λ e. ne (e ∙ sym is))))
   ];
 }
   where
@@ -96,14 +109,19 @@ one_met w other ready waits want old lt paired un owner is small = record {
 
 pub marks_more : (met0 met : List Bool) (places : List ℕ) (i : ℕ) → i < length places → get_or places i 0 < length met
     → ((k : ℕ) → k < length met0 → member met k ≡ (member met0 k || list_any (nat_eq k) (take i places)))
-    → (k : ℕ) → k < length met0 → member (set met (get_or places i 0) true) k ≡ (member met0 k || list_any (nat_eq k) (take (i + 1) places))
+    → (k : ℕ) → k < length met0
+    → member (set met (get_or places i 0) true) k ≡ (member met0 k || list_any (nat_eq k) (take (i + 1) places))
 marks_more met0 met places i lt within so_far k below = elim (cases_eq k place) [
   | inl e ↦
       ap (member (set met place true)) e ∙ get_or-set_same met place true false within
-      ∙ sym (ap (λ b. member met0 k || b) (more ∙ ap (λ b. list_any (nat_eq k) (take i places) || b) (eq-eqb k place e) ∙ or_true (list_any (nat_eq k) (take i places))) ∙ or_true (member met0 k))
+      ∙ sym (ap (λ b. member met0 k || b)
+      (more ∙ ap (λ b. list_any (nat_eq k) (take i places) || b) (eq-eqb k place e)
+      ∙ or_true (list_any (nat_eq k) (take i places))) ∙ or_true (member met0 k))
   | inr ne ↦
       get_or-set_other met place k true false ne ∙ so_far k below
-      ∙ ap (λ b. member met0 k || b) (sym (more ∙ ap (λ b. list_any (nat_eq k) (take i places) || b) (ne_eqb k place ne) ∙ or_false (list_any (nat_eq k) (take i places))))
+      ∙ ap (λ b. member met0 k || b)
+      (sym (more ∙ ap (λ b. list_any (nat_eq k) (take i places) || b) (ne_eqb k place ne)
+      ∙ or_false (list_any (nat_eq k) (take i places))))
 ]
   where
     place : ℕ
@@ -113,7 +131,8 @@ marks_more met0 met places i lt within so_far k below = elim (cases_eq k place) 
     more = list_any_more (nat_eq k) places i 0 lt
 
 -- a place is one of those that the index gives
-pub is_place_named : (name : List ℕ) (names : List (List ℕ)) (k : ℕ) → k < length names → list_any (nat_eq k) (places_named name names) ≡ folds_same name (get_or names k [])
+pub is_place_named : (name : List ℕ) (names : List (List ℕ)) (k : ℕ) → k < length names
+    → list_any (nat_eq k) (places_named name names) ≡ folds_same name (get_or names k [])
 is_place_named name names k lt =
     same_bool (list_any (nat_eq k) places) (folds_same name (get_or names k []))
     (λ h. (All-contains IsPlace places k (all_named name names) (Contains-from_any eqb-true k places h)).1)
@@ -125,21 +144,25 @@ is_place_named name names k lt =
     IsPlace : ℕ → Type 0
     IsPlace k = (k < length names) × (folds_same name (get_or names k []) ≡ true)
 
-pub places_below : (name : List ℕ) (names : List (List ℕ)) (n : ℕ) → n ≡ length names → All (λ k. k < n) (places_named name names)
+pub places_below : (name : List ℕ) (names : List (List ℕ)) (n : ℕ) → n ≡ length names
+    → All (λ k. k < n) (places_named name names)
 places_below name names n same k d lt = omega (arith, same, (all_named name names k d lt).0)
 
 -- where the first want of a name is met, all are
-pub spared : (name : List ℕ) (names : List (List ℕ)) (met : List Bool) → AreMetTogether names met → option_map_or (member met) (slice_get (places_named name names) 0) false ≡ true
+pub spared : (name : List ℕ) (names : List (List ℕ)) (met : List Bool) → AreMetTogether names met
+    → option_map_or (member met) (slice_get (places_named name names) 0) false ≡ true
     → (k : ℕ) → k < length names → member met k ≡ (member met k || folds_same name (get_or names k []))
 spared name names met together = by (places_named name names) (all_named name names)
   where
-    by : (ps : List ℕ) → All (λ k. (k < length names) × (folds_same name (get_or names k []) ≡ true)) ps → option_map_or (member met) (slice_get ps 0) false ≡ true
+    by : (ps : List ℕ) → All (λ k. (k < length names) × (folds_same name (get_or names k []) ≡ true)) ps
+        → option_map_or (member met) (slice_get ps 0) false ≡ true
         → (k : ℕ) → k < length names → member met k ≡ (member met k || folds_same name (get_or names k []))
     by [] all h k lt = absurd (false≢true h)
     by (p ∷ ps) all h k lt =
         let first : (p < length names) × (folds_same name (get_or names p []) ≡ true) = all 0 0 (omega arith) in
         or_by (member met k) (folds_same name (get_or names k []))
-        (λ same. sym (together p k first.0 lt (sym (alike name (get_or names p []) first.1 (get_or names k [])) ∙ same)) ∙ h)
+        (λ same. sym (together p k first.0 lt (sym (alike name (get_or names p []) first.1 (get_or names k [])) ∙ same))
+        ∙ h)
 
 -- ---- one more that was started
 
@@ -156,7 +179,8 @@ abbrev pub meets_one : Kind → Label → List ℕ → Bool
 meets_one Service label n = folds_same label.0 n
 meets_one Group label n = option_map_or (λ g. folds_same g n) label.1 false
 
-meets_more : (kind : Kind) (started : List Label) (label : Label) (n : List ℕ) → meets kind (started ++ label ∷ []) n ≡ (meets kind started n || meets_one kind label n)
+meets_more : (kind : Kind) (started : List Label) (label : Label) (n : List ℕ)
+    → meets kind (started ++ label ∷ []) n ≡ (meets kind started n || meets_one kind label n)
 meets_more Service started label n =
     list_any-append (λ (s : Label). folds_same n s.0) started (label ∷ [])
     ∙ ap (λ b. has_name started n || b) (or_false (folds_same n label.0) ∙ names_flip n label.0)
@@ -168,38 +192,53 @@ meets_more Group started label n =
     flip None = refl
     flip (Some g) = names_flip n g
 
-meets_alike : (kind : Kind) (started : List Label) (a b : List ℕ) → folds_same a b ≡ true → meets kind started a ≡ meets kind started b
-meets_alike Service started a b h = ap (λ (p : List ℕ → Bool). list_any (λ (s : Label). p s.0) started) (λ i y. alike a b h y i)
-meets_alike Group started a b h = ap (λ (p : List ℕ → Bool). list_any (λ (s : Label). option_map_or p s.1 false) started) (λ i y. alike a b h y i)
+meets_alike : (kind : Kind) (started : List Label) (a b : List ℕ) → folds_same a b ≡ true
+    → meets kind started a ≡ meets kind started b
+meets_alike Service started a b h =
+    ap (λ (p : List ℕ → Bool). list_any (λ (s : Label). p s.0) started) (λ i y. alike a b h y i)
+meets_alike Group started a b h =
+    ap (λ (p : List ℕ → Bool). list_any (λ (s : Label). option_map_or p s.1 false) started) (λ i y. alike a b h y i)
 
-met_at : (kind : Kind) (needs : List Need) (started : List Label) (names : List (List ℕ)) (w : WantsState) → AreWantsOf kind needs started names w
+met_at : (kind : Kind) (needs : List Need) (started : List Label) (names : List (List ℕ)) (w : WantsState)
+    → AreWantsOf kind needs started names w
     → (k : ℕ) → k < length names → member w.met k ≡ meets kind started (get_or names k [])
-met_at kind needs started names w of k lt = ap (λ m. member m k) of.met ∙ get_or-map (meets kind started) names k [] false lt
+met_at kind needs started names w of k lt =
+    ap (λ m. member m k) of.met ∙ get_or-map (meets kind started) names k [] false lt
 
-pub together : (kind : Kind) (needs : List Need) (started : List Label) (names : List (List ℕ)) (w : WantsState) → AreWantsOf kind needs started names w → AreMetTogether names w.met
+pub together : (kind : Kind) (needs : List Need) (started : List Label) (names : List (List ℕ)) (w : WantsState)
+    → AreWantsOf kind needs started names w → AreMetTogether names w.met
 together kind needs started names w of k l lk ll same =
-    met_at kind needs started names w of k lk ∙ meets_alike kind started (get_or names k []) (get_or names l []) same ∙ sym (met_at kind needs started names w of l ll)
+    met_at kind needs started names w of k lk ∙ meets_alike kind started (get_or names k []) (get_or names l []) same
+    ∙ sym (met_at kind needs started names w of l ll)
 
-pub met_len : (kind : Kind) (needs : List Need) (started : List Label) (names : List (List ℕ)) (w : WantsState) → AreWantsOf kind needs started names w → length w.met ≡ length names
+pub met_len : (kind : Kind) (needs : List Need) (started : List Label) (names : List (List ℕ)) (w : WantsState)
+    → AreWantsOf kind needs started names w → length w.met ≡ length names
 met_len kind needs started names w of = ap length of.met ∙ length-map names (meets kind started)
 
-pub met_by_start : (kind : Kind) (needs : List Need) (started : List Label) (label : Label) (names : List (List ℕ)) (w w' : WantsState) → AreWantsOf kind needs started names w → IsNearer w w'
-    → ((k : ℕ) → k < length names → member w'.met k ≡ (member w.met k || meets_one kind label (get_or names k []))) → AreWantsOf kind needs (started ++ label ∷ []) names w'
+pub met_by_start : (kind : Kind) (needs : List Need) (started : List Label) (label : Label) (names : List (List ℕ))
+    (w w' : WantsState) → AreWantsOf kind needs started names w → IsNearer w w'
+    → ((k : ℕ) → k < length names → member w'.met k ≡ (member w.met k || meets_one kind label (get_or names k [])))
+    → AreWantsOf kind needs (started ++ label ∷ []) names w'
 met_by_start kind needs started label names w w' of near each = record {
   count = near.count ∙ of.count;
   owners = near.owners ∙ of.owners;
   all_given = of.all_given;
-  met = same_lists w'.met (map (meets kind (started ++ label ∷ [])) names) (near.len ∙ met_len kind needs started names w of ∙ sym (length-map names (meets kind (started ++ label ∷ []))))
+  met = same_lists w'.met (map (meets kind (started ++ label ∷ [])) names)
+      (near.len ∙ met_len kind needs started names w of ∙ sym (length-map names (meets kind (started ++ label ∷ []))))
       (λ k d lt. let below : k < length names = omega (arith, lt, near.len, met_len kind needs started names w of) in
-      get_or_default w'.met k d false lt ∙ each k below ∙ ap (λ b. b || meets_one kind label (get_or names k [])) (met_at kind needs started names w of k below)
-      ∙ sym (meets_more kind started label (get_or names k [])) ∙ sym (get_or-map (meets kind (started ++ label ∷ [])) names k [] d below));
+      get_or_default w'.met k d false lt ∙ each k below
+      ∙ ap (λ b. b || meets_one kind label (get_or names k [])) (met_at kind needs started names w of k below)
+      ∙ sym (meets_more kind started label (get_or names k []))
+      ∙ sym (get_or-map (meets kind (started ++ label ∷ [])) names k [] d below));
 }
 
 -- how many wants are not met
-pub unmet_of : (kind : Kind) (needs : List Need) (started : List Label) (names : List (List ℕ)) (w : WantsState) → AreWantsOf kind needs started names w
+pub unmet_of : (kind : Kind) (needs : List Need) (started : List Label) (names : List (List ℕ)) (w : WantsState)
+    → AreWantsOf kind needs started names w
     → count_by not w.met ≡ count_by (λ n. not (meets kind started n)) (names_given kind needs)
 unmet_of kind needs started names w of =
-    ap (count_by not) of.met ∙ fold-map (λ a b. a + cond (not b) 1 0) (meets kind started) 0 names ∙ ap (count_by (λ n. not (meets kind started n))) of.all_given
+    ap (count_by not) of.met ∙ fold-map (λ a b. a + cond (not b) 1 0) (meets kind started) 0 names
+    ∙ ap (count_by (λ n. not (meets kind started n))) of.all_given
 
 -- ---- the entry that was started
 
@@ -210,15 +249,19 @@ folded_first : (a b : List ℕ) → folds_same (folded a) b ≡ folds_same a b
 folded_first [] [] = refl
 folded_first [] (y ∷ ys) = refl
 folded_first (x ∷ xs) [] = refl
-folded_first (x ∷ xs) (y ∷ ys) = let unit = unit_again x in let rest = folded_first xs ys in (λ i. nat_eq (unit i) (folded_unit y) && rest i)
+folded_first (x ∷ xs) (y ∷ ys) = let unit = unit_again x in let rest = folded_first xs ys in
+    (λ i. nat_eq (unit i) (folded_unit y) && rest i)
 
 -- its folded name meets what its name meets
 pub name_meets : (n : Need) (name : List ℕ) → folds_same n.name name ≡ meets_one Service (label_of n) name
 name_meets n name = sym (folded_first n.name name)
 
-pub group_meets : (n : Need) (name : List ℕ) → option_map_or (λ g. folds_same g name) n.group false ≡ meets_one Group (label_of n) name
+pub group_meets : (n : Need) (name : List ℕ)
+    → option_map_or (λ g. folds_same g name) n.group false ≡ meets_one Group (label_of n) name
 group_meets n name = by n.group
   where
-    by : (g : Option (List ℕ)) → option_map_or (λ g. folds_same g name) g false ≡ option_map_or (λ g. folds_same g name) (option_map folded g) false
+    by : (g : Option (List ℕ))
+        → option_map_or (λ g. folds_same g name) g false
+        ≡ option_map_or (λ g. folds_same g name) (option_map folded g) false
     by None = refl
     by (Some g) = sym (folded_first g name)

@@ -16,7 +16,8 @@ pub all_picked : {X : Type 0} (xs : List X) → items_where_true (replicate (len
 all_picked [] = refl
 all_picked (x ∷ xs) = ap (λ l. x ∷ l) (all_picked xs)
 
-pub as_many : {X : Type 0} (bs : List Bool) (xs : List X) (i : ℕ) → length (items_where_true bs (range_with_len i (length xs))) ≡ length (items_where_true bs xs)
+pub as_many : {X : Type 0} (bs : List Bool) (xs : List X) (i : ℕ)
+    → length (items_where_true bs (range_with_len i (length xs))) ≡ length (items_where_true bs xs)
 as_many [] xs i = refl
 as_many (b ∷ bs) [] i = refl
 as_many (true ∷ bs) (x ∷ xs) i = ap suc (as_many bs xs (i + 1))
@@ -33,16 +34,36 @@ pub record IsPicked {X : Type 0} (bs : List Bool) (xs : List X) (i k at : ℕ) :
 pub some_is : (a b : ℕ) → Some a ≡ Some b → a ≡ b
 some_is a b e = cc
 
-pub picked : {X : Type 0} (bs : List Bool) (xs : List X) (i k at : ℕ) → slice_get (items_where_true bs (range_with_len i (length xs))) k ≡ Some at → IsPicked bs xs i k at
+pub picked : {X : Type 0} (bs : List Bool) (xs : List X) (i k at : ℕ)
+    → slice_get (items_where_true bs (range_with_len i (length xs))) k ≡ Some at → IsPicked bs xs i k at
 picked [] xs i k at h = absurd cc
 picked (b ∷ bs) [] i k at h = absurd cc
-picked (true ∷ bs) (x ∷ xs) i zero at h = record { j = 0; here = (let e = some_is i at h in omega (arith, e)); within = omega arith; same = refl; others = refl }
+picked (true ∷ bs) (x ∷ xs) i zero at h =
+    record {
+      j = 0;
+      here = (let e = some_is i at h in omega (arith, e));
+      within = omega arith;
+      same = refl;
+      others = refl;
+    }
 picked (true ∷ bs) (x ∷ xs) i (suc k) at h =
     let p = picked bs xs (i + 1) k at h in
-    record { j = suc p.j; here = omega (arith, p.here); within = omega (arith, p.within); same = p.same; others = ap (λ l. x ∷ l) p.others }
+    record {
+      j = suc p.j;
+      here = omega (arith, p.here);
+      within = omega (arith, p.within);
+      same = p.same;
+      others = ap (λ l. x ∷ l) p.others;
+    }
 picked (false ∷ bs) (x ∷ xs) i k at h =
     let p = picked bs xs (i + 1) k at h in
-    record { j = suc p.j; here = omega (arith, p.here); within = omega (arith, p.within); same = p.same; others = p.others }
+    record {
+      j = suc p.j;
+      here = omega (arith, p.here);
+      within = omega (arith, p.within);
+      same = p.same;
+      others = p.others;
+    }
 
 -- ---- one attempt after another
 
@@ -53,19 +74,24 @@ none_within (x ∷ xs) (suc k) lt h b = none_within xs k (omega (arith, lt)) h b
 
 -- what the plain way attempts, and then
 abbrev plain_step : Bool → List Bool → List Label → List Need → ℕ → List Need
-plain_step ok oks started waiting k = option_to_list (slice_get waiting k) ++ tried_plainly oks (if ok then started ++ labels_at waiting k else started) (remove waiting k)
+plain_step ok oks started waiting k =
+    option_to_list (slice_get waiting k)
+    ++ tried_plainly oks (if ok then started ++ labels_at waiting k else started) (remove waiting k)
 
 abbrev place_step : Bool → List Bool → WaitingState → ℕ → List Need
 place_step ok oks w place = option_to_list (slice_get w.needs place) ++ tried_by_place oks (after_trying w place ok)
 
 same_step : (oks : List Bool) → ((w : WaitingState) → tried_by_place oks w ≡ tried_plainly oks w.started (waiting_in w))
-    → (w : WaitingState) (ok : Bool) (k place : ℕ) → slice_get (places_in w) k ≡ Some place → place_step ok oks w place ≡ plain_step ok oks w.started (waiting_in w) k
+    → (w : WaitingState) (ok : Bool) (k place : ℕ) → slice_get (places_in w) k ≡ Some place
+    → place_step ok oks w place ≡ plain_step ok oks w.started (waiting_in w) k
 same_step oks rest w ok k place h =
     let p = picked w.waits w.needs 0 k place h in
     let here : p.j ≡ place = omega (arith, p.here) in
     let entry : slice_get w.needs place ≡ slice_get (waiting_in w) k = sym (p.same ∙ ap (slice_get w.needs) here) in
-    let others : waiting_in (after_trying w place ok) ≡ remove (waiting_in w) k = ap (λ j. items_where_true (set w.waits j false) w.needs) (sym here) ∙ p.others in
-    let labels : labels_at w.needs place ≡ labels_at (waiting_in w) k = ap (λ o. option_to_list (option_map label_of o)) entry in
+    let others : waiting_in (after_trying w place ok) ≡ remove (waiting_in w) k =
+    ap (λ j. items_where_true (set w.waits j false) w.needs) (sym here) ∙ p.others in
+    let labels : labels_at w.needs place ≡ labels_at (waiting_in w) k =
+    ap (λ o. option_to_list (option_map label_of o)) entry in
     ap (λ o. option_to_list o ++ tried_by_place oks (after_trying w place ok)) entry
     ∙ ap (λ l. option_to_list (slice_get (waiting_in w) k) ++ l)
     (rest (after_trying w place ok)
@@ -80,7 +106,8 @@ at_place oks rest w ok k (Some place) lt h = same_step oks rest w ok k place h
 
 at_next : (oks : List Bool) → ((w : WaitingState) → tried_by_place oks w ≡ tried_plainly oks w.started (waiting_in w))
     → (w : WaitingState) (ok : Bool) (o : Option ℕ) → next_of w.started (waiting_in w) ≡ o
-    → option_map_or (place_step ok oks w) (option_and_then (slice_get (places_in w)) o) [] ≡ option_map_or (plain_step ok oks w.started (waiting_in w)) o []
+    → option_map_or (place_step ok oks w) (option_and_then (slice_get (places_in w)) o) []
+    ≡ option_map_or (plain_step ok oks w.started (waiting_in w)) o []
 at_next oks rest w ok None h = refl
 at_next oks rest w ok (Some k) h = at_place oks rest w ok k (slice_get (places_in w) k) within refl
   where
@@ -95,5 +122,7 @@ tried_alike : (oks : List Bool) (w : WaitingState) → tried_by_place oks w ≡ 
 tried_alike [] w = refl
 tried_alike (ok ∷ oks) w = at_next oks (tried_alike oks) w ok (next_of w.started (waiting_in w)) refl
 
-pub both_ways : (needs : List Need) (started : List Label) (oks : List Bool) → tried_by_place oks (all_waiting needs started) ≡ tried_plainly oks started needs
-both_ways needs started oks = tried_alike oks (all_waiting needs started) ∙ ap (tried_plainly oks started) (all_picked needs)
+pub both_ways : (needs : List Need) (started : List Label) (oks : List Bool)
+    → tried_by_place oks (all_waiting needs started) ≡ tried_plainly oks started needs
+both_ways needs started oks =
+    tried_alike oks (all_waiting needs started) ∙ ap (tried_plainly oks started) (all_picked needs)

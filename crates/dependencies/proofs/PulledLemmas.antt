@@ -83,14 +83,17 @@ sets_have p (true ∷ t) h =
     let us = map (λ s. true ∷ s) (all_sets (length t)) in
     let vs = map (λ s. false ∷ s) (all_sets (length t)) in
     let e : (list_all p us && list_all p vs) ≡ true = sym (list_all-append p us vs) ∙ h in
-    sets_have (λ s. p (true ∷ s)) t (sym (list_all-map p (λ s. true ∷ s) (all_sets (length t))) ∙ and_left (list_all p us) (list_all p vs) e)
+    sets_have (λ s. p (true ∷ s)) t
+    (sym (list_all-map p (λ s. true ∷ s) (all_sets (length t))) ∙ and_left (list_all p us) (list_all p vs) e)
 sets_have p (false ∷ t) h =
     let us = map (λ s. true ∷ s) (all_sets (length t)) in
     let vs = map (λ s. false ∷ s) (all_sets (length t)) in
     let e : (list_all p us && list_all p vs) ≡ true = sym (list_all-append p us vs) ∙ h in
-    sets_have (λ s. p (false ∷ s)) t (sym (list_all-map p (λ s. false ∷ s) (all_sets (length t))) ∙ and_right (list_all p us) (list_all p vs) e)
+    sets_have (λ s. p (false ∷ s)) t
+    (sym (list_all-map p (λ s. false ∷ s) (all_sets (length t))) ∙ and_right (list_all p us) (list_all p vs) e)
 
-map_or_within : {X : Type 0} (f : X → Bool) (xs : List X) (i : ℕ) → option_map_or f (slice_get xs i) false ≡ true → i < length xs
+map_or_within : {X : Type 0} (f : X → Bool) (xs : List X) (i : ℕ) → option_map_or f (slice_get xs i) false ≡ true
+    → i < length xs
 map_or_within f [] i h = absurd (false≢true h)
 map_or_within f (x ∷ xs) zero h = omega arith
 map_or_within f (x ∷ xs) (suc i) h = omega (arith, map_or_within f xs i h)
@@ -101,11 +104,15 @@ starts_within table v q h = map_or_within (λ n. nat_eq n.start v) table q h
 pub pulls_within : (table : List Need) (p q : ℕ) → pulls table p q ≡ true → (p < length table) × (q < length table)
 pulls_within table p q h = (map_or_within _ table p h, inner (slice_get table p) h)
   where
-    inner : (o : Option Need) → option_map_or (λ (a : Need). option_map_or (λ (b : Need). nat_eq b.start 3 && list_any (folds_same b.name) a.services) (slice_get table q) false) o false ≡ true → q < length table
+    inner : (o : Option Need)
+        → option_map_or (λ (a : Need). option_map_or
+        (λ (b : Need). nat_eq b.start 3 && list_any (folds_same b.name) a.services) (slice_get table q) false) o false
+        ≡ true → q < length table
     inner None h = absurd (false≢true h)
     inner (Some a) h = map_or_within _ table q h
 
-any_pulled : (table : List Need) (set : ℕ → Bool) (q : ℕ) (ps : List ℕ) → IsClosed table set → list_any (λ p. set p && pulls table p q) ps ≡ true → set q ≡ true
+any_pulled : (table : List Need) (set : ℕ → Bool) (q : ℕ) (ps : List ℕ) → IsClosed table set
+    → list_any (λ p. set p && pulls table p q) ps ≡ true → set q ≡ true
 any_pulled table set q [] closed h = absurd (false≢true h)
 any_pulled table set q (p ∷ ps) closed h =
     elim (or_split (set p && pulls table p q) _ h) [
@@ -132,11 +139,13 @@ passes_closed table set h = record {
       let within = pulls_within table p q e in
       then_gives (is_due table set q) (set q)
       (all_below _ (length table) q within.1 h)
-      (or_right (starts_at table 2 q) _ (any_below (λ p. set p && pulls table p q) (length table) p within.0 (and_both (set p) _ m e)));
+      (or_right (starts_at table 2 q) _
+      (any_below (λ p. set p && pulls table p q) (length table) p within.0 (and_both (set p) _ m e)));
 }
 
 -- in all closed sets is what is in the least of them
-pub is_taken-least : (table : List Need) (taken : List Bool) → IsLeast table taken → (q : ℕ) → is_taken table q ≡ member taken q
+pub is_taken-least : (table : List Need) (taken : List Bool) → IsLeast table taken → (q : ℕ)
+    → is_taken table q ≡ member taken q
 unfolding is_taken
 is_taken-least table taken is q =
     same_bool (is_taken table q) (member taken q)
@@ -148,11 +157,14 @@ is_taken-least table taken is q =
 
 -- the places that are asked for are those that demand start takes, or all
 pub asked_of-least : (table : List Need) (taken : List Bool) (on_demand : Bool) → IsLeast table taken
-    → cond on_demand (pulled_of table) (automatic_of table) ≡ filter (is_asked table taken on_demand) (range_with_len 0 (length table))
+    → cond on_demand (pulled_of table) (automatic_of table)
+    ≡ filter (is_asked table taken on_demand) (range_with_len 0 (length table))
 asked_of-least table taken true is =
-    filter_agree _ _ (λ q. ap (λ b. starts_at table 3 q && b) (is_taken-least table taken is q) ∙ and_flip (starts_at table 3 q) (member taken q)) (range_with_len 0 (length table))
+    filter_agree _ _ (λ q. ap (λ b. starts_at table 3 q && b) (is_taken-least table taken is q)
+    ∙ and_flip (starts_at table 3 q) (member taken q)) (range_with_len 0 (length table))
 asked_of-least table taken false is =
-    filter_agree _ _ (λ q. is_taken-least table taken is q ∙ sym (and_true (member taken q))) (range_with_len 0 (length table))
+    filter_agree _ _ (λ q. is_taken-least table taken is q ∙ sym (and_true (member taken q)))
+    (range_with_len 0 (length table))
 
 range_suc : (a n : ℕ) → range_with_len a (suc n) ≡ range_with_len a n ++ (a + n) ∷ []
 range_suc a zero = ap (λ k. k ∷ []) (sym (add-zero a))
@@ -160,35 +172,49 @@ range_suc a (suc n) =
     let e : a + 1 + n ≡ a + suc n = omega arith in
     ap (λ xs. a ∷ xs) (range_suc (a + 1) n ∙ ap (λ k. range_with_len (a + 1) n ++ k ∷ []) e)
 
-pub filter-range_more : (p : ℕ → Bool) (n : ℕ) → filter p (range_with_len 0 (n + 1)) ≡ filter p (range_with_len 0 n) ++ cond (p n) (n ∷ []) []
+pub filter-range_more : (p : ℕ → Bool) (n : ℕ)
+    → filter p (range_with_len 0 (n + 1)) ≡ filter p (range_with_len 0 n) ++ cond (p n) (n ∷ []) []
 filter-range_more p n =
-    let all : range_with_len 0 (n + 1) ≡ range_with_len 0 n ++ n ∷ [] = ap (range_with_len 0) (add-one n) ∙ range_suc 0 n ∙ ap (λ k. range_with_len 0 n ++ k ∷ []) (zero-add n) in
+    let all : range_with_len 0 (n + 1) ≡ range_with_len 0 n ++ n ∷ [] =
+    ap (range_with_len 0) (add-one n) ∙ range_suc 0 n ∙ ap (λ k. range_with_len 0 n ++ k ∷ []) (zero-add n) in
     ap (filter p) all ∙ filter-append p (range_with_len 0 n) (n ∷ [])
 
-pub filter-range_push : (p : ℕ → Bool) (n : ℕ) (xs : List ℕ) → xs ≡ filter p (range_with_len 0 n) → p n ≡ true → xs ++ n ∷ [] ≡ filter p (range_with_len 0 (n + 1))
-filter-range_push p n xs e t = ap (λ xs. xs ++ n ∷ []) e ∙ sym (filter-range_more p n ∙ ap (λ b. filter p (range_with_len 0 n) ++ cond b (n ∷ []) []) t)
+pub filter-range_push : (p : ℕ → Bool) (n : ℕ) (xs : List ℕ) → xs ≡ filter p (range_with_len 0 n) → p n ≡ true
+    → xs ++ n ∷ [] ≡ filter p (range_with_len 0 (n + 1))
+filter-range_push p n xs e t =
+    ap (λ xs. xs ++ n ∷ []) e
+    ∙ sym (filter-range_more p n ∙ ap (λ b. filter p (range_with_len 0 n) ++ cond b (n ∷ []) []) t)
 
-pub filter-range_skip : (p : ℕ → Bool) (n : ℕ) (xs : List ℕ) → xs ≡ filter p (range_with_len 0 n) → p n ≡ false → xs ≡ filter p (range_with_len 0 (n + 1))
-filter-range_skip p n xs e f = e ∙ sym (append-nil (filter p (range_with_len 0 n))) ∙ sym (filter-range_more p n ∙ ap (λ b. filter p (range_with_len 0 n) ++ cond b (n ∷ []) []) f)
+pub filter-range_skip : (p : ℕ → Bool) (n : ℕ) (xs : List ℕ) → xs ≡ filter p (range_with_len 0 n) → p n ≡ false
+    → xs ≡ filter p (range_with_len 0 (n + 1))
+filter-range_skip p n xs e f =
+    e ∙ sym (append-nil (filter p (range_with_len 0 n)))
+    ∙ sym (filter-range_more p n ∙ ap (λ b. filter p (range_with_len 0 n) ++ cond b (n ∷ []) []) f)
 
-from_all : {X : Type 0} (p : X → Bool) (xs : List X) (q : X → Bool) → list_all p xs ≡ true → ((x : X) → p x ≡ true → q x ≡ true) → list_all q xs ≡ true
+from_all : {X : Type 0} (p : X → Bool) (xs : List X) (q : X → Bool) → list_all p xs ≡ true
+    → ((x : X) → p x ≡ true → q x ≡ true) → list_all q xs ≡ true
 from_all p [] q h f = refl
-from_all p (x ∷ xs) q h f = and_both (q x) (list_all q xs) (f x (and_left (p x) _ h)) (from_all p xs q (and_right (p x) _ h) f)
+from_all p (x ∷ xs) q h f =
+    and_both (q x) (list_all q xs) (f x (and_left (p x) _ h)) (from_all p xs q (and_right (p x) _ h) f)
 
 -- what is in each closed set is itself closed
 pub is_taken-closed : (table : List Need) → IsClosed table (is_taken table)
 unfolding is_taken
 is_taken-closed table = record {
-  starts = λ q e. all_true _ (all_sets (length table)) (λ s. then_true (is_closed table (member s)) (member s q) (λ c. (passes_closed table (member s) c).starts q e));
-  pulled = λ p q t e. from_all (λ s. not (is_closed table (member s)) || member s p) (all_sets (length table)) (λ s. not (is_closed table (member s)) || member s q) t
+  starts = λ q e. all_true _ (all_sets (length table))
+      (λ s. then_true (is_closed table (member s)) (member s q) (λ c. (passes_closed table (member s) c).starts q e));
+  pulled = λ p q t e. from_all (λ s. not (is_closed table (member s)) || member s p) (all_sets (length table))
+      (λ s. not (is_closed table (member s)) || member s q) t
       (λ s here. then_true (is_closed table (member s)) (member s q)
-      (λ c. (passes_closed table (member s) c).pulled p q (then_gives (is_closed table (member s)) (member s p) here c) e));
+      (λ c. (passes_closed table (member s) c).pulled p q (then_gives (is_closed table (member s)) (member s p) here c)
+      e));
 }
 
 listed_member : (set : ℕ → Bool) (n q : ℕ) → q < n → member (map set (range_with_len 0 n)) q ≡ set q
 listed_member set n q lt = get_or-map-range_with_len set 0 n q q false lt (zero-add q)
 
-pub is_taken-least_of_all : (table : List Need) (set : ℕ → Bool) → IsClosed table set → (q : ℕ) → q < length table → is_taken table q ≡ true → set q ≡ true
+pub is_taken-least_of_all : (table : List Need) (set : ℕ → Bool) → IsClosed table set → (q : ℕ) → q < length table
+    → is_taken table q ≡ true → set q ≡ true
 unfolding is_taken
 is_taken-least_of_all table set closed q lt t =
     let n = length table in
@@ -202,4 +228,6 @@ is_taken-least_of_all table set closed q lt t =
     } in
     let test : List Bool → Bool = λ s. not (is_closed table (member s)) || member s q in
     let all : list_all test (all_sets (length s)) ≡ true = ap (λ k. list_all test (all_sets k)) len ∙ t in
-    sym (listed_member set n q lt) ∙ then_gives (is_closed table (member s)) (member s q) (sets_have test s all) (closed_passes table (member s) is)
+    sym (listed_member set n q lt)
+    ∙ then_gives (is_closed table (member s)) (member s q) (sets_have test s all)
+    (closed_passes table (member s) is)

@@ -62,14 +62,16 @@ joined table first second both t w t' w' t'' w'' either one two = record {
 -- ---- one place
 
 listed_here : (table : List Need) (place : ℕ) → is_listed table (place ∷ []) place ≡ starts_at table 3 place
-listed_here table place = ap (λ b. starts_at table 3 place && (b || false)) (eq-eqb place place refl) ∙ and_true (starts_at table 3 place)
+listed_here table place =
+    ap (λ b. starts_at table 3 place && (b || false)) (eq-eqb place place refl) ∙ and_true (starts_at table 3 place)
   where
     and_true : (a : Bool) → (a && true) ≡ a
     and_true true = refl
     and_true false = refl
 
 listed_elsewhere : (table : List Need) (place k : ℕ) → k ≢ place → is_listed table (place ∷ []) k ≡ false
-listed_elsewhere table place k ne = ap (λ b. starts_at table 3 k && (b || false)) (ne_eqb k place ne) ∙ and_false (starts_at table 3 k)
+listed_elsewhere table place k ne =
+    ap (λ b. starts_at table 3 k && (b || false)) (ne_eqb k place ne) ∙ and_false (starts_at table 3 k)
 
 -- what the test says
 is_new_is : (a b : Bool) → (not a && b) ≡ true → (a ≡ false) × (b ≡ true)
@@ -82,8 +84,10 @@ pub takes : (table : List Need) (place : ℕ) (taken : List Bool) (work : List �
     → TakesListed table (place ∷ []) taken work (set taken place true) (work ++ place ∷ [])
 takes table place taken work is lt why = record {
   taken_then = λ k lk. elim (cases_eq k place) [
-    | inl e ↦ (let P : ℕ → Type 0 = λ k. member (set taken place true) k ≡ (member taken k || is_listed table (place ∷ []) k) in
-        subst P (sym e) (here ∙ sym (ap (λ b. b || is_listed table (place ∷ []) place) parts.0 ∙ listed_here table place ∙ parts.1)))
+    | inl e ↦ (let P : ℕ → Type 0 = λ k. member (set taken place true) k
+        ≡ (member taken k || is_listed table (place ∷ []) k) in
+        subst P (sym e) (here ∙ sym
+        (ap (λ b. b || is_listed table (place ∷ []) place) parts.0 ∙ listed_here table place ∙ parts.1)))
     | inr ne ↦ other k ne ∙ nothing_new (member taken k) _ (listed_elsewhere table place k ne)
   ];
   new = λ k t f. elim (cases_eq k place) [
@@ -92,7 +96,8 @@ takes table place taken work is lt why = record {
   ];
   kept = λ k h. Contains-append_left work (place ∷ []) k h;
   nearer =
-      (let s : ◌≡◌ {A = ℕ} (count_by not (set taken place true) + cond (not (member taken place)) 1 0) (count_by not taken + 0) = sum_by-set (λ x. cond (not x) 1 0) taken place true false within in
+      (let s : ◌≡◌ {A = ℕ} (count_by not (set taken place true) + cond (not (member taken place)) 1 0)
+      (count_by not taken + 0) = sum_by-set (λ x. cond (not x) 1 0) taken place true false within in
       let one : ◌≡◌ {A = ℕ} (cond (not (member taken place)) 1 0) 1 = ap (λ b. cond (not b) 1 0) parts.0 in
       omega (arith, length_push work place, s, one));
 }
@@ -118,10 +123,12 @@ pub listed_more : (table : List Need) (places : List ℕ) (i d : ℕ)
 listed_more table places i d t w t' w' t'' w'' lt one two = joined table _ _ _ t w t' w' t'' w'' either one two
   where
     either : (k : ℕ)
-        → is_listed table (take (i + 1) places) k ≡ (is_listed table (take i places) k || is_listed table (get_or places i d ∷ []) k)
+        → is_listed table (take (i + 1) places) k
+        ≡ (is_listed table (take i places) k || is_listed table (get_or places i d ∷ []) k)
     either k =
         ap (λ ps. is_listed table ps k) (take_more places i d lt)
-        ∙ ap (λ b. starts_at table 3 k && b) (list_any-append (λ p. nat_eq k p) (take i places) (get_or places i d ∷ []))
+        ∙ ap (λ b. starts_at table 3 k && b)
+        (list_any-append (λ p. nat_eq k p) (take i places) (get_or places i d ∷ []))
         ∙ and-or_distrib_left (starts_at table 3 k) _ _
 
 -- ---- the places of a name
@@ -145,7 +152,8 @@ named_at (n ∷ ns) names (suc q) lt = named_at ns names q (omega (arith, lt))
 length-names_of : (table : List Need) → length (names_of table) ≡ length table
 length-names_of table = length-map table (λ n. n.name)
 
-pub places_within : (table : List Need) (name : List ℕ) → All (λ k. k < length table) (places_named name (names_of table))
+pub places_within : (table : List Need) (name : List ℕ)
+    → All (λ k. k < length table) (places_named name (names_of table))
 places_within table name k d lt = omega (arith, (all_named name (names_of table) k d lt).0, length-names_of table)
 
 -- a place is one of those that the index gives
@@ -154,7 +162,8 @@ is_place_of : (table : List Need) (name : List ℕ) (k : ℕ) → k < length tab
 is_place_of table name k lt =
     same_bool (list_any (nat_eq k) places) (folds_same name (get_or names k []))
     (λ h. (All-contains IsPlace places k (all_named name names) (Contains-from_any eqb-true k places h)).1)
-    (λ h. list_any-from_Contains nat_eq_equiv k places (each_named name names k (omega (arith, length-names_of table)) h))
+    (λ h. list_any-from_Contains nat_eq_equiv k places
+    (each_named name names k (omega (arith, length-names_of table)) h))
   where
     names : List (List ℕ)
     names = names_of table
@@ -170,10 +179,12 @@ pub listed_all : (table : List Need) (name : List ℕ) (t : List Bool) (w : List
     → TakesListed table (places_named name (names_of table)) t w t' w' → TakesNamed table (name ∷ []) t w t' w'
 listed_all table name t w t' w' step = alike table _ _ t w t' w' same step
   where
-    same : (k : ℕ) → k < length table → is_listed table (places_named name (names_of table)) k ≡ is_named table (name ∷ []) k
+    same : (k : ℕ) → k < length table
+        → is_listed table (places_named name (names_of table)) k ≡ is_named table (name ∷ []) k
     same k lt =
         ap (λ b. starts_at table 3 k && b)
-        (is_place_of table name k lt ∙ names_flip name _ ∙ sym (or_false (folds_same (get_or (names_of table) k []) name)))
+        (is_place_of table name k lt ∙ names_flip name _
+        ∙ sym (or_false (folds_same (get_or (names_of table) k []) name)))
         ∙ sym (named_at table (name ∷ []) k lt)
 
 -- ---- names, one after another
@@ -187,14 +198,16 @@ named_both table xs ys k = through (slice_get table k)
 
     through : (o : Option Need) → by (xs ++ ys) o ≡ (by xs o || by ys o)
     through None = refl
-    through (Some n) = ap (λ b. nat_eq n.start 3 && b) (list_any-append (folds_same n.name) xs ys) ∙ and-or_distrib_left (nat_eq n.start 3) _ _
+    through (Some n) = ap (λ b. nat_eq n.start 3 && b) (list_any-append (folds_same n.name) xs ys)
+        ∙ and-or_distrib_left (nat_eq n.start 3) _ _
 
 pub named_more : (table : List Need) (names : List (List ℕ)) (i : ℕ) (name : List ℕ)
     (t : List Bool) (w : List ℕ) (t' : List Bool) (w' : List ℕ) (t'' : List Bool) (w'' : List ℕ)
     → i < length names → name ≡ get_or names i name → TakesNamed table (take i names) t w t' w'
     → TakesNamed table (name ∷ []) t' w' t'' w'' → TakesNamed table (take (i + 1) names) t w t'' w''
 named_more table names i name t w t' w' t'' w'' lt is one two =
-    let more : take (i + 1) names ≡ take i names ++ name ∷ [] = take_more names i name lt ∙ ap (λ n. take i names ++ n ∷ []) (sym is) in
+    let more : take (i + 1) names ≡ take i names ++ name ∷ [] =
+    take_more names i name lt ∙ ap (λ n. take i names ++ n ∷ []) (sym is) in
     joined table _ _ _ t w t' w' t'' w''
     (λ k. ap (λ ns. is_named table ns k) more ∙ named_both table (take i names) (name ∷ []) k)
     one two

@@ -21,7 +21,8 @@ pub record IsSeeded (table : List Need) (place : ℕ) (taken : List Bool) (work 
 pub record IsWorked (table : List Need) (taken : List Bool) (work : List ℕ) : Type 0 where
   pub honest : IsWork table taken work
   pub starts : (q : ℕ) → starts_at table 2 q ≡ true → member taken q ≡ true
-  pub pulled : (p : ℕ) → member taken p ≡ true → Contains work p ⊎ ((q : ℕ) → pulls table p q ≡ true → member taken q ≡ true)
+  pub pulled : (p : ℕ) → member taken p ≡ true
+      → Contains work p ⊎ ((q : ℕ) → pulls table p q ≡ true → member taken q ≡ true)
   pub least : (set : ℕ → Bool) → IsClosed table set → (q : ℕ) → member taken q ≡ true → set q ≡ true
 
 member_within : (taken : List Bool) (k : ℕ) → member taken k ≡ true → k < length taken
@@ -44,7 +45,8 @@ seeded_start table = record {
 }
 
 -- the place of a member of the longer list is the last one, or the member was there before
-last_or_before : (taken : List Bool) (b : Bool) (k : ℕ) → member (taken ++ b ∷ []) k ≡ true → (k ≡ length taken) ⊎ (member taken k ≡ true)
+last_or_before : (taken : List Bool) (b : Bool) (k : ℕ) → member (taken ++ b ∷ []) k ≡ true
+    → (k ≡ length taken) ⊎ (member taken k ≡ true)
 last_or_before taken b k t =
     let within = member_within (taken ++ b ∷ []) k t in
     elim (cases_lt k (length taken)) [
@@ -52,21 +54,25 @@ last_or_before taken b k t =
       | inr past ↦ inl (omega (arith, within, length_push taken b))
     ]
 
-is_more : (table : List Need) (place : ℕ) (taken : List Bool) (b : Bool) → length taken ≡ place → ((k : ℕ) → k < place → member taken k ≡ starts_at table 2 k) → b ≡ starts_at table 2 place
+is_more : (table : List Need) (place : ℕ) (taken : List Bool) (b : Bool) → length taken ≡ place
+    → ((k : ℕ) → k < place → member taken k ≡ starts_at table 2 k) → b ≡ starts_at table 2 place
     → (k : ℕ) → k < place + 1 → member (taken ++ b ∷ []) k ≡ starts_at table 2 k
 is_more table place taken b len is first k lt =
     elim (cases_lt k place) [
       | inl before ↦ member_before taken b k (omega arith) ∙ is k before
-      | inr past ↦ (let e : place ≡ k = omega arith in get_or_push taken b false k (len ∙ e) ∙ first ∙ ap (starts_at table 2) e)
+      | inr past ↦ (let e : place ≡ k = omega arith in
+          get_or_push taken b false k (len ∙ e) ∙ first ∙ ap (starts_at table 2) e)
     ]
 
-pub seeded_more : (table : List Need) (place : ℕ) (taken : List Bool) (work : List ℕ) (b : Bool) → IsSeeded table place taken work → b ≡ starts_at table 2 place
+pub seeded_more : (table : List Need) (place : ℕ) (taken : List Bool) (work : List ℕ) (b : Bool)
+    → IsSeeded table place taken work → b ≡ starts_at table 2 place
     → IsSeeded table (place + 1) (taken ++ b ∷ []) (cond b (work ++ place ∷ []) work)
 seeded_more table place taken work true is first =
     let P : ℕ → Type 0 = λ k. Contains (work ++ place ∷ []) k in
     record {
       len = length_push taken true ∙ ap (λ n. n + 1) is.len;
-      small = All-push (λ p. p < place + 1) work place (All-weaker (λ p. p < place) (λ p. p < place + 1) (λ x h. omega arith) work is.small) (omega arith);
+      small = All-push (λ p. p < place + 1) work place
+          (All-weaker (λ p. p < place) (λ p. p < place + 1) (λ x h. omega arith) work is.small) (omega arith);
       is = is_more table place taken true is.len is.is first;
       noted = λ k t. elim (last_or_before taken true k t) [
         | inl e ↦ subst P (sym is.len ∙ sym e) (Contains-push work place)
@@ -88,7 +94,8 @@ seeded_more table place taken work false is first = record {
   honest = λ k h. (let m = is.honest k h in member_before taken false k (member_within taken k m) ∙ m);
 }
 
-pub worked_start : (table : List Need) (n : ℕ) (taken : List Bool) (work : List ℕ) → n ≡ length table → IsSeeded table n taken work → IsWorked table taken work
+pub worked_start : (table : List Need) (n : ℕ) (taken : List Bool) (work : List ℕ) → n ≡ length table
+    → IsSeeded table n taken work → IsWorked table taken work
 worked_start table n taken work e is = record {
   honest = record {
     len = is.len ∙ e;
@@ -101,11 +108,13 @@ worked_start table n taken work e is = record {
 }
 
 -- one place less to work on
-pub work_rest : (table : List Need) (taken : List Bool) (work rest : List ℕ) (place : ℕ) → work ≡ rest ++ place ∷ [] → IsWorked table taken work → IsWork table taken rest
+pub work_rest : (table : List Need) (taken : List Bool) (work rest : List ℕ) (place : ℕ) → work ≡ rest ++ place ∷ []
+    → IsWorked table taken work → IsWork table taken rest
 work_rest table taken work rest place e is = record {
   len = is.honest.len;
   small = λ k d lt.
-      (let at : get_or work k d ≡ get_or rest k d = ap (λ xs. get_or xs k d) e ∙ get_or_append_left rest (place ∷ []) d k lt in
+      (let at : get_or work k d ≡ get_or rest k d = ap (λ xs. get_or xs k d) e
+      ∙ get_or_append_left rest (place ∷ []) d k lt in
       let P : ℕ → Type 0 = λ p. p < length table in
       subst P at (is.honest.small k d (omega (arith, ap length e, length_push rest place))));
   taken_already = λ k h.
@@ -113,12 +122,14 @@ work_rest table taken work rest place e is = record {
       is.honest.taken_already k (subst H (sym e) (Contains-append_left rest (place ∷ []) k h)));
 }
 
-pub popped_is_work : (table : List Need) (taken : List Bool) (work rest : List ℕ) (place : ℕ) → work ≡ rest ++ place ∷ [] → IsWorked table taken work → member taken place ≡ true
+pub popped_is_work : (table : List Need) (taken : List Bool) (work rest : List ℕ) (place : ℕ)
+    → work ≡ rest ++ place ∷ [] → IsWorked table taken work → member taken place ≡ true
 popped_is_work table taken work rest place e is =
     let Q : List ℕ → Type 0 = λ xs. Contains xs place in
     is.honest.taken_already place (subst Q (sym e) (Contains-push rest place))
 
-pub popped_within : (table : List Need) (taken : List Bool) (work rest : List ℕ) (place : ℕ) → work ≡ rest ++ place ∷ [] → IsWorked table taken work → place < length table
+pub popped_within : (table : List Need) (taken : List Bool) (work rest : List ℕ) (place : ℕ) → work ≡ rest ++ place ∷ []
+    → IsWorked table taken work → place < length table
 popped_within table taken work rest place e is =
     omega (arith, member_within taken place (popped_is_work table taken work rest place e is), is.honest.len)
 
@@ -134,8 +145,10 @@ or_second : (a b : Bool) → b ≡ true → (a || b) ≡ true
 or_second true b h = refl
 or_second false b h = h
 
-pub worked_more : (table : List Need) (place : ℕ) (taken : List Bool) (work rest : List ℕ) (taken' : List Bool) (work' : List ℕ)
-    → work ≡ rest ++ place ∷ [] → IsWorked table taken work → IsWork table taken' work' → PullsIn table place taken rest taken' work' → IsWorked table taken' work'
+pub worked_more : (table : List Need) (place : ℕ) (taken : List Bool) (work rest : List ℕ) (taken' : List Bool)
+    (work' : List ℕ)
+    → work ≡ rest ++ place ∷ [] → IsWorked table taken work → IsWork table taken' work'
+    → PullsIn table place taken rest taken' work' → IsWorked table taken' work'
 worked_more table place taken work rest taken' work' e is now in' = record {
   honest = now;
   starts = λ q s. in'.taken_then q (starts_within table 2 q s) ∙ or_first (member taken q) _ (is.starts q s);
@@ -143,26 +156,30 @@ worked_more table place taken work rest taken' work' e is now in' = record {
       (let from = or_cases (member taken p) (pulls table place p) (sym (in'.taken_then p (within p t)) ∙ t) in
       elim from [
         | inl old ↦ (elim (is.pulled p old) [
-          | inl waits ↦ (let H : List ℕ → Type 0 = λ xs. Contains xs p in elim (Contains-push_cases rest place p (subst H e waits)) [
-            | inl still ↦ inl (in'.kept p still)
-            | inr this ↦ inr (λ q s. (let s' : pulls table place q ≡ true = ap (λ r. pulls table r q) this ∙ s in
-                in'.taken_then q (pulls_within table place q s').1 ∙ or_second (member taken q) _ s'))
-          ])
-          | inr done ↦ inr (λ q s. in'.taken_then q (pulls_within table p q s).1 ∙ or_first (member taken q) _ (done q s))
+          | inl waits ↦ (let H : List ℕ → Type 0 = λ xs. Contains xs p in
+              elim (Contains-push_cases rest place p (subst H e waits)) [
+                | inl still ↦ inl (in'.kept p still)
+                | inr this ↦ inr (λ q s. (let s' : pulls table place q ≡ true = ap (λ r. pulls table r q) this ∙ s in
+                    in'.taken_then q (pulls_within table place q s').1 ∙ or_second (member taken q) _ s'))
+              ])
+          | inr done ↦ inr (λ q s. in'.taken_then q (pulls_within table p q s).1
+              ∙ or_first (member taken q) _ (done q s))
         ])
         | inr new ↦ inl (in'.new p t new.0)
       ]);
   least = λ set closed q t.
       elim (or_cases (member taken q) (pulls table place q) (sym (in'.taken_then q (within q t)) ∙ t)) [
         | inl old ↦ is.least set closed q old
-        | inr new ↦ closed.pulled place q (is.least set closed place (popped_is_work table taken work rest place e is)) new.1
+        | inr new ↦ closed.pulled place q (is.least set closed place (popped_is_work table taken work rest place e is))
+            new.1
       ];
 }
   where
     within : (k : ℕ) → member taken' k ≡ true → k < length table
     within k t = omega (arith, member_within taken' k t, now.len)
 
-pub worked_end : (table : List Need) (taken : List Bool) (work : List ℕ) → length work ≡ 0 → IsWorked table taken work → IsLeast table taken
+pub worked_end : (table : List Need) (taken : List Bool) (work : List ℕ) → length work ≡ 0 → IsWorked table taken work
+    → IsLeast table taken
 worked_end table taken work none is = record {
   len = is.honest.len;
   closed = record {

@@ -12,7 +12,8 @@ all_waiting needs started = record { needs = needs; waits = replicate (length ne
 -- the next one by its place in the phase, where the attempts end in these ways, as long as one is ready
 abbrev pub tried_by_place : List Bool → WaitingState → List Need
 tried_by_place [] w = []
-tried_by_place (ok ∷ oks) w = option_map_or (λ place. option_to_list (slice_get w.needs place) ++ tried_by_place oks (after_trying w place ok)) (next_place_in w) []
+tried_by_place (ok ∷ oks) w =
+    option_map_or (λ place. option_to_list (slice_get w.needs place) ++ tried_by_place oks (after_trying w place ok)) (next_place_in w) []
 
 -- the first that is ready of a list, which is then taken out of it
 abbrev pub tried_plainly : List Bool → List Label → List Need → List Need

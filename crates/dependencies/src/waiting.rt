@@ -46,7 +46,8 @@ impl Model for Waiting {
 
     ghost view = { λ a. record { needs = a.needs; waits = a.waits.items; started = a.first.items ++ flat_map (labels_at a.needs) a.done.items } };
 
-    ghost invariant = { λ a. IsKept a.needs a.waits.items (a.first.items ++ flat_map (labels_at a.needs) a.done.items) (vec_len a.done) (vec_capacity a.done) a.service_names a.services a.group_names a.groups a.ready };
+    ghost invariant = { λ a. IsKept a.needs a.waits.items (a.first.items ++ flat_map (labels_at a.needs) a.done.items)
+        (vec_len a.done) (vec_capacity a.done) a.service_names a.services a.group_names a.groups a.ready };
 }
 
 impl Waiting {

@@ -16,7 +16,9 @@ use Rattle.safe_boot.specs.Listed.{listed_names, stays, reduced_of}
 
 pub each_kept : {X : Type 0} (P : X → Type 0) (p : X → Bool) (xs : List X) → Each P xs → Each P (filter p xs)
 each_kept P p [] h = tt
-each_kept P p (x ∷ xs) h = elim (p x) as (λ b. Each P (cond b (x ∷ filter p xs) (filter p xs))) [ true ↦ (h.0, each_kept P p xs h.1) | false ↦ each_kept P p xs h.1 ]
+each_kept P p (x ∷ xs) h =
+    elim (p x) as (λ b. Each P (cond b (x ∷ filter p xs) (filter p xs)))
+    [ true ↦ (h.0, each_kept P p xs h.1) | false ↦ each_kept P p xs h.1 ]
 
 unlike_kept : {X : Type 0} (name : X → List ℕ) (p : X → Bool) (xs : List X) → Unlike name xs → Unlike name (filter p xs)
 unlike_kept name p [] h = tt
@@ -30,7 +32,8 @@ length-first : (p : Tree → Bool) (change : Tree → Tree) (ts : List Tree) →
 length-first p change [] = refl
 length-first p change (t ∷ ts) = by_case (p t) (length-first p change ts)
   where
-    by_case : (b : Bool) → length (at_first p change ts) ≡ length ts → length (cond b (change t ∷ ts) (t ∷ at_first p change ts)) ≡ length (t ∷ ts)
+    by_case : (b : Bool) → length (at_first p change ts) ≡ length ts
+        → length (cond b (change t ∷ ts) (t ∷ at_first p change ts)) ≡ length (t ∷ ts)
     by_case true rest = refl
     by_case false rest = ap suc rest
 
@@ -85,7 +88,8 @@ kept keep us f = record {
 }
 
 reduced_key : (keep : Tree → Bool) (t : Tree) → HoldsKeys t → HoldsKeys (of_children (filter keep) t)
-reduced_key keep (key h ts) k = held_with h (listed ts) (filter keep (listed ts)) k.0 (kept keep (listed ts) (fits h ts k))
+reduced_key keep (key h ts) k =
+    held_with h (listed ts) (filter keep (listed ts)) k.0 (kept keep (listed ts) (fits h ts k))
 
 pub same_name : (change : List Tree → List Tree) (t : Tree) → key_name (of_children change t) ≡ key_name t
 same_name change (key h ts) = refl
@@ -101,8 +105,11 @@ first_reduced p keep us f = record {
   held = each_first HoldsKeys p (of_children (filter keep)) (reduced_key keep) us f.held;
 }
 
-with_first : (p keep : Tree → Bool) (t : Tree) → HoldsKeys t → HoldsKeys (of_children (at_first p (of_children (filter keep))) t)
-with_first p keep (key h ts) k = held_with h (listed ts) (at_first p (of_children (filter keep)) (listed ts)) k.0 (first_reduced p keep (listed ts) (fits h ts k))
+with_first : (p keep : Tree → Bool) (t : Tree) → HoldsKeys t
+    → HoldsKeys (of_children (at_first p (of_children (filter keep))) t)
+with_first p keep (key h ts) k =
+    held_with h (listed ts) (at_first p (of_children (filter keep)) (listed ts)) k.0
+    (first_reduced p keep (listed ts) (fits h ts k))
 
 -- what is left can be held
 pub reduced_holds : (set : Tree) (mode : SafeMode) → HoldsKeys set → HoldsKeys (reduced_of set mode)

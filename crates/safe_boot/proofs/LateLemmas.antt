@@ -46,10 +46,12 @@ all_in : (read : Tree → Option Entry) (ts : List Tree) → Each (IsIn read (fi
 all_in read [] = tt
 all_in read (t ∷ ts) = (
   λ e h. first (read t) (filter_map read ts) e h,
-  each_map (IsIn read (filter_map read ts)) (IsIn read (cons_option (read t) (filter_map read ts))) (λ u f e h. further (read t) (filter_map read ts) e (f e h)) ts (all_in read ts),
+  each_map (IsIn read (filter_map read ts)) (IsIn read (cons_option (read t) (filter_map read ts)))
+      (λ u f e h. further (read t) (filter_map read ts) e (f e h)) ts (all_in read ts),
 )
 
-each_both : {X : Type 0} (P Q R : X → Type 0) → ((x : X) → P x → Q x → R x) → (xs : List X) → Each P xs → Each Q xs → Each R xs
+each_both : {X : Type 0} (P Q R : X → Type 0) → ((x : X) → P x → Q x → R x) → (xs : List X) → Each P xs → Each Q xs
+    → Each R xs
 each_both P Q R f [] h k = tt
 each_both P Q R f (x ∷ xs) h k = (f x h.0 k.0, each_both P Q R f xs h.1 k.1)
 
@@ -61,23 +63,29 @@ not_so false h = refl
 abbrev kept_by : (Tree → Option Entry) → (Entry → Bool) → Tree → Bool
 kept_by read out t = not (option_map_or out (read t) false)
 
-stay_by : (read : Tree → Option Entry) (out : Entry → Bool) (keys : List Tree) (P : Entry → Type 0) → ((e : Entry) → Contains (filter_map read keys) e → out e ≡ false → P e)
+stay_by : (read : Tree → Option Entry) (out : Entry → Bool) (keys : List Tree) (P : Entry → Type 0)
+    → ((e : Entry) → Contains (filter_map read keys) e → out e ≡ false → P e)
     → Each P (filter_map read (filter (kept_by read out) keys))
 stay_by read out keys P says =
     each_given read P (filter (kept_by read out) keys)
-    (each_both (IsIn read (filter_map read keys)) (λ t. kept_by read out t ≡ true) (λ t. (e : Entry) → read t ≡ Some e → P e)
-    (λ t f s e h. says e (f e h) (not_so (out e) (sym (ap (λ o. not (option_map_or out o false)) h) ∙ s))) (filter (kept_by read out) keys)
-    (each_kept (IsIn read (filter_map read keys)) (kept_by read out) keys (all_in read keys)) (each_passes (kept_by read out) keys))
+    (each_both (IsIn read (filter_map read keys)) (λ t. kept_by read out t ≡ true)
+    (λ t. (e : Entry) → read t ≡ Some e → P e)
+    (λ t f s e h. says e (f e h) (not_so (out e) (sym (ap (λ o. not (option_map_or out o false)) h) ∙ s)))
+    (filter (kept_by read out) keys)
+    (each_kept (IsIn read (filter_map read keys)) (kept_by read out) keys (all_in read keys))
+    (each_passes (kept_by read out) keys))
 
 -- an entry of the set that is not left out
 record Stays (set : Tree) (names : List (List ℕ)) (e : Entry) : Type 0 where
   there : Contains (entries_of set) e
   unleft : is_left_out names e ≡ false
 
-entries_stay : (set : Tree) (mode : SafeMode) → Each (Stays set (listed_names set mode)) (entries_of (reduced_of set mode))
+entries_stay : (set : Tree) (mode : SafeMode)
+    → Each (Stays set (listed_names set mode)) (entries_of (reduced_of set mode))
 entries_stay set mode =
     subst (λ ts. Each (Stays set (listed_names set mode)) (filter_map entry_of ts)) (sym (services_reduced set mode))
-    (stay_by entry_of (is_left_out (listed_names set mode)) (services_of set) (Stays set (listed_names set mode)) (λ e c u. record { there = c; unleft = u }))
+    (stay_by entry_of (is_left_out (listed_names set mode)) (services_of set) (Stays set (listed_names set mode))
+    (λ e c u. record { there = c; unleft = u }))
 
 -- ---- what a phase takes
 
@@ -88,35 +96,45 @@ At Q entries p = (e : Entry) → slice_get entries p ≡ Some e → Q e
 each_placed : (P : Rank → Type 0) (r : Rank) (rs : List Rank) → P r → Each P rs → Each P (placed r rs)
 each_placed P r [] k h = (k, tt)
 each_placed P r (s ∷ rs) k h =
-    elim (is_before r s) as (λ b. Each P (cond b (r ∷ s ∷ rs) (s ∷ placed r rs))) [ true ↦ (k, h) | false ↦ (h.0, each_placed P r rs k h.1) ]
+    elim (is_before r s) as (λ b. Each P (cond b (r ∷ s ∷ rs) (s ∷ placed r rs)))
+    [ true ↦ (k, h) | false ↦ (h.0, each_placed P r rs k h.1) ]
 
 each_ordered : (P : Rank → Type 0) (rs : List Rank) → Each P rs → Each P (ordered_of rs)
 each_ordered P [] h = tt
 each_ordered P (r ∷ rs) h = each_placed P r (ordered_of rs) h.0 (each_ordered P rs h.1)
 
-place_of : (orders : List GroupOrder) (counts : Bool) (p : ℕ) (o : Option Entry) (r : Rank) → option_map (rank_of orders counts p) o ≡ Some r → p ≡ r.place
+place_of : (orders : List GroupOrder) (counts : Bool) (p : ℕ) (o : Option Entry) (r : Rank)
+    → option_map (rank_of orders counts p) o ≡ Some r → p ≡ r.place
 place_of orders counts p None r h = absurd cc
 place_of orders counts p (Some e) r h = ap (λ (o : Option Rank). option_map_or (λ (r : Rank). r.place) o 0) h
 
-planned : (Q : Entry → Type 0) (entries : List Entry) (orders : List GroupOrder) (counts : Bool) (taken : List ℕ) → Each (At Q entries) taken
-    → Each Q (filter_map (λ (r : Rank). slice_get entries r.place) (ordered_of (filter_map (λ p. option_map (rank_of orders counts p) (slice_get entries p)) taken)))
+planned : (Q : Entry → Type 0) (entries : List Entry) (orders : List GroupOrder) (counts : Bool) (taken : List ℕ)
+    → Each (At Q entries) taken
+    → Each Q (filter_map (λ (r : Rank). slice_get entries r.place)
+    (ordered_of (filter_map (λ p. option_map (rank_of orders counts p) (slice_get entries p)) taken)))
 planned Q entries orders counts taken h =
     let ranks : List Rank = filter_map (λ p. option_map (rank_of orders counts p) (slice_get entries p)) taken in
     let each : Each (λ (r : Rank). At Q entries r.place) ranks =
-    each_given (λ p. option_map (rank_of orders counts p) (slice_get entries p)) (λ (r : Rank). At Q entries r.place) taken
-    (each_map (At Q entries) (λ p. (r : Rank) → option_map (rank_of orders counts p) (slice_get entries p) ≡ Some r → At Q entries r.place)
+    each_given (λ p. option_map (rank_of orders counts p) (slice_get entries p)) (λ (r : Rank). At Q entries r.place)
+    taken
+    (each_map (At Q entries) (λ p. (r : Rank) → option_map (rank_of orders counts p) (slice_get entries p) ≡ Some r
+    → At Q entries r.place)
     (λ p q r is. subst (At Q entries) (place_of orders counts p (slice_get entries p) r is) q) taken h) in
-    each_given (λ (r : Rank). slice_get entries r.place) Q (ordered_of ranks) (each_ordered (λ (r : Rank). At Q entries r.place) ranks each)
+    each_given (λ (r : Rank). slice_get entries r.place) Q (ordered_of ranks)
+    (each_ordered (λ (r : Rank). At Q entries r.place) ranks each)
 
 -- what a phase takes, in its order
 plan : Tree → Phase → List (List ℕ) → List Entry
 plan set phase tried = plan_of set phase tried
 
-in_plan : (Q : Entry → Type 0) (set : Tree) (phase : Phase) (tried : List (List ℕ)) → Each (At Q (entries_of set)) (taken_of (entries_of set) phase tried) → Each Q (plan set phase tried)
+in_plan : (Q : Entry → Type 0) (set : Tree) (phase : Phase) (tried : List (List ℕ))
+    → Each (At Q (entries_of set)) (taken_of (entries_of set) phase tried) → Each Q (plan set phase tried)
 unfolding plan
-in_plan Q set phase tried h = planned Q (entries_of set) (orders_of set) (tags_count_in phase) (taken_of (entries_of set) phase tried) h
+in_plan Q set phase tried h =
+    planned Q (entries_of set) (orders_of set) (tags_count_in phase) (taken_of (entries_of set) phase tried) h
 
-passes_at : (test : Entry → Bool) (entries : List Entry) (p : ℕ) (e : Entry) → option_map_or test (slice_get entries p) false ≡ true → slice_get entries p ≡ Some e → test e ≡ true
+passes_at : (test : Entry → Bool) (entries : List Entry) (p : ℕ) (e : Entry)
+    → option_map_or test (slice_get entries p) false ≡ true → slice_get entries p ≡ Some e → test e ≡ true
 passes_at test entries p e h is = sym (ap (λ o. option_map_or test o false) is) ∙ h
 
 -- ---- the drivers of Start 1
@@ -124,14 +142,18 @@ passes_at test entries p e h is = sym (ap (λ o. option_map_or test o false) is)
 one_is_late : (n : ℕ) → (n == 1) ≡ true → (n == 0) ≡ false
 one_is_late n h = grind (arith, nat_tests)
 
-system_late : (entries : List Entry) (tried : List (List ℕ)) → Each (At (λ e. (e.start == 0) ≡ false) entries) (taken_of entries System tried)
+system_late : (entries : List Entry) (tried : List (List ℕ))
+    → Each (At (λ e. (e.start == 0) ≡ false) entries) (taken_of entries System tried)
 system_late entries tried =
-    each_map (λ p. option_map_or (is_driver_of 1 tried) (slice_get entries p) false ≡ true) (At (λ e. (e.start == 0) ≡ false) entries)
+    each_map (λ p. option_map_or (is_driver_of 1 tried) (slice_get entries p) false ≡ true)
+    (At (λ e. (e.start == 0) ≡ false) entries)
     (λ p h e is.
     let t = passes_at (is_driver_of 1 tried) entries p e h is in
-    one_is_late e.start (both (is_driver e.kind) (e.start == 1) (both (is_driver e.kind && (e.start == 1)) (not (was_tried tried e)) t).0).1)
+    one_is_late e.start (both (is_driver e.kind) (e.start == 1)
+    (both (is_driver e.kind && (e.start == 1)) (not (was_tried tried e)) t).0).1)
     (places_of (is_driver_of 1 tried) entries)
-    (each_passes (λ p. option_map_or (is_driver_of 1 tried) (slice_get entries p) false) (range_with_len 0 (length entries)))
+    (each_passes (λ p. option_map_or (is_driver_of 1 tried) (slice_get entries p) false)
+    (range_with_len 0 (length entries)))
 
 -- ---- what the automatic phase takes
 
@@ -140,21 +162,24 @@ record IsThere (entries : List Entry) (p : ℕ) : Type 0 where
   entry : Entry
   here : slice_get entries p ≡ Some entry
 
-is_there : (test : Entry → Bool) (entries : List Entry) (p : ℕ) (o : Option Entry) → slice_get entries p ≡ o → option_map_or test o false ≡ true → IsThere entries p
+is_there : (test : Entry → Bool) (entries : List Entry) (p : ℕ) (o : Option Entry) → slice_get entries p ≡ o
+    → option_map_or test o false ≡ true → IsThere entries p
 is_there test entries p None is h = absurd cc
 is_there test entries p (Some e) is h = record { entry = e; here = is }
 
 some_same : {X : Type 0} (x y : X) (o : Option X) → o ≡ Some x → o ≡ Some y → x ≡ y
 some_same x y o h k = some_is x y (sym h ∙ k)
 
-need_at : (entries : List Entry) (places : List ℕ) (i p : ℕ) (e : Entry) → Each (IsThere entries) places → slice_get places i ≡ Some p → slice_get entries p ≡ Some e
+need_at : (entries : List Entry) (places : List ℕ) (i p : ℕ) (e : Entry) → Each (IsThere entries) places
+    → slice_get places i ≡ Some p → slice_get entries p ≡ Some e
     → slice_get (needs_at entries places) i ≡ Some (need_of e)
 need_at entries [] i p e h at is = absurd cc
 need_at entries (q ∷ qs) zero p e h at is =
     let same : q ≡ p = some_same q p (Some q) refl at in
     ap (λ o. slice_get (cons_option (option_map need_of o) (needs_at entries qs)) 0) (ap (slice_get entries) same ∙ is)
 need_at entries (q ∷ qs) (suc i) p e h at is =
-    ap (λ o. slice_get (cons_option (option_map need_of o) (needs_at entries qs)) (suc i)) h.0.here ∙ need_at entries qs i p e h.1 at is
+    ap (λ o. slice_get (cons_option (option_map need_of o) (needs_at entries qs)) (suc i)) h.0.here
+    ∙ need_at entries qs i p e h.1 at is
 
 late_or : (n : ℕ) → ((n == 2) || (n == 3)) ≡ true → (n == 0) ≡ false
 late_or n h = grind (arith, nat_tests)
@@ -169,7 +194,9 @@ or_right : (a b : Bool) → b ≡ true → (a || b) ≡ true
 or_right true b h = refl
 or_right false b h = h
 
-pulled_start : (a b : Option Need) → option_map_or (λ (n : Need). option_map_or (λ (m : Need). (m.start == 3) && list_any (folds_same m.name) n.services) b false) a false ≡ true
+pulled_start : (a b : Option Need)
+    → option_map_or (λ (n : Need). option_map_or
+    (λ (m : Need). (m.start == 3) && list_any (folds_same m.name) n.services) b false) a false ≡ true
     → option_map_or (λ (m : Need). m.start == 3) b false ≡ true
 pulled_start None b h = absurd cc
 pulled_start (Some n) None h = absurd cc
@@ -178,22 +205,29 @@ pulled_start (Some n) (Some m) h = (both (m.start == 3) (list_any (folds_same m.
 closed : (table : List Need) → IsClosed table (automatic_set table)
 closed table = record {
   starts = λ q h. or_left (starts_at table 2 q) (starts_at table 3 q) h;
-  pulled = λ p q m h. or_right (starts_at table 2 q) (starts_at table 3 q) (pulled_start (slice_get table p) (slice_get table q) h);
+  pulled = λ p q m h. or_right (starts_at table 2 q) (starts_at table 3 q)
+      (pulled_start (slice_get table p) (slice_get table q) h);
 }
 
-automatic_late : (entries : List Entry) (tried : List (List ℕ)) → Each (At (λ e. (e.start == 0) ≡ false) entries) (taken_of entries Automatic tried)
+automatic_late : (entries : List Entry) (tried : List (List ℕ))
+    → Each (At (λ e. (e.start == 0) ≡ false) entries) (taken_of entries Automatic tried)
 automatic_late entries tried =
     let places : List ℕ = places_of (is_open tried) entries in
     let table : List Need = needs_at entries places in
     let valid : Each (IsThere entries) places =
-    each_map (λ p. option_map_or (is_open tried) (slice_get entries p) false ≡ true) (IsThere entries) (λ p h. is_there (is_open tried) entries p (slice_get entries p) refl h) places
-    (each_passes (λ p. option_map_or (is_open tried) (slice_get entries p) false) (range_with_len 0 (length entries))) in
+    each_map (λ p. option_map_or (is_open tried) (slice_get entries p) false ≡ true) (IsThere entries)
+    (λ p h. is_there (is_open tried) entries p (slice_get entries p) refl h) places
+    (each_passes (λ p. option_map_or (is_open tried) (slice_get entries p) false)
+    (range_with_len 0 (length entries))) in
     each_given (slice_get places) (At (λ e. (e.start == 0) ≡ false) entries) (automatic_of table)
-    (each_map (λ i. is_taken table i ≡ true) (λ i. (p : ℕ) → slice_get places i ≡ Some p → At (λ e. (e.start == 0) ≡ false) entries p)
+    (each_map (λ i. is_taken table i ≡ true)
+    (λ i. (p : ℕ) → slice_get places i ≡ Some p → At (λ e. (e.start == 0) ≡ false) entries p)
     (λ i taken p at e is.
     let need : slice_get table i ≡ Some (need_of e) = need_at entries places i p e valid at is in
-    let member = is_taken-least_of_all table (automatic_set table) (closed table) i (slice_get_within table i (need_of e) need) taken in
-    late_or e.start (sym (ap (λ o. option_map_or (λ (n : Need). n.start == 2) o false || option_map_or (λ (n : Need). n.start == 3) o false) need) ∙ member))
+    let member = is_taken-least_of_all table (automatic_set table) (closed table) i
+    (slice_get_within table i (need_of e) need) taken in
+    late_or e.start (sym (ap (λ o. option_map_or (λ (n : Need). n.start == 2) o false || option_map_or
+    (λ (n : Need). n.start == 3) o false) need) ∙ member))
     (automatic_of table) (each_passes (is_taken table) (range_with_len 0 (length table))))
 
 -- ---- an entry that is taken late is listed
@@ -208,7 +242,8 @@ listed_so true among z h = absurd cc
 listed_so false true z h = refl
 listed_so false false z h = absurd cc
 
-late_entries : (set : Tree) (mode : SafeMode) (entries : List Entry) (taken : List ℕ) → Each (Stays set (listed_names set mode)) entries → Each (At (λ e. (e.start == 0) ≡ false) entries) taken
+late_entries : (set : Tree) (mode : SafeMode) (entries : List Entry) (taken : List ℕ)
+    → Each (Stays set (listed_names set mode)) entries → Each (At (λ e. (e.start == 0) ≡ false) entries) taken
     → Each (At (IsTaken set mode) entries) taken
 late_entries set mode entries taken stay late =
     each_map (At (λ e. (e.start == 0) ≡ false) entries) (At (IsTaken set mode) entries)
@@ -217,9 +252,13 @@ late_entries set mode entries taken stay late =
     record { there = s.there; listed = listed_so (e.start == 0) (is_listed set mode e) (h e is) s.unleft })
     taken late
 
-late_taken : (set r : Tree) (mode : SafeMode) (phase : Phase) (tried : List (List ℕ)) → Each (Stays set (listed_names set mode)) (entries_of r)
-    → Each (At (λ e. (e.start == 0) ≡ false) (entries_of r)) (taken_of (entries_of r) phase tried) → Each (IsTaken set mode) (plan r phase tried)
-late_taken set r mode phase tried stay late = in_plan (IsTaken set mode) r phase tried (late_entries set mode (entries_of r) (taken_of (entries_of r) phase tried) stay late)
+late_taken : (set r : Tree) (mode : SafeMode) (phase : Phase) (tried : List (List ℕ))
+    → Each (Stays set (listed_names set mode)) (entries_of r)
+    → Each (At (λ e. (e.start == 0) ≡ false) (entries_of r)) (taken_of (entries_of r) phase tried)
+    → Each (IsTaken set mode) (plan r phase tried)
+late_taken set r mode phase tried stay late =
+    in_plan (IsTaken set mode) r phase tried
+    (late_entries set mode (entries_of r) (taken_of (entries_of r) phase tried) stay late)
 
 -- ---- the lines of a course
 
@@ -239,12 +278,14 @@ extends_then L c d e a b = record {
   each = each_append L a.more b.more a.each b.each;
 }
 
-attempts_extend : (L : Line → Type 0) (Q : Entry → Type 0) → ((e : Entry) → Q e → L (TryLine e.name TryOk)) → (n : ℕ) (c : Course) → Each Q c.start.waiting → Extends L c (attempts_of n c)
+attempts_extend : (L : Line → Type 0) (Q : Entry → Type 0) → ((e : Entry) → Q e → L (TryLine e.name TryOk))
+    → (n : ℕ) (c : Course) → Each Q c.start.waiting → Extends L c (attempts_of n c)
 unfolding attempts_of
 attempts_extend L Q says zero c h = extends_none L c
 attempts_extend L Q says (suc n) c h = by_next (next_entry c.start) refl (λ d k. attempts_extend L Q says n d k)
   where
-    by_next : (o : Option (ℕ × Entry)) → next_entry c.start ≡ o → ((d : Course) → Each Q d.start.waiting → Extends L d (attempts_of n d))
+    by_next : (o : Option (ℕ × Entry)) → next_entry c.start ≡ o
+        → ((d : Course) → Each Q d.start.waiting → Extends L d (attempts_of n d))
         → Extends L c (option_map_or (λ (next : ℕ × Entry). attempts_of n (tried_at c next.0 next.1)) o c)
     by_next None is rest = extends_none L c
     by_next (Some next) is rest =
@@ -259,11 +300,13 @@ attempts_phase zero c = refl
 attempts_phase (suc n) c = by_next (next_entry c.start) (λ d. attempts_phase n d)
   where
     by_next : (o : Option (ℕ × Entry)) → ((d : Course) → (attempts_of n d).start.phase ≡ d.start.phase)
-        → (option_map_or (λ (next : ℕ × Entry). attempts_of n (tried_at c next.0 next.1)) o c).start.phase ≡ c.start.phase
+        → (option_map_or (λ (next : ℕ × Entry). attempts_of n (tried_at c next.0 next.1)) o c).start.phase
+        ≡ c.start.phase
     by_next None rest = refl
     by_next (Some next) rest = rest (tried_at c next.0 next.1)
 
-unmet_listed : (set : Tree) (mode : SafeMode) (names : List (List ℕ)) → Each (StartsListed set mode) (map UnmetLine names)
+unmet_listed : (set : Tree) (mode : SafeMode) (names : List (List ℕ))
+    → Each (StartsListed set mode) (map UnmetLine names)
 unmet_listed set mode [] = tt
 unmet_listed set mode (n ∷ ns) = (tt, unmet_listed set mode ns)
 
@@ -277,28 +320,37 @@ says_listed : (set : Tree) (mode : SafeMode) (e : Entry) → IsTaken set mode e 
 says_listed set mode e t = record { entry = e; there = t.there; named = refl; listed = t.listed }
 
 -- a phase of listed entries
-phase_extends : (set r : Tree) (mode : SafeMode) (c : Course) → Each (IsTaken set mode) c.start.waiting → Extends (StartsListed set mode) c (phase_played r c)
+phase_extends : (set r : Tree) (mode : SafeMode) (c : Course) → Each (IsTaken set mode) c.start.waiting
+    → Extends (StartsListed set mode) c (phase_played r c)
 unfolding phase_played
 phase_extends set r mode c h =
     let d : Course = attempts_of (length c.start.waiting) c in
-    extends_then (StartsListed set mode) c d (phase_ended r d) (attempts_extend (StartsListed set mode) (IsTaken set mode) (says_listed set mode) (length c.start.waiting) c h)
+    extends_then (StartsListed set mode) c d (phase_ended r d)
+    (attempts_extend (StartsListed set mode) (IsTaken set mode) (says_listed set mode) (length c.start.waiting) c h)
     (record {
       more = map UnmetLine (map (λ e. e.name) d.start.waiting) ++ phase_line (after_phase r d.start).phase ∷ [];
-      lines = append_assoc d.lines (map UnmetLine (map (λ e. e.name) d.start.waiting)) (phase_line (after_phase r d.start).phase ∷ []);
-      each = each_append (StartsListed set mode) (map UnmetLine (map (λ e. e.name) d.start.waiting)) (phase_line (after_phase r d.start).phase ∷ [])
-          (unmet_listed set mode (map (λ e. e.name) d.start.waiting)) (phase_listed set mode (after_phase r d.start).phase, tt);
+      lines = append_assoc d.lines (map UnmetLine (map (λ e. e.name) d.start.waiting))
+          (phase_line (after_phase r d.start).phase ∷ []);
+      each = each_append (StartsListed set mode) (map UnmetLine (map (λ e. e.name) d.start.waiting))
+          (phase_line (after_phase r d.start).phase ∷ [])
+          (unmet_listed set mode (map (λ e. e.name) d.start.waiting))
+          (phase_listed set mode (after_phase r d.start).phase, tt);
     })
 
 played_phase : (r : Tree) (c : Course) → (phase_played r c).start.phase ≡ phase_after c.start.phase
 unfolding phase_played
 played_phase r c = ap phase_after (attempts_phase (length c.start.waiting) c)
 
-played_waiting : (r : Tree) (c : Course) → (phase_played r c).start.waiting ≡ plan r (phase_after c.start.phase) (attempts_of (length c.start.waiting) c).start.tried
+played_waiting : (r : Tree) (c : Course)
+    → (phase_played r c).start.waiting
+    ≡ plan r (phase_after c.start.phase) (attempts_of (length c.start.waiting) c).start.tried
 unfolding phase_played plan
-played_waiting r c = ap (λ phase. plan_of r (phase_after phase) (attempts_of (length c.start.waiting) c).start.tried) (attempts_phase (length c.start.waiting) c)
+played_waiting r c = ap (λ phase. plan_of r (phase_after phase) (attempts_of (length c.start.waiting) c).start.tried)
+    (attempts_phase (length c.start.waiting) c)
 
 -- the lines behind the first phase
-late_lines : (set r : Tree) (mode : SafeMode) (c : Course) → Each (Stays set (listed_names set mode)) (entries_of r) → c.start.phase ≡ Boot
+late_lines : (set r : Tree) (mode : SafeMode) (c : Course) → Each (Stays set (listed_names set mode)) (entries_of r)
+    → c.start.phase ≡ Boot
     → Extends (StartsListed set mode) (phase_played r c) (phase_played r (phase_played r (phase_played r c)))
 late_lines set r mode c stay boot =
     let one : Course = phase_played r c in
@@ -307,22 +359,32 @@ late_lines set r mode c stay boot =
     let tried : List (List ℕ) = (attempts_of (length one.start.waiting) one).start.tried in
     let started : one.start.phase ≡ System = played_phase r c ∙ ap phase_after boot in
     let system : Each (IsTaken set mode) one.start.waiting =
-    subst (Each (IsTaken set mode)) (sym (played_waiting r c ∙ ap (λ phase. plan r (phase_after phase) before) boot)) (late_taken set r mode System before stay (system_late (entries_of r) before)) in
+    subst (Each (IsTaken set mode)) (sym (played_waiting r c ∙ ap (λ phase. plan r (phase_after phase) before) boot))
+    (late_taken set r mode System before stay (system_late (entries_of r) before)) in
     let automatic : Each (IsTaken set mode) two.start.waiting =
-    subst (Each (IsTaken set mode)) (sym (played_waiting r one ∙ ap (λ phase. plan r (phase_after phase) tried) started)) (late_taken set r mode Automatic tried stay (automatic_late (entries_of r) tried)) in
-    extends_then (StartsListed set mode) one two (phase_played r two) (phase_extends set r mode one system) (phase_extends set r mode two automatic)
+    subst (Each (IsTaken set mode))
+    (sym (played_waiting r one ∙ ap (λ phase. plan r (phase_after phase) tried) started))
+    (late_taken set r mode Automatic tried stay (automatic_late (entries_of r) tried)) in
+    extends_then (StartsListed set mode) one two (phase_played r two) (phase_extends set r mode one system)
+    (phase_extends set r mode two automatic)
 
-behind_first : (set : Tree) (mode : SafeMode) (one whole : Course) (later : List Line) → Extends (StartsListed set mode) one whole → whole.lines ≡ one.lines ++ later → All (StartsListed set mode) later
+behind_first : (set : Tree) (mode : SafeMode) (one whole : Course) (later : List Line)
+    → Extends (StartsListed set mode) one whole → whole.lines ≡ one.lines ++ later → All (StartsListed set mode) later
 behind_first set mode one whole later more is =
-    each_all (StartsListed set mode) later (subst (Each (StartsListed set mode)) (append_cancel_left one.lines more.more later (sym more.lines ∙ is)) more.each)
+    each_all (StartsListed set mode) later
+    (subst (Each (StartsListed set mode)) (append_cancel_left one.lines more.more later (sym more.lines ∙ is))
+    more.each)
 
 begins : (r : Tree) → (course_begun r).start.phase ≡ Boot
 unfolding course_begun
 begins r = refl
 
-late_of : (set r : Tree) (mode : SafeMode) (later : List Line) → Each (Stays set (listed_names set mode)) (entries_of r) → start_lines_of r ≡ first_phase_of r ++ later → All (StartsListed set mode) later
+late_of : (set r : Tree) (mode : SafeMode) (later : List Line) → Each (Stays set (listed_names set mode)) (entries_of r)
+    → start_lines_of r ≡ first_phase_of r ++ later → All (StartsListed set mode) later
 late_of set r mode later stay is =
-    behind_first set mode (phase_played r (course_begun r)) (phase_played r (phase_played r (phase_played r (course_begun r)))) later (late_lines set r mode (course_begun r) stay (begins r)) is
+    behind_first set mode (phase_played r (course_begun r))
+    (phase_played r (phase_played r (phase_played r (course_begun r)))) later
+    (late_lines set r mode (course_begun r) stay (begins r)) is
 
 pub first_in_front : FirstIsInFront
 first_in_front set mode =

@@ -12,11 +12,13 @@ pub each_passes : {X : Type 0} (p : X → Bool) (xs : List X) → Each (λ x. p 
 each_passes p [] = tt
 each_passes p (x ∷ xs) = by_case (p x) refl (each_passes p xs)
   where
-    by_case : (b : Bool) → p x ≡ b → Each (λ x. p x ≡ true) (filter p xs) → Each (λ x. p x ≡ true) (cond b (x ∷ filter p xs) (filter p xs))
+    by_case : (b : Bool) → p x ≡ b → Each (λ x. p x ≡ true) (filter p xs)
+        → Each (λ x. p x ≡ true) (cond b (x ∷ filter p xs) (filter p xs))
     by_case true e rest = (e, rest)
     by_case false e rest = rest
 
-pub each_given : {X Y : Type 0} (h : X → Option Y) (Q : Y → Type 0) (xs : List X) → Each (λ x. (y : Y) → h x ≡ Some y → Q y) xs → Each Q (filter_map h xs)
+pub each_given : {X Y : Type 0} (h : X → Option Y) (Q : Y → Type 0) (xs : List X)
+    → Each (λ x. (y : Y) → h x ≡ Some y → Q y) xs → Each Q (filter_map h xs)
 each_given {X} {Y} h Q [] g = tt
 each_given {X} {Y} h Q (x ∷ xs) g = by_case (h x) refl (each_given h Q xs g.1)
   where

@@ -19,7 +19,8 @@ within : {X : Type 0} (p : X → Bool) (xs : List X) → ltb (position_or_len p 
 within p [] = refl
 within p (x ∷ xs) = by_case (p x) (within p xs)
   where
-    by_case : (b : Bool) → ltb (position_or_len p xs) (length xs) ≡ list_any p xs → ltb (cond (not b) (1 + position_or_len p xs) 0) (suc (length xs)) ≡ (b || list_any p xs)
+    by_case : (b : Bool) → ltb (position_or_len p xs) (length xs) ≡ list_any p xs
+        → ltb (cond (not b) (1 + position_or_len p xs) 0) (suc (length xs)) ≡ (b || list_any p xs)
     by_case true rest = lt-ltb 0 (suc (length xs)) (omega arith)
     by_case false rest = shorter (position_or_len p xs) (length xs) ∙ rest
 
@@ -27,27 +28,33 @@ some_where : (b : Bool) (n : ℕ) → is_some (cond b (Some n) None) ≡ b
 some_where true n = refl
 some_where false n = refl
 
-pub has_place : (names : List (List ℕ)) (name : List ℕ) → is_some (position (folds_same name) names) ≡ has_name names name
+pub has_place : (names : List (List ℕ)) (name : List ℕ)
+    → is_some (position (folds_same name) names) ≡ has_name names name
 has_place names name = some_where _ (position_or_len (folds_same name) names) ∙ within (folds_same name) names
 
 -- ---- the keys of a list, and their names
 
-pub any_named : (name : List ℕ) (ts : List Tree) → list_any (is_named name) ts ≡ has_name (map (λ t. (head t).name) ts) name
+pub any_named : (name : List ℕ) (ts : List Tree)
+    → list_any (is_named name) ts ≡ has_name (map (λ t. (head t).name) ts) name
 any_named name [] = refl
 any_named name (t ∷ ts) = ap (λ b. folds_same name (head t).name || b) (any_named name ts)
 
 any_group : (group : Option (List ℕ)) (ts : List Tree)
-    → option_map_or (λ name. list_any (is_named name) ts) group false ≡ option_map_or (has_name (map (λ t. (head t).name) ts)) group false
+    → option_map_or (λ name. list_any (is_named name) ts) group false
+    ≡ option_map_or (has_name (map (λ t. (head t).name) ts)) group false
 any_group None ts = refl
 any_group (Some name) ts = any_named name ts
 
-listed_by : (ts : List Tree) (name : List ℕ) (group : Option (List ℕ)) → (list_any (is_named name) ts || option_map_or (λ name. list_any (is_named name) ts) group false)
+listed_by : (ts : List Tree) (name : List ℕ) (group : Option (List ℕ))
+    → (list_any (is_named name) ts || option_map_or (λ name. list_any (is_named name) ts) group false)
     ≡ is_among (map (λ t. (head t).name) ts) name group
 listed_by ts name group = λ i. any_named name ts i || any_group group ts i
 
-pub listed_as : (b : Bool) (ks ts : List Tree) (n name : List ℕ) (g group : Option (List ℕ)) → b ≡ (list_any (is_named n) ks || option_map_or (λ name. list_any (is_named name) ks) g false)
+pub listed_as : (b : Bool) (ks ts : List Tree) (n name : List ℕ) (g group : Option (List ℕ))
+    → b ≡ (list_any (is_named n) ks || option_map_or (λ name. list_any (is_named name) ks) g false)
     → ks ≡ ts → n ≡ name → g ≡ group → b ≡ is_among (map (λ t. (head t).name) ts) name group
-listed_as b ks ts n name g group is k m h = is ∙ listed_by ks n g ∙ (λ i. is_among (map (λ t. (head t).name) (k i)) (m i) (h i))
+listed_as b ks ts n name g group is k m h =
+    is ∙ listed_by ks n g ∙ (λ i. is_among (map (λ t. (head t).name) (k i)) (m i) (h i))
 
 -- ---- which children of `Services` stay
 
@@ -60,7 +67,8 @@ some_kind true = refl
 some_kind false = refl
 
 pub late_is : (t : Tree) (start kind : Option ℕ)
-    → option_map_or (λ (e : Entry). not (e.start == 0)) (entry_with t start kind) false ≡ option_map_or (λ s. not (s == 0) && is_some kind) start false
+    → option_map_or (λ (e : Entry). not (e.start == 0)) (entry_with t start kind) false
+    ≡ option_map_or (λ s. not (s == 0) && is_some kind) start false
 late_is t None kind = refl
 late_is t (Some s) None = no_kind (not (s == 0))
 late_is t (Some s) (Some k) = some_kind (not (s == 0))
@@ -75,18 +83,23 @@ late_one true false h = refl
 late_one false b h = absurd cc
 
 -- what is no entry, or has Start 0, stays
-pub early_stays : (names : List (List ℕ)) (t : Tree) (start kind : Option ℕ) → option_map_or (λ (e : Entry). not (e.start == 0)) (entry_with t start kind) false ≡ false
+pub early_stays : (names : List (List ℕ)) (t : Tree) (start kind : Option ℕ)
+    → option_map_or (λ (e : Entry). not (e.start == 0)) (entry_with t start kind) false ≡ false
     → not (option_map_or (is_left_out names) (entry_with t start kind) false) ≡ true
 early_stays names t None kind h = refl
 early_stays names t (Some s) None h = refl
-early_stays names t (Some s) (Some k) h = early_one (not (s == 0)) (is_among names (head t).name (named_group (find_text (codes "Group") t))) h
+early_stays names t (Some s) (Some k) h =
+    early_one (not (s == 0)) (is_among names (head t).name (named_group (find_text (codes "Group") t))) h
 
 -- another entry stays where it is listed
-pub late_stays : (names : List (List ℕ)) (t : Tree) (start kind : Option ℕ) → option_map_or (λ (e : Entry). not (e.start == 0)) (entry_with t start kind) false ≡ true
-    → not (option_map_or (is_left_out names) (entry_with t start kind) false) ≡ is_among names (head t).name (named_group (find_text (codes "Group") t))
+pub late_stays : (names : List (List ℕ)) (t : Tree) (start kind : Option ℕ)
+    → option_map_or (λ (e : Entry). not (e.start == 0)) (entry_with t start kind) false ≡ true
+    → not (option_map_or (is_left_out names) (entry_with t start kind) false)
+    ≡ is_among names (head t).name (named_group (find_text (codes "Group") t))
 late_stays names t None kind h = absurd cc
 late_stays names t (Some s) None h = absurd cc
-late_stays names t (Some s) (Some k) h = late_one (not (s == 0)) (is_among names (head t).name (named_group (find_text (codes "Group") t))) h
+late_stays names t (Some s) (Some k) h =
+    late_one (not (s == 0)) (is_among names (head t).name (named_group (find_text (codes "Group") t))) h
 
 pub answers : {E : Type 0} (r : Result Bool E) (a b : Bool) → b ≡ a → IfOk r (λ x. x ≡ a) → IfOk r (λ x. x ≡ b)
 answers (Ok x) a b same h = h ∙ sym same

@@ -7,7 +7,8 @@ use Rattle.std.proofs.lemmas.List.Elements.{Contains-get_or}
 use Rattle.start_model.specs.Demand.{Need}
 use Rattle.service_control.specs.Causes.{AreCauses, causes_at}
 
-module _ (r : List Need) (p : ℕ) (causes more : List Need) (owners : List ℕ) (old : AreCauses r p causes owners) (inside : p < length r) (are : more ≡ causes_at r p) where
+module _ (r : List Need) (p : ℕ) (causes more : List Need) (owners : List ℕ) (old : AreCauses r p causes owners)
+    (inside : p < length r) (are : more ≡ causes_at r p) where
   abbrev all_causes : List Need
   all_causes = causes ++ more
 
@@ -15,9 +16,16 @@ module _ (r : List Need) (p : ℕ) (causes more : List Need) (owners : List ℕ)
   all_owners = owners ++ replicate (length more) p
 
   all_len : length (owners ++ replicate (length more) p) ≡ length (causes ++ more)
-  all_len = omega (arith, length-append owners (replicate (length more) p), length-append causes more, length-replicate (length more) p, old.len)
+  all_len = omega (
+    arith,
+    length-append owners (replicate (length more) p),
+    length-append causes more,
+    length-replicate (length more) p,
+    old.len,
+  )
 
-  new_owner : (c d : ℕ) → length causes ≤ c → c < length (causes ++ more) → get_or (owners ++ replicate (length more) p) c d ≡ p
+  new_owner : (c d : ℕ) → length causes ≤ c → c < length (causes ++ more)
+      → get_or (owners ++ replicate (length more) p) c d ≡ p
   new_owner c d from lt =
       get_or-append_right owners (replicate (length more) p) (length causes) c d old.len from
       ∙ get_or-replicate (length more) (c - length causes) p d (omega (arith, from, lt, length-append causes more))
@@ -29,7 +37,8 @@ module _ (r : List Need) (p : ℕ) (causes more : List Need) (owners : List ℕ)
   grown = record {
     len = all_len;
     within = λ c d lt. elim (cases_lt c (length causes)) [
-      | inl before ↦ (let e = get_or_append_left owners (replicate (length more) p) d c (omega (arith, before, old.len)) in
+      | inl before ↦ (let e = get_or_append_left owners (replicate (length more) p) d c
+          (omega (arith, before, old.len)) in
           let P : ℕ → Type 0 = λ k. k < length r in subst P (sym e) (old.within c d before))
       | inr from ↦ (let e = new_owner c d from lt in let P : ℕ → Type 0 = λ k. k < length r in subst P (sym e) inside)
     ];
@@ -63,7 +72,8 @@ module _ (r : List Need) (p : ℕ) (causes more : List Need) (owners : List ℕ)
           let P : ℕ → Type 0 = λ k. Contains (causes_at r k) x in
           let L : List Need → Type 0 = λ l. Contains l x in
           let here : Contains more x = subst L (sym are) (subst P same there) in
-          let small : length causes + here.0 < length (causes ++ more) = omega (arith, here.1, length-append causes more) in (
+          let small : length causes + here.0 < length (causes ++ more) =
+          omega (arith, here.1, length-append causes more) in (
             length causes + here.0,
             small,
             λ d. new_owner (length causes + here.0) d (omega arith) small ∙ sym same,
@@ -72,7 +82,8 @@ module _ (r : List Need) (p : ℕ) (causes more : List Need) (owners : List ℕ)
     ];
   }
 
-pub causes_more : (r : List Need) (p : ℕ) (causes made slice causes' : List Need) (owners owners' : List ℕ) → p < length r → AreCauses r p causes owners → made ≡ causes_at r p → slice ≡ made
+pub causes_more : (r : List Need) (p : ℕ) (causes made slice causes' : List Need) (owners owners' : List ℕ)
+    → p < length r → AreCauses r p causes owners → made ≡ causes_at r p → slice ≡ made
     → causes' ≡ causes ++ slice → owners' ≡ owners ++ replicate (length slice) p → AreCauses r (p + 1) causes' owners'
 causes_more r p causes made slice causes' owners owners' inside old are same needs_is owners_is =
     let whole = grown r p causes slice owners old inside (same ∙ are) in

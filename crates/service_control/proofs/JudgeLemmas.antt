@@ -27,19 +27,25 @@ pub next_is : (r x : Option ControlStop) → r ≡ None → option_or r x ≡ x
 next_is r x is = ap (λ o. option_or o x) is
 
 -- the first reason is none, and the next one is judged
-pub answers_next : {T : Type 0} (result : Result T ControlStop) (r x : Option ControlStop) → r ≡ None → Answers result x → Answers result (option_or r x)
+pub answers_next : {T : Type 0} (result : Result T ControlStop) (r x : Option ControlStop) → r ≡ None → Answers result x
+    → Answers result (option_or r x)
 answers_next result r x is s = let P : Option ControlStop → Type 0 = Answers result in subst P (sym (next_is r x is)) s
 
 -- what is needed, by what the code keeps of it
-pub needed_same : (c : ControlState) (n : Need) (t b r : List Need) (index : List (List ℕ)) (started : List Label) (name : List ℕ) (table needed slice : List Need)
-    → record { table = t; by_group = b; running = r } ≡ c → index ≡ names_of t → started ≡ labels_of r → name ≡ n.name → table ≡ t → needed ≡ members_of table started name → slice ≡ needed
+pub needed_same : (c : ControlState) (n : Need) (t b r : List Need) (index : List (List ℕ)) (started : List Label)
+    (name : List ℕ) (table needed slice : List Need)
+    → record { table = t; by_group = b; running = r } ≡ c → index ≡ names_of t → started ≡ labels_of r → name ≡ n.name
+    → table ≡ t → needed ≡ members_of table started name → slice ≡ needed
     → members_refusal index slice ≡ members_refusal (names_of c.table) (members_of c.table (labels_of c.running) n.name)
-needed_same c n t b r index started name table needed slice view index_is started_is name_is table_is needed_is slice_is =
+needed_same c n t b r index started name table needed slice view index_is started_is name_is table_is needed_is
+    slice_is =
     let table_now : t ≡ c.table = ap (λ (v : ControlState). v.table) view in
     let running_now : r ≡ c.running = ap (λ (v : ControlState). v.running) view in
     let members : slice ≡ members_of c.table (labels_of c.running) n.name =
-    slice_is ∙ needed_is ∙ (λ j. members_of ((table_is ∙ table_now) j) ((started_is ∙ ap labels_of running_now) j) (name_is j)) in
+    slice_is ∙ needed_is ∙ (λ j. members_of ((table_is ∙ table_now) j) ((started_is ∙ ap labels_of running_now) j)
+    (name_is j)) in
     (λ i. members_refusal ((index_is ∙ ap names_of table_now) i) (members i))
 
 pub stops_same : (e : ControlStop) (r s x : Option ControlStop) → r ≡ s → StopsBy r e → StopsBy (option_or s x) e
-stops_same e r s x same stops = stops_first e s x (let P : Option ControlStop → Type 0 = λ o. StopsBy o e in subst P same stops)
+stops_same e r s x same stops =
+    stops_first e s x (let P : Option ControlStop → Type 0 = λ o. StopsBy o e in subst P same stops)

@@ -15,12 +15,14 @@ use Rattle.service_control.proofs.SpreadLemmas.{sets_have, closed_passes, passes
 
 all_in : {X : Type 0} (p : X → Bool) (xs : List X) → ((x : X) → Contains xs x → p x ≡ true) → list_all p xs ≡ true
 all_in p [] f = refl
-all_in p (x ∷ xs) f = and_from (p x) (list_all p xs) (f x (0, omega arith, refl)) (all_in p xs (λ y c. f y (suc c.0, omega (arith, c.1), c.2)))
+all_in p (x ∷ xs) f = and_from (p x) (list_all p xs) (f x (0, omega arith, refl))
+    (all_in p xs (λ y c. f y (suc c.0, omega (arith, c.1), c.2)))
 
 all_out : {X : Type 0} (p : X → Bool) (xs : List X) (x : X) → list_all p xs ≡ true → Contains xs x → p x ≡ true
 all_out p xs x h c = ap p (sym c.2) ∙ AllPass-from_list_all p xs h c.0 x c.1
 
-any_more : {X : Type 0} (p q : X → Bool) (xs : List X) → ((x : X) → p x ≡ true → q x ≡ true) → list_any p xs ≡ true → list_any q xs ≡ true
+any_more : {X : Type 0} (p q : X → Bool) (xs : List X) → ((x : X) → p x ≡ true → q x ≡ true) → list_any p xs ≡ true
+    → list_any q xs ≡ true
 any_more p q [] f h = absurd (false≢true h)
 any_more p q (x ∷ xs) f h = elim (or_cases (p x) (list_any p xs) h) [
   | inl here ↦ or_left (q x) (list_any q xs) (f x here)
@@ -39,19 +41,22 @@ module _ (r : List Need) (s : List ℕ) (set other : ℕ → Bool) (more : (q : 
 
   leans_grows : (n : Need) → leans r s set n ≡ true → leans r s other n ≡ true
   leans_grows n h =
-      elim (or_cases (folds_same s n.name || has r set n.name) (list_any (has r set) n.services || list_any (has_all r set) n.groups) h) [
+      elim (or_cases (folds_same s n.name || has r set n.name)
+      (list_any (has r set) n.services || list_any (has_all r set) n.groups) h) [
         | inl one ↦ elim (or_cases (folds_same s n.name) (has r set n.name) one) [
           | inl seed ↦ lean_seed r s other n seed
           | inr had ↦ lean_name r s other n (has_grows n.name had)
         ]
         | inr two ↦ elim (or_cases (list_any (has r set) n.services) (list_any (has_all r set) n.groups) two) [
           | inl services ↦ lean_service r s other n (any_more (has r set) (has r other) n.services has_grows services)
-          | inr groups ↦ lean_group r s other n (any_more (has_all r set) (has_all r other) n.groups has_all_grows groups)
+          | inr groups ↦ lean_group r s other n
+              (any_more (has_all r set) (has_all r other) n.groups has_all_grows groups)
         ]
       ]
 
   due_grows : (q : ℕ) → is_due r s set q ≡ true → is_due r s other q ≡ true
-  due_grows q h = let lt = due_within r s set q h in due_is r s other q lt ∙ leans_grows (get_or r q none) (sym (due_is r s set q lt) ∙ h)
+  due_grows q h = let lt = due_within r s set q h in
+      due_is r s other q lt ∙ leans_grows (get_or r q none) (sym (due_is r s set q lt) ∙ h)
 
 pub leaning_closed : (r : List Need) (s : List ℕ) → IsClosed r s (is_leaning r s)
 unfolding is_leaning
@@ -60,12 +65,15 @@ leaning_closed r s q due =
     (λ t there. then_true (is_closed r s (member t)) (member t q)
     (λ closed. passes_closed r s (member t) closed q
     (due_grows r s (is_leaning r s) (member t)
-    (λ p leans. then_gives (is_closed r s (member t)) (member t p) (all_out (λ t. not (is_closed r s (member t)) || member t p) (all_sets (length r)) t leans there) closed) q due)))
+    (λ p leans. then_gives (is_closed r s (member t)) (member t p)
+    (all_out (λ t. not (is_closed r s (member t)) || member t p) (all_sets (length r)) t leans there) closed)
+    q due)))
 
 listed : (set : ℕ → Bool) (n q : ℕ) → q < n → member (map set (range_with_len 0 n)) q ≡ set q
 listed set n q lt = get_or-map-range_with_len set 0 n q q false lt (zero-add q)
 
-pub leaning_least : (r : List Need) (s : List ℕ) (set : ℕ → Bool) → IsClosed r s set → (q : ℕ) → q < length r → is_leaning r s q ≡ true → set q ≡ true
+pub leaning_least : (r : List Need) (s : List ℕ) (set : ℕ → Bool) → IsClosed r s set → (q : ℕ) → q < length r
+    → is_leaning r s q ≡ true → set q ≡ true
 unfolding is_leaning
 leaning_least r s set closed q lt h =
     let n = length r in
@@ -76,7 +84,8 @@ leaning_least r s set closed q lt h =
     listed set n p within ∙ closed p (due_grows r s (member t) set in_set p due)) in
     let test : List Bool → Bool = λ t. not (is_closed r s (member t)) || member t q in
     let all : list_all test (all_sets (length t)) ≡ true = ap (λ k. list_all test (all_sets k)) len ∙ h in
-    sym (listed set n q lt) ∙ then_gives (is_closed r s (member t)) (member t q) (sets_have test t all) (closed_passes r s (member t) is)
+    sym (listed set n q lt) ∙ then_gives (is_closed r s (member t)) (member t q) (sets_have test t all)
+    (closed_passes r s (member t) is)
   where
     past : (set : ℕ → Bool) (n p : ℕ) → member (map set (range_with_len 0 n)) p ≡ true → p < n
     past set n p m = omega (arith, length-map-range_with_len set 0 n, member_within (map set (range_with_len 0 n)) p m)

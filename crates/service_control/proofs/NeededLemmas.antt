@@ -24,7 +24,8 @@ demand_is : (b : Bool) → nat_eq (cond b 2 3) 3 ≡ not b
 demand_is true = refl
 demand_is false = refl
 
-kept_any : (b : Bool) (test : List ℕ → Bool) (services : List (List ℕ)) → list_any test (cond b [] services) ≡ (not b && list_any test services)
+kept_any : (b : Bool) (test : List ℕ → Bool) (services : List (List ℕ))
+    → list_any test (cond b [] services) ≡ (not b && list_any test services)
 kept_any true test services = refl
 kept_any false test services = refl
 
@@ -38,29 +39,39 @@ module _ (table : List Need) (started : List Label) (name : List ℕ) where
   starts_is : (q : ℕ) → starts_at asked 2 q ≡ is_named table name q
   starts_is q = ap (λ o. option_map_or (λ (n : Need). nat_eq n.start 2) o false) (at q) ∙ by (slice_get table q)
     where
-      by : (o : Option Need) → option_map_or (λ (n : Need). nat_eq n.start 2) (option_map (asks started name) o) false ≡ option_map_or (λ (n : Need). folds_same name n.name) o false
+      by : (o : Option Need) → option_map_or (λ (n : Need). nat_eq n.start 2) (option_map (asks started name) o) false
+          ≡ option_map_or (λ (n : Need). folds_same name n.name) o false
       by None = refl
       by (Some n) = first_is (folds_same name n.name)
 
   abbrev pulled_by : Option Need → Option Need → Bool
   pulled_by a b =
-      option_map_or (λ (a : Need). option_map_or (λ (b : Need). nat_eq b.start 3 && list_any (folds_same b.name) a.services) b false) a false
+      option_map_or (λ (a : Need). option_map_or
+      (λ (b : Need). nat_eq b.start 3 && list_any (folds_same b.name) a.services) b false) a false
 
   abbrev named_by : Option Need → Option Need → Bool
-  named_by a b = option_map_or (λ (a : Need). is_off started a && option_map_or (λ (b : Need). list_any (folds_same b.name) a.services) b false) a false
+  named_by a b = option_map_or
+      (λ (a : Need). is_off started a && option_map_or (λ (b : Need). list_any (folds_same b.name) a.services) b false)
+      a false
 
-  pulls_is : (p q : ℕ) → pulls asked p q ≡ pulled_by (option_map (asks started name) (slice_get table p)) (option_map (asks started name) (slice_get table q))
+  pulls_is : (p q : ℕ) → pulls asked p q
+      ≡ pulled_by (option_map (asks started name) (slice_get table p))
+      (option_map (asks started name) (slice_get table q))
   pulls_is p q = λ i. pulled_by (at p i) (at q i)
 
   -- what is pulled in is named
-  pulled_named : (a b : Option Need) → pulled_by (option_map (asks started name) a) (option_map (asks started name) b) ≡ true → named_by a b ≡ true
+  pulled_named : (a b : Option Need)
+      → pulled_by (option_map (asks started name) a) (option_map (asks started name) b) ≡ true → named_by a b ≡ true
   pulled_named None b h = absurd (false≢true h)
   pulled_named (Some a) None h = absurd (false≢true h)
   pulled_named (Some a) (Some b) h =
-      sym (kept_any (has_name started a.name) (folds_same b.name) a.services) ∙ (and_parts (nat_eq (cond (folds_same name b.name) 2 3) 3) _ h).1
+      sym (kept_any (has_name started a.name) (folds_same b.name) a.services)
+      ∙ (and_parts (nat_eq (cond (folds_same name b.name) 2 3) 3) _ h).1
 
   -- what is named is pulled in, or is the service itself
-  named_pulled : (a b : Option Need) → named_by a b ≡ true → option_map_or (λ (n : Need). folds_same name n.name) b false ≡ false → pulled_by (option_map (asks started name) a) (option_map (asks started name) b) ≡ true
+  named_pulled : (a b : Option Need) → named_by a b ≡ true
+      → option_map_or (λ (n : Need). folds_same name n.name) b false ≡ false
+      → pulled_by (option_map (asks started name) a) (option_map (asks started name) b) ≡ true
   named_pulled None b h other = absurd (false≢true h)
   named_pulled (Some a) None h other = absurd (false≢true (sym (off_none (is_off started a)) ∙ h))
     where
@@ -68,7 +79,8 @@ module _ (table : List Need) (started : List Label) (name : List ℕ) where
       off_none true = refl
       off_none false = refl
   named_pulled (Some a) (Some b) h other =
-      and_from (nat_eq (cond (folds_same name b.name) 2 3) 3) _ (demand_is (folds_same name b.name) ∙ ap not other) (kept_any (has_name started a.name) (folds_same b.name) a.services ∙ h)
+      and_from (nat_eq (cond (folds_same name b.name) 2 3) 3) _ (demand_is (folds_same name b.name) ∙ ap not other)
+      (kept_any (has_name started a.name) (folds_same b.name) a.services ∙ h)
 
   pub has_from_closed : (set : ℕ → Bool) → IsClosed asked set → HasNeeds table started name set
   has_from_closed set closed = record {
@@ -85,9 +97,15 @@ module _ (table : List Need) (started : List Label) (name : List ℕ) where
     pulled = λ p q m h. has.named p q m (pulled_named (slice_get table p) (slice_get table q) (sym (pulls_is p q) ∙ h));
   }
 
-pub needed_has : (table : List Need) (started : List Label) (name : List ℕ) → HasNeeds table started name (is_needed table started name)
-needed_has table started name = has_from_closed table started name (is_taken (map (asks started name) table)) (is_taken-closed (map (asks started name) table))
+pub needed_has : (table : List Need) (started : List Label) (name : List ℕ)
+    → HasNeeds table started name (is_needed table started name)
+needed_has table started name =
+    has_from_closed table started name (is_taken (map (asks started name) table))
+    (is_taken-closed (map (asks started name) table))
 
-pub needed_least : (table : List Need) (started : List Label) (name : List ℕ) (set : ℕ → Bool) → HasNeeds table started name set → (q : ℕ) → q < length table → is_needed table started name q ≡ true → set q ≡ true
+pub needed_least : (table : List Need) (started : List Label) (name : List ℕ) (set : ℕ → Bool)
+    → HasNeeds table started name set → (q : ℕ) → q < length table → is_needed table started name q ≡ true
+    → set q ≡ true
 needed_least table started name set has q lt h =
-    is_taken-least_of_all (map (asks started name) table) set (closed_from_has table started name set has) q (omega (arith, lt, length-map table (asks started name))) h
+    is_taken-least_of_all (map (asks started name) table) set (closed_from_has table started name set has) q
+    (omega (arith, lt, length-map table (asks started name))) h

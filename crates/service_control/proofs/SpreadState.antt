@@ -21,12 +21,14 @@ pub record IsHad (running : List Need) (set : ℕ → Bool) (l : Label) : Type 0
   pub name : has running set l.0 ≡ true
   pub group : (g : List ℕ) → l.1 ≡ Some g → has_all running set g ≡ true
 
-pub record IsSpread (running : List Need) (name : List ℕ) (owners : List ℕ) (w : WaitingState) (taken : List Bool) : Type 0 where
+pub record IsSpread (running : List Need) (name : List ℕ) (owners : List ℕ) (w : WaitingState)
+    (taken : List Bool) : Type 0 where
   pub causes : AreCauses running (length running) w.needs owners
   pub waits_len : length w.waits ≡ length w.needs
   pub len : length taken ≡ length running
   pub seeded : has_name w.started name ≡ true
-  pub done : (c : ℕ) → c < length w.needs → member w.waits c ≡ false → IsDone w taken (get_or owners c 0) (get_or w.needs c none)
+  pub done : (c : ℕ) → c < length w.needs → member w.waits c ≡ false
+      → IsDone w taken (get_or owners c 0) (get_or w.needs c none)
   pub on : (q : ℕ) → q < length running → member taken q ≡ true → has_name w.started (get_or running q none).name ≡ true
   pub sound : (set : ℕ → Bool) → IsClosed running name set → (l : Label) → Contains w.started l → IsHad running set l
   pub least : (set : ℕ → Bool) → IsClosed running name set → (q : ℕ) → member taken q ≡ true → set q ≡ true

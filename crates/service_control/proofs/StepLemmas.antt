@@ -22,7 +22,8 @@ pub within : {X : Type 0} (p : X → Bool) (xs : List X) → ltb (position_or_le
 within p [] = refl
 within p (x ∷ xs) = by_case (p x) (within p xs)
   where
-    by_case : (b : Bool) → ltb (position_or_len p xs) (length xs) ≡ list_any p xs → ltb (cond (not b) (1 + position_or_len p xs) 0) (suc (length xs)) ≡ (b || list_any p xs)
+    by_case : (b : Bool) → ltb (position_or_len p xs) (length xs) ≡ list_any p xs
+        → ltb (cond (not b) (1 + position_or_len p xs) 0) (suc (length xs)) ≡ (b || list_any p xs)
     by_case true rest = lt-ltb 0 (suc (length xs)) (omega arith)
     by_case false rest = shorter (position_or_len p xs) (length xs) ∙ rest
 
@@ -30,7 +31,8 @@ some_where : (b : Bool) (n : ℕ) → is_some (cond b (Some n) None) ≡ b
 some_where true n = refl
 some_where false n = refl
 
-pub some_placed : (names : List (List ℕ)) (name : List ℕ) → is_some (position (folds_same name) names) ≡ list_any (folds_same name) names
+pub some_placed : (names : List (List ℕ)) (name : List ℕ)
+    → is_some (position (folds_same name) names) ≡ list_any (folds_same name) names
 some_placed names name = some_where _ (position_or_len (folds_same name) names) ∙ within (folds_same name) names
 
 -- ---- items at places
@@ -42,55 +44,73 @@ none_picked : (bs : List Bool) → items_where_true bs no_needs ≡ []
 none_picked [] = refl
 none_picked (b ∷ bs) = refl
 
-picked_from : (bs : List Bool) (xs all : List Need) (i : ℕ) → ((k : ℕ) → slice_get all (i + k) ≡ slice_get xs k) → filter_map (slice_get all) (items_where_true bs (range_with_len i (length bs))) ≡ items_where_true bs xs
+picked_from : (bs : List Bool) (xs all : List Need) (i : ℕ) → ((k : ℕ) → slice_get all (i + k) ≡ slice_get xs k)
+    → filter_map (slice_get all) (items_where_true bs (range_with_len i (length bs))) ≡ items_where_true bs xs
 picked_from [] xs all i at = refl
 picked_from (true ∷ bs) [] all i at =
     let here : slice_get all i ≡ None = ap (slice_get all) (let z : i ≡ i + 0 = omega arith in z) ∙ at 0 in
     ap (λ o. cons_option o (filter_map (slice_get all) (items_where_true bs (range_with_len (i + 1) (length bs))))) here
-    ∙ picked_from bs [] all (i + 1) (λ k. ap (slice_get all) (let z : i + 1 + k ≡ i + suc k = omega arith in z) ∙ at (suc k)) ∙ none_picked bs
+    ∙ picked_from bs [] all (i + 1)
+    (λ k. ap (slice_get all) (let z : i + 1 + k ≡ i + suc k = omega arith in z) ∙ at (suc k)) ∙ none_picked bs
 picked_from (false ∷ bs) [] all i at =
-    picked_from bs [] all (i + 1) (λ k. ap (slice_get all) (let z : i + 1 + k ≡ i + suc k = omega arith in z) ∙ at (suc k)) ∙ none_picked bs
+    picked_from bs [] all (i + 1)
+    (λ k. ap (slice_get all) (let z : i + 1 + k ≡ i + suc k = omega arith in z) ∙ at (suc k)) ∙ none_picked bs
 picked_from (true ∷ bs) (x ∷ xs) all i at =
     let here : slice_get all i ≡ Some x = ap (slice_get all) (let z : i ≡ i + 0 = omega arith in z) ∙ at 0 in
     ap (λ o. cons_option o (filter_map (slice_get all) (items_where_true bs (range_with_len (i + 1) (length bs))))) here
-    ∙ ap (λ l. x ∷ l) (picked_from bs xs all (i + 1) (λ k. ap (slice_get all) (let z : i + 1 + k ≡ i + suc k = omega arith in z) ∙ at (suc k)))
+    ∙ ap (λ l. x ∷ l) (picked_from bs xs all (i + 1)
+    (λ k. ap (slice_get all) (let z : i + 1 + k ≡ i + suc k = omega arith in z) ∙ at (suc k)))
 picked_from (false ∷ bs) (x ∷ xs) all i at =
-    picked_from bs xs all (i + 1) (λ k. ap (slice_get all) (let z : i + 1 + k ≡ i + suc k = omega arith in z) ∙ at (suc k))
+    picked_from bs xs all (i + 1)
+    (λ k. ap (slice_get all) (let z : i + 1 + k ≡ i + suc k = omega arith in z) ∙ at (suc k))
 
 -- those at the places whose flag is true are those whose flag is true
-pub picked_places : (bs : List Bool) (xs : List Need) → filter_map (slice_get xs) (items_where_true bs (range_with_len 0 (length bs))) ≡ items_where_true bs xs
+pub picked_places : (bs : List Bool) (xs : List Need)
+    → filter_map (slice_get xs) (items_where_true bs (range_with_len 0 (length bs))) ≡ items_where_true bs xs
 picked_places bs xs = picked_from bs xs xs 0 (λ k. ap (slice_get xs) (zero-add k))
 
 -- ---- one more item
 
-at_by : {X Y : Type 0} (h : X → Option Y) (xs : List X) (i : ℕ) (o : Option Y) (ys : List Y) → o ≡ option_and_then h (slice_get xs i) → ys ≡ filter_map h (take i xs)
+at_by : {X Y : Type 0} (h : X → Option Y) (xs : List X) (i : ℕ) (o : Option Y) (ys : List Y)
+    → o ≡ option_and_then h (slice_get xs i) → ys ≡ filter_map h (take i xs)
     → ys ++ cons_option o [] ≡ filter_map h (take (i + 1) xs)
 at_by h xs i o ys is so_far = elim (slice_get_cases xs i).1 [
   | inl found ↦
       (let x = found.0 in
       let here : o ≡ h (get_or xs i x) = is ∙ ap (option_and_then h) found.2 ∙ ap h (sym found.3) in
-      (λ j. so_far j ++ cons_option (here j) []) ∙ sym (filter_map-append h (take i xs) (get_or xs i x ∷ [])) ∙ ap (filter_map h) (sym (take_more xs i x found.1)))
+      (λ j. so_far j ++ cons_option (here j) []) ∙ sym (filter_map-append h (take i xs) (get_or xs i x ∷ []))
+      ∙ ap (filter_map h) (sym (take_more xs i x found.1)))
   | inr past ↦
       (let none : o ≡ None = is ∙ ap (option_and_then h) past.1 in
-      ap (λ q. ys ++ cons_option q []) none ∙ append-nil ys ∙ so_far ∙ ap (filter_map h) (take_all i xs past.0 ∙ sym (take_all (i + 1) xs (omega (arith, past.0)))))
+      ap (λ q. ys ++ cons_option q []) none ∙ append-nil ys ∙ so_far
+      ∙ ap (filter_map h) (take_all i xs past.0 ∙ sym (take_all (i + 1) xs (omega (arith, past.0)))))
 ]
 
-pub at_some : {X Y : Type 0} (h : X → Option Y) (xs : List X) (i : ℕ) (o : Option Y) (y : Y) (ys : List Y) → o ≡ option_and_then h (slice_get xs i) → o ≡ Some y → ys ≡ filter_map h (take i xs)
+pub at_some : {X Y : Type 0} (h : X → Option Y) (xs : List X) (i : ℕ) (o : Option Y) (y : Y) (ys : List Y)
+    → o ≡ option_and_then h (slice_get xs i) → o ≡ Some y → ys ≡ filter_map h (take i xs)
     → ys ++ y ∷ [] ≡ filter_map h (take (i + 1) xs)
 at_some h xs i o y ys is some so_far = ap (λ q. ys ++ cons_option q []) (sym some) ∙ at_by h xs i o ys is so_far
 
-pub at_none : {X Y : Type 0} (h : X → Option Y) (xs : List X) (i : ℕ) (o : Option Y) (ys : List Y) → o ≡ option_and_then h (slice_get xs i) → o ≡ None → ys ≡ filter_map h (take i xs)
+pub at_none : {X Y : Type 0} (h : X → Option Y) (xs : List X) (i : ℕ) (o : Option Y) (ys : List Y)
+    → o ≡ option_and_then h (slice_get xs i) → o ≡ None → ys ≡ filter_map h (take i xs)
     → ys ≡ filter_map h (take (i + 1) xs)
-at_none h xs i o ys is none so_far = sym (append-nil ys) ∙ ap (λ q. ys ++ cons_option q []) (sym none) ∙ at_by h xs i o ys is so_far
+at_none h xs i o ys is none so_far =
+    sym (append-nil ys) ∙ ap (λ q. ys ++ cons_option q []) (sym none) ∙ at_by h xs i o ys is so_far
 
 range_push : (n : ℕ) → range_with_len 0 (n + 1) ≡ range_with_len 0 n ++ n ∷ []
-range_push n = sym (map-id (range_with_len 0 (n + 1))) ∙ map-range_with_len_more (λ k. k) 0 n n (omega arith) ∙ ap (λ l. l ++ n ∷ []) (map-id (range_with_len 0 n))
+range_push n = sym (map-id (range_with_len 0 (n + 1))) ∙ map-range_with_len_more (λ k. k) 0 n n (omega arith)
+    ∙ ap (λ l. l ++ n ∷ []) (map-id (range_with_len 0 n))
 
-range_by : {Y : Type 0} (h : ℕ → Option Y) (i : ℕ) (ys : List Y) → ys ≡ filter_map h (range_with_len 0 i) → ys ++ cons_option (h i) [] ≡ filter_map h (range_with_len 0 (i + 1))
-range_by h i ys so_far = ap (λ l. l ++ cons_option (h i) []) so_far ∙ sym (filter_map-append h (range_with_len 0 i) (i ∷ [])) ∙ ap (filter_map h) (sym (range_push i))
+range_by : {Y : Type 0} (h : ℕ → Option Y) (i : ℕ) (ys : List Y) → ys ≡ filter_map h (range_with_len 0 i)
+    → ys ++ cons_option (h i) [] ≡ filter_map h (range_with_len 0 (i + 1))
+range_by h i ys so_far = ap (λ l. l ++ cons_option (h i) []) so_far
+    ∙ sym (filter_map-append h (range_with_len 0 i) (i ∷ [])) ∙ ap (filter_map h) (sym (range_push i))
 
-pub range_some : {Y : Type 0} (h : ℕ → Option Y) (i : ℕ) (o : Option Y) (y : Y) (ys : List Y) → o ≡ h i → o ≡ Some y → ys ≡ filter_map h (range_with_len 0 i) → ys ++ y ∷ [] ≡ filter_map h (range_with_len 0 (i + 1))
+pub range_some : {Y : Type 0} (h : ℕ → Option Y) (i : ℕ) (o : Option Y) (y : Y) (ys : List Y) → o ≡ h i → o ≡ Some y
+    → ys ≡ filter_map h (range_with_len 0 i) → ys ++ y ∷ [] ≡ filter_map h (range_with_len 0 (i + 1))
 range_some h i o y ys is some so_far = ap (λ q. ys ++ cons_option q []) (sym some ∙ is) ∙ range_by h i ys so_far
 
-pub range_none : {Y : Type 0} (h : ℕ → Option Y) (i : ℕ) (o : Option Y) (ys : List Y) → o ≡ h i → o ≡ None → ys ≡ filter_map h (range_with_len 0 i) → ys ≡ filter_map h (range_with_len 0 (i + 1))
-range_none h i o ys is none so_far = sym (append-nil ys) ∙ ap (λ q. ys ++ cons_option q []) (sym none ∙ is) ∙ range_by h i ys so_far
+pub range_none : {Y : Type 0} (h : ℕ → Option Y) (i : ℕ) (o : Option Y) (ys : List Y) → o ≡ h i → o ≡ None
+    → ys ≡ filter_map h (range_with_len 0 i) → ys ≡ filter_map h (range_with_len 0 (i + 1))
+range_none h i o ys is none so_far =
+    sym (append-nil ys) ∙ ap (λ q. ys ++ cons_option q []) (sym none ∙ is) ∙ range_by h i ys so_far

@@ -31,23 +31,32 @@ folded_pointwise [] (y ∷ ys) = refl
 folded_pointwise (x ∷ xs) [] = refl
 folded_pointwise (x ∷ xs) (y ∷ ys) = ap (λ b. nat_eq (folded_unit x) (folded_unit y) && b) (folded_pointwise xs ys)
 
-insert_new : (es : List Pair) (key : Vec ℕ Global) (entry : Entry) → AllByRecursion (λ (e : Pair). e.0.items ≡ folded e.1.name) es → key.items ≡ folded entry.name
-    → AllByRecursion (λ (e : Entry). folds_same entry.name e.name ≡ false) (map (λ (e : Pair). e.1) es) → insert_entry same_key es key entry ≡ es ++ (key, entry) ∷ []
+insert_new : (es : List Pair) (key : Vec ℕ Global) (entry : Entry)
+    → AllByRecursion (λ (e : Pair). e.0.items ≡ folded e.1.name) es → key.items ≡ folded entry.name
+    → AllByRecursion (λ (e : Entry). folds_same entry.name e.name ≡ false) (map (λ (e : Pair). e.1) es)
+    → insert_entry same_key es key entry ≡ es ++ (key, entry) ∷ []
 insert_new [] key entry keyed is new = refl
 insert_new (e ∷ es) key entry keyed is new =
-    let differ : same_key key e.0 ≡ false = ap (λ xs. pointwise nat_eq xs e.0.items) is ∙ ap (pointwise nat_eq (folded entry.name)) keyed.0 ∙ folded_pointwise entry.name e.1.name ∙ new.0 in
-    ap (λ b. cond b ((e.0, entry) ∷ es) (e ∷ insert_entry same_key es key entry)) differ ∙ ap (λ es. e ∷ es) (insert_new es key entry keyed.1 is new.1)
+    let differ : same_key key e.0 ≡ false =
+    ap (λ xs. pointwise nat_eq xs e.0.items) is ∙ ap (pointwise nat_eq (folded entry.name)) keyed.0
+    ∙ folded_pointwise entry.name e.1.name ∙ new.0 in
+    ap (λ b. cond b ((e.0, entry) ∷ es) (e ∷ insert_entry same_key es key entry)) differ
+    ∙ ap (λ es. e ∷ es) (insert_new es key entry keyed.1 is new.1)
 
 pub pushed : (es : List Pair) (key : Vec ℕ Global) (entry : Entry) → AreKeyed es → key.items ≡ folded entry.name
-    → All (λ (e : Entry). folds_same entry.name e.name ≡ false) (map (λ (e : Pair). e.1) es) → insert_entry same_key es key entry ≡ es ++ (key, entry) ∷ []
+    → All (λ (e : Entry). folds_same entry.name e.name ≡ false) (map (λ (e : Pair). e.1) es)
+    → insert_entry same_key es key entry ≡ es ++ (key, entry) ∷ []
 pushed es key entry keyed is new =
-    insert_new es key entry (recursion_from_All _ es keyed.keyed) is (recursion_from_All (λ (e : Entry). folds_same entry.name e.name ≡ false) (map (λ (e : Pair). e.1) es) new)
+    insert_new es key entry (recursion_from_All _ es keyed.keyed) is
+    (recursion_from_All (λ (e : Entry). folds_same entry.name e.name ≡ false) (map (λ (e : Pair). e.1) es) new)
 
-pub values_push : (es : List Pair) (key : Vec ℕ Global) (entry : Entry) → map (λ (e : Pair). e.1) (es ++ (key, entry) ∷ []) ≡ map (λ (e : Pair). e.1) es ++ entry ∷ []
+pub values_push : (es : List Pair) (key : Vec ℕ Global) (entry : Entry)
+    → map (λ (e : Pair). e.1) (es ++ (key, entry) ∷ []) ≡ map (λ (e : Pair). e.1) es ++ entry ∷ []
 values_push [] key entry = refl
 values_push (e ∷ es) key entry = ap (λ xs. e.1 ∷ xs) (values_push es key entry)
 
-differ_push : (es : List Entry) (entry : Entry) → NamesDiffer es → All (λ (e : Entry). folds_same entry.name e.name ≡ false) es
+differ_push : (es : List Entry) (entry : Entry) → NamesDiffer es
+    → All (λ (e : Entry). folds_same entry.name e.name ≡ false) es
     → NamesDiffer (es ++ entry ∷ [])
 differ_push es entry differ new =
     unlike_pairs (λ (e : Entry). e.name) (es ++ entry ∷ [])
@@ -69,16 +78,20 @@ name_of t e (Some start) None h = absurd cc
 name_of t e None kind h = absurd cc
 
 -- the entries of earlier keys have other names
-pub earlier_differ : (ts : List Tree) (name : List ℕ) → AllByRecursion (λ t. folds_same name (head t).name ≡ false) ts → AllByRecursion (λ (e : Entry). folds_same name e.name ≡ false) (filter_map entry_of ts)
+pub earlier_differ : (ts : List Tree) (name : List ℕ) → AllByRecursion (λ t. folds_same name (head t).name ≡ false) ts
+    → AllByRecursion (λ (e : Entry). folds_same name e.name ≡ false) (filter_map entry_of ts)
 earlier_differ [] name h = tt
 earlier_differ (t ∷ ts) name h = by_case (entry_of t) refl (earlier_differ ts name h.1)
   where
-    by_case : (o : Option Entry) → entry_of t ≡ o → AllByRecursion (λ (e : Entry). folds_same name e.name ≡ false) (filter_map entry_of ts)
+    by_case : (o : Option Entry) → entry_of t ≡ o
+        → AllByRecursion (λ (e : Entry). folds_same name e.name ≡ false) (filter_map entry_of ts)
         → AllByRecursion (λ (e : Entry). folds_same name e.name ≡ false) (cons_option o (filter_map entry_of ts))
     by_case None e rest = rest
     by_case (Some x) e rest = (ap (folds_same name) (name_of t x _ _ e) ∙ h.0, rest)
 
-pub earlier_entries_differ : (ts : List Tree) (i : ℕ) (t : Tree) (e : Entry) → AllPairs (λ a b. folds_same (head b).name (head a).name ≡ false) ts → i < length ts → t ≡ get_or ts i t → entry_of t ≡ Some e
+pub earlier_entries_differ : (ts : List Tree) (i : ℕ) (t : Tree) (e : Entry)
+    → AllPairs (λ a b. folds_same (head b).name (head a).name ≡ false) ts → i < length ts → t ≡ get_or ts i t
+    → entry_of t ≡ Some e
     → All (λ (x : Entry). folds_same e.name x.name ≡ false) (filter_map entry_of (take i ts))
 earlier_entries_differ ts i t e apart lt at is =
     let name = name_of t e _ _ is in
@@ -91,53 +104,69 @@ earlier_entries_differ ts i t e apart lt at is =
     ∙ ap (λ s. folds_same (head s).name (head (get_or ts k d)).name) (sym there) ∙ apart k i d k_lt lt) in
     All-from_recursion _ _ (earlier_differ (take i ts) e.name (recursion_from_All P (take i ts) all))
 
-pub filter_map_more : (ts : List Tree) (i : ℕ) (t : Tree) → i < length ts → t ≡ get_or ts i t → filter_map entry_of (take (i + 1) ts) ≡ filter_map entry_of (take i ts) ++ cons_option (entry_of t) []
+pub filter_map_more : (ts : List Tree) (i : ℕ) (t : Tree) → i < length ts → t ≡ get_or ts i t
+    → filter_map entry_of (take (i + 1) ts) ≡ filter_map entry_of (take i ts) ++ cons_option (entry_of t) []
 filter_map_more ts i t lt at =
-    ap (filter_map entry_of) (take_more ts i t lt ∙ ap (λ s. take i ts ++ s ∷ []) (sym at)) ∙ filter_map-append entry_of (take i ts) (t ∷ [])
+    ap (filter_map entry_of) (take_more ts i t lt ∙ ap (λ s. take i ts ++ s ∷ []) (sym at))
+    ∙ filter_map-append entry_of (take i ts) (t ∷ [])
 
 pub key_is : {a b : List ℕ} → a ≡ b → folded a ≡ folded b
 key_is h = ap folded h
 
-pub new_there : (name : List ℕ) {a b : List Entry} → a ≡ b → All (λ (e : Entry). folds_same name e.name ≡ false) b → All (λ (e : Entry). folds_same name e.name ≡ false) a
-new_there name h all = let P : List Entry → Type 0 = λ xs. All (λ (e : Entry). folds_same name e.name ≡ false) xs in subst P (sym h) all
+pub new_there : (name : List ℕ) {a b : List Entry} → a ≡ b → All (λ (e : Entry). folds_same name e.name ≡ false) b
+    → All (λ (e : Entry). folds_same name e.name ≡ false) a
+new_there name h all = let P : List Entry → Type 0 = λ xs. All (λ (e : Entry). folds_same name e.name ≡ false) xs in
+    subst P (sym h) all
 
-pub more_some : (ts : List Tree) (i : ℕ) (t : Tree) (e : Entry) (o : Option Entry) (xs : List Entry) → i < length ts → t ≡ get_or ts i t → o ≡ entry_of t → o ≡ Some e → xs ≡ filter_map entry_of (take i ts)
+pub more_some : (ts : List Tree) (i : ℕ) (t : Tree) (e : Entry) (o : Option Entry) (xs : List Entry) → i < length ts
+    → t ≡ get_or ts i t → o ≡ entry_of t → o ≡ Some e → xs ≡ filter_map entry_of (take i ts)
     → xs ++ e ∷ [] ≡ filter_map entry_of (take (i + 1) ts)
 more_some ts i t e o xs lt at is some so_far =
-    ap (λ xs. xs ++ e ∷ []) so_far ∙ ap (λ o. filter_map entry_of (take i ts) ++ cons_option o []) (sym some ∙ is) ∙ sym (filter_map_more ts i t lt at)
+    ap (λ xs. xs ++ e ∷ []) so_far ∙ ap (λ o. filter_map entry_of (take i ts) ++ cons_option o []) (sym some ∙ is)
+    ∙ sym (filter_map_more ts i t lt at)
 
-pub more_none : (ts : List Tree) (i : ℕ) (t : Tree) (o : Option Entry) (xs : List Entry) → i < length ts → t ≡ get_or ts i t → o ≡ entry_of t → o ≡ None → xs ≡ filter_map entry_of (take i ts)
+pub more_none : (ts : List Tree) (i : ℕ) (t : Tree) (o : Option Entry) (xs : List Entry) → i < length ts
+    → t ≡ get_or ts i t → o ≡ entry_of t → o ≡ None → xs ≡ filter_map entry_of (take i ts)
     → xs ≡ filter_map entry_of (take (i + 1) ts)
 more_none ts i t o xs lt at is none so_far =
-    so_far ∙ sym (append-nil (filter_map entry_of (take i ts))) ∙ ap (λ o. filter_map entry_of (take i ts) ++ cons_option o []) (sym none ∙ is) ∙ sym (filter_map_more ts i t lt at)
+    so_far ∙ sym (append-nil (filter_map entry_of (take i ts)))
+    ∙ ap (λ o. filter_map entry_of (take i ts) ++ cons_option o []) (sym none ∙ is)
+    ∙ sym (filter_map_more ts i t lt at)
 
 length-filter_map : (ts : List Tree) → length (filter_map entry_of ts) ≤ length ts
 length-filter_map [] = omega arith
 length-filter_map (t ∷ ts) = by_case (entry_of t) (length-filter_map ts)
   where
-    by_case : (o : Option Entry) → length (filter_map entry_of ts) ≤ length ts → length (cons_option o (filter_map entry_of ts)) ≤ length (t ∷ ts)
+    by_case : (o : Option Entry) → length (filter_map entry_of ts) ≤ length ts
+        → length (cons_option o (filter_map entry_of ts)) ≤ length (t ∷ ts)
     by_case None rest = omega arith
     by_case (Some e) rest = omega arith
 
 -- what was read before a key is short of all keys
-pub room_for : (ts : List Tree) (i : ℕ) (xs : List Entry) → i < length ts → length ts < 2 ^ 32 → xs ≡ filter_map entry_of (take i ts) → length xs + 1 < 2 ^ 32
+pub room_for : (ts : List Tree) (i : ℕ) (xs : List Entry) → i < length ts → length ts < 2 ^ 32
+    → xs ≡ filter_map entry_of (take i ts) → length xs + 1 < 2 ^ 32
 room_for ts i xs lt few is =
     let n : length xs ≡ length (filter_map entry_of (take i ts)) = ap length is in
     omega (arith, n, length-filter_map (take i ts), length-take i ts)
 
 same_places : (es : List Pair) (name : List ℕ) → AllByRecursion (λ (e : Pair). e.0.items ≡ folded e.1.name) es
-    → position_or_len (λ (k : Vec ℕ Global). pointwise nat_eq name k.items) (map (λ (e : Pair). e.0) es) ≡ position_or_len (λ (e : Entry). pointwise nat_eq name (folded e.name)) (map (λ (e : Pair). e.1) es)
+    → position_or_len (λ (k : Vec ℕ Global). pointwise nat_eq name k.items) (map (λ (e : Pair). e.0) es)
+    ≡ position_or_len (λ (e : Entry). pointwise nat_eq name (folded e.name)) (map (λ (e : Pair). e.1) es)
 same_places [] name keyed = refl
 same_places (e ∷ es) name keyed =
-    ap (λ k. cond (not (pointwise nat_eq name k)) (1 + position_or_len (λ (k : Vec ℕ Global). pointwise nat_eq name k.items) (map (λ (e : Pair). e.0) es)) 0) keyed.0
+    ap (λ k. cond (not (pointwise nat_eq name k))
+    (1 + position_or_len (λ (k : Vec ℕ Global). pointwise nat_eq name k.items) (map (λ (e : Pair). e.0) es)) 0)
+    keyed.0
     ∙ ap (λ n. cond (not (pointwise nat_eq name (folded e.1.name))) (1 + n) 0) (same_places es name keyed.1)
 
 -- the place of a key is the place of the entry with that folded name
 pub place_of_key : (es : List Pair) (name : List ℕ) → AreKeyed es
-    → position (λ (k : Vec ℕ Global). pointwise nat_eq name k.items) (map (λ (e : Pair). e.0) es) ≡ place_named name (map (λ (e : Pair). e.1) es)
+    → position (λ (k : Vec ℕ Global). pointwise nat_eq name k.items) (map (λ (e : Pair). e.0) es)
+    ≡ place_named name (map (λ (e : Pair). e.1) es)
 place_of_key es name keyed =
     let same = same_places es name (recursion_from_All _ es keyed.keyed) in
-    let n : length (map (λ (e : Pair). e.0) es) ≡ length (map (λ (e : Pair). e.1) es) = length-map es (λ (e : Pair). e.0) ∙ sym (length-map es (λ (e : Pair). e.1)) in
+    let n : length (map (λ (e : Pair). e.0) es) ≡ length (map (λ (e : Pair). e.1) es) =
+    length-map es (λ (e : Pair). e.0) ∙ sym (length-map es (λ (e : Pair). e.1)) in
     λ j. cond (nat_lt (same j) (n j)) (Some (same j)) None
 
 -- ---- the only place of a name
@@ -151,7 +180,8 @@ alike_off q n m same off =
     sym (folded_pointwise q m) ∙ nat_list_eq_equiv.congr (folded q) (folded n) (folded m) (folded_pointwise q n ∙ same)
     ∙ folded_pointwise n m ∙ folds_swap n m ∙ off
 
-none_later : (name n : List ℕ) (es : List Entry) (q : ℕ) → folds_same name n ≡ true → Each (λ (e : Entry). folds_same e.name n ≡ false) es
+none_later : (name n : List ℕ) (es : List Entry) (q : ℕ) → folds_same name n ≡ true
+    → Each (λ (e : Entry). folds_same e.name n ≡ false) es
     → is_named_at name es q ≡ false
 none_later name n [] q same off = refl
 none_later name n (e ∷ es) zero same off = alike_off name n e.name same off.0
@@ -195,4 +225,5 @@ given false q n = refl
 pub only_place : (name : List ℕ) (es : List Entry) → NamesDiffer es → IsOnlyPlace name es (place_named (folded name) es)
 only_place name es differ q =
     let n = position_or_len (is_key name) es in
-    where_named name es q (unlike_from (λ (e : Entry). e.name) es differ) ∙ at_most q n (length es) ∙ given (nat_lt n (length es)) q n
+    where_named name es q (unlike_from (λ (e : Entry). e.name) es differ) ∙ at_most q n (length es)
+    ∙ given (nat_lt n (length es)) q n

@@ -3,4 +3,5 @@ use Rattle.boot_machine.proofs.FewLemmas.{plan_few}
 use Rattle.boot_machine.proofs.start.planned.Goals as goal
 
 pub new-requires : goal.new-requires
-new-requires c = rw (c.into_vec.ensures, c.in_ok-entries.ensures) (plan_few c.args.set.now (phase_in c.args.phase) c.args.tried.now c.requires)
+new-requires c = rw (c.into_vec.ensures, c.in_ok-entries.ensures)
+    (plan_few c.args.set.now (phase_in c.args.phase) c.args.tried.now c.requires)

@@ -21,7 +21,8 @@ loop-rank-preserved c =
     let lt = c.loop-rank-test.true in
     let taken = c.take_at.ensures.taken ∙ ap (λ (r : Rank). get_or slots r.place None) c.rank.view_is in
     let is : c.take_at.result ≡ h (get_or ranks at.rank-index rank) =
-    taken ∙ taken_next table ranks at.rank-index rank slots c.requires lt c.rank-item.is at.invariant.left ∙ ap h c.rank-item.is in
+    taken ∙ taken_next table ranks at.rank-index rank slots c.requires lt c.rank-item.is at.invariant.left
+    ∙ ap h c.rank-item.is in
     let P : List (Option Entry) → Type 0 = λ s. AreLeft table (take (at.rank-index + 1) ranks) s in
     let left = subst P (sym (c.take_at.ensures.left ∙ ap (λ (r : Rank). set slots r.place None) c.rank.view_is))
     (left_next table ranks at.rank-index rank slots lt c.rank-item.is at.invariant.left) in
@@ -29,12 +30,14 @@ loop-rank-preserved c =
       | in-Some+in_ok-push w ↦
           record {
             entries = w.entries-is ∙ w.in_ok-push.ensures.ok
-                ∙ more_some h ranks at.rank-index rank c.take_at.result w.in-Some.entry at.entries lt is w.in-Some.is at.invariant.entries;
+                ∙ more_some h ranks at.rank-index rank c.take_at.result w.in-Some.entry at.entries lt is w.in-Some.is
+                at.invariant.entries;
             left = left;
           }
       | in_default w ↦
           record {
-            entries = w.entries-is ∙ more_none h ranks at.rank-index rank c.take_at.result at.entries lt is w.in_default.is at.invariant.entries;
+            entries = w.entries-is ∙ more_none h ranks at.rank-index rank c.take_at.result at.entries lt is
+                w.in_default.is at.invariant.entries;
             left = left;
           }
     ]

@@ -6,4 +6,5 @@ use Rattle.start_model.specs.Order.{rank_of}
 use Rattle.boot_phases.proofs.rank.ranks_at.Given as goal
 
 abbrev pub invariant-loop-place : goal.invariant-loop-place
-invariant-loop-place l = l.ranks.items ≡ filter_map (λ p. option_map (rank_of l.orders l.tags_count p) (slice_get l.table p)) (take l.place-index l.places)
+invariant-loop-place l = l.ranks.items
+    ≡ filter_map (λ p. option_map (rank_of l.orders l.tags_count p) (slice_get l.table p)) (take l.place-index l.places)

@@ -11,6 +11,10 @@ loop-index-preserved c =
     let i = c.loop-index.index-index in
     elim c.match-place_at.branch [
       | in-Some+in_ok-push w ↦
-          w.chosen-is ∙ w.in_ok-push.ensures.ok ∙ more_some h indices i 0 c.place_at.result w.in-Some.place c.loop-index.chosen c.loop-index-test.true c.place_at.ensures w.in-Some.is c.loop-index.invariant
-      | in_default w ↦ w.chosen-is ∙ more_none h indices i 0 c.place_at.result c.loop-index.chosen c.loop-index-test.true c.place_at.ensures w.in_default.is c.loop-index.invariant
+          w.chosen-is ∙ w.in_ok-push.ensures.ok
+          ∙ more_some h indices i 0 c.place_at.result w.in-Some.place c.loop-index.chosen c.loop-index-test.true
+          c.place_at.ensures w.in-Some.is c.loop-index.invariant
+      | in_default w ↦ w.chosen-is
+          ∙ more_none h indices i 0 c.place_at.result c.loop-index.chosen c.loop-index-test.true c.place_at.ensures
+          w.in_default.is c.loop-index.invariant
     ]

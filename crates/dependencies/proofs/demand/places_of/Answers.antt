@@ -10,8 +10,12 @@ loop-place-preserved g c =
     let p : ℕ → Bool = is_asked (g.T.NeedTable.needs c.args.table.now) c.args.taken.now c.args.on_demand in
     elim c.if-is_asked.branch [
       | then-is_asked+in_ok-push w ↦
-          w.places-is ∙ w.in_ok-push.ensures.ok ∙ filter-range_push p c.loop-place.place c.loop-place.places c.loop-place.invariant (sym w.if-is_asked.ensures)
-      | else-is_asked w ↦ w.places-is ∙ filter-range_skip p c.loop-place.place c.loop-place.places c.loop-place.invariant (sym w.if-is_asked.ensures)
+          w.places-is ∙ w.in_ok-push.ensures.ok
+          ∙ filter-range_push p c.loop-place.place c.loop-place.places c.loop-place.invariant
+          (sym w.if-is_asked.ensures)
+      | else-is_asked w ↦ w.places-is
+          ∙ filter-range_skip p c.loop-place.place c.loop-place.places c.loop-place.invariant
+          (sym w.if-is_asked.ensures)
     ]
 
 pub returns : goal.returns
@@ -19,4 +23,5 @@ returns g c =
     let needs = (g.T.NeedTable.needs c.args.table.now) in
     let p : ℕ → Bool = is_asked needs c.args.taken.now c.args.on_demand in
     let n : c.loop-place.place ≡ length needs = omega arith in
-    c.loop-place.invariant ∙ ap (λ k. filter p (range_with_len 0 k)) n ∙ sym (asked_of-least needs c.args.taken.now c.args.on_demand c.requires.least)
+    c.loop-place.invariant ∙ ap (λ k. filter p (range_with_len 0 k)) n
+    ∙ sym (asked_of-least needs c.args.taken.now c.args.on_demand c.requires.least)

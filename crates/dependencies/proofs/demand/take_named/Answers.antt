@@ -8,12 +8,14 @@ use Rattle.dependencies.proofs.demand.take_named.Goals as goal
 pub take_in-requires-clause-place : goal.take_in-requires-clause-place
 take_in-requires-clause-place g c =
     let e = c.in_ok-places.ensures in
-    rw e (places_within (g.T.NeedTable.needs c.args.table.now) c.args.name.now c.loop-place.place-index 0 (omega (arith, ap length e)))
+    rw e (places_within (g.T.NeedTable.needs c.args.table.now) c.args.name.now c.loop-place.place-index 0
+    (omega (arith, ap length e)))
 
 pub loop-place-preserved : goal.loop-place-preserved
 loop-place-preserved g c = record {
   work = c.in_ok-take_in.ensures.work;
-  takes = listed_more _ _ _ 0 _ _ _ _ _ _ c.loop-place-test.true c.loop-place.invariant.takes c.in_ok-take_in.ensures.takes;
+  takes = listed_more _ _ _ 0 _ _ _ _ _ _ c.loop-place-test.true c.loop-place.invariant.takes
+      c.in_ok-take_in.ensures.takes;
 }
 
 pub returns-clause-takes : goal.returns-clause-takes

@@ -9,6 +9,8 @@ loop-at-preserved c =
     record {
       len = length-set c.loop-at.firsts c.loop-at.at c.min.result ∙ old.len;
       at = omega arith;
-      nodes = node_settles c.loop-at.firsts c.args.count c.loop-at.at c.min.result old.len c.loop-at-test.true old.at old.nodes c.min.ensures;
-      leaves = λ k le. let other : k ≢ c.loop-at.at = omega (arith, le, old.at) in get_or-set_other c.loop-at.firsts c.loop-at.at k c.min.result 0 other ∙ old.leaves k le;
+      nodes = node_settles c.loop-at.firsts c.args.count c.loop-at.at c.min.result old.len c.loop-at-test.true old.at
+          old.nodes c.min.ensures;
+      leaves = λ k le. let other : k ≢ c.loop-at.at = omega (arith, le, old.at) in
+          get_or-set_other c.loop-at.firsts c.loop-at.at k c.min.result 0 other ∙ old.leaves k le;
     }

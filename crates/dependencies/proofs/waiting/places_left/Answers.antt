@@ -10,5 +10,6 @@ loop-place-preserved c =
       | then-waits-place+in_ok-push w ↦
           w.places-is ∙ w.in_ok-push.ensures.ok ∙ ap (λ l. l ++ place ∷ []) c.loop-place.invariant
           ∙ sym (left_yes c.args.waits.now place c.loop-place-test.true w.if-waits-place.true)
-      | else-waits-place w ↦ w.places-is ∙ c.loop-place.invariant ∙ sym (left_not c.args.waits.now place c.loop-place-test.true w.if-waits-place.false)
+      | else-waits-place w ↦ w.places-is ∙ c.loop-place.invariant
+          ∙ sym (left_not c.args.waits.now place c.loop-place-test.true w.if-waits-place.false)
     ]

@@ -10,5 +10,12 @@ overflow_add-index_mut c =
     let own = get_or owners i 0 in
     let counts = c.loop-owner.counts.items in
     let small = c.requires.owned i 0 c.loop-owner-test.true in
-    let is = get_or_read counts own c.index_mut.result.now (omega (arith, small, c.loop-owner.invariant.len)) c.index_mut.ensures.value 0 in
-    omega (arith, is, c.loop-owner.invariant.counted own, count_by-le-length (λ o. nat_eq o own) (take i owners), length-take-le i owners (omega arith))
+    let is = get_or_read counts own c.index_mut.result.now (omega (arith, small, c.loop-owner.invariant.len))
+    c.index_mut.ensures.value 0 in
+    omega (
+      arith,
+      is,
+      c.loop-owner.invariant.counted own,
+      count_by-le-length (λ o. nat_eq o own) (take i owners),
+      length-take-le i owners (omega arith),
+    )

@@ -18,4 +18,5 @@ pub returns-clause-wants : goal.returns-clause-wants
 returns-clause-wants c =
     let end = c.loop-want.invariant in
     same_wants c.loop-want.wants _ _ _ end.count end.owners
-    (all_tested (meets c.args.kind c.args.started.now) c.args.names.now c.loop-want.wants.met c.loop-want.want end.len c.loop-want-test.false end.tested)
+    (all_tested (meets c.args.kind c.args.started.now)
+    c.args.names.now c.loop-want.wants.met c.loop-want.want end.len c.loop-want-test.false end.tested)

@@ -8,7 +8,10 @@ loop-place-preserved c =
     let so_far = c.loop-place.invariant in
     record {
       names = c.in_ok-append.ensures.names ∙ ap (λ g. c.loop-place.names ++ g) c.given.ensures
-          ∙ names_more c.args.kind c.args.needs.now c.loop-place.place need.result c.loop-place.names c.loop-place-test.true need.is so_far.names;
-      owners = c.in_ok-append.ensures.owners ∙ ap (λ g. c.loop-place.owners.items ++ map (λ n. c.loop-place.place) g) c.given.ensures
-          ∙ owners_more c.args.kind c.args.needs.now c.loop-place.place need.result c.loop-place.owners.items c.loop-place-test.true need.is so_far.owners;
+          ∙ names_more c.args.kind c.args.needs.now c.loop-place.place need.result c.loop-place.names
+          c.loop-place-test.true need.is so_far.names;
+      owners = c.in_ok-append.ensures.owners
+          ∙ ap (λ g. c.loop-place.owners.items ++ map (λ n. c.loop-place.place) g) c.given.ensures
+          ∙ owners_more c.args.kind c.args.needs.now c.loop-place.place need.result c.loop-place.owners.items
+          c.loop-place-test.true need.is so_far.owners;
     }

@@ -4,7 +4,9 @@ use Rattle.safe_boot.proofs.playing.attempt_next.Goals as goal
 
 pub returns-clause-next : goal.returns-clause-next
 returns-clause-next c =
-    goes_on_by c.push.result c.args.machine.now c.attempt.new.self c.args.lines.now c.push.new.self (tried_in c.in_ok-tried.tried) c.in_ok-tried.ensures.attempt c.push.ensures.ok
+    goes_on_by c.push.result c.args.machine.now c.attempt.new.self c.args.lines.now c.push.new.self
+    (tried_in c.in_ok-tried.tried) c.in_ok-tried.ensures.attempt c.push.ensures.ok
 
 pub returns-clause-fewer : goal.returns-clause-fewer
-returns-clause-fewer c = fewer_by_push c.push.result c.args.machine.now c.attempt.new.self (tried_in c.in_ok-tried.tried) c.in_ok-tried.ensures.attempt
+returns-clause-fewer c = fewer_by_push c.push.result c.args.machine.now c.attempt.new.self
+    (tried_in c.in_ok-tried.tried) c.in_ok-tried.ensures.attempt

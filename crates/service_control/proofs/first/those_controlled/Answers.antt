@@ -10,6 +10,10 @@ loop-place-preserved c =
     let i = c.loop-place.place in
     elim c.match-branch-2.branch [
       | in-Some+in_ok-push w ↦
-          w.needs-is ∙ w.in_ok-push.ensures.ok ∙ at_some controlled table i c.in_ok-need.field-0 w.in-Some.need c.loop-place.needs c.in_ok-need.ensures w.in-Some.is c.loop-place.invariant
-      | in_default w ↦ w.needs-is ∙ at_none controlled table i c.in_ok-need.field-0 c.loop-place.needs c.in_ok-need.ensures w.in_default.is c.loop-place.invariant
+          w.needs-is ∙ w.in_ok-push.ensures.ok
+          ∙ at_some controlled table i c.in_ok-need.field-0 w.in-Some.need c.loop-place.needs c.in_ok-need.ensures
+          w.in-Some.is c.loop-place.invariant
+      | in_default w ↦ w.needs-is
+          ∙ at_none controlled table i c.in_ok-need.field-0 c.loop-place.needs c.in_ok-need.ensures w.in_default.is
+          c.loop-place.invariant
     ]

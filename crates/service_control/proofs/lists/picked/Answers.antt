@@ -12,6 +12,10 @@ loop-place-preserved c =
     let i = c.loop-place.place-index in
     elim c.match-branch-2.branch [
       | in-Some+in_ok-push w ↦
-          w.made-is ∙ w.in_ok-push.ensures.ok ∙ more_some h places i 0 c.in_ok-need.field-0 w.in-Some.need c.loop-place.made c.loop-place-test.true c.in_ok-need.ensures w.in-Some.is c.loop-place.invariant
-      | in_default w ↦ w.made-is ∙ more_none h places i 0 c.in_ok-need.field-0 c.loop-place.made c.loop-place-test.true c.in_ok-need.ensures w.in_default.is c.loop-place.invariant
+          w.made-is ∙ w.in_ok-push.ensures.ok
+          ∙ more_some h places i 0 c.in_ok-need.field-0 w.in-Some.need c.loop-place.made c.loop-place-test.true
+          c.in_ok-need.ensures w.in-Some.is c.loop-place.invariant
+      | in_default w ↦ w.made-is
+          ∙ more_none h places i 0 c.in_ok-need.field-0 c.loop-place.made c.loop-place-test.true c.in_ok-need.ensures
+          w.in_default.is c.loop-place.invariant
     ]

@@ -10,5 +10,6 @@ loop-place-preserved c =
       | then-flags-place+in_ok-push w ↦
           w.places-is ∙ w.in_ok-push.ensures.ok ∙ ap (λ l. l ++ place ∷ []) c.loop-place.invariant
           ∙ sym (left_yes c.args.flags.now place c.loop-place-test.true w.if-flags-place.true)
-      | else-flags-place w ↦ w.places-is ∙ c.loop-place.invariant ∙ sym (left_not c.args.flags.now place c.loop-place-test.true w.if-flags-place.false)
+      | else-flags-place w ↦ w.places-is ∙ c.loop-place.invariant
+          ∙ sym (left_not c.args.flags.now place c.loop-place-test.true w.if-flags-place.false)
     ]

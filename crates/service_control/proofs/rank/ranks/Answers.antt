@@ -13,6 +13,10 @@ loop-place-preserved c =
     let i = c.loop-place.place in
     elim c.match-rank_at.branch [
       | in-Some+in_ok-push w ↦
-          rw (w.ranks-is, w.in_ok-push.ensures.items) (range_some h i c.rank_at.result w.in-Some.found c.loop-place.ranks.items c.rank_at.ensures w.in-Some.is c.loop-place.invariant)
-      | in_default w ↦ rw w.ranks-is (range_none h i c.rank_at.result c.loop-place.ranks.items c.rank_at.ensures w.in_default.is c.loop-place.invariant)
+          rw (w.ranks-is, w.in_ok-push.ensures.items)
+          (range_some h i c.rank_at.result w.in-Some.found c.loop-place.ranks.items c.rank_at.ensures w.in-Some.is
+          c.loop-place.invariant)
+      | in_default w ↦ rw w.ranks-is
+          (range_none h i c.rank_at.result c.loop-place.ranks.items c.rank_at.ensures w.in_default.is
+          c.loop-place.invariant)
     ]

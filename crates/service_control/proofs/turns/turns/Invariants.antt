@@ -5,7 +5,8 @@ use Rattle.service_control.proofs.turns.turns.Given as goal
 
 abbrev pub invariant-turns : goal.invariant-turns
 invariant-turns l =
-    l.places ++ turns (count_by (λ b. b) l.waiting.waits) l.waiting ≡ turns (length l.fn.needs) (all_wait l.fn.needs l.started)
+    l.places ++ turns (count_by (λ b. b) l.waiting.waits) l.waiting
+    ≡ turns (length l.fn.needs) (all_wait l.fn.needs l.started)
 
 abbrev pub decreases-turns : goal.decreases-turns
 decreases-turns l = count_by (λ b. b) l.waiting.waits

@@ -14,12 +14,22 @@ next_place-place-requires c =
 pub need_at-requires : goal.need_at-requires
 need_at-requires c =
     let s = c.self.inside in
-    omega (arith, next_within s.waiting s.rests.items c.next_place-place.result c.self.invariant c.next_place-place.ensures.place, c.self.invariant)
+    omega (
+      arith,
+      next_within s.waiting s.rests.items c.next_place-place.result c.self.invariant
+          c.next_place-place.ensures.place,
+      c.self.invariant,
+    )
 
 pub index-requires : goal.index-requires
 index-requires c =
     let s = c.self.inside in
-    omega (arith, next_within s.waiting s.rests.items c.next_place-place.result c.self.invariant c.next_place-place.ensures.place, s.rests.ok.0)
+    omega (
+      arith,
+      next_within s.waiting s.rests.items c.next_place-place.result c.self.invariant
+          c.next_place-place.ensures.place,
+      s.rests.ok.0,
+    )
 
 pub returns : goal.returns
 returns c =
@@ -27,5 +37,7 @@ returns c =
     let at = c.next_place-place.result in
     let within = next_within s.waiting s.rests.items at c.self.invariant c.next_place-place.ensures.place in
     rw (← c.self.view_is)
-    (rw c.join.ensures (first_by_parts s.waiting s.rests.items at c.in_ok-need.need c.index.result.now c.self.invariant c.next_place-place.ensures.place
-    (rw c.in_ok-need.ensures (sym c.need_at.ensures)) (slice_get_read s.rests.items (length s.rests.items) at c.index.result.now refl within c.index.ensures)))
+    (rw c.join.ensures (first_by_parts s.waiting s.rests.items at c.in_ok-need.need c.index.result.now c.self.invariant
+    c.next_place-place.ensures.place
+    (rw c.in_ok-need.ensures (sym c.need_at.ensures))
+    (slice_get_read s.rests.items (length s.rests.items) at c.index.result.now refl within c.index.ensures)))

@@ -5,7 +5,12 @@ use Rattle.boot_machine.proofs.QueueLemmas.{new_queue}
 use Rattle.boot_machine.proofs.queue.Queue.new.Goals as goal
 
 pub new-requires : goal.new-requires
-new-requires c = omega (arith, ap length c.in_ok-needs.ensures.needs, length-map c.args.entries.items need_of, c.requires)
+new-requires c = omega (
+  arith,
+  ap length c.in_ok-needs.ensures.needs,
+  length-map c.args.entries.items need_of,
+  c.requires,
+)
 
 pub returns : goal.returns
 returns c =

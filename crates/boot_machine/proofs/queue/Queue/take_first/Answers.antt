@@ -18,4 +18,5 @@ pub returns : goal.returns
 returns c =
     let s = c.self.inside in
     rw (← c.self.view_is)
-    (first_taken s.waiting c.tried.new.self s.rests.items c.next_place-place.result c.args.ok c.self.invariant c.next_place-place.ensures.place c.tried.ensures.state)
+    (first_taken s.waiting c.tried.new.self s.rests.items c.next_place-place.result c.args.ok c.self.invariant
+    c.next_place-place.ensures.place c.tried.ensures.state)

@@ -16,4 +16,5 @@ returns-clause-start c =
     let ok = not c.has-ok.result in
     let first : IsFirst s.queue e = c.in_ok-entry.ensures in
     let takes : TakesFirst s.queue c.take_first.new.self e ok = c.take_first.ensures e first in
-    rw (← c.self.view_is) (attempts _ s.queue c.take_first.new.self e ok c.note.new.tried.items takes refl refl c.in_ok-note.ensures.tried)
+    rw (← c.self.view_is) (attempts _ s.queue c.take_first.new.self e ok c.note.new.tried.items takes refl refl
+    c.in_ok-note.ensures.tried)

@@ -11,4 +11,5 @@ returns c =
     let names : List (List ℕ) = c.self.inside.names in
     let entry = c.args.entry.now in
     let name = c.as_slice.ensures ∙ ap (λ (e : Entry). e.name) c.entry.view_is in
-    c.is_some.ensures ∙ ap is_some (c.place_of.ensures.place ∙ ap (λ n. position (folds_same n) names) name) ∙ is_tried names entry ∙ ap (λ ns. was_tried ns entry) c.self.view_is
+    c.is_some.ensures ∙ ap is_some (c.place_of.ensures.place ∙ ap (λ n. position (folds_same n) names) name)
+    ∙ is_tried names entry ∙ ap (λ ns. was_tried ns entry) c.self.view_is

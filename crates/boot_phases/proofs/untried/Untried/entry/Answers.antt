@@ -8,7 +8,8 @@ use Rattle.boot_phases.proofs.untried.Untried.entry.Goals as goal
 pub returns-in-Some : goal.returns-in-Some
 returns-in-Some c =
     let inside = c.self.inside in
-    let found : slice_get inside.places c.args.index ≡ Some c.in-Some.place.now = sym c.get.ensures ∙ ap option_copied c.in-Some.is in
+    let found : slice_get inside.places c.args.index ≡ Some c.in-Some.place.now =
+    sym c.get.ensures ∙ ap option_copied c.in-Some.is in
     ap (option_map need_of) (c.get-in-Some.ensures ∙ sym (ap (option_and_then (slice_get inside.table.now)) found))
     ∙ rw (← c.self.view_is) (need_there inside.table.now inside.places c.args.index c.self.invariant.within)
 

@@ -5,4 +5,5 @@ use Rattle.boot_phases.proofs.untried.Untried.in_table.Goals as goal
 pub returns-clause-few : goal.returns-clause-few
 returns-clause-few c =
     let inside = c.self.inside in
-    rw (← c.self.view_is) (omega (arith, length-needs_at inside.table.now inside.places c.self.invariant.within, c.self.invariant.few))
+    rw (← c.self.view_is) (omega
+    (arith, length-needs_at inside.table.now inside.places c.self.invariant.within, c.self.invariant.few))

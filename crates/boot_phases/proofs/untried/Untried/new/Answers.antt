@@ -15,12 +15,16 @@ loop-place-preserved c =
       | then-is_open_at+in_ok-push-2 w ↦
           record {
             places = w.places-is ∙ w.in_ok-push-2.ensures.ok
-                ∙ filter-range_push p at.place at.places at.invariant.places (sym c.is_open_at.ensures ∙ w.if-is_open_at.true);
-            seen = rw (w.places-is, w.in_ok-push-2.ensures.ok, c.in_ok-push.ensures.ok, c.len.ensures) (seen_push at.place at.places at.indices at.invariant.seen);
+                ∙ filter-range_push p at.place at.places at.invariant.places
+                (sym c.is_open_at.ensures ∙ w.if-is_open_at.true);
+            seen = rw (w.places-is, w.in_ok-push-2.ensures.ok, c.in_ok-push.ensures.ok, c.len.ensures)
+                (seen_push at.place at.places at.indices at.invariant.seen);
           }
       | else-is_open_at w ↦
           record {
-            places = w.places-is ∙ filter-range_skip p at.place at.places at.invariant.places (sym c.is_open_at.ensures ∙ w.if-is_open_at.false);
-            seen = rw (w.places-is, c.in_ok-push.ensures.ok) (seen_skip at.place at.places at.indices _ at.invariant.seen);
+            places = w.places-is ∙ filter-range_skip p at.place at.places at.invariant.places
+                (sym c.is_open_at.ensures ∙ w.if-is_open_at.false);
+            seen = rw (w.places-is, c.in_ok-push.ensures.ok)
+                (seen_skip at.place at.places at.indices _ at.invariant.seen);
           }
     ]

@@ -8,6 +8,7 @@ use Rattle.boot_phases.proofs.untried.Untried.new.Given as goal
 
 abbrev pub invariant-loop-place : goal.invariant-loop-place
 invariant-loop-place l = record {
-  places : l.places ≡ filter (λ p. option_map_or (is_open l.tried) (slice_get l.table p) false) (range_with_len 0 l.place);
+  places : l.places ≡ filter (λ p. option_map_or (is_open l.tried) (slice_get l.table p) false)
+      (range_with_len 0 l.place);
   seen : IsSeen l.place l.places l.indices;
 }

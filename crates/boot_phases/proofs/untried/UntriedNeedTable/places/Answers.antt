@@ -6,4 +6,5 @@ pub returns : goal.returns
 returns c =
     let inside = c.self.inside in
     c.index_found.ensures
-    ∙ rw (← c.self.view_is) (found_places c.args.name.now inside.table.now inside.places c.in_ok-found.found c.self.invariant.within c.in_ok-found.ensures)
+    ∙ rw (← c.self.view_is) (found_places c.args.name.now inside.table.now inside.places c.in_ok-found.found
+    c.self.invariant.within c.in_ok-found.ensures)

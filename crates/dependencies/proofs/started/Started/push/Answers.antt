@@ -8,8 +8,12 @@ invariant_of-self-2 c =
     let old = c.self.inside in
     let names = c.in_ok-names_kept in
     let groups = c.in_ok-groups_kept in
-    pushed old.entries.items c.put.new.entries.items old.names.items c.replace.new.runs.items old.groups.items c.replace-2.new.runs.items
-    c.args.name c.args.group c.in_ok-own_group.own_group c.self.invariant (c.put.ensures ∙ ap (λ es. es ++ (c.args.name, c.args.group) ∷ []) room.entries)
-    (replaced _ _ _ _ _ _ names.names_kept names.names c.as_slice-2.ensures.value room.names (ap Some c.in_ok-copy.ensures) names.ensures c.replace.ensures)
+    pushed old.entries.items c.put.new.entries.items old.names.items c.replace.new.runs.items old.groups.items
+    c.replace-2.new.runs.items
+    c.args.name c.args.group c.in_ok-own_group.own_group c.self.invariant
+    (c.put.ensures ∙ ap (λ es. es ++ (c.args.name, c.args.group) ∷ []) room.entries)
+    (replaced _ _ _ _ _ _ names.names_kept names.names c.as_slice-2.ensures.value room.names
+    (ap Some c.in_ok-copy.ensures) names.ensures c.replace.ensures)
     (alike_in _ _ _ _ c.as_slice.ensures.value c.in_ok-own_group.ensures)
-    (replaced _ _ _ _ _ _ groups.groups_kept groups.groups c.as_slice-3.ensures.value room.groups refl groups.ensures c.replace-2.ensures)
+    (replaced _ _ _ _ _ _ groups.groups_kept groups.groups c.as_slice-3.ensures.value room.groups refl groups.ensures
+    c.replace-2.ensures)

@@ -24,13 +24,17 @@ invariant_of-self-2 c =
     let waits : member s.waits.items c.args.place ≡ true = rw (← c.self.view_is) at c.requires in
     let need = c.index-needs-at.result in
     kept_started _ _ _ _ _ _ _ _ _ _ _ _ _ _ _ _ c.self.invariant c.args.place waits
-    need c.as_slice.result.now c.need.inside.group (rw c.as_slice-needs.ensures at c.index-needs-at.is) (c.as_slice.ensures ∙ ap (λ n. n.name) c.need.view_is) (ap (λ n. n.group) c.need.view_is)
-    c.meet_name.ensures.nearer c.meet_name.ensures.met c.meet_group.ensures.nearer c.meet_group.ensures.met (rw c.deref-2.ensures.value at c.meet_group.ensures.ready)
-    (rw c.put-2.ensures.items (started_more s.first.items s.needs s.done.items c.args.place)) (omega (arith, c.put-2.ensures.len)) c.put-2.ensures.room
+    need c.as_slice.result.now c.need.inside.group (rw c.as_slice-needs.ensures at c.index-needs-at.is)
+    (c.as_slice.ensures ∙ ap (λ n. n.name) c.need.view_is) (ap (λ n. n.group) c.need.view_is)
+    c.meet_name.ensures.nearer c.meet_name.ensures.met c.meet_group.ensures.nearer c.meet_group.ensures.met
+    (rw c.deref-2.ensures.value at c.meet_group.ensures.ready)
+    (rw c.put-2.ensures.items (started_more s.first.items s.needs s.done.items c.args.place))
+    (omega (arith, c.put-2.ensures.len)) c.put-2.ensures.room
 
 pub returns-clause-tests : goal.returns-clause-tests
 returns-clause-tests c =
     let kept = invariant_of-self-2 c in
     rw (← c.self.view_is)
-    (tests_of_start _ _ _ _ _ _ _ _ _ _ _ _ c.self.invariant.of_services kept.of_services c.self.invariant.of_groups kept.of_groups
+    (tests_of_start _ _ _ _ _ _ _ _ _ _ _ _ c.self.invariant.of_services kept.of_services c.self.invariant.of_groups
+    kept.of_groups
     c.meet_name.ensures.nearer c.meet_group.ensures.nearer c.meet_name.ensures.tests c.meet_group.ensures.tests)

@@ -15,9 +15,16 @@ overflow_sub-index_mut c =
     let own = get_or_read s.owners.items want c.index-owner.result.now within c.index-owner.ensures 0 in
     let small = old.owned want 0 within in
     let had = c.index_mut-2 in
-    let is = get_or_read s.unmet.items c.index-owner.result.now had.result.now (omega (arith, own, small)) had.ensures.value 0 in
+    let is = get_or_read s.unmet.items c.index-owner.result.now had.result.now (omega (arith, own, small))
+    had.ensures.value 0 in
     let here = ap (λ o. get_or s.unmet.items o 0) own in
-    omega (arith, is, here, old.counted (get_or s.owners.items want 0) small, had_one s.owners.items s.met.items want within old.len unmarked)
+    omega (
+      arith,
+      is,
+      here,
+      old.counted (get_or s.owners.items want 0) small,
+      had_one s.owners.items s.met.items want within old.len unmarked,
+    )
 
 pub invariant_of-self : goal.invariant_of-self
 invariant_of-self c =
@@ -30,6 +37,8 @@ invariant_of-self c =
     let own = get_or_read s.owners.items want c.index-owner.result.now within c.index-owner.ensures 0 in
     let small = old.owned want 0 within in
     let had = c.index_mut-2 in
-    let is = get_or_read s.unmet.items c.index-owner.result.now had.result.now (omega (arith, own, small)) had.ensures.value 0 in
+    let is = get_or_read s.unmet.items c.index-owner.result.now had.result.now (omega (arith, own, small))
+    had.ensures.value 0 in
     let here = ap (λ o. get_or s.unmet.items o 0) own in
-    rw own (counted_after s.owners.items s.met.items s.unmet.items want (had.result.now - 1) old lt unmarked (ap (λ n. n - 1) (is ∙ here)))
+    rw own (counted_after s.owners.items s.met.items s.unmet.items want (had.result.now - 1) old lt unmarked
+    (ap (λ n. n - 1) (is ∙ here)))

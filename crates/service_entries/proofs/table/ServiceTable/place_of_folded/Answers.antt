@@ -6,5 +6,7 @@ use Rattle.service_entries.proofs.table.ServiceTable.place_of_folded.Goals as go
 
 pub returns-clause-place : goal.returns-clause-place
 returns-clause-place c =
-    let same : c.map.result ≡ c.get_index_of.result = grind (arith, common_steps, c.map.ensures.cases, c.map.ensures.variant) in
-    same ∙ c.get_index_of.ensures.index ∙ place_of_key c.self.inside.by_name.entries c.args.folded.now c.self.invariant ∙ ap (place_named c.args.folded.now) c.self.view_is
+    let same : c.map.result ≡ c.get_index_of.result =
+    grind (arith, common_steps, c.map.ensures.cases, c.map.ensures.variant) in
+    same ∙ c.get_index_of.ensures.index ∙ place_of_key c.self.inside.by_name.entries c.args.folded.now c.self.invariant
+    ∙ ap (place_named c.args.folded.now) c.self.view_is
