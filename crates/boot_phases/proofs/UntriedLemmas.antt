@@ -29,7 +29,7 @@ agree_below p q (suc n) same =
     more p n ∙ (λ j. agree_below p q n (λ k lt. same k (omega arith)) j ++ cond (same n (omega arith) j) (n ∷ []) [])
     ∙ sym (more q n)
 
-pub none_below : (p : ℕ → Bool) (n : ℕ) → ((k : ℕ) → k < n → p k ≡ false) → filter p (range_with_len 0 n) ≡ []
+none_below : (p : ℕ → Bool) (n : ℕ) → ((k : ℕ) → k < n → p k ≡ false) → filter p (range_with_len 0 n) ≡ []
 none_below p zero off = refl
 none_below p (suc n) off =
     more p n ∙ (λ j. none_below p n (λ k lt. off k (omega arith)) j ++ cond (off n (omega arith) j) (n ∷ []) [])
@@ -107,18 +107,25 @@ named_by name es (p ∷ ps) (suc k) h lt =
     ap (λ (ns : List Need). folds_same name (get_or (names_of ns) (suc k) [])) (first_need es p ps s.0 s.1)
     ∙ named_by name es ps k h.1 (omega arith)
 
--- the indices of a name are those at which its place stands
-pub found_places : (name : List ℕ) (es : List Entry) (ps : List ℕ) (found : Option ℕ) → All (λ p. p < length es) ps
+tested_places : (name : List ℕ) (es : List Entry) (ps : List ℕ) (found : Option ℕ) → All (λ p. p < length es) ps
     → IsOnlyPlace name es found
     → filter (λ k. option_map_or (nat_eq (get_or ps k 0)) found false) (range_with_len 0 (length ps))
     ≡ places_named name (names_of (needs_at es ps))
-found_places name es ps found within only =
+tested_places name es ps found within only =
     let in_es = recursion_from_All (λ p. p < length es) ps within in
     let names = names_of (needs_at es ps) in
     let len : length names ≡ length ps = length-map (needs_at es ps) (λ (n : Need). n.name) ∙ length_by es ps in_es in
     agree_below _ (λ k. folds_same name (get_or names k [])) (length ps)
     (λ k lt. sym (only (get_or ps k 0)) ∙ sym (named_by name es ps k in_es lt))
     ∙ ap (λ n. filter (λ k. folds_same name (get_or names k [])) (range_with_len 0 n)) (sym len)
+
+-- the indices of a name are those at which its place stands
+pub found_places : (name : List ℕ) (es : List Entry) (ps : List ℕ) (found : Option ℕ) → All (λ p. p < length es) ps
+    → IsOnlyPlace name es found
+    → option_map_or (indices_of ps) found [] ≡ places_named name (names_of (needs_at es ps))
+found_places name es ps None within only =
+    sym (none_below (λ k. false) (length ps) (λ k lt. refl)) ∙ tested_places name es ps None within only
+found_places name es ps (Some q) within only = tested_places name es ps (Some q) within only
 
 -- ---- the index of a place
 

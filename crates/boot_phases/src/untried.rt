@@ -1,7 +1,6 @@
 //! The entries that the automatic phase chooses among.
 
-ghost use Rattle.std.specs.Prelude.{◌≡◌, ◌<◌, ◌^◌, nat_eq, false, [], ◌∷◌, length, slice_get, slice_index_or, filter, IfOk, if◌then◌else◌};
-ghost use Rattle.std.specs.List.{range_with_len};
+ghost use Rattle.std.specs.Prelude.{◌≡◌, ◌<◌, ◌^◌, nat_eq, false, [], ◌∷◌, length, slice_get, IfOk, if◌then◌else◌};
 ghost use Rattle.std.specs.Option.{option_copied, option_map, option_map_or};
 ghost use Rattle.start_model.specs.Entries.{Entry, is_open, need_of, needs_at, places_of};
 ghost use Rattle.boot_phases.specs.Untried.{indices_of};
@@ -110,7 +109,7 @@ impl<'a> Untried<'a> {
 
     /// The index of the one at the place that was found, if one of them stands there.
     fn index_found(&self, found: Option<u32>) -> &[usize]
-        ensures { result.now ≡ filter (λ k. option_map_or (nat_eq (slice_index_or self.now.places k 0)) found false) (range_with_len 0 (length self.now.places)) }
+        ensures { result.now ≡ option_map_or (indices_of self.now.places) found [] }
     {
         match found {
             Some(place) => self.index_of(place),
