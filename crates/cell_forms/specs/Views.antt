@@ -1,4 +1,6 @@
 -- The forms of the code as those of the book.
+use Rattle.std.specs.Prelude.{ℕ, List}
+use Rattle.hive_model.specs.StoredNames.{stored_name}
 use Rattle.hive_model.specs.KeyNode.{KeyNode}
 use Rattle.hive_model.specs.KeyValue.{KeyValue}
 use Rattle.hive_model.specs.BigData.{BigData}
@@ -7,11 +9,17 @@ use Rattle.hive_model.specs.Lists.{SubkeyList, Li, Lf, Lh, Ri}
 use Rattle.hive_model.specs.Lists.{ListKind as BookKind}
 use Rattle.cell_forms.specs.declared.key_node.NkForm.{NkForm}
 use Rattle.cell_forms.specs.declared.key_value.VkForm.{VkForm}
+use Rattle.cell_forms.specs.declared.key_value.VkSlice.{VkSlice}
+use Rattle.cell_forms.specs.declared.stored.StoredName.{StoredName}
 use Rattle.cell_forms.specs.declared.security.SkForm.{SkForm}
 use Rattle.cell_forms.specs.declared.big_data.DbForm.{DbForm}
 use Rattle.cell_forms.specs.declared.lists.ListForm.{ListForm}
 use Rattle.cell_forms.specs.declared.lists.ListKind.{ListKind}
 use Rattle.cell_forms.specs.declared.lists.ListKind.TheVariants as kinds
+
+-- the name that stands there
+abbrev pub name_of : StoredName → List ℕ
+name_of n = stored_name n.is_narrow n.bytes.now
 
 abbrev pub key_node_of : NkForm → KeyNode
 key_node_of f = record {
@@ -36,6 +44,9 @@ key_node_of f = record {
 
 abbrev pub key_value_of : VkForm → KeyValue
 key_value_of f = record { size = f.size; offset = f.offset; kind = f.kind; flags = f.flags; name = f.name }
+
+abbrev pub value_seen : VkSlice → KeyValue
+value_seen s = record { size = s.size; offset = s.offset; kind = s.kind; flags = s.flags; name = name_of s.name }
 
 abbrev pub big_data_of : DbForm → BigData
 big_data_of f = record { segments = f.segments; list = f.list }

@@ -3,9 +3,10 @@
 ghost use Rattle.std.specs.Prelude.{◌≡◌, ◌<◌, ◌≤◌, ℕ, true, length, slice_index, IfOk};
 ghost use Rattle.hive_model.specs.Forms.{Gives};
 ghost use Rattle.hive_model.specs.KeyNode.{is_narrow_key, key_node_in, key_node_at, key_node_text};
-ghost use Rattle.cell_forms.specs.Views.{key_node_of};
+ghost use Rattle.cell_forms.specs.Views.{key_node_of, name_of};
 
-use crate::names::{append_name, fault, name_size, read_key_name};
+use crate::names::{append_name, fault, name_size, see_key_name};
+use crate::stored::StoredName;
 use nt_bytes::{Bytes, HiveKind, ReadStop, Units, u16_at, u32_at, u64_at};
 use std::alloc::{AllocError, Global};
 
@@ -39,12 +40,18 @@ fn is_narrow(flags: u16) -> bool
     flags / 0x20 % 2 == 1
 }
 
-/// Reads a key node. `FormShort` where the payload is shorter than the fixed part or the name,
-/// `FormSign` where it does not begin with `nk`, `FormLength` where a wide name has half a unit,
-/// `FormName` where the name is over 255 units or has a backslash; each at `at`.
+/// A key node, and its name where that stands.
+#[derive(Drop)]
+pub struct NkSeen<'a> {
+    pub form: NkForm,
+    pub name: StoredName<'a>,
+}
+
+/// The name of the key node in a payload, or why it holds none, as `read_nk` says.
 #[tactic(auto, unfolding(hive_model::specs::KeyNode::key_node_at))]
-pub fn read_nk(alloc: Global, payload: &[u8], at: u32) -> Result<NkForm, ReadStop>
-    ensures { Gives key_node_of at result (key_node_at payload.now) }
+fn see_name(payload: &[u8], at: u32) -> Result<StoredName<'_>, ReadStop>
+    ensures read { Gives (λ n. key_node_in payload.now (name_of n)) at result (key_node_at payload.now) }
+    ensures long { IfOk result (λ _. 76 ≤ length payload.now) }
 {
     if payload.len() < 2 {
         return Err(fault(HiveKind::FormShort, at));
@@ -60,8 +67,32 @@ pub fn read_nk(alloc: Global, payload: &[u8], at: u32) -> Result<NkForm, ReadSto
         return Err(fault(HiveKind::FormShort, at));
     }
     let is_narrow = is_narrow(u16_at(payload, 2));
-    let name = read_key_name(alloc, is_narrow, &payload[76..end], at)?;
-    Ok(fields(payload, name))
+    let name = see_key_name(is_narrow, &payload[76..end], at)?;
+    Ok(name)
+}
+
+/// Reads a key node. `FormShort` where the payload is shorter than the fixed part or the name,
+/// `FormSign` where it does not begin with `nk`, `FormLength` where a wide name has half a unit,
+/// `FormName` where the name is over 255 units or has a backslash; each at `at`.
+pub fn read_nk(alloc: Global, payload: &[u8], at: u32) -> Result<NkForm, ReadStop>
+    ensures { Gives key_node_of at result (key_node_at payload.now) }
+{
+    let name = see_name(payload, at)?;
+    let units = name.units(alloc)?;
+    Ok(fields(payload, units))
+}
+
+/// The same, with the name both as units and where it stands.
+pub fn see_nk(alloc: Global, payload: &[u8], at: u32) -> Result<NkSeen<'_>, ReadStop>
+    ensures read { Gives (λ n. key_node_of n.form) at result (key_node_at payload.now) }
+    ensures named { IfOk result (λ n. name_of n.name ≡ n.form.name) }
+{
+    let name = see_name(payload, at)?;
+    let units = name.units(alloc)?;
+    Ok(NkSeen {
+        form: fields(payload, units),
+        name,
+    })
 }
 
 /// The fields of a payload, with this name.

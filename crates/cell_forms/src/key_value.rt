@@ -4,9 +4,10 @@ ghost use Rattle.std.specs.Prelude.{◌≡◌, ◌<◌, ◌≤◌, ℕ, true, le
 ghost use Rattle.hive_model.specs.Forms.{Gives};
 ghost use Rattle.hive_model.specs.KeyValue.{is_narrow_value, key_value_at, key_value_text};
 ghost use Rattle.hive_model.specs.KeyValue.{data_inside as data_inside_of};
-ghost use Rattle.cell_forms.specs.Views.{key_value_of};
+ghost use Rattle.cell_forms.specs.Views.{key_value_of, value_seen};
 
-use crate::names::{append_name, fault, name_size, read_value_name};
+use crate::names::{append_name, fault, name_size, see_value_name};
+use crate::stored::StoredName;
 use nt_bytes::{Bytes, HiveKind, ReadStop, Units, u16_at, u32_at};
 use std::alloc::{AllocError, Global};
 
@@ -29,12 +30,22 @@ fn is_narrow(flags: u16) -> bool
     flags % 2 == 1
 }
 
+/// A value, its name where it stands.
+#[derive(Drop)]
+pub struct VkSlice<'a> {
+    pub size: u32,
+    pub offset: u32,
+    pub kind: u32,
+    pub flags: u16,
+    pub name: StoredName<'a>,
+}
+
 /// Reads a value. `FormShort` where the payload is shorter than the fixed part or the name,
 /// `FormSign` where it does not begin with `vk`, `FormLength` where data in place are over 4 bytes
 /// or a wide name has half a unit, `FormName` where the name is over 16,383 units; each at `at`.
 #[tactic(auto, unfolding(hive_model::specs::KeyValue::key_value_at))]
-pub fn read_vk(alloc: Global, payload: &[u8], at: u32) -> Result<VkForm, ReadStop>
-    ensures { Gives key_value_of at result (key_value_at payload.now) }
+pub fn see_vk(payload: &[u8], at: u32) -> Result<VkSlice<'_>, ReadStop>
+    ensures { Gives value_seen at result (key_value_at payload.now) }
 {
     if payload.len() < 2 {
         return Err(fault(HiveKind::FormShort, at));
@@ -54,14 +65,38 @@ pub fn read_vk(alloc: Global, payload: &[u8], at: u32) -> Result<VkForm, ReadSto
         return Err(fault(HiveKind::FormLength, at));
     }
     let flags = u16_at(payload, 16);
-    let name = read_value_name(alloc, is_narrow(flags), &payload[20..end], at)?;
-    Ok(VkForm {
+    let name = see_value_name(is_narrow(flags), &payload[20..end], at)?;
+    Ok(VkSlice {
         size,
         offset: u32_at(payload, 8),
         kind: u32_at(payload, 12),
         flags,
         name,
     })
+}
+
+impl VkSlice<'_> {
+    /// The same with a name of its own.
+    pub fn owned(&self, alloc: Global) -> Result<VkForm, AllocError>
+        ensures { IfOk result (λ f. key_value_of f ≡ value_seen self.now) }
+    {
+        let name = self.name.units(alloc)?;
+        Ok(VkForm {
+            size: self.size,
+            offset: self.offset,
+            kind: self.kind,
+            flags: self.flags,
+            name,
+        })
+    }
+}
+
+/// Reads a value as `see_vk` does, with a name of its own.
+pub fn read_vk(alloc: Global, payload: &[u8], at: u32) -> Result<VkForm, ReadStop>
+    ensures { Gives key_value_of at result (key_value_at payload.now) }
+{
+    let seen = see_vk(payload, at)?;
+    Ok(seen.owned(alloc)?)
 }
 
 /// The data that the value holds itself, in place or empty; none where a cell of their own at

@@ -15,11 +15,12 @@ mod list_texts;
 mod lists;
 mod names;
 mod security;
+mod stored;
 
 pub use big_data::{DbForm, db_bytes, read_db};
 pub use bytes::read_bytes;
-pub use key_node::{NkForm, nk_bytes, read_nk};
-pub use key_value::{VkForm, data_inside, read_vk, vk_bytes};
+pub use key_node::{NkForm, NkSeen, nk_bytes, read_nk, see_nk};
+pub use key_value::{VkForm, VkSlice, data_inside, read_vk, see_vk, vk_bytes};
 pub use laws::{
     big_data_is_read_back, bytes_are_read_back, key_node_is_read_back, key_value_is_read_back,
     list_is_read_back, offsets_are_read_back, security_is_read_back,
@@ -27,3 +28,4 @@ pub use laws::{
 pub use list_texts::{lf_bytes, lh_bytes, name_hash, offsets_bytes, ri_bytes};
 pub use lists::{ListForm, ListKind, Offsets, read_list, read_offsets};
 pub use security::{SkForm, read_sk, sk_bytes};
+pub use stored::{FirstUnit, StoredName, compare_stored};

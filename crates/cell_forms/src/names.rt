@@ -1,12 +1,14 @@
 //! Names as cells store them: one byte a unit, or UTF-16.
 
-ghost use Rattle.std.specs.Prelude.{◌≡◌, ◌<◌, ◌≤◌, ◌*◌, ◌++◌, ℕ, true, length, slice_index, IfOk, OnOk};
+ghost use Rattle.std.specs.Prelude.{◌≡◌, ◌<◌, ◌≤◌, ◌*◌, ◌++◌, ℕ, true, length, slice_index, OnOk};
 ghost use Rattle.nt_bytes.specs.declared.fault.ReadStop.TheVariants.{Fault};
 ghost use Rattle.hive_model.specs.Forms.{Gives};
-ghost use Rattle.hive_model.specs.StoredNames.{wide_text, stored_name, name_text, key_name_at, value_name_at};
+ghost use Rattle.cell_forms.specs.Views.{name_of};
+ghost use Rattle.hive_model.specs.StoredNames.{wide_text, name_text, key_name_at, value_name_at};
 
-use nt_bytes::{Bytes, HiveFault, HiveKind, ReadStop, Units, narrow, wide};
-use std::alloc::{AllocError, Global};
+use crate::stored::StoredName;
+use nt_bytes::{Bytes, HiveFault, HiveKind, ReadStop};
+use std::alloc::AllocError;
 
 /// A fault of this kind at this offset.
 pub(crate) fn fault(kind: HiveKind, at: u32) -> ReadStop
@@ -15,52 +17,40 @@ pub(crate) fn fault(kind: HiveKind, at: u32) -> ReadStop
     ReadStop::Fault(HiveFault { kind, at })
 }
 
-fn stored(alloc: Global, is_narrow: bool, bytes: &[u8]) -> Result<Units, AllocError>
-    ensures { IfOk result (λ u. u ≡ stored_name is_narrow bytes.now) }
-{
-    if is_narrow {
-        narrow(alloc, bytes)
-    } else {
-        wide(alloc, bytes)
-    }
-}
-
-/// The name of a key. `FormLength` where a wide name has half a unit, `FormName` where the name
-/// is over 255 units or has a backslash. It may be empty.
+/// The name of a key, where it stands. `FormLength` where a wide name has half a unit, `FormName`
+/// where the name is over 255 units or has a backslash. It may be empty.
 #[tactic(auto, unfolding(hive_model::specs::StoredNames::key_name_at))]
-pub(crate) fn read_key_name(
-    alloc: Global,
+pub(crate) fn see_key_name(
     is_narrow: bool,
     bytes: &[u8],
     at: u32,
-) -> Result<Units, ReadStop>
-    ensures { Gives (λ u. u) at result (key_name_at is_narrow bytes.now) }
+) -> Result<StoredName<'_>, ReadStop>
+    ensures { Gives name_of at result (key_name_at is_narrow bytes.now) }
 {
     if !is_narrow && bytes.len() % 2 == 1 {
         return Err(fault(HiveKind::FormLength, at));
     }
-    let name = stored(alloc, is_narrow, bytes)?;
-    if name.len() > 255 || name.as_slice().contains(&0x5c) {
+    let name = StoredName { is_narrow, bytes };
+    if name.len() > 255 || name.has_backslash() {
         return Err(fault(HiveKind::FormName, at));
     }
     Ok(name)
 }
 
-/// The name of a value. `FormLength` where a wide name has half a unit, `FormName` where the name
-/// is over 16,383 units.
+/// The name of a value, where it stands. `FormLength` where a wide name has half a unit, `FormName`
+/// where the name is over 16,383 units.
 #[tactic(auto, unfolding(hive_model::specs::StoredNames::value_name_at))]
-pub(crate) fn read_value_name(
-    alloc: Global,
+pub(crate) fn see_value_name(
     is_narrow: bool,
     bytes: &[u8],
     at: u32,
-) -> Result<Units, ReadStop>
-    ensures { Gives (λ u. u) at result (value_name_at is_narrow bytes.now) }
+) -> Result<StoredName<'_>, ReadStop>
+    ensures { Gives name_of at result (value_name_at is_narrow bytes.now) }
 {
     if !is_narrow && bytes.len() % 2 == 1 {
         return Err(fault(HiveKind::FormLength, at));
     }
-    let name = stored(alloc, is_narrow, bytes)?;
+    let name = StoredName { is_narrow, bytes };
     if name.len() > 16_383 {
         return Err(fault(HiveKind::FormName, at));
     }

@@ -1,8 +1,7 @@
-use Rattle.std.proofs.Common.{arith}
-use Rattle.cell_forms.proofs.Nodes.{node_read}
+use Rattle.std.proofs.Common.{ℕ, List, Ok, sym, ap, ◌∙◌}
+use Rattle.hive_model.specs.KeyNode.{KeyNode, key_node_in}
 use Rattle.cell_forms.proofs.key_node.read_nk.Goals as goal
 
 pub returns : goal.returns
 returns c =
-    node_read _ _ _ _ _ _ _ c.u16_at.ensures (omega (arith, c.if-u16_at-ne27502.false)) c.u16_at-2.ensures (omega (arith, c.if-payload-end.false))
-    c.u16_at-3.ensures c.is_narrow-is_narrow.ensures (rw c.from-end.ensures at c.in_ok-name.ensures) c.fields.ensures
+    c.in_ok-name.ensures.read ∙ ap (λ (n : List ℕ). Ok (key_node_in c.args.payload.now n)) (sym c.in_ok-units.ensures) ∙ ap (λ (k : KeyNode). Ok k) (sym c.fields.ensures)

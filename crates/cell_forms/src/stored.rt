@@ -1,0 +1,150 @@
+//! Names where they stand: units read out of the bytes that store them.
+
+ghost use Rattle.std.specs.Prelude.{◌≡◌, ◌∷◌, List, [], IfOk};
+ghost use Rattle.std.specs.List.{list_any};
+ghost use Rattle.std.specs.Option.{IfSome, IsNone};
+ghost use Rattle.std.specs.Prelude.{length};
+ghost use Rattle.nt_bytes.specs.Folding.{folded_order};
+ghost use Rattle.nt_bytes.specs.Text.{wide_of};
+ghost use Rattle.hive_model.specs.Size.{is_narrow};
+ghost use Rattle.hive_model.specs.Valid.{is_backslash};
+ghost use Rattle.cell_forms.specs.Views.{name_of};
+
+use nt_bytes::{Units, fold, wide};
+use std::alloc::{AllocError, Global};
+use std::cmp::Ordering;
+
+/// A name as a cell stores it: with one byte a unit or as UTF-16, and the bytes.
+#[derive(Clone, Copy, Debug)]
+pub struct StoredName<'a> {
+    pub is_narrow: bool,
+    pub bytes: &'a [u8],
+}
+
+/// The first unit of a name, and the rest of it.
+#[derive(Clone, Copy)]
+pub struct FirstUnit<'a> {
+    pub unit: u16,
+    pub rest: StoredName<'a>,
+}
+
+fn first_narrow(bytes: &[u8]) -> Option<FirstUnit<'_>>
+    ensures none { IsNone result → bytes.now ≡ [] }
+    ensures some { IfSome result (λ f. bytes.now ≡ f.unit ∷ name_of f.rest) }
+{
+    let [byte, rest @ ..] = bytes else {
+        return None;
+    };
+    Some(FirstUnit {
+        unit: u16::from(*byte),
+        rest: StoredName {
+            is_narrow: true,
+            bytes: rest,
+        },
+    })
+}
+
+fn first_wide(bytes: &[u8]) -> Option<FirstUnit<'_>>
+    ensures none { IsNone result → wide_of bytes.now ≡ [] }
+    ensures some { IfSome result (λ f. wide_of bytes.now ≡ f.unit ∷ name_of f.rest) }
+{
+    let [low, high, rest @ ..] = bytes else {
+        return None;
+    };
+    Some(FirstUnit {
+        unit: u16::from_le_bytes([*low, *high]),
+        rest: StoredName {
+            is_narrow: false,
+            bytes: rest,
+        },
+    })
+}
+
+impl<'a> StoredName<'a> {
+    /// The first unit, and the rest. None of an empty name.
+    fn first(self) -> Option<FirstUnit<'a>>
+        ensures none { IsNone result → name_of self.entry ≡ [] }
+        ensures some { IfSome result (λ f. name_of self.entry ≡ f.unit ∷ name_of f.rest) }
+    {
+        if self.is_narrow {
+            first_narrow(self.bytes)
+        } else {
+            first_wide(self.bytes)
+        }
+    }
+
+    /// How many units there are.
+    pub fn len(self) -> usize
+        ensures { result ≡ length (name_of self.entry) }
+    {
+        if self.is_narrow {
+            self.bytes.len()
+        } else {
+            self.bytes.len() / 2
+        }
+    }
+
+    pub fn has_backslash(self) -> bool
+        ensures { result ≡ list_any is_backslash (name_of self.entry) }
+    {
+        let mut rest = self;
+        'units: loop {
+            let Some(first) = rest.first() else {
+                return false;
+            };
+            if first.unit == 0x5c {
+                return true;
+            }
+            rest = first.rest;
+        }
+    }
+
+    /// Is each unit below 256?
+    pub fn is_low(self) -> bool
+        ensures { result ≡ is_narrow (name_of self.entry) }
+    {
+        let mut rest = self;
+        'units: loop {
+            let Some(first) = rest.first() else {
+                return true;
+            };
+            if first.unit > 255 {
+                return false;
+            }
+            rest = first.rest;
+        }
+    }
+
+    /// The units in memory of their own.
+    pub fn units(self, alloc: Global) -> Result<Units, AllocError>
+        ensures { IfOk result (λ u. u ≡ name_of self.entry) }
+    {
+        if !self.is_narrow {
+            return wide(alloc, self.bytes);
+        }
+        let units = self.bytes.iter().map(|b| u16::from(*b)).collect(alloc)?;
+        Ok(Units::from_vec(units))
+    }
+}
+
+/// The order of the folded units, as `nt_bytes::compare_folded` has it.
+pub fn compare_stored(a: StoredName<'_>, b: StoredName<'_>) -> Ordering
+    ensures { result ≡ folded_order (name_of a.entry) (name_of b.entry) }
+{
+    let mut xs = a;
+    let mut ys = b;
+    'units: loop {
+        let Some(x) = xs.first() else {
+            return 0.cmp(&ys.len());
+        };
+        let Some(y) = ys.first() else {
+            return Ordering::Greater;
+        };
+        let order = fold(x.unit).cmp(&fold(y.unit));
+        if order != Ordering::Equal {
+            return order;
+        }
+        xs = x.rest;
+        ys = y.rest;
+    }
+}
