@@ -1,5 +1,6 @@
 pub mod MarkLemmas
 pub mod TakenLemmas
+pub mod FewLemmas
 pub mod Walks
 pub mod ValueWalks
 pub mod ListWalks

@@ -24,7 +24,7 @@ and-true : (a b : Bool) → (a && b) ≡ true → (a ≡ true) × (b ≡ true)
 and-true true b e = (refl, e)
 and-true false b e = absurd cc
 
-same-bytes : (xs ys : List ℕ) → bytes_eq xs ys ≡ true → xs ≡ ys
+pub same-bytes : (xs ys : List ℕ) → bytes_eq xs ys ≡ true → xs ≡ ys
 same-bytes [] [] e = refl
 same-bytes [] (y ∷ ys) e = absurd cc
 same-bytes (x ∷ xs) [] e = absurd cc
@@ -38,7 +38,7 @@ same-bytes (x ∷ xs) (y ∷ ys) e =
 pub folds_to-folded : (n m k : List ℕ) → k ≡ folded m → folds_to n k ≡ folds_same n m
 folds_to-folded n m k e = is_eq-slice_cmp (folded n) k ∙ ap (bytes_eq (folded n)) e ∙ folded-same n m
 
-any-or : (a b c : Bool) → (a || (b || c)) ≡ ((a || b) || c)
+pub any-or : (a b c : Bool) → (a || (b || c)) ≡ ((a || b) || c)
 any-or true b c = refl
 any-or false b c = refl
 
@@ -58,7 +58,7 @@ any-map f p [] = refl
 any-map f p (k ∷ ks) = ap (λ b. p (f k) || b) (any-map f p ks)
 
 -- the keys with one more at its place
-any-insert : {K : Type 0} (f : K → List ℕ) (p : List ℕ → Bool) (ks : List K) (k : K)
+pub any-insert : {K : Type 0} (f : K → List ℕ) (p : List ℕ → Bool) (ks : List K) (k : K)
     → list_any p (map f (insert_key (λ x y. slice_cmp nat_cmp (f x) (f y)) ks k)) ≡ (list_any p (map f ks) || p (f k))
 any-insert f p [] k = or-swap (p (f k)) false
 any-insert f p (x ∷ xs) k = go (slice_cmp nat_cmp (f k) (f x)) refl (any-insert f p xs k)
@@ -105,7 +105,7 @@ pub knows-none : (keys : List (List ℕ)) → keys ≡ [] → Knows keys []
 unfolding has_name
 knows-none keys e name = rw e refl
 
-or-false : (b : Bool) → (b || false) ≡ b
+pub or-false : (b : Bool) → (b || false) ≡ b
 or-false true = refl
 or-false false = refl
 

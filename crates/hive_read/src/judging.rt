@@ -28,11 +28,11 @@ use std::alloc::Global;
 
 // The cells of a key and of all below it, under a key with this descriptor.
 #[cycle(judged)]
-fn judge_key(
+fn judge_key<'a>(
     alloc: Global,
-    cells: &Source,
+    cells: &Source<'a>,
     used: &mut Used,
-    taken: &mut Taken,
+    taken: &mut Taken<'a>,
     shared: &[u8],
     left: u32,
     root: bool,
@@ -46,8 +46,8 @@ fn judge_key(
         return Err(stop(HiveKind::TooDeep, at));
     }
     let node = use_node(alloc, cells, used, root, at)?;
-    take_name(alloc, taken, node.name.as_slice(), at)?;
-    judge_below(alloc, cells, used, shared, left - 1, &node, at)
+    take_name(alloc, taken, node.name, at)?;
+    judge_below(alloc, cells, used, shared, left - 1, &node.form, at)
 }
 
 // The cells of the key of a node, and of all that the node names.

@@ -70,11 +70,11 @@ fn own_flags(flags: u16) -> u16
 }
 
 #[cycle(walk)]
-fn read_key(
+fn read_key<'a>(
     alloc: Global,
-    cells: &Source,
+    cells: &Source<'a>,
     used: &mut Used,
-    taken: &mut Taken,
+    taken: &mut Taken<'a>,
     left: u32,
     root: bool,
     at: u32,
@@ -88,8 +88,8 @@ fn read_key(
         return Err(stop(HiveKind::TooDeep, at));
     }
     let node = use_node(alloc, cells, used, root, at)?;
-    take_name(alloc, taken, node.name.as_slice(), at)?;
-    read_below(alloc, cells, used, left - 1, node, at)
+    take_name(alloc, taken, node.name, at)?;
+    read_below(alloc, cells, used, left - 1, node.form, at)
 }
 
 // The key of a node, with all that the node names.

@@ -8,6 +8,7 @@
 
 mod bits;
 mod data;
+mod few;
 mod judging;
 mod key;
 mod laws;

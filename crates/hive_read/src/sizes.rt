@@ -2,8 +2,10 @@
 
 ghost use Rattle.std.specs.Prelude.{◌≡◌, ◌+◌, ◌*◌, ◌∷◌, length};
 ghost use Rattle.hive_model.specs.Size.{capped, cell, cells_sum, class_size, data_sizes, is_narrow, list_size, name_bytes, security_size, segment_count, segment_sizes};
+ghost use Rattle.cell_forms.specs.Views.{name_of};
 
 use crate::data::is_big;
+use cell_forms::StoredName;
 use nt_bytes::HiveVersion;
 
 /// The cell of a payload of so many bytes.
@@ -39,6 +41,25 @@ pub(crate) fn named_size(form: u64, name: &[u16]) -> u64
     ensures { result ≡ capped (cell (form + name_bytes name.now)) }
 {
     cell_size(name_len(name).saturating_add(form))
+}
+
+fn stored_len(name: StoredName<'_>) -> u64
+    ensures { result ≡ capped (name_bytes (name_of name.entry)) }
+{
+    let len = name.len() as u64;
+    if name.is_low() {
+        len
+    } else {
+        len.saturating_mul(2)
+    }
+}
+
+/// The same of a name that stands in a cell.
+#[tactic(auto, using(reg_tree::proofs::Sums::sums))]
+pub(crate) fn stored_size(form: u64, name: StoredName<'_>) -> u64
+    ensures { result ≡ capped (cell (form + name_bytes (name_of name.entry))) }
+{
+    cell_size(stored_len(name).saturating_add(form))
 }
 
 /// The cells of the segments of big data of `len` bytes.

@@ -1,6 +1,6 @@
 //! Cells used for their forms.
 
-ghost use Rattle.std.specs.Prelude.{◌≡◌, ℕ, true, false, List, [], ◌∷◌, ◌||◌, Ok, Err, OnOk};
+ghost use Rattle.std.specs.Prelude.{◌≡◌, ℕ, true, false, List, [], ◌∷◌, ◌||◌, Ok, Err, IfOk, OnOk};
 ghost use Rattle.nt_bytes.specs.declared.fault.ReadStop.TheVariants.{Fault};
 ghost use Rattle.hive_model.specs.Forms.{Gives, bytes_in};
 ghost use Rattle.hive_model.specs.KeyValue.{key_value_at};
@@ -11,18 +11,18 @@ ghost use Rattle.hive_model.specs.Bins.{Cells};
 ghost use Rattle.hive_read.specs.Sources.{cells_of};
 ghost use Rattle.hive_model.specs.Size.{segment_count as segments_of};
 ghost use Rattle.hive_model.specs.Walk.{uses, use_as, reading, node_at, big_data_of, leaf_at, name_check};
-ghost use Rattle.cell_forms.specs.Views.{key_node_of, key_value_of, big_data_of as form_of, security_of, subkey_list_of};
+ghost use Rattle.cell_forms.specs.Views.{big_data_of as form_of, name_of, security_of, subkey_list_of, value_seen};
 ghost use Rattle.hive_read.specs.Taken.{has_name, Knows};
 ghost use Rattle.hive_read.specs.Walked.{Seen, check, walk, Steps, Uses};
-ghost use Rattle.hive_read.specs.Judged.{security_seen};
+ghost use Rattle.hive_read.specs.Judged.{node_of, security_seen};
 
 use crate::data::SEGMENT;
 use crate::source::Source;
 use crate::taken::Taken;
 use crate::used::Used;
 use cell_forms::{
-    DbForm, ListForm, ListKind, NkForm, Offsets, SkForm, VkForm, read_bytes, read_db, read_list,
-    read_nk, read_offsets, read_sk, read_vk,
+    DbForm, ListForm, ListKind, NkSeen, Offsets, SkForm, StoredName, VkSlice, read_bytes, read_db,
+    read_list, read_offsets, read_sk, see_nk, see_vk,
 };
 use nt_bytes::{Bytes, HiveFault, HiveKind, ReadStop, u16_at, u32_at};
 use std::alloc::Global;
@@ -53,15 +53,15 @@ fn use_cell<'a>(
 
 /// Adds the name of what stands at this offset to those before it. `DoubleName` where one folds alike.
 #[tactic(auto, using(crate::proofs::TakenLemmas::names))]
-pub(crate) fn take_name(
+pub(crate) fn take_name<'a>(
     alloc: Global,
-    taken: &mut Taken,
-    name: &[u16],
+    taken: &mut Taken<'a>,
+    name: StoredName<'a>,
     at: u32,
 ) -> Result<(), ReadStop>
     ensures walked { (names : List (List ℕ)) → Knows taken.old names → (cells : Cells) → (seen : Seen) →
-        Steps (λ _. Unit {0}) (walk cells seen (name_check names at name.now ∷ [])) seen result }
-    ensures known { OnOk result ((n : List ℕ) → has_name taken.new n ≡ (has_name taken.old n || folds_same n name.now)) }
+        Steps (λ _. Unit {0}) (walk cells seen (name_check names at (name_of name.entry) ∷ [])) seen result }
+    ensures known { OnOk result ((n : List ℕ) → has_name taken.new n ≡ (has_name taken.old n || folds_same n (name_of name.entry))) }
 {
     if !taken.add(alloc, name)? {
         return Err(stop(HiveKind::DoubleName, at));
@@ -79,11 +79,12 @@ fn segment_count(size: u32) -> u64
 
 // A key node. The root's name may be empty.
 #[tactic(auto, unfolding(hive_model::specs::Walk::node_at))]
-fn node_form(alloc: Global, payload: &[u8], root: bool, at: u32) -> Result<NkForm, ReadStop>
-    ensures { Gives key_node_of at result (node_at root payload.now) }
+fn node_form(alloc: Global, payload: &[u8], root: bool, at: u32) -> Result<NkSeen<'_>, ReadStop>
+    ensures read { Gives node_of at result (node_at root payload.now) }
+    ensures named { IfOk result (λ n. name_of n.name ≡ n.form.name) }
 {
-    let node = read_nk(alloc, payload, at)?;
-    if node.name.len() == 0 && !root {
+    let node = see_nk(alloc, payload, at)?;
+    if node.form.name.len() == 0 && !root {
         return Err(stop(HiveKind::FormName, at));
     }
     Ok(node)
@@ -160,29 +161,29 @@ fn security_form(payload: &[u8], at: u32) -> Result<SkSlice<'_>, ReadStop>
     })
 }
 
-pub(crate) fn use_node(
+pub(crate) fn use_node<'a>(
     alloc: Global,
-    cells: &Source,
+    cells: &Source<'a>,
     used: &mut Used,
     root: bool,
     at: u32,
-) -> Result<NkForm, ReadStop>
-    ensures { Uses false (node_at root) key_node_of (cells_of cells.now) at used.old used.new result }
+) -> Result<NkSeen<'a>, ReadStop>
+    ensures used { Uses false (node_at root) node_of (cells_of cells.now) at used.old used.new result }
+    ensures named { IfOk result (λ n. name_of n.name ≡ n.form.name) }
 {
     let payload = use_cell(cells, used, at, false)?;
     node_form(alloc, payload, root, at)
 }
 
-pub(crate) fn use_value(
-    alloc: Global,
-    cells: &Source,
+pub(crate) fn use_value<'a>(
+    cells: &Source<'a>,
     used: &mut Used,
     at: u32,
-) -> Result<VkForm, ReadStop>
-    ensures { Uses false key_value_at key_value_of (cells_of cells.now) at used.old used.new result }
+) -> Result<VkSlice<'a>, ReadStop>
+    ensures { Uses false key_value_at value_seen (cells_of cells.now) at used.old used.new result }
 {
     let payload = use_cell(cells, used, at, false)?;
-    read_vk(alloc, payload, at)
+    see_vk(payload, at)
 }
 
 pub(crate) fn use_security(

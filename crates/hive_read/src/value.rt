@@ -19,11 +19,11 @@ use nt_bytes::ReadStop;
 use reg_tree::{Value, Values};
 use std::alloc::Global;
 
-fn read_value(
+fn read_value<'a>(
     alloc: Global,
-    cells: &Source,
+    cells: &Source<'a>,
     used: &mut Used,
-    taken: &mut Taken,
+    taken: &mut Taken<'a>,
     at: u32,
 ) -> Result<Value, ReadStop>
     ensures walked { (names : List (List ℕ)) → Knows taken.old names →
@@ -31,8 +31,9 @@ fn read_value(
         (walk (cells_of cells.now) used.old (value_checks (cells_of cells.now) names at)) used.new result }
     ensures known { IfOk result (λ v. (n : List ℕ) → has_name taken.new n ≡ (has_name taken.old n || folds_same n v.name)) }
 {
-    let form = use_value(alloc, cells, used, at)?;
-    take_name(alloc, taken, form.name.as_slice(), at)?;
+    let seen = use_value(cells, used, at)?;
+    take_name(alloc, taken, seen.name, at)?;
+    let form = seen.owned(alloc)?;
     let bytes = read_data(alloc, cells, used, &form)?;
     Ok(Value {
         name: form.name,

@@ -5,7 +5,7 @@ ghost use Rattle.hive_model.specs.KeyValue.{data_inside};
 ghost use Rattle.hive_model.specs.Size.{capped, class_size, data_size, item_size, items_size};
 ghost use Rattle.hive_model.specs.Walk.{big_checks, class_checks, data_checks, security_checks, segments_checks, value_checks, values_in_turn, values_checks};
 ghost use Rattle.hive_model.specs.Stands.{big_bytes_at, class_of, data_of, item_at, items_at, joined_segments, security_of, values_of};
-ghost use Rattle.cell_forms.specs.Views.{key_node_of, key_value_of};
+ghost use Rattle.cell_forms.specs.Views.{key_node_of, value_seen};
 ghost use Rattle.hive_read.specs.Celled.{celled_bytes, celled_checks};
 ghost use Rattle.hive_read.specs.Judged.{AddsName, Counts, HasLength, value_list_size};
 ghost use Rattle.hive_read.specs.Sources.{cells_of};
@@ -13,12 +13,12 @@ ghost use Rattle.hive_read.specs.Taken.{Knows};
 ghost use Rattle.hive_read.specs.Walked.{walk, Steps};
 
 use crate::data::{SEGMENT, is_big};
-use crate::sizes::{cell_size, class_len, data_len, named_size};
+use crate::sizes::{cell_size, class_len, data_len, stored_size};
 use crate::source::Source;
 use crate::taken::Taken;
 use crate::used::Used;
 use crate::uses::{take_name, use_big_data, use_front, use_offsets, use_security_slice, use_value};
-use cell_forms::{NkForm, VkForm};
+use cell_forms::{NkForm, VkSlice};
 use nt_bytes::ReadStop;
 use std::alloc::Global;
 
@@ -113,8 +113,8 @@ fn judge_celled(
 }
 
 // Does the value hold its data itself, in place or as none?
-fn holds_data(value: &VkForm) -> bool
-    ensures { result ≡ is_some (data_inside (key_value_of value.now)) }
+fn holds_data(value: &VkSlice) -> bool
+    ensures { result ≡ is_some (data_inside (value_seen value.now)) }
 {
     value.size >= 0x8000_0000 || value.size == 0
 }
@@ -125,10 +125,10 @@ fn judge_data(
     alloc: Global,
     cells: &Source,
     used: &mut Used,
-    value: &VkForm,
+    value: &VkSlice,
 ) -> Result<u64, ReadStop>
-    ensures { Steps (Counts (λ b. data_of (cells_of cells.now) (key_value_of value.now) ≡ Ok b) (data_size cells.now.version))
-        (walk (cells_of cells.now) used.old (data_checks (cells_of cells.now) (key_value_of value.now))) used.new result }
+    ensures { Steps (Counts (λ b. data_of (cells_of cells.now) (value_seen value.now) ≡ Ok b) (data_size cells.now.version))
+        (walk (cells_of cells.now) used.old (data_checks (cells_of cells.now) (value_seen value.now))) used.new result }
 {
     if holds_data(value) {
         return Ok(0);
@@ -140,21 +140,21 @@ fn judge_data(
 // ---- values
 
 // The cells of a value.
-fn judge_value(
+fn judge_value<'a>(
     alloc: Global,
-    cells: &Source,
+    cells: &Source<'a>,
     used: &mut Used,
-    taken: &mut Taken,
+    taken: &mut Taken<'a>,
     at: u32,
 ) -> Result<u64, ReadStop>
     ensures { (names : List (List ℕ)) → Knows taken.old names →
         Steps (Counts (λ v. (item_at (cells_of cells.now) at ≡ Ok v) × AddsName taken.old taken.new v.name) (item_size cells.now.version))
         (walk (cells_of cells.now) used.old (value_checks (cells_of cells.now) names at)) used.new result }
 {
-    let form = use_value(alloc, cells, used, at)?;
-    take_name(alloc, taken, form.name.as_slice(), at)?;
-    let data = judge_data(alloc, cells, used, &form)?;
-    let own = named_size(20, form.name.as_slice());
+    let seen = use_value(cells, used, at)?;
+    take_name(alloc, taken, seen.name, at)?;
+    let data = judge_data(alloc, cells, used, &seen)?;
+    let own = stored_size(20, seen.name);
     Ok(own.saturating_add(data))
 }
 

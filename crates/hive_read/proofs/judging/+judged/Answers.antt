@@ -20,31 +20,31 @@ judge_key-returns-then-left-eq0 t c = λ names k.
 pub judge_key-returns-in_err-node : goal.judge_key-returns-in_err-node
 judge_key-returns-in_err-node t c = λ names k.
     let p = err_from_is_err_and c.from_residual.result c.from_residual.ensures.1 in
-    rw (p.1, p.2) (stops-on c.in_err-node.field-0.0 _ _ (λ f. key-off c.args.left (cells_of c.args.cells.now) c.args.root c.args.used.now names c.args.at f (omega arith)) c.in_err-node.ensures)
+    rw (p.1, p.2) (stops-on c.in_err-node.field-0.0 _ _ (λ f. key-off c.args.left (cells_of c.args.cells.now) c.args.root c.args.used.now names c.args.at f (omega arith)) c.in_err-node.ensures.used)
 
 pub judge_key-returns-in_err-take_name : goal.judge_key-returns-in_err-take_name
 judge_key-returns-in_err-take_name t c = λ names k.
     let p = err_from_is_err_and c.from_residual-in_err-take_name.result c.from_residual-in_err-take_name.ensures.1 in
     let cells = cells_of c.args.cells.now in
-    let u = c.in_ok-node.ensures in
-    let node = key_node_of c.in_ok-node.node in
+    let u = c.in_ok-node.ensures.used in
+    let node = key_node_of c.in_ok-node.node.form in
     rw (p.1, p.2) (stops-on c.in_err-take_name.field-0.0 _ _
     (λ f e. key-named c.args.left cells c.args.root c.args.used.now c.use_node.new.used names c.args.at node (omega arith) u.0 u.1
     ∙ walk-off cells c.use_node.new.used (name_check names c.args.at node.name ∷ []) (below_node (key_checks (c.args.left - 1) cells false) cells node c.args.at) f e)
-    (rw c.as_slice.ensures at (c.in_err-take_name.ensures.walked names k cells c.use_node.new.used)))
+    (rw c.in_ok-node.ensures.named at (c.in_err-take_name.ensures.walked names k cells c.use_node.new.used)))
 
 pub judge_key-returns : goal.judge_key-returns
 judge_key-returns t c = λ names k.
     let cells = cells_of c.args.cells.now in
-    let u = c.in_ok-node.ensures in
-    let node = key_node_of c.in_ok-node.node in
-    let taken = rw c.as_slice.ensures at (c.in_ok-take_name.ensures.walked names k cells c.use_node.new.used) in
+    let u = c.in_ok-node.ensures.used in
+    let node = key_node_of c.in_ok-node.node.form in
+    let taken = rw c.in_ok-node.ensures.named at (c.in_ok-take_name.ensures.walked names k cells c.use_node.new.used) in
     steps-same (Counts (BelowHere cells c.args.at node) (size cells.version c.args.shared.now)) (Counts (KeyHere cells c.args.root c.args.at c.args.taken.now c.take_name.new.taken) (size cells.version c.args.shared.now))
     (walk cells c.use_node.new.used (below_node (key_checks (c.args.left - 1) cells false) cells node c.args.at)) (walk cells c.args.used.now (key_checks c.args.left cells c.args.root names c.args.at))
     c.judge_below.new.used c.judge_below.result
     (key-named c.args.left cells c.args.root c.args.used.now c.use_node.new.used names c.args.at node (omega arith) u.0 u.1
     ∙ walk-on cells c.use_node.new.used c.use_node.new.used (name_check names c.args.at node.name ∷ []) (below_node (key_checks (c.args.left - 1) cells false) cells node c.args.at) taken.0)
-    (λ (n : ℕ) b. key-counts cells c.args.root c.args.at node c.args.shared.now c.args.taken.now c.take_name.new.taken n u.1 (λ m. rw c.as_slice.ensures at (c.in_ok-take_name.ensures.known m)) b)
+    (λ (n : ℕ) b. key-counts cells c.args.root c.args.at node c.args.shared.now c.args.taken.now c.take_name.new.taken n u.1 (λ m. rw c.in_ok-node.ensures.named at (c.in_ok-take_name.ensures.known m)) b)
     c.judge_below.ensures
 
 -- ---- judge_below

@@ -24,25 +24,25 @@ read_key-returns-then-left-eq0-clause-walked t c = λ names k.
 pub read_key-returns-in_err-node-clause-walked : goal.read_key-returns-in_err-node-clause-walked
 read_key-returns-in_err-node-clause-walked t c = λ names k.
     let p = err_from_is_err_and c.from_residual.result c.from_residual.ensures.1 in
-    rw (p.1, p.2) (stops-on c.in_err-node.field-0.0 _ _ (λ f. key-off c.args.left (cells_of c.args.cells.now) c.args.root c.args.used.now names c.args.at f (omega arith)) c.in_err-node.ensures)
+    rw (p.1, p.2) (stops-on c.in_err-node.field-0.0 _ _ (λ f. key-off c.args.left (cells_of c.args.cells.now) c.args.root c.args.used.now names c.args.at f (omega arith)) c.in_err-node.ensures.used)
 
 pub read_key-returns-in_err-take_name-clause-walked : goal.read_key-returns-in_err-take_name-clause-walked
 read_key-returns-in_err-take_name-clause-walked t c = λ names k.
     let p = err_from_is_err_and c.from_residual-in_err-take_name.result c.from_residual-in_err-take_name.ensures.1 in
     let cells = cells_of c.args.cells.now in
-    let u = c.in_ok-node.ensures in
-    let node = key_node_of c.in_ok-node.node in
+    let u = c.in_ok-node.ensures.used in
+    let node = key_node_of c.in_ok-node.node.form in
     rw (p.1, p.2) (stops-on c.in_err-take_name.field-0.0 _ _
     (λ f e. key-named c.args.left cells c.args.root c.args.used.now c.use_node.new.used names c.args.at node (omega arith) u.0 u.1
     ∙ walk-off cells c.use_node.new.used (name_check names c.args.at node.name ∷ []) (below_node (key_checks (c.args.left - 1) cells false) cells node c.args.at) f e)
-    (rw c.as_slice.ensures at (c.in_err-take_name.ensures.walked names k cells c.use_node.new.used)))
+    (rw c.in_ok-node.ensures.named at (c.in_err-take_name.ensures.walked names k cells c.use_node.new.used)))
 
 pub read_key-returns-clause-walked : goal.read_key-returns-clause-walked
 read_key-returns-clause-walked t c = λ names k.
     let cells = cells_of c.args.cells.now in
-    let u = c.in_ok-node.ensures in
-    let node = key_node_of c.in_ok-node.node in
-    let taken = rw c.as_slice.ensures at (c.in_ok-take_name.ensures.walked names k cells c.use_node.new.used) in
+    let u = c.in_ok-node.ensures.used in
+    let node = key_node_of c.in_ok-node.node.form in
+    let taken = rw c.in_ok-node.ensures.named at (c.in_ok-take_name.ensures.walked names k cells c.use_node.new.used) in
     steps-with (λ (key : Tree). reading key_node_at cells c.args.at ≡ Ok node → Stands cells c.args.at key) (KeyRead cells c.args.root c.args.at) (λ (key : Tree). (head key).name ≡ node.name)
     (walk cells c.use_node.new.used (below_node (key_checks (c.args.left - 1) cells false) cells node c.args.at)) (walk cells c.args.used.now (key_checks c.args.left cells c.args.root names c.args.at))
     c.read_below.new.used c.read_below.result
@@ -53,8 +53,8 @@ read_key-returns-clause-walked t c = λ names k.
 
 pub read_key-returns-clause-known : goal.read_key-returns-clause-known
 read_key-returns-clause-known t c =
-    IfOk-weaker c.read_below.result (λ (key : Tree). (head key).name ≡ c.in_ok-node.node.name) _
-    (λ key named n. rw c.as_slice.ensures at (c.in_ok-take_name.ensures.known n) ∙ ap (λ (m : List ℕ). has_name c.args.taken.now n || folds_same n m) (sym named)) c.read_below.ensures.named
+    IfOk-weaker c.read_below.result (λ (key : Tree). (head key).name ≡ c.in_ok-node.node.form.name) _
+    (λ key named n. rw c.in_ok-node.ensures.named at (c.in_ok-take_name.ensures.known n) ∙ ap (λ (m : List ℕ). has_name c.args.taken.now n || folds_same n m) (sym named)) c.read_below.ensures.named
 
 -- ---- read_below
 

@@ -1,45 +1,55 @@
-use Rattle.std.proofs.Common.{◌∷◌, [], ◌∙◌}
+use Rattle.std.proofs.Common.{◌≡◌, ◌||◌, ◌∷◌, [], Ok, sym, ap, subst, ◌∙◌}
 use Rattle.std.proofs.lemmas.Result.{err_from_is_err_and}
+use Rattle.nt_bytes.specs.Folding.{folds_same}
+use Rattle.hive_model.specs.KeyValue.{KeyValue}
+use Rattle.hive_model.specs.Stands.{data_of}
 use Rattle.hive_read.specs.Sources.{cells_of}
+use Rattle.hive_read.specs.Taken.{has_name}
+use Rattle.hive_read.specs.Walked.{Stops, walk}
 use Rattle.hive_model.specs.Walk.{name_check, data_checks}
-use Rattle.cell_forms.specs.Views.{key_value_of}
+use Rattle.cell_forms.specs.Views.{value_seen}
 use Rattle.hive_read.proofs.Walks.{stops-on, walk-on, walk-off}
-use Rattle.hive_read.proofs.ValueWalks.{value-off, value-named, item-stands}
+use Rattle.hive_read.proofs.ValueWalks.{value-off, value-named, item-stands, item_of}
 use Rattle.hive_read.proofs.value.read_value.Goals as goal
 
-pub returns-in_err-form-clause-walked : goal.returns-in_err-form-clause-walked
-returns-in_err-form-clause-walked c = λ names k.
+pub returns-in_err-seen-clause-walked : goal.returns-in_err-seen-clause-walked
+returns-in_err-seen-clause-walked c = λ names k.
     let p = err_from_is_err_and c.from_residual.result c.from_residual.ensures.1 in
-    rw (p.1, p.2) (stops-on c.in_err-form.field-0.0 _ _ (λ f. value-off (cells_of c.args.cells.now) c.args.used.now names c.args.at f) c.in_err-form.ensures)
+    rw (p.1, p.2) (stops-on c.in_err-seen.field-0.0 _ _ (λ f. value-off (cells_of c.args.cells.now) c.args.used.now names c.args.at f) c.in_err-seen.ensures)
 
 pub returns-in_err-take_name-clause-walked : goal.returns-in_err-take_name-clause-walked
 returns-in_err-take_name-clause-walked c = λ names k.
     let p = err_from_is_err_and c.from_residual-in_err-take_name.result c.from_residual-in_err-take_name.ensures.1 in
     let cells = cells_of c.args.cells.now in
-    let u = c.in_ok-form.ensures in
-    let v = key_value_of c.in_ok-form.form in
+    let u = c.in_ok-seen.ensures in
+    let v = value_seen c.in_ok-seen.seen in
     rw (p.1, p.2) (stops-on c.in_err-take_name.field-0.0 _ _
     (λ f e. value-named cells c.args.used.now c.use_value.new.used names c.args.at v u.0 u.1 ∙ walk-off cells c.use_value.new.used (name_check names c.args.at v.name ∷ []) (data_checks cells v) f e)
-    (rw c.as_slice.ensures at (c.in_err-take_name.ensures.walked names k cells c.use_value.new.used)))
+    (c.in_err-take_name.ensures.walked names k cells c.use_value.new.used))
 
 pub returns-in_err-bytes-clause-walked : goal.returns-in_err-bytes-clause-walked
 returns-in_err-bytes-clause-walked c = λ names k.
     let p = err_from_is_err_and c.from_residual-in_err-bytes.result c.from_residual-in_err-bytes.ensures.1 in
     let cells = cells_of c.args.cells.now in
-    let u = c.in_ok-form.ensures in
-    let v = key_value_of c.in_ok-form.form in
-    let t = rw c.as_slice.ensures at (c.in_ok-take_name.ensures.walked names k cells c.use_value.new.used) in
+    let u = c.in_ok-seen.ensures in
+    let v = value_seen c.in_ok-seen.seen in
+    let t = c.in_ok-take_name.ensures.walked names k cells c.use_value.new.used in
     rw (p.1, p.2) (stops-on c.in_err-bytes.field-0.0 _ _
     (λ f e. value-named cells c.args.used.now c.use_value.new.used names c.args.at v u.0 u.1 ∙ walk-on cells c.use_value.new.used c.use_value.new.used (name_check names c.args.at v.name ∷ []) (data_checks cells v) t.0 ∙ e)
-    c.in_err-bytes.ensures)
+    (subst (λ (k : KeyValue). Stops (walk cells c.use_value.new.used (data_checks cells k)) c.in_err-bytes.field-0.0) c.in_ok-form.ensures c.in_err-bytes.ensures))
 
 pub returns-clause-walked : goal.returns-clause-walked
 returns-clause-walked c = λ names k.
     let cells = cells_of c.args.cells.now in
-    let u = c.in_ok-form.ensures in
-    let v = key_value_of c.in_ok-form.form in
-    let t = rw c.as_slice.ensures at (c.in_ok-take_name.ensures.walked names k cells c.use_value.new.used) in
-    let b = c.in_ok-bytes.ensures in (
-      value-named cells c.args.used.now c.use_value.new.used names c.args.at v u.0 u.1 ∙ walk-on cells c.use_value.new.used c.use_value.new.used (name_check names c.args.at v.name ∷ []) (data_checks cells v) t.0 ∙ b.0,
-      item-stands cells c.args.at v c.in_ok-bytes.bytes u.1 b.1,
+    let u = c.in_ok-seen.ensures in
+    let v = value_seen c.in_ok-seen.seen in
+    let t = c.in_ok-take_name.ensures.walked names k cells c.use_value.new.used in
+    let w = subst (λ (k : KeyValue). walk cells c.use_value.new.used (data_checks cells k) ≡ Ok c.read_data.new.used) c.in_ok-form.ensures c.in_ok-bytes.ensures.0 in
+    let b = subst (λ (k : KeyValue). data_of cells k ≡ Ok c.in_ok-bytes.bytes) c.in_ok-form.ensures c.in_ok-bytes.ensures.1 in (
+      value-named cells c.args.used.now c.use_value.new.used names c.args.at v u.0 u.1 ∙ walk-on cells c.use_value.new.used c.use_value.new.used (name_check names c.args.at v.name ∷ []) (data_checks cells v) t.0 ∙ w,
+      item-stands cells c.args.at v c.in_ok-bytes.bytes u.1 b ∙ ap (λ (k : KeyValue). Ok (item_of k c.in_ok-bytes.bytes)) (sym c.in_ok-form.ensures),
     )
+
+pub returns-clause-known : goal.returns-clause-known
+returns-clause-known c = λ n.
+    c.in_ok-take_name.ensures.known n ∙ ap (λ (k : KeyValue). has_name c.args.taken.now n || folds_same n k.name) (sym c.in_ok-form.ensures)

@@ -2,34 +2,34 @@ use Rattle.std.proofs.Common.{◌∷◌, [], ◌∙◌}
 use Rattle.std.proofs.lemmas.Result.{err_from_is_err_and}
 use Rattle.hive_read.specs.Sources.{cells_of}
 use Rattle.hive_model.specs.Walk.{name_check, data_checks}
-use Rattle.cell_forms.specs.Views.{key_value_of}
+use Rattle.cell_forms.specs.Views.{value_seen}
 use Rattle.hive_read.proofs.Walks.{stops-on, walk-on, walk-off}
 use Rattle.hive_read.proofs.ValueWalks.{value-off, value-named}
 use Rattle.hive_read.proofs.WeighingLemmas.{value-counts}
 use Rattle.hive_read.proofs.weighing.judge_value.Goals as goal
 
-pub returns-in_err-form : goal.returns-in_err-form
-returns-in_err-form c = λ names k.
+pub returns-in_err-seen : goal.returns-in_err-seen
+returns-in_err-seen c = λ names k.
     let p = err_from_is_err_and c.from_residual.result c.from_residual.ensures.1 in
-    rw (p.1, p.2) (stops-on c.in_err-form.field-0.0 _ _ (λ f. value-off (cells_of c.args.cells.now) c.args.used.now names c.args.at f) c.in_err-form.ensures)
+    rw (p.1, p.2) (stops-on c.in_err-seen.field-0.0 _ _ (λ f. value-off (cells_of c.args.cells.now) c.args.used.now names c.args.at f) c.in_err-seen.ensures)
 
 pub returns-in_err-take_name : goal.returns-in_err-take_name
 returns-in_err-take_name c = λ names k.
     let p = err_from_is_err_and c.from_residual-in_err-take_name.result c.from_residual-in_err-take_name.ensures.1 in
     let cells = cells_of c.args.cells.now in
-    let u = c.in_ok-form.ensures in
-    let v = key_value_of c.in_ok-form.form in
+    let u = c.in_ok-seen.ensures in
+    let v = value_seen c.in_ok-seen.seen in
     rw (p.1, p.2) (stops-on c.in_err-take_name.field-0.0 _ _
     (λ f e. value-named cells c.args.used.now c.use_value.new.used names c.args.at v u.0 u.1 ∙ walk-off cells c.use_value.new.used (name_check names c.args.at v.name ∷ []) (data_checks cells v) f e)
-    (rw c.as_slice.ensures at (c.in_err-take_name.ensures.walked names k cells c.use_value.new.used)))
+    (c.in_err-take_name.ensures.walked names k cells c.use_value.new.used))
 
 pub returns-in_err-data : goal.returns-in_err-data
 returns-in_err-data c = λ names k.
     let p = err_from_is_err_and c.from_residual-in_err-data.result c.from_residual-in_err-data.ensures.1 in
     let cells = cells_of c.args.cells.now in
-    let u = c.in_ok-form.ensures in
-    let v = key_value_of c.in_ok-form.form in
-    let t = rw c.as_slice.ensures at (c.in_ok-take_name.ensures.walked names k cells c.use_value.new.used) in
+    let u = c.in_ok-seen.ensures in
+    let v = value_seen c.in_ok-seen.seen in
+    let t = c.in_ok-take_name.ensures.walked names k cells c.use_value.new.used in
     rw (p.1, p.2) (stops-on c.in_err-data.field-0.0 _ _
     (λ f e. value-named cells c.args.used.now c.use_value.new.used names c.args.at v u.0 u.1 ∙ walk-on cells c.use_value.new.used c.use_value.new.used (name_check names c.args.at v.name ∷ []) (data_checks cells v) t.0 ∙ e)
     c.in_err-data.ensures)
@@ -37,11 +37,11 @@ returns-in_err-data c = λ names k.
 pub returns : goal.returns
 returns c = λ names k.
     let cells = cells_of c.args.cells.now in
-    let u = c.in_ok-form.ensures in
-    let v = key_value_of c.in_ok-form.form in
-    let t = rw c.as_slice.ensures at (c.in_ok-take_name.ensures.walked names k cells c.use_value.new.used) in
+    let u = c.in_ok-seen.ensures in
+    let v = value_seen c.in_ok-seen.seen in
+    let t = c.in_ok-take_name.ensures.walked names k cells c.use_value.new.used in
     let d = c.in_ok-data.ensures in (
       value-named cells c.args.used.now c.use_value.new.used names c.args.at v u.0 u.1 ∙ walk-on cells c.use_value.new.used c.use_value.new.used (name_check names c.args.at v.name ∷ []) (data_checks cells v) t.0 ∙ d.0,
-      value-counts cells c.args.at v c.args.taken.now c.take_name.new.taken c.named_size-own.result c.in_ok-data.data c.saturating_add.result u.1
-          (λ n. rw c.as_slice.ensures at (c.in_ok-take_name.ensures.known n)) (rw c.as_slice-2.ensures at c.named_size-own.ensures) d.1 c.saturating_add.ensures,
+      value-counts cells c.args.at v c.args.taken.now c.take_name.new.taken c.stored_size-own.result c.in_ok-data.data c.saturating_add.result u.1
+          (λ n. c.in_ok-take_name.ensures.known n) c.stored_size-own.ensures d.1 c.saturating_add.ensures,
     )

@@ -1,0 +1,91 @@
+//! Names that stand in their cells, looked for one after another.
+
+ghost use Rattle.std.specs.Prelude.{◌≡◌, ℕ, List, [], map, not, ◌||◌, IfOk, OnOk};
+ghost use Rattle.std.specs.List.{list_any};
+ghost use Rattle.nt_bytes.specs.Folding.{folds_same};
+ghost use Rattle.cell_forms.specs.Views.{name_of};
+ghost use Rattle.hive_read.specs.Taken.{folded_name, folds_to, has_name};
+
+use cell_forms::{StoredName, compare_stored};
+use std::alloc::{AllocError, Global};
+use std::marker::Model;
+
+/// How many names are looked through one after another.
+const MOST: usize = 16;
+
+/// Names as they came, and one that none of them comes behind. Contracts see them folded.
+#[derive(Drop)]
+pub struct Few<'a> {
+    names: Vec<StoredName<'a>>,
+    greatest: StoredName<'a>,
+}
+
+impl<'a> Model for Few<'a> {
+    ghost use Rattle.std.specs.Prelude.{ℕ, List, map};
+    ghost use Rattle.cell_forms.specs.Views.{name_of};
+    ghost use Rattle.hive_read.specs.Taken.{folded_name, NoneBehind};
+
+    ghost Value = { List (List ℕ) };
+
+    ghost view = { λ a. map folded_name a.names.items };
+
+    ghost invariant = { λ a. NoneBehind (name_of a.greatest) (map folded_name a.names.items) };
+}
+
+// Does one of the names fold as this one?
+fn has_same(names: &[StoredName<'_>], name: StoredName<'_>) -> bool
+    ensures { result ≡ list_any (folds_to (name_of name.entry)) (map folded_name names.now) }
+{
+    let mut rest = names;
+    'names: loop {
+        let [other, more @ ..] = rest else {
+            return false;
+        };
+        if compare_stored(name, *other).is_eq() {
+            return true;
+        }
+        rest = more;
+    }
+}
+
+impl<'a> Few<'a> {
+    pub(crate) fn new(alloc: Global) -> Few<'a>
+        ensures { result ≡ [] }
+    {
+        Few {
+            names: Vec::new(alloc),
+            greatest: StoredName {
+                is_narrow: true,
+                bytes: &[],
+            },
+        }
+    }
+
+    /// Is it cheap to add the name? It is behind them all, or they are few.
+    pub(crate) fn takes(&self, name: StoredName<'a>) -> bool {
+        self.names.len() < MOST || compare_stored(name, self.greatest).is_gt()
+    }
+
+    pub(crate) fn as_slice(&self) -> &[StoredName<'a>]
+        ensures { map folded_name result.now ≡ self.now }
+    {
+        self.names.as_slice()
+    }
+
+    /// Adds a name. False where one is there that folds alike.
+    pub(crate) fn add(&mut self, name: StoredName<'a>) -> Result<bool, AllocError>
+        ensures fresh { IfOk result (λ fresh. fresh ≡ not (has_name self.old (name_of name.entry))) }
+        ensures added { OnOk result ((n : List ℕ) → has_name self.new n ≡ (has_name self.old n || folds_same n (name_of name.entry))) }
+    {
+        if compare_stored(name, self.greatest).is_gt() {
+            self.names.push(name)?;
+            self.greatest = name;
+            return Ok(true);
+        }
+        if has_same(self.names.as_slice(), name) {
+            return Ok(false);
+        }
+        self.names.push(name)?;
+        Ok(true)
+    }
+}
