@@ -23,33 +23,44 @@ or-false : (b : Bool) → (b || false) ≡ b
 or-false true = refl
 or-false false = refl
 
-pushed : (m n : List ℕ) (names : List (List ℕ)) → list_any (folds_same m) (names ++ n ∷ []) ≡ (list_any (folds_same m) names || folds_same m n)
-pushed m n names = list_any-append (folds_same m) names (n ∷ []) ∙ ap (λ b. list_any (folds_same m) names || b) (or-false (folds_same m n))
+pushed : (m n : List ℕ) (names : List (List ℕ))
+    → list_any (folds_same m) (names ++ n ∷ []) ≡ (list_any (folds_same m) names || folds_same m n)
+pushed m n names = list_any-append (folds_same m) names (n ∷ [])
+    ∙ ap (λ b. list_any (folds_same m) names || b) (or-false (folds_same m n))
 
 apart-from : {X : Type 0} (name : X → List ℕ) (names : List (List ℕ)) (n : List ℕ) (xs : List X)
-    → ((m : List ℕ) → list_any (folds_same m) names ≡ false → folds_same m n ≡ false) → Apart name names xs → All (λ x. folds_same (name x) n ≡ false) xs
+    → ((m : List ℕ) → list_any (folds_same m) names ≡ false → folds_same m n ≡ false) → Apart name names xs
+    → All (λ x. folds_same (name x) n ≡ false) xs
 apart-from name names n [] h a = All-nil (λ x. folds_same (name x) n ≡ false)
 apart-from name names n (x ∷ xs) h a =
     All-cons (λ x. folds_same (name x) n ≡ false) x xs (h (name x) a.0)
-    (apart-from name (names ++ name x ∷ []) n xs (λ m e. h m (neither (list_any (folds_same m) names) (folds_same m (name x)) (sym (pushed m (name x) names) ∙ e)).0) a.1)
+    (apart-from name (names ++ name x ∷ []) n xs
+    (λ m e. h m (neither (list_any (folds_same m) names) (folds_same m (name x))
+    (sym (pushed m (name x) names) ∙ e)).0) a.1)
 
-pub apart-pairs : {X : Type 0} (name : X → List ℕ) (names : List (List ℕ)) (xs : List X) → Apart name names xs → AllPairs (Differ name) xs
+pub apart-pairs : {X : Type 0} (name : X → List ℕ) (names : List (List ℕ)) (xs : List X) → Apart name names xs
+    → AllPairs (Differ name) xs
 apart-pairs name names [] a = λ i j d lt within. absurd (omega arith)
 apart-pairs name names (x ∷ xs) a =
     AllPairs-cons (Differ name) x xs
-    (apart-from name (names ++ name x ∷ []) (name x) xs (λ m e. (neither (list_any (folds_same m) names) (folds_same m (name x)) (sym (pushed m (name x) names) ∙ e)).1) a.1)
+    (apart-from name (names ++ name x ∷ []) (name x) xs
+    (λ m e. (neither (list_any (folds_same m) names) (folds_same m (name x)) (sym (pushed m (name x) names) ∙ e)).1)
+    a.1)
     (apart-pairs name (names ++ name x ∷ []) xs a.1)
 
-joined-false : (m n : List ℕ) (names : List (List ℕ)) → list_any (folds_same m) names ≡ false → folds_same m n ≡ false → list_any (folds_same m) (names ++ n ∷ []) ≡ false
+joined-false : (m n : List ℕ) (names : List (List ℕ)) → list_any (folds_same m) names ≡ false → folds_same m n ≡ false
+    → list_any (folds_same m) (names ++ n ∷ []) ≡ false
 joined-false m n names e d = pushed m n names ∙ rw (e, d) refl
 
 -- names unlike all of these, and unlike each other
-pub pairs-apart : {X : Type 0} (name : X → List ℕ) (names : List (List ℕ)) (xs : List X) → All (λ x. list_any (folds_same (name x)) names ≡ false) xs → AllPairs (Differ name) xs → Apart name names xs
+pub pairs-apart : {X : Type 0} (name : X → List ℕ) (names : List (List ℕ)) (xs : List X)
+    → All (λ x. list_any (folds_same (name x)) names ≡ false) xs → AllPairs (Differ name) xs → Apart name names xs
 pairs-apart name names [] h p = tt
 pairs-apart name names (x ∷ xs) h p = (
   h 0 x (omega arith),
   pairs-apart name (names ++ name x ∷ []) xs
-      (λ k d within. joined-false (name (slice_index_or xs k d)) (name x) names (h (suc k) d (omega arith)) (p 0 (suc k) d (omega arith) (omega arith)))
+      (λ k d within. joined-false (name (slice_index_or xs k d)) (name x) names (h (suc k) d (omega arith))
+      (p 0 (suc k) d (omega arith) (omega arith)))
       (λ i j d lt within. p (suc i) (suc j) d (omega arith) (omega arith)),
 )
 

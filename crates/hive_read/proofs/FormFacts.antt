@@ -64,15 +64,18 @@ take-short (suc n) (x ∷ xs) = omega (arith, take-short n xs)
 abbrev pub done : {A : Type 0} → A → Result A HiveKind
 done x = Ok x
 
-pub unless : {A : Type 0} (b : Bool) (k : HiveKind) (r : Result A HiveKind) (x : A) → cond b (Err k) r ≡ done x → (b ≡ false) × (r ≡ done x)
+pub unless : {A : Type 0} (b : Bool) (k : HiveKind) (r : Result A HiveKind) (x : A) → cond b (Err k) r ≡ done x
+    → (b ≡ false) × (r ≡ done x)
 unless true k r x e = absurd cc
 unless false k r x e = (refl, e)
 
-only-if : {A : Type 0} (b : Bool) (k : HiveKind) (r : Result A HiveKind) (x : A) → cond b r (Err k) ≡ done x → r ≡ done x
+only-if : {A : Type 0} (b : Bool) (k : HiveKind) (r : Result A HiveKind) (x : A) → cond b r (Err k) ≡ done x
+    → r ≡ done x
 only-if true k r x e = e
 only-if false k r x e = absurd cc
 
-pub then-so : {A B : Type 0} (r : Result A HiveKind) (f : A → Result B HiveKind) (y : B) → (r >>= f) ≡ done y → (x : A) × (r ≡ done x) × (f x ≡ done y)
+pub then-so : {A B : Type 0} (r : Result A HiveKind) (f : A → Result B HiveKind) (y : B) → (r >>= f) ≡ done y
+    → (x : A) × (r ≡ done x) × (f x ≡ done y)
 then-so (Ok x) f y e = (x, refl, e)
 then-so (Err k) f y e = absurd cc
 
@@ -109,21 +112,26 @@ pub record NodeFacts (node : KeyNode) : Type 0 where
   pub children : node.child_count < 4294967296
   pub values : node.value_count < 4294967296
 
-key-name : (narrow : Bool) (bytes name : List ℕ) → key_name_at narrow bytes ≡ done name → (length name ≤ 255) × (list_any is_backslash name ≡ false)
+key-name : (narrow : Bool) (bytes name : List ℕ) → key_name_at narrow bytes ≡ done name
+    → (length name ≤ 255) × (list_any is_backslash name ≡ false)
 unfolding key_name_at
 key-name narrow bytes name e =
     let stored = stored_name narrow bytes in
-    let one = unless (has_half_unit narrow bytes) FormLength (cond (is_bad_key_name stored) (Err FormName) (Ok stored)) name e in
+    let one = unless (has_half_unit narrow bytes) FormLength (cond (is_bad_key_name stored) (Err FormName) (Ok stored))
+    name e in
     let two = unless (is_bad_key_name stored) FormName (Ok stored) name one.1 in
     let same : stored ≡ name = ok_same stored name two.1 in
-    let good = neither (nat_lt 255 (length stored)) (list_any is_backslash stored) two.0 in
-    (subst (λ (n : List ℕ). length n ≤ 255) same (not-above 255 (length stored) good.0), subst (λ (n : List ℕ). list_any is_backslash n ≡ false) same good.1)
+    let good = neither (nat_lt 255 (length stored)) (list_any is_backslash stored) two.0 in (
+      subst (λ (n : List ℕ). length n ≤ 255) same (not-above 255 (length stored) good.0),
+      subst (λ (n : List ℕ). list_any is_backslash n ≡ false) same good.1,
+    )
 
 value-name : (narrow : Bool) (bytes name : List ℕ) → value_name_at narrow bytes ≡ done name → length name ≤ 16383
 unfolding value_name_at
 value-name narrow bytes name e =
     let stored = stored_name narrow bytes in
-    let one = unless (has_half_unit narrow bytes) FormLength (cond (is_bad_value_name stored) (Err FormName) (Ok stored)) name e in
+    let one = unless (has_half_unit narrow bytes) FormLength
+    (cond (is_bad_value_name stored) (Err FormName) (Ok stored)) name e in
     let two = unless (is_bad_value_name stored) FormName (Ok stored) name one.1 in
     let same : stored ≡ name = ok_same stored name two.1 in
     subst (λ (n : List ℕ). length n ≤ 16383) same (not-above 16383 (length stored) two.0)
@@ -134,15 +142,23 @@ node-facts p node h e =
     let narrow = is_narrow_key (u16_in p 2) in
     let bytes = slice_range p 76 (76 + u16_in p 72) in
     let named = key_name_at narrow bytes >>= λ name. Ok (key_node_in p name) in
-    let sized = cond (nat_lt (length p) 76) (Err FormShort) (cond (nat_lt (length p) (76 + u16_in p 72)) (Err FormShort) named) in
+    let sized = cond (nat_lt (length p) 76) (Err FormShort)
+    (cond (nat_lt (length p) (76 + u16_in p 72)) (Err FormShort) named) in
     let one = (unless (nat_lt (length p) 2) FormShort (cond (u16_in p 0 == 0x6b6e) sized (Err FormSign)) node e).1 in
     let two = only-if (u16_in p 0 == 0x6b6e) FormSign sized node one in
-    let three = (unless (nat_lt (length p) 76) FormShort (cond (nat_lt (length p) (76 + u16_in p 72)) (Err FormShort) named) node two).1 in
+    let three = (unless (nat_lt (length p) 76) FormShort
+    (cond (nat_lt (length p) (76 + u16_in p 72)) (Err FormShort) named) node two).1 in
     let four = (unless (nat_lt (length p) (76 + u16_in p 72)) FormShort named node three).1 in
     let n = then-so (key_name_at narrow bytes) (λ name. Ok (key_node_in p name)) node four in
     let same : key_node_in p n.0 ≡ node = ok_same (key_node_in p n.0) node n.2 in
     let good = key-name narrow bytes n.0 n.1 in
-    subst NodeFacts same (record { name = good.0; no_backslash = good.1; class = u16-small p 74 h; children = u32-small p 20 h; values = u32-small p 36 h })
+    subst NodeFacts same (record {
+      name = good.0;
+      no_backslash = good.1;
+      class = u16-small p 74 h;
+      children = u32-small p 20 h;
+      values = u32-small p 36 h;
+    })
 
 -- ---- values
 
@@ -168,10 +184,12 @@ value-facts p value e =
 pub held-short : (value : KeyValue) (d : List ℕ) → data_inside value ≡ Some d → length d ≤ 4
 held-short value d e = go (is_in_place value.size) (value.size == 0) e
   where
-    go : (a b : Bool) → cond a (Some (take (value.size - 2147483648) (to_le_bytes w32 value.offset))) (cond b (Some []) None) ≡ Some d → length d ≤ 4
+    go : (a b : Bool) → cond a (Some (take (value.size - 2147483648) (to_le_bytes w32 value.offset)))
+        (cond b (Some []) None) ≡ Some d → length d ≤ 4
     go true b e =
         let same : take (value.size - 2147483648) (to_le_bytes w32 value.offset) ≡ d = some_same _ d e in
-        subst (λ (x : List ℕ). length x ≤ 4) same (omega (arith, take-within (value.size - 2147483648) (to_le_bytes w32 value.offset)))
+        subst (λ (x : List ℕ). length x ≤ 4) same
+        (omega (arith, take-within (value.size - 2147483648) (to_le_bytes w32 value.offset)))
     go false true e = let same : [] ≡ d = some_same [] d e in subst (λ (x : List ℕ). length x ≤ 4) same (omega arith)
     go false false e = absurd cc
 
@@ -179,7 +197,9 @@ held-short value d e = go (is_in_place value.size) (value.size == 0) e
 pub celled-small : (value : KeyValue) → data_inside value ≡ None → value.size < 2147483648
 celled-small value e = go (is_in_place value.size) refl e
   where
-    go : (a : Bool) → is_in_place value.size ≡ a → cond a (Some (take (value.size - 2147483648) (to_le_bytes w32 value.offset))) (cond (value.size == 0) (Some []) None) ≡ None → value.size < 2147483648
+    go : (a : Bool) → is_in_place value.size ≡ a
+        → cond a (Some (take (value.size - 2147483648) (to_le_bytes w32 value.offset)))
+        (cond (value.size == 0) (Some []) None) ≡ None → value.size < 2147483648
     go true s e = absurd cc
     go false s e = not-from 2147483648 value.size s
 
@@ -191,7 +211,8 @@ bytes-in n p b e =
 
 -- ---- security and lists
 
-pub descriptor-small : (p : List ℕ) (s : SecurityCell) → IsBytes p → security_at p ≡ done s → length s.descriptor < 4294967296
+pub descriptor-small : (p : List ℕ) (s : SecurityCell) → IsBytes p → security_at p ≡ done s
+    → length s.descriptor < 4294967296
 unfolding security_at
 descriptor-small p s h e =
     let long = cond (nat_lt (length p) (20 + u32_in p 16)) (Err FormShort) (Ok (security_in p)) in
@@ -202,7 +223,8 @@ descriptor-small p s h e =
     let four = (unless (nat_lt (length p) (20 + u32_in p 16)) FormShort (Ok (security_in p)) s three).1 in
     let same : security_in p ≡ s = ok_same (security_in p) s four in
     let size = u32-small p 16 h in
-    let part : length (slice_range p 20 (20 + u32_in p 16)) ≤ 20 + u32_in p 16 - 20 = take-short (20 + u32_in p 16 - 20) (drop 20 p) in
+    let part : length (slice_range p 20 (20 + u32_in p 16)) ≤ 20 + u32_in p 16 - 20 =
+    take-short (20 + u32_in p 16 - 20) (drop 20 p) in
     subst (λ (c : SecurityCell). length c.descriptor < 4294967296) same (omega (arith, size, part))
 
 numbers-length : (step n : ℕ) (p : List ℕ) → length (numbers_in step n p) ≡ n

@@ -42,19 +42,26 @@ abbrev pub KeyHere : Cells → Bool → ℕ → List (List ℕ) → List (List �
 KeyHere cells root at old new t = KeyRead cells root at t × AddsName old new (head t).name
 
 -- the keys before these are there, and known by their names
-pub record KeysSoFar (cells : Cells) (left : ℕ) (shared offsets rest : List ℕ) (taken : List (List ℕ)) (total : ℕ) (seen start : Seen) : Type 0 where
+pub record KeysSoFar (cells : Cells) (left : ℕ) (shared offsets rest : List ℕ) (taken : List (List ℕ)) (total : ℕ)
+    (seen start : Seen) : Type 0 where
   pub children : List Tree
-  pub told : walk cells seen (keys_in_turn (key_checks left cells false) cells (map key_name children) rest) ≡ walk cells start (keys_in_turn (key_checks left cells false) cells [] offsets)
+  pub told : walk cells seen (keys_in_turn (key_checks left cells false) cells (map key_name children) rest)
+      ≡ walk cells start (keys_in_turn (key_checks left cells false) cells [] offsets)
   pub stand : (ts : List Tree) → AllStand cells rest (trees ts) → AllStand cells offsets (trees (children ++ ts))
   pub knows : Knows taken (map key_name children)
   pub counted : total ≡ capped (sum_by (size cells.version shared) children)
 
-pub keys-first : (cells : Cells) (left : ℕ) (shared offsets : List ℕ) (taken : List (List ℕ)) (seen : Seen) → taken ≡ [] → KeysSoFar cells left shared offsets offsets taken 0 seen seen
-keys-first cells left shared offsets taken seen e = record { children = []; told = refl; stand = λ more e. e; knows = knows-none taken e; counted = refl }
+pub keys-first : (cells : Cells) (left : ℕ) (shared offsets : List ℕ) (taken : List (List ℕ)) (seen : Seen) → taken ≡ []
+    → KeysSoFar cells left shared offsets offsets taken 0 seen seen
+keys-first cells left shared offsets taken seen e =
+    record { children = []; told = refl; stand = λ more e. e; knows = knows-none taken e; counted = refl }
 
-pub keys-next : (cells : Cells) (left : ℕ) (shared offsets rest : List ℕ) (old new : List (List ℕ)) (total one : ℕ) (seen start after : Seen) (at : ℕ) (others : List ℕ)
-    → (s : KeysSoFar cells left shared offsets rest old total seen start) → rest ≡ at ∷ others → walk cells seen (key_checks left cells false (map key_name s.children) at) ≡ Ok after
-    → Counts (KeyHere cells false at old new) (size cells.version shared) one → KeysSoFar cells left shared offsets others new (capped (total + one)) after start
+pub keys-next : (cells : Cells) (left : ℕ) (shared offsets rest : List ℕ) (old new : List (List ℕ)) (total one : ℕ)
+    (seen start after : Seen) (at : ℕ) (others : List ℕ)
+    → (s : KeysSoFar cells left shared offsets rest old total seen start) → rest ≡ at ∷ others
+    → walk cells seen (key_checks left cells false (map key_name s.children) at) ≡ Ok after
+    → Counts (KeyHere cells false at old new) (size cells.version shared) one
+    → KeysSoFar cells left shared offsets others new (capped (total + one)) after start
 keys-next cells left shared offsets rest old new total one seen start after at others s o e k =
     record {
       children = s.children ++ k.it ∷ [];
@@ -64,16 +71,19 @@ keys-next cells left shared offsets rest old new total one seen start after at o
           subst (λ (ns : List (List ℕ)). Knows new ns) (sym (map_push key_name s.children k.it))
           (knows-more old new (map key_name s.children) (key_name k.it) s.knows k.means.1);
       counted =
-          capped-sum (sum_by (size cells.version shared) s.children) (size cells.version shared k.it) total one (capped (total + one)) s.counted k.counted refl
+          capped-sum (sum_by (size cells.version shared) s.children) (size cells.version shared k.it) total one
+          (capped (total + one)) s.counted k.counted refl
           ∙ ap capped (sym (sum_by_push (size cells.version shared) s.children k.it));
     }
 
-pub keys-last : (cells : Cells) (left : ℕ) (shared offsets rest : List ℕ) (taken : List (List ℕ)) (total : ℕ) (seen start : Seen) → KeysSoFar cells left shared offsets rest taken total seen start
+pub keys-last : (cells : Cells) (left : ℕ) (shared offsets rest : List ℕ) (taken : List (List ℕ)) (total : ℕ)
+    (seen start : Seen) → KeysSoFar cells left shared offsets rest taken total seen start
     → rest ≡ []
     → (walk cells start (keys_in_turn (key_checks left cells false) cells [] offsets) ≡ Ok seen)
     × Counts (λ (ts : List Tree). AllStand cells offsets (trees ts)) (sum_by (size cells.version shared)) total
 keys-last cells left shared offsets rest taken total seen start s z = (
-  sym s.told ∙ ap (λ r. walk cells seen (keys_in_turn (key_checks left cells false) cells (map key_name s.children) r)) z,
+  sym s.told ∙ ap (λ r. walk cells seen (keys_in_turn (key_checks left cells false) cells (map key_name s.children) r))
+      z,
   record {
     it = s.children;
     means = subst (λ (us : List Tree). AllStand cells offsets (trees us)) (append-nil s.children) (s.stand [] z);
@@ -84,23 +94,31 @@ keys-last cells left shared offsets rest taken total seen start s z = (
 -- ---- children
 
 -- a key without children has no list
-pub no-children : (checks : List (List ℕ) → ℕ → List Check) (cells : Cells) (seen : Seen) (node : KeyNode) (at : ℕ) (shared : List ℕ) → node.child_count ≡ 0
+pub no-children : (checks : List (List ℕ) → ℕ → List Check) (cells : Cells) (seen : Seen) (node : KeyNode) (at : ℕ)
+    (shared : List ℕ) → node.child_count ≡ 0
     → (walk cells seen (children_checks checks cells node at) ≡ Ok seen)
-    × Counts (ChildrenRead cells node) (λ (ts : List Tree). list_size (length ts) + sum_by (size cells.version shared) ts) 0
+    × Counts (ChildrenRead cells node)
+    (λ (ts : List Tree). list_size (length ts) + sum_by (size cells.version shared) ts) 0
 no-children checks cells seen node at shared z =
     let n = children-none checks cells seen node at z in
     (n.0, record { it = []; means = ([], n.1, refl); counted = refl })
 
-pub children-counts : (cells : Cells) (node : KeyNode) (shared offsets : List ℕ) (lists one total : ℕ) → ListsChildren cells node offsets → lists ≡ capped (list_size (length offsets))
-    → Counts (λ (ts : List Tree). AllStand cells offsets (trees ts)) (sum_by (size cells.version shared)) one → total ≡ capped (lists + one)
-    → Counts (ChildrenRead cells node) (λ (ts : List Tree). list_size (length ts) + sum_by (size cells.version shared) ts) total
+pub children-counts : (cells : Cells) (node : KeyNode) (shared offsets : List ℕ) (lists one total : ℕ)
+    → ListsChildren cells node offsets → lists ≡ capped (list_size (length offsets))
+    → Counts (λ (ts : List Tree). AllStand cells offsets (trees ts)) (sum_by (size cells.version shared)) one
+    → total ≡ capped (lists + one)
+    → Counts (ChildrenRead cells node)
+    (λ (ts : List Tree). list_size (length ts) + sum_by (size cells.version shared) ts) total
 children-counts cells node shared offsets lists one total listing l c t =
-    let many : length c.it ≡ length offsets = sym (ap (λ (us : List Tree). length us) (listed_trees c.it)) ∙ stand-as-many cells offsets (trees c.it) c.means in
+    let many : length c.it ≡ length offsets =
+    sym (ap (λ (us : List Tree). length us) (listed_trees c.it))
+    ∙ stand-as-many cells offsets (trees c.it) c.means in
     record {
       it = c.it;
       means = (offsets, listing, c.means);
       counted =
-          capped-sum (list_size (length offsets)) (sum_by (size cells.version shared) c.it) lists one total l c.counted t
+          capped-sum (list_size (length offsets)) (sum_by (size cells.version shared) c.it)
+          lists one total l c.counted t
           ∙ ap (λ (n : ℕ). capped (list_size n + sum_by (size cells.version shared) c.it)) (sym many);
     }
 
@@ -112,9 +130,11 @@ BelowHere cells at node t = (reading key_node_at cells at ≡ Ok node → Stands
 
 -- a key's cells, and those of its children
 key-size : (version : HiveVersion) (shared : List ℕ) (h : Head) (ts : List Tree)
-    → size version shared (key h (trees ts)) ≡ head_size version shared h + (list_size (length ts) + sum_by (size version h.security) ts)
+    → size version shared (key h (trees ts)) ≡ head_size version shared h
+    + (list_size (length ts) + sum_by (size version h.security) ts)
 key-size version shared h ts =
-    ap (λ (us : List Tree). head_size version shared h + list_size (length us) + size_of_all version h.security (trees ts)) (listed_trees ts)
+    ap (λ (us : List Tree). head_size version shared h + list_size (length us)
+    + size_of_all version h.security (trees ts)) (listed_trees ts)
     ∙ ap (λ (n : ℕ). head_size version shared h + list_size (length ts) + n) (size_of_all-trees version h.security ts)
     ∙ regrouped (head_size version shared h) (list_size (length ts)) (sum_by (size version h.security) ts)
 
@@ -125,20 +145,32 @@ pub record PartsCount (cells : Cells) (node : KeyNode) (shared descriptor : List
   pub security : security_of cells node ≡ Ok descriptor
   pub described : s ≡ capped (security_size shared descriptor)
   pub values : Counts (λ (vs : List Item). values_of cells node ≡ Ok vs) (items_size cells.version) v
-  pub below : Counts (ChildrenRead cells node) (λ (ts : List Tree). list_size (length ts) + sum_by (size cells.version descriptor) ts) b
+  pub below : Counts (ChildrenRead cells node)
+      (λ (ts : List Tree). list_size (length ts) + sum_by (size cells.version descriptor) ts) b
 
-pub below-counts : (cells : Cells) (at : ℕ) (node : KeyNode) (shared security : List ℕ) (own class descriptor values below one two three total : ℕ)
-    → PartsCount cells node shared security own class descriptor values below → one ≡ capped (own + class) → two ≡ capped (one + descriptor) → three ≡ capped (two + values)
+pub below-counts : (cells : Cells) (at : ℕ) (node : KeyNode) (shared security : List ℕ)
+    (own class descriptor values below one two three total : ℕ)
+    → PartsCount cells node shared security own class descriptor values below → one ≡ capped (own + class)
+    → two ≡ capped (one + descriptor) → three ≡ capped (two + values)
     → total ≡ capped (three + below) → Counts (BelowHere cells at node) (size cells.version shared) total
 below-counts cells at node shared security own class descriptor values below one two three total p a b c d =
-    let h : Head = record { name = node.name; flags = tree_flags node.flags; stamp = node.stamp; class = p.class.it; security = security; values = p.values.it } in
+    let h : Head = record {
+      name = node.name;
+      flags = tree_flags node.flags;
+      stamp = node.stamp;
+      class = p.class.it;
+      security = security;
+      values = p.values.it;
+    } in
     let ts = p.below.it in
     let name = cell (76 + name_bytes node.name) in
-    let first : one ≡ capped (name + class_size p.class.it) = capped-sum name (class_size p.class.it) own class one p.own p.class.counted a in
+    let first : one ≡ capped (name + class_size p.class.it) =
+    capped-sum name (class_size p.class.it) own class one p.own p.class.counted a in
     let second : two ≡ capped (name + class_size p.class.it + security_size shared security) =
     capped-sum (name + class_size p.class.it) (security_size shared security) one descriptor two first p.described b in
     let third : three ≡ capped (head_size cells.version shared h) =
-    capped-sum (name + class_size p.class.it + security_size shared security) (items_size cells.version p.values.it) two values three second p.values.counted c in
+    capped-sum (name + class_size p.class.it + security_size shared security) (items_size cells.version p.values.it)
+    two values three second p.values.counted c in
     record {
       it = key h (trees ts);
       means = (
@@ -160,17 +192,25 @@ below-counts cells at node shared security own class descriptor values below one
         refl,
       );
       counted =
-          capped-sum (head_size cells.version shared h) (list_size (length ts) + sum_by (size cells.version security) ts) three below total third p.below.counted d
+          capped-sum (head_size cells.version shared h)
+          (list_size (length ts) + sum_by (size cells.version security) ts)
+          three below total third p.below.counted d
           ∙ ap capped (sym (key-size cells.version shared h ts));
     }
 
-pub key-counts : (cells : Cells) (root : Bool) (at : ℕ) (node : KeyNode) (shared : List ℕ) (old new : List (List ℕ)) (n : ℕ) → reading (node_at root) cells at ≡ Ok node → AddsName old new node.name
-    → Counts (BelowHere cells at node) (size cells.version shared) n → Counts (KeyHere cells root at old new) (size cells.version shared) n
+pub key-counts : (cells : Cells) (root : Bool) (at : ℕ) (node : KeyNode) (shared : List ℕ) (old new : List (List ℕ))
+    (n : ℕ) → reading (node_at root) cells at ≡ Ok node → AddsName old new node.name
+    → Counts (BelowHere cells at node) (size cells.version shared) n
+    → Counts (KeyHere cells root at old new) (size cells.version shared) n
 key-counts cells root at node shared old new n r a c =
     record {
       it = c.it;
       means = (
-        (c.means.0 (node-plain root cells at node r), ap (names_of (λ (k : KeyNode). k.name)) r ∙ ap (λ (m : List ℕ). m ∷ []) (sym c.means.1)),
+        (
+          c.means.0 (node-plain root cells at node r),
+          ap (names_of (λ (k : KeyNode). k.name)) r
+              ∙ ap (λ (m : List ℕ). m ∷ []) (sym c.means.1),
+        ),
         λ m. a m ∙ ap (λ (x : List ℕ). has_name old m || folds_same m x) (sym c.means.1),
       );
       counted = c.counted;
@@ -178,12 +218,16 @@ key-counts cells root at node shared old new n r a c =
 
 -- ---- the whole tree
 
-pub judged-err : (cells : Cells) (root : ℕ) (old new : Seen) (e : ReadStop) → old ≡ map.empty → Stops (walk cells old (key_checks 512 cells true [] root)) e → Judges cells root (Err e)
+pub judged-err : (cells : Cells) (root : ℕ) (old new : Seen) (e : ReadStop) → old ≡ map.empty
+    → Stops (walk cells old (key_checks 512 cells true [] root)) e → Judges cells root (Err e)
 judged-err cells root old new stops.Memory o s = tt
 judged-err cells root old new (stops.Fault f) o s = reads-root cells root old new (Err (stops.Fault f)) o s
 
-pub judged-ok : (cells : Cells) (root : ℕ) (old new : Seen) (known now : List (List ℕ)) (n total : ℕ) → AreBytes cells → old ≡ map.empty
-    → walk cells old (key_checks 512 cells true [] root) ≡ Ok new → Counts (KeyHere cells true root known now) (size cells.version []) n → total ≡ capped (n + 32) → HasBulk cells root total
+pub judged-ok : (cells : Cells) (root : ℕ) (old new : Seen) (known now : List (List ℕ)) (n total : ℕ) → AreBytes cells
+    → old ≡ map.empty
+    → walk cells old (key_checks 512 cells true [] root) ≡ Ok new
+    → Counts (KeyHere cells true root known now) (size cells.version []) n → total ≡ capped (n + 32)
+    → HasBulk cells root total
 judged-ok cells root old new known now n total b o w c t =
     let r = reads-root cells root old new (Ok c.it) o (w, c.means.0) in
     record {

@@ -16,7 +16,8 @@ use Rattle.hive_read.proofs.Walks.{walk-on, walk-off, walk-below, not-same}
 
 -- ---- a key
 
-pub key-deep : (left : ℕ) (cells : Cells) (root : Bool) (seen : Seen) (names : List (List ℕ)) (at : ℕ) → left ≡ 0 → walk cells seen (key_checks left cells root names at) ≡ fault TooDeep at
+pub key-deep : (left : ℕ) (cells : Cells) (root : Bool) (seen : Seen) (names : List (List ℕ)) (at : ℕ) → left ≡ 0
+    → walk cells seen (key_checks left cells root names at) ≡ fault TooDeep at
 unfolding key_checks
 key-deep zero cells root seen names at h = refl
 key-deep (suc left) cells root seen names at h = absurd (omega arith)
@@ -24,27 +25,36 @@ key-deep (suc left) cells root seen names at h = absurd (omega arith)
 abbrev named : ℕ → Cells → List (List ℕ) → ℕ → KeyNode → List Check
 named left cells names at node = name_check names at node.name ∷ below_node (key_checks left cells false) cells node at
 
-pub key-off : (left : ℕ) (cells : Cells) (root : Bool) (seen : Seen) (names : List (List ℕ)) (at : ℕ) (f : HiveFault) → 0 < left
-    → walk cells seen (use_as false (node_at root) cells at) ≡ Err f → walk cells seen (key_checks left cells root names at) ≡ Err f
+pub key-off : (left : ℕ) (cells : Cells) (root : Bool) (seen : Seen) (names : List (List ℕ)) (at : ℕ) (f : HiveFault)
+    → 0 < left
+    → walk cells seen (use_as false (node_at root) cells at) ≡ Err f
+    → walk cells seen (key_checks left cells root names at) ≡ Err f
 unfolding key_checks
 key-off zero cells root seen names at f h e = absurd (omega arith)
-key-off (suc left) cells root seen names at f h e = walk-off cells seen (use_as false (node_at root) cells at) (below_of (reading (node_at root) cells at) (named left cells names at)) f e
+key-off (suc left) cells root seen names at f h e =
+    walk-off cells seen (use_as false (node_at root) cells at)
+    (below_of (reading (node_at root) cells at) (named left cells names at)) f e
 
-pub key-named : (left : ℕ) (cells : Cells) (root : Bool) (seen after : Seen) (names : List (List ℕ)) (at : ℕ) (node : KeyNode) → 0 < left
+pub key-named : (left : ℕ) (cells : Cells) (root : Bool) (seen after : Seen) (names : List (List ℕ)) (at : ℕ)
+    (node : KeyNode) → 0 < left
     → walk cells seen (use_as false (node_at root) cells at) ≡ Ok after → reading (node_at root) cells at ≡ Ok node
-    → walk cells seen (key_checks left cells root names at) ≡ walk cells after ((name_check names at node.name ∷ []) ++ below_node (key_checks (left - 1) cells false) cells node at)
+    → walk cells seen (key_checks left cells root names at)
+    ≡ walk cells after ((name_check names at node.name ∷ [])
+    ++ below_node (key_checks (left - 1) cells false) cells node at)
 unfolding key_checks
 key-named zero cells root seen after names at node h e r = absurd (omega arith)
 key-named (suc left) cells root seen after names at node h e r =
     let one : suc left - 1 ≡ left = omega arith in
-    walk-below cells seen after (use_as false (node_at root) cells at) (reading (node_at root) cells at) (named left cells names at) node e r
+    walk-below cells seen after (use_as false (node_at root) cells at) (reading (node_at root) cells at)
+    (named left cells names at) node e r
     ∙ ap (λ n. walk cells after (named n cells names at node)) (sym one)
 
 abbrev done : KeyNode → Result KeyNode HiveKind
 done n = Ok n
 
 -- a node that may stand where it does is a node
-pub node-plain : (root : Bool) (cells : Cells) (at : ℕ) (node : KeyNode) → reading (node_at root) cells at ≡ Ok node → reading key_node_at cells at ≡ Ok node
+pub node-plain : (root : Bool) (cells : Cells) (at : ℕ) (node : KeyNode) → reading (node_at root) cells at ≡ Ok node
+    → reading key_node_at cells at ≡ Ok node
 unfolding node_at
 node-plain root cells at node e = payload (cells.payload at) e
   where
@@ -52,11 +62,14 @@ node-plain root cells at node e = payload (cells.payload at) e
     named-so true n e = absurd cc
     named-so false n e = e
 
-    formed : (r : Result KeyNode HiveKind) → (r >>= λ n. if (length n.name == 0) && not root then Err FormName else Ok n) ≡ Ok node → r ≡ Ok node
+    formed : (r : Result KeyNode HiveKind)
+        → (r >>= λ n. if (length n.name == 0) && not root then Err FormName else Ok n) ≡ Ok node → r ≡ Ok node
     formed (Ok n) e = named-so ((length n.name == 0) && not root) n e
     formed (Err k) e = absurd cc
 
-    payload : (p : Result (List ℕ) HiveKind) → (p >>= λ bytes. key_node_at bytes >>= λ n. if (length n.name == 0) && not root then Err FormName else Ok n) ≡ Ok node → (p >>= key_node_at) ≡ Ok node
+    payload : (p : Result (List ℕ) HiveKind)
+        → (p >>= λ bytes. key_node_at bytes >>= λ n. if (length n.name == 0) && not root then Err FormName else Ok n)
+        ≡ Ok node → (p >>= key_node_at) ≡ Ok node
     payload (Ok bytes) e = formed (key_node_at bytes) e
     payload (Err k) e = absurd cc
 
@@ -67,88 +80,122 @@ Checks = List (List ℕ) → ℕ → List Check
 
 pub below-class : (checks : Checks) (cells : Cells) (seen : Seen) (node : KeyNode) (at : ℕ) (f : HiveFault)
     → walk cells seen (class_checks cells node) ≡ Err f → walk cells seen (below_node checks cells node at) ≡ Err f
-below-class checks cells seen node at f e = walk-off cells seen (class_checks cells node) (security_checks cells node ++ (values_checks cells node ++ children_checks checks cells node at)) f e
+below-class checks cells seen node at f e =
+    walk-off cells seen (class_checks cells node)
+    (security_checks cells node ++ (values_checks cells node ++ children_checks checks cells node at)) f e
 
 pub below-security : (checks : Checks) (cells : Cells) (seen one : Seen) (node : KeyNode) (at : ℕ) (f : HiveFault)
-    → walk cells seen (class_checks cells node) ≡ Ok one → walk cells one (security_checks cells node) ≡ Err f → walk cells seen (below_node checks cells node at) ≡ Err f
+    → walk cells seen (class_checks cells node) ≡ Ok one → walk cells one (security_checks cells node) ≡ Err f
+    → walk cells seen (below_node checks cells node at) ≡ Err f
 below-security checks cells seen one node at f a e =
-    walk-on cells seen one (class_checks cells node) (security_checks cells node ++ (values_checks cells node ++ children_checks checks cells node at)) a
-    ∙ walk-off cells one (security_checks cells node) (values_checks cells node ++ children_checks checks cells node at) f e
+    walk-on cells seen one (class_checks cells node)
+    (security_checks cells node ++ (values_checks cells node ++ children_checks checks cells node at)) a
+    ∙ walk-off cells one (security_checks cells node) (values_checks cells node ++ children_checks checks cells node at)
+    f e
 
 pub below-values : (checks : Checks) (cells : Cells) (seen one two : Seen) (node : KeyNode) (at : ℕ) (f : HiveFault)
-    → walk cells seen (class_checks cells node) ≡ Ok one → walk cells one (security_checks cells node) ≡ Ok two → walk cells two (values_checks cells node) ≡ Err f
+    → walk cells seen (class_checks cells node) ≡ Ok one → walk cells one (security_checks cells node) ≡ Ok two
+    → walk cells two (values_checks cells node) ≡ Err f
     → walk cells seen (below_node checks cells node at) ≡ Err f
 below-values checks cells seen one two node at f a b e =
-    walk-on cells seen one (class_checks cells node) (security_checks cells node ++ (values_checks cells node ++ children_checks checks cells node at)) a
-    ∙ walk-on cells one two (security_checks cells node) (values_checks cells node ++ children_checks checks cells node at) b
+    walk-on cells seen one (class_checks cells node)
+    (security_checks cells node ++ (values_checks cells node ++ children_checks checks cells node at)) a
+    ∙ walk-on cells one two (security_checks cells node)
+    (values_checks cells node ++ children_checks checks cells node at) b
     ∙ walk-off cells two (values_checks cells node) (children_checks checks cells node at) f e
 
 pub below-children : (checks : Checks) (cells : Cells) (seen one two three : Seen) (node : KeyNode) (at : ℕ)
-    → walk cells seen (class_checks cells node) ≡ Ok one → walk cells one (security_checks cells node) ≡ Ok two → walk cells two (values_checks cells node) ≡ Ok three
+    → walk cells seen (class_checks cells node) ≡ Ok one → walk cells one (security_checks cells node) ≡ Ok two
+    → walk cells two (values_checks cells node) ≡ Ok three
     → walk cells seen (below_node checks cells node at) ≡ walk cells three (children_checks checks cells node at)
 below-children checks cells seen one two three node at a b d =
-    walk-on cells seen one (class_checks cells node) (security_checks cells node ++ (values_checks cells node ++ children_checks checks cells node at)) a
-    ∙ walk-on cells one two (security_checks cells node) (values_checks cells node ++ children_checks checks cells node at) b
+    walk-on cells seen one (class_checks cells node)
+    (security_checks cells node ++ (values_checks cells node ++ children_checks checks cells node at)) a
+    ∙ walk-on cells one two (security_checks cells node)
+    (values_checks cells node ++ children_checks checks cells node at) b
     ∙ walk-on cells two three (values_checks cells node) (children_checks checks cells node at) d
 
 -- ---- children
 
 abbrev counted : Checks → Cells → KeyNode → ℕ → List ℕ → List Check
-counted checks cells node at offsets = tests at (failing (not (length offsets == node.child_count)) Count) ∷ keys_in_turn checks cells [] offsets
+counted checks cells node at offsets =
+    tests at (failing (not (length offsets == node.child_count)) Count) ∷ keys_in_turn checks cells [] offsets
 
 pub children-none : (checks : Checks) (cells : Cells) (seen : Seen) (node : KeyNode) (at : ℕ) → node.child_count ≡ 0
     → (walk cells seen (children_checks checks cells node at) ≡ Ok seen) × ListsChildren cells node []
 unfolding children_checks
 children-none checks cells seen node at z = (rw z refl, rw z refl)
 
-pub children-off : (checks : Checks) (cells : Cells) (seen : Seen) (node : KeyNode) (at : ℕ) (f : HiveFault) → (node.child_count ≡ 0 → ⊥)
-    → walk cells seen (entries_checks cells node.child_list) ≡ Err f → walk cells seen (children_checks checks cells node at) ≡ Err f
+pub children-off : (checks : Checks) (cells : Cells) (seen : Seen) (node : KeyNode) (at : ℕ) (f : HiveFault)
+    → (node.child_count ≡ 0 → ⊥)
+    → walk cells seen (entries_checks cells node.child_list) ≡ Err f
+    → walk cells seen (children_checks checks cells node at) ≡ Err f
 unfolding children_checks
 children-off checks cells seen node at f n e =
     let z : (node.child_count == 0) ≡ false = not-same _ _ n in
-    rw z (walk-off cells seen (entries_checks cells node.child_list) (below_of (entries_at cells node.child_list) (counted checks cells node at)) f e)
+    rw z (walk-off cells seen (entries_checks cells node.child_list)
+    (below_of (entries_at cells node.child_list) (counted checks cells node at)) f e)
 
-pub children-count : (checks : Checks) (cells : Cells) (seen after : Seen) (node : KeyNode) (at : ℕ) (offsets : List ℕ) → (node.child_count ≡ 0 → ⊥)
-    → walk cells seen (entries_checks cells node.child_list) ≡ Ok after → entries_at cells node.child_list ≡ Ok offsets → (length offsets ≡ node.child_count → ⊥)
+pub children-count : (checks : Checks) (cells : Cells) (seen after : Seen) (node : KeyNode) (at : ℕ) (offsets : List ℕ)
+    → (node.child_count ≡ 0 → ⊥)
+    → walk cells seen (entries_checks cells node.child_list) ≡ Ok after → entries_at cells node.child_list ≡ Ok offsets
+    → (length offsets ≡ node.child_count → ⊥)
     → walk cells seen (children_checks checks cells node at) ≡ fault Count at
 unfolding children_checks
 children-count checks cells seen after node at offsets n e r d =
     let z : (node.child_count == 0) ≡ false = not-same _ _ n in
     let w : (length offsets == node.child_count) ≡ false = not-same _ _ d in
-    rw z (walk-below cells seen after (entries_checks cells node.child_list) (entries_at cells node.child_list) (counted checks cells node at) offsets e r ∙ rw w refl)
+    rw z (walk-below cells seen after (entries_checks cells node.child_list) (entries_at cells node.child_list)
+    (counted checks cells node at) offsets e r ∙ rw w refl)
 
-pub children-on : (checks : Checks) (cells : Cells) (seen after : Seen) (node : KeyNode) (at : ℕ) (offsets : List ℕ) → (node.child_count ≡ 0 → ⊥)
-    → walk cells seen (entries_checks cells node.child_list) ≡ Ok after → entries_at cells node.child_list ≡ Ok offsets → length offsets ≡ node.child_count
-    → (walk cells seen (children_checks checks cells node at) ≡ walk cells after (keys_in_turn checks cells [] offsets)) × ListsChildren cells node offsets
+pub children-on : (checks : Checks) (cells : Cells) (seen after : Seen) (node : KeyNode) (at : ℕ) (offsets : List ℕ)
+    → (node.child_count ≡ 0 → ⊥)
+    → walk cells seen (entries_checks cells node.child_list) ≡ Ok after → entries_at cells node.child_list ≡ Ok offsets
+    → length offsets ≡ node.child_count
+    → (walk cells seen (children_checks checks cells node at) ≡ walk cells after (keys_in_turn checks cells [] offsets))
+    × ListsChildren cells node offsets
 unfolding children_checks
 children-on checks cells seen after node at offsets n e r d =
     let z : (node.child_count == 0) ≡ false = not-same _ _ n in
-    let w : (length offsets == node.child_count) ≡ true = eq-eqb _ _ d in
-    (rw z (walk-below cells seen after (entries_checks cells node.child_list) (entries_at cells node.child_list) (counted checks cells node at) offsets e r ∙ rw w refl), rw z (r, d))
+    let w : (length offsets == node.child_count) ≡ true = eq-eqb _ _ d in (
+      rw z (walk-below cells seen after (entries_checks cells node.child_list) (entries_at cells node.child_list)
+          (counted checks cells node at) offsets e r ∙ rw w refl),
+      rw z (r, d),
+    )
 
 -- ---- keys in turn
 
 abbrev pub key_name : Tree → List ℕ
 key_name t = (head t).name
 
-pub keys-off : (left : ℕ) (cells : Cells) (seen : Seen) (names : List (List ℕ)) (offsets : List ℕ) (at : ℕ) (rest : List ℕ) (f : HiveFault) → offsets ≡ at ∷ rest
-    → walk cells seen (key_checks left cells false names at) ≡ Err f → walk cells seen (keys_in_turn (key_checks left cells false) cells names offsets) ≡ Err f
+pub keys-off : (left : ℕ) (cells : Cells) (seen : Seen) (names : List (List ℕ)) (offsets : List ℕ) (at : ℕ)
+    (rest : List ℕ) (f : HiveFault) → offsets ≡ at ∷ rest
+    → walk cells seen (key_checks left cells false names at) ≡ Err f
+    → walk cells seen (keys_in_turn (key_checks left cells false) cells names offsets) ≡ Err f
 keys-off left cells seen names offsets at rest f o e =
     ap (λ os. walk cells seen (keys_in_turn (key_checks left cells false) cells names os)) o
-    ∙ walk-off cells seen (key_checks left cells false names at) (keys_in_turn (key_checks left cells false) cells (names ++ names_of (λ (node : KeyNode). node.name) (reading (node_at false) cells at)) rest) f e
+    ∙ walk-off cells seen (key_checks left cells false names at)
+    (keys_in_turn (key_checks left cells false) cells
+    (names ++ names_of (λ (node : KeyNode). node.name) (reading (node_at false) cells at)) rest) f e
 
-pub keys-on : (left : ℕ) (cells : Cells) (seen after : Seen) (siblings : List Tree) (offsets : List ℕ) (at : ℕ) (rest : List ℕ) (t : Tree) → offsets ≡ at ∷ rest
+pub keys-on : (left : ℕ) (cells : Cells) (seen after : Seen) (siblings : List Tree) (offsets : List ℕ) (at : ℕ)
+    (rest : List ℕ) (t : Tree) → offsets ≡ at ∷ rest
     → walk cells seen (key_checks left cells false (map key_name siblings) at) ≡ Ok after → KeyRead cells false at t
-    → walk cells seen (keys_in_turn (key_checks left cells false) cells (map key_name siblings) offsets) ≡ walk cells after (keys_in_turn (key_checks left cells false) cells (map key_name (siblings ++ t ∷ [])) rest)
+    → walk cells seen (keys_in_turn (key_checks left cells false) cells (map key_name siblings) offsets)
+    ≡ walk cells after (keys_in_turn (key_checks left cells false) cells (map key_name (siblings ++ t ∷ [])) rest)
 keys-on left cells seen after siblings offsets at rest t o e s =
     let names = ap (λ n. map key_name siblings ++ n) s.1 ∙ sym (map_push key_name siblings t) in
     ap (λ os. walk cells seen (keys_in_turn (key_checks left cells false) cells (map key_name siblings) os)) o
-    ∙ walk-on cells seen after (key_checks left cells false (map key_name siblings) at) (keys_in_turn (key_checks left cells false) cells (map key_name siblings ++ names_of (λ (node : KeyNode). node.name) (reading (node_at false) cells at)) rest) e
+    ∙ walk-on cells seen after (key_checks left cells false (map key_name siblings) at)
+    (keys_in_turn (key_checks left cells false) cells
+    (map key_name siblings ++ names_of (λ (node : KeyNode). node.name) (reading (node_at false) cells at)) rest) e
     ∙ ap (λ n. walk cells after (keys_in_turn (key_checks left cells false) cells n rest)) names
 
 -- what completes the rest completes the whole
-pub stand-one : (cells : Cells) (offsets rest all : List ℕ) (at : ℕ) (siblings : List Tree) (t : Tree) → offsets ≡ at ∷ rest → Stands cells at t
+pub stand-one : (cells : Cells) (offsets rest all : List ℕ) (at : ℕ) (siblings : List Tree) (t : Tree)
+    → offsets ≡ at ∷ rest → Stands cells at t
     → ((ts : List Tree) → AllStand cells offsets (trees ts) → AllStand cells all (trees (siblings ++ ts)))
     → (ts : List Tree) → AllStand cells rest (trees ts) → AllStand cells all (trees ((siblings ++ t ∷ []) ++ ts))
 stand-one cells offsets rest all at siblings t e s h ts a =
-    subst (λ (us : List Tree). AllStand cells all (trees us)) (sym (append_assoc siblings (t ∷ []) ts)) (h (t ∷ ts) (at, rest, e, s, a))
+    subst (λ (us : List Tree). AllStand cells all (trees us)) (sym (append_assoc siblings (t ∷ []) ts))
+    (h (t ∷ ts) (at, rest, e, s, a))

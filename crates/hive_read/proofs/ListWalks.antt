@@ -9,16 +9,23 @@ use Rattle.hive_model.specs.Walk.{Check, reading, below_of, use_as, is_list_of_l
 use Rattle.hive_read.specs.Walked.{Seen, walk}
 use Rattle.hive_read.proofs.Walks.{walk-on, walk-off, walk-below}
 
-pub leaves-off : (cells : Cells) (seen : Seen) (lists : List ℕ) (at : ℕ) (rest : List ℕ) (f : HiveFault) → lists ≡ at ∷ rest
+pub leaves-off : (cells : Cells) (seen : Seen) (lists : List ℕ) (at : ℕ) (rest : List ℕ) (f : HiveFault)
+    → lists ≡ at ∷ rest
     → walk cells seen (use_as false leaf_at cells at) ≡ Err f → walk cells seen (leaves_checks cells lists) ≡ Err f
-leaves-off cells seen lists at rest f o e = ap (λ xs. walk cells seen (leaves_checks cells xs)) o ∙ walk-off cells seen (use_as false leaf_at cells at) (leaves_checks cells rest) f e
+leaves-off cells seen lists at rest f o e =
+    ap (λ xs. walk cells seen (leaves_checks cells xs)) o
+    ∙ walk-off cells seen (use_as false leaf_at cells at) (leaves_checks cells rest) f e
 
 pub leaves-on : (cells : Cells) (seen after : Seen) (lists : List ℕ) (at : ℕ) (rest : List ℕ) → lists ≡ at ∷ rest
-    → walk cells seen (use_as false leaf_at cells at) ≡ Ok after → walk cells seen (leaves_checks cells lists) ≡ walk cells after (leaves_checks cells rest)
-leaves-on cells seen after lists at rest o e = ap (λ xs. walk cells seen (leaves_checks cells xs)) o ∙ walk-on cells seen after (use_as false leaf_at cells at) (leaves_checks cells rest) e
+    → walk cells seen (use_as false leaf_at cells at) ≡ Ok after
+    → walk cells seen (leaves_checks cells lists) ≡ walk cells after (leaves_checks cells rest)
+leaves-on cells seen after lists at rest o e =
+    ap (λ xs. walk cells seen (leaves_checks cells xs)) o
+    ∙ walk-on cells seen after (use_as false leaf_at cells at) (leaves_checks cells rest) e
 
 -- what completes the rest completes the whole
-pub joined-one : (cells : Cells) (lists rest whole : List ℕ) (at : ℕ) (all leaf : List ℕ) → lists ≡ at ∷ rest → reading leaf_at cells at ≡ Ok leaf
+pub joined-one : (cells : Cells) (lists rest whole : List ℕ) (at : ℕ) (all leaf : List ℕ) → lists ≡ at ∷ rest
+    → reading leaf_at cells at ≡ Ok leaf
     → ((more : List ℕ) → joined_at cells lists ≡ Ok more → joined_at cells whole ≡ Ok (all ++ more))
     → (more : List ℕ) → joined_at cells rest ≡ Ok more → joined_at cells whole ≡ Ok ((all ++ leaf) ++ more)
 joined-one cells lists rest whole at all leaf o s h more r =
@@ -27,18 +34,31 @@ joined-one cells lists rest whole at all leaf o s h more r =
 abbrev leaves_of : Cells → SubkeyList → List Check
 leaves_of cells list = if is_list_of_lists list.kind then leaves_checks cells list.offsets else []
 
-pub entries-off : (cells : Cells) (seen : Seen) (at : ℕ) (f : HiveFault) → walk cells seen (use_as false list_at cells at) ≡ Err f → walk cells seen (entries_checks cells at) ≡ Err f
+pub entries-off : (cells : Cells) (seen : Seen) (at : ℕ) (f : HiveFault)
+    → walk cells seen (use_as false list_at cells at) ≡ Err f → walk cells seen (entries_checks cells at) ≡ Err f
 unfolding entries_checks
-entries-off cells seen at f e = walk-off cells seen (use_as false list_at cells at) (below_of (reading list_at cells at) (leaves_of cells)) f e
+entries-off cells seen at f e =
+    walk-off cells seen (use_as false list_at cells at) (below_of (reading list_at cells at) (leaves_of cells)) f e
 
-pub entries-own : (cells : Cells) (seen after : Seen) (at : ℕ) (list : SubkeyList) → walk cells seen (use_as false list_at cells at) ≡ Ok after → reading list_at cells at ≡ Ok list
-    → is_list_of_lists list.kind ≡ false → (walk cells seen (entries_checks cells at) ≡ Ok after) × (entries_at cells at ≡ Ok list.offsets)
+pub entries-own : (cells : Cells) (seen after : Seen) (at : ℕ) (list : SubkeyList)
+    → walk cells seen (use_as false list_at cells at) ≡ Ok after → reading list_at cells at ≡ Ok list
+    → is_list_of_lists list.kind ≡ false
+    → (walk cells seen (entries_checks cells at) ≡ Ok after) × (entries_at cells at ≡ Ok list.offsets)
 unfolding entries_checks entries_at
-entries-own cells seen after at list e r k =
-    (walk-below cells seen after (use_as false list_at cells at) (reading list_at cells at) (leaves_of cells) list e r ∙ rw k refl, ap (λ q. q >>= entries_of cells) r ∙ rw k refl)
+entries-own cells seen after at list e r k = (
+  walk-below cells seen after (use_as false list_at cells at) (reading list_at cells at) (leaves_of cells) list e r
+      ∙ rw k refl,
+  ap (λ q. q >>= entries_of cells) r ∙ rw k refl,
+)
 
-pub entries-lists : (cells : Cells) (seen after : Seen) (at : ℕ) (list : SubkeyList) → walk cells seen (use_as false list_at cells at) ≡ Ok after → reading list_at cells at ≡ Ok list
-    → is_list_of_lists list.kind ≡ true → (walk cells seen (entries_checks cells at) ≡ walk cells after (leaves_checks cells list.offsets)) × (entries_at cells at ≡ joined_at cells list.offsets)
+pub entries-lists : (cells : Cells) (seen after : Seen) (at : ℕ) (list : SubkeyList)
+    → walk cells seen (use_as false list_at cells at) ≡ Ok after → reading list_at cells at ≡ Ok list
+    → is_list_of_lists list.kind ≡ true
+    → (walk cells seen (entries_checks cells at) ≡ walk cells after (leaves_checks cells list.offsets))
+    × (entries_at cells at ≡ joined_at cells list.offsets)
 unfolding entries_checks entries_at
-entries-lists cells seen after at list e r k =
-    (walk-below cells seen after (use_as false list_at cells at) (reading list_at cells at) (leaves_of cells) list e r ∙ rw k refl, ap (λ q. q >>= entries_of cells) r ∙ rw k refl)
+entries-lists cells seen after at list e r k = (
+  walk-below cells seen after (use_as false list_at cells at) (reading list_at cells at) (leaves_of cells) list e r
+      ∙ rw k refl,
+  ap (λ q. q >>= entries_of cells) r ∙ rw k refl,
+)

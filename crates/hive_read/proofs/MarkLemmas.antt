@@ -21,7 +21,8 @@ no-bit place = rw (bit_at-zero place) refl
 
 pub bit-past : (words : List ℕ) (slot : ℕ) → length words ≤ slot / 64 → has_bit words slot ≡ false
 unfolding has_bit
-bit-past words slot h = ap (λ word. eqb (bit_at word (slot % 64)) 1) (get_or_past words (slot / 64) 0 h) ∙ no-bit (slot % 64)
+bit-past words slot h = ap (λ word. eqb (bit_at word (slot % 64)) 1) (get_or_past words (slot / 64) 0 h)
+    ∙ no-bit (slot % 64)
 
 pub same-bits : (words others : List ℕ) → HaveSame words others → (slot : ℕ) → has_bit others slot ≡ has_bit words slot
 unfolding has_bit
@@ -35,10 +36,12 @@ unfolding has_bit
 set-bit words slot word within one others i = go (eqb (i / 64) (slot / 64)) (eqb (i % 64) (slot % 64)) refl refl
   where
     there : (i / 64 ≡ slot / 64) → get_or (set words (slot / 64) word) (i / 64) 0 ≡ word
-    there e = ap (λ place. get_or (set words (slot / 64) word) place 0) e ∙ get_or-set_same words (slot / 64) word 0 within
+    there e = ap (λ place. get_or (set words (slot / 64) word) place 0) e
+        ∙ get_or-set_same words (slot / 64) word 0 within
 
     go : (a b : Bool) → eqb (i / 64) (slot / 64) ≡ a → eqb (i % 64) (slot % 64) ≡ b
-        → eqb (bit_at (get_or (set words (slot / 64) word) (i / 64) 0) (i % 64)) 1 ≡ (eqb i slot || eqb (bit_at (get_or words (i / 64) 0) (i % 64)) 1)
+        → eqb (bit_at (get_or (set words (slot / 64) word) (i / 64) 0) (i % 64)) 1
+        ≡ (eqb i slot || eqb (bit_at (get_or words (i / 64) 0) (i % 64)) 1)
     go false b e f =
         let far : i / 64 ≢ slot / 64 = eqb-false (i / 64) (slot / 64) e in
         let other : eqb i slot ≡ false = not-same i slot (λ same. far (ap (λ n. n / 64) same)) in
@@ -47,12 +50,15 @@ set-bit words slot word within one others i = go (eqb (i / 64) (slot / 64)) (eqb
         let near : i / 64 ≡ slot / 64 = eqb-true (i / 64) (slot / 64) e in
         let far : i % 64 ≢ slot % 64 = eqb-false (i % 64) (slot % 64) f in
         let other : eqb i slot ≡ false = not-same i slot (λ same. far (ap (λ n. n % 64) same)) in
-        rw (other, there near, others (i % 64) far) (ap (λ place. eqb (bit_at (get_or words place 0) (i % 64)) 1) (sym near))
+        rw (other, there near, others (i % 64) far)
+        (ap (λ place. eqb (bit_at (get_or words place 0) (i % 64)) 1) (sym near))
     go true true e f =
         let near : i / 64 ≡ slot / 64 = eqb-true (i / 64) (slot / 64) e in
         let place : i % 64 ≡ slot % 64 = eqb-true (i % 64) (slot % 64) f in
         let same : i ≡ slot = omega arith in
-        rw (same, eq-eqb slot slot refl) (ap (λ word. eqb (bit_at word (slot % 64)) 1) (get_or-set_same words (slot / 64) word 0 within) ∙ ap (λ bit. eqb bit 1) one)
+        rw (same, eq-eqb slot slot refl)
+        (ap (λ word. eqb (bit_at word (slot % 64)) 1) (get_or-set_same words (slot / 64) word 0 within)
+        ∙ ap (λ bit. eqb bit 1) one)
 
 -- ---- marks
 
@@ -62,20 +68,24 @@ mark_at plain security at = if at % 8 == 0 then slot_mark plain security (at / 8
 
 -- the same where only the slots below n count
 abbrev below_at : List ℕ → List ℕ → ℕ → ℕ → Option Bool
-below_at plain security n at = cond (eqb (at % 8) 0) (cond (nat_lt (at / 8) n) (slot_mark plain security (at / 8)) None) None
+below_at plain security n at =
+    cond (eqb (at % 8) 0) (cond (nat_lt (at / 8) n) (slot_mark plain security (at / 8)) None) None
 
 abbrev Marks : Type 0
 Marks = map.FinMap nat_cmp Bool
 
 -- one slot more
 get-with : (n : ℕ) (mark : Option Bool) (others : List (ℕ × Bool)) (at : ℕ)
-    → map.get (map.from_entries {R = nat_cmp} (with_mark n mark others)) at ≡ cond (is_some mark && eqb at (8 * n)) mark (map.get (map.from_entries {R = nat_cmp} others) at)
+    → map.get (map.from_entries {R = nat_cmp} (with_mark n mark others)) at
+    ≡ cond (is_some mark && eqb at (8 * n)) mark (map.get (map.from_entries {R = nat_cmp} others) at)
 get-with n None others at = refl
 get-with n (Some security) others at =
     map.get-insert nat_cmp_total (map.from_entries others) (8 * n) security at
-    ∙ ap (λ b. cond b (Some security) (map.get (map.from_entries {R = nat_cmp} others) at)) (sym (unsigned_ties at (8 * n)))
+    ∙ ap (λ b. cond b (Some security) (map.get (map.from_entries {R = nat_cmp} others) at))
+    (sym (unsigned_ties at (8 * n)))
 
-get-below : (plain security : List ℕ) (n at : ℕ) → map.get (map.from_entries {R = nat_cmp} (marks_below plain security n)) at ≡ below_at plain security n at
+get-below : (plain security : List ℕ) (n at : ℕ)
+    → map.get (map.from_entries {R = nat_cmp} (marks_below plain security n)) at ≡ below_at plain security n at
 get-below plain security zero at =
     map.get-empty nat_cmp at ∙ sym (rw (le-ltb (at / 8) 0 (omega arith)) (go (eqb (at % 8) 0)))
   where
@@ -84,7 +94,8 @@ get-below plain security zero at =
     go false = refl
 get-below plain security (suc n) at =
     get-with n (slot_mark plain security n) (marks_below plain security n) at
-    ∙ ap (cond (is_some (slot_mark plain security n) && eqb at (8 * n)) (slot_mark plain security n)) (get-below plain security n at)
+    ∙ ap (cond (is_some (slot_mark plain security n) && eqb at (8 * n)) (slot_mark plain security n))
+    (get-below plain security n at)
     ∙ go (eqb (at % 8) 0) (eqb (at / 8) n) refl refl
   where
     here : (mark : Option Bool) → cond (is_some mark && true) mark none ≡ mark
@@ -96,7 +107,8 @@ get-below plain security (suc n) at =
     off b (Some m) other e = rw e refl
 
     go : (a b : Bool) → eqb (at % 8) 0 ≡ a → eqb (at / 8) n ≡ b
-        → cond (is_some (slot_mark plain security n) && eqb at (8 * n)) (slot_mark plain security n) (below_at plain security n at) ≡ below_at plain security (suc n) at
+        → cond (is_some (slot_mark plain security n) && eqb at (8 * n)) (slot_mark plain security n)
+        (below_at plain security n at) ≡ below_at plain security (suc n) at
     go false b e f =
         let odd : at % 8 ≢ 0 = eqb-false (at % 8) 0 e in
         let other : eqb at (8 * n) ≡ false = not-same at (8 * n) (λ same. odd (omega arith)) in
@@ -116,7 +128,8 @@ get-below plain security (suc n) at =
         let within : nat_lt (at / 8) (suc n) ≡ true = lt-ltb (at / 8) (suc n) (omega arith) in
         rw (e, there, past, within, near) (here (slot_mark plain security n))
 
-slot-past : (plain security : List ℕ) (slot : ℕ) → 64 * (length plain + length security) ≤ slot → slot_mark plain security slot ≡ none
+slot-past : (plain security : List ℕ) (slot : ℕ) → 64 * (length plain + length security) ≤ slot
+    → slot_mark plain security slot ≡ none
 slot-past plain security slot h =
     let p = bit-past plain slot (omega arith) in
     let s = bit-past security slot (omega arith) in
@@ -129,18 +142,22 @@ get-marks plain security at =
     let n = 64 * (length plain + length security) in
     get-below plain security n at ∙ ap (λ mark. cond (eqb (at % 8) 0) mark None) (go (nat_lt (at / 8) n) refl)
   where
-    go : (b : Bool) → nat_lt (at / 8) (64 * (length plain + length security)) ≡ b → cond b (slot_mark plain security (at / 8)) None ≡ slot_mark plain security (at / 8)
+    go : (b : Bool) → nat_lt (at / 8) (64 * (length plain + length security)) ≡ b
+        → cond b (slot_mark plain security (at / 8)) None ≡ slot_mark plain security (at / 8)
     go true e = refl
     go false e = sym (slot-past plain security (at / 8) (grind (arith, nat_tests)))
 
-whole-mark : (plain security : List ℕ) (at : ℕ) → at % 8 ≡ 0 → mark_at plain security at ≡ slot_mark plain security (at / 8)
+whole-mark : (plain security : List ℕ) (at : ℕ) → at % 8 ≡ 0
+    → mark_at plain security at ≡ slot_mark plain security (at / 8)
 whole-mark plain security at whole = rw (eq-eqb (at % 8) 0 whole) refl
 
 -- a cell's mark in a table, as two bits say it
 pub clash-marks : (plain security : List ℕ) (at : ℕ) (again : Bool) → at % 8 ≡ 0
-    → clashes (map.get (marks_in plain security) at) again ≡ cond (has_bit security (at / 8)) (not again) (has_bit plain (at / 8))
+    → clashes (map.get (marks_in plain security) at) again
+    ≡ cond (has_bit security (at / 8)) (not again) (has_bit plain (at / 8))
 clash-marks plain security at again whole =
-    ap (λ mark. clashes mark again) (get-marks plain security at ∙ whole-mark plain security at whole) ∙ go (has_bit security (at / 8)) (has_bit plain (at / 8))
+    ap (λ mark. clashes mark again) (get-marks plain security at ∙ whole-mark plain security at whole)
+    ∙ go (has_bit security (at / 8)) (has_bit plain (at / 8))
   where
     go : (s p : Bool) → clashes (cond s (Some true) (cond p (Some false) None)) again ≡ cond s (not again) p
     go true p = refl
@@ -148,15 +165,19 @@ clash-marks plain security at again whole =
     go false false = refl
 
 -- the slot of a cell has another mark, and no other slot has
-replaced : (plain security others kept : List ℕ) (at : ℕ) (mark : Bool) → at % 8 ≡ 0 → ((slot : ℕ) → slot_mark others kept slot ≡ cond (eqb slot (at / 8)) (Some mark) (slot_mark plain security slot))
+replaced : (plain security others kept : List ℕ) (at : ℕ) (mark : Bool) → at % 8 ≡ 0
+    → ((slot : ℕ) → slot_mark others kept slot ≡ cond (eqb slot (at / 8)) (Some mark) (slot_mark plain security slot))
     → marks_in others kept ≡ map.insert (marks_in plain security) at mark
 replaced plain security others kept at mark whole new = map.same_map nat_cmp_total map.nat_cmp-IsAntisymmetric _ _ (λ q.
-    get-marks others kept q ∙ ap (λ m. cond (eqb (q % 8) 0) m None) (new (q / 8)) ∙ go q (eqb (q % 8) 0) (eqb (q / 8) (at / 8)) refl refl
-    ∙ sym (map.get-insert nat_cmp_total (marks_in plain security) at mark q ∙ ap (λ b. cond b (Some mark) (map.get (marks_in plain security) q)) (sym (unsigned_ties q at))
+    get-marks others kept q ∙ ap (λ m. cond (eqb (q % 8) 0) m None) (new (q / 8))
+    ∙ go q (eqb (q % 8) 0) (eqb (q / 8) (at / 8)) refl refl
+    ∙ sym (map.get-insert nat_cmp_total (marks_in plain security) at mark q
+    ∙ ap (λ b. cond b (Some mark) (map.get (marks_in plain security) q)) (sym (unsigned_ties q at))
     ∙ ap (cond (eqb q at) (Some mark)) (get-marks plain security q)))
   where
     go : (q : ℕ) (a b : Bool) → eqb (q % 8) 0 ≡ a → eqb (q / 8) (at / 8) ≡ b
-        → cond a (cond b (Some mark) (slot_mark plain security (q / 8))) None ≡ cond (eqb q at) (Some mark) (cond a (slot_mark plain security (q / 8)) None)
+        → cond a (cond b (Some mark) (slot_mark plain security (q / 8))) None
+        ≡ cond (eqb q at) (Some mark) (cond a (slot_mark plain security (q / 8)) None)
     go q false b e f =
         let odd : q % 8 ≢ 0 = eqb-false (q % 8) 0 e in
         let other : eqb q at ≡ false = not-same q at (λ same. odd (omega arith)) in
@@ -171,32 +192,43 @@ replaced plain security others kept at mark whole new = map.same_map nat_cmp_tot
         let same : eqb q at ≡ true = eq-eqb q at (omega arith) in
         rw same refl
 
-pub mark-security : (plain security others : List ℕ) (at : ℕ) → at % 8 ≡ 0 → ((slot : ℕ) → has_bit others slot ≡ (eqb slot (at / 8) || has_bit security slot))
+pub mark-security : (plain security others : List ℕ) (at : ℕ) → at % 8 ≡ 0
+    → ((slot : ℕ) → has_bit others slot ≡ (eqb slot (at / 8) || has_bit security slot))
     → marks_in plain others ≡ map.insert (marks_in plain security) at true
-mark-security plain security others at whole new = replaced plain security plain others at true whole (λ slot. rw (new slot) (go slot (eqb slot (at / 8))))
+mark-security plain security others at whole new =
+    replaced plain security plain others at true whole (λ slot. rw (new slot) (go slot (eqb slot (at / 8))))
   where
-    go : (slot : ℕ) (b : Bool) → cond (b || has_bit security slot) (Some true) (cond (has_bit plain slot) (Some false) None) ≡ cond b (Some true) (slot_mark plain security slot)
+    go : (slot : ℕ) (b : Bool)
+        → cond (b || has_bit security slot) (Some true) (cond (has_bit plain slot) (Some false) None)
+        ≡ cond b (Some true) (slot_mark plain security slot)
     go slot true = refl
     go slot false = refl
 
-pub mark-plain : (plain security others : List ℕ) (at : ℕ) → at % 8 ≡ 0 → clashes (map.get (marks_in plain security) at) false ≡ false
-    → ((slot : ℕ) → has_bit others slot ≡ (eqb slot (at / 8) || has_bit plain slot)) → marks_in others security ≡ map.insert (marks_in plain security) at false
-mark-plain plain security others at whole fresh new = replaced plain security others security at false whole (λ slot. rw (new slot) (go slot (eqb slot (at / 8)) refl))
+pub mark-plain : (plain security others : List ℕ) (at : ℕ) → at % 8 ≡ 0
+    → clashes (map.get (marks_in plain security) at) false ≡ false
+    → ((slot : ℕ) → has_bit others slot ≡ (eqb slot (at / 8) || has_bit plain slot))
+    → marks_in others security ≡ map.insert (marks_in plain security) at false
+mark-plain plain security others at whole fresh new =
+    replaced plain security others security at false whole (λ slot. rw (new slot) (go slot (eqb slot (at / 8)) refl))
   where
     unkept : (s p : Bool) → cond s true p ≡ false → s ≡ false
     unkept true p e = absurd cc
     unkept false p e = refl
 
     go : (slot : ℕ) (b : Bool) → eqb slot (at / 8) ≡ b
-        → cond (has_bit security slot) (Some true) (cond (b || has_bit plain slot) (Some false) None) ≡ cond b (Some false) (slot_mark plain security slot)
+        → cond (has_bit security slot) (Some true) (cond (b || has_bit plain slot) (Some false) None)
+        ≡ cond b (Some false) (slot_mark plain security slot)
     go slot true e =
-        let none_kept : has_bit security (at / 8) ≡ false = unkept (has_bit security (at / 8)) (has_bit plain (at / 8)) (sym (clash-marks plain security at false whole) ∙ fresh) in
+        let none_kept : has_bit security (at / 8) ≡ false =
+        unkept (has_bit security (at / 8)) (has_bit plain (at / 8))
+        (sym (clash-marks plain security at false whole) ∙ fresh) in
         let here : slot ≡ at / 8 = eqb-true slot (at / 8) e in
         rw (ap (has_bit security) here ∙ none_kept) refl
     go slot false e = refl
 
 -- the same bits are the same marks
-pub same-marks : (plain security others kept : List ℕ) → ((slot : ℕ) → has_bit others slot ≡ has_bit plain slot) → ((slot : ℕ) → has_bit kept slot ≡ has_bit security slot)
+pub same-marks : (plain security others kept : List ℕ) → ((slot : ℕ) → has_bit others slot ≡ has_bit plain slot)
+    → ((slot : ℕ) → has_bit kept slot ≡ has_bit security slot)
     → marks_in others kept ≡ marks_in plain security
 same-marks plain security others kept p s = map.same_map nat_cmp_total map.nat_cmp-IsAntisymmetric _ _ (λ q.
     get-marks others kept q ∙ rw (p (q / 8), s (q / 8)) refl ∙ sym (get-marks plain security q))

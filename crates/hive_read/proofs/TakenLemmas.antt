@@ -53,7 +53,8 @@ or-same true b = refl
 or-same false true = refl
 or-same false false = refl
 
-pub any-map : {K : Type 0} (f : K → List ℕ) (p : List ℕ → Bool) (ks : List K) → list_any p (map f ks) ≡ list_any (λ k. p (f k)) ks
+pub any-map : {K : Type 0} (f : K → List ℕ) (p : List ℕ → Bool) (ks : List K)
+    → list_any p (map f ks) ≡ list_any (λ k. p (f k)) ks
 any-map f p [] = refl
 any-map f p (k ∷ ks) = ap (λ b. p (f k) || b) (any-map f p ks)
 
@@ -64,8 +65,11 @@ any-insert f p [] k = or-swap (p (f k)) false
 any-insert f p (x ∷ xs) k = go (slice_cmp nat_cmp (f k) (f x)) refl (any-insert f p xs k)
   where
     go : (o : Ordering) → slice_cmp nat_cmp (f k) (f x) ≡ o
-        → list_any p (map f (insert_key (λ x y. slice_cmp nat_cmp (f x) (f y)) xs k)) ≡ (list_any p (map f xs) || p (f k))
-        → list_any p (map f (match_ordering o (k ∷ x ∷ xs) (x ∷ xs) (x ∷ insert_key (λ x y. slice_cmp nat_cmp (f x) (f y)) xs k))) ≡ ((p (f x) || list_any p (map f xs)) || p (f k))
+        → list_any p (map f (insert_key (λ x y. slice_cmp nat_cmp (f x) (f y)) xs k))
+        ≡ (list_any p (map f xs) || p (f k))
+        → list_any p (map f (match_ordering o (k ∷ x ∷ xs) (x ∷ xs)
+        (x ∷ insert_key (λ x y. slice_cmp nat_cmp (f x) (f y)) xs k)))
+        ≡ ((p (f x) || list_any p (map f xs)) || p (f k))
     go Less e h = or-swap (p (f k)) (p (f x) || list_any p (map f xs))
     go Equal e h =
         let same : f k ≡ f x = same-bytes (f k) (f x) (sym (is_eq-slice_cmp (f k) (f x)) ∙ ap is_eq e) in
@@ -73,18 +77,22 @@ any-insert f p (x ∷ xs) k = go (slice_cmp nat_cmp (f k) (f x)) refl (any-inser
     go Greater e h = ap (λ b. p (f x) || b) h ∙ any-or (p (f x)) (list_any p (map f xs)) (p (f k))
 
 pub has-insert : {K : Type 0} (f : K → List ℕ) (ks new : List K) (k : K) (name n : List ℕ) → f k ≡ folded name
-    → new ≡ insert_key (λ x y. slice_cmp nat_cmp (f x) (f y)) ks k → has_name (map f new) n ≡ (has_name (map f ks) n || folds_same n name)
+    → new ≡ insert_key (λ x y. slice_cmp nat_cmp (f x) (f y)) ks k
+    → has_name (map f new) n ≡ (has_name (map f ks) n || folds_same n name)
 unfolding has_name
 has-insert f ks new k name n e i =
-    ap (λ xs. list_any (folds_to n) (map f xs)) i ∙ any-insert f (folds_to n) ks k ∙ ap (λ b. list_any (folds_to n) (map f ks) || b) (folds_to-folded n name (f k) e)
+    ap (λ xs. list_any (folds_to n) (map f xs)) i ∙ any-insert f (folds_to n) ks k
+    ∙ ap (λ b. list_any (folds_to n) (map f ks) || b) (folds_to-folded n name (f k) e)
 
 pub has-any : {K : Type 0} (f : K → List ℕ) (ks : List K) (k : K) (name : List ℕ) → f k ≡ folded name
     → list_any (λ x. is_eq (slice_cmp nat_cmp (f k) (f x))) ks ≡ has_name (map f ks) name
 unfolding has_name
-has-any f ks k name e = sym (any-map f (λ x. is_eq (slice_cmp nat_cmp (f k) x)) ks) ∙ ap (λ n. list_any (λ x. is_eq (slice_cmp nat_cmp n x)) (map f ks)) e
+has-any f ks k name e = sym (any-map f (λ x. is_eq (slice_cmp nat_cmp (f k) x)) ks)
+    ∙ ap (λ n. list_any (λ x. is_eq (slice_cmp nat_cmp n x)) (map f ks)) e
 
 -- a new name is unlike those known, and one that is not new is like one of them
-pub known-fresh : (keys names : List (List ℕ)) (name : List ℕ) (fresh : Bool) → Knows keys names → fresh ≡ not (has_name keys name) → fresh ≡ true
+pub known-fresh : (keys names : List (List ℕ)) (name : List ℕ) (fresh : Bool) → Knows keys names
+    → fresh ≡ not (has_name keys name) → fresh ≡ true
     → list_any (folds_same name) names ≡ false
 known-fresh keys names name fresh k a e = sym (k name) ∙ flip (has_name keys name) (sym a ∙ e)
   where
@@ -92,7 +100,8 @@ known-fresh keys names name fresh k a e = sym (k name) ∙ flip (has_name keys n
     flip true h = absurd cc
     flip false h = refl
 
-pub known-taken : (keys names : List (List ℕ)) (name : List ℕ) (fresh : Bool) → Knows keys names → fresh ≡ not (has_name keys name) → fresh ≡ false
+pub known-taken : (keys names : List (List ℕ)) (name : List ℕ) (fresh : Bool) → Knows keys names
+    → fresh ≡ not (has_name keys name) → fresh ≡ false
     → list_any (folds_same name) names ≡ true
 known-taken keys names name fresh k a e = sym (k name) ∙ flip (has_name keys name) (sym a ∙ e)
   where
@@ -109,8 +118,11 @@ pub or-false : (b : Bool) → (b || false) ≡ b
 or-false true = refl
 or-false false = refl
 
-pub knows-more : (old new names : List (List ℕ)) (name : List ℕ) → Knows old names → ((n : List ℕ) → has_name new n ≡ (has_name old n || folds_same n name)) → Knows new (names ++ name ∷ [])
+pub knows-more : (old new names : List (List ℕ)) (name : List ℕ) → Knows old names
+    → ((n : List ℕ) → has_name new n ≡ (has_name old n || folds_same n name)) → Knows new (names ++ name ∷ [])
 knows-more old new names name k h n =
-    h n ∙ ap (λ b. b || folds_same n name) (k n) ∙ sym (list_any-append (folds_same n) names (name ∷ []) ∙ ap (λ b. list_any (folds_same n) names || b) (or-false (folds_same n name)))
+    h n ∙ ap (λ b. b || folds_same n name) (k n)
+    ∙ sym (list_any-append (folds_same n) names (name ∷ [])
+    ∙ ap (λ b. list_any (folds_same n) names || b) (or-false (folds_same n name)))
 
 pub ruleset names = (known-fresh, known-taken)

@@ -19,18 +19,24 @@ abbrev pub item_of : KeyValue → List ℕ → Item
 item_of v b = record { name = v.name; kind = v.kind; bytes = b }
 
 pub value-off : (cells : Cells) (seen : Seen) (names : List (List ℕ)) (at : ℕ) (f : HiveFault)
-    → walk cells seen (use_as false key_value_at cells at) ≡ Err f → walk cells seen (value_checks cells names at) ≡ Err f
+    → walk cells seen (use_as false key_value_at cells at) ≡ Err f
+    → walk cells seen (value_checks cells names at) ≡ Err f
 unfolding value_checks
 value-off cells seen names at f e =
-    walk-off cells seen (use_as false key_value_at cells at) (below_of (reading key_value_at cells at) (λ v. name_check names at v.name ∷ data_checks cells v)) f e
+    walk-off cells seen (use_as false key_value_at cells at)
+    (below_of (reading key_value_at cells at) (λ v. name_check names at v.name ∷ data_checks cells v)) f e
 
 pub value-named : (cells : Cells) (seen after : Seen) (names : List (List ℕ)) (at : ℕ) (v : KeyValue)
     → walk cells seen (use_as false key_value_at cells at) ≡ Ok after → reading key_value_at cells at ≡ Ok v
-    → walk cells seen (value_checks cells names at) ≡ walk cells after (name_check names at v.name ∷ [] ++ data_checks cells v)
+    → walk cells seen (value_checks cells names at)
+    ≡ walk cells after (name_check names at v.name ∷ [] ++ data_checks cells v)
 unfolding value_checks
-value-named cells seen after names at v e r = walk-below cells seen after (use_as false key_value_at cells at) (reading key_value_at cells at) (λ v. name_check names at v.name ∷ data_checks cells v) v e r
+value-named cells seen after names at v e r =
+    walk-below cells seen after (use_as false key_value_at cells at) (reading key_value_at cells at)
+    (λ v. name_check names at v.name ∷ data_checks cells v) v e r
 
-pub item-stands : (cells : Cells) (at : ℕ) (v : KeyValue) (bytes : List ℕ) → reading key_value_at cells at ≡ Ok v → data_of cells v ≡ Ok bytes → item_at cells at ≡ Ok (item_of v bytes)
+pub item-stands : (cells : Cells) (at : ℕ) (v : KeyValue) (bytes : List ℕ) → reading key_value_at cells at ≡ Ok v
+    → data_of cells v ≡ Ok bytes → item_at cells at ≡ Ok (item_of v bytes)
 unfolding item_at
 item-stands cells at v bytes r d = rw (r, d) refl
 
@@ -41,53 +47,71 @@ ok_one : (x y : Item) → done x ≡ done y → x ≡ y
 ok_one x y e = cc
 
 -- the name of a value that stands
-pub item-named : (cells : Cells) (at : ℕ) (item : Item) → item_at cells at ≡ Ok item → names_of (λ (v : KeyValue). v.name) (reading key_value_at cells at) ≡ item.name ∷ []
+pub item-named : (cells : Cells) (at : ℕ) (item : Item) → item_at cells at ≡ Ok item
+    → names_of (λ (v : KeyValue). v.name) (reading key_value_at cells at) ≡ item.name ∷ []
 unfolding item_at
 item-named cells at item e = go (reading key_value_at cells at) e
   where
-    named : (v : KeyValue) (d : Result (List ℕ) HiveKind) → (d >>= λ bytes. Ok (item_of v bytes)) ≡ Ok item → v.name ≡ item.name
+    named : (v : KeyValue) (d : Result (List ℕ) HiveKind) → (d >>= λ bytes. Ok (item_of v bytes)) ≡ Ok item
+        → v.name ≡ item.name
     named v (Ok bytes) e = ap (λ i. i.name) (ok_one (item_of v bytes) item e)
     named v (Err k) e = absurd cc
 
-    go : (r : Result KeyValue HiveKind) → (r >>= λ v. data_of cells v >>= λ bytes. Ok (item_of v bytes)) ≡ Ok item → names_of (λ (v : KeyValue). v.name) r ≡ item.name ∷ []
+    go : (r : Result KeyValue HiveKind) → (r >>= λ v. data_of cells v >>= λ bytes. Ok (item_of v bytes)) ≡ Ok item
+        → names_of (λ (v : KeyValue). v.name) r ≡ item.name ∷ []
     go (Ok v) e = ap (λ n. n ∷ []) (named v (data_of cells v) e)
     go (Err k) e = absurd cc
 
-pub values-off : (cells : Cells) (seen : Seen) (names : List (List ℕ)) (offsets : List ℕ) (at : ℕ) (rest : List ℕ) (f : HiveFault) → offsets ≡ at ∷ rest
-    → walk cells seen (value_checks cells names at) ≡ Err f → walk cells seen (values_in_turn cells names offsets) ≡ Err f
+pub values-off : (cells : Cells) (seen : Seen) (names : List (List ℕ)) (offsets : List ℕ) (at : ℕ) (rest : List ℕ)
+    (f : HiveFault) → offsets ≡ at ∷ rest
+    → walk cells seen (value_checks cells names at) ≡ Err f
+    → walk cells seen (values_in_turn cells names offsets) ≡ Err f
 values-off cells seen names offsets at rest f o e = rw o (walk-off cells seen (value_checks cells names at) _ f e)
 
-pub values-on : (cells : Cells) (seen after : Seen) (items : List Item) (offsets : List ℕ) (at : ℕ) (rest : List ℕ) (item : Item) → offsets ≡ at ∷ rest
+pub values-on : (cells : Cells) (seen after : Seen) (items : List Item) (offsets : List ℕ) (at : ℕ) (rest : List ℕ)
+    (item : Item) → offsets ≡ at ∷ rest
     → walk cells seen (value_checks cells (map (λ (v : Item). v.name) items) at) ≡ Ok after → item_at cells at ≡ Ok item
-    → walk cells seen (values_in_turn cells (map (λ (v : Item). v.name) items) offsets) ≡ walk cells after (values_in_turn cells (map (λ (v : Item). v.name) (items ++ item ∷ [])) rest)
+    → walk cells seen (values_in_turn cells (map (λ (v : Item). v.name) items) offsets)
+    ≡ walk cells after (values_in_turn cells (map (λ (v : Item). v.name) (items ++ item ∷ [])) rest)
 values-on cells seen after items offsets at rest item o e s =
-    let names = ap (λ n. map (λ (v : Item). v.name) items ++ n) (item-named cells at item s) ∙ sym (map_push (λ (v : Item). v.name) items item) in
-    rw o (walk-on cells seen after (value_checks cells (map (λ (v : Item). v.name) items) at) _ e ∙ ap (λ n. walk cells after (values_in_turn cells n rest)) names)
+    let names = ap (λ n. map (λ (v : Item). v.name) items ++ n) (item-named cells at item s)
+    ∙ sym (map_push (λ (v : Item). v.name) items item) in
+    rw o (walk-on cells seen after (value_checks cells (map (λ (v : Item). v.name) items) at) _ e
+    ∙ ap (λ n. walk cells after (values_in_turn cells n rest)) names)
 
 -- what completes the rest completes the whole
-pub items-one : (cells : Cells) (offsets rest all : List ℕ) (at : ℕ) (items : List Item) (item : Item) → offsets ≡ at ∷ rest → item_at cells at ≡ Ok item
+pub items-one : (cells : Cells) (offsets rest all : List ℕ) (at : ℕ) (items : List Item) (item : Item)
+    → offsets ≡ at ∷ rest → item_at cells at ≡ Ok item
     → ((more : List Item) → items_at cells offsets ≡ Ok more → items_at cells all ≡ Ok (items ++ more))
     → (more : List Item) → items_at cells rest ≡ Ok more → items_at cells all ≡ Ok ((items ++ item ∷ []) ++ more)
 items-one cells offsets rest all at items item o s h more r =
     h (item ∷ more) (rw o (rw (s, r) refl)) ∙ ap (λ i. Ok i) (sym (append_assoc items (item ∷ []) more))
 
 pub values-read : (cells : Cells) (seen after : Seen) (node : KeyNode) (offsets : List ℕ) → (node.value_count ≡ 0 → ⊥)
-    → walk cells seen (use_as false (offsets_in node.value_count) cells node.value_list) ≡ Ok after → reading (offsets_in node.value_count) cells node.value_list ≡ Ok offsets
-    → (walk cells seen (values_checks cells node) ≡ walk cells after (values_in_turn cells [] offsets)) × (values_of cells node ≡ items_at cells offsets)
+    → walk cells seen (use_as false (offsets_in node.value_count) cells node.value_list) ≡ Ok after
+    → reading (offsets_in node.value_count) cells node.value_list ≡ Ok offsets
+    → (walk cells seen (values_checks cells node) ≡ walk cells after (values_in_turn cells [] offsets))
+    × (values_of cells node ≡ items_at cells offsets)
 unfolding values_checks values_of
 values-read cells seen after node offsets n e r =
-    let z : (node.value_count == 0) ≡ false = not-same _ _ n in
-    (rw z (walk-below cells seen after (use_as false (offsets_in node.value_count) cells node.value_list) (reading (offsets_in node.value_count) cells node.value_list) (values_in_turn cells []) offsets e r), rw (z, r) refl)
+    let z : (node.value_count == 0) ≡ false = not-same _ _ n in (
+      rw z (walk-below cells seen after (use_as false (offsets_in node.value_count) cells node.value_list)
+          (reading (offsets_in node.value_count) cells node.value_list) (values_in_turn cells []) offsets e r),
+      rw (z, r) refl,
+    )
 
-pub values-none : (cells : Cells) (seen : Seen) (node : KeyNode) → node.value_count ≡ 0 → (walk cells seen (values_checks cells node) ≡ Ok seen) × (values_of cells node ≡ Ok [])
+pub values-none : (cells : Cells) (seen : Seen) (node : KeyNode) → node.value_count ≡ 0
+    → (walk cells seen (values_checks cells node) ≡ Ok seen) × (values_of cells node ≡ Ok [])
 unfolding values_checks values_of
 values-none cells seen node z = (rw z refl, rw z refl)
 
 pub values-unread : (cells : Cells) (seen : Seen) (node : KeyNode) (f : HiveFault) → (node.value_count ≡ 0 → ⊥)
-    → walk cells seen (use_as false (offsets_in node.value_count) cells node.value_list) ≡ Err f → walk cells seen (values_checks cells node) ≡ Err f
+    → walk cells seen (use_as false (offsets_in node.value_count) cells node.value_list) ≡ Err f
+    → walk cells seen (values_checks cells node) ≡ Err f
 unfolding values_checks
 values-unread cells seen node f n e =
     let z : (node.value_count == 0) ≡ false = not-same _ _ n in
-    rw z (walk-off cells seen (use_as false (offsets_in node.value_count) cells node.value_list) (below_of (reading (offsets_in node.value_count) cells node.value_list) (values_in_turn cells [])) f e)
+    rw z (walk-off cells seen (use_as false (offsets_in node.value_count) cells node.value_list)
+    (below_of (reading (offsets_in node.value_count) cells node.value_list) (values_in_turn cells [])) f e)
 
 pub ruleset values_steps = (values-read, values-none, values-unread)

@@ -15,7 +15,6 @@ ghost use Rattle.hive_read.specs.Walked.{walk, Steps, KeyRead, ChildrenRead};
 
 use crate::key::are_bytes;
 use crate::list::read_entries;
-use crate::sizes::{list_len, named_size, security_len};
 use crate::source::Source;
 use crate::taken::Taken;
 use crate::used::Used;
@@ -24,6 +23,7 @@ use crate::weighing::{judge_class, judge_security, judge_values};
 use cell_forms::NkForm;
 use hive_cells::CellHeap;
 use nt_bytes::{HiveKind, HiveVersion, ReadStop};
+use reg_tree::sizes::{list_size, named_size, security_size};
 use std::alloc::Global;
 
 // The cells of a key and of all below it, under a key with this descriptor.
@@ -71,7 +71,7 @@ fn judge_below(
     let values = judge_values(alloc, cells, used, node)?;
     let children = judge_children(alloc, cells, used, security, left, node, at)?;
     let own = named_size(76, node.name.as_slice());
-    let descriptor = security_len(shared, security);
+    let descriptor = security_size(shared, security);
     Ok(
         own.saturating_add(class)
             .saturating_add(descriptor)
@@ -104,7 +104,7 @@ fn judge_children(
         return Err(stop(HiveKind::Count, at));
     }
     let children = judge_in_turn(alloc, cells, used, shared, left, found)?;
-    let lists = list_len(found.len() as u64);
+    let lists = list_size(found.len() as u64);
     Ok(lists.saturating_add(children))
 }
 

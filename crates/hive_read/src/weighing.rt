@@ -13,13 +13,14 @@ ghost use Rattle.hive_read.specs.Taken.{Knows};
 ghost use Rattle.hive_read.specs.Walked.{walk, Steps};
 
 use crate::data::{SEGMENT, is_big};
-use crate::sizes::{cell_size, class_len, data_len, stored_size};
+use crate::sizes::stored_size;
 use crate::source::Source;
 use crate::taken::Taken;
 use crate::used::Used;
 use crate::uses::{take_name, use_big_data, use_front, use_offsets, use_security_slice, use_value};
 use cell_forms::{NkForm, VkSlice};
 use nt_bytes::ReadStop;
+use reg_tree::sizes::{cell_size, class_size, data_size};
 use std::alloc::Global;
 
 // ---- a key's class and security
@@ -34,7 +35,7 @@ pub(crate) fn judge_class(cells: &Source, used: &mut Used, node: &NkForm) -> Res
         return Ok(0);
     }
     let class = use_front(cells, used, u32::from(node.class_length), node.class)?;
-    Ok(class_len(class))
+    Ok(class_size(class))
 }
 
 /// A key's security descriptor, empty where it has none.
@@ -134,7 +135,7 @@ fn judge_data(
         return Ok(0);
     }
     let size = judge_celled(alloc, cells, used, value.size, value.offset)?;
-    Ok(data_len(cells.version, size))
+    Ok(data_size(cells.version, u64::from(size)))
 }
 
 // ---- values

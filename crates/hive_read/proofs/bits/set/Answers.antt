@@ -12,6 +12,9 @@ returns-in_err-widen-clause-err c =
 
 pub returns-clause-ok : goal.returns-clause-ok
 returns-clause-ok c = λ i.
-    let read = get_or_read c.widen.new.words.items (c.args.slot / 64) c.index.result.now c.in_ok-widen.ensures.there c.index.ensures 0 in
-    set-bit c.widen.new.words.items c.args.slot c.with_bit.result c.in_ok-widen.ensures.there c.with_bit.ensures.set (λ k other. c.with_bit.ensures.others k other ∙ ap (λ word. bit_at word k) read) i
-    ∙ ap (λ bit. eqb i c.args.slot || bit) (same-bits c.args.words.now.items c.widen.new.words.items c.widen.ensures.same i)
+    let read = get_or_read c.widen.new.words.items (c.args.slot / 64)
+    c.index.result.now c.in_ok-widen.ensures.there c.index.ensures 0 in
+    set-bit c.widen.new.words.items c.args.slot c.with_bit.result c.in_ok-widen.ensures.there c.with_bit.ensures.set
+    (λ k other. c.with_bit.ensures.others k other ∙ ap (λ word. bit_at word k) read) i
+    ∙ ap (λ bit. eqb i c.args.slot || bit)
+    (same-bits c.args.words.now.items c.widen.new.words.items c.widen.ensures.same i)

@@ -18,7 +18,8 @@ returns-in_default c =
     let i = c.segments.invariant in
     let z = none-left c.segments.rest.now c.in_default.len_below in (
       sym i.told ∙ ap (λ r. walk cells c.segments.used (segments_checks cells c.segments.left r)) z,
-      i.stand [] (ap (joined_segments cells c.segments.left) z) ∙ ap (λ (vs : List ℕ). Ok vs) (append-nil c.segments.bytes),
+      i.stand [] (ap (joined_segments cells c.segments.left) z)
+          ∙ ap (λ (vs : List ℕ). Ok vs) (append-nil c.segments.bytes),
     )
 
 pub returns-in_err-part : goal.returns-in_err-part
@@ -29,7 +30,8 @@ returns-in_err-part c =
     let rest = c.segments.rest.now in
     let r = first-and-rest rest c.in-len1-up.len_at_least in
     rw (p.1, p.2) (stops-on c.in_err-part.field-0.0 _ _
-    (λ f e. sym i.told ∙ segments-off cells c.segments.used c.segments.left rest (get_or rest 0 0) (take (length rest - 1) (drop 1 rest)) f r e) (rw c.min.ensures at c.in_err-part.ensures))
+    (λ f e. sym i.told ∙ segments-off cells c.segments.used c.segments.left rest (get_or rest 0 0)
+    (take (length rest - 1) (drop 1 rest)) f r e) (rw c.min.ensures at c.in_err-part.ensures))
 
 pub segments-preserved : goal.segments-preserved
 segments-preserved c =
@@ -41,6 +43,8 @@ segments-preserved c =
     let r = first-and-rest rest c.in-len1-up.len_at_least in
     let s = rw c.min.ensures at c.in_ok-part.ensures in
     rw (c.in_ok-append.ensures.ok, c.saturating_sub-left.ensures) (record {
-      told = sym (segments-on cells c.segments.used c.use_front.new.used left rest (get_or rest 0 0) others r s.0) ∙ i.told;
-      stand = segments-one cells left c.args.size rest others c.args.offsets.now (get_or rest 0 0) c.segments.bytes c.in_ok-part.part.now r s.1 i.stand;
+      told = sym (segments-on cells c.segments.used c.use_front.new.used left rest (get_or rest 0 0) others r s.0)
+          ∙ i.told;
+      stand = segments-one cells left c.args.size rest others c.args.offsets.now (get_or rest 0 0)
+          c.segments.bytes c.in_ok-part.part.now r s.1 i.stand;
     })

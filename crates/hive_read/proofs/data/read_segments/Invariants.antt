@@ -12,6 +12,8 @@ abbrev pub invariant-segments : goal.invariant-segments
 invariant-segments l =
     let cells = cells_of l.cells in
     record {
-      told : walk cells l.used (segments_checks cells l.left l.rest) ≡ walk cells l.fn.used (segments_checks cells l.size l.offsets);
-      stand : (more : List ℕ) → joined_segments cells l.left l.rest ≡ Ok more → joined_segments cells l.size l.offsets ≡ Ok (l.bytes ++ more);
+      told : walk cells l.used (segments_checks cells l.left l.rest)
+          ≡ walk cells l.fn.used (segments_checks cells l.size l.offsets);
+      stand : (more : List ℕ) → joined_segments cells l.left l.rest ≡ Ok more
+          → joined_segments cells l.size l.offsets ≡ Ok (l.bytes ++ more);
     }

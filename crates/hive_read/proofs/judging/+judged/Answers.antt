@@ -15,12 +15,15 @@ use Rattle.hive_read.proofs.judging.+judged.Goals as goal
 
 pub judge_key-returns-then-left-eq0 : goal.judge_key-returns-then-left-eq0
 judge_key-returns-then-left-eq0 t c = λ names k.
-    rw c.stop.ensures (key-deep c.args.left (cells_of c.args.cells.now) c.args.root c.args.used.now names c.args.at c.if-left-eq0.true)
+    rw c.stop.ensures (key-deep c.args.left (cells_of c.args.cells.now)
+    c.args.root c.args.used.now names c.args.at c.if-left-eq0.true)
 
 pub judge_key-returns-in_err-node : goal.judge_key-returns-in_err-node
 judge_key-returns-in_err-node t c = λ names k.
     let p = err_from_is_err_and c.from_residual.result c.from_residual.ensures.1 in
-    rw (p.1, p.2) (stops-on c.in_err-node.field-0.0 _ _ (λ f. key-off c.args.left (cells_of c.args.cells.now) c.args.root c.args.used.now names c.args.at f (omega arith)) c.in_err-node.ensures.used)
+    rw (p.1, p.2) (stops-on c.in_err-node.field-0.0 _ _
+    (λ f. key-off c.args.left (cells_of c.args.cells.now) c.args.root c.args.used.now names c.args.at f
+    (omega arith)) c.in_err-node.ensures.used)
 
 pub judge_key-returns-in_err-take_name : goal.judge_key-returns-in_err-take_name
 judge_key-returns-in_err-take_name t c = λ names k.
@@ -29,8 +32,10 @@ judge_key-returns-in_err-take_name t c = λ names k.
     let u = c.in_ok-node.ensures.used in
     let node = key_node_of c.in_ok-node.node.form in
     rw (p.1, p.2) (stops-on c.in_err-take_name.field-0.0 _ _
-    (λ f e. key-named c.args.left cells c.args.root c.args.used.now c.use_node.new.used names c.args.at node (omega arith) u.0 u.1
-    ∙ walk-off cells c.use_node.new.used (name_check names c.args.at node.name ∷ []) (below_node (key_checks (c.args.left - 1) cells false) cells node c.args.at) f e)
+    (λ f e. key-named c.args.left cells c.args.root c.args.used.now c.use_node.new.used names c.args.at node
+    (omega arith) u.0 u.1
+    ∙ walk-off cells c.use_node.new.used (name_check names c.args.at node.name ∷ [])
+    (below_node (key_checks (c.args.left - 1) cells false) cells node c.args.at) f e)
     (rw c.in_ok-node.ensures.named at (c.in_err-take_name.ensures.walked names k cells c.use_node.new.used)))
 
 pub judge_key-returns : goal.judge_key-returns
@@ -39,12 +44,18 @@ judge_key-returns t c = λ names k.
     let u = c.in_ok-node.ensures.used in
     let node = key_node_of c.in_ok-node.node.form in
     let taken = rw c.in_ok-node.ensures.named at (c.in_ok-take_name.ensures.walked names k cells c.use_node.new.used) in
-    steps-same (Counts (BelowHere cells c.args.at node) (size cells.version c.args.shared.now)) (Counts (KeyHere cells c.args.root c.args.at c.args.taken.now c.take_name.new.taken) (size cells.version c.args.shared.now))
-    (walk cells c.use_node.new.used (below_node (key_checks (c.args.left - 1) cells false) cells node c.args.at)) (walk cells c.args.used.now (key_checks c.args.left cells c.args.root names c.args.at))
+    steps-same (Counts (BelowHere cells c.args.at node) (size cells.version c.args.shared.now))
+    (Counts (KeyHere cells c.args.root c.args.at c.args.taken.now c.take_name.new.taken)
+    (size cells.version c.args.shared.now))
+    (walk cells c.use_node.new.used (below_node (key_checks (c.args.left - 1) cells false) cells node c.args.at))
+    (walk cells c.args.used.now (key_checks c.args.left cells c.args.root names c.args.at))
     c.judge_below.new.used c.judge_below.result
-    (key-named c.args.left cells c.args.root c.args.used.now c.use_node.new.used names c.args.at node (omega arith) u.0 u.1
-    ∙ walk-on cells c.use_node.new.used c.use_node.new.used (name_check names c.args.at node.name ∷ []) (below_node (key_checks (c.args.left - 1) cells false) cells node c.args.at) taken.0)
-    (λ (n : ℕ) b. key-counts cells c.args.root c.args.at node c.args.shared.now c.args.taken.now c.take_name.new.taken n u.1 (λ m. rw c.in_ok-node.ensures.named at (c.in_ok-take_name.ensures.known m)) b)
+    (key-named c.args.left cells c.args.root c.args.used.now c.use_node.new.used names c.args.at node (omega arith)
+    u.0 u.1
+    ∙ walk-on cells c.use_node.new.used c.use_node.new.used (name_check names c.args.at node.name ∷ [])
+    (below_node (key_checks (c.args.left - 1) cells false) cells node c.args.at) taken.0)
+    (λ (n : ℕ) b. key-counts cells c.args.root c.args.at node c.args.shared.now c.args.taken.now c.take_name.new.taken n
+    u.1 (λ m. rw c.in_ok-node.ensures.named at (c.in_ok-take_name.ensures.known m)) b)
     c.judge_below.ensures
 
 -- ---- judge_below
@@ -53,13 +64,17 @@ pub judge_below-returns-in_err-class : goal.judge_below-returns-in_err-class
 judge_below-returns-in_err-class t c =
     let p = err_from_is_err_and c.from_residual.result c.from_residual.ensures.1 in
     let cells = cells_of c.args.cells.now in
-    rw (p.1, p.2) (stops-on c.in_err-class.field-0.0 _ _ (λ f. below-class (key_checks c.args.left cells false) cells c.args.used.now (key_node_of c.args.node.now) c.args.at f) c.in_err-class.ensures)
+    rw (p.1, p.2) (stops-on c.in_err-class.field-0.0 _ _
+    (λ f. below-class (key_checks c.args.left cells false) cells c.args.used.now (key_node_of c.args.node.now)
+    c.args.at f) c.in_err-class.ensures)
 
 pub judge_below-returns-in_err-security : goal.judge_below-returns-in_err-security
 judge_below-returns-in_err-security t c =
     let p = err_from_is_err_and c.from_residual-in_err-security.result c.from_residual-in_err-security.ensures.1 in
     let cells = cells_of c.args.cells.now in
-    rw (p.1, p.2) (stops-on c.in_err-security.field-0.0 _ _ (λ f. below-security (key_checks c.args.left cells false) cells c.args.used.now c.judge_class.new.used (key_node_of c.args.node.now) c.args.at f c.in_ok-class.ensures.0)
+    rw (p.1, p.2) (stops-on c.in_err-security.field-0.0 _ _
+    (λ f. below-security (key_checks c.args.left cells false) cells c.args.used.now c.judge_class.new.used
+    (key_node_of c.args.node.now) c.args.at f c.in_ok-class.ensures.0)
     c.in_err-security.ensures)
 
 pub judge_below-returns-in_err-values : goal.judge_below-returns-in_err-values
@@ -67,13 +82,17 @@ judge_below-returns-in_err-values t c =
     let p = err_from_is_err_and c.from_residual-in_err-values.result c.from_residual-in_err-values.ensures.1 in
     let cells = cells_of c.args.cells.now in
     rw (p.1, p.2) (stops-on c.in_err-values.field-0.0 _ _
-    (λ f. below-values (key_checks c.args.left cells false) cells c.args.used.now c.judge_class.new.used c.judge_security.new.used (key_node_of c.args.node.now) c.args.at f c.in_ok-class.ensures.0 c.in_ok-security.ensures.0) c.in_err-values.ensures)
+    (λ f. below-values (key_checks c.args.left cells false)
+    cells c.args.used.now c.judge_class.new.used c.judge_security.new.used (key_node_of c.args.node.now)
+    c.args.at f c.in_ok-class.ensures.0 c.in_ok-security.ensures.0) c.in_err-values.ensures)
 
 pub judge_below-returns-in_err-children : goal.judge_below-returns-in_err-children
 judge_below-returns-in_err-children t c =
     let p = err_from_is_err_and c.from_residual-in_err-children.result c.from_residual-in_err-children.ensures.1 in
     let cells = cells_of c.args.cells.now in
-    let below = below-children (key_checks c.args.left cells false) cells c.args.used.now c.judge_class.new.used c.judge_security.new.used c.judge_values.new.used (key_node_of c.args.node.now) c.args.at
+    let below = below-children (key_checks c.args.left cells false)
+    cells c.args.used.now c.judge_class.new.used c.judge_security.new.used c.judge_values.new.used
+    (key_node_of c.args.node.now) c.args.at
     c.in_ok-class.ensures.0 c.in_ok-security.ensures.0 c.in_ok-values.ensures.0 in
     rw (p.1, p.2) (stops-on c.in_err-children.field-0.0 _ _ (λ f e. below ∙ e) c.in_err-children.ensures)
 
@@ -82,16 +101,18 @@ judge_below-returns t c =
     let cells = cells_of c.args.cells.now in
     let node = key_node_of c.args.node.now in
     let s = c.in_ok-children.ensures in
-    let below = below-children (key_checks c.args.left cells false) cells c.args.used.now c.judge_class.new.used c.judge_security.new.used c.judge_values.new.used node c.args.at
+    let below = below-children (key_checks c.args.left cells false)
+    cells c.args.used.now c.judge_class.new.used c.judge_security.new.used c.judge_values.new.used node c.args.at
     c.in_ok-class.ensures.0 c.in_ok-security.ensures.0 c.in_ok-values.ensures.0 in (
       below ∙ s.0,
-      below-counts cells c.args.at node c.args.shared.now c.in_ok-security.security.now c.named_size-own.result c.in_ok-class.class c.security_len-descriptor.result c.in_ok-values.values c.in_ok-children.children
+      below-counts cells c.args.at node c.args.shared.now c.in_ok-security.security.now c.named_size-own.result
+          c.in_ok-class.class c.security_size-descriptor.result c.in_ok-values.values c.in_ok-children.children
           c.saturating_add.result c.saturating_add-2.result c.saturating_add-3.result c.saturating_add-4.result
           (record {
             own = rw c.as_slice.ensures at c.named_size-own.ensures;
             class = c.in_ok-class.ensures.1;
             security = c.in_ok-security.ensures.1;
-            described = c.security_len-descriptor.ensures;
+            described = c.security_size-descriptor.ensures;
             values = c.in_ok-values.ensures.1;
             below = s.1;
           })
@@ -103,20 +124,23 @@ judge_below-returns t c =
 pub judge_children-returns-then-node-eq0 : goal.judge_children-returns-then-node-eq0
 judge_children-returns-then-node-eq0 t c =
     let cells = cells_of c.args.cells.now in
-    no-children (key_checks c.args.left cells false) cells c.args.used.now (key_node_of c.args.node.now) c.args.at c.args.shared.now c.if-node-eq0.true
+    no-children (key_checks c.args.left cells false) cells c.args.used.now (key_node_of c.args.node.now)
+    c.args.at c.args.shared.now c.if-node-eq0.true
 
 pub judge_children-returns-in_err-offsets : goal.judge_children-returns-in_err-offsets
 judge_children-returns-in_err-offsets t c =
     let p = err_from_is_err_and c.from_residual.result c.from_residual.ensures.1 in
     let cells = cells_of c.args.cells.now in
     rw (p.1, p.2) (stops-on c.in_err-offsets.field-0.0 _ _
-    (λ f. children-off (key_checks c.args.left cells false) cells c.args.used.now (key_node_of c.args.node.now) c.args.at f c.if-node-eq0.false) c.in_err-offsets.ensures)
+    (λ f. children-off (key_checks c.args.left cells false) cells c.args.used.now (key_node_of c.args.node.now)
+    c.args.at f c.if-node-eq0.false) c.in_err-offsets.ensures)
 
 pub judge_children-returns-then-found-node : goal.judge_children-returns-then-found-node
 judge_children-returns-then-found-node t c =
     let cells = cells_of c.args.cells.now in
     let e = c.in_ok-offsets.ensures in
-    rw c.stop.ensures (children-count (key_checks c.args.left cells false) cells c.args.used.now c.read_entries.new.used (key_node_of c.args.node.now) c.args.at c.in_ok-offsets.offsets c.if-node-eq0.false e.0 e.1
+    rw c.stop.ensures (children-count (key_checks c.args.left cells false) cells c.args.used.now c.read_entries.new.used
+    (key_node_of c.args.node.now) c.args.at c.in_ok-offsets.offsets c.if-node-eq0.false e.0 e.1
     (λ d. c.if-found-node.true (ap length c.as_slice-found.ensures ∙ d)))
 
 pub judge_children-returns-in_err-children : goal.judge_children-returns-in_err-children
@@ -124,30 +148,39 @@ judge_children-returns-in_err-children t c =
     let p = err_from_is_err_and c.from_residual-in_err-children.result c.from_residual-in_err-children.ensures.1 in
     let cells = cells_of c.args.cells.now in
     let e = c.in_ok-offsets.ensures in
-    let on = children-on (key_checks c.args.left cells false) cells c.args.used.now c.read_entries.new.used (key_node_of c.args.node.now) c.args.at c.in_ok-offsets.offsets c.if-node-eq0.false e.0 e.1
+    let on = children-on (key_checks c.args.left cells false) cells c.args.used.now c.read_entries.new.used
+    (key_node_of c.args.node.now) c.args.at c.in_ok-offsets.offsets c.if-node-eq0.false e.0 e.1
     (sym (ap length c.as_slice-found.ensures) ∙ c.if-found-node.false) in
-    rw (p.1, p.2) (stops-on c.in_err-children.field-0.0 _ _ (λ f s. on.0 ∙ s) (rw c.as_slice-found.ensures at c.in_err-children.ensures))
+    rw (p.1, p.2) (stops-on c.in_err-children.field-0.0 _ _ (λ f s. on.0 ∙ s)
+    (rw c.as_slice-found.ensures at c.in_err-children.ensures))
 
 pub judge_children-returns : goal.judge_children-returns
 judge_children-returns t c =
     let cells = cells_of c.args.cells.now in
     let e = c.in_ok-offsets.ensures in
-    let on = children-on (key_checks c.args.left cells false) cells c.args.used.now c.read_entries.new.used (key_node_of c.args.node.now) c.args.at c.in_ok-offsets.offsets c.if-node-eq0.false e.0 e.1
+    let on = children-on (key_checks c.args.left cells false) cells c.args.used.now c.read_entries.new.used
+    (key_node_of c.args.node.now) c.args.at c.in_ok-offsets.offsets c.if-node-eq0.false e.0 e.1
     (sym (ap length c.as_slice-found.ensures) ∙ c.if-found-node.false) in
     let s = rw c.as_slice-found.ensures at c.in_ok-children.ensures in (
       on.0 ∙ s.0,
-      children-counts cells (key_node_of c.args.node.now) c.args.shared.now c.in_ok-offsets.offsets c.list_len-lists.result c.in_ok-children.children c.saturating_add.result on.1
-          (rw c.as_slice-found.ensures at c.list_len-lists.ensures) s.1 c.saturating_add.ensures,
+      children-counts cells (key_node_of c.args.node.now)
+          c.args.shared.now c.in_ok-offsets.offsets c.list_size-lists.result c.in_ok-children.children
+          c.saturating_add.result on.1
+          (rw c.as_slice-found.ensures at c.list_size-lists.ensures) s.1 c.saturating_add.ensures,
     )
 
 -- ---- judge_in_turn
 
 pub judge_in_turn-children-init : goal.judge_in_turn-children-init
-judge_in_turn-children-init t c = keys-first (cells_of c.args.cells.now) c.args.left c.args.shared.now c.args.offsets.now c.new-taken.result c.args.used.now c.new-taken.ensures
+judge_in_turn-children-init t c =
+    keys-first (cells_of c.args.cells.now)
+    c.args.left c.args.shared.now c.args.offsets.now c.new-taken.result c.args.used.now c.new-taken.ensures
 
 pub judge_in_turn-returns-in_default : goal.judge_in_turn-returns-in_default
 judge_in_turn-returns-in_default t c =
-    keys-last (cells_of c.args.cells.now) c.args.left c.args.shared.now c.args.offsets.now c.children.rest.now c.children.taken c.children.total c.children.used c.args.used.now c.children.invariant
+    keys-last (cells_of c.args.cells.now)
+    c.args.left c.args.shared.now c.args.offsets.now c.children.rest.now c.children.taken c.children.total
+    c.children.used c.args.used.now c.children.invariant
     (none-left c.children.rest.now c.in_default.len_below)
 
 pub judge_in_turn-returns-in_err-child : goal.judge_in_turn-returns-in_err-child
@@ -158,7 +191,8 @@ judge_in_turn-returns-in_err-child t c =
     let rest = c.children.rest.now in
     let r = first-and-rest rest c.in-len1-up.len_at_least in
     rw (p.1, p.2) (stops-on c.in_err-child.field-0.0 _ _
-    (λ f e. sym i.told ∙ keys-off c.args.left cells c.children.used (map key_name i.children) rest (get_or rest 0 0) (take (length rest - 1) (drop 1 rest)) f r e)
+    (λ f e. sym i.told ∙ keys-off c.args.left cells c.children.used (map key_name i.children) rest (get_or rest 0 0)
+    (take (length rest - 1) (drop 1 rest)) f r e)
     (c.in_err-child.ensures (map key_name i.children) i.knows))
 
 pub judge_in_turn-children-preserved : goal.judge_in_turn-children-preserved
@@ -168,5 +202,6 @@ judge_in_turn-children-preserved t c =
     let rest = c.children.rest.now in
     let s = c.in_ok-child.ensures (map key_name i.children) i.knows in
     rw c.saturating_add-total.ensures
-    (keys-next cells c.args.left c.args.shared.now c.args.offsets.now rest c.children.taken c.judge_key.new.taken c.children.total c.in_ok-child.child c.children.used c.args.used.now c.judge_key.new.used
+    (keys-next cells c.args.left c.args.shared.now c.args.offsets.now rest c.children.taken c.judge_key.new.taken
+    c.children.total c.in_ok-child.child c.children.used c.args.used.now c.judge_key.new.used
     (get_or rest 0 0) (take (length rest - 1) (drop 1 rest)) i (first-and-rest rest c.in-len1-up.len_at_least) s.0 s.1)

@@ -16,7 +16,8 @@ abbrev pub decreases-judge_below : goal.decreases-judge_below
 decreases-judge_below l = 4 * l.left + 3
 
 abbrev pub invariant-judge_in_turn-children : goal.invariant-judge_in_turn-children
-invariant-judge_in_turn-children l = KeysSoFar (cells_of l.cells) l.left l.shared l.offsets l.rest l.taken l.total l.used l.fn.used
+invariant-judge_in_turn-children l =
+    KeysSoFar (cells_of l.cells) l.left l.shared l.offsets l.rest l.taken l.total l.used l.fn.used
 
 abbrev pub decreases-judge_in_turn-children : goal.decreases-judge_in_turn-children
 decreases-judge_in_turn-children l = length l.rest

@@ -19,12 +19,15 @@ use Rattle.hive_read.proofs.key.+walk.Goals as goal
 
 pub read_key-returns-then-left-eq0-clause-walked : goal.read_key-returns-then-left-eq0-clause-walked
 read_key-returns-then-left-eq0-clause-walked t c = λ names k.
-    rw c.stop.ensures (key-deep c.args.left (cells_of c.args.cells.now) c.args.root c.args.used.now names c.args.at c.if-left-eq0.true)
+    rw c.stop.ensures (key-deep c.args.left (cells_of c.args.cells.now)
+    c.args.root c.args.used.now names c.args.at c.if-left-eq0.true)
 
 pub read_key-returns-in_err-node-clause-walked : goal.read_key-returns-in_err-node-clause-walked
 read_key-returns-in_err-node-clause-walked t c = λ names k.
     let p = err_from_is_err_and c.from_residual.result c.from_residual.ensures.1 in
-    rw (p.1, p.2) (stops-on c.in_err-node.field-0.0 _ _ (λ f. key-off c.args.left (cells_of c.args.cells.now) c.args.root c.args.used.now names c.args.at f (omega arith)) c.in_err-node.ensures.used)
+    rw (p.1, p.2) (stops-on c.in_err-node.field-0.0 _ _
+    (λ f. key-off c.args.left (cells_of c.args.cells.now) c.args.root c.args.used.now names c.args.at f
+    (omega arith)) c.in_err-node.ensures.used)
 
 pub read_key-returns-in_err-take_name-clause-walked : goal.read_key-returns-in_err-take_name-clause-walked
 read_key-returns-in_err-take_name-clause-walked t c = λ names k.
@@ -33,8 +36,10 @@ read_key-returns-in_err-take_name-clause-walked t c = λ names k.
     let u = c.in_ok-node.ensures.used in
     let node = key_node_of c.in_ok-node.node.form in
     rw (p.1, p.2) (stops-on c.in_err-take_name.field-0.0 _ _
-    (λ f e. key-named c.args.left cells c.args.root c.args.used.now c.use_node.new.used names c.args.at node (omega arith) u.0 u.1
-    ∙ walk-off cells c.use_node.new.used (name_check names c.args.at node.name ∷ []) (below_node (key_checks (c.args.left - 1) cells false) cells node c.args.at) f e)
+    (λ f e. key-named c.args.left cells c.args.root c.args.used.now c.use_node.new.used names c.args.at node
+    (omega arith) u.0 u.1
+    ∙ walk-off cells c.use_node.new.used (name_check names c.args.at node.name ∷ [])
+    (below_node (key_checks (c.args.left - 1) cells false) cells node c.args.at) f e)
     (rw c.in_ok-node.ensures.named at (c.in_err-take_name.ensures.walked names k cells c.use_node.new.used)))
 
 pub read_key-returns-clause-walked : goal.read_key-returns-clause-walked
@@ -43,18 +48,26 @@ read_key-returns-clause-walked t c = λ names k.
     let u = c.in_ok-node.ensures.used in
     let node = key_node_of c.in_ok-node.node.form in
     let taken = rw c.in_ok-node.ensures.named at (c.in_ok-take_name.ensures.walked names k cells c.use_node.new.used) in
-    steps-with (λ (key : Tree). reading key_node_at cells c.args.at ≡ Ok node → Stands cells c.args.at key) (KeyRead cells c.args.root c.args.at) (λ (key : Tree). (head key).name ≡ node.name)
-    (walk cells c.use_node.new.used (below_node (key_checks (c.args.left - 1) cells false) cells node c.args.at)) (walk cells c.args.used.now (key_checks c.args.left cells c.args.root names c.args.at))
+    steps-with (λ (key : Tree). reading key_node_at cells c.args.at ≡ Ok node → Stands cells c.args.at key)
+    (KeyRead cells c.args.root c.args.at) (λ (key : Tree). (head key).name ≡ node.name)
+    (walk cells c.use_node.new.used (below_node (key_checks (c.args.left - 1) cells false) cells node c.args.at))
+    (walk cells c.args.used.now (key_checks c.args.left cells c.args.root names c.args.at))
     c.read_below.new.used c.read_below.result
-    (key-named c.args.left cells c.args.root c.args.used.now c.use_node.new.used names c.args.at node (omega arith) u.0 u.1
-    ∙ walk-on cells c.use_node.new.used c.use_node.new.used (name_check names c.args.at node.name ∷ []) (below_node (key_checks (c.args.left - 1) cells false) cells node c.args.at) taken.0)
-    (λ key stands named. (stands (node-plain c.args.root cells c.args.at node u.1), ap (names_of (λ (n : KeyNode). n.name)) u.1 ∙ ap (λ (n : List ℕ). n ∷ []) (sym named)))
+    (key-named c.args.left cells c.args.root c.args.used.now c.use_node.new.used names c.args.at node (omega arith)
+    u.0 u.1
+    ∙ walk-on cells c.use_node.new.used c.use_node.new.used (name_check names c.args.at node.name ∷ [])
+    (below_node (key_checks (c.args.left - 1) cells false) cells node c.args.at) taken.0)
+    (λ key stands named. (
+      stands (node-plain c.args.root cells c.args.at node u.1),
+      ap (names_of (λ (n : KeyNode). n.name)) u.1 ∙ ap (λ (n : List ℕ). n ∷ []) (sym named),
+    ))
     c.read_below.ensures.named c.read_below.ensures.walked
 
 pub read_key-returns-clause-known : goal.read_key-returns-clause-known
 read_key-returns-clause-known t c =
     IfOk-weaker c.read_below.result (λ (key : Tree). (head key).name ≡ c.in_ok-node.node.form.name) _
-    (λ key named n. rw c.in_ok-node.ensures.named at (c.in_ok-take_name.ensures.known n) ∙ ap (λ (m : List ℕ). has_name c.args.taken.now n || folds_same n m) (sym named)) c.read_below.ensures.named
+    (λ key named n. rw c.in_ok-node.ensures.named at (c.in_ok-take_name.ensures.known n)
+    ∙ ap (λ (m : List ℕ). has_name c.args.taken.now n || folds_same n m) (sym named)) c.read_below.ensures.named
 
 -- ---- read_below
 
@@ -62,13 +75,17 @@ pub read_below-returns-in_err-class-clause-walked : goal.read_below-returns-in_e
 read_below-returns-in_err-class-clause-walked t c =
     let p = err_from_is_err_and c.from_residual.result c.from_residual.ensures.1 in
     let cells = cells_of c.args.cells.now in
-    rw (p.1, p.2) (stops-on c.in_err-class.field-0.0 _ _ (λ f. below-class (key_checks c.args.left cells false) cells c.args.used.now (key_node_of c.args.node) c.args.at f) c.in_err-class.ensures)
+    rw (p.1, p.2) (stops-on c.in_err-class.field-0.0 _ _
+    (λ f. below-class (key_checks c.args.left cells false) cells c.args.used.now (key_node_of c.args.node)
+    c.args.at f) c.in_err-class.ensures)
 
 pub read_below-returns-in_err-security-clause-walked : goal.read_below-returns-in_err-security-clause-walked
 read_below-returns-in_err-security-clause-walked t c =
     let p = err_from_is_err_and c.from_residual-in_err-security.result c.from_residual-in_err-security.ensures.1 in
     let cells = cells_of c.args.cells.now in
-    rw (p.1, p.2) (stops-on c.in_err-security.field-0.0 _ _ (λ f. below-security (key_checks c.args.left cells false) cells c.args.used.now c.read_class.new.used (key_node_of c.args.node) c.args.at f c.in_ok-class.ensures.0)
+    rw (p.1, p.2) (stops-on c.in_err-security.field-0.0 _ _
+    (λ f. below-security (key_checks c.args.left cells false) cells c.args.used.now c.read_class.new.used
+    (key_node_of c.args.node) c.args.at f c.in_ok-class.ensures.0)
     c.in_err-security.ensures)
 
 pub read_below-returns-in_err-values-clause-walked : goal.read_below-returns-in_err-values-clause-walked
@@ -76,13 +93,17 @@ read_below-returns-in_err-values-clause-walked t c =
     let p = err_from_is_err_and c.from_residual-in_err-values.result c.from_residual-in_err-values.ensures.1 in
     let cells = cells_of c.args.cells.now in
     rw (p.1, p.2) (stops-on c.in_err-values.field-0.0 _ _
-    (λ f. below-values (key_checks c.args.left cells false) cells c.args.used.now c.read_class.new.used c.read_descriptor.new.used (key_node_of c.args.node) c.args.at f c.in_ok-class.ensures.0 c.in_ok-security.ensures.0) c.in_err-values.ensures)
+    (λ f. below-values (key_checks c.args.left cells false)
+    cells c.args.used.now c.read_class.new.used c.read_descriptor.new.used (key_node_of c.args.node)
+    c.args.at f c.in_ok-class.ensures.0 c.in_ok-security.ensures.0) c.in_err-values.ensures)
 
 pub read_below-returns-in_err-children-clause-walked : goal.read_below-returns-in_err-children-clause-walked
 read_below-returns-in_err-children-clause-walked t c =
     let p = err_from_is_err_and c.from_residual-in_err-children.result c.from_residual-in_err-children.ensures.1 in
     let cells = cells_of c.args.cells.now in
-    let below = below-children (key_checks c.args.left cells false) cells c.args.used.now c.read_class.new.used c.read_descriptor.new.used c.read_values.new.used (key_node_of c.args.node) c.args.at
+    let below = below-children (key_checks c.args.left cells false)
+    cells c.args.used.now c.read_class.new.used c.read_descriptor.new.used c.read_values.new.used
+    (key_node_of c.args.node) c.args.at
     c.in_ok-class.ensures.0 c.in_ok-security.ensures.0 c.in_ok-values.ensures.0 in
     rw (p.1, p.2) (stops-on c.in_err-children.field-0.0 _ _ (λ f e. below ∙ e) c.in_err-children.ensures)
 
@@ -90,7 +111,9 @@ pub read_below-returns-clause-walked : goal.read_below-returns-clause-walked
 read_below-returns-clause-walked t c =
     let cells = cells_of c.args.cells.now in
     let s = c.in_ok-children.ensures in
-    let below = below-children (key_checks c.args.left cells false) cells c.args.used.now c.read_class.new.used c.read_descriptor.new.used c.read_values.new.used (key_node_of c.args.node) c.args.at
+    let below = below-children (key_checks c.args.left cells false)
+    cells c.args.used.now c.read_class.new.used c.read_descriptor.new.used c.read_values.new.used
+    (key_node_of c.args.node) c.args.at
     c.in_ok-class.ensures.0 c.in_ok-security.ensures.0 c.in_ok-values.ensures.0 in (
       below ∙ s.0,
       λ read. (
@@ -115,7 +138,8 @@ read_below-returns-clause-walked t c =
 pub read_children-returns-then-node-eq0 : goal.read_children-returns-then-node-eq0
 read_children-returns-then-node-eq0 t c =
     let cells = cells_of c.args.cells.now in
-    let n = children-none (key_checks c.args.left cells false) cells c.args.used.now (key_node_of c.args.node.now) c.args.at c.if-node-eq0.true in
+    let n = children-none (key_checks c.args.left cells false) cells c.args.used.now (key_node_of c.args.node.now)
+    c.args.at c.if-node-eq0.true in
     rw c.new.ensures (n.0, ([], n.1, refl))
 
 pub read_children-returns-in_err-offsets : goal.read_children-returns-in_err-offsets
@@ -123,37 +147,47 @@ read_children-returns-in_err-offsets t c =
     let p = err_from_is_err_and c.from_residual.result c.from_residual.ensures.1 in
     let cells = cells_of c.args.cells.now in
     rw (p.1, p.2) (stops-on c.in_err-offsets.field-0.0 _ _
-    (λ f. children-off (key_checks c.args.left cells false) cells c.args.used.now (key_node_of c.args.node.now) c.args.at f c.if-node-eq0.false) c.in_err-offsets.ensures)
+    (λ f. children-off (key_checks c.args.left cells false) cells c.args.used.now (key_node_of c.args.node.now)
+    c.args.at f c.if-node-eq0.false) c.in_err-offsets.ensures)
 
 pub read_children-returns-then-found-node : goal.read_children-returns-then-found-node
 read_children-returns-then-found-node t c =
     let cells = cells_of c.args.cells.now in
     let e = c.in_ok-offsets.ensures in
-    rw c.stop.ensures (children-count (key_checks c.args.left cells false) cells c.args.used.now c.read_entries.new.used (key_node_of c.args.node.now) c.args.at c.in_ok-offsets.offsets c.if-node-eq0.false e.0 e.1
+    rw c.stop.ensures (children-count (key_checks c.args.left cells false) cells c.args.used.now c.read_entries.new.used
+    (key_node_of c.args.node.now) c.args.at c.in_ok-offsets.offsets c.if-node-eq0.false e.0 e.1
     (λ d. c.if-found-node.true (ap length c.as_slice-found.ensures ∙ d)))
 
 pub read_children-returns : goal.read_children-returns
 read_children-returns t c =
     let cells = cells_of c.args.cells.now in
     let e = c.in_ok-offsets.ensures in
-    let on = children-on (key_checks c.args.left cells false) cells c.args.used.now c.read_entries.new.used (key_node_of c.args.node.now) c.args.at c.in_ok-offsets.offsets c.if-node-eq0.false e.0 e.1
+    let on = children-on (key_checks c.args.left cells false) cells c.args.used.now c.read_entries.new.used
+    (key_node_of c.args.node.now) c.args.at c.in_ok-offsets.offsets c.if-node-eq0.false e.0 e.1
     (sym (ap length c.as_slice-found.ensures) ∙ c.if-found-node.false) in
-    steps-same (λ (ts : List Tree). AllStand cells c.in_ok-offsets.offsets (trees ts)) (ChildrenRead cells (key_node_of c.args.node.now))
-    (walk cells c.read_entries.new.used (keys_in_turn (key_checks c.args.left cells false) cells [] c.in_ok-offsets.offsets)) _ c.read_in_turn.new.used c.read_in_turn.result
+    steps-same (λ (ts : List Tree). AllStand cells c.in_ok-offsets.offsets (trees ts))
+    (ChildrenRead cells (key_node_of c.args.node.now))
+    (walk cells c.read_entries.new.used
+    (keys_in_turn (key_checks c.args.left cells false) cells [] c.in_ok-offsets.offsets))
+    _ c.read_in_turn.new.used c.read_in_turn.result
     on.0 (λ ts a. (c.in_ok-offsets.offsets, on.1, a)) (rw c.as_slice-found.ensures at c.read_in_turn.ensures)
 
 -- ---- read_in_turn
 
 pub read_in_turn-children-init : goal.read_in_turn-children-init
-read_in_turn-children-init t c = rw c.new-children.ensures (record { told = refl; stand = λ more e. e; knows = knows-none c.new-taken.result c.new-taken.ensures })
+read_in_turn-children-init t c =
+    rw c.new-children.ensures
+    (record { told = refl; stand = λ more e. e; knows = knows-none c.new-taken.result c.new-taken.ensures })
 
 pub read_in_turn-returns-in_default : goal.read_in_turn-returns-in_default
 read_in_turn-returns-in_default t c =
     let cells = cells_of c.args.cells.now in
     let i = c.children.invariant in
     let z = none-left c.children.rest.now c.in_default.len_below in (
-      sym i.told ∙ ap (λ r. walk cells c.children.used (keys_in_turn (key_checks c.args.left cells false) cells (map key_name c.children.children) r)) z,
-      subst (λ (us : List Tree). AllStand cells c.args.offsets.now (trees us)) (append-nil c.children.children) (i.stand [] z),
+      sym i.told ∙ ap (λ r. walk cells c.children.used
+          (keys_in_turn (key_checks c.args.left cells false) cells (map key_name c.children.children) r)) z,
+      subst (λ (us : List Tree). AllStand cells c.args.offsets.now (trees us)) (append-nil c.children.children)
+          (i.stand [] z),
     )
 
 pub read_in_turn-returns-in_err-child : goal.read_in_turn-returns-in_err-child
@@ -164,7 +198,8 @@ read_in_turn-returns-in_err-child t c =
     let rest = c.children.rest.now in
     let r = first-and-rest rest c.in-len1-up.len_at_least in
     rw (p.1, p.2) (stops-on c.in_err-child.field-0.0 _ _
-    (λ f e. sym i.told ∙ keys-off c.args.left cells c.children.used (map key_name c.children.children) rest (get_or rest 0 0) (take (length rest - 1) (drop 1 rest)) f r e)
+    (λ f e. sym i.told ∙ keys-off c.args.left cells c.children.used (map key_name c.children.children) rest
+    (get_or rest 0 0) (take (length rest - 1) (drop 1 rest)) f r e)
     (c.in_err-child.ensures.walked (map key_name c.children.children) i.knows))
 
 pub read_in_turn-children-preserved : goal.read_in_turn-children-preserved
@@ -175,9 +210,13 @@ read_in_turn-children-preserved t c =
     let r = first-and-rest rest c.in-len1-up.len_at_least in
     let s = c.in_ok-child.ensures.walked (map key_name c.children.children) i.knows in
     rw c.in_ok-push.ensures.ok (record {
-      told = sym (keys-on c.args.left cells c.children.used c.read_key.new.used c.children.children rest (get_or rest 0 0) (take (length rest - 1) (drop 1 rest)) c.in_ok-child.child r s.0 s.1) ∙ i.told;
-      stand = stand-one cells rest (take (length rest - 1) (drop 1 rest)) c.args.offsets.now (get_or rest 0 0) c.children.children c.in_ok-child.child r s.1.0 i.stand;
+      told = sym (keys-on c.args.left cells c.children.used c.read_key.new.used c.children.children rest
+          (get_or rest 0 0) (take (length rest - 1) (drop 1 rest)) c.in_ok-child.child r s.0 s.1) ∙ i.told;
+      stand = stand-one cells rest (take (length rest - 1) (drop 1 rest)) c.args.offsets.now (get_or rest 0 0)
+          c.children.children c.in_ok-child.child r s.1.0 i.stand;
       knows =
-          subst (λ (ns : List (List ℕ)). Knows c.read_key.new.taken ns) (sym (map_push key_name c.children.children c.in_ok-child.child))
-          (knows-more c.children.taken c.read_key.new.taken (map key_name c.children.children) (key_name c.in_ok-child.child) i.knows c.in_ok-child.ensures.known);
+          subst (λ (ns : List (List ℕ)). Knows c.read_key.new.taken ns)
+          (sym (map_push key_name c.children.children c.in_ok-child.child))
+          (knows-more c.children.taken c.read_key.new.taken (map key_name c.children.children)
+          (key_name c.in_ok-child.child) i.knows c.in_ok-child.ensures.known);
     })

@@ -24,7 +24,8 @@ abbrev pub invariant-read_in_turn-children : goal.invariant-read_in_turn-childre
 invariant-read_in_turn-children l =
     let cells = cells_of l.cells in
     record {
-      told : walk cells l.used (keys_in_turn (key_checks l.left cells false) cells (map key_name l.children) l.rest) ≡ walk cells l.fn.used (keys_in_turn (key_checks l.left cells false) cells [] l.offsets);
+      told : walk cells l.used (keys_in_turn (key_checks l.left cells false) cells (map key_name l.children) l.rest)
+          ≡ walk cells l.fn.used (keys_in_turn (key_checks l.left cells false) cells [] l.offsets);
       stand : (ts : List Tree) → AllStand cells l.rest (trees ts) → AllStand cells l.offsets (trees (l.children ++ ts));
       knows : Knows l.taken (map key_name l.children);
     }

@@ -8,11 +8,14 @@ use Rattle.hive_read.proofs.key.read_tree.Goals as goal
 
 pub returns-clause-exact : goal.returns-clause-exact
 returns-clause-exact c =
-    reads-root (look_up c.args.version c.args.cells.now) c.args.root c.new-used.result c.read_key.new.used c.read_key.result c.new-used.ensures
+    reads-root (look_up c.args.version c.args.cells.now)
+    c.args.root c.new-used.result c.read_key.new.used c.read_key.result c.new-used.ensures
     (c.read_key.ensures.walked [] (knows-none c.new-taken.result c.new-taken.ensures))
 
 pub returns-clause-valid : goal.returns-clause-valid
 returns-clause-valid c =
-    reads-valid (look_up c.args.version c.args.cells.now) c.args.root c.read_key.result (cells-bytes c.args.version c.args.cells.now (subst IsBytes c.bytes.ensures c.are_bytes.ensures))
-    (reads-root (look_up c.args.version c.args.cells.now) c.args.root c.new-used.result c.read_key.new.used c.read_key.result c.new-used.ensures
+    reads-valid (look_up c.args.version c.args.cells.now) c.args.root c.read_key.result
+    (cells-bytes c.args.version c.args.cells.now (subst IsBytes c.bytes.ensures c.are_bytes.ensures))
+    (reads-root (look_up c.args.version c.args.cells.now)
+    c.args.root c.new-used.result c.read_key.new.used c.read_key.result c.new-used.ensures
     (c.read_key.ensures.walked [] (knows-none c.new-taken.result c.new-taken.ensures)))

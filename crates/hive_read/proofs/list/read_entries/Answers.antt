@@ -10,7 +10,8 @@ use Rattle.hive_read.proofs.list.read_entries.Goals as goal
 pub returns-in_err-list : goal.returns-in_err-list
 returns-in_err-list c =
     let p = err_from_is_err_and c.from_residual.result c.from_residual.ensures.1 in
-    rw (p.1, p.2) (stops-on c.in_err-list.field-0.0 _ _ (λ f. entries-off (cells_of c.args.cells.now) c.args.used.now c.args.at f) c.in_err-list.ensures)
+    rw (p.1, p.2) (stops-on c.in_err-list.field-0.0 _ _
+    (λ f. entries-off (cells_of c.args.cells.now) c.args.used.now c.args.at f) c.in_err-list.ensures)
 
 pub returns-then-lists_lists : goal.returns-then-lists_lists
 returns-then-lists_lists c =
@@ -19,7 +20,8 @@ returns-then-lists_lists c =
     let u = c.in_ok-list.ensures in
     let k : is_list_of_lists (kind_of list.kind) ≡ true = sym c.lists_lists.ensures ∙ c.if-lists_lists.true in
     let e = entries-lists cells c.args.used.now c.use_list.new.used c.args.at (subkey_list_of list) u.0 u.1 k in
-    steps-same (λ (o : List ℕ). joined_at cells list.offsets ≡ Ok o) (λ (o : List ℕ). entries_at cells c.args.at ≡ Ok o) _ _ c.read_leaves.new.used c.read_leaves.result
+    steps-same (λ (o : List ℕ). joined_at cells list.offsets ≡ Ok o) (λ (o : List ℕ). entries_at cells c.args.at ≡ Ok o)
+    _ _ c.read_leaves.new.used c.read_leaves.result
     e.0 (λ o h. e.1 ∙ h) (rw c.as_slice.ensures at c.read_leaves.ensures)
 
 pub returns : goal.returns

@@ -26,7 +26,8 @@ returns-in_err-leaf c =
     let rest = c.lists.rest.now in
     let r = first-and-rest rest c.in-len1-up.len_at_least in
     rw (p.1, p.2) (stops-on c.in_err-leaf.field-0.0 _ _
-    (λ f e. sym i.told ∙ leaves-off cells c.lists.used rest (get_or rest 0 0) (take (length rest - 1) (drop 1 rest)) f r e) c.in_err-leaf.ensures)
+    (λ f e. sym i.told ∙ leaves-off cells c.lists.used rest (get_or rest 0 0) (take (length rest - 1) (drop 1 rest))
+    f r e) c.in_err-leaf.ensures)
 
 pub lists-preserved : goal.lists-preserved
 lists-preserved c =
@@ -36,6 +37,8 @@ lists-preserved c =
     let r = first-and-rest rest c.in-len1-up.len_at_least in
     let s = c.in_ok-leaf.ensures in
     rw (c.in_ok-extend_from_slice.ensures.items, c.as_slice.ensures) (record {
-      told = sym (leaves-on cells c.lists.used c.use_leaf.new.used rest (get_or rest 0 0) (take (length rest - 1) (drop 1 rest)) r s.0) ∙ i.told;
-      stand = joined-one cells rest (take (length rest - 1) (drop 1 rest)) c.args.lists.now (get_or rest 0 0) c.lists.all.items c.in_ok-leaf.leaf r s.1 i.stand;
+      told = sym (leaves-on cells c.lists.used c.use_leaf.new.used rest (get_or rest 0 0)
+          (take (length rest - 1) (drop 1 rest)) r s.0) ∙ i.told;
+      stand = joined-one cells rest (take (length rest - 1) (drop 1 rest)) c.args.lists.now (get_or rest 0 0)
+          c.lists.all.items c.in_ok-leaf.leaf r s.1 i.stand;
     })

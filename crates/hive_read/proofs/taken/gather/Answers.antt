@@ -5,5 +5,6 @@ use Rattle.hive_read.proofs.taken.gather.Goals as goal
 pub names-preserved : goal.names-preserved
 names-preserved c = λ p.
     let rest = c.names.rest.now in
-    one-gathered (λ v. v.items) p c.names.set.keys c.insert.new.self.keys c.in_ok-key.key rest (take (length rest - 1) (drop 1 rest)) _
+    one-gathered (λ v. v.items) p c.names.set.keys c.insert.new.self.keys c.in_ok-key.key rest
+    (take (length rest - 1) (drop 1 rest)) _
     c.in_ok-_fresh.ensures.keys c.in_ok-key.ensures (first-item rest _ c.in-len1-up.len_at_least) ∙ c.names.invariant p

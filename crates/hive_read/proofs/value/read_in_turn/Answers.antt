@@ -17,7 +17,8 @@ returns-in_default c =
     let cells = cells_of c.args.cells.now in
     let i = c.values.invariant in
     let z = none-left c.values.rest.now c.in_default.len_below in (
-      sym i.told ∙ ap (λ r. walk cells c.values.used (values_in_turn cells (map (λ (v : Item). v.name) c.values.values) r)) z,
+      sym i.told ∙ ap (λ r. walk cells c.values.used
+          (values_in_turn cells (map (λ (v : Item). v.name) c.values.values) r)) z,
       i.stand [] (ap (items_at cells) z) ∙ ap (λ (vs : List Item). Ok vs) (append-nil c.values.values),
     )
 
@@ -29,7 +30,8 @@ returns-in_err-value c =
     let rest = c.values.rest.now in
     let r = first-and-rest rest c.in-len1-up.len_at_least in
     rw (p.1, p.2) (stops-on c.in_err-value.field-0.0 _ _
-    (λ f e. sym i.told ∙ values-off cells c.values.used (map (λ (v : Item). v.name) c.values.values) rest (get_or rest 0 0) (take (length rest - 1) (drop 1 rest)) f r e)
+    (λ f e. sym i.told ∙ values-off cells c.values.used (map (λ (v : Item). v.name) c.values.values) rest
+    (get_or rest 0 0) (take (length rest - 1) (drop 1 rest)) f r e)
     (c.in_err-value.ensures.walked (map (λ (v : Item). v.name) c.values.values) i.knows))
 
 pub values-preserved : goal.values-preserved
@@ -40,12 +42,17 @@ values-preserved c =
     let r = first-and-rest rest c.in-len1-up.len_at_least in
     let s = c.in_ok-value.ensures.walked (map (λ (v : Item). v.name) c.values.values) i.knows in
     rw c.in_ok-push.ensures.ok (record {
-      told = sym (values-on cells c.values.used c.read_value.new.used c.values.values rest (get_or rest 0 0) (take (length rest - 1) (drop 1 rest)) c.in_ok-value.value r s.0 s.1) ∙ i.told;
-      stand = items-one cells rest (take (length rest - 1) (drop 1 rest)) c.args.offsets.now (get_or rest 0 0) c.values.values c.in_ok-value.value r s.1 i.stand;
+      told = sym (values-on cells c.values.used c.read_value.new.used c.values.values rest (get_or rest 0 0)
+          (take (length rest - 1) (drop 1 rest)) c.in_ok-value.value r s.0 s.1) ∙ i.told;
+      stand = items-one cells rest (take (length rest - 1) (drop 1 rest)) c.args.offsets.now (get_or rest 0 0)
+          c.values.values c.in_ok-value.value r s.1 i.stand;
       knows =
-          subst (λ (ns : List (List ℕ)). Knows c.read_value.new.taken ns) (sym (map_push (λ (v : Item). v.name) c.values.values c.in_ok-value.value))
-          (knows-more c.values.taken c.read_value.new.taken (map (λ (v : Item). v.name) c.values.values) c.in_ok-value.value.name i.knows c.in_ok-value.ensures.known);
+          subst (λ (ns : List (List ℕ)). Knows c.read_value.new.taken ns)
+          (sym (map_push (λ (v : Item). v.name) c.values.values c.in_ok-value.value))
+          (knows-more c.values.taken c.read_value.new.taken (map (λ (v : Item). v.name) c.values.values)
+          c.in_ok-value.value.name i.knows c.in_ok-value.ensures.known);
     })
 
 pub values-init : goal.values-init
-values-init c = rw c.new-values.ensures (record { told = refl; stand = λ more e. e; knows = knows-none c.new-taken.result c.new-taken.ensures })
+values-init c = rw c.new-values.ensures
+    (record { told = refl; stand = λ more e. e; knows = knows-none c.new-taken.result c.new-taken.ensures })

@@ -14,7 +14,8 @@ abbrev pub invariant-values : goal.invariant-values
 invariant-values l =
     let cells = cells_of l.cells in
     record {
-      told : walk cells l.used (values_in_turn cells (map (λ (v : Item). v.name) l.values) l.rest) ≡ walk cells l.fn.used (values_in_turn cells [] l.offsets);
+      told : walk cells l.used (values_in_turn cells (map (λ (v : Item). v.name) l.values) l.rest)
+          ≡ walk cells l.fn.used (values_in_turn cells [] l.offsets);
       stand : (more : List Item) → items_at cells l.rest ≡ Ok more → items_at cells l.offsets ≡ Ok (l.values ++ more);
       knows : Knows l.taken (map (λ (v : Item). v.name) l.values);
     }

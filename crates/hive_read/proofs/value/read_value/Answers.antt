@@ -15,7 +15,8 @@ use Rattle.hive_read.proofs.value.read_value.Goals as goal
 pub returns-in_err-seen-clause-walked : goal.returns-in_err-seen-clause-walked
 returns-in_err-seen-clause-walked c = λ names k.
     let p = err_from_is_err_and c.from_residual.result c.from_residual.ensures.1 in
-    rw (p.1, p.2) (stops-on c.in_err-seen.field-0.0 _ _ (λ f. value-off (cells_of c.args.cells.now) c.args.used.now names c.args.at f) c.in_err-seen.ensures)
+    rw (p.1, p.2) (stops-on c.in_err-seen.field-0.0 _ _
+    (λ f. value-off (cells_of c.args.cells.now) c.args.used.now names c.args.at f) c.in_err-seen.ensures)
 
 pub returns-in_err-take_name-clause-walked : goal.returns-in_err-take_name-clause-walked
 returns-in_err-take_name-clause-walked c = λ names k.
@@ -24,7 +25,8 @@ returns-in_err-take_name-clause-walked c = λ names k.
     let u = c.in_ok-seen.ensures in
     let v = value_seen c.in_ok-seen.seen in
     rw (p.1, p.2) (stops-on c.in_err-take_name.field-0.0 _ _
-    (λ f e. value-named cells c.args.used.now c.use_value.new.used names c.args.at v u.0 u.1 ∙ walk-off cells c.use_value.new.used (name_check names c.args.at v.name ∷ []) (data_checks cells v) f e)
+    (λ f e. value-named cells c.args.used.now c.use_value.new.used names c.args.at v u.0 u.1
+    ∙ walk-off cells c.use_value.new.used (name_check names c.args.at v.name ∷ []) (data_checks cells v) f e)
     (c.in_err-take_name.ensures.walked names k cells c.use_value.new.used))
 
 pub returns-in_err-bytes-clause-walked : goal.returns-in_err-bytes-clause-walked
@@ -35,8 +37,11 @@ returns-in_err-bytes-clause-walked c = λ names k.
     let v = value_seen c.in_ok-seen.seen in
     let t = c.in_ok-take_name.ensures.walked names k cells c.use_value.new.used in
     rw (p.1, p.2) (stops-on c.in_err-bytes.field-0.0 _ _
-    (λ f e. value-named cells c.args.used.now c.use_value.new.used names c.args.at v u.0 u.1 ∙ walk-on cells c.use_value.new.used c.use_value.new.used (name_check names c.args.at v.name ∷ []) (data_checks cells v) t.0 ∙ e)
-    (subst (λ (k : KeyValue). Stops (walk cells c.use_value.new.used (data_checks cells k)) c.in_err-bytes.field-0.0) c.in_ok-form.ensures c.in_err-bytes.ensures))
+    (λ f e. value-named cells c.args.used.now c.use_value.new.used names c.args.at v u.0 u.1
+    ∙ walk-on cells c.use_value.new.used c.use_value.new.used (name_check names c.args.at v.name ∷ [])
+    (data_checks cells v) t.0 ∙ e)
+    (subst (λ (k : KeyValue). Stops (walk cells c.use_value.new.used (data_checks cells k)) c.in_err-bytes.field-0.0)
+    c.in_ok-form.ensures c.in_err-bytes.ensures))
 
 pub returns-clause-walked : goal.returns-clause-walked
 returns-clause-walked c = λ names k.
@@ -44,12 +49,18 @@ returns-clause-walked c = λ names k.
     let u = c.in_ok-seen.ensures in
     let v = value_seen c.in_ok-seen.seen in
     let t = c.in_ok-take_name.ensures.walked names k cells c.use_value.new.used in
-    let w = subst (λ (k : KeyValue). walk cells c.use_value.new.used (data_checks cells k) ≡ Ok c.read_data.new.used) c.in_ok-form.ensures c.in_ok-bytes.ensures.0 in
-    let b = subst (λ (k : KeyValue). data_of cells k ≡ Ok c.in_ok-bytes.bytes) c.in_ok-form.ensures c.in_ok-bytes.ensures.1 in (
-      value-named cells c.args.used.now c.use_value.new.used names c.args.at v u.0 u.1 ∙ walk-on cells c.use_value.new.used c.use_value.new.used (name_check names c.args.at v.name ∷ []) (data_checks cells v) t.0 ∙ w,
-      item-stands cells c.args.at v c.in_ok-bytes.bytes u.1 b ∙ ap (λ (k : KeyValue). Ok (item_of k c.in_ok-bytes.bytes)) (sym c.in_ok-form.ensures),
+    let w = subst (λ (k : KeyValue). walk cells c.use_value.new.used (data_checks cells k) ≡ Ok c.read_data.new.used)
+    c.in_ok-form.ensures c.in_ok-bytes.ensures.0 in
+    let b = subst (λ (k : KeyValue). data_of cells k ≡ Ok c.in_ok-bytes.bytes)
+    c.in_ok-form.ensures c.in_ok-bytes.ensures.1 in (
+      value-named cells c.args.used.now c.use_value.new.used names c.args.at v u.0 u.1
+          ∙ walk-on cells c.use_value.new.used c.use_value.new.used (name_check names c.args.at v.name ∷ [])
+          (data_checks cells v) t.0 ∙ w,
+      item-stands cells c.args.at v c.in_ok-bytes.bytes u.1 b
+          ∙ ap (λ (k : KeyValue). Ok (item_of k c.in_ok-bytes.bytes)) (sym c.in_ok-form.ensures),
     )
 
 pub returns-clause-known : goal.returns-clause-known
 returns-clause-known c = λ n.
-    c.in_ok-take_name.ensures.known n ∙ ap (λ (k : KeyValue). has_name c.args.taken.now n || folds_same n k.name) (sym c.in_ok-form.ensures)
+    c.in_ok-take_name.ensures.known n
+    ∙ ap (λ (k : KeyValue). has_name c.args.taken.now n || folds_same n k.name) (sym c.in_ok-form.ensures)

@@ -7,11 +7,14 @@ use Rattle.hive_read.proofs.WeighingLemmas.{item_name, values-first, values-next
 use Rattle.hive_read.proofs.weighing.judge_in_turn.Goals as goal
 
 pub values-init : goal.values-init
-values-init c = values-first (cells_of c.args.cells.now) c.args.offsets.now c.new-taken.result c.args.used.now c.new-taken.ensures
+values-init c = values-first (cells_of c.args.cells.now)
+    c.args.offsets.now c.new-taken.result c.args.used.now c.new-taken.ensures
 
 pub returns-in_default : goal.returns-in_default
 returns-in_default c =
-    values-last (cells_of c.args.cells.now) c.args.offsets.now c.values.rest.now c.values.taken c.values.total c.values.used c.args.used.now c.values.invariant
+    values-last (cells_of c.args.cells.now)
+    c.args.offsets.now c.values.rest.now c.values.taken c.values.total c.values.used c.args.used.now
+    c.values.invariant
     (none-left c.values.rest.now c.in_default.len_below)
 
 pub returns-in_err-value : goal.returns-in_err-value
@@ -22,7 +25,8 @@ returns-in_err-value c =
     let rest = c.values.rest.now in
     let r = first-and-rest rest c.in-len1-up.len_at_least in
     rw (p.1, p.2) (stops-on c.in_err-value.field-0.0 _ _
-    (λ f e. sym i.told ∙ values-off cells c.values.used (map item_name i.items) rest (get_or rest 0 0) (take (length rest - 1) (drop 1 rest)) f r e)
+    (λ f e. sym i.told ∙ values-off cells c.values.used (map item_name i.items) rest (get_or rest 0 0)
+    (take (length rest - 1) (drop 1 rest)) f r e)
     (c.in_err-value.ensures (map item_name i.items) i.knows))
 
 pub values-preserved : goal.values-preserved
@@ -32,5 +36,6 @@ values-preserved c =
     let rest = c.values.rest.now in
     let s = c.in_ok-value.ensures (map item_name i.items) i.knows in
     rw c.saturating_add-total.ensures
-    (values-next cells c.args.offsets.now rest c.values.taken c.judge_value.new.taken c.values.total c.in_ok-value.value c.values.used c.args.used.now c.judge_value.new.used (get_or rest 0 0)
+    (values-next cells c.args.offsets.now rest c.values.taken c.judge_value.new.taken c.values.total c.in_ok-value.value
+    c.values.used c.args.used.now c.judge_value.new.used (get_or rest 0 0)
     (take (length rest - 1) (drop 1 rest)) i (first-and-rest rest c.in-len1-up.len_at_least) s.0 s.1)

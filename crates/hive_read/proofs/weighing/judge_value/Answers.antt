@@ -11,7 +11,8 @@ use Rattle.hive_read.proofs.weighing.judge_value.Goals as goal
 pub returns-in_err-seen : goal.returns-in_err-seen
 returns-in_err-seen c = λ names k.
     let p = err_from_is_err_and c.from_residual.result c.from_residual.ensures.1 in
-    rw (p.1, p.2) (stops-on c.in_err-seen.field-0.0 _ _ (λ f. value-off (cells_of c.args.cells.now) c.args.used.now names c.args.at f) c.in_err-seen.ensures)
+    rw (p.1, p.2) (stops-on c.in_err-seen.field-0.0 _ _
+    (λ f. value-off (cells_of c.args.cells.now) c.args.used.now names c.args.at f) c.in_err-seen.ensures)
 
 pub returns-in_err-take_name : goal.returns-in_err-take_name
 returns-in_err-take_name c = λ names k.
@@ -20,7 +21,8 @@ returns-in_err-take_name c = λ names k.
     let u = c.in_ok-seen.ensures in
     let v = value_seen c.in_ok-seen.seen in
     rw (p.1, p.2) (stops-on c.in_err-take_name.field-0.0 _ _
-    (λ f e. value-named cells c.args.used.now c.use_value.new.used names c.args.at v u.0 u.1 ∙ walk-off cells c.use_value.new.used (name_check names c.args.at v.name ∷ []) (data_checks cells v) f e)
+    (λ f e. value-named cells c.args.used.now c.use_value.new.used names c.args.at v u.0 u.1
+    ∙ walk-off cells c.use_value.new.used (name_check names c.args.at v.name ∷ []) (data_checks cells v) f e)
     (c.in_err-take_name.ensures.walked names k cells c.use_value.new.used))
 
 pub returns-in_err-data : goal.returns-in_err-data
@@ -31,7 +33,9 @@ returns-in_err-data c = λ names k.
     let v = value_seen c.in_ok-seen.seen in
     let t = c.in_ok-take_name.ensures.walked names k cells c.use_value.new.used in
     rw (p.1, p.2) (stops-on c.in_err-data.field-0.0 _ _
-    (λ f e. value-named cells c.args.used.now c.use_value.new.used names c.args.at v u.0 u.1 ∙ walk-on cells c.use_value.new.used c.use_value.new.used (name_check names c.args.at v.name ∷ []) (data_checks cells v) t.0 ∙ e)
+    (λ f e. value-named cells c.args.used.now c.use_value.new.used names c.args.at v u.0 u.1
+    ∙ walk-on cells c.use_value.new.used c.use_value.new.used (name_check names c.args.at v.name ∷ [])
+    (data_checks cells v) t.0 ∙ e)
     c.in_err-data.ensures)
 
 pub returns : goal.returns
@@ -41,7 +45,10 @@ returns c = λ names k.
     let v = value_seen c.in_ok-seen.seen in
     let t = c.in_ok-take_name.ensures.walked names k cells c.use_value.new.used in
     let d = c.in_ok-data.ensures in (
-      value-named cells c.args.used.now c.use_value.new.used names c.args.at v u.0 u.1 ∙ walk-on cells c.use_value.new.used c.use_value.new.used (name_check names c.args.at v.name ∷ []) (data_checks cells v) t.0 ∙ d.0,
-      value-counts cells c.args.at v c.args.taken.now c.take_name.new.taken c.stored_size-own.result c.in_ok-data.data c.saturating_add.result u.1
+      value-named cells c.args.used.now c.use_value.new.used names c.args.at v u.0 u.1
+          ∙ walk-on cells c.use_value.new.used c.use_value.new.used (name_check names c.args.at v.name ∷ [])
+          (data_checks cells v) t.0 ∙ d.0,
+      value-counts cells c.args.at v c.args.taken.now c.take_name.new.taken c.stored_size-own.result c.in_ok-data.data
+          c.saturating_add.result u.1
           (λ n. c.in_ok-take_name.ensures.known n) c.stored_size-own.ensures d.1 c.saturating_add.ensures,
     )

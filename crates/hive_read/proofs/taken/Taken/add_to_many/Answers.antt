@@ -12,14 +12,20 @@ returns-clause-fresh c =
     c.in_ok-fresh.ensures.added
     ∙ ap not
     (has-any (λ v. v.items) c.gather.new.set.keys c.in_ok-key.key name c.in_ok-key.ensures
-    ∙ all-gathered (λ v. v.items) c.self.inside.many.keys c.gather.new.set.keys c.as_slice.result.now c.self.inside.few name c.in_ok-gather.ensures c.as_slice.ensures
+    ∙ all-gathered (λ v. v.items)
+    c.self.inside.many.keys c.gather.new.set.keys c.as_slice.result.now c.self.inside.few name
+    c.in_ok-gather.ensures c.as_slice.ensures
     ∙ ap (λ (ks : List (List ℕ)). has_name ks name) c.self.view_is)
 
 pub returns-clause-added : goal.returns-clause-added
 returns-clause-added c = λ n.
     let name = name_of c.args.name in
     none-few (map (λ v. v.items) c.insert.new.self.keys) c.new.result n c.new.ensures
-    ∙ has-insert (λ v. v.items) c.gather.new.set.keys c.insert.new.self.keys c.in_ok-key.key name n c.in_ok-key.ensures c.in_ok-fresh.ensures.keys
+    ∙ has-insert (λ v. v.items)
+    c.gather.new.set.keys c.insert.new.self.keys c.in_ok-key.key name n c.in_ok-key.ensures
+    c.in_ok-fresh.ensures.keys
     ∙ ap (λ b. b || folds_same n name)
-    (all-gathered (λ v. v.items) c.self.inside.many.keys c.gather.new.set.keys c.as_slice.result.now c.self.inside.few n c.in_ok-gather.ensures c.as_slice.ensures
+    (all-gathered (λ v. v.items)
+    c.self.inside.many.keys c.gather.new.set.keys c.as_slice.result.now c.self.inside.few n c.in_ok-gather.ensures
+    c.as_slice.ensures
     ∙ ap (λ (ks : List (List ℕ)). has_name ks n) c.self.view_is)
