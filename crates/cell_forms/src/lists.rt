@@ -38,7 +38,7 @@ fn numbers(alloc: Global, step: usize, count: usize, bytes: &[u8]) -> Result<Off
     requires inside { step * count ≤ length bytes.now }
     ensures { IfOk result (λ v. v ≡ numbers_in step count bytes.now) }
 {
-    let mut all = Row::new(alloc);
+    let mut all = Vec::with_capacity(alloc, count)?;
     let mut rest = bytes;
     let mut left = count;
     while left > 0 {
@@ -46,7 +46,7 @@ fn numbers(alloc: Global, step: usize, count: usize, bytes: &[u8]) -> Result<Off
         rest = &rest[step..];
         left -= 1;
     }
-    Ok(all)
+    Ok(Offsets::from_vec(all))
 }
 
 /// The list of this kind, whose entries have `step` bytes.

@@ -127,8 +127,28 @@ impl<'a> StoredName<'a> {
     }
 }
 
-/// The order of the folded units, as `nt_bytes::compare_folded` has it.
-pub fn compare_stored(a: StoredName<'_>, b: StoredName<'_>) -> Ordering
+fn compare_narrow(a: &[u8], b: &[u8]) -> Ordering
+    ensures { result ≡ folded_order a.now b.now }
+{
+    let mut xs = a;
+    let mut ys = b;
+    'bytes: loop {
+        let [x, more_xs @ ..] = xs else {
+            return 0.cmp(&ys.len());
+        };
+        let [y, more_ys @ ..] = ys else {
+            return Ordering::Greater;
+        };
+        let order = fold(u16::from(*x)).cmp(&fold(u16::from(*y)));
+        if order != Ordering::Equal {
+            return order;
+        }
+        xs = more_xs;
+        ys = more_ys;
+    }
+}
+
+fn compare_units(a: StoredName<'_>, b: StoredName<'_>) -> Ordering
     ensures { result ≡ folded_order (name_of a.entry) (name_of b.entry) }
 {
     let mut xs = a;
@@ -147,4 +167,14 @@ pub fn compare_stored(a: StoredName<'_>, b: StoredName<'_>) -> Ordering
         xs = x.rest;
         ys = y.rest;
     }
+}
+
+/// The order of the folded units, as `nt_bytes::compare_folded` has it.
+pub fn compare_stored(a: StoredName<'_>, b: StoredName<'_>) -> Ordering
+    ensures { result ≡ folded_order (name_of a.entry) (name_of b.entry) }
+{
+    if a.is_narrow && b.is_narrow {
+        return compare_narrow(a.bytes, b.bytes);
+    }
+    compare_units(a, b)
 }

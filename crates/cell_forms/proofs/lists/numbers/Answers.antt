@@ -4,7 +4,7 @@ use Rattle.cell_forms.proofs.lists.numbers.Goals as goal
 
 pub loop-left-preserved : goal.loop-left-preserved
 loop-left-preserved c = record {
-  so_far = rw take_rest (numbers_next _ _ _ _ _ _ _ c.loop-left-test.true c.u32_at.ensures c.in_ok-push.ensures.ok
+  so_far = rw take_rest (numbers_next _ _ _ _ _ _ _ c.loop-left-test.true c.u32_at.ensures c.in_ok-push.ensures.items
       c.loop-left.invariant.so_far);
   inside = rw take_rest (room_next _ _ _ c.loop-left-test.true c.loop-left.invariant.inside);
 }

@@ -4,7 +4,7 @@ use Rattle.cell_forms.proofs.lists.numbers.Given as goal
 
 abbrev pub invariant-loop-left : goal.invariant-loop-left
 invariant-loop-left l = record {
-  so_far : l.all ++ numbers_in l.step l.left l.rest ≡ numbers_in l.step l.count l.bytes;
+  so_far : l.all.items ++ numbers_in l.step l.left l.rest ≡ numbers_in l.step l.count l.bytes;
   inside : l.step * l.left ≤ length l.rest;
 }
 

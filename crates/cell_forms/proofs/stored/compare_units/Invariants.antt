@@ -1,7 +1,7 @@
 use Rattle.std.proofs.Common.{◌≡◌, length}
 use Rattle.nt_bytes.specs.Folding.{folded_order}
 use Rattle.cell_forms.specs.Views.{name_of}
-use Rattle.cell_forms.proofs.stored.compare_stored.Given as goal
+use Rattle.cell_forms.proofs.stored.compare_units.Given as goal
 
 abbrev pub invariant-units : goal.invariant-units
 invariant-units l = folded_order (name_of l.xs) (name_of l.ys) ≡ folded_order (name_of l.a) (name_of l.b)
