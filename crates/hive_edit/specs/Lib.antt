@@ -10,3 +10,4 @@ pub mod Gone
 pub mod Making
 pub mod NewValue
 pub mod Dropped
+pub mod Stepped

@@ -1,0 +1,23 @@
+-- What one step makes of a hive's cells, whatever the bulk of the tree. (This project's own.)
+use Rattle.std.specs.Prelude.{◌≡◌, ◌≤◌, ◌<◌, ◌+◌, Ok}
+use Rattle.hive_model.specs.Bins.{bins_size}
+use Rattle.hive_model.specs.Tree.{Tree}
+use Rattle.hive_model.specs.Edit.{Step, after_step}
+use Rattle.hive_model.specs.Footprint.{needed_sizes, room_of}
+use Rattle.edit_laws.specs.Done.{IsDone}
+use Rattle.hive_edit.specs.Hive.{HiveCells, cells_in}
+
+-- One step was made: the root and the version stay, the step is done from cells to cells, and the bins data are longer by no more than the room
+-- for the cells that it may need.
+pub record IsStepped (old : HiveCells) (step : Step) (new : HiveCells) : Type 0 where
+  pub version : new.version ≡ old.version
+  pub root : new.root ≡ old.root
+  pub tree : after_step step old.tree ≡ Ok new.tree
+  pub done : IsDone (cells_in old) (cells_in new) old.root old.tree new.tree step
+  pub long : bins_size old.bins ≤ bins_size new.bins
+  pub room : bins_size new.bins ≤ bins_size old.bins + room_of (needed_sizes old.version old.tree step new.tree)
+
+-- there is no room for the cells that the step may need
+abbrev pub LacksStepRoom : HiveCells → Step → Type 0
+LacksStepRoom old step =
+    (u : Tree) → after_step step old.tree ≡ Ok u → 16777216 < bins_size old.bins + room_of (needed_sizes old.version old.tree step u)
