@@ -1,6 +1,5 @@
 -- The cells of a packed tree are well-formed.
 use Rattle.std.proofs.Common.{◌≤◌, ◌+◌, [], refl, arith}
-use Rattle.nt_bytes.specs.declared.version.HiveVersion.{HiveVersion}
 use Rattle.hive_model.specs.Tree.{Tree, Trees, key, none, more}
 use Rattle.hive_model.specs.Valid.{HoldsKeys, AllHoldKeys}
 use Rattle.hive_model.specs.Size.{size}
@@ -13,7 +12,7 @@ use Rattle.hive_pack.proofs.Standing.{above_root, packed_stands}
 use Rattle.hive_pack.proofs.Singly.{checks_once}
 
 mutual
-  apart : (t : Tree) → HoldsKeys t → HasApartNames t
+  pub apart : (t : Tree) → HoldsKeys t → HasApartNames t
   apart (key h ts) f = (f.0.items_differ, f.0.keys_named, f.0.keys_differ, all_apart ts f.1)
 
   all_apart : (ts : Trees) → AllHoldKeys ts → HaveApartNames ts

@@ -16,7 +16,7 @@ use Rattle.hive_model.specs.Bins.{Cells}
 use Rattle.hive_model.specs.Forms.{bytes_in}
 use Rattle.hive_model.specs.StoredNames.{UnitsFit}
 use Rattle.hive_model.specs.KeyNode.{KeyNode}
-use Rattle.hive_model.specs.KeyValue.{KeyValue, IsKeyValue, is_narrow_value, key_value_text, key_value_at}
+use Rattle.hive_model.specs.KeyValue.{IsKeyValue, is_narrow_value, key_value_text, key_value_at}
 use Rattle.hive_model.specs.BigData.{BigData, big_data_text}
 use Rattle.hive_model.specs.Lists.{offsets_text, offsets_in, AreOffsets}
 use Rattle.hive_model.specs.Walk.{reading, big_data_of}

@@ -11,6 +11,7 @@ pub mod Named
 pub mod Standing
 pub mod Heap
 pub mod Sized
+pub mod Beside
 pub mod Once
 pub mod Singly
 pub mod Formed

@@ -11,10 +11,10 @@ use Rattle.hive_model.specs.Tree.{Item, Head, Tree, Trees, key, none, more, list
 use Rattle.hive_model.specs.Size.{cell, is_narrow, name_bytes, is_big, segment_count, segment_sizes, cells_sum, data_size, item_size, items_sum, items_size, class_size, has_own, security_size, head_size, part_count, list_size, count, size, size_of_all}
 use Rattle.hive_model.specs.Bins.{cell_bytes}
 use Rattle.hive_model.specs.StoredNames.{name_text}
-use Rattle.hive_model.specs.KeyNode.{KeyNode, is_narrow_key, key_node_text}
-use Rattle.hive_model.specs.KeyValue.{KeyValue, is_narrow_value, key_value_text}
+use Rattle.hive_model.specs.KeyNode.{is_narrow_key, key_node_text}
+use Rattle.hive_model.specs.KeyValue.{is_narrow_value, key_value_text}
 use Rattle.hive_model.specs.Security.{SecurityCell, security_text}
-use Rattle.hive_model.specs.Lists.{offsets_text, entries_text, AreHints, lf_text, ri_text, hint_of}
+use Rattle.hive_model.specs.Lists.{offsets_text, AreHints, ri_text, hint_of}
 use Rattle.hive_model.specs.Packed.{filled, cell_text, text, data_place, item_form, segments, segment_places, big_cells, data_cells, item_cells, cells_of_items, item_places, items_cells, forward, backward, descriptor_place, sharers_of_all, Above, below, values_place, list_place, children_place, stored_flags, node_of, class_cells, security_cells, head_cells, part_places, list_text, parts, list_cells, places, hint, cells_of, cells_of_all}
 use Rattle.hive_model.proofs.Spelling.{length_wide, length_key_node, length_key_value, length_security, length_offsets, length_lf, length_lh, length_ri, length_big_data}
 

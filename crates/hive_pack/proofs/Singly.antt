@@ -3,15 +3,16 @@ use Rattle.std.proofs.Common.{◌≡◌, ◌≤◌, ◌<◌, ◌⊎◌, inl, inr
 use Rattle.std.specs.Prelude.{nat_lt, nat_le, nat_eq, if◌then◌else◌}
 use Rattle.std.specs.List.{All, AllByRecursion}
 use lib.Pointwise.{pointwise}
-use Rattle.std.proofs.lemmas.Bool.{ne_eqb, ltb-true, ltb-false, le-ltb, lt-ltb, lt-leb, le-leb, cases_lt}
+use Rattle.std.proofs.lemmas.Bool.{ne_eqb, eqb-false, ltb-true, ltb-false, le-ltb, lt-ltb, lt-leb, le-leb, cases_lt}
 use Rattle.std.proofs.lemmas.Slice.Eq.{bytes_eq-Decides}
 use Rattle.hive_model.specs.Tree.{Item, Tree, Trees, key, none, more, listed, head}
 use Rattle.hive_model.specs.Valid.{IsItem, HoldsKeys, AllHoldKeys, levels, most_levels}
-use Rattle.hive_model.specs.Size.{cell, is_narrow, name_bytes, is_big, segment_count, segment_sizes, cells_sum, data_size, item_size, items_sum, items_size, class_size, has_own, security_size, node_size, head_size, part_count, list_size, count, size, size_of_all}
+use Rattle.hive_model.specs.Size.{cell, name_bytes, is_big, segment_count, segment_sizes, cells_sum, data_size, item_size, items_sum, items_size, class_size, has_own, security_size, node_size, head_size, part_count, list_size, count, size, size_of_all}
 use Rattle.hive_model.specs.Bins.{Cells}
 use Rattle.hive_model.specs.Forms.{bytes_in}
+use Rattle.hive_model.specs.Security.{security_at}
 use Rattle.hive_model.specs.KeyNode.{KeyNode, IsKeyNode, key_node_text}
-use Rattle.hive_model.specs.KeyValue.{KeyValue, key_value_at}
+use Rattle.hive_model.specs.KeyValue.{key_value_at}
 use Rattle.hive_model.specs.Lists.{list_at, offsets_in, AreOffsets, AreHints}
 use Rattle.hive_model.specs.Walk.{reading, nowhere, big_data_of, segments_checks, big_checks, is_list_of_lists, node_at, leaf_at, entries_at, Check, names_of, name_check, class_checks, security_checks, data_checks, value_checks, values_in_turn, values_checks, leaves_checks, use_as, entries_checks, keys_in_turn, children_checks, below_node, key_checks, all_checks, AreUsedOnce}
 use Rattle.hive_model.specs.Packed.{data_place, item_form, segment_places, big_cells, data_cells, item_cells, cells_of_items, item_places, items_cells, descriptor_place, sharers_of_all, Above, below, security_place_of, values_place, list_place, children_place, place_of_some, node_of, head_cells, part_places, list_cells, places, hint, cells_of, cells_of_all}
@@ -25,7 +26,12 @@ use Rattle.hive_pack.proofs.Found.{Has, has_front, has_behind, reads_in}
 use Rattle.hive_pack.proofs.Items.{big_stands, not_big, data_has, item_read, values_read, values_behind}
 use Rattle.hive_pack.proofs.Named.{written_kind, no_lists, list_read, lists_read, entries_read}
 use Rattle.hive_pack.proofs.Standing.{AboveStands, below_stands, node_fits, head_has, places_fit}
-use Rattle.hive_pack.proofs.Once.{Good, Outside, good_none, good_append, good_tests, good_shared, good_other, good_own, use_only, use_then}
+use Rattle.hive_pack.proofs.Beside
+use Rattle.hive_pack.proofs.Beside.{Outside, good_none, good_append, good_tests, good_shared, good_other, good_own, use_only, use_then}
+
+-- checks in a range, or of a descriptor that stands somewhere beside it
+abbrev pub Good : ℕ → ℕ → ℕ → List Check → Type 0
+Good lo hi s cs = Beside.Good nowhere lo hi s cs
 
 outside : (s lo hi lo' hi' : ℕ) → lo ≤ lo' → hi' ≤ hi → Outside s lo hi → Outside s lo' hi'
 outside s lo hi lo' hi' l h (inl p) = inl (omega arith)
@@ -145,19 +151,31 @@ class_good cells node at hi s (b ∷ c) n p e o =
     let place : node.class ≡ at = p ∙ rw some refl in
     rw (n, some, place) (use_only (bytes_in (length (b ∷ c))) cells at hi s at (omega arith) (omega arith) o)
 
--- where the descriptor above stands, if there is one
+-- the descriptor above stands before here, if there is one
 abbrev pub IsAbove : Above → ℕ → Type 0
 IsAbove up at = (up.security_place < at) ⊎ (up.security_place ≡ nowhere)
 
+-- the descriptor above stands outside a range, if there is one
+abbrev pub IsBeside : Above → ℕ → ℕ → Type 0
+IsBeside up lo hi = Outside up.security_place lo hi
+
 secured : (cells : Cells) (node : KeyNode) (up : Above) (p hi : ℕ) (s : List ℕ) (cs : List Check)
-    → node.security ≡ security_place_of up p s → AboveStands cells up → IsAbove up p → p + security_size up.security s ≤ hi
+    → node.security ≡ security_place_of up p s → AboveStands cells up → IsBeside up p hi → p + security_size up.security s ≤ hi
     → hi ≤ 16777216
     → Good (p + security_size up.security s) hi (security_place_of up p s) cs
     → Good p hi up.security_place (security_checks cells node ++ cs)
 unfolding security_checks
-secured cells node up p hi [] cs is a i le small g = let z : p + 0 ≡ p = omega arith in rw is (good_other p hi up.security_place nowhere cs (omega arith) (omega arith) (rw z at g))
+secured cells node up p hi [] cs is a i le small g = let z : p + 0 ≡ p = omega arith in rw is (good_other p hi up.security_place nowhere cs (omega arith) (rw z at g))
 secured cells node up p hi (b ∷ s) cs is a i le small g = go (pointwise nat_eq up.security (b ∷ s)) refl
   where
+    here : (none : Bool) → eqb up.security_place nowhere ≡ none → up.security ≡ b ∷ s → Good p hi up.security_place cs
+        → Good p hi up.security_place ((if eqb up.security_place nowhere then [] else use_as true security_at cells up.security_place) ++ cs)
+    here true q alike h =
+        absurd (let none_above : Ok [] ≡ Ok up.security = rw q at a.descriptor in cc)
+    here false q alike h =
+        let place : up.security_place < nowhere = omega (arith, a.security_place, eqb-false up.security_place nowhere q) in
+        rw q (good_shared p hi up.security_place _ place i (good_tests p hi up.security_place up.security_place _ cs h))
+
     go : (same : Bool) → pointwise nat_eq up.security (b ∷ s) ≡ same
         → Good p hi up.security_place (security_checks cells node ++ cs)
     go true e =
@@ -165,13 +183,7 @@ secured cells node up p hi (b ∷ s) cs is a i le small g = go (pointwise nat_eq
         let h = rw (e, z) at g in
         let place : node.security ≡ up.security_place = is ∙ rw e refl in
         let alike : up.security ≡ b ∷ s = (bytes_eq-Decides up.security (b ∷ s)).0 e in
-        rw place (elim i [
-          | inl lt ↦ (
-              let some : eqb up.security_place nowhere ≡ false = ne_eqb _ _ (λ q. omega arith) in
-              rw some (good_shared p hi up.security_place _ lt (good_tests p hi up.security_place up.security_place _ cs h))
-              )
-          | inr q ↦ absurd (let none_above : Ok [] ≡ Ok up.security = rw q at a.descriptor in cc)
-        ])
+        rw place (here (eqb up.security_place nowhere) refl alike h)
     go false e =
         let h = rw e at g in
         let room = rw e at le in
@@ -190,9 +202,17 @@ above_below up at p (b ∷ s) i l = go (has_own up.security (b ∷ s)) i
     go false (inl q) = inl (omega arith)
     go false (inr q) = inr q
 
-outside_of : (d lo hi : ℕ) → hi ≤ 16777216 → (d < lo) ⊎ (d ≡ nowhere) → Outside d lo hi
-outside_of d lo hi h (inl p) = inl p
-outside_of d lo hi h (inr p) = inr (omega arith)
+-- what a key tells its children stands beside what is behind its descriptor
+beside_below : (up : Above) (at p hi : ℕ) (s : List ℕ) → IsBeside up at hi → at < p → hi ≤ 16777216
+    → Outside (security_place_of up p s) (p + security_size up.security s) hi
+beside_below up at p hi [] i l h = inr (omega arith)
+beside_below up at p hi (b ∷ s) i l h = go (has_own up.security (b ∷ s)) i
+  where
+    go : (own : Bool) → IsBeside up at hi
+        → Outside (if own then p else up.security_place) (p + (if own then cell (20 + length (b ∷ s)) else 0)) hi
+    go true i = inl (omega arith)
+    go false (inl q) = inl (omega arith)
+    go false (inr q) = inr q
 
 pub later_above : (up : Above) (at p : ℕ) → at ≤ p → IsAbove up at → IsAbove up p
 later_above up at p l (inl q) = inl (omega arith)
@@ -299,8 +319,8 @@ named_later t ts f = λ k d lt. f (suc k) d (omega arith)
 mutual
   unfolding key_checks
 
-  key_good : (cells : Cells) (left : ℕ) (root : Bool) (names : List (List ℕ)) (up : Above) (at hi : ℕ) (t : Tree)
-      → at + size cells.version up.security t ≡ hi → hi ≤ 16777216 → AboveStands cells up → IsAbove up at
+  pub key_good : (cells : Cells) (left : ℕ) (root : Bool) (names : List (List ℕ)) (up : Above) (at hi : ℕ) (t : Tree)
+      → at + size cells.version up.security t ≡ hi → hi ≤ 16777216 → AboveStands cells up → IsBeside up at hi
       → Has cells at (cells_of cells.version up at t) → HoldsKeys t → HasNumbers t
       → IsNamed root (head t).name → levels t ≤ left → Good at hi up.security_place (key_checks left cells root names at)
   key_good cells zero root names up at hi (key h ts) e le a i has f n called lv = absurd (omega arith)
@@ -326,20 +346,20 @@ mutual
       let fits = node_fits cells up at h (listed ts) a f.0 keys n.0 (omega arith) in
       let read = reads_in (node_at root) cells at (key_node_text node) node mine.node (λ slack. named_read root node slack fits (good_name root (eqb (length h.name) 0) (some_name root h.name called))) in
       let up-is = below_stands cells up at h (sharers_of_all h.security ts) a mine.security (omega arith) few in
-      let d-above : (d < v) ⊎ (d ≡ nowhere) = above_below up at own h.security i (omega arith) in
-      let turn = turn_good cells left [] (below up at h) first hi ts (omega arith) le up-is (later_above (below up at h) v first (omega arith) d-above) later f.1 n.1 f.0.keys_named (omega arith) in
+      let d-above : Outside d v hi = beside_below up at own hi h.security i (omega arith) le in
+      let turn = turn_good cells left [] (below up at h) first hi ts (omega arith) le up-is (outside d v hi first hi (omega arith) (omega arith) d-above) later f.1 n.1 f.0.keys_named (omega arith) in
       let children = children_good cells (key_checks left cells false) node at l first hi d os hs list (sym n_os) (ap (λ k. place_of_some k l) (sym n_os)) (same_hints cells.version h.security first ts) (places_fit cells.version h.security first ts (omega arith)) (hints_of cells.version (listed ts))
-      (omega (arith, ap list_size n_os)) (omega arith) le (outside d v hi l hi (omega arith) (omega arith) (outside_of d v hi le d-above)) turn in
-      let values = all_values_good cells node v l d h.values refl refl refl (omega arith) (outside_of d v l (omega arith) d-above) mine.values f.0.items n.0.items in
-      let both = good_append v l hi d _ _ (omega arith) (omega arith) (outside_of d v hi le d-above) values children in
-      let security = secured cells node up own hi h.security _ refl a (later_above up at own (omega arith) i) (omega arith) le both in
-      let class = class_good cells node p own up.security_place h.class refl refl refl (outside_of up.security_place p own (omega arith) (later_above up at p (omega arith) i)) in
-      let whole = good_append p own hi up.security_place _ _ (omega arith) (omega arith) (outside_of up.security_place p hi le (later_above up at p (omega arith) i)) class security in
-      use_then (node_at root) cells at p hi up.security_place at node (λ (k : KeyNode). name_check names at k.name ∷ below_node (key_checks left cells false) cells k at) read (omega arith) (omega arith) (omega arith) (outside_of up.security_place at hi le i)
+      (omega (arith, ap list_size n_os)) (omega arith) le (outside d v hi l hi (omega arith) (omega arith) d-above) turn in
+      let values = all_values_good cells node v l d h.values refl refl refl (omega arith) (outside d v hi v l (omega arith) (omega arith) d-above) mine.values f.0.items n.0.items in
+      let both = good_append v l hi d _ _ (omega arith) (omega arith) d-above values children in
+      let security = secured cells node up own hi h.security _ refl a (outside up.security_place at hi own hi (omega arith) (omega arith) i) (omega arith) le both in
+      let class = class_good cells node p own up.security_place h.class refl refl refl (outside up.security_place at hi p own (omega arith) (omega arith) i) in
+      let whole = good_append p own hi up.security_place _ _ (omega arith) (omega arith) (outside up.security_place at hi p hi (omega arith) (omega arith) i) class security in
+      use_then (node_at root) cells at p hi up.security_place at node (λ (k : KeyNode). name_check names at k.name ∷ below_node (key_checks left cells false) cells k at) read (omega arith) (omega arith) (omega arith) i
       (good_tests p hi up.security_place at _ _ whole)
 
   turn_good : (cells : Cells) (left : ℕ) (names : List (List ℕ)) (up : Above) (at hi : ℕ) (ts : Trees)
-      → at + size_of_all cells.version up.security ts ≡ hi → hi ≤ 16777216 → AboveStands cells up → IsAbove up at
+      → at + size_of_all cells.version up.security ts ≡ hi → hi ≤ 16777216 → AboveStands cells up → IsBeside up at hi
       → Has cells at (cells_of_all cells.version up at ts) → AllHoldKeys ts → AllHaveNumbers ts
       → AreNamed (listed ts) → most_levels ts ≤ left
       → Good at hi up.security_place (keys_in_turn (key_checks left cells false) cells names (places cells.version up.security at ts))
@@ -348,9 +368,9 @@ mutual
       let next = at + size cells.version up.security t in
       let back = has_behind cells at (size cells.version up.security t) next (cells_of cells.version up at t) (cells_of_all cells.version up next ts) (space_tree cells.version up at t) refl has in
       let front = has_front cells at (cells_of cells.version up at t) (cells_of_all cells.version up next ts) has in
-      good_append at next hi up.security_place _ _ (omega arith) (omega arith) (outside_of up.security_place at hi le i)
-      (key_good cells left false names up at next t refl (omega arith) a i front f.0 n.0 (inr (called 0 t (omega arith))) (omega arith))
-      (turn_good cells left (names ++ names_of (λ (k : KeyNode). k.name) (reading (node_at false) cells at)) up next hi ts (omega arith) le a (later_above up at next (omega arith) i) back f.1 n.1 (named_later t (listed ts) called) (omega arith))
+      good_append at next hi up.security_place _ _ (omega arith) (omega arith) i
+      (key_good cells left false names up at next t refl (omega arith) a (outside up.security_place at hi at next (omega arith) (omega arith) i) front f.0 n.0 (inr (called 0 t (omega arith))) (omega arith))
+      (turn_good cells left (names ++ names_of (λ (k : KeyNode). k.name) (reading (node_at false) cells at)) up next hi ts (omega arith) le a (outside up.security_place at hi next hi (omega arith) (omega arith) i) back f.1 n.1 (named_later t (listed ts) called) (omega arith))
 
 -- all checks of a packed tree's cells use each cell once, or each time as security
 pub checks_once : (cells : Cells) (up : Above) (t : Tree) → 32 + size cells.version up.security t ≤ 16777216
@@ -358,5 +378,5 @@ pub checks_once : (cells : Cells) (up : Above) (t : Tree) → 32 + size cells.ve
     → HasNumbers t → levels t ≤ 512 → AreUsedOnce (all_checks cells 32)
 unfolding all_checks
 checks_once cells up t le is a has f n lv =
-    let good = key_good cells 512 true [] up 32 (32 + size cells.version up.security t) t refl le a (inr is) has f n (inl refl) lv in
+    let good = key_good cells 512 true [] up 32 (32 + size cells.version up.security t) t refl le a (inr (omega arith)) has f n (inl refl) lv in
     used_once (key_checks 512 cells true [] 32) (good.once [] tt)

@@ -201,7 +201,7 @@ places_fit version shared at (more t ts) le =
     (omega arith, places_fit version shared (at + size version shared t) ts (omega arith))
 
 mutual
-  tree_stands : (cells : Cells) (up : Above) (at : ℕ) (t : Tree) → AboveStands cells up
+  pub tree_stands : (cells : Cells) (up : Above) (at : ℕ) (t : Tree) → AboveStands cells up
       → Has cells at (cells_of cells.version up at t) → HoldsKeys t → HasNumbers t
       → at + size cells.version up.security t ≤ 16777216 → Stands cells at t
   tree_stands cells up at (key h ts) a has f n le =

@@ -6,6 +6,7 @@
 //! their order, for which descriptors share a cell, and for the length of the lists.
 #![tactic(auto)]
 
+mod below;
 mod bins;
 mod forms;
 mod laws;
@@ -17,6 +18,7 @@ mod sizes;
 mod values;
 mod write;
 
+pub use below::{cells_below, sharing_keys, tree_fits};
 pub use bins::pack;
 pub use laws::{
     packed_cells_are_well_formed, packed_form_is_its_bins, packed_tree_stands,

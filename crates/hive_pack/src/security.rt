@@ -54,7 +54,7 @@ pub(crate) fn below_up<'a>(up: Up<'a>, at: usize, key: &'a Key) -> Up<'a>
 
 /// How many keys use this descriptor with the key above them.
 #[cycle(sharers)]
-fn sharers(security: &[u8], key: &Key) -> u32
+pub(crate) fn sharers(security: &[u8], key: &Key) -> u32
     requires { sharers security.now key.now ≤ 16777216 }
     ensures { result ≡ sharers security.now key.now }
 {

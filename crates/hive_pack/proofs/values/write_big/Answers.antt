@@ -1,9 +1,7 @@
-use Rattle.std.proofs.Common.{◌≡◌, ◌+◌, ◌*◌, ◌++◌, List, ℕ, length, ap, ◌∙◌, arith}
-use Rattle.std.proofs.lemmas.List.{length-append}
-use Rattle.hive_model.specs.Size.{cell, segment_count}
-use Rattle.hive_model.specs.BigData.{BigData, big_data_text}
-use Rattle.hive_model.specs.Lists.{offsets_text}
-use Rattle.hive_model.specs.Packed.{cell_text, segment_places}
+use Rattle.std.proofs.Common.{◌+◌, ◌++◌, List, ℕ, length, ap, ◌∙◌, arith}
+use Rattle.hive_model.specs.Size.{segment_count}
+use Rattle.hive_model.specs.BigData.{BigData}
+use Rattle.hive_model.specs.Packed.{cell_text}
 use Rattle.hive_model.proofs.Spelling.{length_big_data}
 use Rattle.hive_pack.proofs.Rows.{length_segment_list}
 use Rattle.reg_tree.proofs.Outcomes.{on_ok}

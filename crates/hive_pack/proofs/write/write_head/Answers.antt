@@ -1,6 +1,6 @@
 use Rattle.std.proofs.Common.{◌≡◌, ◌++◌, List, ℕ, length, sym, ap, ◌∙◌, arith}
 use Rattle.hive_model.specs.Tree.{Item, Tree, trees, head, children}
-use Rattle.hive_model.specs.Size.{security_size, items_size, size_of_all}
+use Rattle.hive_model.specs.Size.{security_size, items_size}
 use Rattle.hive_model.specs.KeyNode.{key_node_text}
 use Rattle.hive_model.specs.Packed.{cell_text, text, node_of, class_cells, security_cells, sharers_of_all, items_cells}
 use Rattle.hive_pack.specs.Writes.{above}
