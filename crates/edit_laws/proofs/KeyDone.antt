@@ -154,14 +154,14 @@ a_key_made b c root t u k parent name x y left front back counted well ok absent
 renamed_apart : (name : List ℕ) (k : Tree) → HasApartNames k → HasApartNames (renamed name k)
 renamed_apart name (key hd ts) n = (n.0, n.1, n.2, n.3)
 
-renamed_name : (name : List ℕ) (k : Tree) → (head (renamed name k)).name ≡ name
+pub renamed_name : (name : List ℕ) (k : Tree) → (head (renamed name k)).name ≡ name
 renamed_name name (key hd ts) = refl
 
-renamed_levels : (name : List ℕ) (k : Tree) → levels (renamed name k) ≡ levels k
+pub renamed_levels : (name : List ℕ) (k : Tree) → levels (renamed name k) ≡ levels k
 renamed_levels name (key hd ts) = refl
 
 -- the root gets a child under a name that none has
-root_gets : (b c : Cells) (root : ℕ) (t k : Tree) (name : List ℕ) (y : ℕ) (front back counted : List ℕ)
+pub root_gets : (b c : Cells) (root : ℕ) (t k : Tree) (name : List ℕ) (y : ℕ) (front back counted : List ℕ)
     → IsWellFormed b root t → has_child name t ≡ false → is_bad_name name ≡ false
     → ChangesChildren b c root root 511 front [] (y ∷ []) back counted → Stands c y (renamed name k) → HasApartNames k
     → levels k ≤ 511 → HasPlace b name front back → IsWellFormed c root (with_child name k t)
@@ -172,7 +172,7 @@ root_gets b c root (key hd ts) k name y front back counted well absent good g ne
     (λ m i. subst (λ (z : List ℕ). is_gt (folded_order m z) ≡ false) (sym (renamed_name name k)) (place.small m i))
     (subst (λ (z : List ℕ). StandsBefore z (map (node_name b) back)) (sym (renamed_name name k)) place.great)
 
-root_none : (b : Cells) (root : ℕ) (t : Tree) (name : List ℕ) → IsWellFormed b root t → has_child name t ≡ false
+pub root_none : (b : Cells) (root : ℕ) (t : Tree) (name : List ℕ) → IsWellFormed b root t → has_child name t ≡ false
     → HasNone b root name
 root_none b root (key hd ts) name well absent =
     has_none b root hd ts name well.stands well.names (none_named name (listed ts) absent)

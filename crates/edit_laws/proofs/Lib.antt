@@ -49,3 +49,4 @@ pub mod Grown
 pub mod ListsRead
 pub mod TakenOut
 pub mod Lessening
+pub mod Totals
