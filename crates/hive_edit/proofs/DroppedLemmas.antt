@@ -1,9 +1,9 @@
 -- Cells dropped one by one, and a child taken out of its parent.
-use Rattle.std.proofs.Common.{◌≡◌, ◌≤◌, ◌<◌, ◌^◌, ℕ, zero, suc, ◌+◌, ◌-◌, Bool, true, false, eqb, List, [], ◌∷◌, ◌++◌, length, take, get_or, Option, Some, None, Result, Ok, ◌⊎◌, inl, inr, ⊎_elim, refl, sym, ap, subst, ◌∙◌, arith}
+use Rattle.std.proofs.Common.{◌≡◌, ◌≤◌, ◌<◌, ◌^◌, ℕ, zero, suc, ◌+◌, ◌-◌, Bool, true, false, eqb, List, [], ◌∷◌, ◌++◌, length, take, get_or, cond, Option, Some, None, Result, Ok, ◌⊎◌, inl, inr, ⊎_elim, refl, sym, ap, subst, ◌∙◌, arith}
 use Rattle.std.specs.Prelude.{Contains, slice_index_or}
 use Rattle.std.specs.Option.{IsSome, IsSomeAnd}
 use Rattle.std.specs.Int.{w32, to_le_bytes}
-use Rattle.std.proofs.lemmas.Bool.{eqb-true, eqb-false}
+use Rattle.std.proofs.lemmas.Bool.{eqb-true, eqb-false, ne_eqb, eq-eqb}
 use Rattle.nt_bytes.specs.Fields.{u32_in}
 use Rattle.nt_bytes.specs.declared.version.HiveVersion.{HiveVersion}
 use Rattle.hive_model.specs.Bins.{Bin, bins_size, look_up}
@@ -17,9 +17,9 @@ use Rattle.edit_laws.proofs.Patches.{IsPatchOf, part_patches}
 use Rattle.key_index.specs.Lists.{lists_at}
 use Rattle.hive_edit.specs.declared.making.Above.{Above}
 use Rattle.hive_edit.specs.Making.{IsWritten}
-use Rattle.hive_edit.specs.Dropped.{AreDropped, AreShortened, CanDrop, CanRemove, IsLowered, IsRecounted}
+use Rattle.hive_edit.specs.Dropped.{AreDropped, AreShortened, CanDrop, CanRemove, IsLowered, IsRecounted, is_secured, times}
 use Rattle.hive_edit.proofs.ResultLemmas.{done, some}
-use Rattle.hive_edit.proofs.NodeMade.{security_counted}
+use Rattle.hive_edit.proofs.NodeMade.{security_counted, security_text_is}
 use Rattle.hive_edit.proofs.GoneLemmas.{is_held, held_of, and_some}
 use Rattle.hive_edit.proofs.LinkLemmas.{some_and}
 use Rattle.hive_edit.proofs.UsesLemmas.{use_of}
@@ -72,15 +72,58 @@ apart_use us o a once i j e = go (once_two us (use_of o true) (use_of a false) o
 
 -- ---- a count
 
-pub recount_itself : (p : List ℕ) → IsRecounted p p
-recount_itself p = record { long = refl; says = λ s e. (s.uses, e) }
+swap_count : (a b : Bool) (n : ℕ) → cond a (suc (cond b (suc n) n)) (cond b (suc n) n) ≡ cond b (suc (cond a (suc n) n)) (cond a (suc n) n)
+swap_count true true n = refl
+swap_count true false n = refl
+swap_count false true n = refl
+swap_count false false n = refl
 
-pub recount_again : (p q : List ℕ) (m : ℕ) → IsRecounted p q → 20 ≤ length q → m < 2 ^ 32 → IsRecounted p (patched 12 (to_le_bytes w32 m) q)
-recount_again p q m r long fits =
+-- how many of the first, and of one more
+times_next : (us : List (ℕ × Bool)) (k : ℕ) (x : ℕ × Bool) (o : ℕ) → k < length us → x ≡ get_or us k x
+    → times o (take (suc k) us) ≡ cond (is_secured o x) (suc (times o (take k us))) (times o (take k us))
+times_next [] k x o lt e = absurd (omega (arith, lt))
+times_next (w ∷ us) zero x o lt e = ap (λ (u : ℕ × Bool). cond (is_secured o u) 1 0) (sym e)
+times_next (w ∷ us) (suc k) x o lt e =
+    ap (λ (n : ℕ). cond (is_secured o w) (suc n) n) (times_next us k x o (omega (arith, lt)) e)
+    ∙ swap_count (is_secured o w) (is_secured o x) (times o (take k us))
+
+times_plain : (us : List (ℕ × Bool)) (k : ℕ) (x : ℕ × Bool) (o : ℕ) → k < length us → x ≡ get_or us k x → x.1 ≡ false
+    → times o (take (suc k) us) ≡ times o (take k us)
+times_plain us k x o lt e plain =
+    times_next us k x o lt e
+    ∙ ap (λ (s : Bool). cond (cond s (eqb x.0 o) false) (suc (times o (take k us))) (times o (take k us))) plain
+
+times_other : (us : List (ℕ × Bool)) (k : ℕ) (x : ℕ × Bool) (o : ℕ) → k < length us → x ≡ get_or us k x → x.1 ≡ true → (x.0 ≡ o → ⊥)
+    → times o (take (suc k) us) ≡ times o (take k us)
+times_other us k x o lt e secure other =
+    times_next us k x o lt e
+    ∙ ap (λ (s : Bool). cond (cond s (eqb x.0 o) false) (suc (times o (take k us))) (times o (take k us))) secure
+    ∙ ap (λ (s : Bool). cond s (suc (times o (take k us))) (times o (take k us))) (ne_eqb x.0 o other)
+
+times_one : (us : List (ℕ × Bool)) (k : ℕ) (x : ℕ × Bool) (o : ℕ) → k < length us → x ≡ get_or us k x → x.1 ≡ true → x.0 ≡ o
+    → times o (take (suc k) us) ≡ suc (times o (take k us))
+times_one us k x o lt e secure same =
+    times_next us k x o lt e
+    ∙ ap (λ (s : Bool). cond (cond s (eqb x.0 o) false) (suc (times o (take k us))) (times o (take k us))) secure
+    ∙ ap (λ (s : Bool). cond s (suc (times o (take k us))) (times o (take k us))) (eq-eqb x.0 o same)
+
+pub recount_itself : (p : List ℕ) → IsRecounted 0 p p
+recount_itself p = record {
+  long = refl;
+  says = λ s e. let z : s.uses ≡ s.uses - 0 = omega arith in e ∙ ap (λ (n : ℕ). done (record s { uses = n })) z;
+}
+
+pub recount_again : (p q : List ℕ) (k m : ℕ) → IsRecounted k p q → 20 ≤ length q → m ≡ u32_in q 12 - 1 → m < 2 ^ 32
+    → IsRecounted (suc k) p (patched 12 (to_le_bytes w32 m) q)
+recount_again p q k m r long is fits =
     let patch : IsPatchOf 12 16 q (patched 12 (to_le_bytes w32 m) q) = part_patches 12 (to_le_bytes w32 m) q (omega (arith, long)) in
     record {
       long = patch.length_same ∙ r.long;
-      says = λ s e. let w = r.says s e in (m, security_counted q (record s { uses = w.0 }) m w.1 fits);
+      says = λ s e.
+          let w = r.says s e in
+          let before : u32_in q 12 ≡ s.uses - k = ap (λ (z : SecurityCell). z.uses) (security_text_is q (record s { uses = s.uses - k }) w).fields in
+          let now : m ≡ s.uses - suc k = omega (arith, is, before) in
+          security_counted q (record s { uses = s.uses - k }) m w fits ∙ ap (λ (n : ℕ). done (record s { uses = n })) now;
     }
 
 -- ---- one cell more is dropped
@@ -105,7 +148,7 @@ module _ (us : List (ℕ × Bool)) (old mid : List Bin) (k : ℕ) (x : ℕ × Bo
   can_free plain = subst IsSome (sym (still plain)) (can.held x.0 (subst (In us) (is_use x false plain) (item_in us k x lt e)))
 
   -- a cell of security is held with another count
-  pub counted_now : x.1 ≡ true → (p : List ℕ) × (q : List ℕ) × (held_at mid x.0 ≡ some q) × IsRecounted p q × (20 ≤ length q)
+  pub counted_now : x.1 ≡ true → (p : List ℕ) × (q : List ℕ) × (held_at mid x.0 ≡ some q) × IsRecounted (times x.0 (take k us)) p q × (20 ≤ length q)
   counted_now secure =
       let there = subst (In us) (is_use x true secure) (item_in us k x lt e) in
       let p = some_and (held_at old x.0) (λ z. 20 ≤ length z) (can.secure x.0 there) in
@@ -121,7 +164,12 @@ module _ (us : List (ℕ × Bool)) (old mid : List Bin) (k : ℕ) (x : ℕ × Bo
       → AreDropped us (take (suc k) us) old new
   one_freed new plain gone others long = record {
     freed = λ o i. freed o i (eqb o x.0) refl;
-    counted = λ o p i h. let q = d.counted o p i h in (q.0, others o (λ same. apart_use us o x.0 can.once i there same) ∙ q.1, q.2);
+    counted = λ o p i h.
+        let q = d.counted o p i h in (
+          q.0,
+          others o (λ same. apart_use us o x.0 can.once i there same) ∙ q.1,
+          subst (λ (n : ℕ). IsRecounted n p q.0) (sym (times_plain us k x o lt e plain)) q.2,
+        );
     waiting = λ o i none.
         others o (λ same. none (subst (In (take (suc k) us)) (is_use x false plain ∙ ap (λ (z : ℕ). use_of z false) (sym same)) (last_in us k x lt e)))
         ∙ d.waiting o i (λ j. none (more_in us k (use_of o false) j));
@@ -163,7 +211,7 @@ module _ (us : List (ℕ × Bool)) (old mid : List Bin) (k : ℕ) (x : ℕ × Bo
       in_whole o i = in_all us k (use_of o false) i
 
       counted : (o : ℕ) (p : List ℕ) → In us (use_of o true) → held_at old o ≡ Some p → (b : Bool) → eqb o x.0 ≡ b
-          → (q : List ℕ) × (held_at new o ≡ Some q) × IsRecounted p q
+          → (q : List ℕ) × (held_at new o ≡ Some q) × IsRecounted (times o (take (suc k) us)) p q
       counted o p i h true same =
           let is = eqb-true o x.0 same in
           let q = d.counted o p i h in
@@ -172,9 +220,15 @@ module _ (us : List (ℕ × Bool)) (old mid : List Bin) (k : ℕ) (x : ℕ × Bo
           let one : now.1 ≡ q.0 = Rattle.hive_edit.proofs.ResultLemmas.some_same now.1 q.0 (sym now.2 ∙ here) in (
             patched 12 (to_le_bytes w32 (recounted false (u32_in q.0 12))) q.0,
             ap (held_at new) is ∙ l.here q.0 here,
-            recount_again p q.0 (recounted false (u32_in q.0 12)) q.2 (subst (λ (z : List ℕ). 20 ≤ length z) one now.4) (l.small q.0 here),
+            subst (λ (n : ℕ). IsRecounted n p (patched 12 (to_le_bytes w32 (recounted false (u32_in q.0 12))) q.0)) (sym (times_one us k x o lt e secure (sym is)))
+                (recount_again p q.0 (times o (take k us)) (recounted false (u32_in q.0 12)) q.2 (subst (λ (z : List ℕ). 20 ≤ length z) one now.4) refl (l.small q.0 here)),
           )
-      counted o p i h false other = let q = d.counted o p i h in (q.0, l.others o (eqb-false o x.0 other) ∙ q.1, q.2)
+      counted o p i h false other =
+          let q = d.counted o p i h in (
+            q.0,
+            l.others o (eqb-false o x.0 other) ∙ q.1,
+            subst (λ (n : ℕ). IsRecounted n p q.0) (sym (times_other us k x o lt e secure (λ same. eqb-false o x.0 other (sym same)))) q.2,
+          )
 
 -- ---- the lists
 

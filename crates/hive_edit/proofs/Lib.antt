@@ -37,3 +37,6 @@ pub mod NewValueLemmas
 pub mod UsesLemmas
 pub mod DroppedLemmas
 pub mod RemovedLemmas
+pub mod PairLemmas
+pub mod DeletingLemmas
+pub mod DeleteLemmas

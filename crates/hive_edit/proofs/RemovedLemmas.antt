@@ -117,7 +117,7 @@ module _ (version : HiveVersion) (old new : List Bin) (root : ℕ) (t : Tree) (p
   children_is : children_at cells_old above.list above.count ≡ child_places cells_old x
   children_is = (λ i. children_at cells_old (says.list i) (says.count i)) ∙ children_are cells_old root t p x k n h
 
-  left_is : left_children version above y old ≡ s.front ++ s.back
+  pub left_is : left_children version above y old ≡ s.front ++ s.back
   left_is = ap (without_child y) children_is ∙ s.others
 
   counted : above.count ≡ suc (length (s.front ++ s.back))
@@ -181,5 +181,5 @@ module _ (version : HiveVersion) (old new : List Bin) (root : ℕ) (t : Tree) (p
           let now = r.dropped.counted o q.0 (used_there o true i) noted in
           let says = now.2.says z.0 q.2 in
           ap (λ (w : Result (List ℕ) HiveKind). w >>= security_at >>= λ c. Ok c.descriptor) (held_payload new o now.0 now.1)
-          ∙ ap (λ (w : Result SecurityCell HiveKind). w >>= λ c. Ok c.descriptor) says.1
+          ∙ ap (λ (w : Result SecurityCell HiveKind). w >>= λ c. Ok c.descriptor) says
           ∙ sym (ap (λ (w : Result SecurityCell HiveKind). w >>= λ c. Ok c.descriptor) z.1)

@@ -1,5 +1,5 @@
 -- What goes out of cells where a key is deleted. (This project's own; the field: regf format 1.3 and 1.5, key security.)
-use Rattle.std.specs.Prelude.{◌≡◌, ◌≤◌, ◌<◌, ◌⊎◌, ◌^◌, ◌-◌, ℕ, Bool, true, false, Contains, List, [], ◌∷◌, ◌++◌, length, find, Option, Some, None, Ok}
+use Rattle.std.specs.Prelude.{◌≡◌, ◌≤◌, ◌<◌, ◌⊎◌, ◌^◌, ◌-◌, ◌==◌, ℕ, suc, Bool, true, false, if◌then◌else◌, Contains, List, [], ◌∷◌, ◌++◌, length, find, Option, Some, None, Ok}
 use Rattle.std.specs.Option.{IsSome, IsSomeAnd}
 use Rattle.std.specs.Int.{w32, to_le_bytes}
 use Rattle.nt_bytes.specs.Fields.{u32_in}
@@ -23,10 +23,19 @@ pub record IsLowered (at : ℕ) (old new : List Bin) : Type 0 where
   pub others : (o : ℕ) → (o ≡ at → ⊥) → held_at new o ≡ held_at old o
   pub long : bins_size new ≡ bins_size old
 
--- a payload is that of a cell of security as it was, but for its count
-pub record IsRecounted (p q : List ℕ) : Type 0 where
+-- it is a use of this cell as security
+abbrev pub is_secured : ℕ → ℕ × Bool → Bool
+is_secured o u = if u.1 then u.0 == o else false
+
+-- how many of these uses are of a cell as security
+abbrev pub times : ℕ → List (ℕ × Bool) → ℕ
+times o [] = 0
+times o (u ∷ us) = if is_secured o u then suc (times o us) else times o us
+
+-- a payload is that of a cell of security as it was, but for its count, which is lower by so many, or 0
+pub record IsRecounted (fewer : ℕ) (p q : List ℕ) : Type 0 where
   pub long : length q ≡ length p
-  pub says : (s : SecurityCell) → security_at p ≡ Ok s → (n : ℕ) × (security_at q ≡ Ok (record s { uses = n }))
+  pub says : (s : SecurityCell) → security_at p ≡ Ok s → security_at q ≡ Ok (record s { uses = s.uses - fewer })
 
 -- cells that can be dropped one by one: each is allocated, and none is used twice but as security
 pub record CanDrop (bins : List Bin) (uses : List (ℕ × Bool)) : Type 0 where
@@ -34,10 +43,10 @@ pub record CanDrop (bins : List Bin) (uses : List (ℕ × Bool)) : Type 0 where
   pub held : (o : ℕ) → In uses (o, false) → IsSome (held_at bins o)
   pub secure : (o : ℕ) → In uses (o, true) → IsSomeAnd (held_at bins o) (λ p. 20 ≤ length p)
 
--- Of these cells the first are dropped: they are gone, or of security and have another count; each other cell is as it was.
+-- Of these cells the first are dropped: they are gone, or of security and count one use less for each; each other cell is as it was.
 pub record AreDropped (uses first : List (ℕ × Bool)) (old new : List Bin) : Type 0 where
   pub freed : (o : ℕ) → In first (o, false) → held_at new o ≡ None
-  pub counted : (o : ℕ) (p : List ℕ) → In uses (o, true) → held_at old o ≡ Some p → (q : List ℕ) × (held_at new o ≡ Some q) × IsRecounted p q
+  pub counted : (o : ℕ) (p : List ℕ) → In uses (o, true) → held_at old o ≡ Some p → (q : List ℕ) × (held_at new o ≡ Some q) × IsRecounted (times o first) p q
   pub waiting : (o : ℕ) → In uses (o, false) → (In first (o, false) → ⊥) → held_at new o ≡ held_at old o
   pub others : (o : ℕ) → ((s : Bool) → In uses (o, s) → ⊥) → held_at new o ≡ held_at old o
   pub long : bins_size new ≡ bins_size old

@@ -11,3 +11,4 @@ pub mod Making
 pub mod NewValue
 pub mod Dropped
 pub mod Stepped
+pub mod Deleting

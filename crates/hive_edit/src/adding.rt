@@ -82,7 +82,7 @@ fn grown_bulk(bulk: u64, count: u32, name: &[u16]) -> u64
 }
 
 /// What the node of a key says of its children, and where its security is.
-fn above_at(cells: &Source, at: u32) -> Above
+pub(crate) fn above_at(cells: &Source, at: u32) -> Above
     requires { IsKeyAt (cells_of cells.now) at }
     ensures { (n : KeyNode) → reading key_node_at (cells_of cells.now) at ≡ Ok n → AboveIs result n }
 {

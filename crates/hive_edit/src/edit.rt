@@ -74,7 +74,7 @@ fn making(alloc: Global, parent: &Names, name: &[u16]) -> Result<Steps, EditStop
 
 impl HiveBytes {
     /// The same hive in memory of its own.
-    fn copy(&self, alloc: Global) -> Result<HiveBytes, AllocError>
+    pub(crate) fn copy(&self, alloc: Global) -> Result<HiveBytes, AllocError>
         ensures { IfOk result (λ h. h ≡ self.now) }
     {
         let cells = self.cells.copy(alloc)?;
@@ -122,7 +122,7 @@ impl HiveBytes {
     }
 
     /// Makes the steps in order, all or none, and packs the tree anew.
-    fn apply_anew(&mut self, alloc: Global, steps: Steps) -> Result<(), EditStop>
+    pub(crate) fn apply_anew(&mut self, alloc: Global, steps: Steps) -> Result<(), EditStop>
         requires fits { All Fits (map step_of steps) }
         ensures made { Makes self.old.tree self.new.tree result (edited self.old.version self.old.tree (map step_of steps)) }
         ensures refused { OnErr result (self.new ≡ self.old) }

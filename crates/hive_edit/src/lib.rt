@@ -10,6 +10,7 @@ mod adding;
 mod cells;
 mod children;
 mod data;
+mod deleting;
 mod dropping;
 mod edit;
 mod give;

@@ -1,0 +1,35 @@
+use Rattle.std.proofs.Common.{◌+◌, sym, ap, ◌∙◌, arith}
+use Rattle.std.specs.Prelude.{slice_range}
+use Rattle.hive_edit.specs.Sources.{cells_of}
+use Rattle.hive_edit.proofs.NodeLemmas.{node_long}
+use Rattle.hive_edit.proofs.PairLemmas.{no_descriptor, descriptor_here}
+use Rattle.hive_edit.proofs.deleting.descriptor_at.Goals as goal
+
+pub u32_at-place-requires : goal.u32_at-place-requires
+u32_at-place-requires c = omega (arith, node_long (cells_of c.args.cells.now) c.args.at c.payload-node.result.now c.requires c.payload-node.ensures)
+
+pub returns-then-place : goal.returns-then-place
+returns-then-place c = λ t well.
+    no_descriptor (cells_of c.args.cells.now) c.args.at c.payload-node.result.now c.u32_at-place.result c.requires c.payload-node.ensures c.u32_at-place.ensures
+    c.if-place.true t well
+
+pub u32_at-requires : goal.u32_at-requires
+u32_at-requires c =
+    let d = descriptor_here (cells_of c.args.cells.now) c.args.at c.payload-node.result.now c.payload-security.result.now c.u32_at-place.result
+    c.requires c.payload-node.ensures c.u32_at-place.ensures c.if-place.false c.payload-security.ensures in
+    omega (arith, d.long)
+
+pub slice_bounds-result-end-2 : goal.slice_bounds-result-end-2
+slice_bounds-result-end-2 c =
+    let d = descriptor_here (cells_of c.args.cells.now) c.args.at c.payload-node.result.now c.payload-security.result.now c.u32_at-place.result
+    c.requires c.payload-node.ensures c.u32_at-place.ensures c.if-place.false c.payload-security.ensures in
+    let whole = d.whole in
+    let size = c.u32_at.ensures in
+    grind (arith, whole, size)
+
+pub returns : goal.returns
+returns c = λ t well.
+    let q = c.payload-security.result.now in
+    let d = descriptor_here (cells_of c.args.cells.now) c.args.at c.payload-node.result.now q c.u32_at-place.result
+    c.requires c.payload-node.ensures c.u32_at-place.ensures c.if-place.false c.payload-security.ensures in
+    ap (λ n. slice_range q 20 (20 + n)) c.u32_at.ensures ∙ d.is t well

@@ -1,0 +1,43 @@
+use Rattle.std.proofs.Common.{◌≡◌, ℕ, Bool, List, sym, subst, ◌∙◌, arith}
+use Rattle.hive_model.specs.Bins.{Bin, look_up}
+use Rattle.hive_model.specs.KeyNode.{KeyNode, key_node_at}
+use Rattle.hive_model.specs.Walk.{reading}
+use Rattle.edit_laws.specs.Uses.{tree_uses}
+use Rattle.hive_edit.specs.Places.{IsKeyAt}
+use Rattle.hive_edit.specs.Dropped.{CanRemove}
+use Rattle.hive_edit.specs.Deleting.{levels_left}
+use Rattle.hive_edit.proofs.ResultLemmas.{done}
+use Rattle.hive_edit.proofs.PairLemmas.{pair_here, above_stands, kid_stands, can_remove}
+use Rattle.hive_edit.proofs.deleting.take_pair.Goals as goal
+
+pub above_at-above-requires : goal.above_at-above-requires
+above_at-above-requires c =
+    let version = c.args.version in
+    let b = look_up version c.args.heap.now in
+    let h = pair_here b c.args.root c.requires.tree c.args.path.now c.args.pair c.requires.well c.requires.place in
+    subst (λ (z : List Bin). IsKeyAt (look_up version z) c.args.pair.above) (sym c.cells.ensures) (above_stands b c.args.root c.requires.tree c.args.path.now c.args.pair h)
+
+pub uses_of-requires-clause-here : goal.uses_of-requires-clause-here
+uses_of-requires-clause-here c =
+    let version = c.args.version in
+    let b = look_up version c.args.heap.now in
+    let h = pair_here b c.args.root c.requires.tree c.args.path.now c.args.pair c.requires.well c.requires.place in
+    subst (λ (z : List Bin). IsKeyAt (look_up version z) c.args.pair.at) (sym c.cells.ensures) (kid_stands b c.args.root c.requires.tree c.args.path.now c.args.pair h)
+
+pub uses_of-requires-clause-shallow : goal.uses_of-requires-clause-shallow
+uses_of-requires-clause-shallow c =
+    let b = look_up c.args.version c.args.heap.now in
+    let short = (pair_here b c.args.root c.requires.tree c.args.path.now c.args.pair c.requires.well c.requires.place).short in
+    omega (arith, short)
+
+pub take_child-requires : goal.take_child-requires
+take_child-requires c =
+    let version = c.args.version in
+    let b = look_up version c.args.heap.now in
+    let path = c.args.path.now in
+    let p = c.args.pair in
+    let h = pair_here b c.args.root c.requires.tree path p c.requires.well c.requires.place in
+    let read = subst (λ (z : List Bin). reading key_node_at (look_up version z) p.above ≡ done h.node) (sym c.cells.ensures) h.parent_is.read in
+    let uses = c.as_slice.ensures.value ∙ c.in_ok-uses.ensures ∙ (λ i. tree_uses (levels_left path) (look_up version (c.cells.ensures i)) p.at) in
+    subst (λ (us : List (ℕ × Bool)). CanRemove version p.above c.above_at-above.result us c.args.heap.now) (sym uses)
+    (can_remove version c.args.heap.now c.args.root c.requires.tree path p c.above_at-above.result h (c.above_at-above.ensures h.node read))

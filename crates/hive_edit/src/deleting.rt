@@ -1,0 +1,466 @@
+//! A key deleted in place, with all below it.
+
+ghost use Rattle.std.specs.Prelude.{◌≡◌, ◌≤◌, ◌<◌, ◌⊎◌, ℕ, [], ◌∷◌, length, map, slice_index, true, false, Some, None, Ok, Err, IfOk, IfErr, OnOk, OnErr, MatchBool, MatchOption, MatchResult};
+ghost use Rattle.std.specs.List.{All};
+ghost use Rattle.std.specs.Option.{IfSome};
+ghost use Rattle.hive_model.specs.Bins.{look_up};
+ghost use Rattle.hive_model.specs.Tree.{Tree, head};
+ghost use Rattle.hive_model.specs.Stands.{IsWellFormed};
+ghost use Rattle.hive_model.specs.Size.{bulk_of, list_size, security_size, size};
+ghost use Rattle.hive_model.specs.Edit.{after_step, delete_key, edited, no_key, without_key};
+ghost use Rattle.edit_laws.specs.Uses.{tree_uses};
+ghost use Rattle.reg_tree.specs.Fitting.{Fits};
+ghost use Rattle.reg_tree.specs.Makes.{IsRefused, Makes, step_of};
+ghost use Rattle.reg_tree.specs.declared.stop.EditStop.TheVariants.{Memory};
+ghost use Rattle.hive_edit.specs.Hive.{cells_in};
+ghost use Rattle.hive_edit.specs.Places.{IsKeyAt};
+ghost use Rattle.hive_edit.specs.Sources.{cells_of};
+ghost use Rattle.hive_edit.specs.Edits.{IsEditedInPlace, IsPackedAnew, IsPackedForRoom};
+ghost use Rattle.hive_edit.specs.Stepped.{IsStepped, LacksStepRoom};
+ghost use Rattle.hive_edit.specs.Deleting.{levels_left, pair_place, DropsUses, IsDeletedInPlace, IsPairKept, IsPairTaken, IsPairThere};
+
+use crate::adding::above_at;
+use crate::dropping::take_child;
+use crate::hive::HiveBytes;
+use crate::making::Above;
+use crate::measure::cell_len;
+use crate::path::child_at;
+use crate::source::{Source, payload};
+use crate::uses::push_key;
+use hive_cells::OpenHeap;
+use hive_read::read_tree;
+use nt_bytes::{HiveVersion, Names, ReadStop, Row, u32_at};
+use reg_tree::{EditStop, Key, Steps, TreeStep};
+use std::alloc::{AllocError, Global};
+
+/// The greatest bulk of an edited tree, in bytes.
+const MOST_BULK: u64 = 16_773_120;
+
+/// More bytes than the cells of a hive have; beyond, no sum of sizes is trusted to be whole.
+const MANY: u64 = 1_099_511_627_776;
+
+/// The offset that names nothing.
+const NOWHERE: u32 = 0xffff_ffff;
+
+/// Where a key is, and the key above it.
+#[derive(Clone, Copy)]
+pub(crate) struct KeyPair {
+    pub(crate) above: u32,
+    pub(crate) at: u32,
+}
+
+/// The key that a path leads to, and the key above it. None where there is none, and for the root.
+fn pair_at(cells: &Source, root: u32, path: &Names) -> Option<KeyPair>
+    requires { IsKeyAt (cells_of cells.now) root }
+    ensures { result ≡ pair_place (cells_of cells.now) path.now root }
+{
+    if path.as_slice().is_empty() {
+        return None;
+    }
+    let mut above = root;
+    let mut at = root;
+    let mut rest = path.as_slice();
+    'path: loop {
+        let [name, more @ ..] = rest else {
+            return Some(KeyPair { above, at });
+        };
+        match child_at(cells, at, name.as_slice()) {
+            None => return None,
+            Some(child) => {
+                above = at;
+                at = child;
+                rest = more;
+            }
+        }
+    }
+}
+
+/// The cells that the key at a path and the keys below it use.
+fn uses_of(
+    alloc: Global,
+    cells: &Source,
+    path: &Names,
+    at: u32,
+) -> Result<Vec<(u32, bool)>, AllocError>
+    requires here { IsKeyAt (cells_of cells.now) at }
+    requires shallow { length path.now ≤ 512 }
+    ensures { IfOk result (λ uses. uses.items ≡ tree_uses (levels_left path.now) (cells_of cells.now) at) }
+{
+    let mut uses = Vec::new(alloc);
+    let left = 512 - path.as_slice().len() as u32;
+    push_key(alloc, cells, left, at, &mut uses)?;
+    Ok(uses)
+}
+
+/// Takes the key that a path leads to out of the key above it, with the cells that it and the keys below it use. `false`
+/// where there is no room for the lists of the key above; the cells are then as they were.
+fn take_pair(
+    alloc: Global,
+    heap: &mut OpenHeap,
+    version: HiveVersion,
+    root: u32,
+    path: &Names,
+    pair: KeyPair,
+) -> Result<bool, AllocError>
+    requires { IsPairThere version root path.now pair heap.old }
+    ensures taken { IfOk result (λ done. MatchBool done (IsPairTaken version path.now pair heap.old heap.new)
+        (IsPairKept version pair heap.old heap.new)) }
+    ensures refused { OnErr result (heap.new ≡ heap.old) }
+{
+    let source = Source {
+        heap: heap.cells(),
+        version,
+    };
+    let above = above_at(&source, pair.above);
+    let uses = uses_of(alloc, &source, path, pair.at)?;
+    take_child(
+        alloc,
+        heap,
+        version,
+        pair.above,
+        above,
+        pair.at,
+        uses.as_slice(),
+    )
+}
+
+// ---- the bulk without a key
+
+/// The lists of so many children.
+fn list_len(n: u32) -> u64
+    ensures exact { result ≡ list_size n }
+    ensures few { result ≤ 100000000000 }
+{
+    let count = u64::from(n);
+    if count == 0 {
+        return 0;
+    }
+    if count < 501 {
+        return cell_len(4 + 8 * count);
+    }
+    let lists = cell_len(4 + 4 * ((count + 499) / 500)) + count / 500 * 4008;
+    let rest = count % 500;
+    if rest == 0 {
+        lists
+    } else {
+        lists + cell_len(4 + 8 * rest)
+    }
+}
+
+/// The cell of a descriptor under a key with another one.
+fn security_len(shared: &[u8], security: &[u8]) -> u64
+    requires { length security.now ≤ 4294967296 }
+    ensures exact { result ≡ security_size shared.now security.now }
+    ensures few { result ≤ 8589934592 }
+{
+    if security.is_empty() {
+        return 0;
+    }
+    if shared == security {
+        return 0;
+    }
+    cell_len(20 + security.len() as u64)
+}
+
+/// The descriptor of the key at an offset, empty where it has none.
+fn descriptor_at<'a>(cells: &Source<'a>, at: u32) -> &'a [u8]
+    requires { IsKeyAt (cells_of cells.now) at }
+    ensures { (t : Tree) → IsWellFormed (cells_of cells.now) at t → result.now ≡ (head t).security }
+{
+    let node = payload(cells, at);
+    let place = u32_at(node, 44);
+    if place == NOWHERE {
+        return &[];
+    }
+    let security = payload(cells, place);
+    let end = 20 + u32_at(security, 16) as usize;
+    &security[20..end]
+}
+
+/// The cells of a key and of all below it, under a key with this descriptor. None where they are more than a hive has.
+fn below_len(key: &Key, shared: &[u8], version: HiveVersion) -> Option<u64>
+    ensures exact { IfSome result (λ n. n ≡ size version shared.now key.now) }
+    ensures few { IfSome result (λ n. n ≤ 2000000000000) }
+{
+    let bulk = key.bulk(version);
+    let security = key.security();
+    if bulk > MANY {
+        return None;
+    }
+    if security.len() > 0xffff_ffff {
+        return None;
+    }
+    let more = security_len(shared, security);
+    let less = 32 + security_len(&[], security);
+    Some(bulk + more - less)
+}
+
+/// The key at an offset, with all below it, in memory of its own.
+fn tree_at(alloc: Global, cells: &Source, at: u32) -> Result<Key, AllocError>
+    requires { IsKeyAt (cells_of cells.now) at }
+    ensures { IfOk result (λ t. IsWellFormed (cells_of cells.now) at t) }
+{
+    match read_tree(alloc, cells.heap, at, cells.version) {
+        Ok(key) => Ok(key),
+        Err(ReadStop::Memory) => Err(AllocError),
+        Err(ReadStop::Fault(_)) => unreachable!(),
+    }
+}
+
+/// The bulk of the tree that stands at a root.
+fn bulk_in(
+    alloc: Global,
+    heap: &OpenHeap,
+    version: HiveVersion,
+    root: u32,
+) -> Result<u64, AllocError>
+    requires { IsKeyAt (look_up version heap.now) root }
+    ensures { IfOk result (λ n. (t : Tree) → IsWellFormed (look_up version heap.now) root t → n ≡ bulk_of version t) }
+{
+    let source = Source {
+        heap: heap.cells(),
+        version,
+    };
+    let tree = tree_at(alloc, &source, root)?;
+    Ok(tree.bulk(version))
+}
+
+/// Each is below 256.
+fn hold_bytes(bytes: &[u8])
+    ensures { (i : ℕ) → slice_index bytes.now i < 256 }
+{
+    let _whole = bytes;
+}
+
+/// The step that deletes a key.
+fn deleting(alloc: Global, path: &Names) -> Result<Steps, EditStop>
+    ensures made { IfOk result (λ steps. map step_of steps ≡ delete_key path.now ∷ []) }
+    ensures fits { IfOk result (λ steps. All Fits (map step_of steps)) }
+    ensures memory { IfErr result (λ stop. stop ≡ Memory) }
+{
+    let mut steps = Row::new(alloc);
+    steps.push(TreeStep::DeleteKey {
+        path: path.copy(alloc)?,
+    })?;
+    Ok(steps)
+}
+
+impl HiveBytes {
+    /// The key that a path leads to, and the key above it.
+    fn key_pair(&self, path: &Names) -> Option<KeyPair>
+        ensures place { result ≡ pair_place (cells_in self.now) path.now self.now.root }
+        ensures step { MatchOption result (after_step (delete_key path.now) self.now.tree ≡ Err no_key)
+            (λ p. after_step (delete_key path.now) self.now.tree ≡ Ok (without_key path.now self.now.tree)) }
+    {
+        let source = Source {
+            heap: self.cells.cells(),
+            version: self.version,
+        };
+        pair_at(&source, self.root, path)
+    }
+
+    /// The bulk without a key. None where that is not told by its own cells and the lists of the key above.
+    fn bulk_without_key(
+        &self,
+        alloc: Global,
+        path: &Names,
+        pair: KeyPair,
+    ) -> Result<Option<u64>, AllocError>
+        requires place { pair_place (cells_in self.now) path.now self.now.root ≡ Some pair }
+        ensures { IfOk result (λ r. IfSome r (λ n. n ≡ bulk_of self.now.version (without_key path.now self.now.tree))) }
+    {
+        let source = Source {
+            heap: self.cells.cells(),
+            version: self.version,
+        };
+        let bulk = self.bulk;
+        if bulk > MANY {
+            return Ok(None);
+        }
+        let count = above_at(&source, pair.above).count;
+        let shared = descriptor_at(&source, pair.above);
+        let key = tree_at(alloc, &source, pair.at)?;
+        match below_len(&key, shared, self.version) {
+            None => Ok(None),
+            Some(below) => {
+                let less = list_len(count) + below;
+                Ok(Some(bulk + list_len(count - 1) - less))
+            }
+        }
+    }
+
+    /// Deletes the key in place, where the bulk without it is known. `false` where there is no room.
+    fn take_at(
+        &mut self,
+        alloc: Global,
+        path: &Names,
+        pair: KeyPair,
+        bulk: u64,
+    ) -> Result<bool, AllocError>
+        requires place { pair_place (cells_in self.old) path.now self.old.root ≡ Some pair }
+        requires bulk { bulk ≡ bulk_of self.old.version (without_key path.now self.old.tree) }
+        ensures made { IfOk result (λ done. MatchBool done (IsStepped self.old (delete_key path.now) self.new) (LacksStepRoom self.old (delete_key path.now))) }
+        ensures drops { result ≡ Ok true → DropsUses self.old path.now self.new }
+        ensures kept { result ≡ Ok false → self.new ≡ self.old }
+        ensures refused { OnErr result (self.new ≡ self.old) }
+    {
+        let version = self.version;
+        let done = take_pair(alloc, &mut self.cells, version, self.root, path, pair)?;
+        if !done {
+            return Ok(false);
+        }
+        hold_bytes(self.cells.bytes());
+        self.bulk = bulk;
+        Ok(true)
+    }
+
+    /// Deletes the key in a copy of the cells, and counts the bulk of what is left by itself.
+    fn take_counted(
+        &mut self,
+        alloc: Global,
+        path: &Names,
+        pair: KeyPair,
+    ) -> Result<bool, AllocError>
+        requires { pair_place (cells_in self.old) path.now self.old.root ≡ Some pair }
+        ensures made { IfOk result (λ done. MatchBool done (IsStepped self.old (delete_key path.now) self.new) (LacksStepRoom self.old (delete_key path.now))) }
+        ensures drops { result ≡ Ok true → DropsUses self.old path.now self.new }
+        ensures kept { result ≡ Ok false → self.new ≡ self.old }
+        ensures refused { OnErr result (self.new ≡ self.old) }
+    {
+        let version = self.version;
+        let mut cells = self.cells.copy(alloc)?;
+        let done = take_pair(alloc, &mut cells, version, self.root, path, pair)?;
+        if !done {
+            return Ok(false);
+        }
+        hold_bytes(cells.bytes());
+        let bulk = bulk_in(alloc, &cells, version, self.root)?;
+        self.cells = cells;
+        self.bulk = bulk;
+        Ok(true)
+    }
+
+    /// Deletes the key that is there.
+    fn take_key(&mut self, alloc: Global, path: &Names, pair: KeyPair) -> Result<bool, AllocError>
+        requires { pair_place (cells_in self.old) path.now self.old.root ≡ Some pair }
+        ensures made { IfOk result (λ done. MatchBool done (IsStepped self.old (delete_key path.now) self.new) (LacksStepRoom self.old (delete_key path.now))) }
+        ensures drops { result ≡ Ok true → DropsUses self.old path.now self.new }
+        ensures kept { result ≡ Ok false → self.new ≡ self.old }
+        ensures refused { OnErr result (self.new ≡ self.old) }
+    {
+        match self.bulk_without_key(alloc, path, pair)? {
+            None => self.take_counted(alloc, path, pair),
+            Some(bulk) => self.take_at(alloc, path, pair, bulk),
+        }
+    }
+
+    /// Deletes the key that a path leads to, with all below it, whatever the bulk. `false` where there is no room for the
+    /// lists of the key above without it; the hive is as before then, and after an `Err`.
+    pub(crate) fn delete_key_step(&mut self, alloc: Global, path: &Names) -> Result<bool, EditStop>
+        ensures made { MatchResult result (λ done. MatchBool done (IsStepped self.old (delete_key path.now) self.new) (LacksStepRoom self.old (delete_key path.now)))
+            (IsRefused (after_step (delete_key path.now) self.old.tree)) }
+        ensures drops { result ≡ Ok true → DropsUses self.old path.now self.new }
+        ensures kept { result ≡ Ok false → self.new ≡ self.old }
+        ensures refused { OnErr result (self.new ≡ self.old) }
+    {
+        match self.key_pair(path) {
+            None => Err(EditStop::NoKey),
+            Some(pair) => match self.take_key(alloc, path, pair) {
+                Ok(done) => Ok(done),
+                Err(_) => Err(EditStop::Memory),
+            },
+        }
+    }
+
+    /// Deletes a key, and packs the tree anew.
+    fn delete_anew(&mut self, alloc: Global, path: &Names) -> Result<(), EditStop>
+        ensures made { Makes self.old.tree self.new.tree result (edited self.old.version self.old.tree (delete_key path.now ∷ [])) }
+        ensures refused { OnErr result (self.new ≡ self.old) }
+        ensures version { self.new.version ≡ self.old.version }
+        ensures anew { OnOk result (IsPackedAnew self.new) }
+    {
+        let steps = deleting(alloc, path)?;
+        self.apply_anew(alloc, steps)
+    }
+
+    /// Deletes a key in a copy of the cells, so that a refusal leaves nothing behind. `false` where there is no room.
+    fn delete_drafted(&mut self, alloc: Global, path: &Names) -> Result<bool, EditStop>
+        ensures made { MatchResult result
+            (λ done. MatchBool done (IsDeletedInPlace self.old path.now self.new) (LacksStepRoom self.old (delete_key path.now)))
+            (IsRefused (edited self.old.version self.old.tree (delete_key path.now ∷ []))) }
+        ensures kept { result ≡ Ok false → self.new ≡ self.old }
+        ensures refused { OnErr result (self.new ≡ self.old) }
+    {
+        let mut draft = self.copy(alloc)?;
+        match draft.delete_key_step(alloc, path) {
+            Err(stop) => Err(stop),
+            Ok(false) => Ok(false),
+            Ok(true) => {
+                if draft.bulk() > MOST_BULK {
+                    return Err(EditStop::Full);
+                }
+                *self = draft;
+                Ok(true)
+            }
+        }
+    }
+
+    /// Deletes a key where the bulk without it is known. `false` where there is no room.
+    fn delete_judged(
+        &mut self,
+        alloc: Global,
+        path: &Names,
+        pair: KeyPair,
+        bulk: u64,
+    ) -> Result<bool, EditStop>
+        requires place { pair_place (cells_in self.old) path.now self.old.root ≡ Some pair }
+        requires step { after_step (delete_key path.now) self.old.tree ≡ Ok (without_key path.now self.old.tree) }
+        requires bulk { bulk ≡ bulk_of self.old.version (without_key path.now self.old.tree) }
+        ensures made { MatchResult result
+            (λ done. MatchBool done (IsDeletedInPlace self.old path.now self.new) (LacksStepRoom self.old (delete_key path.now)))
+            (IsRefused (edited self.old.version self.old.tree (delete_key path.now ∷ []))) }
+        ensures kept { result ≡ Ok false → self.new ≡ self.old }
+        ensures refused { OnErr result (self.new ≡ self.old) }
+    {
+        if bulk > MOST_BULK {
+            return Err(EditStop::Full);
+        }
+        match self.take_at(alloc, path, pair, bulk) {
+            Ok(done) => Ok(done),
+            Err(_) => Err(EditStop::Memory),
+        }
+    }
+
+    /// Deletes a key in place. `false` where there is no room.
+    fn delete_in_place(&mut self, alloc: Global, path: &Names) -> Result<bool, EditStop>
+        ensures made { MatchResult result
+            (λ done. MatchBool done (IsDeletedInPlace self.old path.now self.new) (LacksStepRoom self.old (delete_key path.now)))
+            (IsRefused (edited self.old.version self.old.tree (delete_key path.now ∷ []))) }
+        ensures kept { result ≡ Ok false → self.new ≡ self.old }
+        ensures refused { OnErr result (self.new ≡ self.old) }
+    {
+        match self.key_pair(path) {
+            None => Err(EditStop::NoKey),
+            Some(pair) => match self.bulk_without_key(alloc, path, pair)? {
+                None => self.delete_drafted(alloc, path),
+                Some(bulk) => self.delete_judged(alloc, path, pair, bulk),
+            },
+        }
+    }
+
+    /// Deletes the key that a path leads to, with all below it, but never the root. The lists of the key above are
+    /// written anew without it, and the cells that it and the keys below it used are freed, but those of security, which
+    /// count these keys no more. What there is no room for packs the tree anew. After an `Err` the hive is as before.
+    pub fn delete_key(&mut self, alloc: Global, path: &Names) -> Result<(), EditStop>
+        ensures made { Makes self.old.tree self.new.tree result (edited self.old.version self.old.tree (delete_key path.now ∷ [])) }
+        ensures refused { OnErr result (self.new ≡ self.old) }
+        ensures version { self.new.version ≡ self.old.version }
+        ensures cells { OnOk result (IsEditedInPlace self.old (delete_key path.now ∷ []) self.new ⊎ IsPackedForRoom self.old (delete_key path.now ∷ []) self.new) }
+        ensures drops { OnOk result (DropsUses self.old path.now self.new ⊎ IsPackedForRoom self.old (delete_key path.now ∷ []) self.new) }
+    {
+        if self.delete_in_place(alloc, path)? {
+            return Ok(());
+        }
+        self.delete_anew(alloc, path)
+    }
+}
