@@ -7,12 +7,12 @@ use Rattle.nt_bytes.specs.declared.version.HiveVersion.{HiveVersion}
 use Rattle.hive_model.specs.Bins.{bins_size}
 use Rattle.hive_model.specs.Tree.{Tree, find_key}
 use Rattle.hive_model.specs.Size.{bulk_of}
-use Rattle.hive_model.specs.Edit.{Step, Refusal, no_key, full, delete_key, without_key, unless, then_edit, after_step, after_steps, most_bulk, edited}
+use Rattle.hive_model.specs.Edit.{Step, Refusal, no_key, full, delete_key, without_key, unless, then_edit, after_step, most_bulk, edited}
 use Rattle.hive_model.specs.Footprint.{needed_sizes, room_of, strain_of, unless_refused}
 use Rattle.reg_tree.specs.declared.stop.EditStop.{EditStop}
 use Rattle.reg_tree.specs.Makes.{refusal_of, IsRefused, Makes}
 use Rattle.hive_edit.specs.Hive.{HiveCells}
-use Rattle.hive_edit.specs.Edits.{IsEditedInPlace, IsPackedAnew, IsPackedForRoom}
+use Rattle.hive_edit.specs.Edits.{IsPackedAnew, IsPackedForRoom}
 use Rattle.hive_edit.specs.Stepped.{IsStepped, LacksStepRoom}
 use Rattle.hive_edit.specs.Deleting.{DropsUses, IsDeletedInPlace}
 use Rattle.hive_edit.proofs.EditLemmas.{the_tree}

@@ -1,6 +1,6 @@
 -- A key that was taken out of the cells of a hive: the hive is that of the tree without it.
-use Rattle.std.proofs.Common.{◌≡◌, ◌≤◌, ◌<◌, ℕ, suc, ◌+◌, ◌-◌, ◌||◌, Bool, true, false, cond, List, [], ◌∷◌, ◌++◌, length, Option, Some, None, Result, Ok, Err, ◌⊎◌, inl, inr, ⊎_elim, refl, sym, ap, subst, ◌∙◌, arith}
-use Rattle.std.specs.Prelude.{min, find, nat_lt, ◌==◌}
+use Rattle.std.proofs.Common.{◌≡◌, ◌≤◌, ◌<◌, ℕ, suc, ◌+◌, ◌-◌, ◌||◌, Bool, true, false, List, [], ◌∷◌, ◌++◌, length, Option, Some, None, Result, Ok, Err, ◌⊎◌, inl, inr, ⊎_elim, refl, sym, ap, subst, ◌∙◌, arith}
+use Rattle.std.specs.Prelude.{min, find, ◌==◌}
 use Rattle.std.specs.Option.{is_none, MatchOption}
 use Rattle.std.proofs.lemmas.List.Elements.{Contains-append_left}
 use Rattle.nt_bytes.specs.declared.version.HiveVersion.{HiveVersion}
@@ -8,11 +8,10 @@ use Rattle.hive_model.specs.Bins.{Bin, Cells, bins_size, look_up, spelled}
 use Rattle.hive_model.specs.KeyNode.{KeyNode, key_node_at}
 use Rattle.hive_model.specs.Tree.{Tree, key, head, children, is_named, find_key}
 use Rattle.hive_model.specs.Size.{node_size, class_size, security_size, items_size, list_size, count, size, size_of_all, bulk_of}
-use Rattle.hive_model.specs.Edit.{Step, Refusal, no_key, full, delete_key, without_key, unless, key_deleted, after_step, most_bulk, edited}
+use Rattle.hive_model.specs.Edit.{Step, Refusal, no_key, delete_key, without_key, unless, key_deleted, after_step, edited}
 use Rattle.hive_model.specs.Walk.{reading}
-use Rattle.hive_model.specs.Footprint.{child_places, key_place, step_cells, needed_sizes, room_of, list_strain_of, strain_of, unless_refused}
+use Rattle.hive_model.specs.Footprint.{child_places, step_cells, needed_sizes, room_of, list_strain_of, unless_refused}
 use Rattle.hive_model.specs.Stands.{IsWellFormed}
-use Rattle.hive_model.specs.Valid.{IsValid}
 use Rattle.hive_cells.specs.Held.{held_at}
 use Rattle.hive_cells.proofs.HeldLemmas.{payload_held, held_payload}
 use Rattle.hive_read.proofs.ValidTrees.{AreBytes, well-formed-valid, cells-bytes}
@@ -31,13 +30,13 @@ use Rattle.hive_edit.specs.Standing.{tree_of}
 use Rattle.hive_edit.specs.Edits.{IsEditedInPlace}
 use Rattle.hive_edit.specs.Stepped.{IsStepped, LacksStepRoom}
 use Rattle.hive_edit.specs.Making.{AboveIs}
-use Rattle.hive_edit.specs.Dropped.{AreShortened, IsRemoved, left_children}
+use Rattle.hive_edit.specs.Dropped.{AreShortened, left_children}
 use Rattle.hive_edit.specs.Deleting.{pair_place, levels_left, DropsUses, IsPairThere, IsPairTaken, IsPairKept}
-use Rattle.hive_edit.proofs.ResultLemmas.{done, some, ok_same}
+use Rattle.hive_edit.proofs.ResultLemmas.{done}
 use Rattle.hive_edit.proofs.StandingLemmas.{tree_is}
 use Rattle.hive_edit.proofs.HiveLemmas.{hive_opened}
 use Rattle.hive_edit.proofs.EditLemmas.{the_tree}
-use Rattle.hive_edit.proofs.ParentLemmas.{IsParent, children_are}
+use Rattle.hive_edit.proofs.ParentLemmas.{children_are}
 use Rattle.hive_edit.proofs.JudgeLemmas.{counted_children}
 use Rattle.edit_laws.specs.Owned.{In}
 use Rattle.hive_edit.proofs.DroppedLemmas.{shortened_keeps}

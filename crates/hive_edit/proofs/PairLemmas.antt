@@ -1,8 +1,7 @@
 -- A key below another one: where a path leads, and which cells the two use.
-use Rattle.std.proofs.Common.{◌≡◌, ◌≤◌, ◌<◌, ℕ, zero, suc, ◌+◌, ◌-◌, Bool, true, false, cond, List, [], ◌∷◌, ◌++◌, length, Option, Some, None, Result, Ok, ◌⊎◌, inl, inr, ⊎_elim, refl, sym, ap, subst, ◌∙◌, arith}
+use Rattle.std.proofs.Common.{◌≡◌, ◌≤◌, ◌<◌, ℕ, suc, ◌+◌, ◌-◌, Bool, true, false, cond, List, [], ◌∷◌, ◌++◌, length, Option, Some, None, Result, Ok, ◌⊎◌, inl, inr, refl, sym, ap, subst, ◌∙◌, arith}
 use Rattle.std.proofs.lemmas.Bool.{ltb-false, ne_eqb, eq-eqb}
 use Rattle.std.specs.Prelude.{slice_range, ◌==◌, find, flat_map, option_and_then, Contains}
-use Rattle.std.specs.Option.{IsSome, IsSomeAnd}
 use Rattle.nt_bytes.specs.Folding.{folds_same}
 use Rattle.nt_bytes.specs.declared.version.HiveVersion.{HiveVersion}
 use Rattle.hive_model.specs.Bins.{Bin, Cells, look_up}
@@ -14,7 +13,7 @@ use Rattle.hive_model.specs.Security.{SecurityCell, security_at}
 use Rattle.hive_model.specs.Tree.{Tree, key, head, children, is_named, find_key}
 use Rattle.hive_model.specs.Walk.{reading, nowhere}
 use Rattle.hive_model.specs.Footprint.{child_places, is_node_named, key_place, list_cells_at, security_cell_at}
-use Rattle.hive_model.specs.Stands.{Stands, security_of, IsWellFormed}
+use Rattle.hive_model.specs.Stands.{security_of, IsWellFormed}
 use Rattle.hive_cells.specs.Held.{held_at}
 use Rattle.hive_cells.proofs.HeldLemmas.{payload_held}
 use Rattle.edit_laws.specs.Owned.{Role, node, class, security, value_list, value, lists, In, node_name, class_cell_at, HasRole, Reaches, Folds, IsSecurity}
@@ -38,12 +37,12 @@ use Rattle.hive_edit.specs.declared.deleting.KeyPair.{KeyPair}
 use Rattle.hive_edit.specs.declared.making.Above.{Above}
 use Rattle.hive_edit.specs.Places.{IsKeyAt}
 use Rattle.hive_edit.specs.Making.{AboveIs}
-use Rattle.hive_edit.specs.Dropped.{CanDrop, CanRemove}
+use Rattle.hive_edit.specs.Dropped.{CanRemove}
 use Rattle.hive_edit.specs.Deleting.{pair, pair_from, pair_place, levels_left}
 use Rattle.hive_edit.proofs.ResultLemmas.{done, some, some_same, ok_same, then_so}
 use Rattle.hive_edit.proofs.GoneLemmas.{is_held, and_some}
 use Rattle.hive_edit.proofs.NodeMade.{security_text_is}
-use Rattle.hive_edit.proofs.PlaceLemmas.{IsPlaceOf, child_place, key_there, no_place}
+use Rattle.hive_edit.proofs.PlaceLemmas.{IsPlaceOf, child_place, key_there}
 use Rattle.hive_edit.proofs.KeyLemmas.{node_read}
 use Rattle.hive_edit.proofs.NodeLemmas.{node_here}
 use Rattle.hive_edit.proofs.ParentLemmas.{IsParent, node_stands, security_read, parent_held, lists_are, children_are, siblings_are, lists_apart, list_no_node}

@@ -1,5 +1,5 @@
 -- Where is a key that is deleted in place, and what is it taken out of? (This project's own.)
-use Rattle.std.specs.Prelude.{◌≡◌, ◌<◌, ◌≤◌, ◌-◌, ℕ, true, false, List, [], ◌∷◌, length, find, Option, Some, None, Ok}
+use Rattle.std.specs.Prelude.{◌≡◌, ◌<◌, ◌-◌, ℕ, true, false, List, [], ◌∷◌, length, find, Option, Some, None, Ok}
 use Rattle.std.specs.Option.{option_and_then}
 use Rattle.nt_bytes.specs.declared.version.HiveVersion.{HiveVersion}
 use Rattle.hive_model.specs.Bins.{Bin, Cells, look_up}

@@ -1,6 +1,6 @@
 //! A key deleted in place, with all below it.
 
-ghost use Rattle.std.specs.Prelude.{◌≡◌, ◌≤◌, ◌<◌, ◌⊎◌, ℕ, [], ◌∷◌, length, map, slice_index, true, false, Some, None, Ok, Err, IfOk, IfErr, OnOk, OnErr, MatchBool, MatchOption, MatchResult};
+ghost use Rattle.std.specs.Prelude.{◌≡◌, ◌≤◌, ◌<◌, ◌⊎◌, ℕ, [], ◌∷◌, length, map, slice_index, true, false, Some, Ok, Err, IfOk, IfErr, OnOk, OnErr, MatchBool, MatchOption, MatchResult};
 ghost use Rattle.std.specs.List.{All};
 ghost use Rattle.std.specs.Option.{IfSome};
 ghost use Rattle.hive_model.specs.Bins.{look_up};
@@ -22,7 +22,6 @@ ghost use Rattle.hive_edit.specs.Deleting.{levels_left, pair_place, DropsUses, I
 use crate::adding::above_at;
 use crate::dropping::take_child;
 use crate::hive::HiveBytes;
-use crate::making::Above;
 use crate::measure::cell_len;
 use crate::path::child_at;
 use crate::source::{Source, payload};
@@ -36,7 +35,7 @@ use std::alloc::{AllocError, Global};
 /// The greatest bulk of an edited tree, in bytes.
 const MOST_BULK: u64 = 16_773_120;
 
-/// More bytes than the cells of a hive have; beyond, no sum of sizes is trusted to be whole.
+/// Beyond so many bytes a bulk is counted anew, as the sum of its parts may not be whole.
 const MANY: u64 = 1_099_511_627_776;
 
 /// The offset that names nothing.
@@ -177,7 +176,7 @@ fn descriptor_at<'a>(cells: &Source<'a>, at: u32) -> &'a [u8]
     &security[20..end]
 }
 
-/// The cells of a key and of all below it, under a key with this descriptor. None where they are more than a hive has.
+/// The cells of a key and of all below it, under a key with this descriptor. None where they are too many to be summed.
 fn below_len(key: &Key, shared: &[u8], version: HiveVersion) -> Option<u64>
     ensures exact { IfSome result (λ n. n ≡ size version shared.now key.now) }
     ensures few { IfSome result (λ n. n ≤ 2000000000000) }

@@ -1,4 +1,4 @@
-use Rattle.std.proofs.Common.{List, sym, ap, subst, ◌∙◌}
+use Rattle.std.proofs.Common.{List, ap, subst, ◌∙◌}
 use Rattle.hive_model.specs.Bins.{Bin, look_up}
 use Rattle.hive_model.specs.Size.{bulk_of}
 use Rattle.hive_model.specs.Stands.{IsWellFormed}

@@ -1,6 +1,6 @@
 use Rattle.std.proofs.Common.{◌≡◌, ℕ, Bool, List, sym, subst, ◌∙◌, arith}
 use Rattle.hive_model.specs.Bins.{Bin, look_up}
-use Rattle.hive_model.specs.KeyNode.{KeyNode, key_node_at}
+use Rattle.hive_model.specs.KeyNode.{key_node_at}
 use Rattle.hive_model.specs.Walk.{reading}
 use Rattle.edit_laws.specs.Uses.{tree_uses}
 use Rattle.hive_edit.specs.Places.{IsKeyAt}

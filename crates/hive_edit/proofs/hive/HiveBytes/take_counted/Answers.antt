@@ -1,7 +1,6 @@
-use Rattle.std.proofs.Common.{◌≡◌, subst}
+use Rattle.std.proofs.Common.{subst}
 use Rattle.hive_model.specs.Edit.{without_key}
 use Rattle.hive_model.specs.Bins.{look_up}
-use Rattle.hive_model.specs.Size.{bulk_of}
 use Rattle.hive_read.proofs.FormFacts.{IsBytes}
 use Rattle.hive_edit.specs.Standing.{tree_of}
 use Rattle.hive_edit.proofs.KeyLemmas.{if_done, if_undone}
