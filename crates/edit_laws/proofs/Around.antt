@@ -50,8 +50,10 @@ pub swapped_in : (us vs xs ys old new : List (ℕ × Bool)) → IsSwapped us vs 
 swapped_in us vs xs ys old new s t = record {
   before = s.before ++ t.before;
   behind = t.behind ++ s.behind;
-  was = s.was ∙ ap (λ (l : List (ℕ × Bool)). s.before ++ (l ++ s.behind)) t.was ∙ regroup [] s.before t.before old t.behind s.behind;
-  is = s.is ∙ ap (λ (l : List (ℕ × Bool)). s.before ++ (l ++ s.behind)) t.is ∙ regroup [] s.before t.before new t.behind s.behind;
+  was = s.was ∙ ap (λ (l : List (ℕ × Bool)). s.before ++ (l ++ s.behind)) t.was
+      ∙ regroup [] s.before t.before old t.behind s.behind;
+  is = s.is ∙ ap (λ (l : List (ℕ × Bool)). s.before ++ (l ++ s.behind)) t.is
+      ∙ regroup [] s.before t.before new t.behind s.behind;
 }
 
 -- ---- along a path
@@ -84,7 +86,8 @@ not_both name a b apart e f = let g = both_fold name a b e f in cc
 pub around : (b c : Cells) (path p : List (List ℕ)) (left at x : ℕ) (t : Tree) → Stands b at t → HasApartNames t
     → Folds path p → Reaches b at p x
     → ((q : List (List ℕ)) (z : ℕ) → Reaches b at q z → (Extends path q → ⊥) → IsSameKey b c z)
-    → IsSwapped (tree_uses (above p left) b at) (tree_uses (above p left) c at) (tree_uses left b x) (tree_uses left c x)
+    → IsSwapped (tree_uses (above p left) b at) (tree_uses (above p left) c at) (tree_uses left b x)
+    (tree_uses left c x)
 around b c [] [] left at x t s n f r each = record {
   before = [];
   behind = [];
@@ -95,7 +98,8 @@ around b c [] (m ∷ p) left at x t s n f r each = absurd f
 around b c (name ∷ path) [] left at x t s n f r each = absurd f
 around b c (name ∷ path) (m ∷ p) left at x (key h ts) s n f r each =
     let child = tree_of b s.0 ts r.0 s.2 n.3 (subst (λ (l : List ℕ). In l r.0) places r.1) in
-    go (around b c path p left r.0 x child.tree child.stands child.names f.1 r.3 (λ q z w out. each (node_name b r.0 ∷ q) z (r.0, r.1, refl, w) (λ e. out e.1)))
+    go (around b c path p left r.0 x child.tree child.stands child.names f.1 r.3
+    (λ q z w out. each (node_name b r.0 ∷ q) z (r.0, r.1, refl, w) (λ e. out e.1)))
   where
     places : child_places b at ≡ s.0
     places = places_are b at h s.0 s.1
@@ -117,12 +121,14 @@ around b c (name ∷ path) (m ∷ p) left at x (key h ts) s n f r each =
     in_before : (z : ℕ) → In a.before z → tree_uses (above p left) c z ≡ tree_uses (above p left) b z
     in_before z i =
         sibling z (subst (λ (l : List ℕ). In l z) (sym a.whole) (in_left a.before (r.0 ∷ a.behind) z i))
-        (not_both name (node_name b r.0) (node_name b z) (apart_before (node_name b) a.before a.behind r.0 z distinct i) named)
+        (not_both name (node_name b r.0) (node_name b z) (apart_before (node_name b) a.before a.behind r.0 z distinct i)
+        named)
 
     in_behind : (z : ℕ) → In a.behind z → tree_uses (above p left) c z ≡ tree_uses (above p left) b z
     in_behind z i =
         sibling z (subst (λ (l : List ℕ). In l z) (sym a.whole) (in_right a.before (r.0 ∷ a.behind) z (inr i)))
-        (λ e. not_both name (node_name b z) (node_name b r.0) (apart_behind (node_name b) a.before a.behind r.0 z distinct i) e named)
+        (λ e. not_both name (node_name b z) (node_name b r.0)
+        (apart_behind (node_name b) a.before a.behind r.0 z distinct i) e named)
 
     same : IsSameKey b c at
     same = each [] at refl (λ e. e)
@@ -132,23 +138,33 @@ around b c (name ∷ path) (m ∷ p) left at x (key h ts) s n f r each =
         → flat_map f (child_places b at) ≡ flat_map f a.before ++ (f r.0 ++ flat_map f a.behind)
     split f = ap (flat_map f) a.whole ∙ flat_append f a.before (r.0 ∷ a.behind)
 
-    go : IsSwapped (tree_uses (above p left) b r.0) (tree_uses (above p left) c r.0) (tree_uses left b x) (tree_uses left c x)
-        → IsSwapped (tree_uses (above (m ∷ p) left) b at) (tree_uses (above (m ∷ p) left) c at) (tree_uses left b x) (tree_uses left c x)
+    go : IsSwapped (tree_uses (above p left) b r.0) (tree_uses (above p left) c r.0) (tree_uses left b x)
+        (tree_uses left c x)
+        → IsSwapped (tree_uses (above (m ∷ p) left) b at) (tree_uses (above (m ∷ p) left) c at) (tree_uses left b x)
+        (tree_uses left c x)
     go d = record {
       before = own_uses b at ++ (flat_map (tree_uses (above p left) b) a.before ++ d.before);
       behind = d.behind ++ flat_map (tree_uses (above p left) b) a.behind;
       was =
           ap (λ (l : List (ℕ × Bool)). own_uses b at ++ l) (split (tree_uses (above p left) b)
-          ∙ ap (λ (l : List (ℕ × Bool)). flat_map (tree_uses (above p left) b) a.before ++ (l ++ flat_map (tree_uses (above p left) b) a.behind)) d.was)
-          ∙ regroup (own_uses b at) (flat_map (tree_uses (above p left) b) a.before) d.before (tree_uses left b x) d.behind (flat_map (tree_uses (above p left) b) a.behind);
+          ∙ ap (λ (l : List (ℕ × Bool)). flat_map (tree_uses (above p left) b) a.before
+          ++ (l ++ flat_map (tree_uses (above p left) b) a.behind)) d.was)
+          ∙ regroup (own_uses b at) (flat_map (tree_uses (above p left) b) a.before) d.before (tree_uses left b x)
+          d.behind (flat_map (tree_uses (above p left) b) a.behind);
       is =
-          ap (λ (l : List (ℕ × Bool)). l ++ flat_map (tree_uses (above p left) c) (child_places c at)) (own_same b c at same.same)
+          ap (λ (l : List (ℕ × Bool)). l ++ flat_map (tree_uses (above p left) c) (child_places c at))
+          (own_same b c at same.same)
           ∙ ap (λ (l : List ℕ). own_uses b at ++ flat_map (tree_uses (above p left) c) l) (places_kept b c at same.same)
           ∙ ap (λ (l : List (ℕ × Bool)). own_uses b at ++ l) (split (tree_uses (above p left) c)
-          ∙ ap (λ (l : List (ℕ × Bool)). l ++ (tree_uses (above p left) c r.0 ++ flat_map (tree_uses (above p left) c) a.behind)) (uses_over (above p left) b c a.before in_before)
-          ∙ ap (λ (l : List (ℕ × Bool)). flat_map (tree_uses (above p left) b) a.before ++ (tree_uses (above p left) c r.0 ++ l)) (uses_over (above p left) b c a.behind in_behind)
-          ∙ ap (λ (l : List (ℕ × Bool)). flat_map (tree_uses (above p left) b) a.before ++ (l ++ flat_map (tree_uses (above p left) b) a.behind)) d.is)
-          ∙ regroup (own_uses b at) (flat_map (tree_uses (above p left) b) a.before) d.before (tree_uses left c x) d.behind (flat_map (tree_uses (above p left) b) a.behind);
+          ∙ ap (λ (l : List (ℕ × Bool)). l
+          ++ (tree_uses (above p left) c r.0 ++ flat_map (tree_uses (above p left) c) a.behind))
+          (uses_over (above p left) b c a.before in_before)
+          ∙ ap (λ (l : List (ℕ × Bool)). flat_map (tree_uses (above p left) b) a.before
+          ++ (tree_uses (above p left) c r.0 ++ l)) (uses_over (above p left) b c a.behind in_behind)
+          ∙ ap (λ (l : List (ℕ × Bool)). flat_map (tree_uses (above p left) b) a.before
+          ++ (l ++ flat_map (tree_uses (above p left) b) a.behind)) d.is)
+          ∙ regroup (own_uses b at) (flat_map (tree_uses (above p left) b) a.before) d.before (tree_uses left c x)
+          d.behind (flat_map (tree_uses (above p left) b) a.behind);
     }
 
 -- ---- used once
@@ -177,8 +193,10 @@ swap : (before old new behind : List (ℕ × Bool)) → Once (before ++ (old ++ 
 swap before old new behind once once_new may =
     pairwise_join Agree before (new ++ behind) (record {
       left = p.left;
-      right = pairwise_join Agree new behind (record { left = once_new; right = q.right; across = λ u v i j. with_behind u v (may u i) j });
-      across = λ v u i j. ⊎_elim (λ k. agree_back u v (with_before u v (may u k) i)) (λ k. p.across v u i (in_right old behind u k)) (in_cases new behind u j);
+      right = pairwise_join Agree new behind
+          (record { left = once_new; right = q.right; across = λ u v i j. with_behind u v (may u i) j });
+      across = λ v u i j. ⊎_elim (λ k. agree_back u v (with_before u v (may u k) i))
+          (λ k. p.across v u i (in_right old behind u k)) (in_cases new behind u j);
     })
   where
     p : InParts Agree before (old ++ behind)
@@ -190,7 +208,8 @@ swap before old new behind once once_new may =
     both : (u v : ℕ × Bool) → u.1 ≡ true → In (before ++ (old ++ behind)) u → In (before ++ (old ++ behind)) v
         → Agree u v
     both u v way i j e =
-        ⊎_elim (λ (s : u ≡ v). (way, sym (ap (λ (z : ℕ × Bool). z.1) s) ∙ way)) (λ (s : (u.1 ≡ true) × (v.1 ≡ true)). s) (once_two (before ++ (old ++ behind)) u v once i j e)
+        ⊎_elim (λ (s : u ≡ v). (way, sym (ap (λ (z : ℕ × Bool). z.1) s) ∙ way)) (λ (s : (u.1 ≡ true) × (v.1 ≡ true)). s)
+        (once_two (before ++ (old ++ behind)) u v once i j e)
 
     with_behind : (u v : ℕ × Bool) → MayCome old (before ++ (old ++ behind)) u → In behind v → Agree u v
     with_behind u v (inl i) j = q.across u v i j
@@ -207,7 +226,8 @@ pub swap_once : (us vs old new : List (ℕ × Bool)) → IsSwapped us vs old new
     → ((u : ℕ × Bool) → In new u → MayCome old us u) → Once vs
 swap_once us vs old new s once once_new may =
     subst Once (sym s.is)
-    (swap s.before old new s.behind (subst Once s.was once) once_new (λ u i. subst (λ (l : List (ℕ × Bool)). MayCome old l u) s.was (may u i)))
+    (swap s.before old new s.behind (subst Once s.was once) once_new
+    (λ u i. subst (λ (l : List (ℕ × Bool)). MayCome old l u) s.was (may u i)))
 
 -- ---- the whole walk
 
@@ -220,14 +240,16 @@ pub hive_once : (cells : Cells) (root : ℕ) (t : Tree) → Stands cells root t 
 unfolding all_checks
 hive_once cells root t s n once =
     let r = root_node cells root t s in
-    subst Once (walk_uses 512 cells true [] root r.0 (sound_tree cells root t s n) r.1) (once_from (key_checks 512 cells true [] root) once)
+    subst Once (walk_uses 512 cells true [] root r.0 (sound_tree cells root t s n) r.1)
+    (once_from (key_checks 512 cells true [] root) once)
 
 pub once_hive : (cells : Cells) (root : ℕ) (t : Tree) → Stands cells root t → HasApartNames t
     → Once (hive_uses cells root) → AreUsedOnce (all_checks cells root)
 unfolding all_checks
 once_hive cells root t s n once =
     let r = root_node cells root t s in
-    once_to (key_checks 512 cells true [] root) (subst Once (sym (walk_uses 512 cells true [] root r.0 (sound_tree cells root t s n) r.1)) once)
+    once_to (key_checks 512 cells true [] root)
+    (subst Once (sym (walk_uses 512 cells true [] root r.0 (sound_tree cells root t s n) r.1)) once)
 
 -- what is used is held
 pub used_held : (cells : Cells) (root : ℕ) (t : Tree) → IsWellFormed cells root t → (v : ℕ × Bool)
@@ -235,7 +257,8 @@ pub used_held : (cells : Cells) (root : ℕ) (t : Tree) → IsWellFormed cells r
 used_held cells root t w v i =
     let r = root_node cells root t w.stands in
     let e = walk_uses 512 cells true [] root r.0 (sound_tree cells root t w.stands w.names) r.1 in
-    let own = walk_below 512 cells true [] root v.0 v.1 (mark_to (key_checks 512 cells true [] root) v (subst (λ (l : List (ℕ × Bool)). In l v) (sym e) i)) in
+    let own = walk_below 512 cells true [] root v.0 v.1
+    (mark_to (key_checks 512 cells true [] root) v (subst (λ (l : List (ℕ × Bool)). In l v) (sym e) i)) in
     (are_held cells root t w).held own.path own.role v.0 own.owns
 
 -- A use may come in: its cell was none, or was in the part, or is of security and was used so.
@@ -247,10 +270,12 @@ pub swapped_once : (b c : Cells) (root : ℕ) (t u : Tree) (old new : List (ℕ 
     → Stands c root u → HasApartNames u → IsSwapped (hive_uses b root) (hive_uses c root) old new → Once new
     → ((v : ℕ × Bool) → In new v → ComesFrom b root old v) → AreUsedOnce (all_checks c root)
 swapped_once b c root t u old new w s n swapped once_new comes =
-    once_hive c root u s n (swap_once (hive_uses b root) (hive_uses c root) old new swapped (hive_once b root t w.stands w.names w.once) once_new (λ v i. may v (comes v i)))
+    once_hive c root u s n (swap_once (hive_uses b root) (hive_uses c root) old new swapped
+    (hive_once b root t w.stands w.names w.once) once_new (λ v i. may v (comes v i)))
   where
     may : (v : ℕ × Bool) → ComesFrom b root old v → MayCome old (hive_uses b root) v
     may v (inl i) = inl i
     may v (inr (inl never)) =
-        inr (inl (λ z i e. let h = used_held b root t w z i in never h.0 (subst (λ (o : ℕ). b.payload o ≡ Ok h.0) e h.1)))
+        inr (inl (λ z i e. let h = used_held b root t w z i in
+        never h.0 (subst (λ (o : ℕ). b.payload o ≡ Ok h.0) e h.1)))
     may v (inr (inr s)) = inr (inr s)

@@ -24,7 +24,8 @@ pub named_back : {F : Type 0} (name : List ℕ) (view : F → List ℕ) (r : Res
     → folds_same name (first_or_empty (names_of view r)) ≡ true → list_any (folds_same name) (names_of view r) ≡ true
 named_back {F} name view r x is e =
     subst (λ (q : Result F HiveKind). list_any (folds_same name) (names_of view q) ≡ true) (sym is)
-    (go (folds_same name (view x)) (subst (λ (q : Result F HiveKind). folds_same name (first_or_empty (names_of view q)) ≡ true) is e))
+    (go (folds_same name (view x))
+    (subst (λ (q : Result F HiveKind). folds_same name (first_or_empty (names_of view q)) ≡ true) is e))
   where
     go : (b : Bool) → b ≡ true → list_any (λ (c : Bool). c) (b ∷ []) ≡ true
     go true e = refl
@@ -45,8 +46,10 @@ place_is cells (m ∷ q) (n ∷ p) at x all f r =
     let read = plain_node false cells y child.node child.read in
     let folds : folds_same m (node_name cells y) ≡ true = ap (folds_same m) r.2 ∙ f.0 in
     let is : find (is_node_named cells m) (child_places cells at) ≡ Some y =
-    found_one (is_node_named cells m) (child_places cells at) y r.1 (named_back m (λ (k : KeyNode). k.name) (reading key_node_at cells y) child.node read folds)
-    (λ z h t. here.one_child m z y h r.1 (named_so m (λ (k : KeyNode). k.name) (reading key_node_at cells z) t) folds) in
+    found_one (is_node_named cells m) (child_places cells at) y r.1
+    (named_back m (λ (k : KeyNode). k.name) (reading key_node_at cells y) child.node read folds)
+    (λ z h t. here.one_child m z y h r.1 (named_so m (λ (k : KeyNode). k.name) (reading key_node_at cells z) t)
+    folds) in
     ap (option_and_then (key_place cells q)) is ∙ place_is cells q p y x (sound_below cells at y r.1 all) f.1 r.3
 
 pub of_key_from : (cells : Cells) (root : ℕ) (q p : List (List ℕ)) (listing : ℕ → List ℕ) (x o : ℕ)
@@ -71,7 +74,15 @@ split_at cells [] whole at x e r =
 split_at cells (m ∷ path) [] at x e r = absurd e
 split_at cells (m ∷ path) (n ∷ whole) at x e r =
     let s = split_at cells path whole r.0 x e.1 r.3 in
-    record { front = n ∷ s.front; back = s.back; mid = s.mid; folds = (e.0, s.folds); reached = (r.0, r.1, r.2, s.reached); below = s.below; long = (let l = s.long in omega arith) }
+    record {
+      front = n ∷ s.front;
+      back = s.back;
+      mid = s.mid;
+      folds = (e.0, s.folds);
+      reached = (r.0, r.1, r.2, s.reached);
+      below = s.below;
+      long = (let l = s.long in omega arith);
+    }
 
 -- what a path of at least one name leads to has a name
 pub named_there : (cells : Cells) (p : List (List ℕ)) (n : List ℕ) (at x : ℕ) → AllSound cells at
@@ -116,22 +127,30 @@ pub value_listed : (cells : Cells) (n : KeyNode) (at v : ℕ) → reading key_no
 unfolding value_places
 value_listed cells n at v read h =
     listed_in (n.value_count == 0) (reading (offsets_in n.value_count) cells n.value_list) v
-    (subst (λ (xs : List ℕ). In xs v) (of_node_is cells at n (λ k. if k.value_count == 0 then [] else of_read (reading (offsets_in k.value_count) cells k.value_list) (λ offsets. offsets)) read) h)
+    (subst (λ (xs : List ℕ). In xs v)
+    (of_node_is cells at n (λ k. if k.value_count == 0 then [] else of_read
+    (reading (offsets_in k.value_count) cells k.value_list) (λ offsets. offsets)) read) h)
 
 pub child_listed : (cells : Cells) (n : KeyNode) (at y : ℕ) → reading key_node_at cells at ≡ Ok n
     → In (child_places cells at) y → IsListed (n.child_count == 0) (entries_at cells n.child_list) y
 unfolding child_places
 child_listed cells n at y read h = listed_in (n.child_count == 0) (entries_at cells n.child_list) y
-    (subst (λ (xs : List ℕ). In xs y) (of_node_is cells at n (λ m. if m.child_count == 0 then [] else of_read (entries_at cells m.child_list) (λ offsets. offsets)) read) h)
+    (subst (λ (xs : List ℕ). In xs y)
+    (of_node_is cells at n (λ m. if m.child_count == 0 then [] else of_read (entries_at cells m.child_list)
+    (λ offsets. offsets)) read) h)
 
 values_from : (cells : Cells) (names : List (List ℕ)) (offsets : List ℕ) (v o : ℕ) (s : Bool) → In offsets v
     → In (value_checks cells [] v) (uses o s) → In (values_in_turn cells names offsets) (uses o s)
 values_from cells names [] v o s h u = absurd h
 values_from cells names (at ∷ rest) v o s (inl e) u =
-    in_left (value_checks cells names at) (values_in_turn cells (names ++ names_of (λ (k : KeyValue). k.name) (reading key_value_at cells at)) rest) (uses o s)
+    in_left (value_checks cells names at)
+    (values_in_turn cells (names ++ names_of (λ (k : KeyValue). k.name) (reading key_value_at cells at)) rest)
+    (uses o s)
     (value_told cells [] names at o s (subst (λ (z : ℕ). In (value_checks cells [] z) (uses o s)) (sym e) u))
 values_from cells names (at ∷ rest) v o s (inr h) u =
-    in_right (value_checks cells names at) (values_in_turn cells (names ++ names_of (λ (k : KeyValue). k.name) (reading key_value_at cells at)) rest) (uses o s)
+    in_right (value_checks cells names at)
+    (values_in_turn cells (names ++ names_of (λ (k : KeyValue). k.name) (reading key_value_at cells at)) rest)
+    (uses o s)
     (values_from cells (names ++ names_of (λ (k : KeyValue). k.name) (reading key_value_at cells at)) rest v o s h u)
 
 -- a child's use, whatever names it is told
@@ -140,11 +159,16 @@ keys_from : (checks : List (List ℕ) → ℕ → List Check) (cells : Cells) (n
     → IsUsed (keys_in_turn checks cells names offsets) o role
 keys_from checks cells names [] y o role h u = absurd h
 keys_from checks cells names (at ∷ rest) y o role (inl e) u =
-    used_left (checks names at) (keys_in_turn checks cells (names ++ names_of (λ (n : KeyNode). n.name) (reading (node_at false) cells at)) rest) o role
+    used_left (checks names at)
+    (keys_in_turn checks cells (names ++ names_of (λ (n : KeyNode). n.name) (reading (node_at false) cells at))
+    rest) o role
     (subst (λ (z : ℕ). IsUsed (checks names z) o role) (sym e) (u names))
 keys_from checks cells names (at ∷ rest) y o role (inr h) u =
-    used_right (checks names at) (keys_in_turn checks cells (names ++ names_of (λ (n : KeyNode). n.name) (reading (node_at false) cells at)) rest) o role
-    (keys_from checks cells (names ++ names_of (λ (n : KeyNode). n.name) (reading (node_at false) cells at)) rest y o role h u)
+    used_right (checks names at)
+    (keys_in_turn checks cells (names ++ names_of (λ (n : KeyNode). n.name) (reading (node_at false) cells at))
+    rest) o role
+    (keys_from checks cells (names ++ names_of (λ (n : KeyNode). n.name) (reading (node_at false) cells at))
+    rest y o role h u)
 
 values_used : (cells : Cells) (n : KeyNode) (at o : ℕ) (name : List ℕ) → reading key_node_at cells at ≡ Ok n
     → HasValue cells at name o → IsUsed (values_checks cells n) o (value name)
@@ -152,11 +176,16 @@ unfolding values_checks
 values_used cells n at o name read h =
     let l = value_listed cells n at h.place read h.listed in
     let u = used_to (value_checks cells [] h.place) o h.used in
-    subst (λ (b : Bool). IsUsed (cond b [] (use_as false (offsets_in n.value_count) cells n.value_list ++ below_of (reading (offsets_in n.value_count) cells n.value_list) (values_in_turn cells []))) o (value name)) (sym l.some)
+    subst (λ (b : Bool). IsUsed
+    (cond b [] (use_as false (offsets_in n.value_count) cells n.value_list
+    ++ below_of (reading (offsets_in n.value_count) cells n.value_list) (values_in_turn cells []))) o (value name))
+    (sym l.some)
     (record {
       way = u.0;
-      used = in_right (use_as false (offsets_in n.value_count) cells n.value_list) (below_of (reading (offsets_in n.value_count) cells n.value_list) (values_in_turn cells [])) (uses o u.0)
-          (in_read_from (reading (offsets_in n.value_count) cells n.value_list) (values_in_turn cells []) (uses o u.0) l.offsets l.read (values_from cells [] l.offsets h.place o u.0 l.listed u.1));
+      used = in_right (use_as false (offsets_in n.value_count) cells n.value_list)
+          (below_of (reading (offsets_in n.value_count) cells n.value_list) (values_in_turn cells [])) (uses o u.0)
+          (in_read_from (reading (offsets_in n.value_count) cells n.value_list) (values_in_turn cells []) (uses o u.0)
+          l.offsets l.read (values_from cells [] l.offsets h.place o u.0 l.listed u.1));
       security = λ s. absurd s;
     })
 
@@ -164,10 +193,12 @@ value_list_used : (cells : Cells) (n : KeyNode) (at o : ℕ) → reading key_nod
     → In (value_list_at cells at) o → IsUsed (values_checks cells n) o value_list
 unfolding values_checks value_list_at
 value_list_used cells n at o read h =
-    go (n.value_count == 0) (subst (λ (xs : List ℕ). In xs o) (of_node_is cells at n (λ k. if k.value_count == 0 then [] else k.value_list ∷ []) read) h)
+    go (n.value_count == 0) (subst (λ (xs : List ℕ). In xs o)
+    (of_node_is cells at n (λ k. if k.value_count == 0 then [] else k.value_list ∷ []) read) h)
   where
     go : (b : Bool) → In (cond b [] (n.value_list ∷ [])) o
-        → IsUsed (cond b [] (use_as false (offsets_in n.value_count) cells n.value_list ++ below_of (reading (offsets_in n.value_count) cells n.value_list) (values_in_turn cells []))) o value_list
+        → IsUsed (cond b [] (use_as false (offsets_in n.value_count) cells n.value_list
+        ++ below_of (reading (offsets_in n.value_count) cells n.value_list) (values_in_turn cells []))) o value_list
     go true h = absurd h
     go false (inl e) = record { way = false; used = inl (ap (λ (a : ℕ). uses a false) e); security = λ s. absurd s }
     go false (inr h) = absurd h
@@ -177,13 +208,21 @@ lists_used : (checks : List (List ℕ) → ℕ → List Check) (cells : Cells) (
     → IsUsed (children_checks checks cells n at) o lists
 unfolding children_checks list_cells_at
 lists_used checks cells n at o read h =
-    go (n.child_count == 0) (subst (λ (xs : List ℕ). In xs o) (of_node_is cells at n (λ m. if m.child_count == 0 then [] else used_in (entries_checks cells m.child_list)) read) h)
+    go (n.child_count == 0) (subst (λ (xs : List ℕ). In xs o)
+    (of_node_is cells at n (λ m. if m.child_count == 0 then [] else used_in (entries_checks cells m.child_list))
+    read) h)
   where
     go : (b : Bool) → In (cond b [] (used_in (entries_checks cells n.child_list))) o
-        → IsUsed (cond b [] (entries_checks cells n.child_list ++ below_of (entries_at cells n.child_list) (λ offsets. tests at (failing (not (length offsets == n.child_count)) Count) ∷ keys_in_turn checks cells [] offsets))) o lists
+        → IsUsed (cond b [] (entries_checks cells n.child_list
+        ++ below_of (entries_at cells n.child_list)
+        (λ offsets. tests at (failing (not (length offsets == n.child_count)) Count)
+        ∷ keys_in_turn checks cells [] offsets))) o lists
     go true h = absurd h
     go false h =
-        used_left (entries_checks cells n.child_list) (below_of (entries_at cells n.child_list) (λ offsets. tests at (failing (not (length offsets == n.child_count)) Count) ∷ keys_in_turn checks cells [] offsets)) o lists
+        used_left (entries_checks cells n.child_list)
+        (below_of (entries_at cells n.child_list)
+        (λ offsets. tests at (failing (not (length offsets == n.child_count)) Count)
+        ∷ keys_in_turn checks cells [] offsets)) o lists
         (used_plain (entries_checks cells n.child_list) o lists (λ s. s) h)
 
 child_used : (checks : List (List ℕ) → ℕ → List Check) (cells : Cells) (n : KeyNode) (at y o : ℕ) (role : Role)
@@ -193,11 +232,20 @@ unfolding children_checks
 child_used checks cells n at y o role read h u =
     let l = child_listed cells n at y read h in
     let k = keys_from checks cells [] l.offsets y o role l.listed u in
-    subst (λ (b : Bool). IsUsed (cond b [] (entries_checks cells n.child_list ++ below_of (entries_at cells n.child_list) (λ offsets. tests at (failing (not (length offsets == n.child_count)) Count) ∷ keys_in_turn checks cells [] offsets))) o role) (sym l.some)
+    subst (λ (b : Bool). IsUsed
+    (cond b [] (entries_checks cells n.child_list
+    ++ below_of (entries_at cells n.child_list)
+    (λ offsets. tests at (failing (not (length offsets == n.child_count)) Count)
+    ∷ keys_in_turn checks cells [] offsets))) o role) (sym l.some)
     (record {
       way = k.way;
-      used = in_right (entries_checks cells n.child_list) (below_of (entries_at cells n.child_list) (λ offsets. tests at (failing (not (length offsets == n.child_count)) Count) ∷ keys_in_turn checks cells [] offsets)) (uses o k.way)
-          (in_read_from (entries_at cells n.child_list) (λ offsets. tests at (failing (not (length offsets == n.child_count)) Count) ∷ keys_in_turn checks cells [] offsets) (uses o k.way) l.offsets l.read (inr k.used));
+      used = in_right (entries_checks cells n.child_list)
+          (below_of (entries_at cells n.child_list)
+          (λ offsets. tests at (failing (not (length offsets == n.child_count)) Count)
+          ∷ keys_in_turn checks cells [] offsets)) (uses o k.way)
+          (in_read_from (entries_at cells n.child_list)
+          (λ offsets. tests at (failing (not (length offsets == n.child_count)) Count)
+          ∷ keys_in_turn checks cells [] offsets) (uses o k.way) l.offsets l.read (inr k.used));
       security = k.security;
     })
 
@@ -237,29 +285,46 @@ own_used left cells root names at o node n read h =
     record { way = false; used = inl (ap (λ (a : ℕ). uses a false) h); security = λ s. absurd s }
 own_used left cells root names at o class n read h =
     behind left cells root names at o class n read
-    (used_left (class_checks cells n) (security_checks cells n ++ (values_checks cells n ++ children_checks (key_checks left cells false) cells n at)) o class
-    (used_plain (class_checks cells n) o class (λ s. s) (subst (λ (xs : List ℕ). In xs o) (of_node_is cells at n (λ m. used_in (class_checks cells m)) (plain_node root cells at n read)) h)))
+    (used_left (class_checks cells n)
+    (security_checks cells n ++ (values_checks cells n ++ children_checks (key_checks left cells false) cells n at))
+    o class
+    (used_plain (class_checks cells n) o class (λ s. s)
+    (subst (λ (xs : List ℕ). In xs o)
+    (of_node_is cells at n (λ m. used_in (class_checks cells m)) (plain_node root cells at n read)) h)))
 own_used left cells root names at o security n read h =
     behind left cells root names at o security n read
-    (used_right (class_checks cells n) (security_checks cells n ++ (values_checks cells n ++ children_checks (key_checks left cells false) cells n at)) o security
-    (used_left (security_checks cells n) (values_checks cells n ++ children_checks (key_checks left cells false) cells n at) o security
-    (security_used cells n o (subst (λ (xs : List ℕ). In xs o) (of_node_is cells at n (λ m. used_in (security_checks cells m)) (plain_node root cells at n read)) h))))
+    (used_right (class_checks cells n)
+    (security_checks cells n ++ (values_checks cells n ++ children_checks (key_checks left cells false) cells n at))
+    o security
+    (used_left (security_checks cells n)
+    (values_checks cells n ++ children_checks (key_checks left cells false) cells n at) o security
+    (security_used cells n o (subst (λ (xs : List ℕ). In xs o)
+    (of_node_is cells at n (λ m. used_in (security_checks cells m)) (plain_node root cells at n read)) h))))
 own_used left cells root names at o value_list n read h =
     behind left cells root names at o value_list n read
-    (used_right (class_checks cells n) (security_checks cells n ++ (values_checks cells n ++ children_checks (key_checks left cells false) cells n at)) o value_list
-    (used_right (security_checks cells n) (values_checks cells n ++ children_checks (key_checks left cells false) cells n at) o value_list
+    (used_right (class_checks cells n)
+    (security_checks cells n ++ (values_checks cells n ++ children_checks (key_checks left cells false) cells n at))
+    o value_list
+    (used_right (security_checks cells n)
+    (values_checks cells n ++ children_checks (key_checks left cells false) cells n at) o value_list
     (used_left (values_checks cells n) (children_checks (key_checks left cells false) cells n at) o value_list
     (value_list_used cells n at o (plain_node root cells at n read) h))))
 own_used left cells root names at o (value name) n read h =
     behind left cells root names at o (value name) n read
-    (used_right (class_checks cells n) (security_checks cells n ++ (values_checks cells n ++ children_checks (key_checks left cells false) cells n at)) o (value name)
-    (used_right (security_checks cells n) (values_checks cells n ++ children_checks (key_checks left cells false) cells n at) o (value name)
+    (used_right (class_checks cells n)
+    (security_checks cells n ++ (values_checks cells n ++ children_checks (key_checks left cells false) cells n at))
+    o (value name)
+    (used_right (security_checks cells n)
+    (values_checks cells n ++ children_checks (key_checks left cells false) cells n at) o (value name)
     (used_left (values_checks cells n) (children_checks (key_checks left cells false) cells n at) o (value name)
     (values_used cells n at o name (plain_node root cells at n read) h))))
 own_used left cells root names at o lists n read h =
     behind left cells root names at o lists n read
-    (used_right (class_checks cells n) (security_checks cells n ++ (values_checks cells n ++ children_checks (key_checks left cells false) cells n at)) o lists
-    (used_right (security_checks cells n) (values_checks cells n ++ children_checks (key_checks left cells false) cells n at) o lists
+    (used_right (class_checks cells n)
+    (security_checks cells n ++ (values_checks cells n ++ children_checks (key_checks left cells false) cells n at))
+    o lists
+    (used_right (security_checks cells n)
+    (values_checks cells n ++ children_checks (key_checks left cells false) cells n at) o lists
     (used_right (values_checks cells n) (children_checks (key_checks left cells false) cells n at) o lists
     (lists_used (key_checks left cells false) cells n at o (plain_node root cells at n read) h))))
 
@@ -272,8 +337,12 @@ walk_back (suc left) [] cells root names at x o role n all read lt r h =
 walk_back (suc left) (m ∷ path) cells root names at x o role n all read lt r h =
     let y = r.0 in let child = (all.each [] at refl).child y r.1 in
     behind left cells root names at o role n read
-    (used_right (class_checks cells n) (security_checks cells n ++ (values_checks cells n ++ children_checks (key_checks left cells false) cells n at)) o role
-    (used_right (security_checks cells n) (values_checks cells n ++ children_checks (key_checks left cells false) cells n at) o role
+    (used_right (class_checks cells n)
+    (security_checks cells n ++ (values_checks cells n ++ children_checks (key_checks left cells false) cells n at))
+    o role
+    (used_right (security_checks cells n)
+    (values_checks cells n ++ children_checks (key_checks left cells false) cells n at) o role
     (used_right (values_checks cells n) (children_checks (key_checks left cells false) cells n at) o role
     (child_used (key_checks left cells false) cells n at y o role (plain_node root cells at n read) r.1
-    (λ told. walk_back left path cells false told y x o role child.node (sound_below cells at y r.1 all) child.read (omega arith) r.3 h)))))
+    (λ told. walk_back left path cells false told y x o role child.node (sound_below cells at y r.1 all) child.read
+    (omega arith) r.3 h)))))

@@ -39,10 +39,13 @@ path_itself (m ∷ p) = (folds_itself m, path_itself p)
 pub own_once : (b : Cells) (root : ℕ) (t : Tree) (p : List (List ℕ)) (x : ℕ) → IsWellFormed b root t
     → Reaches b root p x → Once (own_uses b x)
 own_once b root t p x well h =
-    let s = subst (λ (n : ℕ). IsSwapped (tree_uses n b root) (tree_uses n b root) (tree_uses (suc (511 - length p)) b x) (tree_uses (suc (511 - length p)) b x)) top
-    (around b b p p (suc (511 - length p)) root x t well.stands well.names (path_itself p) h (λ q z r out. same_itself b z)) in
+    let s = subst (λ (n : ℕ). IsSwapped (tree_uses n b root) (tree_uses n b root) (tree_uses (suc (511 - length p)) b x)
+    (tree_uses (suc (511 - length p)) b x)) top
+    (around b b p p (suc (511 - length p)) root x t well.stands well.names (path_itself p) h
+    (λ q z r out. same_itself b z)) in
     let whole = subst Once s.was (hive_once b root t well.stands well.names well.once) in
-    let here = pairwise_parts Agree (tree_uses (suc (511 - length p)) b x) s.behind (pairwise_parts Agree s.before (tree_uses (suc (511 - length p)) b x ++ s.behind) whole).right in
+    let here = pairwise_parts Agree (tree_uses (suc (511 - length p)) b x) s.behind
+    (pairwise_parts Agree s.before (tree_uses (suc (511 - length p)) b x ++ s.behind) whole).right in
     (pairwise_parts Agree (own_uses b x) (flat_map (tree_uses (511 - length p) b) (child_places b x)) here.left).left
   where
     short : length p < 512
@@ -53,8 +56,11 @@ own_once b root t p x well h =
 
 plain_differ : (xs : List ℕ) → Once (plain xs) → Pairwise (λ p q. p ≡ q → ⊥) xs
 plain_differ [] h = tt
-plain_differ (x ∷ xs) h =
-    (λ y i e. let both = h.0 (y, false) (in_map_from (λ (o : ℕ). (o, false)) xs y i) e in absurd (let d = both.0 in cc), plain_differ xs h.1)
+plain_differ (x ∷ xs) h = (
+  λ y i e. let both = h.0 (y, false) (in_map_from (λ (o : ℕ). (o, false)) xs y i) e in
+      absurd (let d = both.0 in cc),
+  plain_differ xs h.1,
+)
 
 -- what a key of well-formed cells uses for its values: no cell twice, and not its node
 pub record AreApart (b : Cells) (x : ℕ) : Type 0 where
@@ -66,22 +72,27 @@ pub values_apart : (b : Cells) (root : ℕ) (t : Tree) (p : List (List ℕ)) (x 
 values_apart b root t p x well h = record {
   once = plain_differ (all_value_cells b x) three.left;
   node = λ o i e. let both = whole.0 (o, false)
-      (in_right (plain (class_cell_at b x)) (secure (security_cell_at b x) ++ (plain (all_value_cells b x) ++ plain (list_cells_at b x))) (o, false)
+      (in_right (plain (class_cell_at b x))
+      (secure (security_cell_at b x) ++ (plain (all_value_cells b x) ++ plain (list_cells_at b x))) (o, false)
       (in_right (secure (security_cell_at b x)) (plain (all_value_cells b x) ++ plain (list_cells_at b x)) (o, false)
-      (in_left (plain (all_value_cells b x)) (plain (list_cells_at b x)) (o, false) (in_map_from (λ (z : ℕ). (z, false)) (all_value_cells b x) o i)))) (sym e) in
+      (in_left (plain (all_value_cells b x)) (plain (list_cells_at b x)) (o, false)
+      (in_map_from (λ (z : ℕ). (z, false)) (all_value_cells b x) o i)))) (sym e) in
       absurd (let d = both.0 in cc);
 }
   where
     whole : Once (own_uses b x)
     whole = own_once b root t p x well h
 
-    one : InParts Agree (plain (class_cell_at b x)) (secure (security_cell_at b x) ++ (plain (all_value_cells b x) ++ plain (list_cells_at b x)))
+    one : InParts Agree (plain (class_cell_at b x))
+        (secure (security_cell_at b x) ++ (plain (all_value_cells b x) ++ plain (list_cells_at b x)))
     one =
-        pairwise_parts Agree (plain (class_cell_at b x)) (secure (security_cell_at b x) ++ (plain (all_value_cells b x) ++ plain (list_cells_at b x))) whole.1
+        pairwise_parts Agree (plain (class_cell_at b x))
+        (secure (security_cell_at b x) ++ (plain (all_value_cells b x) ++ plain (list_cells_at b x))) whole.1
 
     two : InParts Agree (secure (security_cell_at b x)) (plain (all_value_cells b x) ++ plain (list_cells_at b x))
     two =
-        pairwise_parts Agree (secure (security_cell_at b x)) (plain (all_value_cells b x) ++ plain (list_cells_at b x)) one.right
+        pairwise_parts Agree (secure (security_cell_at b x)) (plain (all_value_cells b x) ++ plain (list_cells_at b x))
+        one.right
 
     three : InParts Agree (plain (all_value_cells b x)) (plain (list_cells_at b x))
     three = pairwise_parts Agree (plain (all_value_cells b x)) (plain (list_cells_at b x)) two.right
@@ -92,7 +103,8 @@ pub values_held : (b : Cells) (root : ℕ) (t : Tree) (p : List (List ℕ)) (x o
 values_held b root t p x o well h i = ⊎_elim
     (λ l. (are_held b root t well).held p value_list o (record { at = x; reached = h; has = l }))
     (λ l. let f = in_flat (λ v. used_in (value_checks b [] v)) (value_places b x) o l in
-    (are_held b root t well).held p (value (value_name b f.0)) o (record { at = x; reached = h; has = record { place = f.0; listed = f.1; named = refl; used = f.2 } }))
+    (are_held b root t well).held p (value (value_name b f.0)) o
+    (record { at = x; reached = h; has = record { place = f.0; listed = f.1; named = refl; used = f.2 } }))
     (in_cases (value_list_at b x) (cells_of_values b (value_places b x)) o i)
 
 -- ---- lists of values
@@ -105,7 +117,8 @@ cells_append cells (x ∷ xs) ys =
     ∙ sym (append_assoc (used_in (value_checks cells [] x)) (cells_of_values cells xs) (cells_of_values cells ys))
 
 three_cells : (cells : Cells) (xs ys zs : List ℕ)
-    → cells_of_values cells (xs ++ (ys ++ zs)) ≡ cells_of_values cells xs ++ (cells_of_values cells ys ++ cells_of_values cells zs)
+    → cells_of_values cells (xs ++ (ys ++ zs)) ≡ cells_of_values cells xs
+    ++ (cells_of_values cells ys ++ cells_of_values cells zs)
 three_cells cells xs ys zs =
     cells_append cells xs (ys ++ zs) ∙ ap (λ (l : List ℕ). cells_of_values cells xs ++ l) (cells_append cells ys zs)
 
@@ -127,7 +140,8 @@ pub items_both : (cells : Cells) (xs ys : List ℕ) (items : List Item) → item
     → ReadsBoth cells xs ys items
 items_both cells [] ys items e = record { left = []; right = items; first = refl; second = e; whole = refl }
 items_both cells (x ∷ xs) ys items e =
-    let one = first_part (item_at cells x) (λ item. items_at cells (xs ++ ys) >>= λ others. Ok (item ∷ others)) items e in
+    let one = first_part (item_at cells x) (λ item. items_at cells (xs ++ ys) >>= λ others. Ok (item ∷ others))
+    items e in
     let others = first_part (items_at cells (xs ++ ys)) (λ others. Ok (one.0 ∷ others)) items one.2 in
     let r = items_both cells xs ys others.0 others.1 in
     record {
@@ -146,7 +160,8 @@ both_items cells (x ∷ xs) ys left right e f =
     let one = first_part (item_at cells x) (λ item. items_at cells xs >>= λ others. Ok (item ∷ others)) left e in
     let others = first_part (items_at cells xs) (λ others. Ok (one.0 ∷ others)) left one.2 in
     ap (λ (q : Result Item HiveKind). q >>= λ item. items_at cells (xs ++ ys) >>= λ others. Ok (item ∷ others)) one.1
-    ∙ ap (λ (q : Result (List Item) HiveKind). q >>= λ others. Ok (one.0 ∷ others)) (both_items cells xs ys others.0 right others.1 f)
+    ∙ ap (λ (q : Result (List Item) HiveKind). q >>= λ others. Ok (one.0 ∷ others))
+    (both_items cells xs ys others.0 right others.1 f)
     ∙ ap (λ (l : List Item). done (l ++ right)) (ok_items (one.0 ∷ others.0) left others.2)
 
 -- the values of a node that lists them
@@ -156,7 +171,8 @@ unfolding values_of
 listed_values cells n offsets l = go (n.value_count == 0) l
   where
     go : (b : Bool) → MatchBool b (offsets ≡ []) (reading (offsets_in n.value_count) cells n.value_list ≡ Ok offsets)
-        → cond b (Ok []) (reading (offsets_in n.value_count) cells n.value_list >>= items_at cells) ≡ items_at cells offsets
+        → cond b (Ok []) (reading (offsets_in n.value_count) cells n.value_list >>= items_at cells)
+        ≡ items_at cells offsets
     go true e = ap (items_at cells) (sym e)
     go false e = ap (λ (q : Result (List ℕ) HiveKind). q >>= items_at cells) e
 
@@ -164,7 +180,8 @@ pub listed_places : (cells : Cells) (at : ℕ) (n : KeyNode) (offsets : List ℕ
     → ListsValues cells n offsets → value_places cells at ≡ offsets
 unfolding value_places
 listed_places cells at n offsets read l =
-    of_node_is cells at n (λ k. if k.value_count == 0 then [] else of_read (reading (offsets_in k.value_count) cells k.value_list) (λ os. os)) read
+    of_node_is cells at n (λ k. if k.value_count == 0 then [] else of_read
+    (reading (offsets_in k.value_count) cells k.value_list) (λ os. os)) read
     ∙ go (n.value_count == 0) l
   where
     go : (b : Bool) → MatchBool b (offsets ≡ []) (reading (offsets_in n.value_count) cells n.value_list ≡ Ok offsets)
@@ -192,11 +209,13 @@ apart_again l f g k m n old new out =
           right = three.right;
           across = λ x y i j e. (out x (in_right m n x i)).1 (subst (In k) (sym e) j);
         });
-        across = λ x y i j e. ⊎_elim (λ (z : In n y). (out y (in_right m n y z)).0 (subst (In f) e i)) (λ (z : In k y). two.across x y i (in_right g k y z) e) (in_cases n k y j);
+        across = λ x y i j e. ⊎_elim (λ (z : In n y). (out y (in_right m n y z)).0 (subst (In f) e i))
+            (λ (z : In k y). two.across x y i (in_right g k y z) e) (in_cases n k y j);
       });
       across = λ x y i j e. ⊎_elim
           (λ (z : In f y). (out x (in_left m n x i)).0 (subst (In f) (sym e) z))
-          (λ (z : In (n ++ k) y). ⊎_elim (λ (w : In n y). both.across x y i w e) (λ (w : In k y). (out x (in_left m n x i)).1 (subst (In k) (sym e) w)) (in_cases n k y z))
+          (λ (z : In (n ++ k) y). ⊎_elim (λ (w : In n y). both.across x y i w e)
+          (λ (w : In k y). (out x (in_left m n x i)).1 (subst (In k) (sym e) w)) (in_cases n k y z))
           (in_cases f (n ++ k) y j);
     })
 
@@ -228,20 +247,25 @@ changed b c root t (key hd ts) p x front gone put back come well h s g = record 
   values_are = one.whole ∙ ap (λ (l : List Item). one.left ++ l) two.whole;
   gets = record {
     version = g.version;
-    others = λ o q held no_node no_value. g.others o q held no_node (λ i. no_value (in_left (value_list_at b x) (cells_of_values b (value_places b x)) o i))
-        (λ i. no_value (in_right (value_list_at b x) (cells_of_values b (value_places b x)) o (subst (λ (l : List ℕ). In l o) (sym old_cells)
-        (in_right (cells_of_values b front) (cells_of_values b gone ++ cells_of_values b back) o (in_left (cells_of_values b gone) (cells_of_values b back) o i)))));
+    others = λ o q held no_node no_value. g.others o q held no_node
+        (λ i. no_value (in_left (value_list_at b x) (cells_of_values b (value_places b x)) o i))
+        (λ i. no_value (in_right (value_list_at b x) (cells_of_values b (value_places b x)) o
+        (subst (λ (l : List ℕ). In l o) (sym old_cells)
+        (in_right (cells_of_values b front) (cells_of_values b gone ++ cells_of_values b back) o
+        (in_left (cells_of_values b gone) (cells_of_values b back) o i)))));
     old = g.old;
     new = g.new;
     read = g.read;
     read_new = g.read_new;
     same = g.same;
     values = listed_values c g.new (front ++ (put ++ back)) g.listed_new
-        ∙ both_items c front (put ++ back) one.left (come ++ two.right) (items_same b c front g.version same_front ∙ one.first)
+        ∙ both_items c front (put ++ back) one.left (come ++ two.right)
+        (items_same b c front g.version same_front ∙ one.first)
         (both_items c put back come two.right g.items (items_same b c back g.version same_back ∙ two.second));
     used = λ o i. used o (subst (λ (l : List ℕ). In l o) new_whole i);
     once = subst (Pairwise (λ u v. u ≡ v → ⊥)) (sym new_whole)
-        (apart_again (value_list_at b x) (cells_of_values b front) (cells_of_values b gone) (cells_of_values b back) (value_list_at c x) (cells_of_values c put) old_once g.once
+        (apart_again (value_list_at b x) (cells_of_values b front) (cells_of_values b gone) (cells_of_values b back)
+        (value_list_at c x) (cells_of_values c put) old_once g.once
         (λ o i. (not_front o (g.used o i), not_back o (g.used o i))));
   };
 }
@@ -251,27 +275,33 @@ changed b c root t (key hd ts) p x front gone put back come well h s g = record 
 
     one : ReadsBoth b front (gone ++ back) hd.values
     one =
-        items_both b front (gone ++ back) hd.values (subst (λ (l : List ℕ). items_at b l ≡ Ok hd.values) (sym there.places ∙ g.listed) there.read)
+        items_both b front (gone ++ back) hd.values
+        (subst (λ (l : List ℕ). items_at b l ≡ Ok hd.values) (sym there.places ∙ g.listed) there.read)
 
     two : ReadsBoth b gone back one.right
     two = items_both b gone back one.right one.second
 
-    old_cells : cells_of_values b (value_places b x) ≡ cells_of_values b front ++ (cells_of_values b gone ++ cells_of_values b back)
+    old_cells : cells_of_values b (value_places b x) ≡ cells_of_values b front
+        ++ (cells_of_values b gone ++ cells_of_values b back)
     old_cells = ap (cells_of_values b) g.listed ∙ three_cells b front gone back
 
     apart : AreApart b x
     apart = values_apart b root t p x well h
 
-    old_once : Pairwise (λ u v. u ≡ v → ⊥) (value_list_at b x ++ (cells_of_values b front ++ (cells_of_values b gone ++ cells_of_values b back)))
+    old_once : Pairwise (λ u v. u ≡ v → ⊥)
+        (value_list_at b x ++ (cells_of_values b front ++ (cells_of_values b gone ++ cells_of_values b back)))
     old_once = subst (λ (l : List ℕ). Pairwise (λ u v. u ≡ v → ⊥) (value_list_at b x ++ l)) old_cells apart.once
 
-    p1 : InParts (λ u v. u ≡ v → ⊥) (value_list_at b x) (cells_of_values b front ++ (cells_of_values b gone ++ cells_of_values b back))
+    p1 : InParts (λ u v. u ≡ v → ⊥) (value_list_at b x)
+        (cells_of_values b front ++ (cells_of_values b gone ++ cells_of_values b back))
     p1 =
-        pairwise_parts (λ u v. u ≡ v → ⊥) (value_list_at b x) (cells_of_values b front ++ (cells_of_values b gone ++ cells_of_values b back)) old_once
+        pairwise_parts (λ u v. u ≡ v → ⊥) (value_list_at b x)
+        (cells_of_values b front ++ (cells_of_values b gone ++ cells_of_values b back)) old_once
 
     p2 : InParts (λ u v. u ≡ v → ⊥) (cells_of_values b front) (cells_of_values b gone ++ cells_of_values b back)
     p2 =
-        pairwise_parts (λ u v. u ≡ v → ⊥) (cells_of_values b front) (cells_of_values b gone ++ cells_of_values b back) p1.right
+        pairwise_parts (λ u v. u ≡ v → ⊥) (cells_of_values b front) (cells_of_values b gone ++ cells_of_values b back)
+        p1.right
 
     p3 : InParts (λ u v. u ≡ v → ⊥) (cells_of_values b gone) (cells_of_values b back)
     p3 = pairwise_parts (λ u v. u ≡ v → ⊥) (cells_of_values b gone) (cells_of_values b back) p2.right
@@ -279,7 +309,8 @@ changed b c root t (key hd ts) p x front gone put back come well h s g = record 
     value_there : (o : ℕ) → In (cells_of_values b front ++ (cells_of_values b gone ++ cells_of_values b back)) o
         → In (all_value_cells b x) o
     value_there o i =
-        in_right (value_list_at b x) (cells_of_values b (value_places b x)) o (subst (λ (l : List ℕ). In l o) (sym old_cells) i)
+        in_right (value_list_at b x) (cells_of_values b (value_places b x)) o
+        (subst (λ (l : List ℕ). In l o) (sym old_cells) i)
 
     -- a cell that is neither of the list nor of what goes is the same
     kept : (o : ℕ) → In (all_value_cells b x) o → (In (value_list_at b x) o → ⊥) → (In (cells_of_values b gone) o → ⊥)
@@ -294,28 +325,36 @@ changed b c root t (key hd ts) p x front gone put back come well h s g = record 
     in_back : (o : ℕ) → In (cells_of_values b back) o
         → In (cells_of_values b front ++ (cells_of_values b gone ++ cells_of_values b back)) o
     in_back o i =
-        in_right (cells_of_values b front) (cells_of_values b gone ++ cells_of_values b back) o (in_right (cells_of_values b gone) (cells_of_values b back) o i)
+        in_right (cells_of_values b front) (cells_of_values b gone ++ cells_of_values b back) o
+        (in_right (cells_of_values b gone) (cells_of_values b back) o i)
 
     same_front : (v : ℕ) → In front v → IsValueSame b c v
     same_front v i o used =
         let j = in_flat_from (λ w. used_in (value_checks b [] w)) front o v i used in
-        kept o (value_there o (in_front o j)) (λ z. p1.across o o z (in_front o j) refl) (λ z. p2.across o o j (in_left (cells_of_values b gone) (cells_of_values b back) o z) refl)
+        kept o (value_there o (in_front o j)) (λ z. p1.across o o z (in_front o j) refl)
+        (λ z. p2.across o o j (in_left (cells_of_values b gone) (cells_of_values b back) o z) refl)
 
     same_back : (v : ℕ) → In back v → IsValueSame b c v
     same_back v i o used =
         let j = in_flat_from (λ w. used_in (value_checks b [] w)) back o v i used in
         kept o (value_there o (in_back o j)) (λ z. p1.across o o z (in_back o j) refl) (λ z. p3.across o o z j refl)
 
-    new_whole : all_value_cells c x ≡ value_list_at c x ++ (cells_of_values b front ++ (cells_of_values c put ++ cells_of_values b back))
+    new_whole : all_value_cells c x ≡ value_list_at c x
+        ++ (cells_of_values b front ++ (cells_of_values c put ++ cells_of_values b back))
     new_whole =
-        ap (λ (l : List ℕ). value_list_at c x ++ l) (ap (cells_of_values c) (listed_places c x g.new (front ++ (put ++ back)) g.read_new g.listed_new) ∙ three_cells c front put back
-        ∙ ap (λ (l : List ℕ). l ++ (cells_of_values c put ++ cells_of_values c back)) (values_used_same b c front g.version same_front)
-        ∙ ap (λ (l : List ℕ). cells_of_values b front ++ (cells_of_values c put ++ l)) (values_used_same b c back g.version same_back))
+        ap (λ (l : List ℕ). value_list_at c x ++ l)
+        (ap (cells_of_values c) (listed_places c x g.new (front ++ (put ++ back)) g.read_new g.listed_new)
+        ∙ three_cells c front put back
+        ∙ ap (λ (l : List ℕ). l ++ (cells_of_values c put ++ cells_of_values c back))
+        (values_used_same b c front g.version same_front)
+        ∙ ap (λ (l : List ℕ). cells_of_values b front ++ (cells_of_values c put ++ l))
+        (values_used_same b c back g.version same_back))
 
     from_old : (o : ℕ) → In (value_list_at b x ++ cells_of_values b gone) o ⊎ IsUnheld b o
         → In (all_value_cells b x) o ⊎ IsUnheld b o
     from_old o (inl i) = inl (⊎_elim (λ j. in_left (value_list_at b x) (cells_of_values b (value_places b x)) o j)
-        (λ j. value_there o (in_right (cells_of_values b front) (cells_of_values b gone ++ cells_of_values b back) o (in_left (cells_of_values b gone) (cells_of_values b back) o j)))
+        (λ j. value_there o (in_right (cells_of_values b front) (cells_of_values b gone ++ cells_of_values b back) o
+        (in_left (cells_of_values b gone) (cells_of_values b back) o j)))
         (in_cases (value_list_at b x) (cells_of_values b gone) o i))
     from_old o (inr n) = inr n
 
@@ -326,15 +365,18 @@ changed b c root t (key hd ts) p x front gone put back come well h s g = record 
         (λ j. from_old o (g.used o (in_left (value_list_at c x) (cells_of_values c put) o j)))
         (λ j. ⊎_elim
         (λ z. inl (value_there o (in_front o z)))
-        (λ z. ⊎_elim (λ w. from_old o (g.used o (in_right (value_list_at c x) (cells_of_values c put) o w))) (λ w. inl (value_there o (in_back o w)))
+        (λ z. ⊎_elim (λ w. from_old o (g.used o (in_right (value_list_at c x) (cells_of_values c put) o w)))
+        (λ w. inl (value_there o (in_back o w)))
         (in_cases (cells_of_values c put) (cells_of_values b back) o z))
         (in_cases (cells_of_values b front) (cells_of_values c put ++ cells_of_values b back) o j))
-        (in_cases (value_list_at c x) (cells_of_values b front ++ (cells_of_values c put ++ cells_of_values b back)) o i)
+        (in_cases (value_list_at c x) (cells_of_values b front ++ (cells_of_values c put ++ cells_of_values b back))
+        o i)
 
     not_front : (o : ℕ) → In (value_list_at b x ++ cells_of_values b gone) o ⊎ IsUnheld b o
         → In (cells_of_values b front) o → ⊥
     not_front o (inl i) j =
-        ⊎_elim (λ z. p1.across o o z (in_front o j) refl) (λ z. p2.across o o j (in_left (cells_of_values b gone) (cells_of_values b back) o z) refl)
+        ⊎_elim (λ z. p1.across o o z (in_front o j) refl)
+        (λ z. p2.across o o j (in_left (cells_of_values b gone) (cells_of_values b back) o z) refl)
         (in_cases (value_list_at b x) (cells_of_values b gone) o i)
     not_front o (inr n) j = let q = values_held b root t p x o well h (value_there o (in_front o j)) in n q.0 q.1
 

@@ -50,8 +50,12 @@ names_append (u ∷ us) vs = ap (λ (l : List (List ℕ)). (head u).name ∷ l) 
 one_tree : (cells : Cells) (y : ℕ) (us : List Tree) → AllStand cells (y ∷ []) (trees us)
     → (u : Tree) × (us ≡ u ∷ []) × Stands cells y u
 one_tree cells y [] a = absurd (let d : y ∷ [] ≡ [] = a in cc)
-one_tree cells y (u ∷ us) a =
-    (u, ap (λ (l : List Tree). u ∷ l) (none_left us (subst (λ (l : List ℕ). AllStand cells l (trees us)) (sym (rest y a.0 [] a.1 a.2).1) a.4)), subst (λ (o : ℕ). Stands cells o u) (sym (rest y a.0 [] a.1 a.2).0) a.3)
+one_tree cells y (u ∷ us) a = (
+  u,
+  ap (λ (l : List Tree). u ∷ l)
+      (none_left us (subst (λ (l : List ℕ). AllStand cells l (trees us)) (sym (rest y a.0 [] a.1 a.2).1) a.4)),
+  subst (λ (o : ℕ). Stands cells o u) (sym (rest y a.0 [] a.1 a.2).0) a.3,
+)
   where
     rest : (x y : ℕ) (xs ys : List ℕ) → x ∷ xs ≡ y ∷ ys → (x ≡ y) × (xs ≡ ys)
     rest x y xs ys e = (cc, cc)
@@ -71,17 +75,21 @@ siblings_left before went behind hd ts whole n = record {
         across = λ a b i j. one.across a b i (in_right (names_in went) (names_in behind) b j);
       }));
   named = λ m i. let p = in_map (λ w. (head w).name) (before ++ behind) m i in
-      names_some (listed ts) n.1 m (subst (In (names_in (listed ts))) p.2 (in_map_from (λ w. (head w).name) (listed ts) p.0 (old p.0 p.1)));
+      names_some (listed ts) n.1 m
+      (subst (In (names_in (listed ts))) p.2 (in_map_from (λ w. (head w).name) (listed ts) p.0 (old p.0 p.1)));
   each = λ u i. have_each ts u n.3 (old u i);
 }
   where
     old : (u : Tree) → In (before ++ behind) u → In (listed ts) u
     old u i = subst (λ (l : List Tree). In l u) (sym whole)
-        (⊎_elim (λ j. in_left before (went ++ behind) u j) (λ j. in_right before (went ++ behind) u (in_right went behind u j)) (in_cases before behind u i))
+        (⊎_elim (λ j. in_left before (went ++ behind) u j)
+        (λ j. in_right before (went ++ behind) u (in_right went behind u j)) (in_cases before behind u i))
 
     all : Pairwise Unlike (names_in before ++ (names_in went ++ names_in behind))
     all =
-        subst (Pairwise Unlike) (ap names_in whole ∙ names_append before (went ++ behind) ∙ ap (λ (l : List (List ℕ)). names_in before ++ l) (names_append went behind)) (names_differ (listed ts) n.2)
+        subst (Pairwise Unlike) (ap names_in whole ∙ names_append before (went ++ behind)
+        ∙ ap (λ (l : List (List ℕ)). names_in before ++ l) (names_append went behind))
+        (names_differ (listed ts) n.2)
 
     one : InParts Unlike (names_in before) (names_in went ++ names_in behind)
     one = pairwise_parts Unlike (names_in before) (names_in went ++ names_in behind) all
@@ -97,9 +105,11 @@ pub child_gone : (b c : Cells) (root : ℕ) (t : Tree) (parent p : List (List �
     → folds_same name (node_name b y) ≡ true → IsWellFormed c root (without_key (parent ++ name ∷ []) t)
 child_gone b c root t parent p name x y left front back counted hd ts well f h deep found s n g named =
     subst (IsWellFormed c root)
-    (changed_alike (of_children (λ us. r.before ++ ([] ++ r.behind))) (of_children (without_first (is_named name))) parent t (key hd ts) found (ap (λ (us : List Tree). key hd (trees us)) (sym gone))
+    (changed_alike (of_children (λ us. r.before ++ ([] ++ r.behind))) (of_children (without_first (is_named name)))
+    parent t (key hd ts) found (ap (λ (us : List Tree). key hd (trees us)) (sym gone))
     ∙ sym (without_at parent name t))
-    (relisted b c root t parent p x left front (y ∷ []) [] back counted hd ts [] well f h deep found s n g refl (λ u i. absurd i) r (siblings_left r.before r.went r.behind hd ts r.whole n))
+    (relisted b c root t parent p x left front (y ∷ []) [] back counted hd ts [] well f h deep found s n g refl
+    (λ u i. absurd i) r (siblings_left r.before r.went r.behind hd ts r.whole n))
   where
     r : HasRelisted b c x front (y ∷ []) [] back hd (listed ts) []
     r = relisted_here b c root t p x left front (y ∷ []) [] back counted hd ts [] well h g s n refl
@@ -115,11 +125,13 @@ child_gone b c root t parent p name x y left front back counted hd ts well f h d
 
     all : Pairwise Unlike (names_in r.before ++ ((head one.0).name ∷ names_in r.behind))
     all =
-        subst (Pairwise Unlike) (ap names_in parts ∙ names_append r.before (one.0 ∷ r.behind)) (names_differ (listed ts) n.2)
+        subst (Pairwise Unlike) (ap names_in parts ∙ names_append r.before (one.0 ∷ r.behind))
+        (names_differ (listed ts) n.2)
 
     before : (w : Tree) → In r.before w → is_named name w ≡ false
     before w i = not_named name (head w).name (head one.0).name
-        ((pairwise_parts Unlike (names_in r.before) ((head one.0).name ∷ names_in r.behind) all).across (head w).name (head one.0).name (in_map_from (λ z. (head z).name) r.before w i) (inl refl)) passes
+        ((pairwise_parts Unlike (names_in r.before) ((head one.0).name ∷ names_in r.behind) all).across (head w).name
+        (head one.0).name (in_map_from (λ z. (head z).name) r.before w i) (inl refl)) passes
 
     gone : without_first (is_named name) (listed ts) ≡ r.before ++ ([] ++ r.behind)
     gone =
@@ -143,7 +155,8 @@ folds_back a b e = go (folds_same b a) refl
     go : (v : Bool) → folds_same b a ≡ v → folds_same b a ≡ false
     go false f = f
     go true f =
-        absurd (let g : folds_same a b ≡ true = both_fold b a b f (folds_itself b) in let d : true ≡ false = sym g ∙ e in cc)
+        absurd (let g : folds_same a b ≡ true = both_fold b a b f (folds_itself b) in
+        let d : true ≡ false = sym g ∙ e in cc)
 
 -- with one more key of a new name names are still apart
 siblings_more : (before behind : List Tree) (u : Tree) (hd : Head) (ts : Trees) → listed ts ≡ before ++ behind
@@ -156,15 +169,19 @@ siblings_more before behind u hd ts whole n nu some fresh = record {
         left = one.left;
         right = (
           λ m i. let p = in_map (λ w. (head w).name) behind m i in
-              subst (λ (z : List ℕ). folds_same z (head u).name ≡ false) p.2 (folds_back (head u).name (head p.0).name (fresh p.0 (there p.0 (in_right before behind p.0 p.1)))),
+              subst (λ (z : List ℕ). folds_same z (head u).name ≡ false) p.2
+              (folds_back (head u).name (head p.0).name (fresh p.0 (there p.0 (in_right before behind p.0 p.1)))),
           one.right,
         );
         across = λ a m i j. ⊎_elim
             (λ (e : (head u).name ≡ m). let p = in_map (λ w. (head w).name) before a i in
-            subst (λ (z : List ℕ). folds_same m z ≡ false) p.2 (subst (λ (z : List ℕ). folds_same z (head p.0).name ≡ false) e (fresh p.0 (there p.0 (in_left before behind p.0 p.1)))))
+            subst (λ (z : List ℕ). folds_same m z ≡ false) p.2
+            (subst (λ (z : List ℕ). folds_same z (head p.0).name ≡ false) e
+            (fresh p.0 (there p.0 (in_left before behind p.0 p.1)))))
             (λ (k : In (names_in behind) m). one.across a m i k) j;
       }));
-  named = λ m i. let p = in_map (λ w. (head w).name) (before ++ u ∷ behind) m i in subst (λ (z : List ℕ). 0 < length z) p.2 (name_of p.0 (in_cases before (u ∷ behind) p.0 p.1));
+  named = λ m i. let p = in_map (λ w. (head w).name) (before ++ u ∷ behind) m i in
+      subst (λ (z : List ℕ). 0 < length z) p.2 (name_of p.0 (in_cases before (u ∷ behind) p.0 p.1));
   each = λ w i. key_of w (in_cases before (u ∷ behind) w i);
 }
   where
@@ -214,10 +231,13 @@ pub child_come : (b c : Cells) (root : ℕ) (t u : Tree) (path p : List (List �
     → ((m : List ℕ) → In (map (node_name b) front) m → is_gt (folded_order m (head u).name) ≡ false)
     → StandsBefore (head u).name (map (node_name b) back)
     → IsWellFormed c root (at_key path (of_children (placed u)) t)
-child_come b c root t u path p x y left front back counted hd ts well f h deep found s n g su nu low some fresh small great =
+child_come b c root t u path p x y left front back counted hd ts well f h deep found s n g su nu low some fresh small
+    great =
     subst (IsWellFormed c root)
-    (changed_alike (of_children (λ us. r.before ++ (u ∷ [] ++ r.behind))) (of_children (placed u)) path t (key hd ts) found (ap (λ (us : List Tree). key hd (trees us)) (sym come)))
-    (relisted b c root t path p x left front [] (y ∷ []) back counted hd ts (u ∷ []) well f h deep found s n g new (λ w i. ⊎_elim (λ (e : u ≡ w). subst (λ (z : Tree). levels z ≤ left) e low) (λ (z : ⊥). absurd z) i) r
+    (changed_alike (of_children (λ us. r.before ++ (u ∷ [] ++ r.behind))) (of_children (placed u)) path t (key hd ts)
+    found (ap (λ (us : List Tree). key hd (trees us)) (sym come)))
+    (relisted b c root t path p x left front [] (y ∷ []) back counted hd ts (u ∷ []) well f h deep found s n g new
+    (λ w i. ⊎_elim (λ (e : u ≡ w). subst (λ (z : Tree). levels z ≤ left) e low) (λ (z : ⊥). absurd z) i) r
     (siblings_more r.before r.behind u hd ts parts n nu some fresh))
   where
     new : AllStand c (y ∷ []) (trees (u ∷ []))
@@ -231,22 +251,26 @@ child_come b c root t u path p x y left front back counted hd ts well f h deep f
 
     not_greater : (w : Tree) → In r.before w → is_gt (folded_order (head w).name (head u).name) ≡ false
     not_greater w i =
-        small (head w).name (subst (λ (l : List (List ℕ)). In l (head w).name) (names_stand b front r.before r.stood_before) (in_map_from (λ z. (head z).name) r.before w i))
+        small (head w).name (subst (λ (l : List (List ℕ)). In l (head w).name)
+        (names_stand b front r.before r.stood_before) (in_map_from (λ z. (head z).name) r.before w i))
 
     come : placed u (listed ts) ≡ r.before ++ (u ∷ [] ++ r.behind)
     come =
         ap (placed u) parts
-        ∙ placed_between u r.before r.behind not_greater (subst (StandsBefore (head u).name) (sym (names_stand b back r.behind r.stood_behind)) great)
+        ∙ placed_between u r.before r.behind not_greater
+        (subst (StandsBefore (head u).name) (sym (names_stand b back r.behind r.stood_behind)) great)
 
 -- ---- sizes
 
 -- A tree grows by the size of the lists and the children that a key of it gets, less that of those that it had.
 pub relisted_size : (version : HiveVersion) (shared : List ℕ) (path : List (List ℕ)) (t : Tree) (hd : Head)
     (ts : Trees) (f : List Tree → List Tree) → find_key path t ≡ Some (key hd ts)
-    → size version shared (at_key path (of_children f) t) + (list_size (count ts) + sizes_of version hd.security (listed ts))
+    → size version shared (at_key path (of_children f) t)
+    + (list_size (count ts) + sizes_of version hd.security (listed ts))
     ≡ size version shared t + (list_size (length (f (listed ts))) + sizes_of version hd.security (f (listed ts)))
 relisted_size version shared path t hd ts f e =
-    changed_size version shared path t (key hd ts) (of_children f) (list_size (count ts) + sizes_of version hd.security (listed ts))
+    changed_size version shared path t (key hd ts) (of_children f)
+    (list_size (count ts) + sizes_of version hd.security (listed ts))
     (list_size (length (f (listed ts))) + sizes_of version hd.security (f (listed ts))) e here
   where
     sum : (h l m a b : ℕ) → h + m + b + (l + a) ≡ h + l + a + (m + b)
@@ -254,10 +278,17 @@ relisted_size version shared path t hd ts f e =
 
     here : (s : List ℕ)
         → size version s (of_children f (key hd ts)) + (list_size (count ts) + sizes_of version hd.security (listed ts))
-        ≡ size version s (key hd ts) + (list_size (length (f (listed ts))) + sizes_of version hd.security (f (listed ts)))
+        ≡ size version s (key hd ts)
+        + (list_size (length (f (listed ts))) + sizes_of version hd.security (f (listed ts)))
     here s =
-        ap (λ (n : ℕ). head_size version s hd + list_size n + size_of_all version hd.security (trees (f (listed ts))) + (list_size (count ts) + sizes_of version hd.security (listed ts)))
+        ap (λ (n : ℕ). head_size version s hd + list_size n + size_of_all version hd.security (trees (f (listed ts)))
+        + (list_size (count ts) + sizes_of version hd.security (listed ts)))
         (ap (λ (l : List Tree). length l) (listed_trees (f (listed ts))))
-        ∙ ap (λ (n : ℕ). head_size version s hd + list_size (length (f (listed ts))) + n + (list_size (count ts) + sizes_of version hd.security (listed ts))) (sizes_trees version hd.security (f (listed ts)))
-        ∙ sum (head_size version s hd) (list_size (count ts)) (list_size (length (f (listed ts)))) (sizes_of version hd.security (listed ts)) (sizes_of version hd.security (f (listed ts)))
-        ∙ ap (λ (n : ℕ). head_size version s hd + list_size (count ts) + n + (list_size (length (f (listed ts))) + sizes_of version hd.security (f (listed ts)))) (sym (sizes_listed version hd.security ts))
+        ∙ ap (λ (n : ℕ). head_size version s hd + list_size (length (f (listed ts))) + n
+        + (list_size (count ts) + sizes_of version hd.security (listed ts)))
+        (sizes_trees version hd.security (f (listed ts)))
+        ∙ sum (head_size version s hd) (list_size (count ts)) (list_size (length (f (listed ts))))
+        (sizes_of version hd.security (listed ts)) (sizes_of version hd.security (f (listed ts)))
+        ∙ ap (λ (n : ℕ). head_size version s hd + list_size (count ts) + n
+        + (list_size (length (f (listed ts))) + sizes_of version hd.security (f (listed ts))))
+        (sym (sizes_listed version hd.security ts))

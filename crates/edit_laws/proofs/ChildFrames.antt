@@ -34,19 +34,25 @@ use Rattle.edit_laws.proofs.Relisting.{longer_no, still_same, still_elsewhere, I
 value_in : (cells : Cells) (at o : ℕ) (name : List ℕ) → HasRole cells at (value name) o
     → In (all_value_cells cells at) o
 value_in cells at o name h =
-    in_right (value_list_at cells at) (cells_of_values cells (value_places cells at)) o (in_flat_from (λ v. used_in (value_checks cells [] v)) (value_places cells at) o h.place h.listed h.used)
+    in_right (value_list_at cells at) (cells_of_values cells (value_places cells at)) o
+    (in_flat_from (λ v. used_in (value_checks cells [] v)) (value_places cells at) o h.place h.listed h.used)
 
 role_used : (cells : Cells) (at o : ℕ) (r : Role) → HasRole cells at r o → (s : Bool) × In (own_uses cells at) (o, s)
 role_used cells at o node h = (false, inl (λ i. (h i, false)))
 role_used cells at o class h = (
   false,
-  inr (in_left (plain (class_cell_at cells at)) (secure (security_cell_at cells at) ++ (plain (all_value_cells cells at) ++ plain (list_cells_at cells at))) (o, false)
+  inr (in_left (plain (class_cell_at cells at))
+      (secure (security_cell_at cells at) ++ (plain (all_value_cells cells at) ++ plain (list_cells_at cells at)))
+      (o, false)
       (in_map_from (λ (z : ℕ). (z, false)) (class_cell_at cells at) o h)),
 )
 role_used cells at o security h = (
   true,
-  inr (in_right (plain (class_cell_at cells at)) (secure (security_cell_at cells at) ++ (plain (all_value_cells cells at) ++ plain (list_cells_at cells at))) (o, true)
-      (in_left (secure (security_cell_at cells at)) (plain (all_value_cells cells at) ++ plain (list_cells_at cells at)) (o, true)
+  inr (in_right (plain (class_cell_at cells at))
+      (secure (security_cell_at cells at) ++ (plain (all_value_cells cells at) ++ plain (list_cells_at cells at)))
+      (o, true)
+      (in_left (secure (security_cell_at cells at)) (plain (all_value_cells cells at) ++ plain (list_cells_at cells at))
+      (o, true)
       (in_map_from (λ (z : ℕ). (z, true)) (security_cell_at cells at) o h))),
 )
 role_used cells at o value_list h =
@@ -54,20 +60,32 @@ role_used cells at o value_list h =
   where
     of_values : (cells : Cells) (at o : ℕ) → In (all_value_cells cells at) o → In (own_uses cells at) (o, false)
     of_values cells at o i =
-        inr (in_right (plain (class_cell_at cells at)) (secure (security_cell_at cells at) ++ (plain (all_value_cells cells at) ++ plain (list_cells_at cells at))) (o, false)
-        (in_right (secure (security_cell_at cells at)) (plain (all_value_cells cells at) ++ plain (list_cells_at cells at)) (o, false)
-        (in_left (plain (all_value_cells cells at)) (plain (list_cells_at cells at)) (o, false) (in_map_from (λ (z : ℕ). (z, false)) (all_value_cells cells at) o i))))
+        inr (in_right (plain (class_cell_at cells at))
+        (secure (security_cell_at cells at) ++ (plain (all_value_cells cells at) ++ plain (list_cells_at cells at)))
+        (o, false)
+        (in_right (secure (security_cell_at cells at))
+        (plain (all_value_cells cells at) ++ plain (list_cells_at cells at)) (o, false)
+        (in_left (plain (all_value_cells cells at)) (plain (list_cells_at cells at)) (o, false)
+        (in_map_from (λ (z : ℕ). (z, false)) (all_value_cells cells at) o i))))
 role_used cells at o (value name) h = (
   false,
-  inr (in_right (plain (class_cell_at cells at)) (secure (security_cell_at cells at) ++ (plain (all_value_cells cells at) ++ plain (list_cells_at cells at))) (o, false)
-      (in_right (secure (security_cell_at cells at)) (plain (all_value_cells cells at) ++ plain (list_cells_at cells at)) (o, false)
-      (in_left (plain (all_value_cells cells at)) (plain (list_cells_at cells at)) (o, false) (in_map_from (λ (z : ℕ). (z, false)) (all_value_cells cells at) o (value_in cells at o name h))))),
+  inr (in_right (plain (class_cell_at cells at))
+      (secure (security_cell_at cells at) ++ (plain (all_value_cells cells at) ++ plain (list_cells_at cells at)))
+      (o, false)
+      (in_right (secure (security_cell_at cells at))
+      (plain (all_value_cells cells at) ++ plain (list_cells_at cells at)) (o, false)
+      (in_left (plain (all_value_cells cells at)) (plain (list_cells_at cells at)) (o, false)
+      (in_map_from (λ (z : ℕ). (z, false)) (all_value_cells cells at) o (value_in cells at o name h))))),
 )
 role_used cells at o lists h = (
   false,
-  inr (in_right (plain (class_cell_at cells at)) (secure (security_cell_at cells at) ++ (plain (all_value_cells cells at) ++ plain (list_cells_at cells at))) (o, false)
-      (in_right (secure (security_cell_at cells at)) (plain (all_value_cells cells at) ++ plain (list_cells_at cells at)) (o, false)
-      (in_right (plain (all_value_cells cells at)) (plain (list_cells_at cells at)) (o, false) (in_map_from (λ (z : ℕ). (z, false)) (list_cells_at cells at) o h)))),
+  inr (in_right (plain (class_cell_at cells at))
+      (secure (security_cell_at cells at) ++ (plain (all_value_cells cells at) ++ plain (list_cells_at cells at)))
+      (o, false)
+      (in_right (secure (security_cell_at cells at))
+      (plain (all_value_cells cells at) ++ plain (list_cells_at cells at)) (o, false)
+      (in_right (plain (all_value_cells cells at)) (plain (list_cells_at cells at)) (o, false)
+      (in_map_from (λ (z : ℕ). (z, false)) (list_cells_at cells at) o h)))),
 )
 
 -- what a key or one below it owns is used, where there are levels enough
@@ -75,15 +93,20 @@ pub owned_used : (left : ℕ) (cells : Cells) (p : List (List ℕ)) (at x o : �
     → Reaches cells at p x → HasRole cells x r o → (s : Bool) × In (tree_uses left cells at) (o, s)
 owned_used zero cells p at x o r lt h i = absurd (omega (arith, lt))
 owned_used (suc left) cells [] at x o r lt h i =
-    let u = role_used cells at o r (subst (λ (z : ℕ). HasRole cells z r o) (sym h) i) in (u.0, in_left (own_uses cells at) (flat_map (tree_uses left cells) (child_places cells at)) (o, u.0) u.1)
+    let u = role_used cells at o r (subst (λ (z : ℕ). HasRole cells z r o) (sym h) i) in
+    (u.0, in_left (own_uses cells at) (flat_map (tree_uses left cells) (child_places cells at)) (o, u.0) u.1)
 owned_used (suc left) cells (m ∷ p) at x o r lt h i =
-    let u = owned_used left cells p h.0 x o r (omega (arith, lt)) h.3 i in
-    (u.0, in_right (own_uses cells at) (flat_map (tree_uses left cells) (child_places cells at)) (o, u.0) (in_flat_from (tree_uses left cells) (child_places cells at) (o, u.0) h.0 h.1 u.1))
+    let u = owned_used left cells p h.0 x o r (omega (arith, lt)) h.3 i in (
+      u.0,
+      in_right (own_uses cells at) (flat_map (tree_uses left cells) (child_places cells at)) (o, u.0)
+          (in_flat_from (tree_uses left cells) (child_places cells at) (o, u.0) h.0 h.1 u.1),
+    )
 
 -- ---- a child comes
 
 -- the step names the key that gets a child, its lists, and the cells that are counted anew
-pub record NamesParent (b : Cells) (root : ℕ) (t : Tree) (step : Step) (p : List (List ℕ)) (counted : List ℕ) : Type 0 where
+pub record NamesParent (b : Cells) (root : ℕ) (t : Tree) (step : Step) (p : List (List ℕ))
+    (counted : List ℕ) : Type 0 where
   pub key : Matches t step p node
   pub list : Matches t step p lists
   pub count : (o : ℕ) → In counted o → IsMatched b root t step o
@@ -104,12 +127,14 @@ come_keeps b c root t p x left front put back counted well h g q y k = go (eithe
     go (inl e) = ap (node_name c) e ∙ here ∙ ap (node_name b) (sym e)
     go (inr differs) =
         let s = still_elsewhere b c root t p q x left y front [] put back counted well h g k
-        (λ e. differs (reach_one b p root y x (sound_hive b root t well).all (subst (λ (z : List (List ℕ)). Reaches b root z y) e k) h)) (λ w. absurd w.1) in
+        (λ e. differs (reach_one b p root y x (sound_hive b root t well).all
+        (subst (λ (z : List (List ℕ)). Reaches b root z y) e k) h)) (λ w. absurd w.1) in
         same_name b c y (s.same.each node y (λ z. z) refl)
 
 -- a path along keys that are the same leads where it led
 pub reach_kept : (b c : Cells) (root : ℕ) (whole front p : List (List ℕ)) (at x : ℕ) → front ++ p ≡ whole
-    → ((q r : List (List ℕ)) (z : ℕ) → q ++ r ≡ whole → Reaches b root q z → (q ≡ whole → ⊥) → child_places c z ≡ child_places b z)
+    → ((q r : List (List ℕ)) (z : ℕ) → q ++ r ≡ whole → Reaches b root q z → (q ≡ whole → ⊥)
+    → child_places c z ≡ child_places b z)
     → ((q r : List (List ℕ)) (z : ℕ) → q ++ r ≡ whole → Reaches b root q z → node_name c z ≡ node_name b z)
     → Reaches b root front at → Reaches b at p x → Reaches c at p x
 reach_kept b c root whole front [] at x e same keeps k h = h
@@ -129,8 +154,15 @@ come_leaves : (b c : Cells) (root : ℕ) (tb t u : Tree) (step : Step) (p : List
 come_leaves b c root tb t u step p x left front put back counted well ok h names g = record {
   version = g.version;
   rest = λ o q held out. g.others o q held
-      (λ e. out (subst (Contains (step_cells b root t step)) (sym e) (back_to x (record { path = p; role = node; owns = record { at = x; reached = h; has = refl }; matches = names.key }))))
-      (λ i. out (back_to o (record { path = p; role = lists; owns = record { at = x; reached = h; has = i }; matches = names.list })))
+      (λ e. out (subst (Contains (step_cells b root t step)) (sym e)
+      (back_to x (record {
+        path = p;
+        role = node;
+        owns = record { at = x; reached = h; has = refl };
+        matches = names.key;
+      }))))
+      (λ i. out (back_to o (record
+      { path = p; role = lists; owns = record { at = x; reached = h; has = i }; matches = names.list })))
       (λ s i. absurd i) (λ i. out (back_to o (names.count o i)));
 }
   where
@@ -157,9 +189,12 @@ come_relisted b c root tb t u v step p x left front put back counted well well_n
     count = g.same.value_count;
     list = g.same.value_list;
     list_cell = λ o i. still value_list o i (λ z. z) tt;
-    cells = λ w i o used. still (value (value_name b w)) o (record { place = w; listed = i; named = refl; used = used }) (λ z. z) tt;
+    cells = λ w i o used. still (value (value_name b w)) o (record { place = w; listed = i; named = refl; used = used })
+        (λ z. z) tt;
   };
-  lists = λ o i. new (o, false) (g.used (o, false) (in_left (plain (list_cells_at c x)) (flat_map (tree_uses left c) put) (o, false) (in_map_from (λ (z : ℕ). (z, false)) (list_cells_at c x) o i)));
+  lists = λ o i. new (o, false)
+      (g.used (o, false) (in_left (plain (list_cells_at c x)) (flat_map (tree_uses left c) put) (o, false)
+      (in_map_from (λ (z : ℕ). (z, false)) (list_cells_at c x) o i)));
   child = λ y i. which y (in_cases front (put ++ back) y (subst (λ (l : List ℕ). In l y) places i));
 }
   where
@@ -168,14 +203,17 @@ come_relisted b c root tb t u v step p x left front put back counted well well_n
 
     still : (r : Role) (o : ℕ) → HasRole b x r o → (IsSecurity r → ⊥) → IsStill r → c.payload o ≡ b.payload o
     still r o i plain_role stays =
-        still_same b c root tb p p x left x front [] put back counted r o well h g h i plain_role (λ e. stays) (λ w. absurd w.1)
+        still_same b c root tb p p x left x front [] put back counted r o well h g h i plain_role (λ e. stays)
+        (λ w. absurd w.1)
 
     keeps : (q : List (List ℕ)) (y : ℕ) → Reaches b root q y → node_name c y ≡ node_name b y
     keeps q y k = come_keeps b c root tb p x left front put back counted well h g q y k
 
     reached_new : Reaches c root p x
     reached_new = reach_kept b c root p [] p root x refl
-        (λ q r z e k apart. places_kept b c z (still_elsewhere b c root tb p q x left z front [] put back counted well h g k apart (λ w. absurd w.1)).same)
+        (λ q r z e k apart. places_kept b c z
+        (still_elsewhere b c root tb p q x left z front [] put back counted well h g k apart
+        (λ w. absurd w.1)).same)
         (λ q r z e k. keeps q z k) refl h
 
     matched : (o : ℕ) → IsMatched b root t step o → IsNew b root t step o
@@ -185,7 +223,16 @@ come_relisted b c root tb t u v step p x left front put back counted well well_n
         → IsNew b root t step w.0
     new w (inl i) = ⊎_elim
         (λ j. let m = in_map (λ (z : ℕ). (z, false)) (list_cells_at b x) w j in
-        matched w.0 (record { path = p; role = lists; owns = record { at = x; reached = h; has = subst (In (list_cells_at b x)) (ap (λ (z : ℕ × Bool). z.0) m.2) m.1 }; matches = names.list }))
+        matched w.0 (record {
+          path = p;
+          role = lists;
+          owns = record {
+            at = x;
+            reached = h;
+            has = subst (In (list_cells_at b x)) (ap (λ (z : ℕ × Bool). z.0) m.2) m.1;
+          };
+          matches = names.list;
+        }))
         (λ (z : ⊥). absurd z) (in_cases (plain (list_cells_at b x)) [] w i)
     new w (inr (inl n)) = inl n
     new w (inr (inr i)) = matched w.0 (names.count w.0 i.1)
@@ -198,14 +245,23 @@ come_relisted b c root tb t u v step p x left front put back counted well well_n
         (i, keeps (p ++ node_name b y ∷ []) y (reach_on b p (node_name b y ∷ []) root x y h (y, i, refl, refl)))
 
     which : (y : ℕ) → In front y ⊎ In (put ++ back) y
-        → (In (child_places b x) y × (node_name c y ≡ node_name b y)) ⊎ ((q : List (List ℕ)) (r : Role) (o : ℕ) → Owns c y q r o → IsNew b root t step o)
+        → (In (child_places b x) y × (node_name c y ≡ node_name b y))
+        ⊎ ((q : List (List ℕ)) (r : Role) (o : ℕ) → Owns c y q r o → IsNew b root t step o)
     which y (inl i) = inl (old_child y (there y (in_left front back y i)))
     which y (inr i) = ⊎_elim
         (λ j. inr (λ q r o own.
-        let shallow = (sound_hive c root v well_new).shallow (p ++ node_name c y ∷ q) own.at (reach_on c p (node_name c y ∷ q) root x own.at reached_new
-        (y, subst (λ (l : List ℕ). In l y) (sym places) (in_right front (put ++ back) y (in_left put back y j)), refl, own.reached)) in
-        let s = owned_used left c q y own.at o r (let l = length_on p (node_name c y) q in omega (arith, shallow, l, deep)) own.reached own.has in
-        new (o, s.0) (g.used (o, s.0) (in_right (plain (list_cells_at c x)) (flat_map (tree_uses left c) put) (o, s.0) (in_flat_from (tree_uses left c) put (o, s.0) y j s.1)))))
+        let shallow = (sound_hive c root v well_new).shallow (p ++ node_name c y ∷ q) own.at
+        (reach_on c p (node_name c y ∷ q) root x own.at reached_new (
+          y,
+          subst (λ (l : List ℕ). In l y) (sym places) (in_right front (put ++ back) y (in_left put back y j)),
+          refl,
+          own.reached,
+        )) in
+        let s = owned_used left c q y own.at o r
+        (let l = length_on p (node_name c y) q in omega (arith, shallow, l, deep)) own.reached own.has in
+        new (o, s.0) (g.used (o, s.0)
+        (in_right (plain (list_cells_at c x)) (flat_map (tree_uses left c) put) (o, s.0)
+        (in_flat_from (tree_uses left c) put (o, s.0) y j s.1)))))
         (λ j. inl (old_child y (there y (in_right front back y j))))
         (in_cases put back y i)
       where
@@ -219,7 +275,8 @@ come_names : (b c : Cells) (root : ℕ) (t : Tree) (p : List (List ℕ)) (x left
     → IsWellFormed b root t → Reaches b root p x → ChangesChildren b c root x left front [] put back counted
     → KeepsNames b c root
 come_names b c root t p x left front put back counted well h g q z y r rc i j =
-    come_keeps b c root t p x left front put back counted well h g (q ++ node_name b y ∷ []) y (reach_on b q (node_name b y ∷ []) root z y r (y, i, refl, refl))
+    come_keeps b c root t p x left front put back counted well h g (q ++ node_name b y ∷ []) y
+    (reach_on b q (node_name b y ∷ []) root z y r (y, i, refl, refl))
 
 -- no child of a key has a name that none has in the tree
 pub has_none : (b : Cells) (x : ℕ) (hd : Head) (ts : Trees) (name : List ℕ) → Stands b x (key hd ts)
@@ -235,9 +292,19 @@ pub make_names : (b : Cells) (root : ℕ) (t : Tree) (parent p : List (List ℕ)
     (counted : List ℕ) → has_key parent name t ≡ false → Folds parent p → Reaches b root p x
     → ((o : ℕ) → In counted o → In (security_cell_at b x) o) → NamesParent b root t (make_key parent name) p counted
 make_names b root t parent p name x counted none f h count = record {
-  key = inl (record { key = parent ++ name ∷ []; named = inl refl; folds = inr (subst (λ (k : List (List ℕ)). Folds k p) (sym (parent_is parent name)) f); node = tt });
+  key = inl (record {
+    key = parent ++ name ∷ [];
+    named = inl refl;
+    folds = inr (subst (λ (k : List (List ℕ)). Folds k p) (sym (parent_is parent name)) f);
+    node = tt;
+  });
   list = inr (none, f, inl tt);
-  count = λ o i. record { path = p; role = security; owns = record { at = x; reached = h; has = count o i }; matches = inr (none, f, inr tt) };
+  count = λ o i. record {
+    path = p;
+    role = security;
+    owns = record { at = x; reached = h; has = count o i };
+    matches = inr (none, f, inr tt);
+  };
 }
 
 pub make_leaves : (b c : Cells) (root : ℕ) (tb t u : Tree) (parent p : List (List ℕ)) (name : List ℕ) (x left : ℕ)
@@ -253,9 +320,11 @@ pub make_is_framed : (b c : Cells) (root : ℕ) (tb t u v : Tree) (parent p : Li
     → HasNone b x name → NamesParent b root t (make_key parent name) p counted
     → ChangesChildren b c root x left front [] put back counted → IsFramed b c root t (make_key parent name)
 make_is_framed b c root tb t u v parent p name x left front put back counted well well_new ok f h deep none names g =
-    made_framed b c root tb t parent name well (come_leaves b c root tb t u (make_key parent name) p x left front put back counted well ok h names g)
+    made_framed b c root tb t parent name well
+    (come_leaves b c root tb t u (make_key parent name) p x left front put back counted well ok h names g)
     (come_names b c root tb p x left front put back counted well h g) p x f h none
-    (come_relisted b c root tb t u v (make_key parent name) p x left front put back counted well well_new ok h deep names g)
+    (come_relisted b c root tb t u v (make_key parent name)
+    p x left front put back counted well well_new ok h deep names g)
 
 -- A child is added.
 pub add_names : (b : Cells) (root : ℕ) (t k : Tree) (name : List ℕ) (counted : List ℕ)
@@ -263,7 +332,12 @@ pub add_names : (b : Cells) (root : ℕ) (t k : Tree) (name : List ℕ) (counted
 add_names b root t k name counted count = record {
   key = inl (record { key = name ∷ []; named = inl refl; folds = inr tt; node = tt });
   list = inr (tt, inl tt);
-  count = λ o i. record { path = []; role = security; owns = record { at = root; reached = refl; has = count o i }; matches = inr (tt, inr tt) };
+  count = λ o i. record {
+    path = [];
+    role = security;
+    owns = record { at = root; reached = refl; has = count o i };
+    matches = inr (tt, inr tt);
+  };
 }
 
 pub add_is_framed : (b c : Cells) (root : ℕ) (tb t u v k : Tree) (name : List ℕ) (left : ℕ)
@@ -273,10 +347,13 @@ pub add_is_framed : (b c : Cells) (root : ℕ) (tb t u v k : Tree) (name : List 
     → ChangesChildren b c root root left front [] put back counted
     → LeavesOthers b c root t (add_child name k) × IsFramed b c root t (add_child name k)
 add_is_framed b c root tb t u v k name left front put back counted well well_new ok deep none names g =
-    let leaves = come_leaves b c root tb t u (add_child name k) [] root left front put back counted well ok refl names g in (
+    let leaves = come_leaves b c root tb t u (add_child name k)
+    [] root left front put back counted well ok refl names g in (
       leaves,
-      added_framed b c root tb t k name well leaves (come_names b c root tb [] root left front put back counted well refl g) none
-          (come_relisted b c root tb t u v (add_child name k) [] root left front put back counted well well_new ok refl (let e : length {A = List ℕ} [] + suc left ≡ 512 = omega (arith, deep) in e) names g),
+      added_framed b c root tb t k name well leaves
+          (come_names b c root tb [] root left front put back counted well refl g) none
+          (come_relisted b c root tb t u v (add_child name k) [] root left front put back counted well well_new ok refl
+          (let e : length {A = List ℕ} [] + suc left ≡ 512 = omega (arith, deep) in e) names g),
     )
 
 -- A child is copied: of the cells that are counted anew each is one of security of the child or below it.
@@ -296,9 +373,14 @@ pub copy_is_framed : (b c : Cells) (root : ℕ) (tb t u v : Tree) (from to : Lis
     → ChangesChildren b c root root left front [] put back counted
     → LeavesOthers b c root t (copy_child from to) × IsFramed b c root t (copy_child from to)
 copy_is_framed b c root tb t u v from to left front put back counted well well_new ok deep none names g =
-    let leaves = come_leaves b c root tb t u (copy_child from to) [] root left front put back counted well ok refl names g in (
+    let leaves = come_leaves b c root tb t u (copy_child from to)
+    [] root left front put back counted well ok refl names g in (
       leaves,
-      copied_framed b c root tb t from to well leaves (come_names b c root tb [] root left front put back counted well refl g)
-          (λ q z r f. (still_elsewhere b c root tb [] q root left z front [] put back counted well refl g r (λ e. subst (Folds (from ∷ [])) e f) (λ w. absurd w.1)).same.each node z (λ w. w) refl) none
-          (come_relisted b c root tb t u v (copy_child from to) [] root left front put back counted well well_new ok refl (let e : length {A = List ℕ} [] + suc left ≡ 512 = omega (arith, deep) in e) names g),
+      copied_framed b c root tb t from to well leaves
+          (come_names b c root tb [] root left front put back counted well refl g)
+          (λ q z r f. (still_elsewhere b c root tb [] q root left z front [] put back counted well refl g r
+          (λ e. subst (Folds (from ∷ [])) e f) (λ w. absurd w.1)).same.each node z (λ w. w) refl) none
+          (come_relisted b c root tb t u v (copy_child from to)
+          [] root left front put back counted well well_new ok refl
+          (let e : length {A = List ℕ} [] + suc left ≡ 512 = omega (arith, deep) in e) names g),
     )

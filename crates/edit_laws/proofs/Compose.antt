@@ -23,7 +23,13 @@ carried : (a b : Cells) (root : ℕ) (F : ℕ → Type 0) (t u : Tree) (step : S
     → Contains (step_cells b root t step) o → Contains (step_cells a root t step) o
 carried a b root F t u step bridge frames ok o q held out there =
     let m = bridge.out b t u step o ok there in
-    bridge.back t u step o ok (record { path = m.path; role = m.role; owns = frames.owned m.path m.role o q m.owns held out; matches = m.matches })
+    bridge.back t u step o ok
+    (record {
+      path = m.path;
+      role = m.role;
+      owns = frames.owned m.path m.role o q m.owns held out;
+      matches = m.matches;
+    })
 
 abbrev Wider : (ℕ → Type 0) → List ℕ → ℕ → Type 0
 Wider F cells o = F o ⊎ Contains cells o
@@ -55,11 +61,14 @@ frames_wider a b root F G more frames = record {
 pub compose : (a : Cells) (root : ℕ) → Bridges a root → (steps : List Step) (b c : Cells) (F : ℕ → Type 0) (t : Tree)
     → Frames a b root F → Edits root b t steps c → Frames a c root (Wider F (footprint_of a root t steps))
 compose a root bridge [] b c F t frames same =
-    subst (λ (x : Cells). Frames a x root (Wider F [])) same (frames_wider a b root F (Wider F []) (λ o f. inl f) frames)
+    subst (λ (x : Cells). Frames a x root (Wider F [])) same
+    (frames_wider a b root F (Wider F []) (λ o f. inl f) frames)
 compose a root bridge (step ∷ steps) b c F t frames edits =
     let u = edits.0 in let m = edits.1 in let ok = edits.2 in
-    let next = compose a root bridge steps m c (Wider F (step_cells a root t step)) u (one_more a b m root F t u step bridge frames ok edits.3) edits.4 in
-    frames_wider a c root (Wider (Wider F (step_cells a root t step)) (footprint_of a root u steps)) (Wider F (footprint_of a root t (step ∷ steps)))
+    let next = compose a root bridge steps m c (Wider F (step_cells a root t step)) u
+    (one_more a b m root F t u step bridge frames ok edits.3) edits.4 in
+    frames_wider a c root (Wider (Wider F (step_cells a root t step)) (footprint_of a root u steps))
+    (Wider F (footprint_of a root t (step ∷ steps)))
     (λ o. joined o) next
   where
     rest : Result Tree Refusal → List ℕ

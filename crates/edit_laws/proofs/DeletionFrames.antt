@@ -51,7 +51,8 @@ extends_end (x ∷ a) [] n m e = absurd (no_end a n e.1)
 extends_end (x ∷ a) (k ∷ q) n m e = ⊎_elim (λ l. inl (e.0, l)) (λ r. inr ((e.0, r.0), r.1)) (extends_end a q n m e.1)
 
 -- all that is shown of a key that is deleted
-pub record IsDeletion (b c : Cells) (root : ℕ) (tb : Tree) (parent p : List (List ℕ)) (name : List ℕ) (x y left : ℕ) (front back counted : List ℕ) (hd : Head) (ts : Trees) : Type 0 where
+pub record IsDeletion (b c : Cells) (root : ℕ) (tb : Tree) (parent p : List (List ℕ)) (name : List ℕ) (x y left : ℕ)
+    (front back counted : List ℕ) (hd : Head) (ts : Trees) : Type 0 where
   pub well : IsWellFormed b root tb
   pub folds : Folds parent p
   pub reached : Reaches b root p x
@@ -61,11 +62,13 @@ pub record IsDeletion (b c : Cells) (root : ℕ) (tb : Tree) (parent p : List (L
   pub deletes : Deletes b root parent name y counted
   pub changes : ChangesChildren b c root x left front (y ∷ []) [] back counted
 
-module _ (b c : Cells) (root : ℕ) (tb : Tree) (parent p : List (List ℕ)) (name : List ℕ) (x y left : ℕ) (front back counted : List ℕ) (hd : Head) (ts : Trees)
+module _ (b c : Cells) (root : ℕ) (tb : Tree) (parent p : List (List ℕ)) (name : List ℕ) (x y left : ℕ)
+    (front back counted : List ℕ) (hd : Head) (ts : Trees)
     (d : IsDeletion b c root tb parent p name x y left front back counted hd ts) where
   distinct : Distinct (node_name b) (front ++ (y ∷ [] ++ back))
   distinct =
-      subst (Distinct (node_name b)) (sym (places_are b x hd d.stands.0 d.stands.1) ∙ d.changes.listed) (keys_distinct b d.stands.0 ts d.stands.2 d.apart.3 d.apart.2)
+      subst (Distinct (node_name b)) (sym (places_are b x hd d.stands.0 d.stands.1) ∙ d.changes.listed)
+      (keys_distinct b d.stands.0 ts d.stands.2 d.apart.3 d.apart.2)
 
   -- a child that stays keeps its node
   stays : (w : ℕ) → In front w ⊎ In back w → (IsGone b p (y ∷ []) (p ++ node_name b w ∷ []) → ⊥)
@@ -79,8 +82,10 @@ module _ (b c : Cells) (root : ℕ) (tb : Tree) (parent p : List (List ℕ)) (na
   child_same : (w : ℕ) → In front w ⊎ In back w → node_name c w ≡ node_name b w
   child_same w i =
       same_name b c w
-      ((still_elsewhere b c root tb p (p ++ node_name b w ∷ []) x left w front (y ∷ []) [] back counted d.well d.reached d.changes
-      (reach_on b p (node_name b w ∷ []) root x w d.reached (w, there w i, refl, refl)) (λ e. longer_no p (node_name b w) [] (sym e)) (stays w i)).same.each node w (λ z. z) refl)
+      ((still_elsewhere b c root tb p (p ++ node_name b w ∷ []) x left w front (y ∷ [])
+      [] back counted d.well d.reached d.changes
+      (reach_on b p (node_name b w ∷ []) root x w d.reached (w, there w i, refl, refl))
+      (λ e. longer_no p (node_name b w) [] (sym e)) (stays w i)).same.each node w (λ z. z) refl)
 
   -- a child that stays has another name
   other_name : (w : ℕ) → In front w ⊎ In back w → folds_same name (node_name b w) ≡ true → ⊥
@@ -89,7 +94,8 @@ module _ (b c : Cells) (root : ℕ) (tb : Tree) (parent p : List (List ℕ)) (na
       let both = both_fold name (node_name b y) (node_name b w) d.deletes.named e in
       let f : true ≡ false = sym both ∙ no in cc
   other_name w (inr i) e =
-      let no = apart_across (node_name b) (y ∷ []) back y w (distinct_right (node_name b) front (y ∷ [] ++ back) distinct) (inl refl) i in
+      let no = apart_across (node_name b) (y ∷ []) back y w
+      (distinct_right (node_name b) front (y ∷ [] ++ back) distinct) (inl refl) i in
       let both = both_fold name (node_name b w) (node_name b y) e d.deletes.named in
       let f : true ≡ false = sym both ∙ no in cc
 
@@ -124,19 +130,23 @@ module _ (b c : Cells) (root : ℕ) (tb : Tree) (parent p : List (List ℕ)) (na
       go (inl e) = ap (node_name c) e ∙ key_name ∙ ap (node_name b) (sym e)
       go (inr differs) =
           let s = still_elsewhere b c root tb p q x left w front (y ∷ []) [] back counted d.well d.reached d.changes k
-          (λ e. differs (reach_one b p root w x (sound_hive b root tb d.well).all (subst (λ (z : List (List ℕ)). Reaches b root z w) e k) d.reached)) out in
+          (λ e. differs (reach_one b p root w x (sound_hive b root tb d.well).all
+          (subst (λ (z : List (List ℕ)). Reaches b root z w) e k) d.reached)) out in
           same_name b c w (s.same.each node w (λ z. z) refl)
 
   pub reached_still : Reaches c root p x
   reached_still =
       reach_kept b c root p [] p root x refl
-      (λ q r z e k apart. places_kept b c z (still_elsewhere b c root tb p q x left z front (y ∷ []) [] back counted d.well d.reached d.changes k apart (not_gone_before q r e)).same)
+      (λ q r z e k apart. places_kept b c z
+      (still_elsewhere b c root tb p q x left z front (y ∷ []) [] back counted d.well d.reached d.changes k apart
+      (not_gone_before q r e)).same)
       (λ q r z e k. keeps_name q z k (not_gone_before q r e)) refl d.reached
 
   -- what goes extends the path of the key that is deleted
   gone_extends : (q : List (List ℕ)) → IsGone b p (y ∷ []) q → Extends (parent ++ name ∷ []) q
   gone_extends q g =
-      subst (Extends (parent ++ name ∷ [])) (sym g.3) (extends_on parent p name (node_name b g.0) g.2 d.folds (named_gone g.0 g.1))
+      subst (Extends (parent ++ name ∷ [])) (sym g.3)
+      (extends_on parent p name (node_name b g.0) g.2 d.folds (named_gone g.0 g.1))
     where
       named_gone : (z : ℕ) → In (y ∷ []) z → folds_same name (node_name b z) ≡ true
       named_gone z (inl e) = subst (λ (o : ℕ). folds_same name (node_name b o) ≡ true) e d.deletes.named
@@ -147,16 +157,20 @@ module _ (b c : Cells) (root : ℕ) (tb : Tree) (parent p : List (List ℕ)) (na
     where
       at_end : Extends (parent ++ name ∷ []) q ⊎ (Folds parent q × (folds_same name (node_name b w) ≡ true)) → ⊥
       at_end (inl l) =
-          not_through c root parent p name x (sound_hive c root v well_new).all d.folds reached_still none_new (through c parent name q root z l rc)
+          not_through c root parent p name x (sound_hive c root v well_new).all d.folds reached_still none_new
+          (through c parent name q root z l rc)
       at_end (inr f) =
-          let same : z ≡ x = place_one b root parent q p z x (sound_hive b root tb d.well).all f.0 d.folds k d.reached in
+          let same : z ≡ x = place_one b root parent q p z x
+          (sound_hive b root tb d.well).all f.0 d.folds k d.reached in
           other_name w (child_new w (subst (λ (o : ℕ). In (child_places c o) w) same j)) f.1
 
-      go : Extends (parent ++ name ∷ []) (q ++ node_name b w ∷ []) ⊎ (Extends (parent ++ name ∷ []) (q ++ node_name b w ∷ []) → ⊥)
+      go : Extends (parent ++ name ∷ []) (q ++ node_name b w ∷ [])
+          ⊎ (Extends (parent ++ name ∷ []) (q ++ node_name b w ∷ []) → ⊥)
           → node_name c w ≡ node_name b w
       go (inl e) = absurd (at_end (extends_end parent q name (node_name b w) e))
       go (inr never) =
-          keeps_name (q ++ node_name b w ∷ []) w (reach_on b q (node_name b w ∷ []) root z w k (w, i, refl, refl)) (λ g. never (gone_extends (q ++ node_name b w ∷ []) g))
+          keeps_name (q ++ node_name b w ∷ []) w (reach_on b q (node_name b w ∷ []) root z w k (w, i, refl, refl))
+          (λ g. never (gone_extends (q ++ node_name b w ∷ []) g))
 
   module _ (t u : Tree) (ok : after_step (delete_key (parent ++ name ∷ [])) t ≡ Ok u) where
     back_to : (o : ℕ) → IsMatched b root t (delete_key (parent ++ name ∷ [])) o
@@ -169,24 +183,37 @@ module _ (b c : Cells) (root : ℕ) (tb : Tree) (parent p : List (List ℕ)) (na
     of_lists : (o : ℕ) → In (list_cells_at b x) o
         → Contains (step_cells b root t (delete_key (parent ++ name ∷ []))) o
     of_lists o i =
-        back_to o (record { path = p; role = lists; owns = record { at = x; reached = d.reached; has = i }; matches = inr (inl (parent_folds, tt)) })
+        back_to o (record {
+          path = p;
+          role = lists;
+          owns = record { at = x; reached = d.reached; has = i };
+          matches = inr (inl (parent_folds, tt));
+        })
 
     of_gone : (o : ℕ) (s : Bool) → In (flat_map (tree_uses left b) (y ∷ [])) (o, s)
         → Contains (step_cells b root t (delete_key (parent ++ name ∷ []))) o
     of_gone o s i =
         let f = in_flat (tree_uses left b) (y ∷ []) (o, s) i in
         let w = uses_below left b f.0 o s f.2 in
-        let listed_there : In (child_places b x) f.0 = subst (λ (l : List ℕ). In l f.0) (sym d.changes.listed) (in_right front (y ∷ [] ++ back) f.0 (in_left (y ∷ []) back f.0 f.1)) in
+        let listed_there : In (child_places b x) f.0 =
+        subst (λ (l : List ℕ). In l f.0) (sym d.changes.listed)
+        (in_right front (y ∷ [] ++ back) f.0 (in_left (y ∷ []) back f.0 f.1)) in
         back_to o (record {
           path = p ++ node_name b f.0 ∷ w.path;
           role = w.role;
-          owns = record { at = w.owns.at; reached = reach_on b p (node_name b f.0 ∷ w.path) root x w.owns.at d.reached (f.0, listed_there, refl, w.owns.reached); has = w.owns.has };
+          owns = record {
+            at = w.owns.at;
+            reached = reach_on b p (node_name b f.0 ∷ w.path) root x w.owns.at d.reached
+                (f.0, listed_there, refl, w.owns.reached);
+            has = w.owns.has;
+          };
           matches = inr (inr (gone_extends (p ++ node_name b f.0 ∷ w.path) (f.0, f.1, w.path, refl)));
         })
 
     of_counted : (o : ℕ) → In counted o → Contains (step_cells b root t (delete_key (parent ++ name ∷ []))) o
     of_counted o i =
-        let w = d.deletes.count o i in back_to o (record { path = w.0; role = security; owns = w.2; matches = inr (inr w.1) })
+        let w = d.deletes.count o i in
+        back_to o (record { path = w.0; role = security; owns = w.2; matches = inr (inr w.1) })
 
     -- a key is deleted: all other cells are left
     pub deletion_leaves : LeavesOthers b c root t (delete_key (parent ++ name ∷ []))
@@ -204,17 +231,21 @@ module _ (b c : Cells) (root : ℕ) (tb : Tree) (parent p : List (List ℕ)) (na
     }
 
     new_cell : (w : ℕ × Bool)
-        → In (plain (list_cells_at b x) ++ flat_map (tree_uses left b) (y ∷ [])) w ⊎ (IsUnheld b w.0 ⊎ ((w.1 ≡ true) × In counted w.0))
+        → In (plain (list_cells_at b x) ++ flat_map (tree_uses left b) (y ∷ [])) w
+        ⊎ (IsUnheld b w.0 ⊎ ((w.1 ≡ true) × In counted w.0))
         → IsNew b root t (delete_key (parent ++ name ∷ [])) w.0
     new_cell w (inl i) = inr (⊎_elim
-        (λ j. let m = in_map (λ (z : ℕ). (z, false)) (list_cells_at b x) w j in of_lists w.0 (subst (In (list_cells_at b x)) (ap (λ (z : ℕ × Bool). z.0) m.2) m.1))
+        (λ j. let m = in_map (λ (z : ℕ). (z, false)) (list_cells_at b x) w j in
+        of_lists w.0 (subst (In (list_cells_at b x)) (ap (λ (z : ℕ × Bool). z.0) m.2) m.1))
         (λ j. of_gone w.0 w.1 j) (in_cases (plain (list_cells_at b x)) (flat_map (tree_uses left b) (y ∷ [])) w i))
     new_cell w (inr (inl n)) = inl n
     new_cell w (inr (inr i)) = inr (of_counted w.0 i.1)
 
     still_here : (r : Role) (o : ℕ) → HasRole b x r o → (IsSecurity r → ⊥) → IsStill r → c.payload o ≡ b.payload o
     still_here r o i plain_role kept =
-        still_same b c root tb p p x left x front (y ∷ []) [] back counted r o d.well d.reached d.changes d.reached i plain_role (λ e. kept) (λ w. longer_no p (node_name b w.0) w.2 w.3)
+        still_same b c root tb p p x left x front (y ∷ [])
+        [] back counted r o d.well d.reached d.changes d.reached i plain_role (λ e. kept)
+        (λ w. longer_no p (node_name b w.0) w.2 w.3)
 
     deletion_relisted : IsRelisted b c (IsNew b root t (delete_key (parent ++ name ∷ []))) x
     deletion_relisted = record {
@@ -232,13 +263,18 @@ module _ (b c : Cells) (root : ℕ) (tb : Tree) (parent p : List (List ℕ)) (na
         count = d.changes.same.value_count;
         list = d.changes.same.value_list;
         list_cell = λ o i. still_here value_list o i (λ z. z) tt;
-        cells = λ w i o used. still_here (value (value_name b w)) o (record { place = w; listed = i; named = refl; used = used }) (λ z. z) tt;
+        cells = λ w i o used. still_here (value (value_name b w)) o
+            (record { place = w; listed = i; named = refl; used = used }) (λ z. z) tt;
       };
-      lists = λ o i. new_cell (o, false) (d.changes.used (o, false) (in_left (plain (list_cells_at c x)) (flat_map (tree_uses left c) []) (o, false) (in_map_from (λ (z : ℕ). (z, false)) (list_cells_at c x) o i)));
+      lists = λ o i. new_cell (o, false)
+          (d.changes.used (o, false)
+          (in_left (plain (list_cells_at c x)) (flat_map (tree_uses left c) []) (o, false)
+          (in_map_from (λ (z : ℕ). (z, false)) (list_cells_at c x) o i)));
       child = λ w i. let j = child_new w i in inl (there w j, child_same w j);
     }
 
     -- a key is deleted: the step is framed
     pub deletion_framed : (v : Tree) → IsWellFormed c root v → IsFramed b c root t (delete_key (parent ++ name ∷ []))
     deletion_framed v well_new =
-        deleted_framed b c root tb t parent name d.well deletion_leaves (keeps_names v well_new) p x d.folds d.reached deletion_relisted (sound_hive c root v well_new).all reached_still none_new
+        deleted_framed b c root tb t parent name d.well deletion_leaves (keeps_names v well_new)
+        p x d.folds d.reached deletion_relisted (sound_hive c root v well_new).all reached_still none_new

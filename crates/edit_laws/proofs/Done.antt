@@ -35,13 +35,15 @@ unless_ok (test ∷ tests) x u e = go test.0 e (λ d. unless_ok tests x u d)
 set_result : (path : List (List ℕ)) (name : List ℕ) (kind : ℕ) (bytes : List ℕ) (t u : Tree)
     → after_step (set_value path name kind bytes) t ≡ Ok u → at_key path (of_items (with_item name kind bytes)) t ≡ u
 set_result path name kind bytes t u ok =
-    unless_ok ((is_none (find_key path t), no_key) ∷ (nat_lt longest_value_name (length name), name_too_long) ∷ (nat_lt 1048576 (length bytes), data_too_long) ∷ [])
+    unless_ok ((is_none (find_key path t), no_key) ∷ (nat_lt longest_value_name (length name), name_too_long)
+    ∷ (nat_lt 1048576 (length bytes), data_too_long) ∷ [])
     (at_key path (of_items (with_item name kind bytes)) t) u ok
 
 delete_result : (path : List (List ℕ)) (name : List ℕ) (t u : Tree) → after_step (delete_value path name) t ≡ Ok u
     → at_key path (of_items (without_first (is_item name))) t ≡ u
 delete_result path name t u ok =
-    unless_ok ((is_none (find_key path t), no_key) ∷ (not (has_item path name t), no_value) ∷ []) (at_key path (of_items (without_first (is_item name))) t) u ok
+    unless_ok ((is_none (find_key path t), no_key) ∷ (not (has_item path name t), no_value) ∷ [])
+    (at_key path (of_items (without_first (is_item name))) t) u ok
 
 -- A value that is there is set: its cells gave way to others, and the list names these.
 pub a_value_set : (b c : Cells) (root : ℕ) (t u : Tree) (path : List (List ℕ)) (name : List ℕ) (kind : ℕ)
@@ -52,9 +54,12 @@ pub a_value_set : (b c : Cells) (root : ℕ) (t u : Tree) (path : List (List ℕ
     → IsDone b c root t u (set_value path name kind bytes)
 a_value_set b c root t u path name kind bytes x v front put back well ok at named g = record {
   stands = subst (IsWellFormed c root) (set_result path name kind bytes t u ok)
-      (set_there b c root t k.tree path w.stored x v front put back name kind bytes well w.folds w.reached k.found k.stands named g);
-  leaves = set_leaves b c root t t u path w.stored name kind bytes x front (v ∷ []) put back (item (value_name b v) kind bytes ∷ []) well ok w.folds w.reached each g;
-  framed = set_is_framed b c root t t u k.tree path w.stored name kind bytes x front (v ∷ []) put back (item (value_name b v) kind bytes ∷ []) well ok w.folds w.reached k.stands each g;
+      (set_there b c root t k.tree path w.stored x v front put back name kind bytes well w.folds w.reached k.found
+      k.stands named g);
+  leaves = set_leaves b c root t t u path w.stored name kind bytes x front (v ∷ []) put back
+      (item (value_name b v) kind bytes ∷ []) well ok w.folds w.reached each g;
+  framed = set_is_framed b c root t t u k.tree path w.stored name kind bytes x front (v ∷ []) put back
+      (item (value_name b v) kind bytes ∷ []) well ok w.folds w.reached k.stands each g;
 }
   where
     w : IsPlaced b root path x
@@ -75,9 +80,12 @@ pub a_new_value_set : (b c : Cells) (root : ℕ) (t u : Tree) (path : List (List
     → IsDone b c root t u (set_value path name kind bytes)
 a_new_value_set b c root t u path name kind bytes x front put well ok at none g = record {
   stands = subst (IsWellFormed c root) (set_result path name kind bytes t u ok)
-      (set_new b c root t k.tree path w.stored x front put name kind bytes well w.folds w.reached k.found k.stands no_item g);
-  leaves = set_leaves b c root t t u path w.stored name kind bytes x front [] put [] (item name kind bytes ∷ []) well ok w.folds w.reached (λ z i. absurd i) g;
-  framed = set_is_framed b c root t t u k.tree path w.stored name kind bytes x front [] put [] (item name kind bytes ∷ []) well ok w.folds w.reached k.stands (λ z i. absurd i) g;
+      (set_new b c root t k.tree path w.stored x front put name kind bytes well w.folds w.reached k.found k.stands
+      no_item g);
+  leaves = set_leaves b c root t t u path w.stored name kind bytes x front [] put [] (item name kind bytes ∷ [])
+      well ok w.folds w.reached (λ z i. absurd i) g;
+  framed = set_is_framed b c root t t u k.tree path w.stored name kind bytes x front [] put []
+      (item name kind bytes ∷ []) well ok w.folds w.reached k.stands (λ z i. absurd i) g;
 }
   where
     w : IsPlaced b root path x
@@ -98,7 +106,8 @@ a_value_deleted b c root t u path name x v front back well ok at named g = recor
   stands = subst (IsWellFormed c root) (delete_result path name t u ok)
       (value_gone b c root t k.tree path w.stored x v front back name well w.folds w.reached k.found k.stands named g);
   leaves = delete_leaves b c root t t u path w.stored name x front (v ∷ []) [] back [] well ok w.folds w.reached each g;
-  framed = delete_is_framed b c root t t u k.tree path w.stored name x front (v ∷ []) [] back [] well ok w.folds w.reached k.stands each g;
+  framed = delete_is_framed b c root t t u k.tree path w.stored name x front (v ∷ [])
+      [] back [] well ok w.folds w.reached k.stands each g;
 }
   where
     w : IsPlaced b root path x

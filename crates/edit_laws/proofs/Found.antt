@@ -39,12 +39,25 @@ first_child cells name offsets (more t ts) y a h f =
     go : (v : Bool) → is_named name t ≡ v → In (a.0 ∷ a.1) y → (In a.1 y → IsChild cells name a.1 ts)
         → IsChild cells name offsets (more t ts)
     go true is i deep =
-        record { tree = t; found = found_by true t is refl; place = a.0; listed_there = here a.0 (inl refl); stands = a.3 }
+        record {
+          tree = t;
+          found = found_by true t is refl;
+          place = a.0;
+          listed_there = here a.0 (inl refl);
+          stands = a.3;
+        }
     go false is (inl e) deep =
-        absurd (let n : is_named name t ≡ true = ap (folds_same name) (sym (tree_name cells a.0 t a.3)) ∙ ap (λ (o : ℕ). folds_same name (node_name cells o)) e ∙ f in
+        absurd (let n : is_named name t ≡ true = ap (folds_same name) (sym (tree_name cells a.0 t a.3))
+        ∙ ap (λ (o : ℕ). folds_same name (node_name cells o)) e ∙ f in
         let d : true ≡ false = sym n ∙ is in cc)
     go false is (inr i) deep =
-        let d = deep i in record { tree = d.tree; found = found_by false d.tree is d.found; place = d.place; listed_there = here d.place (inr d.listed_there); stands = d.stands }
+        let d = deep i in record {
+          tree = d.tree;
+          found = found_by false d.tree is d.found;
+          place = d.place;
+          listed_there = here d.place (inr d.listed_there);
+          stands = d.stands;
+        }
 
 -- the key that a path leads to, in the tree and in the cells
 pub record IsThere (cells : Cells) (path : List (List ℕ)) (x : ℕ) (t : Tree) : Type 0 where
@@ -66,9 +79,12 @@ found_there cells (name ∷ path) (m ∷ p) at x (key h ts) s n f r =
     let c = first_child cells name s.0 ts r.0 s.2 (subst (λ (l : List ℕ). In l r.0) places r.1) named in
     let there : In (child_places cells at) c.place = subst (λ (l : List ℕ). In l c.place) (sym places) c.listed_there in
     let one = found_in (is_named name) (listed ts) c.tree c.found in
-    let named_there : folds_same name (node_name cells c.place) ≡ true = ap (folds_same name) (tree_name cells c.place c.tree c.stands) ∙ one.1 in
-    let same : c.place ≡ r.0 = (sound_at cells at (key h ts) s n).one_child name c.place r.0 there r.1 named_there named in
-    let deep = found_there cells path p r.0 x c.tree (subst (λ (z : ℕ). Stands cells z c.tree) same c.stands) (have_each ts c.tree n.3 one.0) f.1 r.3 in
+    let named_there : folds_same name (node_name cells c.place) ≡ true =
+    ap (folds_same name) (tree_name cells c.place c.tree c.stands) ∙ one.1 in
+    let same : c.place ≡ r.0 =
+    (sound_at cells at (key h ts) s n).one_child name c.place r.0 there r.1 named_there named in
+    let deep = found_there cells path p r.0 x c.tree (subst (λ (z : ℕ). Stands cells z c.tree) same c.stands)
+    (have_each ts c.tree n.3 one.0) f.1 r.3 in
     record {
       tree = deep.tree;
       found = ap (option_and_then (find_key path)) c.found ∙ deep.found;
@@ -105,7 +121,8 @@ first_alike name path k f g (w ∷ us) same e = go (is_named name w) refl (λ d.
         ap (λ (z : Bool). option_and_then (find_key path) (cond z (Some w) (find (is_named name) us))) (sym is) ∙ e
 
     go : (v : Bool) → is_named name w ≡ v
-        → (option_and_then (find_key path) (find (is_named name) us) ≡ Some k → at_first (is_named name) f us ≡ at_first (is_named name) g us)
+        → (option_and_then (find_key path) (find (is_named name) us) ≡ Some k
+        → at_first (is_named name) f us ≡ at_first (is_named name) g us)
         → cond v (f w ∷ us) (w ∷ at_first (is_named name) f us) ≡ cond v (g w ∷ us) (w ∷ at_first (is_named name) g us)
     go true is deep = ap (λ (z : Tree). z ∷ us) (same w (by true is))
     go false is deep = ap (λ (l : List Tree). w ∷ l) (deep (by false is))
@@ -118,4 +135,6 @@ changed_alike f g [] t k e same = let one : t ≡ k = some_one t k e in ap f one
     some_one : (a b : Tree) → Some a ≡ Some b → a ≡ b
     some_one a b e = cc
 changed_alike f g (name ∷ path) (key h ts) k e same =
-    ap (λ (us : List Tree). key h (trees us)) (first_alike name path k (at_key path f) (at_key path g) (listed ts) (λ w d. changed_alike f g path w k d same) e)
+    ap (λ (us : List Tree). key h (trees us))
+    (first_alike name path k (at_key path f) (at_key path g) (listed ts) (λ w d. changed_alike f g path w k d same)
+    e)

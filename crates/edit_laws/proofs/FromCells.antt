@@ -35,7 +35,8 @@ pub item_is : (cells : Cells) (v : ℕ) (k : KeyValue) (bytes : List ℕ) → re
     → data_of cells k ≡ Ok bytes → item_at cells v ≡ Ok (item k.name k.kind bytes)
 unfolding item_at
 item_is cells v k bytes read held =
-    ap (λ (r : Result KeyValue HiveKind). r >>= λ value. data_of cells value >>= λ d. Ok (item value.name value.kind d)) read
+    ap (λ (r : Result KeyValue HiveKind). r >>= λ value. data_of cells value >>= λ d. Ok (item value.name value.kind d))
+    read
     ∙ ap (λ (r : Result (List ℕ) HiveKind). r >>= λ d. Ok (item k.name k.kind d)) held
 
 -- a value's cell, then those of its data
@@ -43,15 +44,20 @@ pub value_uses : (cells : Cells) (v : ℕ) (k : KeyValue) → reading key_value_
     → used_in (value_checks cells [] v) ≡ v ∷ used_in (data_checks cells k)
 unfolding value_checks
 value_uses cells v k read =
-    ap (λ (r : Result KeyValue HiveKind). v ∷ used_in (below_of r (λ value. name_check [] v value.name ∷ data_checks cells value))) read
+    ap (λ (r : Result KeyValue HiveKind). v
+    ∷ used_in (below_of r (λ value. name_check [] v value.name ∷ data_checks cells value))) read
 
 -- data that the value holds have no cell
 pub data_held_inside : (cells : Cells) (k : KeyValue) (bytes : List ℕ) → data_inside k ≡ Some bytes
     → (used_in (data_checks cells k) ≡ []) × (data_of cells k ≡ Ok bytes)
 unfolding data_checks data_of
 data_held_inside cells k bytes e = (
-  ap (λ (o : Option (List ℕ)). used_in (cond (is_some o) [] (cond (is_big cells.version k.size) (big_checks cells k.size k.offset) (use_as false (bytes_in k.size) cells k.offset)))) e,
-  ap (λ (o : Option (List ℕ)). data_or o (cond (is_big cells.version k.size) (big_bytes_at cells k.size k.offset) (reading (bytes_in k.size) cells k.offset))) e,
+  ap (λ (o : Option (List ℕ)). used_in
+      (cond (is_some o) [] (cond (is_big cells.version k.size) (big_checks cells k.size k.offset)
+      (use_as false (bytes_in k.size) cells k.offset)))) e,
+  ap (λ (o : Option (List ℕ)). data_or o
+      (cond (is_big cells.version k.size) (big_bytes_at cells k.size k.offset)
+      (reading (bytes_in k.size) cells k.offset))) e,
 )
 
 -- data in one cell
@@ -59,20 +65,31 @@ pub data_in_cell : (cells : Cells) (k : KeyValue) → data_inside k ≡ None →
     → (used_in (data_checks cells k) ≡ k.offset ∷ []) × (data_of cells k ≡ reading (bytes_in k.size) cells k.offset)
 unfolding data_checks data_of
 data_in_cell cells k e small = (
-  ap (λ (o : Option (List ℕ)). used_in (cond (is_some o) [] (cond (is_big cells.version k.size) (big_checks cells k.size k.offset) (use_as false (bytes_in k.size) cells k.offset)))) e
-      ∙ ap (λ (b : Bool). used_in (cond b (big_checks cells k.size k.offset) (use_as false (bytes_in k.size) cells k.offset))) small,
-  ap (λ (o : Option (List ℕ)). data_or o (cond (is_big cells.version k.size) (big_bytes_at cells k.size k.offset) (reading (bytes_in k.size) cells k.offset))) e
+  ap (λ (o : Option (List ℕ)). used_in
+      (cond (is_some o) [] (cond (is_big cells.version k.size) (big_checks cells k.size k.offset)
+      (use_as false (bytes_in k.size) cells k.offset)))) e
+      ∙ ap (λ (b : Bool). used_in
+      (cond b (big_checks cells k.size k.offset) (use_as false (bytes_in k.size) cells k.offset))) small,
+  ap (λ (o : Option (List ℕ)). data_or o
+      (cond (is_big cells.version k.size) (big_bytes_at cells k.size k.offset)
+      (reading (bytes_in k.size) cells k.offset))) e
       ∙ ap (λ (b : Bool). cond b (big_bytes_at cells k.size k.offset) (reading (bytes_in k.size) cells k.offset)) small,
 )
 
 -- big data
 pub data_in_segments : (cells : Cells) (k : KeyValue) → data_inside k ≡ None → is_big cells.version k.size ≡ true
-    → (used_in (data_checks cells k) ≡ used_in (big_checks cells k.size k.offset)) × (data_of cells k ≡ big_bytes_at cells k.size k.offset)
+    → (used_in (data_checks cells k) ≡ used_in (big_checks cells k.size k.offset))
+    × (data_of cells k ≡ big_bytes_at cells k.size k.offset)
 unfolding data_checks data_of
 data_in_segments cells k e large = (
-  ap (λ (o : Option (List ℕ)). used_in (cond (is_some o) [] (cond (is_big cells.version k.size) (big_checks cells k.size k.offset) (use_as false (bytes_in k.size) cells k.offset)))) e
-      ∙ ap (λ (b : Bool). used_in (cond b (big_checks cells k.size k.offset) (use_as false (bytes_in k.size) cells k.offset))) large,
-  ap (λ (o : Option (List ℕ)). data_or o (cond (is_big cells.version k.size) (big_bytes_at cells k.size k.offset) (reading (bytes_in k.size) cells k.offset))) e
+  ap (λ (o : Option (List ℕ)). used_in
+      (cond (is_some o) [] (cond (is_big cells.version k.size) (big_checks cells k.size k.offset)
+      (use_as false (bytes_in k.size) cells k.offset)))) e
+      ∙ ap (λ (b : Bool). used_in
+      (cond b (big_checks cells k.size k.offset) (use_as false (bytes_in k.size) cells k.offset))) large,
+  ap (λ (o : Option (List ℕ)). data_or o
+      (cond (is_big cells.version k.size) (big_bytes_at cells k.size k.offset)
+      (reading (bytes_in k.size) cells k.offset))) e
       ∙ ap (λ (b : Bool). cond b (big_bytes_at cells k.size k.offset) (reading (bytes_in k.size) cells k.offset)) large,
 )
 
@@ -95,7 +112,9 @@ pub lists_some : (cells : Cells) (at : ℕ) (n : KeyNode) (front back : List ℕ
 unfolding value_places
 lists_some cells at n front back v read places =
     go (n.value_count == 0) (reading (offsets_in n.value_count) cells n.value_list)
-    (sym (of_node_is cells at n (λ k. if k.value_count == 0 then [] else of_read (reading (offsets_in k.value_count) cells k.value_list) (λ os. os)) read) ∙ places)
+    (sym (of_node_is cells at n
+    (λ k. if k.value_count == 0 then [] else of_read (reading (offsets_in k.value_count) cells k.value_list)
+    (λ os. os)) read) ∙ places)
   where
     not_empty : (front : List ℕ) → [] ≡ front ++ v ∷ back → ⊥
     not_empty [] e = cc
@@ -143,7 +162,8 @@ says_itself n = record {
   class_length = refl;
 }
 
-module _ (b c : Cells) (root : ℕ) (t : Tree) (p : List (List ℕ)) (x : ℕ) (n : KeyNode) (well : IsWellFormed b root t) (h : Reaches b root p x) (read : reading key_node_at b x ≡ Ok n) where
+module _ (b c : Cells) (root : ℕ) (t : Tree) (p : List (List ℕ)) (x : ℕ) (n : KeyNode) (well : IsWellFormed b root t)
+    (h : Reaches b root p x) (read : reading key_node_at b x ≡ Ok n) where
   apart : AreApart b x
   apart = values_apart b root t p x well h
 
@@ -168,9 +188,11 @@ module _ (b c : Cells) (root : ℕ) (t : Tree) (p : List (List ℕ)) (x : ℕ) (
 
     list_not_mine : (o : ℕ) → In (value_list_at b x) o → In (used_in (value_checks b [] v)) o → ⊥
     list_not_mine o i j =
-        (pairwise_parts (λ u w. u ≡ w → ⊥) (value_list_at b x) (cells_of_values b (value_places b x)) apart.once).across o o i (mine o j) refl
+        (pairwise_parts (λ u w. u ≡ w → ⊥) (value_list_at b x) (cells_of_values b (value_places b x)) apart.once).across
+        o o i (mine o j) refl
 
-    listed : ((n.value_count == 0) ≡ false) × (reading (offsets_in n.value_count) b n.value_list ≡ Ok (front ++ v ∷ back))
+    listed : ((n.value_count == 0) ≡ false)
+        × (reading (offsets_in n.value_count) b n.value_list ≡ Ok (front ++ v ∷ back))
     listed = lists_some b x n front back v read places
 
     from_one : (w o : ℕ) (cells : Cells) → In (cells_of_values cells (w ∷ [])) o
@@ -188,18 +210,27 @@ module _ (b c : Cells) (root : ℕ) (t : Tree) (p : List (List ℕ)) (x : ℕ) (
       read_new = same_reading key_node_at b c x node_same ∙ read;
       same = says_itself n;
       listed = places;
-      listed_new = subst (λ (z : Bool). MatchBool z (front ++ v ∷ back ≡ []) (reading (offsets_in n.value_count) c n.value_list ≡ Ok (front ++ v ∷ back))) (sym listed.0)
-          (same_reading (offsets_in n.value_count) b c n.value_list (list_same n.value_list (value_list_is b x n read listed.0)) ∙ listed.1);
+      listed_new = subst (λ (z : Bool). MatchBool z (front ++ v ∷ back ≡ [])
+          (reading (offsets_in n.value_count) c n.value_list ≡ Ok (front ++ v ∷ back))) (sym listed.0)
+          (same_reading (offsets_in n.value_count) b c n.value_list
+          (list_same n.value_list (value_list_is b x n read listed.0)) ∙ listed.1);
       items = one_item c v (item (value_name b v) kind bytes) g.reads;
-      others = λ o q held no_node no_list no_value. g.others o q held (λ i. no_value (in_left (used_in (value_checks b [] v)) [] o i));
+      others = λ o q held no_node no_list no_value. g.others o q held
+          (λ i. no_value (in_left (used_in (value_checks b [] v)) [] o i));
       used = λ o i. ⊎_elim
-          (λ j. inl (in_left (value_list_at b x) (cells_of_values b (v ∷ [])) o (subst (λ (l : List ℕ). In l o) lists_same j)))
-          (λ j. ⊎_elim (λ k. inl (in_right (value_list_at b x) (cells_of_values b (v ∷ [])) o (in_left (used_in (value_checks b [] v)) [] o k))) (λ k. inr k) (g.used o (from_one v o c j)))
+          (λ j. inl (in_left (value_list_at b x) (cells_of_values b (v ∷ [])) o
+          (subst (λ (l : List ℕ). In l o) lists_same j)))
+          (λ j. ⊎_elim (λ k. inl (in_right (value_list_at b x) (cells_of_values b (v ∷ [])) o
+          (in_left (used_in (value_checks b [] v)) [] o k))) (λ k. inr k) (g.used o (from_one v o c j)))
           (in_cases (value_list_at c x) (cells_of_values c (v ∷ [])) o i);
       once = pairwise_join (λ u w. u ≡ w → ⊥) (value_list_at c x) (cells_of_values c (v ∷ [])) (record {
-        left = subst (Pairwise (λ u w. u ≡ w → ⊥)) (sym lists_same) (pairwise_parts (λ u w. u ≡ w → ⊥) (value_list_at b x) (cells_of_values b (value_places b x)) apart.once).left;
+        left = subst (Pairwise (λ u w. u ≡ w → ⊥)) (sym lists_same)
+            (pairwise_parts (λ u w. u ≡ w → ⊥) (value_list_at b x) (cells_of_values b (value_places b x))
+            apart.once).left;
         right = subst (Pairwise (λ u w. u ≡ w → ⊥)) (sym (append-nil (used_in (value_checks c [] v)))) g.once;
-        across = λ u w i j e. list_apart u (subst (λ (l : List ℕ). In l u) lists_same i) (subst (λ (z : ℕ). In (used_in (value_checks b [] v)) z ⊎ IsUnheld b z) (sym e) (g.used w (from_one v w c j)));
+        across = λ u w i j e. list_apart u (subst (λ (l : List ℕ). In l u) lists_same i)
+            (subst (λ (z : ℕ). In (used_in (value_checks b [] v)) z ⊎ IsUnheld b z) (sym e)
+            (g.used w (from_one v w c j)));
       });
     }
       where
@@ -228,23 +259,32 @@ module _ (b c : Cells) (root : ℕ) (t : Tree) (p : List (List ℕ)) (x : ℕ) (
       read_new = same_reading key_node_at b c x node_same ∙ read;
       same = says_itself n;
       listed = places;
-      listed_new = subst (λ (z : Bool). MatchBool z (front ++ w ∷ back ≡ []) (reading (offsets_in n.value_count) c n.value_list ≡ Ok (front ++ w ∷ back))) (sym listed.0) g.lists;
+      listed_new = subst (λ (z : Bool). MatchBool z (front ++ w ∷ back ≡ [])
+          (reading (offsets_in n.value_count) c n.value_list ≡ Ok (front ++ w ∷ back))) (sym listed.0) g.lists;
       items = one_item c w (item (value_name b v) kind bytes) g.reads;
-      others = λ o q held no_node no_list no_value. g.others o q held no_list (λ i. no_value (in_left (used_in (value_checks b [] v)) [] o i));
+      others = λ o q held no_node no_list no_value. g.others o q held no_list
+          (λ i. no_value (in_left (used_in (value_checks b [] v)) [] o i));
       used = λ o i. ⊎_elim
-          (λ j. inl (in_left (value_list_at b x) (cells_of_values b (v ∷ [])) o (subst (λ (l : List ℕ). In l o) lists_same j)))
-          (λ j. ⊎_elim (λ k. inl (in_right (value_list_at b x) (cells_of_values b (v ∷ [])) o (in_left (used_in (value_checks b [] v)) [] o k))) (λ k. inr k) (g.used o (from_one w o c j)))
+          (λ j. inl (in_left (value_list_at b x) (cells_of_values b (v ∷ [])) o
+          (subst (λ (l : List ℕ). In l o) lists_same j)))
+          (λ j. ⊎_elim (λ k. inl (in_right (value_list_at b x) (cells_of_values b (v ∷ [])) o
+          (in_left (used_in (value_checks b [] v)) [] o k))) (λ k. inr k) (g.used o (from_one w o c j)))
           (in_cases (value_list_at c x) (cells_of_values c (w ∷ [])) o i);
       once = pairwise_join (λ u z. u ≡ z → ⊥) (value_list_at c x) (cells_of_values c (w ∷ [])) (record {
-        left = subst (Pairwise (λ u z. u ≡ z → ⊥)) (sym lists_same) (pairwise_parts (λ u z. u ≡ z → ⊥) (value_list_at b x) (cells_of_values b (value_places b x)) apart.once).left;
+        left = subst (Pairwise (λ u z. u ≡ z → ⊥)) (sym lists_same)
+            (pairwise_parts (λ u z. u ≡ z → ⊥) (value_list_at b x) (cells_of_values b (value_places b x))
+            apart.once).left;
         right = subst (Pairwise (λ u z. u ≡ z → ⊥)) (sym (append-nil (used_in (value_checks c [] w)))) g.once;
-        across = λ u z i j e. list_apart u (subst (λ (l : List ℕ). In l u) lists_same i) (subst (λ (y : ℕ). In (used_in (value_checks b [] v)) y ⊎ IsUnheld b y) (sym e) (g.used z (from_one w z c j)));
+        across = λ u z i j e. list_apart u (subst (λ (l : List ℕ). In l u) lists_same i)
+            (subst (λ (y : ℕ). In (used_in (value_checks b [] v)) y ⊎ IsUnheld b y) (sym e)
+            (g.used z (from_one w z c j)));
       });
     }
       where
         node_same : c.payload x ≡ b.payload x
         node_same =
-            g.others x node_held.0 node_held.1 (λ i. apart.node x (of_list x i) refl) (λ i. apart.node x (of_mine x i) refl)
+            g.others x node_held.0 node_held.1 (λ i. apart.node x (of_list x i) refl)
+            (λ i. apart.node x (of_mine x i) refl)
             ∙ sym node_held.1
 
         lists_same : value_list_at c x ≡ value_list_at b x
@@ -267,7 +307,8 @@ module _ (b c : Cells) (root : ℕ) (t : Tree) (p : List (List ℕ)) (x : ℕ) (
       listed = places;
       listed_new = lists (front ++ back) refl;
       items = refl;
-      others = λ o r held no_node no_list no_value. g.others o r held no_node no_list (λ i. no_value (in_left (used_in (value_checks b [] v)) [] o i));
+      others = λ o r held no_node no_list no_value. g.others o r held no_node no_list
+          (λ i. no_value (in_left (used_in (value_checks b [] v)) [] o i));
       used = λ o i. ⊎_elim
           (λ j. of_new o j) (λ (z : ⊥). absurd z) (in_cases (value_list_at c x) [] o i);
       once = subst (Pairwise (λ u w. u ≡ w → ⊥)) (sym (append-nil (value_list_at c x))) (new_once (front ++ back) refl);
@@ -281,18 +322,24 @@ module _ (b c : Cells) (root : ℕ) (t : Tree) (p : List (List ℕ)) (x : ℕ) (
 
         lists : (os : List ℕ) → front ++ back ≡ os → ListsValues c g.node.new (front ++ back)
         lists [] f =
-            subst (λ (z : Bool). MatchBool z (front ++ back ≡ []) (reading (offsets_in g.node.new.value_count) c g.node.new.value_list ≡ Ok (front ++ back))) (sym (none [] refl f)) f
+            subst (λ (z : Bool). MatchBool z (front ++ back ≡ [])
+            (reading (offsets_in g.node.new.value_count) c g.node.new.value_list ≡ Ok (front ++ back)))
+            (sym (none [] refl f)) f
         lists (w ∷ os) f =
-            subst (λ (z : Bool). MatchBool z (front ++ back ≡ []) (reading (offsets_in g.node.new.value_count) c g.node.new.value_list ≡ Ok (front ++ back)))
+            subst (λ (z : Bool). MatchBool z (front ++ back ≡ [])
+            (reading (offsets_in g.node.new.value_count) c g.node.new.value_list ≡ Ok (front ++ back)))
             (sym (counted_some g.node.new.value_count (length os) (g.node.count_is ∙ ap (λ (l : List ℕ). length l) f)))
-            (ap (λ (m : ℕ). reading (offsets_in m) c g.node.new.value_list) g.node.count_is ∙ ap (reading (offsets_in (length (front ++ back))) c) g.node.list_is ∙ g.lists w os f)
+            (ap (λ (m : ℕ). reading (offsets_in m) c g.node.new.value_list) g.node.count_is
+            ∙ ap (reading (offsets_in (length (front ++ back))) c) g.node.list_is ∙ g.lists w os f)
 
         new_once : (os : List ℕ) → front ++ back ≡ os → Pairwise (λ u w. u ≡ w → ⊥) (value_list_at c x)
         new_once [] f =
             subst (Pairwise (λ u w. u ≡ w → ⊥)) (sym (list_at_none c x g.node.new read_new (none [] refl f))) tt
         new_once (w ∷ os) f =
             subst (Pairwise (λ u w. u ≡ w → ⊥))
-            (sym (list_at_is c x g.node.new read_new (counted_some g.node.new.value_count (length os) (g.node.count_is ∙ ap (λ (l : List ℕ). length l) f)))) (single g.node.new.value_list)
+            (sym (list_at_is c x g.node.new read_new
+            (counted_some g.node.new.value_count (length os) (g.node.count_is ∙ ap (λ (l : List ℕ). length l) f))))
+            (single g.node.new.value_list)
 
         new_list : (os : List ℕ) (o : ℕ) → front ++ back ≡ os → In (value_list_at c x) o
             → (list ≡ o) × (front ++ back ≡ [] → ⊥)
@@ -300,7 +347,10 @@ module _ (b c : Cells) (root : ℕ) (t : Tree) (p : List (List ℕ)) (x : ℕ) (
             absurd (subst (λ (l : List ℕ). In l o) (list_at_none c x g.node.new read_new (none [] refl f)) i)
         new_list (w ∷ os) o f i = (
           ⊎_elim (λ (e : g.node.new.value_list ≡ o). sym g.node.list_is ∙ e) (λ (z : ⊥). absurd z)
-              (subst (λ (l : List ℕ). In l o) (list_at_is c x g.node.new read_new (counted_some g.node.new.value_count (length os) (g.node.count_is ∙ ap (λ (l : List ℕ). length l) f))) i),
+              (subst (λ (l : List ℕ). In l o)
+              (list_at_is c x g.node.new read_new
+              (counted_some g.node.new.value_count (length os) (g.node.count_is ∙ ap (λ (l : List ℕ). length l) f)))
+              i),
           λ e. absurd (let d : w ∷ os ≡ [] = sym f ∙ e in cc),
         )
 
@@ -308,7 +358,8 @@ module _ (b c : Cells) (root : ℕ) (t : Tree) (p : List (List ℕ)) (x : ℕ) (
             → In (value_list_at b x ++ cells_of_values b (v ∷ [])) o ⊎ IsUnheld b o
         of_new o i =
             let l = new_list (front ++ back) o refl i in
-            ⊎_elim (λ (j : In (value_list_at b x) list). inl (in_left (value_list_at b x) (cells_of_values b (v ∷ [])) o (subst (In (value_list_at b x)) l.0 j)))
+            ⊎_elim (λ (j : In (value_list_at b x) list). inl
+            (in_left (value_list_at b x) (cells_of_values b (v ∷ [])) o (subst (In (value_list_at b x)) l.0 j)))
             (λ (never : IsUnheld b list). inr (subst (IsUnheld b) l.0 never)) (g.from l.1)
 
   -- a value is added behind the others, in cells that were none, with a new list
@@ -322,8 +373,10 @@ module _ (b c : Cells) (root : ℕ) (t : Tree) (p : List (List ℕ)) (x : ℕ) (
     read_new = read_new;
     same = g.node.same;
     listed = places ∙ sym (append-nil offsets);
-    listed_new = subst (λ (z : Bool). MatchBool z (offsets ++ w ∷ [] ≡ []) (reading (offsets_in g.node.new.value_count) c g.node.new.value_list ≡ Ok (offsets ++ w ∷ []))) (sym some)
-        (ap (λ (m : ℕ). reading (offsets_in m) c g.node.new.value_list) g.node.count_is ∙ ap (reading (offsets_in (suc (length offsets))) c) g.node.list_is ∙ g.lists);
+    listed_new = subst (λ (z : Bool). MatchBool z (offsets ++ w ∷ [] ≡ [])
+        (reading (offsets_in g.node.new.value_count) c g.node.new.value_list ≡ Ok (offsets ++ w ∷ []))) (sym some)
+        (ap (λ (m : ℕ). reading (offsets_in m) c g.node.new.value_list) g.node.count_is
+        ∙ ap (reading (offsets_in (suc (length offsets))) c) g.node.list_is ∙ g.lists);
     items = one_item c w i g.reads;
     others = λ o r held no_node no_list no_value. g.others o r held no_node no_list;
     used = λ o j. inr (g.fresh o (subst (λ (l : List ℕ). In l o) new_cells j));

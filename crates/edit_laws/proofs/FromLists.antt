@@ -40,11 +40,16 @@ part_says_rest from to p q n e patch within = record {
   name = refl;
   flags = ap (from_le_bytes w16) (patch.before 2 2 (omega (arith, low))) ∙ sym (ap (λ (m : KeyNode). m.flags) fields);
   stamp = ap (from_le_bytes w64) (patch.before 4 8 (omega (arith, low))) ∙ sym (ap (λ (m : KeyNode). m.stamp) fields);
-  value_count = ap (from_le_bytes w32) (mid 36 within (omega arith) (omega arith)) ∙ sym (ap (λ (m : KeyNode). m.value_count) fields);
-  value_list = ap (from_le_bytes w32) (mid 40 within (omega arith) (omega arith)) ∙ sym (ap (λ (m : KeyNode). m.value_list) fields);
-  security = ap (from_le_bytes w32) (mid 44 within (omega arith) (omega arith)) ∙ sym (ap (λ (m : KeyNode). m.security) fields);
-  class = ap (from_le_bytes w32) (mid 48 within (omega arith) (omega arith)) ∙ sym (ap (λ (m : KeyNode). m.class) fields);
-  class_length = ap (from_le_bytes w16) (patch.behind 74 2 (omega (arith, high))) ∙ sym (ap (λ (m : KeyNode). m.class_length) fields);
+  value_count = ap (from_le_bytes w32) (mid 36 within (omega arith) (omega arith))
+      ∙ sym (ap (λ (m : KeyNode). m.value_count) fields);
+  value_list = ap (from_le_bytes w32) (mid 40 within (omega arith) (omega arith))
+      ∙ sym (ap (λ (m : KeyNode). m.value_list) fields);
+  security = ap (from_le_bytes w32) (mid 44 within (omega arith) (omega arith))
+      ∙ sym (ap (λ (m : KeyNode). m.security) fields);
+  class = ap (from_le_bytes w32) (mid 48 within (omega arith) (omega arith))
+      ∙ sym (ap (λ (m : KeyNode). m.class) fields);
+  class_length = ap (from_le_bytes w16) (patch.behind 74 2 (omega (arith, high)))
+      ∙ sym (ap (λ (m : KeyNode). m.class_length) fields);
 }
   where
     fields : n ≡ key_node_in p n.name
@@ -52,11 +57,13 @@ part_says_rest from to p q n e patch within = record {
 
     low : 20 ≤ from
     low =
-        ⊎_elim (λ (w : (20 ≤ from) × (to ≤ 36)). w.0) (λ (w : (52 ≤ from) × (to ≤ 72)). let l = w.0 in omega (arith, l)) within
+        ⊎_elim (λ (w : (20 ≤ from) × (to ≤ 36)). w.0) (λ (w : (52 ≤ from) × (to ≤ 72)). let l = w.0 in omega (arith, l))
+        within
 
     high : to ≤ 72
     high =
-        ⊎_elim (λ (w : (20 ≤ from) × (to ≤ 36)). let l = w.1 in omega (arith, l)) (λ (w : (52 ≤ from) × (to ≤ 72)). w.1) within
+        ⊎_elim (λ (w : (20 ≤ from) × (to ≤ 36)). let l = w.1 in omega (arith, l)) (λ (w : (52 ≤ from) × (to ≤ 72)). w.1)
+        within
 
     mid : (i : ℕ) → (20 ≤ from) × (to ≤ 36) ⊎ (52 ≤ from) × (to ≤ 72) → 36 ≤ i → i ≤ 48
         → slice_range q i (i + 4) ≡ slice_range p i (i + 4)
@@ -80,13 +87,19 @@ pub children_written : (p : List ℕ) (n : KeyNode) (count volatile list : ℕ) 
     → list < 2 ^ 32 → HasNewChildren (with_part 20 (three_numbers count volatile list) p) n count list
 children_written p n count volatile list e c l =
     let t = (node_text p n e).long in
-    let patch : IsPatchOf 20 32 p (with_part 20 (three_numbers count volatile list) p) = part_patches 20 (three_numbers count volatile list) p (omega (arith, t)) in
+    let patch : IsPatchOf 20 32 p (with_part 20 (three_numbers count volatile list) p) =
+    part_patches 20 (three_numbers count volatile list) p (omega (arith, t)) in
     record {
       new = key_node_in (with_part 20 (three_numbers count volatile list) p) n.name;
-      read = node_patched 20 32 p (with_part 20 (three_numbers count volatile list) p) n e patch (omega arith) (omega arith);
-      same = part_says_rest 20 32 p (with_part 20 (three_numbers count volatile list) p) n e patch (inl (omega arith, omega arith));
-      count_is = ap (from_le_bytes w32) (in_part 20 (three_numbers count volatile list) p 0 4 (omega (arith, t)) (omega arith)) ∙ number_again count c;
-      list_is = ap (from_le_bytes w32) (in_part 20 (three_numbers count volatile list) p 8 4 (omega (arith, t)) (omega arith)) ∙ number_again list l;
+      read = node_patched 20 32 p (with_part 20 (three_numbers count volatile list) p) n e patch (omega arith)
+          (omega arith);
+      same = part_says_rest 20 32 p (with_part 20 (three_numbers count volatile list) p) n e patch
+          (inl (omega arith, omega arith));
+      count_is = ap (from_le_bytes w32)
+          (in_part 20 (three_numbers count volatile list) p 0 4 (omega (arith, t)) (omega arith))
+          ∙ number_again count c;
+      list_is = ap (from_le_bytes w32)
+          (in_part 20 (three_numbers count volatile list) p 8 4 (omega (arith, t)) (omega arith)) ∙ number_again list l;
     }
 
 -- ---- the lists
@@ -122,7 +135,9 @@ inserts_child b c root x left n front back y q list counted read places g = reco
   read_new = read_new;
   same = g.node.same;
   listed = places;
-  listed_new = subst (λ (z : Bool). MatchBool z (front ++ y ∷ back ≡ []) ((entries_at c g.node.new.child_list ≡ Ok (front ++ y ∷ back)) × (length (front ++ y ∷ back) ≡ g.node.new.child_count))) (sym some)
+  listed_new = subst (λ (z : Bool). MatchBool z (front ++ y ∷ back ≡ [])
+      ((entries_at c g.node.new.child_list ≡ Ok (front ++ y ∷ back))
+      × (length (front ++ y ∷ back) ≡ g.node.new.child_count))) (sym some)
       (ap (entries_at c) g.node.list_is ∙ g.lists, sym g.node.count_is);
   others = λ o r held no_node no_list no_gone no_count. g.others o r held no_node no_list no_count;
   counted_are = g.counted_are;
@@ -137,9 +152,11 @@ inserts_child b c root x left n front back y q list counted read places g = reco
     some : (g.node.new.child_count == 0) ≡ false
     some = counted_some g.node.new.child_count (length (front ++ back)) (g.node.count_is ∙ length_more front y back)
 
-    new_uses : plain (list_cells_at c x) ++ flat_map (tree_uses left c) (y ∷ []) ≡ plain (used_in (entries_checks c list)) ++ tree_uses left c y
+    new_uses : plain (list_cells_at c x) ++ flat_map (tree_uses left c) (y ∷ [])
+        ≡ plain (used_in (entries_checks c list)) ++ tree_uses left c y
     new_uses =
-        ap (λ (l : List ℕ). plain l ++ flat_map (tree_uses left c) (y ∷ [])) (lists_at_is c x g.node.new read_new some ∙ ap (λ (o : ℕ). used_in (entries_checks c o)) g.node.list_is)
+        ap (λ (l : List ℕ). plain l ++ flat_map (tree_uses left c) (y ∷ []))
+        (lists_at_is c x g.node.new read_new some ∙ ap (λ (o : ℕ). used_in (entries_checks c o)) g.node.list_is)
         ∙ ap (λ (l : List (ℕ × Bool)). plain (used_in (entries_checks c list)) ++ l) (append-nil (tree_uses left c y))
 
 -- a child is taken out, and the others are in new lists, or there is no list
@@ -156,7 +173,8 @@ removes_child b c root x left n front back y q list counted read places g = reco
   same = g.node.same;
   listed = places;
   listed_new = lists (front ++ back) refl;
-  others = λ o r held no_node no_list no_gone no_count. g.others o r held no_node no_list (λ s i. no_gone s (in_left (tree_uses left b y) [] (o, s) i)) no_count;
+  others = λ o r held no_node no_list no_gone no_count. g.others o r held no_node no_list
+      (λ s i. no_gone s (in_left (tree_uses left b y) [] (o, s) i)) no_count;
   counted_are = g.counted_are;
   security = g.security;
   used = λ u i. fresh (front ++ back) refl u (in_cases (plain (list_cells_at c x)) [] u i);
@@ -174,9 +192,13 @@ removes_child b c root x left n front back y q list counted read places g = reco
 
     lists : (os : List ℕ) → front ++ back ≡ os → ListsChildren c g.node.new (front ++ back)
     lists [] f =
-        subst (λ (z : Bool). MatchBool z (front ++ back ≡ []) ((entries_at c g.node.new.child_list ≡ Ok (front ++ back)) × (length (front ++ back) ≡ g.node.new.child_count))) (sym (none [] refl f)) f
+        subst (λ (z : Bool). MatchBool z (front ++ back ≡ [])
+        ((entries_at c g.node.new.child_list ≡ Ok (front ++ back))
+        × (length (front ++ back) ≡ g.node.new.child_count))) (sym (none [] refl f)) f
     lists (w ∷ os) f =
-        subst (λ (z : Bool). MatchBool z (front ++ back ≡ []) ((entries_at c g.node.new.child_list ≡ Ok (front ++ back)) × (length (front ++ back) ≡ g.node.new.child_count))) (sym (some w os f))
+        subst (λ (z : Bool). MatchBool z (front ++ back ≡ [])
+        ((entries_at c g.node.new.child_list ≡ Ok (front ++ back))
+        × (length (front ++ back) ≡ g.node.new.child_count))) (sym (some w os f))
         (ap (entries_at c) g.node.list_is ∙ g.lists w os f, sym g.node.count_is)
 
     lists_are : (w : ℕ) (os : List ℕ) → front ++ back ≡ w ∷ os → list_cells_at c x ≡ used_in (entries_checks c list)
@@ -185,7 +207,8 @@ removes_child b c root x left n front back y q list counted read places g = reco
         ∙ ap (λ (o : ℕ). used_in (entries_checks c o)) g.node.list_is
 
     fresh : (os : List ℕ) → front ++ back ≡ os → (u : ℕ × Bool) → In (plain (list_cells_at c x)) u ⊎ ⊥
-        → In (plain (list_cells_at b x) ++ flat_map (tree_uses left b) (y ∷ [])) u ⊎ (IsUnheld b u.0 ⊎ ((u.1 ≡ true) × In counted u.0))
+        → In (plain (list_cells_at b x) ++ flat_map (tree_uses left b) (y ∷ [])) u
+        ⊎ (IsUnheld b u.0 ⊎ ((u.1 ≡ true) × In counted u.0))
     fresh [] f u (inl i) =
         absurd (subst (λ (l : List ℕ). In (plain l) u) (lists_at_none c x g.node.new read_new (none [] refl f)) i)
     fresh (w ∷ os) f u (inl i) =
@@ -206,8 +229,10 @@ unfolding all_checks
 kept_descriptor b c root t changes well keeps o s =
     let r = root_node b root t well.stands in
     let e = walk_uses 512 b true [] root r.0 (sound_tree b root t well.stands well.names) r.1 in
-    let i = mark_to (key_checks 512 b true [] root) (o, true) (subst (λ (l : List (ℕ × Bool)). In l (o, true)) (sym e) (secure_there b root t o well s)) in
-    let k = keeps o (contains_from (security_used_in (key_checks 512 b true [] root)) o (security_from (key_checks 512 b true [] root) o i)) in
+    let i = mark_to (key_checks 512 b true [] root) (o, true)
+    (subst (λ (l : List (ℕ × Bool)). In l (o, true)) (sym e) (secure_there b root t o well s)) in
+    let k = keeps o (contains_from (security_used_in (key_checks 512 b true [] root)) o
+    (security_from (key_checks 512 b true [] root) o i)) in
     ap (λ (r : Result SecurityCell HiveKind). r >>= λ d. Ok d.descriptor) k.stays
     ∙ sym (ap (λ (r : Result SecurityCell HiveKind). r >>= λ d. Ok d.descriptor) k.was)
 
@@ -225,16 +250,19 @@ values_none : (cells : Cells) (at : ℕ) (n : KeyNode) → reading key_node_at c
 unfolding value_list_at value_places
 values_none cells at n read none =
     ap (λ (l : List ℕ). l ++ cells_of_values cells (value_places cells at))
-    (of_node_is cells at n (λ k. if k.value_count == 0 then [] else k.value_list ∷ []) read ∙ ap (λ (b : Bool). cond b [] (n.value_list ∷ [])) none)
+    (of_node_is cells at n (λ k. if k.value_count == 0 then [] else k.value_list ∷ []) read
+    ∙ ap (λ (b : Bool). cond b [] (n.value_list ∷ [])) none)
     ∙ ap (cells_of_values cells)
-    (of_node_is cells at n (λ k. if k.value_count == 0 then [] else of_read (reading (offsets_in k.value_count) cells k.value_list) (λ os. os)) read
+    (of_node_is cells at n (λ k. if k.value_count == 0 then [] else of_read
+    (reading (offsets_in k.value_count) cells k.value_list) (λ os. os)) read
     ∙ ap (λ (b : Bool). cond b [] (of_read (reading (offsets_in n.value_count) cells n.value_list) (λ os. os))) none)
 
 children_none : (cells : Cells) (at : ℕ) (n : KeyNode) → reading key_node_at cells at ≡ Ok n
     → (n.child_count == 0) ≡ true → child_places cells at ≡ []
 unfolding child_places
 children_none cells at n read none =
-    of_node_is cells at n (λ m. if m.child_count == 0 then [] else of_read (entries_at cells m.child_list) (λ os. os)) read
+    of_node_is cells at n (λ m. if m.child_count == 0 then [] else of_read (entries_at cells m.child_list) (λ os. os))
+    read
     ∙ ap (λ (b : Bool). cond b [] (of_read (entries_at cells n.child_list) (λ os. os))) none
 
 -- a key with a name alone, and a descriptor perhaps, uses its node and the cell of that
@@ -242,18 +270,26 @@ pub bare_uses : (left : ℕ) (cells : Cells) (at : ℕ) (n : KeyNode) → readin
     → (n.class_length == 0) ≡ true → (n.value_count == 0) ≡ true → (n.child_count == 0) ≡ true
     → tree_uses (suc left) cells at ≡ (at, false) ∷ (secure (security_cell_at cells at) ++ [])
 bare_uses left cells at n read no_class no_values no_children =
-    ap (λ (l : List ℕ). ((at, false) ∷ (plain l ++ (secure (security_cell_at cells at) ++ (plain (all_value_cells cells at) ++ plain (list_cells_at cells at))))) ++ flat_map (tree_uses left cells) (child_places cells at))
+    ap (λ (l : List ℕ). ((at, false)
+    ∷ (plain l ++ (secure (security_cell_at cells at)
+    ++ (plain (all_value_cells cells at) ++ plain (list_cells_at cells at)))))
+    ++ flat_map (tree_uses left cells) (child_places cells at))
     (class_none cells at n read no_class)
-    ∙ ap (λ (l : List ℕ). ((at, false) ∷ (secure (security_cell_at cells at) ++ (plain l ++ plain (list_cells_at cells at)))) ++ flat_map (tree_uses left cells) (child_places cells at)) (values_none cells at n read no_values)
-    ∙ ap (λ (l : List ℕ). ((at, false) ∷ (secure (security_cell_at cells at) ++ plain l)) ++ flat_map (tree_uses left cells) (child_places cells at)) (lists_at_none cells at n read no_children)
-    ∙ ap (λ (l : List ℕ). ((at, false) ∷ (secure (security_cell_at cells at) ++ [])) ++ flat_map (tree_uses left cells) l) (children_none cells at n read no_children)
+    ∙ ap (λ (l : List ℕ). ((at, false)
+    ∷ (secure (security_cell_at cells at) ++ (plain l ++ plain (list_cells_at cells at))))
+    ++ flat_map (tree_uses left cells) (child_places cells at)) (values_none cells at n read no_values)
+    ∙ ap (λ (l : List ℕ). ((at, false) ∷ (secure (security_cell_at cells at) ++ plain l))
+    ++ flat_map (tree_uses left cells) (child_places cells at)) (lists_at_none cells at n read no_children)
+    ∙ ap (λ (l : List ℕ). ((at, false) ∷ (secure (security_cell_at cells at) ++ []))
+    ++ flat_map (tree_uses left cells) l) (children_none cells at n read no_children)
     ∙ append-nil ((at, false) ∷ (secure (security_cell_at cells at) ++ []))
 
 abbrev no_offsets : List ℕ
 no_offsets = []
 
 -- a key with a name alone stands, as a new key has the stamp and the descriptor of the key above it
-pub bare_stands : (cells : Cells) (at : ℕ) (n : KeyNode) (name : List ℕ) (k : Tree) → reading key_node_at cells at ≡ Ok n
+pub bare_stands : (cells : Cells) (at : ℕ) (n : KeyNode) (name : List ℕ) (k : Tree)
+    → reading key_node_at cells at ≡ Ok n
     → n.name ≡ name → tree_flags n.flags ≡ 0 → n.stamp ≡ (head k).stamp → (n.class_length == 0) ≡ true
     → security_of cells n ≡ Ok (head k).security → (n.value_count == 0) ≡ true → (n.child_count == 0) ≡ true
     → Stands cells at (new_key name k)
@@ -269,13 +305,15 @@ bare_stands cells at n name k read named flags stamp no_class descriptor no_valu
     class = ap (λ (b : Bool). cond b (Ok []) (reading (bytes_in n.class_length) cells n.class)) no_class;
     security = descriptor;
     values = ap
-        (λ (b : Bool). cond b (Ok []) (reading (offsets_in n.value_count) cells n.value_list >>= items_at cells)) no_values;
+        (λ (b : Bool). cond b (Ok []) (reading (offsets_in n.value_count) cells n.value_list >>= items_at cells))
+        no_values;
     children = no_children_at (n.child_count == 0) no_children;
   },
   refl,
 )
   where
     no_children_at : (b : Bool) → b ≡ true
-        → MatchBool b (no_offsets ≡ []) ((entries_at cells n.child_list ≡ Ok no_offsets) × (length no_offsets ≡ n.child_count))
+        → MatchBool b (no_offsets ≡ [])
+        ((entries_at cells n.child_list ≡ Ok no_offsets) × (length no_offsets ≡ n.child_count))
     no_children_at true e = refl
     no_children_at false e = absurd cc

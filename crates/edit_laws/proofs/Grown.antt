@@ -24,14 +24,16 @@ strain_behind version bytes now t u (step ∷ steps) further g =
     let deep = strain_behind version g.1 now g.0 u steps further g.6 in
     let r = room_some g.2 (needed_sizes version t step g.0) g.4 in
     let grown = g.5 in
-    let m = strain_more version g.1 (bytes + room_of (needed_sizes version t step g.0)) g.0 (steps ++ further) (omega (arith, r, grown)) in
+    let m = strain_more version g.1 (bytes + room_of (needed_sizes version t step g.0)) g.0 (steps ++ further)
+    (omega (arith, r, grown)) in
     let e = strain_one version bytes t g.0 step (steps ++ further) g.3 in omega (arith, deep, m, e)
 
 -- the data are no longer than the strain of the steps that grew them, and of any behind
 pub grown_within : (version : HiveVersion) (bytes now : ℕ) (t u : Tree) (steps further : List Step)
     → AreGrown version bytes t steps now u → now ≤ strain_of version bytes t (steps ++ further)
 grown_within version bytes now t u steps further g =
-    let l = strain_least version now u further in let b = strain_behind version bytes now t u steps further g in omega (arith, l, b)
+    let l = strain_least version now u further in let b = strain_behind version bytes now t u steps further g in
+    omega (arith, l, b)
 
 -- Where a step behind others finds no room below a limit for cells that it may need, the strain of all is over the limit.
 pub no_room_behind : (version : HiveVersion) (bytes now limit : ℕ) (t u v : Tree) (steps further : List Step)
@@ -39,4 +41,5 @@ pub no_room_behind : (version : HiveVersion) (bytes now limit : ℕ) (t u v : Tr
     → AreSome asked (needed_sizes version u step v) → 0 < total asked → limit < now + rounded (total asked + 32)
     → limit < strain_of version bytes t (steps ++ step ∷ further)
 no_room_behind version bytes now limit t u v steps further step asked g ok part some over =
-    let n = no_room version now limit u v step further asked ok part some over in let b = strain_behind version bytes now t u steps (step ∷ further) g in omega (arith, n, b)
+    let n = no_room version now limit u v step further asked ok part some over in let b =
+    strain_behind version bytes now t u steps (step ∷ further) g in omega (arith, n, b)

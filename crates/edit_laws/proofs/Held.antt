@@ -48,7 +48,8 @@ security_held cells n b o r h = go (n.security == nowhere) r h
         → In (used_in (cond t [] (use_as true security_at cells n.security))) o → Held cells o
     go true r h = absurd h
     go false r (inl e) =
-        let p = first_part (reading security_at cells n.security) (λ s. Ok s.descriptor) b r in held_by security_at cells n.security o p.0 p.1 e
+        let p = first_part (reading security_at cells n.security) (λ s. Ok s.descriptor) b r in
+        held_by security_at cells n.security o p.0 p.1 e
     go false r (inr h) = absurd h
 
 value_list_held : (cells : Cells) (at : ℕ) (n : KeyNode) (items : List Item) (o : ℕ)
@@ -56,23 +57,28 @@ value_list_held : (cells : Cells) (at : ℕ) (n : KeyNode) (items : List Item) (
     → Held cells o
 unfolding values_of value_list_at
 value_list_held cells at n items o read r h =
-    go (n.value_count == 0) r (subst (λ (xs : List ℕ). In xs o) (of_node_is cells at n (λ k. if k.value_count == 0 then [] else k.value_list ∷ []) read) h)
+    go (n.value_count == 0) r
+    (subst (λ (xs : List ℕ). In xs o)
+    (of_node_is cells at n (λ k. if k.value_count == 0 then [] else k.value_list ∷ []) read) h)
   where
     go : (t : Bool)
         → cond t (Ok []) (reading (offsets_in n.value_count) cells n.value_list >>= items_at cells) ≡ Ok items
         → In (cond t [] (n.value_list ∷ [])) o → Held cells o
     go true r h = absurd h
     go false r (inl e) =
-        let p = first_part (reading (offsets_in n.value_count) cells n.value_list) (items_at cells) items r in held_by (offsets_in n.value_count) cells n.value_list o p.0 p.1 e
+        let p = first_part (reading (offsets_in n.value_count) cells n.value_list) (items_at cells) items r in
+        held_by (offsets_in n.value_count) cells n.value_list o p.0 p.1 e
     go false r (inr h) = absurd h
 
 segments_held : (cells : Cells) (n : ℕ) (offsets b : List ℕ) (o : ℕ) → joined_segments cells n offsets ≡ Ok b
     → In (used_in (segments_checks cells n offsets)) o → Held cells o
 segments_held cells n [] b o r h = absurd h
 segments_held cells n (at ∷ rest) b o r h =
-    let one = first_part (reading (bytes_in (segment_part n)) cells at) (λ bytes. joined_segments cells (n - segment_bytes) rest >>= λ others. Ok (bytes ++ others)) b r in
+    let one = first_part (reading (bytes_in (segment_part n)) cells at)
+    (λ bytes. joined_segments cells (n - segment_bytes) rest >>= λ others. Ok (bytes ++ others)) b r in
     let others = first_part (joined_segments cells (n - segment_bytes) rest) (λ others. Ok (one.0 ++ others)) b one.2 in
-    ⊎_elim (λ e. held_by (bytes_in (segment_part n)) cells at o one.0 one.1 e) (λ i. segments_held cells (n - segment_bytes) rest others.0 o others.1 i) h
+    ⊎_elim (λ e. held_by (bytes_in (segment_part n)) cells at o one.0 one.1 e)
+    (λ i. segments_held cells (n - segment_bytes) rest others.0 o others.1 i) h
 
 abbrev segments_read : Cells → ℕ → BigData → Result (List ℕ) HiveKind
 segments_read cells n big = reading (offsets_in big.segments) cells big.list >>= joined_segments cells n
@@ -81,12 +87,14 @@ big_held : (cells : Cells) (n at : ℕ) (b : List ℕ) (o : ℕ) → big_bytes_a
     → In (used_in (big_checks cells n at)) o → Held cells o
 unfolding big_bytes_at big_checks
 big_held cells n at b o r (inl e) =
-    let p = first_part (reading (big_data_of n) cells at) (segments_read cells n) b r in held_by (big_data_of n) cells at o p.0 p.1 e
+    let p = first_part (reading (big_data_of n) cells at) (segments_read cells n) b r in
+    held_by (big_data_of n) cells at o p.0 p.1 e
 big_held cells n at b o r (inr h) =
     let p = first_part (reading (big_data_of n) cells at) (segments_read cells n) b r in
     let l = first_part (reading (offsets_in p.0.segments) cells p.0.list) (joined_segments cells n) b p.2 in
     ⊎_elim (λ e. held_by (offsets_in p.0.segments) cells p.0.list o l.0 l.1 e)
-    (λ i. segments_held cells n l.0 b o l.2 (subst (λ (q : Result (List ℕ) HiveKind). In (used_in (below_of q (segments_checks cells n))) o) l.1 i))
+    (λ i. segments_held cells n l.0 b o l.2
+    (subst (λ (q : Result (List ℕ) HiveKind). In (used_in (below_of q (segments_checks cells n))) o) l.1 i))
     (subst (λ (q : Result BigData HiveKind). In (used_in (below_of q (behind_big cells n))) o) p.1 h)
 
 data_held : (cells : Cells) (k : KeyValue) (b : List ℕ) (o : ℕ) → data_of cells k ≡ Ok b
@@ -96,7 +104,8 @@ data_held cells k b o r h = go (data_inside k) (is_big cells.version k.size) r h
   where
     go : (t : Option (List ℕ)) (u : Bool)
         → data_or t (cond u (big_bytes_at cells k.size k.offset) (reading (bytes_in k.size) cells k.offset)) ≡ Ok b
-        → In (used_in (cond (is_some t) [] (cond u (big_checks cells k.size k.offset) (use_as false (bytes_in k.size) cells k.offset)))) o
+        → In (used_in (cond (is_some t) []
+        (cond u (big_checks cells k.size k.offset) (use_as false (bytes_in k.size) cells k.offset)))) o
         → Held cells o
     go (Some d) u r h = absurd h
     go None true r h = big_held cells k.size k.offset b o r h
@@ -107,11 +116,16 @@ item_held : (cells : Cells) (v o : ℕ) (item : Item) → item_at cells v ≡ Ok
     → In (used_in (value_checks cells [] v)) o → Held cells o
 unfolding item_at value_checks
 item_held cells v o item r (inl e) =
-    let p = first_part (reading key_value_at cells v) (λ value. data_of cells value >>= λ bytes. Ok (item_from value bytes)) item r in held_by key_value_at cells v o p.0 p.1 e
+    let p = first_part (reading key_value_at cells v)
+    (λ value. data_of cells value >>= λ bytes. Ok (item_from value bytes)) item r in
+    held_by key_value_at cells v o p.0 p.1 e
 item_held cells v o item r (inr h) =
-    let p = first_part (reading key_value_at cells v) (λ value. data_of cells value >>= λ bytes. Ok (item_from value bytes)) item r in
+    let p = first_part (reading key_value_at cells v)
+    (λ value. data_of cells value >>= λ bytes. Ok (item_from value bytes)) item r in
     let d = first_part (data_of cells p.0) (λ bytes. Ok (item_from p.0 bytes)) item p.2 in
-    data_held cells p.0 d.0 o d.1 (subst (λ (q : Result KeyValue HiveKind). In (used_in (below_of q (λ value. name_check [] v value.name ∷ data_checks cells value))) o) p.1 h)
+    data_held cells p.0 d.0 o d.1
+    (subst (λ (q : Result KeyValue HiveKind). In
+    (used_in (below_of q (λ value. name_check [] v value.name ∷ data_checks cells value))) o) p.1 h)
 
 one_item : (cells : Cells) (offsets : List ℕ) (items : List Item) (v : ℕ) → items_at cells offsets ≡ Ok items
     → In offsets v → (item : Item) × (item_at cells v ≡ Ok item)
@@ -119,7 +133,8 @@ one_item cells [] items v r h = absurd h
 one_item cells (at ∷ rest) items v r h =
     let one = first_part (item_at cells at) (λ item. items_at cells rest >>= λ o. Ok (item ∷ o)) items r in
     let others = first_part (items_at cells rest) (λ o. Ok (one.0 ∷ o)) items one.2 in
-    ⊎_elim (λ e. (one.0, subst (λ (z : ℕ). item_at cells z ≡ Ok one.0) e one.1)) (λ i. one_item cells rest others.0 v others.1 i) h
+    ⊎_elim (λ e. (one.0, subst (λ (z : ℕ). item_at cells z ≡ Ok one.0) e one.1))
+    (λ i. one_item cells rest others.0 v others.1 i) h
 
 leaf_held : (cells : Cells) (lists offsets : List ℕ) (o : ℕ) → joined_at cells lists ≡ Ok offsets
     → In (used_in (leaves_checks cells lists)) o → Held cells o
@@ -136,7 +151,10 @@ entries_held cells at offsets o r (inl e) =
     let p = first_part (reading list_at cells at) (entries_of cells) offsets r in held_by list_at cells at o p.0 p.1 e
 entries_held cells at offsets o r (inr h) =
     let p = first_part (reading list_at cells at) (entries_of cells) offsets r in
-    go p.0 (is_list_of_lists p.0.kind) p.2 (subst (λ (q : Result SubkeyList HiveKind). In (used_in (below_of q (λ list. if is_list_of_lists list.kind then leaves_checks cells list.offsets else []))) o) p.1 h)
+    go p.0 (is_list_of_lists p.0.kind) p.2
+    (subst (λ (q : Result SubkeyList HiveKind). In
+    (used_in (below_of q (λ list. if is_list_of_lists list.kind then leaves_checks cells list.offsets else []))) o)
+    p.1 h)
   where
     go : (list : SubkeyList) (t : Bool) → cond t (joined_at cells list.offsets) (Ok list.offsets) ≡ Ok offsets
         → In (used_in (cond t (leaves_checks cells list.offsets) [])) o → Held cells o
@@ -147,7 +165,10 @@ lists_held : (cells : Cells) (at : ℕ) (n : KeyNode) (offsets : List ℕ) (o : 
     → ListsChildren cells n offsets → In (list_cells_at cells at) o → Held cells o
 unfolding list_cells_at
 lists_held cells at n offsets o read l h =
-    go (n.child_count == 0) l (subst (λ (xs : List ℕ). In xs o) (of_node_is cells at n (λ m. if m.child_count == 0 then [] else used_in (entries_checks cells m.child_list)) read) h)
+    go (n.child_count == 0) l
+    (subst (λ (xs : List ℕ). In xs o)
+    (of_node_is cells at n (λ m. if m.child_count == 0 then [] else used_in (entries_checks cells m.child_list))
+    read) h)
   where
     go : (t : Bool)
         → MatchBool t (offsets ≡ []) ((entries_at cells n.child_list ≡ Ok offsets) × (length offsets ≡ n.child_count))
@@ -160,13 +181,17 @@ role_held : (cells : Cells) (at : ℕ) (h : Head) (offsets : List ℕ) (r : Role
 unfolding class_cell_at security_cell_at
 role_held cells at h offsets node o k e = held_by key_node_at cells at o k.node k.read e
 role_held cells at h offsets class o k i =
-    class_held cells k.node h.class o k.class (subst (λ (xs : List ℕ). In xs o) (of_node_is cells at k.node (λ m. used_in (class_checks cells m)) k.read) i)
+    class_held cells k.node h.class o k.class
+    (subst (λ (xs : List ℕ). In xs o) (of_node_is cells at k.node (λ m. used_in (class_checks cells m)) k.read) i)
 role_held cells at h offsets security o k i =
-    security_held cells k.node h.security o k.security (subst (λ (xs : List ℕ). In xs o) (of_node_is cells at k.node (λ m. used_in (security_checks cells m)) k.read) i)
+    security_held cells k.node h.security o k.security
+    (subst (λ (xs : List ℕ). In xs o) (of_node_is cells at k.node (λ m. used_in (security_checks cells m)) k.read)
+    i)
 role_held cells at h offsets value_list o k i = value_list_held cells at k.node h.values o k.read k.values i
 role_held cells at h offsets (value name) o k i =
     let v = items_are cells at h offsets k in
-    let item = one_item cells v.offsets h.values i.place v.read (subst (λ (xs : List ℕ). In xs i.place) v.places i.listed) in
+    let item = one_item cells v.offsets h.values i.place v.read
+    (subst (λ (xs : List ℕ). In xs i.place) v.places i.listed) in
     item_held cells i.place o item.0 item.1 i.used
 role_held cells at h offsets lists o k i = lists_held cells at k.node offsets o k.read k.children i
 
@@ -176,4 +201,7 @@ tree_held cells at (key h ts) r o s i = role_held cells at h s.0 r o s.1 i
 
 pub are_held : (cells : Cells) (root : ℕ) (t : Tree) → IsWellFormed cells root t → AreHeld cells root
 are_held cells root t w =
-    record { held = λ p r o own. let d = standing cells p root own.at t w.stands w.names own.reached in tree_held cells own.at d.tree r o d.stands own.has }
+    record {
+      held = λ p r o own. let d = standing cells p root own.at t w.stands w.names own.reached in
+          tree_held cells own.at d.tree r o d.stands own.has;
+    }

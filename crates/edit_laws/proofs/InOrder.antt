@@ -68,7 +68,8 @@ at_key_itself f [] t k e same = let one : t ≡ k = some_one t k e in ap f one �
     some_one : (a b : Tree) → Some a ≡ Some b → a ≡ b
     some_one a b e = cc
 at_key_itself f (name ∷ path) (key h ts) k e same =
-    ap (λ (us : List Tree). key h (trees us)) (first_itself name path k (at_key path f) (listed ts) (λ w d. at_key_itself f path w k d same) e)
+    ap (λ (us : List Tree). key h (trees us))
+    (first_itself name path k (at_key path f) (listed ts) (λ w d. at_key_itself f path w k d same) e)
     ∙ ap (key h) (trees_listed ts)
 
 -- A step that makes no other tree is done by cells that are as they were.
@@ -85,8 +86,10 @@ pub a_key_there : (b : Cells) (root : ℕ) (t u k : Tree) (parent : List (List �
     → IsWellFormed b root t → at_key parent (with_key name) t ≡ u → find_key parent t ≡ Some k
     → has_key parent name t ≡ true → IsDone b b root t u (make_key parent name)
 a_key_there b root t u k parent name well made found there =
-    nothing_done b root t u (make_key parent name) well (sym (at_key_itself (with_key name) parent t k found same) ∙ made)
+    nothing_done b root t u (make_key parent name) well
+    (sym (at_key_itself (with_key name) parent t k found same) ∙ made)
   where
     same : with_key name k ≡ k
     same =
-        ap (λ (v : Bool). cond v k (of_children (placed (new_key name k)) k)) (sym (ap (λ (o : Option Tree). option_map_or (has_child name) o false) found) ∙ there)
+        ap (λ (v : Bool). cond v k (of_children (placed (new_key name k)) k))
+        (sym (ap (λ (o : Option Tree). option_map_or (has_child name) o false) found) ∙ there)

@@ -59,7 +59,8 @@ pub in_flat : {X Y : Type 0} (f : X → List Y) (xs : List X) (y : Y) → In (fl
     → (x : X) × In xs x × In (f x) y
 in_flat f [] y h = absurd h
 in_flat f (x ∷ xs) y h =
-    ⊎_elim (λ l. (x, inl refl, l)) (λ r. let p = in_flat f xs y r in (p.0, inr p.1, p.2)) (in_cases (f x) (flat_map f xs) y h)
+    ⊎_elim (λ l. (x, inl refl, l)) (λ r. let p = in_flat f xs y r in (p.0, inr p.1, p.2))
+    (in_cases (f x) (flat_map f xs) y h)
 
 pub in_flat_from : {X Y : Type 0} (f : X → List Y) (xs : List X) (y : Y) (x : X) → In xs x → In (f x) y
     → In (flat_map f xs) y

@@ -73,19 +73,27 @@ with_item_differ name kind bytes vs d = go (is_some (find (is_item name) vs)) re
     added : Item
     added = record { name = name; kind = kind; bytes = bytes }
 
-    pushed : is_some (find (is_item name) vs) ≡ false → Pairwise Unlike (names_of_items (vs ++ record { name = name; kind = kind; bytes = bytes } ∷ []))
+    pushed : is_some (find (is_item name) vs) ≡ false
+        → Pairwise Unlike (names_of_items (vs ++ record { name = name; kind = kind; bytes = bytes } ∷ []))
     pushed e =
         subst (Pairwise Unlike) (sym (map_append vs (added ∷ [])))
         (pairwise_join Unlike (names_of_items vs) (name ∷ []) (record {
           left = items_unlike vs d;
           right = (λ m i. absurd i, tt);
-          across = λ m n i j. ⊎_elim (λ (s : name ≡ n). subst (Unlike m) s (let p = in_map (λ (w : Item). w.name) vs m i in subst (λ (z : List ℕ). folds_same name z ≡ false) p.2 (none_passes (is_item name) vs p.0 e p.1))) (λ (z : ⊥). absurd z) j;
+          across = λ m n i j. ⊎_elim
+              (λ (s : name ≡ n). subst (Unlike m) s
+              (let p = in_map (λ (w : Item). w.name) vs m i in
+              subst (λ (z : List ℕ). folds_same name z ≡ false) p.2 (none_passes (is_item name) vs p.0 e p.1)))
+              (λ (z : ⊥). absurd z) j;
         }))
 
     go : (b : Bool) → is_some (find (is_item name) vs) ≡ b
-        → ItemsDiffer (cond b (at_first (is_item name) (λ v. record v { kind = kind; bytes = bytes }) vs) (vs ++ record { name = name; kind = kind; bytes = bytes } ∷ []))
+        → ItemsDiffer (cond b (at_first (is_item name) (λ v. record v { kind = kind; bytes = bytes }) vs)
+        (vs ++ record { name = name; kind = kind; bytes = bytes } ∷ []))
     go true e = unlike_items (at_first (is_item name) (λ v. record v { kind = kind; bytes = bytes }) vs)
-        (subst (Pairwise Unlike) (sym (first_names (is_item name) (λ v. record v { kind = kind; bytes = bytes }) vs (λ v. refl))) (items_unlike vs d))
+        (subst (Pairwise Unlike) (sym
+        (first_names (is_item name) (λ v. record v { kind = kind; bytes = bytes }) vs (λ v. refl)))
+        (items_unlike vs d))
     go false e = unlike_items (vs ++ record { name = name; kind = kind; bytes = bytes } ∷ []) (pushed e)
 
 in_without : (p : Item → Bool) (vs : List Item) (u : Item) → In (without_first p vs) u → In vs u
@@ -131,7 +139,8 @@ pub changed_values : (b c : Cells) (root : ℕ) (t k : Tree) (path p : List (Lis
     → GetsValues b c x (f (head k).values) → ItemsDiffer (f (head k).values)
     → IsWellFormed c root (at_key path (of_items f) t)
 changed_values b c root t k path p x f well folds r found g differ =
-    subst (IsWellFormed c root) (changed_alike (of_items (λ vs. f (head k).values)) (of_items f) path t k found (same k))
+    subst (IsWellFormed c root)
+    (changed_alike (of_items (λ vs. f (head k).values)) (of_items f) path t k found (same k))
     (revalued b c root t path p x (f (head k).values) well folds r g differ)
   where
     same : (k : Tree) → of_items (λ vs. f (head k).values) k ≡ of_items f k
@@ -143,7 +152,8 @@ pub value_is_set : (b c : Cells) (root : ℕ) (t k : Tree) (path p : List (List 
     → GetsValues b c x (with_item name kind bytes (head k).values)
     → IsWellFormed c root (at_key path (of_items (with_item name kind bytes)) t)
 value_is_set b c root t k path p x name kind bytes well folds r found g =
-    changed_values b c root t k path p x (with_item name kind bytes) well folds r found g (with_item_differ name kind bytes (head k).values (found_items path t k well.names found))
+    changed_values b c root t k path p x (with_item name kind bytes) well folds r found g
+    (with_item_differ name kind bytes (head k).values (found_items path t k well.names found))
 
 -- a value is deleted: the cells are well-formed with the tree that lacks it
 pub value_is_deleted : (b c : Cells) (root : ℕ) (t k : Tree) (path p : List (List ℕ)) (x : ℕ) (name : List ℕ)
@@ -151,4 +161,5 @@ pub value_is_deleted : (b c : Cells) (root : ℕ) (t k : Tree) (path p : List (L
     → GetsValues b c x (without_first (is_item name) (head k).values)
     → IsWellFormed c root (at_key path (of_items (without_first (is_item name))) t)
 value_is_deleted b c root t k path p x name well folds r found g =
-    changed_values b c root t k path p x (without_first (is_item name)) well folds r found g (without_item_differ (is_item name) (head k).values (found_items path t k well.names found))
+    changed_values b c root t k path p x (without_first (is_item name)) well folds r found g
+    (without_item_differ (is_item name) (head k).values (found_items path t k well.names found))

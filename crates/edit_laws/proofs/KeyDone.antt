@@ -61,8 +61,12 @@ none_named name (u ∷ us) e w i = go (is_named name u) refl e i (λ d j. none_n
 -- ---- a key is made
 
 new_apart : (name : List ℕ) (k : Tree) → HasApartNames (new_key name k)
-new_apart name k =
-    ((λ i j d lt within. absurd (omega (arith, within))), (λ i d within. absurd (omega (arith, within))), (λ i j d lt within. absurd (omega (arith, within))), tt)
+new_apart name k = (
+  (λ i j d lt within. absurd (omega (arith, within))),
+  (λ i d within. absurd (omega (arith, within))),
+  (λ i j d lt within. absurd (omega (arith, within))),
+  tt,
+)
 
 -- A key is made where there is none of its name: it is new, and the lists of the key above name it.
 pub a_key_made : (b c : Cells) (root : ℕ) (t u k : Tree) (parent : List (List ℕ)) (name : List ℕ) (x y left : ℕ)
@@ -87,17 +91,27 @@ a_key_made b c root t u k parent name x y left front back counted well ok absent
     names = make_names b root t parent w.stored name x counted absent w.folds w.reached count
 
     -- the tests that it passed
-    t1 : (is_none (find_key parent t) ≡ false) × (unless (name_tests name ++ (nat_lt deepest_level (length parent + 2), too_deep) ∷ []) (at_key parent (with_key name) t) ≡ Ok u)
+    t1 : (is_none (find_key parent t) ≡ false)
+        × (unless (name_tests name ++ (nat_lt deepest_level (length parent + 2), too_deep) ∷ [])
+        (at_key parent (with_key name) t) ≡ Ok u)
     t1 =
-        passed (is_none (find_key parent t), no_key) (name_tests name ++ (nat_lt deepest_level (length parent + 2), too_deep) ∷ []) (at_key parent (with_key name) t) u ok
+        passed (is_none (find_key parent t), no_key)
+        (name_tests name ++ (nat_lt deepest_level (length parent + 2), too_deep) ∷ [])
+        (at_key parent (with_key name) t) u ok
 
-    t2 : (is_bad_name name ≡ false) × (unless ((nat_lt longest_key_name (length name), name_too_long) ∷ (nat_lt deepest_level (length parent + 2), too_deep) ∷ []) (at_key parent (with_key name) t) ≡ Ok u)
+    t2 : (is_bad_name name ≡ false)
+        × (unless ((nat_lt longest_key_name (length name), name_too_long)
+        ∷ (nat_lt deepest_level (length parent + 2), too_deep) ∷ []) (at_key parent (with_key name) t) ≡ Ok u)
     t2 =
-        passed (is_bad_name name, bad_name) ((nat_lt longest_key_name (length name), name_too_long) ∷ (nat_lt deepest_level (length parent + 2), too_deep) ∷ []) (at_key parent (with_key name) t) u t1.1
+        passed (is_bad_name name, bad_name)
+        ((nat_lt longest_key_name (length name), name_too_long)
+        ∷ (nat_lt deepest_level (length parent + 2), too_deep) ∷ []) (at_key parent (with_key name) t) u t1.1
 
-    t3 : (nat_lt longest_key_name (length name) ≡ false) × (unless ((nat_lt deepest_level (length parent + 2), too_deep) ∷ []) (at_key parent (with_key name) t) ≡ Ok u)
+    t3 : (nat_lt longest_key_name (length name) ≡ false)
+        × (unless ((nat_lt deepest_level (length parent + 2), too_deep) ∷ []) (at_key parent (with_key name) t) ≡ Ok u)
     t3 =
-        passed (nat_lt longest_key_name (length name), name_too_long) ((nat_lt deepest_level (length parent + 2), too_deep) ∷ []) (at_key parent (with_key name) t) u t2.1
+        passed (nat_lt longest_key_name (length name), name_too_long)
+        ((nat_lt deepest_level (length parent + 2), too_deep) ∷ []) (at_key parent (with_key name) t) u t2.1
 
     t4 : (nat_lt deepest_level (length parent + 2) ≡ false) × (unless [] (at_key parent (with_key name) t) ≡ Ok u)
     t4 = passed (nat_lt deepest_level (length parent + 2), too_deep) [] (at_key parent (with_key name) t) u t3.1
@@ -114,7 +128,12 @@ a_key_made b c root t u k parent name x y left front back counted well ok absent
     go : (k : Tree) → find_key parent t ≡ Some k → Stands c y (new_key name k) → IsThere b parent x t
         → IsDone b c root t u (make_key parent name)
     go (key hd ts) found new there =
-        record { stands = stands; leaves = leaves; framed = make_is_framed b c root t t u u parent w.stored name x left front (y ∷ []) back counted well stands ok w.folds w.reached deep_stored none_there names g }
+        record {
+          stands = stands;
+          leaves = leaves;
+          framed = make_is_framed b c root t t u u parent w.stored name x left front (y ∷ [])
+              back counted well stands ok w.folds w.reached deep_stored none_there names g;
+        }
       where
         here : there.tree ≡ key hd ts
         here = same_tree there.tree (key hd ts) (sym there.found ∙ found)
@@ -137,12 +156,15 @@ a_key_made b c root t u k parent name x y left front back counted well ok absent
         made : at_key parent (of_children (placed (new_key name (key hd ts)))) t ≡ u
         made =
             changed_alike (of_children (placed (new_key name (key hd ts)))) (with_key name) parent t (key hd ts) found
-            (sym (ap (λ (v : Bool). cond v (key hd ts) (of_children (placed (new_key name (key hd ts))) (key hd ts))) no_child))
+            (sym (ap (λ (v : Bool). cond v (key hd ts) (of_children (placed (new_key name (key hd ts))) (key hd ts)))
+            no_child))
             ∙ result
 
         stands : IsWellFormed c root u
         stands = subst (IsWellFormed c root) made
-            (child_come b c root t (new_key name (key hd ts)) parent w.stored x y left front back counted hd ts well w.folds w.reached deep_stored found stood apart g new (new_apart name (key hd ts)) low
+            (child_come b c root t (new_key name (key hd ts))
+            parent w.stored x y left front back counted hd ts well w.folds w.reached deep_stored found stood apart g
+            new (new_apart name (key hd ts)) low
             (some_unit name t2.0) fresh place.small place.great)
 
         leaves : LeavesOthers b c root t (make_key parent name)
@@ -166,9 +188,13 @@ pub root_gets : (b c : Cells) (root : ℕ) (t k : Tree) (name : List ℕ) (y : �
     → ChangesChildren b c root root 511 front [] (y ∷ []) back counted → Stands c y (renamed name k) → HasApartNames k
     → levels k ≤ 511 → HasPlace b name front back → IsWellFormed c root (with_child name k t)
 root_gets b c root (key hd ts) k name y front back counted well absent good g new apart low place =
-    child_come b c root (key hd ts) (renamed name k) [] [] root y 511 front back counted hd ts well tt refl refl refl well.stands well.names g new (renamed_apart name k apart)
-    (let l = renamed_levels name k in omega (arith, l, low)) (subst (λ (m : List ℕ). 0 < length m) (sym (renamed_name name k)) (some_unit name good))
-    (λ w i. subst (λ (m : List ℕ). folds_same m (head w).name ≡ false) (sym (renamed_name name k)) (none_named name (listed ts) absent w i))
+    child_come b c root (key hd ts) (renamed name k)
+    [] [] root y 511 front back counted hd ts well tt refl refl refl well.stands well.names g new
+    (renamed_apart name k apart)
+    (let l = renamed_levels name k in omega (arith, l, low))
+    (subst (λ (m : List ℕ). 0 < length m) (sym (renamed_name name k)) (some_unit name good))
+    (λ w i. subst (λ (m : List ℕ). folds_same m (head w).name ≡ false) (sym (renamed_name name k))
+    (none_named name (listed ts) absent w i))
     (λ m i. subst (λ (z : List ℕ). is_gt (folded_order m z) ≡ false) (sym (renamed_name name k)) (place.small m i))
     (subst (λ (z : List ℕ). StandsBefore z (map (node_name b) back)) (sym (renamed_name name k)) place.great)
 
@@ -186,28 +212,40 @@ pub a_child_added : (b c : Cells) (root : ℕ) (t u k : Tree) (name : List ℕ) 
 a_child_added b c root t u k name y front back counted well ok apart g count new place =
     record { stands = stands; leaves = both.0; framed = both.1 }
   where
-    t1 : (is_bad_name name ≡ false) × (unless ((nat_lt longest_key_name (length name), name_too_long) ∷ (has_child name t, exists) ∷ (nat_lt deepest_level (levels k + 1), too_deep) ∷ []) (with_child name k t) ≡ Ok u)
+    t1 : (is_bad_name name ≡ false)
+        × (unless ((nat_lt longest_key_name (length name), name_too_long) ∷ (has_child name t, exists)
+        ∷ (nat_lt deepest_level (levels k + 1), too_deep) ∷ []) (with_child name k t) ≡ Ok u)
     t1 =
-        passed (is_bad_name name, bad_name) ((nat_lt longest_key_name (length name), name_too_long) ∷ (has_child name t, exists) ∷ (nat_lt deepest_level (levels k + 1), too_deep) ∷ []) (with_child name k t) u ok
+        passed (is_bad_name name, bad_name)
+        ((nat_lt longest_key_name (length name), name_too_long) ∷ (has_child name t, exists)
+        ∷ (nat_lt deepest_level (levels k + 1), too_deep) ∷ []) (with_child name k t) u ok
 
-    t2 : (nat_lt longest_key_name (length name) ≡ false) × (unless ((has_child name t, exists) ∷ (nat_lt deepest_level (levels k + 1), too_deep) ∷ []) (with_child name k t) ≡ Ok u)
+    t2 : (nat_lt longest_key_name (length name) ≡ false)
+        × (unless ((has_child name t, exists) ∷ (nat_lt deepest_level (levels k + 1), too_deep) ∷ [])
+        (with_child name k t) ≡ Ok u)
     t2 =
-        passed (nat_lt longest_key_name (length name), name_too_long) ((has_child name t, exists) ∷ (nat_lt deepest_level (levels k + 1), too_deep) ∷ []) (with_child name k t) u t1.1
+        passed (nat_lt longest_key_name (length name), name_too_long)
+        ((has_child name t, exists) ∷ (nat_lt deepest_level (levels k + 1), too_deep) ∷ []) (with_child name k t)
+        u t1.1
 
-    t3 : (has_child name t ≡ false) × (unless ((nat_lt deepest_level (levels k + 1), too_deep) ∷ []) (with_child name k t) ≡ Ok u)
+    t3 : (has_child name t ≡ false)
+        × (unless ((nat_lt deepest_level (levels k + 1), too_deep) ∷ []) (with_child name k t) ≡ Ok u)
     t3 =
-        passed (has_child name t, exists) ((nat_lt deepest_level (levels k + 1), too_deep) ∷ []) (with_child name k t) u t2.1
+        passed (has_child name t, exists) ((nat_lt deepest_level (levels k + 1), too_deep) ∷ []) (with_child name k t)
+        u t2.1
 
     t4 : (nat_lt deepest_level (levels k + 1) ≡ false) × (unless [] (with_child name k t) ≡ Ok u)
     t4 = passed (nat_lt deepest_level (levels k + 1), too_deep) [] (with_child name k t) u t3.1
 
     stands : IsWellFormed c root u
     stands = subst (IsWellFormed c root) (ok_tree (with_child name k t) u t4.1)
-        (root_gets b c root t k name y front back counted well t3.0 t1.0 g new apart (let l = ltb-false 512 (levels k + 1) t4.0 in omega (arith, l)) place)
+        (root_gets b c root t k name y front back counted well t3.0 t1.0 g new apart
+        (let l = ltb-false 512 (levels k + 1) t4.0 in omega (arith, l)) place)
 
     both : LeavesOthers b c root t (add_child name k) × IsFramed b c root t (add_child name k)
     both =
-        add_is_framed b c root t t u u k name 511 front (y ∷ []) back counted well stands ok refl (root_none b root t name well t3.0) (add_names b root t k name counted count) g
+        add_is_framed b c root t t u u k name 511 front (y ∷ []) back counted well stands ok refl
+        (root_none b root t name well t3.0) (add_names b root t k name counted count) g
 
 -- A child is copied under a name that no child of the root has.
 pub a_child_copied : (b c : Cells) (root : ℕ) (t u k : Tree) (from to : List ℕ) (y : ℕ) (front back counted : List ℕ)
@@ -218,21 +256,33 @@ pub a_child_copied : (b c : Cells) (root : ℕ) (t u k : Tree) (from to : List �
 a_child_copied b c root t u k from to y front back counted well ok found apart low g count new place =
     record { stands = stands; leaves = both.0; framed = both.1 }
   where
-    t0 : (not (has_child from t) ≡ false) × (unless (name_tests to ++ (has_child to t, exists) ∷ []) (option_map_or (λ z. with_child to z t) (find (is_named from) (children t)) t) ≡ Ok u)
+    t0 : (not (has_child from t) ≡ false)
+        × (unless (name_tests to ++ (has_child to t, exists) ∷ [])
+        (option_map_or (λ z. with_child to z t) (find (is_named from) (children t)) t) ≡ Ok u)
     t0 =
-        passed (not (has_child from t), no_key) (name_tests to ++ (has_child to t, exists) ∷ []) (option_map_or (λ z. with_child to z t) (find (is_named from) (children t)) t) u ok
+        passed (not (has_child from t), no_key) (name_tests to ++ (has_child to t, exists) ∷ [])
+        (option_map_or (λ z. with_child to z t) (find (is_named from) (children t)) t) u ok
 
-    t1 : (is_bad_name to ≡ false) × (unless ((nat_lt longest_key_name (length to), name_too_long) ∷ (has_child to t, exists) ∷ []) (option_map_or (λ z. with_child to z t) (find (is_named from) (children t)) t) ≡ Ok u)
+    t1 : (is_bad_name to ≡ false)
+        × (unless ((nat_lt longest_key_name (length to), name_too_long) ∷ (has_child to t, exists) ∷ [])
+        (option_map_or (λ z. with_child to z t) (find (is_named from) (children t)) t) ≡ Ok u)
     t1 =
-        passed (is_bad_name to, bad_name) ((nat_lt longest_key_name (length to), name_too_long) ∷ (has_child to t, exists) ∷ []) (option_map_or (λ z. with_child to z t) (find (is_named from) (children t)) t) u t0.1
+        passed (is_bad_name to, bad_name)
+        ((nat_lt longest_key_name (length to), name_too_long) ∷ (has_child to t, exists) ∷ [])
+        (option_map_or (λ z. with_child to z t) (find (is_named from) (children t)) t) u t0.1
 
-    t2 : (nat_lt longest_key_name (length to) ≡ false) × (unless ((has_child to t, exists) ∷ []) (option_map_or (λ z. with_child to z t) (find (is_named from) (children t)) t) ≡ Ok u)
+    t2 : (nat_lt longest_key_name (length to) ≡ false)
+        × (unless ((has_child to t, exists) ∷ [])
+        (option_map_or (λ z. with_child to z t) (find (is_named from) (children t)) t) ≡ Ok u)
     t2 =
-        passed (nat_lt longest_key_name (length to), name_too_long) ((has_child to t, exists) ∷ []) (option_map_or (λ z. with_child to z t) (find (is_named from) (children t)) t) u t1.1
+        passed (nat_lt longest_key_name (length to), name_too_long) ((has_child to t, exists) ∷ [])
+        (option_map_or (λ z. with_child to z t) (find (is_named from) (children t)) t) u t1.1
 
-    t3 : (has_child to t ≡ false) × (unless [] (option_map_or (λ z. with_child to z t) (find (is_named from) (children t)) t) ≡ Ok u)
+    t3 : (has_child to t ≡ false)
+        × (unless [] (option_map_or (λ z. with_child to z t) (find (is_named from) (children t)) t) ≡ Ok u)
     t3 =
-        passed (has_child to t, exists) [] (option_map_or (λ z. with_child to z t) (find (is_named from) (children t)) t) u t2.1
+        passed (has_child to t, exists) []
+        (option_map_or (λ z. with_child to z t) (find (is_named from) (children t)) t) u t2.1
 
     result : with_child to k t ≡ u
     result =
@@ -241,11 +291,13 @@ a_child_copied b c root t u k from to y front back counted well ok found apart l
 
     stands : IsWellFormed c root u
     stands =
-        subst (IsWellFormed c root) result (root_gets b c root t k to y front back counted well t3.0 t1.0 g new apart low place)
+        subst (IsWellFormed c root) result
+        (root_gets b c root t k to y front back counted well t3.0 t1.0 g new apart low place)
 
     both : LeavesOthers b c root t (copy_child from to) × IsFramed b c root t (copy_child from to)
     both =
-        copy_is_framed b c root t t u u from to 511 front (y ∷ []) back counted well stands ok refl (root_none b root t to well t3.0) (copy_names b root t from to counted count) g
+        copy_is_framed b c root t t u u from to 511 front (y ∷ []) back counted well stands ok refl
+        (root_none b root t to well t3.0) (copy_names b root t from to counted count) g
 
 -- ---- a key is deleted
 
@@ -267,9 +319,11 @@ a_key_deleted b c root t u parent name x y left front back counted well ok at de
     deep_stored : length w.stored + suc left ≡ 512
     deep_stored = let l = folds_length parent w.stored w.folds in omega (arith, l, deep)
 
-    t1 : (((length (parent ++ name ∷ []) == 0) || is_none (find_key (parent ++ name ∷ []) t)) ≡ false) × (unless [] (without_key (parent ++ name ∷ []) t) ≡ Ok u)
+    t1 : (((length (parent ++ name ∷ []) == 0) || is_none (find_key (parent ++ name ∷ []) t)) ≡ false)
+        × (unless [] (without_key (parent ++ name ∷ []) t) ≡ Ok u)
     t1 =
-        passed ((length (parent ++ name ∷ []) == 0) || is_none (find_key (parent ++ name ∷ []) t), no_key) [] (without_key (parent ++ name ∷ []) t) u ok
+        passed ((length (parent ++ name ∷ []) == 0) || is_none (find_key (parent ++ name ∷ []) t), no_key) []
+        (without_key (parent ++ name ∷ []) t) u ok
 
     go : (k : Tree) → find_key parent t ≡ Some k → Stands b x k → HasApartNames k
         → IsDone b c root t u (delete_key (parent ++ name ∷ []))
@@ -281,8 +335,18 @@ a_key_deleted b c root t u parent name x y left front back counted well ok at de
       where
         stands : IsWellFormed c root u
         stands = subst (IsWellFormed c root) (ok_tree (without_key (parent ++ name ∷ []) t) u t1.1)
-            (child_gone b c root t parent w.stored name x y left front back counted hd ts well w.folds w.reached deep_stored found stood apart g deletes.named)
+            (child_gone b c root t parent w.stored name x y left front back counted hd ts well w.folds w.reached
+            deep_stored found stood apart g deletes.named)
 
         d : IsDeletion b c root t parent w.stored name x y left front back counted hd ts
         d =
-            record { well = well; folds = w.folds; reached = w.reached; deep = deep_stored; stands = stood; apart = apart; deletes = deletes; changes = g }
+            record {
+              well = well;
+              folds = w.folds;
+              reached = w.reached;
+              deep = deep_stored;
+              stands = stood;
+              apart = apart;
+              deletes = deletes;
+              changes = g;
+            }

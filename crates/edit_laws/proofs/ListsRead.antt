@@ -36,7 +36,9 @@ entries_held cells at offsets o r (inl e) =
 entries_held cells at offsets o r (inr h) =
     let p = first_part (reading list_at cells at) (entries_of cells) offsets r in
     go p.0 (is_list_of_lists p.0.kind) p.2
-    (subst (λ (q : Result SubkeyList HiveKind). In (used_in (below_of q (λ list. if is_list_of_lists list.kind then leaves_checks cells list.offsets else []))) o) p.1 h)
+    (subst (λ (q : Result SubkeyList HiveKind). In
+    (used_in (below_of q (λ list. if is_list_of_lists list.kind then leaves_checks cells list.offsets else []))) o)
+    p.1 h)
   where
     go : (list : SubkeyList) (t : Bool) → cond t (joined_at cells list.offsets) (Ok list.offsets) ≡ Ok offsets
         → In (used_in (cond t (leaves_checks cells list.offsets) [])) o → Held cells o

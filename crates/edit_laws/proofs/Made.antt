@@ -28,7 +28,8 @@ place_one cells root q p s x y all f g h i =
 
 pub parent_is : (parent : List (List ℕ)) (name : List ℕ) → parent_of (parent ++ name ∷ []) ≡ parent
 parent_is parent name =
-    ap (λ (n : ℕ). take n (parent ++ name ∷ [])) (let l : length (parent ++ name ∷ []) - 1 ≡ length parent = omega (arith, length-append {A = List ℕ}) in l)
+    ap (λ (n : ℕ). take n (parent ++ name ∷ []))
+    (let l : length (parent ++ name ∷ []) - 1 ≡ length parent = omega (arith, length-append {A = List ℕ}) in l)
     ∙ take_front parent (name ∷ [])
   where
     take_front : (xs ys : List (List ℕ)) → take (length xs) (xs ++ ys) ≡ xs
@@ -49,11 +50,27 @@ pub through : (cells : Cells) (parent : List (List ℕ)) (name : List ℕ) (p : 
     → Extends (parent ++ name ∷ []) p → Reaches cells at p x → IsThrough cells at parent name
 through cells [] name [] at x e h = absurd e
 through cells [] name (m ∷ p) at x e h =
-    record { stored = []; folds = tt; mid = at; reached = refl; child = h.0; listed = h.1; named = ap (folds_same name) h.2 ∙ e.0 }
+    record {
+      stored = [];
+      folds = tt;
+      mid = at;
+      reached = refl;
+      child = h.0;
+      listed = h.1;
+      named = ap (folds_same name) h.2 ∙ e.0;
+    }
 through cells (n ∷ parent) name [] at x e h = absurd e
 through cells (n ∷ parent) name (m ∷ p) at x e h =
     let t = through cells parent name p h.0 x e.1 h.3 in
-    record { stored = m ∷ t.stored; folds = (e.0, t.folds); mid = t.mid; reached = (h.0, h.1, h.2, t.reached); child = t.child; listed = t.listed; named = t.named }
+    record {
+      stored = m ∷ t.stored;
+      folds = (e.0, t.folds);
+      mid = t.mid;
+      reached = (h.0, h.1, h.2, t.reached);
+      child = t.child;
+      listed = t.listed;
+      named = t.named;
+    }
 
 pub folds_extends : (a b : List (List ℕ)) → Folds a b → Extends a b
 folds_extends [] b f = tt
@@ -85,14 +102,17 @@ made_framed b c root tb t parent name well rest names stored x f r no_child list
     at_parent : (p : List (List ℕ)) (y : ℕ) → Reaches b root p y → Folds parent p
         → IsKept b c (IsNew b root t (make_key parent name)) y
     at_parent p y h g =
-        subst (IsKept b c (IsNew b root t (make_key parent name))) (sym (place_one b root parent p stored y x sound g f h r)) (relisted_kept b c (IsNew b root t (make_key parent name)) x listed)
+        subst (IsKept b c (IsNew b root t (make_key parent name)))
+        (sym (place_one b root parent p stored y x sound g f h r))
+        (relisted_kept b c (IsNew b root t (make_key parent name)) x listed)
 
     near : (p : List (List ℕ)) (y : ℕ) (key : List (List ℕ)) → Reaches b root p y
         → In (named_keys (make_key parent name)) key → Folds key p ⊎ Folds (parent_of key) p
         → IsKept b c (IsNew b root t (make_key parent name)) y
     near p y key h (inl e) (inl g) =
         absurd (not_through b root parent stored name x sound f r no_child
-        (through b parent name p root y (folds_extends (parent ++ name ∷ []) p (subst (λ (k : List (List ℕ)). Folds k p) (sym e) g)) h))
+        (through b parent name p root y
+        (folds_extends (parent ++ name ∷ []) p (subst (λ (k : List (List ℕ)). Folds k p) (sym e) g)) h))
     near p y key h (inl e) (inr g) =
         at_parent p y h (subst (λ (k : List (List ℕ)). Folds k p) (ap parent_of (sym e) ∙ parent_is parent name) g)
     near p y key h (inr e) g = absurd e
@@ -117,7 +137,8 @@ deleted_framed b c root tb t parent name well rest names stored x f r listed sou
     at_parent : (p : List (List ℕ)) (y : ℕ) → Reaches b root p y → Folds parent p
         → IsKept b c (IsNew b root t (delete_key (parent ++ name ∷ []))) y
     at_parent p y h g =
-        subst (IsKept b c (IsNew b root t (delete_key (parent ++ name ∷ [])))) (sym (place_one b root parent p stored y x sound g f h r))
+        subst (IsKept b c (IsNew b root t (delete_key (parent ++ name ∷ []))))
+        (sym (place_one b root parent p stored y x sound g f h r))
         (relisted_kept b c (IsNew b root t (delete_key (parent ++ name ∷ []))) x listed)
 
     gone : (p : List (List ℕ)) (y : ℕ) → Reaches c root p y → Extends (parent ++ name ∷ []) p

@@ -31,15 +31,29 @@ heads_one cells at h g xs ys s r =
     let name : h.name ≡ g.name = s.name ∙ ap (λ n. n.name) same ∙ sym r.name in
     let flags : h.flags ≡ g.flags = s.flags ∙ ap (λ n. tree_flags n.flags) same ∙ sym r.flags in
     let stamp : h.stamp ≡ g.stamp = s.stamp ∙ ap (λ n. n.stamp) same ∙ sym r.stamp in
-    let class : h.class ≡ g.class = ok_one (class_of cells r.node) h.class g.class (subst (λ (n : KeyNode). class_of cells n ≡ Ok h.class) same s.class) r.class in
-    let security : h.security ≡ g.security = ok_one (security_of cells r.node) h.security g.security (subst (λ (n : KeyNode). security_of cells n ≡ Ok h.security) same s.security) r.security in
-    let values : h.values ≡ g.values = ok_one (values_of cells r.node) h.values g.values (subst (λ (n : KeyNode). values_of cells n ≡ Ok h.values) same s.values) r.values in
-    λ i. record { name = name i; flags = flags i; stamp = stamp i; class = class i; security = security i; values = values i }
+    let class : h.class ≡ g.class =
+    ok_one (class_of cells r.node) h.class g.class
+    (subst (λ (n : KeyNode). class_of cells n ≡ Ok h.class) same s.class) r.class in
+    let security : h.security ≡ g.security =
+    ok_one (security_of cells r.node) h.security g.security
+    (subst (λ (n : KeyNode). security_of cells n ≡ Ok h.security) same s.security) r.security in
+    let values : h.values ≡ g.values =
+    ok_one (values_of cells r.node) h.values g.values
+    (subst (λ (n : KeyNode). values_of cells n ≡ Ok h.values) same s.values) r.values in
+    λ i. record {
+      name = name i;
+      flags = flags i;
+      stamp = stamp i;
+      class = class i;
+      security = security i;
+      values = values i;
+    }
 
 offsets_one : (cells : Cells) (at : ℕ) (h g : Head) (xs ys : List ℕ) → KeyStands cells at h xs
     → KeyStands cells at g ys → xs ≡ ys
 offsets_one cells at h g xs ys s r =
-    lists_one cells r.node xs ys (r.node.child_count == 0) (subst (λ (n : KeyNode). ListsChildren cells n xs) (nodes_one cells at h g xs ys s r) s.children) r.children
+    lists_one cells r.node xs ys (r.node.child_count == 0)
+    (subst (λ (n : KeyNode). ListsChildren cells n xs) (nodes_one cells at h g xs ys s r) s.children) r.children
 
 first_one : (x y : ℕ) (xs ys : List ℕ) → x ∷ xs ≡ y ∷ ys → (x ≡ y) × (xs ≡ ys)
 first_one x y xs ys e = (cc, cc)

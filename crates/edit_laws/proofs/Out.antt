@@ -109,7 +109,8 @@ plain_choice false xs p o h = p o h
 pub class_plain : (cells : Cells) (n : KeyNode) → IsPlain (class_checks cells n)
 unfolding class_checks
 class_plain cells n =
-    plain_choice (n.class_length == 0) (use_as false (bytes_in n.class_length) cells n.class) (plain_use (bytes_in n.class_length) cells n.class)
+    plain_choice (n.class_length == 0) (use_as false (bytes_in n.class_length) cells n.class)
+    (plain_use (bytes_in n.class_length) cells n.class)
 
 plain_either : (b : Bool) (xs ys : List Check) → IsPlain xs → IsPlain ys → IsPlain (cond b xs ys)
 plain_either true xs ys p q o h = p o h
@@ -124,27 +125,32 @@ segments_plain cells n (at ∷ rest) o h =
 -- what is checked behind a cell of big data
 abbrev pub behind_big : Cells → ℕ → BigData → List Check
 behind_big cells n big =
-    use_as false (offsets_in big.segments) cells big.list ++ below_of (reading (offsets_in big.segments) cells big.list) (segments_checks cells n)
+    use_as false (offsets_in big.segments) cells big.list
+    ++ below_of (reading (offsets_in big.segments) cells big.list) (segments_checks cells n)
 
 big_plain : (cells : Cells) (n at : ℕ) → IsPlain (big_checks cells n at)
 unfolding big_checks
 big_plain cells n at =
-    plain_append (use_as false (big_data_of n) cells at) (below_of (reading (big_data_of n) cells at) (behind_big cells n)) (plain_use (big_data_of n) cells at)
+    plain_append (use_as false (big_data_of n) cells at)
+    (below_of (reading (big_data_of n) cells at) (behind_big cells n)) (plain_use (big_data_of n) cells at)
     (plain_read (reading (big_data_of n) cells at) (behind_big cells n) (λ big.
-    plain_append (use_as false (offsets_in big.segments) cells big.list) (below_of (reading (offsets_in big.segments) cells big.list) (segments_checks cells n))
+    plain_append (use_as false (offsets_in big.segments) cells big.list)
+    (below_of (reading (offsets_in big.segments) cells big.list) (segments_checks cells n))
     (plain_use (offsets_in big.segments) cells big.list)
     (plain_read (reading (offsets_in big.segments) cells big.list) (segments_checks cells n) (segments_plain cells n))))
 
 -- the cells of data that are not in the value itself
 abbrev pub outside_checks : Cells → KeyValue → List Check
 outside_checks cells v =
-    if is_big cells.version v.size then big_checks cells v.size v.offset else use_as false (bytes_in v.size) cells v.offset
+    if is_big cells.version v.size then big_checks cells v.size v.offset else use_as false (bytes_in v.size)
+    cells v.offset
 
 data_plain : (cells : Cells) (v : KeyValue) → IsPlain (data_checks cells v)
 unfolding data_checks
 data_plain cells v =
     plain_choice (is_some (data_inside v)) (outside_checks cells v)
-    (plain_either (is_big cells.version v.size) (big_checks cells v.size v.offset) (use_as false (bytes_in v.size) cells v.offset)
+    (plain_either (is_big cells.version v.size) (big_checks cells v.size v.offset)
+    (use_as false (bytes_in v.size) cells v.offset)
     (big_plain cells v.size v.offset) (plain_use (bytes_in v.size) cells v.offset))
 
 plain_test : (at : ℕ) (k : Option HiveKind) (xs : List Check) → IsPlain xs → IsPlain (tests at k ∷ xs)
@@ -157,18 +163,24 @@ behind_value cells names at v = name_check names at v.name ∷ data_checks cells
 pub value_plain : (cells : Cells) (names : List (List ℕ)) (at : ℕ) → IsPlain (value_checks cells names at)
 unfolding value_checks
 value_plain cells names at =
-    plain_append (use_as false key_value_at cells at) (below_of (reading key_value_at cells at) (behind_value cells names at)) (plain_use key_value_at cells at)
+    plain_append (use_as false key_value_at cells at)
+    (below_of (reading key_value_at cells at) (behind_value cells names at)) (plain_use key_value_at cells at)
     (plain_read (reading key_value_at cells at) (behind_value cells names at)
-    (λ v. plain_test at (failing (list_any (folds_same v.name) names) DoubleName) (data_checks cells v) (data_plain cells v)))
+    (λ v. plain_test at (failing (list_any (folds_same v.name) names) DoubleName) (data_checks cells v)
+    (data_plain cells v)))
 
 -- the names told do not matter to what is used
 pub value_told : (cells : Cells) (names others : List (List ℕ)) (at o : ℕ) (s : Bool)
     → In (value_checks cells names at) (uses o s) → In (value_checks cells others at) (uses o s)
 unfolding value_checks
 value_told cells names others at o s h = ⊎_elim
-    (λ l. in_left (use_as false key_value_at cells at) (below_of (reading key_value_at cells at) (behind_value cells others at)) (uses o s) l)
-    (λ r. in_right (use_as false key_value_at cells at) (below_of (reading key_value_at cells at) (behind_value cells others at)) (uses o s) (go (reading key_value_at cells at) r))
-    (in_cases (use_as false key_value_at cells at) (below_of (reading key_value_at cells at) (behind_value cells names at)) (uses o s) h)
+    (λ l. in_left (use_as false key_value_at cells at)
+    (below_of (reading key_value_at cells at) (behind_value cells others at)) (uses o s) l)
+    (λ r. in_right (use_as false key_value_at cells at)
+    (below_of (reading key_value_at cells at) (behind_value cells others at)) (uses o s)
+    (go (reading key_value_at cells at) r))
+    (in_cases (use_as false key_value_at cells at)
+    (below_of (reading key_value_at cells at) (behind_value cells names at)) (uses o s) h)
   where
     go : (r : Result KeyValue HiveKind) → In (below_of r (behind_value cells names at)) (uses o s)
         → In (below_of r (behind_value cells others at)) (uses o s)
@@ -179,7 +191,8 @@ value_told cells names others at o s h = ⊎_elim
 leaves_plain : (cells : Cells) (offsets : List ℕ) → IsPlain (leaves_checks cells offsets)
 leaves_plain cells [] o h = h
 leaves_plain cells (at ∷ rest) o h =
-    plain_append (use_as false leaf_at cells at) (leaves_checks cells rest) (plain_use leaf_at cells at) (leaves_plain cells rest) o h
+    plain_append (use_as false leaf_at cells at) (leaves_checks cells rest) (plain_use leaf_at cells at)
+    (leaves_plain cells rest) o h
 
 abbrev leaves_of : Cells → SubkeyList → List Check
 leaves_of cells list = if is_list_of_lists list.kind then leaves_checks cells list.offsets else []
@@ -187,7 +200,8 @@ leaves_of cells list = if is_list_of_lists list.kind then leaves_checks cells li
 pub entries_plain : (cells : Cells) (at : ℕ) → IsPlain (entries_checks cells at)
 unfolding entries_checks
 entries_plain cells at =
-    plain_append (use_as false list_at cells at) (below_of (reading list_at cells at) (leaves_of cells)) (plain_use list_at cells at)
+    plain_append (use_as false list_at cells at) (below_of (reading list_at cells at) (leaves_of cells))
+    (plain_use list_at cells at)
     (plain_read (reading list_at cells at) (leaves_of cells) (λ list. go list (is_list_of_lists list.kind)))
   where
     go : (list : SubkeyList) (b : Bool) → IsPlain (cond b (leaves_checks cells list.offsets) [])
@@ -201,7 +215,8 @@ pub values_to : (cells : Cells) (names : List (List ℕ)) (offsets : List ℕ) (
 values_to cells names [] o s h = absurd h
 values_to cells names (at ∷ rest) o s h =
     let more = names ++ names_of (λ (v : KeyValue). v.name) (reading key_value_at cells at) in
-    ⊎_elim (λ l. (at, inl refl, value_told cells names [] at o s l)) (λ r. let p = values_to cells more rest o s r in (p.0, inr p.1, p.2))
+    ⊎_elim (λ l. (at, inl refl, value_told cells names [] at o s l))
+    (λ r. let p = values_to cells more rest o s r in (p.0, inr p.1, p.2))
     (in_cases (value_checks cells names at) (values_in_turn cells more rest) (uses o s) h)
 
 -- a child's use
@@ -233,29 +248,36 @@ values_below cells n at o s read h = go (n.value_count == 0) refl h
     r = reading (offsets_in n.value_count) cells n.value_list
 
     go : (b : Bool) → (n.value_count == 0) ≡ b
-        → In (cond b [] (use_as false (offsets_in n.value_count) cells n.value_list ++ below_of (reading (offsets_in n.value_count) cells n.value_list) (values_in_turn cells []))) (uses o s)
+        → In (cond b [] (use_as false (offsets_in n.value_count) cells n.value_list
+        ++ below_of (reading (offsets_in n.value_count) cells n.value_list) (values_in_turn cells []))) (uses o s)
         → IsBelow cells at o s
     go true z h = absurd h
     go false z h = ⊎_elim
         (λ l. let u = use_one false (offsets_in n.value_count) cells n.value_list o s l in
         here cells at o s value_list
-        (subst (λ (xs : List ℕ). In xs o) (sym (of_node_is cells at n (λ k. if k.value_count == 0 then [] else k.value_list ∷ []) read
+        (subst (λ (xs : List ℕ). In xs o)
+        (sym (of_node_is cells at n (λ k. if k.value_count == 0 then [] else k.value_list ∷ []) read
         ∙ ap (λ (c : Bool). cond c [] (n.value_list ∷ [])) z)) (inl u.0))
         (λ e. absurd (let d = u.1 in cc)))
-        (λ below. let x = in_read (reading (offsets_in n.value_count) cells n.value_list) (values_in_turn cells []) (uses o s) below in
+        (λ below. let x = in_read (reading (offsets_in n.value_count) cells n.value_list) (values_in_turn cells [])
+        (uses o s) below in
         let v = values_to cells [] x.0 o s x.2 in
         here cells at o s (value (value_name cells v.0))
         (record {
           place = v.0;
           listed = subst (λ (xs : List ℕ). In xs v.0)
-              (sym (of_node_is cells at n (λ k. if k.value_count == 0 then [] else of_read (reading (offsets_in k.value_count) cells k.value_list) (λ offsets. offsets)) read
-              ∙ ap (λ (c : Bool). cond c [] (of_read (reading (offsets_in n.value_count) cells n.value_list) (λ offsets. offsets))) z
+              (sym (of_node_is cells at n
+              (λ k. if k.value_count == 0 then [] else of_read
+              (reading (offsets_in k.value_count) cells k.value_list) (λ offsets. offsets)) read
+              ∙ ap (λ (c : Bool). cond c []
+              (of_read (reading (offsets_in n.value_count) cells n.value_list) (λ offsets. offsets))) z
               ∙ ap (λ (q : Result (List ℕ) HiveKind). of_read q (λ offsets. offsets)) x.1)) v.1;
           named = refl;
           used = used_from (value_checks cells [] v.0) o s v.2;
         })
         (λ e. not_so (value_checks cells [] v.0) o s ⊥ (value_plain cells [] v.0) v.2 e))
-        (in_cases (use_as false (offsets_in n.value_count) cells n.value_list) (below_of (reading (offsets_in n.value_count) cells n.value_list) (values_in_turn cells [])) (uses o s) h)
+        (in_cases (use_as false (offsets_in n.value_count) cells n.value_list)
+        (below_of (reading (offsets_in n.value_count) cells n.value_list) (values_in_turn cells [])) (uses o s) h)
 
 -- what a child has, its parent has below it
 pub deeper : (cells : Cells) (at y o : ℕ) (s : Bool) → In (child_places cells at) y → IsBelow cells y o s
@@ -285,22 +307,34 @@ children_below checks cells n at o s each read h = go (n.child_count == 0) refl 
         let k = keys_to checks cells [] x (uses o s) h in
         deeper cells at k.0 o s
         (subst (λ (xs : List ℕ). In xs k.0)
-        (sym (of_node_is cells at n (λ m. if m.child_count == 0 then [] else of_read (entries_at cells m.child_list) (λ offsets. offsets)) read
+        (sym (of_node_is cells at n
+        (λ m. if m.child_count == 0 then [] else of_read (entries_at cells m.child_list) (λ offsets. offsets)) read
         ∙ ap (λ (c : Bool). cond c [] (of_read (entries_at cells n.child_list) (λ offsets. offsets))) z
         ∙ ap (λ (q : Result (List ℕ) HiveKind). of_read q (λ offsets. offsets)) is)) k.2)
         (each k.1 k.0 k.3)
 
     go : (b : Bool) → (n.child_count == 0) ≡ b
-        → In (cond b [] (entries_checks cells n.child_list ++ below_of (entries_at cells n.child_list) (λ offsets. tests at (failing (not (length offsets == n.child_count)) Count) ∷ keys_in_turn checks cells [] offsets))) (uses o s)
+        → In (cond b [] (entries_checks cells n.child_list
+        ++ below_of (entries_at cells n.child_list)
+        (λ offsets. tests at (failing (not (length offsets == n.child_count)) Count)
+        ∷ keys_in_turn checks cells [] offsets))) (uses o s)
         → IsBelow cells at o s
     go true z h = absurd h
     go false z h = ⊎_elim
         (λ l. here cells at o s lists
-        (subst (λ (xs : List ℕ). In xs o) (sym (of_node_is cells at n (λ m. if m.child_count == 0 then [] else used_in (entries_checks cells m.child_list)) read
-        ∙ ap (λ (c : Bool). cond c [] (used_in (entries_checks cells n.child_list))) z)) (used_from (entries_checks cells n.child_list) o s l))
+        (subst (λ (xs : List ℕ). In xs o)
+        (sym (of_node_is cells at n
+        (λ m. if m.child_count == 0 then [] else used_in (entries_checks cells m.child_list)) read
+        ∙ ap (λ (c : Bool). cond c [] (used_in (entries_checks cells n.child_list))) z))
+        (used_from (entries_checks cells n.child_list) o s l))
         (λ e. not_so (entries_checks cells n.child_list) o s ⊥ (entries_plain cells n.child_list) l e))
-        (λ r. let x = in_read (entries_at cells n.child_list) (λ offsets. tests at (failing (not (length offsets == n.child_count)) Count) ∷ keys_in_turn checks cells [] offsets) (uses o s) r in below z x.0 x.1 x.2)
-        (in_cases (entries_checks cells n.child_list) (below_of (entries_at cells n.child_list) (λ offsets. tests at (failing (not (length offsets == n.child_count)) Count) ∷ keys_in_turn checks cells [] offsets)) (uses o s) h)
+        (λ r. let x = in_read (entries_at cells n.child_list)
+        (λ offsets. tests at (failing (not (length offsets == n.child_count)) Count)
+        ∷ keys_in_turn checks cells [] offsets) (uses o s) r in below z x.0 x.1 x.2)
+        (in_cases (entries_checks cells n.child_list)
+        (below_of (entries_at cells n.child_list)
+        (λ offsets. tests at (failing (not (length offsets == n.child_count)) Count)
+        ∷ keys_in_turn checks cells [] offsets)) (uses o s) h)
 
 pub walk_below : (fuel : ℕ) (cells : Cells) (root : Bool) (names : List (List ℕ)) (at o : ℕ) (s : Bool)
     → In (key_checks fuel cells root names at) (uses o s) → IsBelow cells at o s
@@ -308,8 +342,10 @@ unfolding key_checks class_cell_at security_cell_at
 walk_below zero cells root names at o s (inl e) = absurd (no_test at o (Some TooDeep) s e)
 walk_below zero cells root names at o s (inr h) = absurd h
 walk_below (suc left) cells root names at o s h = ⊎_elim
-    (λ l. let u = use_one false (node_at root) cells at o s l in here cells at o s node u.0 (λ e. absurd (let d = u.1 in cc)))
-    (λ r. let x = in_read (reading (node_at root) cells at) inside (uses o s) r in go (λ told y u. walk_below left cells false told y o s u) x.0 (plain_node root cells at x.0 x.1) x.2)
+    (λ l. let u = use_one false (node_at root) cells at o s l in
+    here cells at o s node u.0 (λ e. absurd (let d = u.1 in cc)))
+    (λ r. let x = in_read (reading (node_at root) cells at) inside (uses o s) r in
+    go (λ told y u. walk_below left cells false told y o s u) x.0 (plain_node root cells at x.0 x.1) x.2)
     (in_cases (use_as false (node_at root) cells at) (below_of (reading (node_at root) cells at) inside) (uses o s) h)
   where
     checks : List (List ℕ) → ℕ → List Check
@@ -322,12 +358,20 @@ walk_below (suc left) cells root names at o s h = ⊎_elim
         → (n : KeyNode) → reading key_node_at cells at ≡ Ok n → In (inside n) (uses o s) → IsBelow cells at o s
     go deep n read (inl e) = absurd (no_test at o (failing (list_any (folds_same n.name) names) DoubleName) s e)
     go deep n read (inr h) = ⊎_elim
-        (λ c. here cells at o s class (subst (λ (xs : List ℕ). In xs o) (sym (of_node_is cells at n (λ m. used_in (class_checks cells m)) read)) (used_from (class_checks cells n) o s c))
+        (λ c. here cells at o s class
+        (subst (λ (xs : List ℕ). In xs o) (sym (of_node_is cells at n (λ m. used_in (class_checks cells m)) read))
+        (used_from (class_checks cells n) o s c))
         (λ e. not_so (class_checks cells n) o s ⊥ (class_plain cells n) c e))
         (λ h2. ⊎_elim
-        (λ c. here cells at o s security (subst (λ (xs : List ℕ). In xs o) (sym (of_node_is cells at n (λ m. used_in (security_checks cells m)) read)) (used_from (security_checks cells n) o s c)) (λ e. tt))
+        (λ c. here cells at o s security
+        (subst (λ (xs : List ℕ). In xs o)
+        (sym (of_node_is cells at n (λ m. used_in (security_checks cells m)) read))
+        (used_from (security_checks cells n) o s c)) (λ e. tt))
         (λ h3. ⊎_elim (values_below cells n at o s read)
         (children_below (key_checks left cells false) cells n at o s deep read)
         (in_cases (values_checks cells n) (children_checks (key_checks left cells false) cells n at) (uses o s) h3))
-        (in_cases (security_checks cells n) (values_checks cells n ++ children_checks (key_checks left cells false) cells n at) (uses o s) h2))
-        (in_cases (class_checks cells n) (security_checks cells n ++ (values_checks cells n ++ children_checks (key_checks left cells false) cells n at)) (uses o s) h)
+        (in_cases (security_checks cells n)
+        (values_checks cells n ++ children_checks (key_checks left cells false) cells n at) (uses o s) h2))
+        (in_cases (class_checks cells n)
+        (security_checks cells n ++ (values_checks cells n
+        ++ children_checks (key_checks left cells false) cells n at)) (uses o s) h)

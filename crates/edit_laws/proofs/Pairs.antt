@@ -43,7 +43,8 @@ pairwise_parts {X} R (x ∷ xs) ys h =
     record {
       left = (λ y i. h.0 y (in_left xs ys y i), p.left);
       right = p.right;
-      across = λ z y i j. ⊎_elim (λ e. subst (λ (w : X). R w y) e (h.0 y (in_right xs ys y j))) (λ k. p.across z y k j) i;
+      across = λ z y i j. ⊎_elim (λ e. subst (λ (w : X). R w y) e (h.0 y (in_right xs ys y j))) (λ k. p.across z y k j)
+          i;
     }
 
 pub pairwise_join : {X : Type 0} (R : X → X → Type 0) (xs ys : List X) → InParts R xs ys → Pairwise R (xs ++ ys)
@@ -81,4 +82,5 @@ pub among : {X : Type 0} (xs : List X) (x : X) → In xs x → IsAmong xs x
 among [] x h = absurd h
 among {X} (y ∷ xs) x (inl e) = record { before = []; behind = xs; whole = ap (λ (z : X). z ∷ xs) e }
 among {X} (y ∷ xs) x (inr h) =
-    let a = among xs x h in record { before = y ∷ a.before; behind = a.behind; whole = ap (λ (l : List X). y ∷ l) a.whole }
+    let a = among xs x h in record
+    { before = y ∷ a.before; behind = a.behind; whole = ap (λ (l : List X). y ∷ l) a.whole }

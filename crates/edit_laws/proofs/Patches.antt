@@ -32,7 +32,8 @@ take_front (x ∷ a) z (suc n) lt = ap (λ (l : List ℕ). x ∷ l) (take_front 
 drop_behind : (a z : List ℕ) (i : ℕ) → drop (length a + i) (a ++ z) ≡ drop i z
 drop_behind [] z i = ap (λ (n : ℕ). drop n z) (omega arith)
 drop_behind (x ∷ a) z i =
-    let e : length (x ∷ a) + i ≡ suc (length a + i) = omega arith in ap (λ (n : ℕ). drop n (x ∷ (a ++ z))) e ∙ drop_behind a z i
+    let e : length (x ∷ a) + i ≡ suc (length a + i) = omega arith in
+    ap (λ (n : ℕ). drop n (x ∷ (a ++ z))) e ∙ drop_behind a z i
 
 range_front : (a z : List ℕ) (i n : ℕ) → i + n ≤ length a → slice_range (a ++ z) i (i + n) ≡ slice_range a i (i + n)
 range_front a z i n lt =
@@ -68,7 +69,14 @@ part_patches from part p fits = record { length_same = long; before = front; beh
 
     long : length (with_part from part p) ≡ length p
     long =
-        omega (arith, fits, first, length-append (take from p) (part ++ drop (from + length part) p), length-append part (drop (from + length part) p), length-drop (from + length part) p)
+        omega (
+          arith,
+          fits,
+          first,
+          length-append (take from p) (part ++ drop (from + length part) p),
+          length-append part (drop (from + length part) p),
+          length-drop (from + length part) p,
+        )
 
     front : (i n : ℕ) → i + n ≤ from → slice_range (with_part from part p) i (i + n) ≡ slice_range p i (i + n)
     front i n lt =
@@ -86,7 +94,8 @@ part_patches from part p fits = record { length_same = long; before = front; beh
         let two : length (take to p) + k ≡ i = omega (arith, lt, second) in
         subst (λ (z : ℕ). slice_range (with_part from part p) z (z + n) ≡ slice_range (drop to p) k (k + n)) one
         (range_behind (take from p) (part ++ drop to p) (length part + k) n ∙ range_behind part (drop to p) k n)
-        ∙ sym (subst (λ (z : ℕ). slice_range (take to p ++ drop to p) z (z + n) ≡ slice_range (drop to p) k (k + n)) two (range_behind (take to p) (drop to p) k n))
+        ∙ sym (subst (λ (z : ℕ). slice_range (take to p ++ drop to p) z (z + n) ≡ slice_range (drop to p) k (k + n)) two
+        (range_behind (take to p) (drop to p) k n))
         ∙ ap (λ (l : List ℕ). slice_range l i (i + n)) (whole_at to p)
 
 -- what stands in the part
@@ -94,7 +103,8 @@ pub in_part : (from : ℕ) (part p : List ℕ) (i n : ℕ) → from ≤ length p
     → slice_range (with_part from part p) (from + i) (from + i + n) ≡ slice_range part i (i + n)
 in_part from part p i n fits lt =
     let first : length (take from p) ≡ from = length_at from p fits in
-    subst (λ (z : ℕ). slice_range (with_part from part p) (z + i) (z + i + n) ≡ slice_range (part ++ drop (from + length part) p) i (i + n)) first
+    subst (λ (z : ℕ). slice_range (with_part from part p) (z + i) (z + i + n)
+    ≡ slice_range (part ++ drop (from + length part) p) i (i + n)) first
     (range_behind (take from p) (part ++ drop (from + length part) p) i n)
     ∙ range_front part (drop (from + length part) p) i n lt
 
@@ -142,7 +152,8 @@ node_text p n e =
     let b = then_on (u16_in p 0 == 0x6b6e) FormSign (signed_node p) n a.1 in
     let d = past (nat_lt (length p) 76) FormShort (long_node p) n b.1 in
     let f = past (nat_lt (length p) (76 + u16_in p 72)) FormShort (named_node p) n d.1 in
-    let g = first_part (key_name_at (is_narrow_key (u16_in p 2)) (slice_range p 76 (76 + u16_in p 72))) (λ name. Ok (key_node_in p name)) n f.1 in
+    let g = first_part (key_name_at (is_narrow_key (u16_in p 2)) (slice_range p 76 (76 + u16_in p 72)))
+    (λ name. Ok (key_node_in p name)) n f.1 in
     let same : key_node_in p g.0 ≡ n = one_node (key_node_in p g.0) n g.2 in
     let name : g.0 ≡ n.name = ap (λ (m : KeyNode). m.name) same in
     record {
@@ -163,7 +174,8 @@ node_patched from to p q n e patch low high =
     patch.behind 76 (u16_in q 72) (omega (arith, high)) ∙ ap (λ (k : ℕ). slice_range p 76 (76 + k)) size in
     key_node_is q n.name (let l = t.long in let s = patch.length_same in omega (arith, l, s, size))
     (ap (from_le_bytes w16) (patch.before 0 2 (omega (arith, low))) ∙ t.sign)
-    (ap (λ (f : ℕ). key_name_at (is_narrow_key f) (slice_range q 76 (76 + u16_in q 72))) flags ∙ ap (key_name_at (is_narrow_key (u16_in p 2))) bytes ∙ t.name)
+    (ap (λ (f : ℕ). key_name_at (is_narrow_key f) (slice_range q 76 (76 + u16_in q 72))) flags
+    ∙ ap (key_name_at (is_narrow_key (u16_in p 2))) bytes ∙ t.name)
 
 -- where the part is that of the count and the list of values, or of the greatest of names and sizes, the node says the same of all else
 pub part_says : (from to : ℕ) (p q : List ℕ) (n : KeyNode) → key_node_at p ≡ Ok n → IsPatchOf from to p q
@@ -172,11 +184,16 @@ part_says from to p q n e patch within = record {
   name = refl;
   flags = ap (from_le_bytes w16) (patch.before 2 2 (omega (arith, low))) ∙ sym (ap (λ (m : KeyNode). m.flags) fields);
   stamp = ap (from_le_bytes w64) (patch.before 4 8 (omega (arith, low))) ∙ sym (ap (λ (m : KeyNode). m.stamp) fields);
-  child_count = ap (from_le_bytes w32) (patch.before 20 4 (omega (arith, low))) ∙ sym (ap (λ (m : KeyNode). m.child_count) fields);
-  child_list = ap (from_le_bytes w32) (patch.before 28 4 (omega (arith, low))) ∙ sym (ap (λ (m : KeyNode). m.child_list) fields);
-  security = ap (from_le_bytes w32) (mid 44 within (omega arith) (omega arith)) ∙ sym (ap (λ (m : KeyNode). m.security) fields);
-  class = ap (from_le_bytes w32) (mid 48 within (omega arith) (omega arith)) ∙ sym (ap (λ (m : KeyNode). m.class) fields);
-  class_length = ap (from_le_bytes w16) (patch.behind 74 2 (omega (arith, high))) ∙ sym (ap (λ (m : KeyNode). m.class_length) fields);
+  child_count = ap (from_le_bytes w32) (patch.before 20 4 (omega (arith, low)))
+      ∙ sym (ap (λ (m : KeyNode). m.child_count) fields);
+  child_list = ap (from_le_bytes w32) (patch.before 28 4 (omega (arith, low)))
+      ∙ sym (ap (λ (m : KeyNode). m.child_list) fields);
+  security = ap (from_le_bytes w32) (mid 44 within (omega arith) (omega arith))
+      ∙ sym (ap (λ (m : KeyNode). m.security) fields);
+  class = ap (from_le_bytes w32) (mid 48 within (omega arith) (omega arith))
+      ∙ sym (ap (λ (m : KeyNode). m.class) fields);
+  class_length = ap (from_le_bytes w16) (patch.behind 74 2 (omega (arith, high)))
+      ∙ sym (ap (λ (m : KeyNode). m.class_length) fields);
 }
   where
     fields : n ≡ key_node_in p n.name
@@ -184,11 +201,13 @@ part_says from to p q n e patch within = record {
 
     low : 36 ≤ from
     low =
-        ⊎_elim (λ (w : (36 ≤ from) × (to ≤ 44)). w.0) (λ (w : (52 ≤ from) × (to ≤ 68)). let l = w.0 in omega (arith, l)) within
+        ⊎_elim (λ (w : (36 ≤ from) × (to ≤ 44)). w.0) (λ (w : (52 ≤ from) × (to ≤ 68)). let l = w.0 in omega (arith, l))
+        within
 
     high : to ≤ 68
     high =
-        ⊎_elim (λ (w : (36 ≤ from) × (to ≤ 44)). let l = w.1 in omega (arith, l)) (λ (w : (52 ≤ from) × (to ≤ 68)). w.1) within
+        ⊎_elim (λ (w : (36 ≤ from) × (to ≤ 44)). let l = w.1 in omega (arith, l)) (λ (w : (52 ≤ from) × (to ≤ 68)). w.1)
+        within
 
     mid : (i : ℕ) → (36 ≤ from) × (to ≤ 44) ⊎ (52 ≤ from) × (to ≤ 68) → 44 ≤ i → i ≤ 48
         → slice_range q i (i + 4) ≡ slice_range p i (i + 4)
@@ -228,7 +247,8 @@ pub values_written : (p : List ℕ) (n : KeyNode) (count list : ℕ) → key_nod
     → list < 2 ^ 32 → HasNewValues (with_part 36 (two_numbers count list) p) n count list
 values_written p n count list e c l =
     let t = (node_text p n e).long in
-    let patch : IsPatchOf 36 44 p (with_part 36 (two_numbers count list) p) = part_patches 36 (two_numbers count list) p (omega (arith, t)) in
+    let patch : IsPatchOf 36 44 p (with_part 36 (two_numbers count list) p) =
+    part_patches 36 (two_numbers count list) p (omega (arith, t)) in
     record {
       new = key_node_in (with_part 36 (two_numbers count list) p) n.name;
       read = node_patched 36 44 p (with_part 36 (two_numbers count list) p) n e patch (omega arith) (omega arith);
@@ -252,7 +272,8 @@ one_value x y e = cc
 
 abbrev named_value : List ℕ → Result KeyValue HiveKind
 named_value p =
-    value_name_at (is_narrow_value (u16_in p 16)) (slice_range p 20 (20 + u16_in p 2)) >>= λ name. Ok (key_value_in p name)
+    value_name_at (is_narrow_value (u16_in p 16)) (slice_range p 20 (20 + u16_in p 2)) >>= λ name. Ok
+    (key_value_in p name)
 
 abbrev sized_value : List ℕ → Result KeyValue HiveKind
 sized_value p = if is_overfull (u32_in p 4) then Err FormLength else named_value p
@@ -271,7 +292,8 @@ value_text p v e =
     let d = past (nat_lt (length p) 20) FormShort (long_value p) v b.1 in
     let f = past (nat_lt (length p) (20 + u16_in p 2)) FormShort (sized_value p) v d.1 in
     let h = past (is_overfull (u32_in p 4)) FormLength (named_value p) v f.1 in
-    let g = first_part (value_name_at (is_narrow_value (u16_in p 16)) (slice_range p 20 (20 + u16_in p 2))) (λ name. Ok (key_value_in p name)) v h.1 in
+    let g = first_part (value_name_at (is_narrow_value (u16_in p 16)) (slice_range p 20 (20 + u16_in p 2)))
+    (λ name. Ok (key_value_in p name)) v h.1 in
     let same : key_value_in p g.0 ≡ v = one_value (key_value_in p g.0) v g.2 in
     let name : g.0 ≡ v.name = ap (λ (m : KeyValue). m.name) same in
     record {
@@ -293,12 +315,14 @@ value_patched p q v e patch fits =
     patch.behind 20 (u16_in q 2) (omega arith) ∙ ap (λ (k : ℕ). slice_range p 20 (20 + k)) size in
     key_value_is q v.name (let l = t.long in let s = patch.length_same in omega (arith, l, s, size))
     (ap (from_le_bytes w16) (patch.before 0 2 (omega arith)) ∙ t.sign) fits
-    (ap (λ (f : ℕ). value_name_at (is_narrow_value f) (slice_range q 20 (20 + u16_in q 2))) flags ∙ ap (value_name_at (is_narrow_value (u16_in p 16))) bytes ∙ t.name)
+    (ap (λ (f : ℕ). value_name_at (is_narrow_value f) (slice_range q 20 (20 + u16_in q 2))) flags
+    ∙ ap (value_name_at (is_narrow_value (u16_in p 16))) bytes ∙ t.name)
 
 -- the three numbers of a value that are written anew
 pub value_written : (p : List ℕ) (v : KeyValue) (size offset kind : ℕ) → key_value_at p ≡ Ok v → size < 2 ^ 32
     → offset < 2 ^ 32 → kind < 2 ^ 32 → is_overfull size ≡ false
-    → key_value_at (with_part 4 (three_numbers size offset kind) p) ≡ Ok (record v { size = size; offset = offset; kind = kind })
+    → key_value_at (with_part 4 (three_numbers size offset kind) p)
+    ≡ Ok (record v { size = size; offset = offset; kind = kind })
 value_written p v size offset kind e s o k fits =
     value_patched p q v e patch (subst (λ (n : ℕ). is_overfull n ≡ false) (sym size_is) fits) ∙ (λ i. Ok (fields i))
   where
@@ -331,5 +355,6 @@ value_written p v size offset kind e s o k fits =
         ap (from_le_bytes w16) (patch.behind 16 2 (omega arith))
         ∙ sym (ap (λ (m : KeyValue). m.flags) (value_text p v e).fields)
 
-    fields : key_value_in (with_part 4 (three_numbers size offset kind) p) v.name ≡ record v { size = size; offset = offset; kind = kind }
+    fields : key_value_in (with_part 4 (three_numbers size offset kind) p) v.name
+        ≡ record v { size = size; offset = offset; kind = kind }
     fields i = record { size = size_is i; offset = offset_is i; kind = kind_is i; flags = flags_is i; name = v.name }

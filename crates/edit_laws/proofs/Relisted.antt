@@ -78,17 +78,25 @@ pub value_places_kept : (b c : Cells) (x : ℕ) (k : IsNodeKept b c x) → AreVa
     → value_places c x ≡ value_places b x
 unfolding value_list_at value_places
 value_places_kept b c x k v =
-    of_node_is c x k.new (λ n. if n.value_count == 0 then [] else of_read (reading (offsets_in n.value_count) c n.value_list) (λ os. os)) k.read_new
+    of_node_is c x k.new (λ n. if n.value_count == 0 then [] else of_read
+    (reading (offsets_in n.value_count) c n.value_list) (λ os. os)) k.read_new
     ∙ ap (λ (l : ℕ). cond (l == 0) [] (of_read (reading (offsets_in l) c k.new.value_list) (λ os. os))) v.count
-    ∙ ap (λ (o : ℕ). cond (k.old.value_count == 0) [] (of_read (reading (offsets_in k.old.value_count) c o) (λ os. os))) v.list
-    ∙ go (k.old.value_count == 0) (λ o i. v.list_cell o (subst (λ (xs : List ℕ). In xs o) (sym (of_node_is b x k.old (λ n. if n.value_count == 0 then [] else n.value_list ∷ []) k.read)) i))
-    ∙ sym (of_node_is b x k.old (λ n. if n.value_count == 0 then [] else of_read (reading (offsets_in n.value_count) b n.value_list) (λ os. os)) k.read)
+    ∙ ap (λ (o : ℕ). cond (k.old.value_count == 0) [] (of_read (reading (offsets_in k.old.value_count) c o) (λ os. os)))
+    v.list
+    ∙ go (k.old.value_count == 0)
+    (λ o i. v.list_cell o (subst (λ (xs : List ℕ). In xs o)
+    (sym (of_node_is b x k.old (λ n. if n.value_count == 0 then [] else n.value_list ∷ []) k.read)) i))
+    ∙ sym (of_node_is b x k.old
+    (λ n. if n.value_count == 0 then [] else of_read (reading (offsets_in n.value_count) b n.value_list) (λ os. os))
+    k.read)
   where
     go : (t : Bool) → ((o : ℕ) → In (cond t [] (k.old.value_list ∷ [])) o → c.payload o ≡ b.payload o)
-        → cond t [] (of_read (reading (offsets_in k.old.value_count) c k.old.value_list) (λ os. os)) ≡ cond t [] (of_read (reading (offsets_in k.old.value_count) b k.old.value_list) (λ os. os))
+        → cond t [] (of_read (reading (offsets_in k.old.value_count) c k.old.value_list) (λ os. os))
+        ≡ cond t [] (of_read (reading (offsets_in k.old.value_count) b k.old.value_list) (λ os. os))
     go true h = refl
     go false h =
-        ap (λ (q : Result (List ℕ) HiveKind). of_read q (λ os. os)) (same_reading (offsets_in k.old.value_count) b c k.old.value_list (h k.old.value_list (inl refl)))
+        ap (λ (q : Result (List ℕ) HiveKind). of_read q (λ os. os))
+        (same_reading (offsets_in k.old.value_count) b c k.old.value_list (h k.old.value_list (inl refl)))
 
 -- where a child is made, removed, copied or added, its parent: the children are listed anew
 pub record IsRelisted (b c : Cells) (New : ℕ → Type 0) (x : ℕ) : Type 0 where
@@ -96,7 +104,8 @@ pub record IsRelisted (b c : Cells) (New : ℕ → Type 0) (x : ℕ) : Type 0 wh
   pub values : AreValuesKept b c x kept.old kept.new
   pub lists : (o : ℕ) → In (list_cells_at c x) o → New o
   pub child : (y : ℕ) → In (child_places c x) y
-      → (In (child_places b x) y × (node_name c y ≡ node_name b y)) ⊎ ((p : List (List ℕ)) (r : Role) (o : ℕ) → Owns c y p r o → New o)
+      → (In (child_places b x) y × (node_name c y ≡ node_name b y))
+      ⊎ ((p : List (List ℕ)) (r : Role) (o : ℕ) → Owns c y p r o → New o)
 
 pub relisted_kept : (b c : Cells) (New : ℕ → Type 0) (x : ℕ) → IsRelisted b c New x → IsKept b c New x
 relisted_kept b c New x k = record { child = k.child; role = role }
@@ -118,7 +127,8 @@ relisted_kept b c New x k = record { child = k.child; role = role }
     role security o h = inl (subst (λ (l : List ℕ). In l o) (security_kept b c x k.kept) h)
     role value_list o h = inl (subst (λ (l : List ℕ). In l o) (value_list_kept b c x k.kept k.values) h)
     role (value name) o h =
-        inl (value_role name o h (subst (λ (l : List ℕ). In l h.place) (value_places_kept b c x k.kept k.values) h.listed))
+        inl (value_role name o h (subst (λ (l : List ℕ). In l h.place) (value_places_kept b c x k.kept k.values)
+        h.listed))
     role lists o h = inr (k.lists o h)
 
 -- the node names the same lists of children, in cells that are the same
@@ -152,7 +162,8 @@ lists_kept b c x k d =
 
     go : (t : Bool)
         → ((o : ℕ) → In (cond t [] (used_in (entries_checks b k.old.child_list))) o → c.payload o ≡ b.payload o)
-        → cond t [] (used_in (entries_checks c k.old.child_list)) ≡ cond t [] (used_in (entries_checks b k.old.child_list))
+        → cond t [] (used_in (entries_checks c k.old.child_list))
+        ≡ cond t [] (used_in (entries_checks b k.old.child_list))
     go true h = refl
     go false h = entries_used b c k.old.child_list (h k.old.child_list (inl refl))
 
@@ -160,11 +171,13 @@ pub children_kept : (b c : Cells) (x : ℕ) (k : IsNodeKept b c x) → AreChildr
     → child_places c x ≡ child_places b x
 unfolding list_cells_at child_places
 children_kept b c x k d =
-    of_node_is c x k.new (λ m. if m.child_count == 0 then [] else of_read (entries_at c m.child_list) (λ os. os)) k.read_new
+    of_node_is c x k.new (λ m. if m.child_count == 0 then [] else of_read (entries_at c m.child_list) (λ os. os))
+    k.read_new
     ∙ ap (λ (l : ℕ). cond (l == 0) [] (of_read (entries_at c k.new.child_list) (λ os. os))) d.count
     ∙ ap (λ (o : ℕ). cond (k.old.child_count == 0) [] (of_read (entries_at c o) (λ os. os))) d.list
     ∙ go (k.old.child_count == 0) (λ o i. d.list_cells o (subst (λ (xs : List ℕ). In xs o) (sym old) i))
-    ∙ sym (of_node_is b x k.old (λ m. if m.child_count == 0 then [] else of_read (entries_at b m.child_list) (λ os. os)) k.read)
+    ∙ sym (of_node_is b x k.old (λ m. if m.child_count == 0 then [] else of_read (entries_at b m.child_list) (λ os. os))
+    k.read)
   where
     old : list_cells_at b x ≡ cond (k.old.child_count == 0) [] (used_in (entries_checks b k.old.child_list))
     old =
@@ -172,18 +185,21 @@ children_kept b c x k d =
 
     go : (t : Bool)
         → ((o : ℕ) → In (cond t [] (used_in (entries_checks b k.old.child_list))) o → c.payload o ≡ b.payload o)
-        → cond t [] (of_read (entries_at c k.old.child_list) (λ os. os)) ≡ cond t [] (of_read (entries_at b k.old.child_list) (λ os. os))
+        → cond t [] (of_read (entries_at c k.old.child_list) (λ os. os))
+        ≡ cond t [] (of_read (entries_at b k.old.child_list) (λ os. os))
     go true h = refl
     go false h = ap (λ (q : Result (List ℕ) HiveKind). of_read q (λ os. os)) (entries_same b c k.old.child_list h)
 
 pub revalued_kept : (b c : Cells) (New : ℕ → Type 0) (x : ℕ) → IsRevalued b c New x → IsKept b c New x
 revalued_kept b c New x k = record {
-  child = λ y i. let j = subst (λ (l : List ℕ). In l y) (children_kept b c x k.kept k.children) i in inl (j, k.names y j);
+  child = λ y i. let j = subst (λ (l : List ℕ). In l y) (children_kept b c x k.kept k.children) i in
+      inl (j, k.names y j);
   role = role;
 }
   where
     value_role : (name : List ℕ) (o : ℕ) (h : HasValue c x name o)
-        → (In (value_places b x) h.place × IsValueSame b c h.place) ⊎ ((w : ℕ) → In (used_in (value_checks c [] h.place)) w → New w)
+        → (In (value_places b x) h.place × IsValueSame b c h.place)
+        ⊎ ((w : ℕ) → In (used_in (value_checks c [] h.place)) w → New w)
         → HasValue b x name o ⊎ New o
     value_role name o h (inl i) =
         inl (record {

@@ -42,12 +42,15 @@ agree_again l f g k m n old new out =
       left = both.left;
       right = pairwise_join Agree f (n ++ k) (record {
         left = two.left;
-        right = pairwise_join Agree n k (record { left = both.right; right = three.right; across = λ x y i j. out x (in_right m n x i) y (inr j) });
-        across = λ x y i j. ⊎_elim (λ (z : In n y). agree_back y x (out y (in_right m n y z) x (inl i))) (λ (z : In k y). two.across x y i (in_right g k y z)) (in_cases n k y j);
+        right = pairwise_join Agree n k
+            (record { left = both.right; right = three.right; across = λ x y i j. out x (in_right m n x i) y (inr j) });
+        across = λ x y i j. ⊎_elim (λ (z : In n y). agree_back y x (out y (in_right m n y z) x (inl i)))
+            (λ (z : In k y). two.across x y i (in_right g k y z)) (in_cases n k y j);
       });
       across = λ x y i j. ⊎_elim
           (λ (z : In f y). out x (in_left m n x i) y (inl z))
-          (λ (z : In (n ++ k) y). ⊎_elim (λ (w : In n y). both.across x y i w) (λ (w : In k y). out x (in_left m n x i) y (inr w)) (in_cases n k y z))
+          (λ (z : In (n ++ k) y). ⊎_elim (λ (w : In n y). both.across x y i w)
+          (λ (w : In k y). out x (in_left m n x i) y (inr w)) (in_cases n k y z))
           (in_cases f (n ++ k) y j);
     })
 
@@ -70,7 +73,8 @@ tree_once : (b : Cells) (root : ℕ) (t : Tree) (p : List (List ℕ)) (x left : 
     → Reaches b root p x → length p + suc left ≡ 512
     → IsSwapped (hive_uses b root) (hive_uses b root) (tree_uses (suc left) b x) (tree_uses (suc left) b x)
 tree_once b root t p x left well h deep =
-    subst (λ (n : ℕ). IsSwapped (tree_uses n b root) (tree_uses n b root) (tree_uses (suc left) b x) (tree_uses (suc left) b x)) (above_is p (suc left) ∙ deep)
+    subst (λ (n : ℕ). IsSwapped (tree_uses n b root) (tree_uses n b root) (tree_uses (suc left) b x)
+    (tree_uses (suc left) b x)) (above_is p (suc left) ∙ deep)
     (around b b p p (suc left) root x t well.stands well.names (path_itself p) h (λ q z r out. same_itself b z))
 
 -- the uses of some keys one behind another
@@ -93,24 +97,35 @@ relisted_uses : (b c : Cells) (root : ℕ) (t : Tree) (p : List (List ℕ)) (x l
     (front gone put back counted : List ℕ) (hd : Head) (ts : Trees) → IsWellFormed b root t → Reaches b root p x
     → ChangesChildren b c root x left front gone put back counted → Stands b x (key hd ts) → HasApartNames (key hd ts)
     → child_places c x ≡ front ++ (put ++ back)
-    → IsSwapped (tree_uses (suc left) b x) (tree_uses (suc left) c x) (in_parts left b (list_cells_at b x) front gone back)
+    → IsSwapped (tree_uses (suc left) b x) (tree_uses (suc left) c x)
+    (in_parts left b (list_cells_at b x) front gone back)
     (plain (list_cells_at c x) ++ (over left b front ++ (over left c put ++ over left b back)))
 relisted_uses b c root t p x left front gone put back counted hd ts well h g s n places = record {
   before = (x, false) ∷ (plain (class_cell_at b x) ++ (secure (security_cell_at b x) ++ plain (all_value_cells b x)));
   behind = [];
   was = ap (λ (l : List ℕ). own_uses b x ++ over left b l) g.listed
       ∙ ap (λ (l : List (ℕ × Bool)). own_uses b x ++ l) (three_over left b front gone back)
-      ∙ regrouped (x, false) (plain (class_cell_at b x)) (secure (security_cell_at b x)) (plain (all_value_cells b x)) (plain (list_cells_at b x)) (over left b front ++ (over left b gone ++ over left b back));
-  is = ap (λ (l : List ℕ). own_with l (security_cell_at c x) (all_value_cells c x) ++ over left c (child_places c x)) (class_kept b c x kept)
-      ∙ ap (λ (l : List ℕ). own_with (class_cell_at b x) l (all_value_cells c x) ++ over left c (child_places c x)) (security_kept b c x kept)
-      ∙ ap (λ (l : List ℕ). own_with (class_cell_at b x) (security_cell_at b x) l ++ over left c (child_places c x)) values_same
-      ∙ ap (λ (l : List ℕ). own_with (class_cell_at b x) (security_cell_at b x) (all_value_cells b x) ++ over left c l) places
-      ∙ ap (λ (l : List (ℕ × Bool)). own_with (class_cell_at b x) (security_cell_at b x) (all_value_cells b x) ++ l) (three_over left c front put back
-      ∙ ap (λ (l : List (ℕ × Bool)). l ++ (over left c put ++ over left c back)) (uses_over left b c front (λ y i. uses_same left b c y (λ q z r.
+      ∙ regrouped (x, false) (plain (class_cell_at b x)) (secure (security_cell_at b x)) (plain (all_value_cells b x))
+      (plain (list_cells_at b x)) (over left b front ++ (over left b gone ++ over left b back));
+  is = ap (λ (l : List ℕ). own_with l (security_cell_at c x) (all_value_cells c x) ++ over left c (child_places c x))
+      (class_kept b c x kept)
+      ∙ ap (λ (l : List ℕ). own_with (class_cell_at b x) l (all_value_cells c x) ++ over left c (child_places c x))
+      (security_kept b c x kept)
+      ∙ ap (λ (l : List ℕ). own_with (class_cell_at b x) (security_cell_at b x) l ++ over left c (child_places c x))
+      values_same
+      ∙ ap (λ (l : List ℕ). own_with (class_cell_at b x) (security_cell_at b x) (all_value_cells b x) ++ over left c l)
+      places
+      ∙ ap (λ (l : List (ℕ × Bool)). own_with (class_cell_at b x) (security_cell_at b x) (all_value_cells b x) ++ l)
+      (three_over left c front put back
+      ∙ ap (λ (l : List (ℕ × Bool)). l ++ (over left c put ++ over left c back))
+      (uses_over left b c front (λ y i. uses_same left b c y (λ q z r.
       stay y (in_left front (gone ++ back) y i) q z r (stays_front b p front gone back y q distinct i))))
-      ∙ ap (λ (l : List (ℕ × Bool)). over left b front ++ (over left c put ++ l)) (uses_over left b c back (λ y i. uses_same left b c y (λ q z r.
-      stay y (in_right front (gone ++ back) y (in_right gone back y i)) q z r (stays_back b p front gone back y q distinct i)))))
-      ∙ regrouped (x, false) (plain (class_cell_at b x)) (secure (security_cell_at b x)) (plain (all_value_cells b x)) (plain (list_cells_at c x)) (over left b front ++ (over left c put ++ over left b back));
+      ∙ ap (λ (l : List (ℕ × Bool)). over left b front ++ (over left c put ++ l))
+      (uses_over left b c back (λ y i. uses_same left b c y (λ q z r.
+      stay y (in_right front (gone ++ back) y (in_right gone back y i)) q z r
+      (stays_back b p front gone back y q distinct i)))))
+      ∙ regrouped (x, false) (plain (class_cell_at b x)) (secure (security_cell_at b x)) (plain (all_value_cells b x))
+      (plain (list_cells_at c x)) (over left b front ++ (over left c put ++ over left b back));
 }
   where
     own_with : List ℕ → List ℕ → List ℕ → List (ℕ × Bool)
@@ -124,13 +139,15 @@ relisted_uses b c root t p x left front gone put back counted hd ts well h g s n
 
     still : (r : Role) (o : ℕ) → HasRole b x r o → (IsSecurity r → ⊥) → IsStill r → c.payload o ≡ b.payload o
     still r o i plain_role stays =
-        still_same b c root t p p x left x front gone put back counted r o well h g h i plain_role (λ e. stays) (λ w. longer_no p (node_name b w.0) w.2 w.3)
+        still_same b c root t p p x left x front gone put back counted r o well h g h i plain_role (λ e. stays)
+        (λ w. longer_no p (node_name b w.0) w.2 w.3)
 
     stay : (y : ℕ) → In (front ++ (gone ++ back)) y → (q : List (List ℕ)) (z : ℕ) → Reaches b y q z
         → (IsGone b p gone (p ++ node_name b y ∷ q) → ⊥) → IsSameKey b c z
     stay y i q z r stays =
         still_elsewhere b c root t p (p ++ node_name b y ∷ q) x left z front gone put back counted well h g
-        (reach_on b p (node_name b y ∷ q) root x z h (y, subst (λ (l : List ℕ). In l y) (sym g.listed) i, refl, r)) (λ e. longer_no p (node_name b y) q (sym e)) stays
+        (reach_on b p (node_name b y ∷ q) root x z h (y, subst (λ (l : List ℕ). In l y) (sym g.listed) i, refl, r))
+        (λ e. longer_no p (node_name b y) q (sym e)) stays
 
     kept : IsNodeKept b c x
     kept = record {
@@ -197,11 +214,13 @@ relisted b c root t path p x left front gone put back counted hd ts come well f 
     new_key : (k : Tree) → Stands b x k → HasApartNames k
         → Stands c x (of_children (λ vs. r.before ++ (come ++ r.behind)) k)
     new_key k st a =
-        subst (λ (w : Tree). Stands c x (of_children (λ vs. r.before ++ (come ++ r.behind)) w)) (one_stands b x (key hd ts) k s st) r.stands
+        subst (λ (w : Tree). Stands c x (of_children (λ vs. r.before ++ (come ++ r.behind)) w))
+        (one_stands b x (key hd ts) k s st) r.stands
 
     stands : Stands c root (at_key path (of_children (λ vs. r.before ++ (come ++ r.behind))) t)
     stands =
-        replaced_stands b c (of_children (λ vs. r.before ++ (come ++ r.behind))) path p root x t well.stands well.names f h each new_key
+        replaced_stands b c (of_children (λ vs. r.before ++ (come ++ r.behind)))
+        path p root x t well.stands well.names f h each new_key
 
     head_same : (k : Tree) → (head (of_children (λ vs. r.before ++ (come ++ r.behind)) k)).name ≡ (head k).name
     head_same (key h2 us2) = refl
@@ -225,7 +244,8 @@ relisted b c root t path p x left front gone put back counted hd ts come well f 
     all_low u i = ⊎_elim
         (λ j. old_low u (subst (λ (l : List Tree). In l u) (sym r.whole) (in_left r.before (r.went ++ r.behind) u j)))
         (λ j. ⊎_elim (λ k. low u k)
-        (λ k. old_low u (subst (λ (l : List Tree). In l u) (sym r.whole) (in_right r.before (r.went ++ r.behind) u (in_right r.went r.behind u k))))
+        (λ k. old_low u (subst (λ (l : List Tree). In l u) (sym r.whole)
+        (in_right r.before (r.went ++ r.behind) u (in_right r.went r.behind u k))))
         (in_cases come r.behind u j))
         (in_cases r.before (come ++ r.behind) u i)
 
@@ -233,7 +253,8 @@ relisted b c root t path p x left front gone put back counted hd ts come well f 
     most_low = most_each (r.before ++ (come ++ r.behind)) left all_low
 
     levels_are : (k : Tree)
-        → levels (of_children (λ vs. r.before ++ (come ++ r.behind)) k) ≡ most_levels (trees (r.before ++ (come ++ r.behind))) + 1
+        → levels (of_children (λ vs. r.before ++ (come ++ r.behind)) k)
+        ≡ most_levels (trees (r.before ++ (come ++ r.behind))) + 1
     levels_are (key h2 us2) = refl
 
     levels_low : levels (at_key path (of_children (λ vs. r.before ++ (come ++ r.behind))) t) ≤ 512
@@ -243,16 +264,19 @@ relisted b c root t path p x left front gone put back counted hd ts come well f 
     places : child_places c x ≡ front ++ (put ++ back)
     places = places_listed c x g.new (front ++ (put ++ back)) g.read_new g.listed_new
 
-    at_x : IsSwapped (tree_uses (suc left) b x) (tree_uses (suc left) c x) (in_parts left b (list_cells_at b x) front gone back)
+    at_x : IsSwapped (tree_uses (suc left) b x) (tree_uses (suc left) c x)
+        (in_parts left b (list_cells_at b x) front gone back)
         (plain (list_cells_at c x) ++ (over left b front ++ (over left c put ++ over left b back)))
     at_x = relisted_uses b c root t p x left front gone put back counted hd ts well h g s n places
 
     swapped : IsSwapped (hive_uses b root) (hive_uses c root) (in_parts left b (list_cells_at b x) front gone back)
         (plain (list_cells_at c x) ++ (over left b front ++ (over left c put ++ over left b back)))
     swapped =
-        swapped_in (hive_uses b root) (hive_uses c root) (tree_uses (suc left) b x) (tree_uses (suc left) c x) (in_parts left b (list_cells_at b x) front gone back)
+        swapped_in (hive_uses b root) (hive_uses c root) (tree_uses (suc left) b x) (tree_uses (suc left) c x)
+        (in_parts left b (list_cells_at b x) front gone back)
         (plain (list_cells_at c x) ++ (over left b front ++ (over left c put ++ over left b back)))
-        (subst (λ (m : ℕ). IsSwapped (tree_uses m b root) (tree_uses m c root) (tree_uses (suc left) b x) (tree_uses (suc left) c x)) (above_is p (suc left) ∙ deep)
+        (subst (λ (m : ℕ). IsSwapped (tree_uses m b root) (tree_uses m c root) (tree_uses (suc left) b x)
+        (tree_uses (suc left) c x)) (above_is p (suc left) ∙ deep)
         (around b c path p (suc left) root x t well.stands well.names f h each))
         at_x
 
@@ -261,15 +285,18 @@ relisted b c root t path p x left front gone put back counted hd ts come well f 
 
     old_once : Once (in_parts left b (list_cells_at b x) front gone back)
     old_once = (pairwise_parts Agree (in_parts left b (list_cells_at b x) front gone back) swapped.behind
-        (pairwise_parts Agree swapped.before (in_parts left b (list_cells_at b x) front gone back ++ swapped.behind) (subst Once swapped.was all_once)).right).left
+        (pairwise_parts Agree swapped.before (in_parts left b (list_cells_at b x) front gone back ++ swapped.behind)
+        (subst Once swapped.was all_once)).right).left
 
     in_whole : (u : ℕ × Bool) → In (in_parts left b (list_cells_at b x) front gone back) u → In (hive_uses b root) u
     in_whole u i = subst (λ (l : List (ℕ × Bool)). In l u) (sym swapped.was)
-        (in_right swapped.before (in_parts left b (list_cells_at b x) front gone back ++ swapped.behind) u (in_left (in_parts left b (list_cells_at b x) front gone back) swapped.behind u i))
+        (in_right swapped.before (in_parts left b (list_cells_at b x) front gone back ++ swapped.behind) u
+        (in_left (in_parts left b (list_cells_at b x) front gone back) swapped.behind u i))
 
     p1 : InParts Agree (plain (list_cells_at b x)) (over left b front ++ (over left b gone ++ over left b back))
     p1 =
-        pairwise_parts Agree (plain (list_cells_at b x)) (over left b front ++ (over left b gone ++ over left b back)) old_once
+        pairwise_parts Agree (plain (list_cells_at b x)) (over left b front ++ (over left b gone ++ over left b back))
+        old_once
 
     p2 : InParts Agree (over left b front) (over left b gone ++ over left b back)
     p2 = pairwise_parts Agree (over left b front) (over left b gone ++ over left b back) p1.right
@@ -281,11 +308,13 @@ relisted b c root t path p x left front gone put back counted hd ts come well f 
         → In (over left b front ++ (over left b gone ++ over left b back)) v
     kept_in v (inl i) = in_left (over left b front) (over left b gone ++ over left b back) v i
     kept_in v (inr i) =
-        in_right (over left b front) (over left b gone ++ over left b back) v (in_right (over left b gone) (over left b back) v i)
+        in_right (over left b front) (over left b gone ++ over left b back) v
+        (in_right (over left b gone) (over left b back) v i)
 
     kept_whole : (v : ℕ × Bool) → In (over left b front) v ⊎ In (over left b back) v → In (hive_uses b root) v
     kept_whole v i =
-        in_whole v (in_right (plain (list_cells_at b x)) (over left b front ++ (over left b gone ++ over left b back)) v (kept_in v i))
+        in_whole v (in_right (plain (list_cells_at b x)) (over left b front ++ (over left b gone ++ over left b back)) v
+        (kept_in v i))
 
     as_pair : (u : ℕ × Bool) → u.1 ≡ true → (w : ℕ × Bool) → w.0 ≡ u.0 → w.1 ≡ true → w ≡ u
     as_pair u e w f d j = (f j, (d ∙ sym e) j)
@@ -298,20 +327,24 @@ relisted b c root t path p x left front gone put back counted hd ts come well f 
         → In (plain (list_cells_at b x) ++ over left b gone) u ⊎ (IsUnheld b u.0 ⊎ ((u.1 ≡ true) × In counted u.0))
         → (v : ℕ × Bool) → In (over left b front) v ⊎ In (over left b back) v → Agree u v
     agrees u (inl i) v j =
-        ⊎_elim (λ k. p1.across u v k (kept_in v j)) (λ k. of_gone k j) (in_cases (plain (list_cells_at b x)) (over left b gone) u i)
+        ⊎_elim (λ k. p1.across u v k (kept_in v j)) (λ k. of_gone k j)
+        (in_cases (plain (list_cells_at b x)) (over left b gone) u i)
       where
         of_gone : In (over left b gone) u → In (over left b front) v ⊎ In (over left b back) v → Agree u v
         of_gone k (inl w) = agree_back v u (p2.across v u w (in_left (over left b gone) (over left b back) u k))
         of_gone k (inr w) = p3.across u v k w
     agrees u (inr (inl never)) v j =
-        λ e. absurd (let q = used_held b root t well v (kept_whole v j) in never q.0 (subst (λ (o : ℕ). b.payload o ≡ Ok q.0) (sym e) q.1))
+        λ e. absurd (let q = used_held b root t well v (kept_whole v j) in
+        never q.0 (subst (λ (o : ℕ). b.payload o ≡ Ok q.0) (sym e) q.1))
     agrees u (inr (inr i)) v j =
-        λ e. ⊎_elim (λ (w : u ≡ v). (i.0, sym (ap (λ (z : ℕ × Bool). z.1) w) ∙ i.0)) (λ (w : (u.1 ≡ true) × (v.1 ≡ true)). w)
+        λ e. ⊎_elim (λ (w : u ≡ v). (i.0, sym (ap (λ (z : ℕ × Bool). z.1) w) ∙ i.0))
+        (λ (w : (u.1 ≡ true) × (v.1 ≡ true)). w)
         (once_two (hive_uses b root) u v all_once (secure_in u i.0 (g.counted_are u.0 i.1)) (kept_whole v j) e)
 
     new_once : Once (plain (list_cells_at c x) ++ (over left b front ++ (over left c put ++ over left b back)))
     new_once =
-        agree_again (plain (list_cells_at b x)) (over left b front) (over left b gone) (over left b back) (plain (list_cells_at c x)) (over left c put) old_once g.once (λ u i v j. agrees u (g.used u i) v j)
+        agree_again (plain (list_cells_at b x)) (over left b front) (over left b gone) (over left b back)
+        (plain (list_cells_at c x)) (over left c put) old_once g.once (λ u i v j. agrees u (g.used u i) v j)
 
     from_used : (u : ℕ × Bool)
         → In (plain (list_cells_at b x) ++ over left b gone) u ⊎ (IsUnheld b u.0 ⊎ ((u.1 ≡ true) × In counted u.0))
@@ -319,7 +352,8 @@ relisted b c root t path p x left front gone put back counted hd ts come well f 
     from_used u (inl i) = inl (⊎_elim
         (λ j. in_left (plain (list_cells_at b x)) (over left b front ++ (over left b gone ++ over left b back)) u j)
         (λ j. in_right (plain (list_cells_at b x)) (over left b front ++ (over left b gone ++ over left b back)) u
-        (in_right (over left b front) (over left b gone ++ over left b back) u (in_left (over left b gone) (over left b back) u j)))
+        (in_right (over left b front) (over left b gone ++ over left b back) u
+        (in_left (over left b gone) (over left b back) u j)))
         (in_cases (plain (list_cells_at b x)) (over left b gone) u i))
     from_used u (inr (inl i)) = inr (inl i)
     from_used u (inr (inr i)) = inr (inr (i.0, secure_in u i.0 (g.counted_are u.0 i.1)))
@@ -330,14 +364,18 @@ relisted b c root t path p x left front gone put back counted hd ts come well f 
     comes u i = ⊎_elim
         (λ j. from_used u (g.used u (in_left (plain (list_cells_at c x)) (over left c put) u j)))
         (λ j. ⊎_elim
-        (λ k. inl (in_right (plain (list_cells_at b x)) (over left b front ++ (over left b gone ++ over left b back)) u (kept_in u (inl k))))
+        (λ k. inl (in_right (plain (list_cells_at b x)) (over left b front ++ (over left b gone ++ over left b back)) u
+        (kept_in u (inl k))))
         (λ k. ⊎_elim (λ w. from_used u (g.used u (in_right (plain (list_cells_at c x)) (over left c put) u w)))
-        (λ w. inl (in_right (plain (list_cells_at b x)) (over left b front ++ (over left b gone ++ over left b back)) u (kept_in u (inr w))))
+        (λ w. inl (in_right (plain (list_cells_at b x)) (over left b front ++ (over left b gone ++ over left b back)) u
+        (kept_in u (inr w))))
         (in_cases (over left c put) (over left b back) u k))
         (in_cases (over left b front) (over left c put ++ over left b back) u j))
         (in_cases (plain (list_cells_at c x)) (over left b front ++ (over left c put ++ over left b back)) u i)
 
     once : AreUsedOnce (all_checks c root)
     once =
-        swapped_once b c root t (at_key path (of_children (λ vs. r.before ++ (come ++ r.behind))) t) (in_parts left b (list_cells_at b x) front gone back)
-        (plain (list_cells_at c x) ++ (over left b front ++ (over left c put ++ over left b back))) well stands names swapped new_once comes
+        swapped_once b c root t (at_key path (of_children (λ vs. r.before ++ (come ++ r.behind))) t)
+        (in_parts left b (list_cells_at b x) front gone back)
+        (plain (list_cells_at c x) ++ (over left b front ++ (over left c put ++ over left b back)))
+        well stands names swapped new_once comes

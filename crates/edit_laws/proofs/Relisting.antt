@@ -54,14 +54,18 @@ own_below cells at o s (inr h) = ⊎_elim
     (λ i. let m = not_secure (all_value_cells cells at) o s i in of_values m.0 m.1)
     (λ i. let m = not_secure (list_cells_at cells at) o s i in here cells at o s lists m.0 (no_way s m.1 ⊥))
     (in_cases (plain (all_value_cells cells at)) (plain (list_cells_at cells at)) (o, s) h3))
-    (in_cases (secure (security_cell_at cells at)) (plain (all_value_cells cells at) ++ plain (list_cells_at cells at)) (o, s) h2))
-    (in_cases (plain (class_cell_at cells at)) (secure (security_cell_at cells at) ++ (plain (all_value_cells cells at) ++ plain (list_cells_at cells at))) (o, s) h)
+    (in_cases (secure (security_cell_at cells at)) (plain (all_value_cells cells at) ++ plain (list_cells_at cells at))
+    (o, s) h2))
+    (in_cases (plain (class_cell_at cells at))
+    (secure (security_cell_at cells at) ++ (plain (all_value_cells cells at) ++ plain (list_cells_at cells at)))
+    (o, s) h)
   where
     of_values : In (all_value_cells cells at) o → s ≡ false → IsBelow cells at o s
     of_values i e = ⊎_elim
         (λ l. here cells at o s value_list l (no_way s e ⊥))
         (λ l. let f = in_flat (λ v. used_in (value_checks cells [] v)) (value_places cells at) o l in
-        here cells at o s (value (value_name cells f.0)) (record { place = f.0; listed = f.1; named = refl; used = f.2 }) (no_way s e ⊥))
+        here cells at o s (value (value_name cells f.0))
+        (record { place = f.0; listed = f.1; named = refl; used = f.2 }) (no_way s e ⊥))
         (in_cases (value_list_at cells at) (cells_of_values cells (value_places cells at)) o i)
 
 -- what a key and the keys below it use, they own
@@ -69,24 +73,30 @@ pub uses_below : (left : ℕ) (cells : Cells) (at o : ℕ) (s : Bool) → In (tr
     → IsBelow cells at o s
 uses_below zero cells at o s h = absurd h
 uses_below (suc left) cells at o s h = ⊎_elim (own_below cells at o s)
-    (λ i. let f = in_flat (tree_uses left cells) (child_places cells at) (o, s) i in deeper cells at f.0 o s f.1 (uses_below left cells f.0 o s f.2))
+    (λ i. let f = in_flat (tree_uses left cells) (child_places cells at) (o, s) i in
+    deeper cells at f.0 o s f.1 (uses_below left cells f.0 o s f.2))
     (in_cases (own_uses cells at) (flat_map (tree_uses left cells) (child_places cells at)) (o, s) h)
 
 -- what a key owns, it uses
 own_used : (cells : Cells) (at o : ℕ) → In (security_cell_at cells at) o → In (own_uses cells at) (o, true)
 own_used cells at o i =
-    inr (in_right (plain (class_cell_at cells at)) (secure (security_cell_at cells at) ++ (plain (all_value_cells cells at) ++ plain (list_cells_at cells at))) (o, true)
-    (in_left (secure (security_cell_at cells at)) (plain (all_value_cells cells at) ++ plain (list_cells_at cells at)) (o, true)
+    inr (in_right (plain (class_cell_at cells at))
+    (secure (security_cell_at cells at) ++ (plain (all_value_cells cells at) ++ plain (list_cells_at cells at)))
+    (o, true)
+    (in_left (secure (security_cell_at cells at)) (plain (all_value_cells cells at) ++ plain (list_cells_at cells at))
+    (o, true)
     (in_map_from (λ (z : ℕ). (z, true)) (security_cell_at cells at) o i)))
 
 security_used : (cells : Cells) (p : List (List ℕ)) (left at x o : ℕ) → length p < left → Reaches cells at p x
     → In (security_cell_at cells x) o → In (tree_uses left cells at) (o, true)
 security_used cells p zero at x o lt h i = absurd (omega (arith, lt))
 security_used cells [] (suc left) at x o lt h i =
-    in_left (own_uses cells at) (flat_map (tree_uses left cells) (child_places cells at)) (o, true) (subst (λ (z : ℕ). In (own_uses cells z) (o, true)) (sym h) (own_used cells x o i))
+    in_left (own_uses cells at) (flat_map (tree_uses left cells) (child_places cells at)) (o, true)
+    (subst (λ (z : ℕ). In (own_uses cells z) (o, true)) (sym h) (own_used cells x o i))
 security_used cells (m ∷ p) (suc left) at x o lt h i =
     in_right (own_uses cells at) (flat_map (tree_uses left cells) (child_places cells at)) (o, true)
-    (in_flat_from (tree_uses left cells) (child_places cells at) (o, true) h.0 h.1 (security_used cells p left h.0 x o (omega (arith, lt)) h.3 i))
+    (in_flat_from (tree_uses left cells) (child_places cells at) (o, true) h.0 h.1
+    (security_used cells p left h.0 x o (omega (arith, lt)) h.3 i))
 
 -- a security cell of the tree is used so
 pub secure_there : (b : Cells) (root : ℕ) (t : Tree) (o : ℕ) → IsWellFormed b root t → IsSecurityCell b root o
@@ -111,7 +121,8 @@ IsGone b p gone q = (y : ℕ) × In gone y × (r : List (List ℕ)) × (q ≡ p 
 
 pub longer_no : (p : List (List ℕ)) (m : List ℕ) (q : List (List ℕ)) → p ≡ p ++ m ∷ q → ⊥
 longer_no p m q e =
-    let l = longer p m q in let s : length p ≡ length (p ++ m ∷ q) = ap (λ (z : List (List ℕ)). length z) e in absurd (omega (arith, l, s))
+    let l = longer p m q in let s : length p ≡ length (p ++ m ∷ q) = ap (λ (z : List (List ℕ)). length z) e in
+    absurd (omega (arith, l, s))
 
 -- a cell of a key that does not go, neither its node where that is the key that changes nor of its lists, and not of security, is the same
 pub still_same : (b c : Cells) (root : ℕ) (t : Tree) (p q : List (List ℕ)) (x left z : ℕ)
@@ -156,7 +167,12 @@ still_same b c root t p q x left z front gone put back counted r o well h g k i 
         (λ (e : (q ≡ p ++ node_name b f.0 ∷ w.path) × (r ≡ w.role)). kept (f.0, f.1, w.path, e.0))
         (λ (e : IsSecurity r × IsSecurity w.role). plain_role e.0)
         (once.one q (p ++ node_name b f.0 ∷ w.path) r w.role o own
-        (record { at = w.owns.at; reached = reach_on b p (node_name b f.0 ∷ w.path) root x w.owns.at h (f.0, in_listed f.0 f.1, refl, w.owns.reached); has = w.owns.has }))
+        (record {
+          at = w.owns.at;
+          reached = reach_on b p (node_name b f.0 ∷ w.path) root x w.owns.at h
+              (f.0, in_listed f.0 f.1, refl, w.owns.reached);
+          has = w.owns.has;
+        }))
       where
         in_listed : (y : ℕ) → In gone y → In (child_places b x) y
         in_listed y i =
@@ -170,7 +186,8 @@ pub still_elsewhere : (b c : Cells) (root : ℕ) (t : Tree) (p q : List (List �
 still_elsewhere b c root t p q x left z front gone put back counted well h g k apart kept = record {
   same = record {
     version = g.version;
-    each = λ r o plain_role i. still_same b c root t p q x left z front gone put back counted r o well h g k i plain_role (λ e. absurd (apart e)) kept;
+    each = λ r o plain_role i. still_same b c root t p q x left z front gone put back counted r o well h g k i
+        plain_role (λ e. absurd (apart e)) kept;
   };
   security = λ o i. g.security o (record { path = q; key = z; reached = k; uses = i });
 }
@@ -231,7 +248,8 @@ not_itself m n f e =
 pub stays_front : (b : Cells) (p : List (List ℕ)) (front gone back : List ℕ) (y : ℕ) (r : List (List ℕ))
     → Distinct (node_name b) (front ++ (gone ++ back)) → In front y → IsGone b p gone (p ++ node_name b y ∷ r) → ⊥
 stays_front b p front gone back y r d i g =
-    not_itself (node_name b g.0) (node_name b y) (apart_across (node_name b) front (gone ++ back) y g.0 d i (in_left gone back g.0 g.1))
+    not_itself (node_name b g.0) (node_name b y)
+    (apart_across (node_name b) front (gone ++ back) y g.0 d i (in_left gone back g.0 g.1))
     (sym (path_tail p (node_name b y) (node_name b g.0) r g.2 g.3))
 
 pub distinct_right : (view : ℕ → List ℕ) (xs ys : List ℕ) → Distinct view (xs ++ ys) → Distinct view ys
@@ -241,7 +259,8 @@ distinct_right view (x ∷ xs) ys d = distinct_right view xs ys d.1
 pub stays_back : (b : Cells) (p : List (List ℕ)) (front gone back : List ℕ) (y : ℕ) (r : List (List ℕ))
     → Distinct (node_name b) (front ++ (gone ++ back)) → In back y → IsGone b p gone (p ++ node_name b y ∷ r) → ⊥
 stays_back b p front gone back y r d i g =
-    not_itself (node_name b y) (node_name b g.0) (apart_across (node_name b) gone back g.0 y (distinct_right (node_name b) front (gone ++ back) d) g.1 i)
+    not_itself (node_name b y) (node_name b g.0)
+    (apart_across (node_name b) gone back g.0 y (distinct_right (node_name b) front (gone ++ back) d) g.1 i)
     (path_tail p (node_name b y) (node_name b g.0) r g.2 g.3)
 
 class_rest : (c : Cells) (old new : KeyNode) → SaysTheRest old new → class_of c new ≡ class_of c old
@@ -259,7 +278,8 @@ values_rest : (c : Cells) (old new : KeyNode) → SaysTheRest old new → values
 unfolding values_of
 values_rest c old new same =
     ap (λ (n : ℕ). cond (n == 0) (Ok []) (reading (offsets_in n) c new.value_list >>= items_at c)) same.value_count
-    ∙ ap (λ (o : ℕ). cond (old.value_count == 0) (Ok []) (reading (offsets_in old.value_count) c o >>= items_at c)) same.value_list
+    ∙ ap (λ (o : ℕ). cond (old.value_count == 0) (Ok []) (reading (offsets_in old.value_count) c o >>= items_at c))
+    same.value_list
 
 abbrev done : {A : Type 0} → A → Result A HiveKind
 done x = Ok x
@@ -268,7 +288,8 @@ one_node : (r : Result KeyNode HiveKind) (x y : KeyNode) → r ≡ done x → r 
 one_node r x y e d = cc
 
 -- what the children were, and that the key stands with others in their place
-pub record HasRelisted (b c : Cells) (x : ℕ) (front gone put back : List ℕ) (hd : Head) (ts come : List Tree) : Type 0 where
+pub record HasRelisted (b c : Cells) (x : ℕ) (front gone put back : List ℕ) (hd : Head)
+    (ts come : List Tree) : Type 0 where
   pub before : List Tree
   pub went : List Tree
   pub behind : List Tree
@@ -299,21 +320,36 @@ relisted_here b c root t p x left front gone put back counted hd ts come well h 
       name = s.1.name ∙ ap (λ (m : KeyNode). m.name) old ∙ sym g.same.name;
       flags = s.1.flags ∙ ap (λ (m : KeyNode). tree_flags m.flags) old ∙ ap tree_flags (sym g.same.flags);
       stamp = s.1.stamp ∙ ap (λ (m : KeyNode). m.stamp) old ∙ sym g.same.stamp;
-      class = class_rest c g.old g.new g.same ∙ class_of_same b c g.old (λ some. still class g.old.class (class_is b x g.old g.read some) (λ z. z) tt) ∙ subst (λ (m : KeyNode). class_of b m ≡ Ok hd.class) old s.1.class;
+      class = class_rest c g.old g.new g.same
+          ∙ class_of_same b c g.old (λ some. still class g.old.class (class_is b x g.old g.read some) (λ z. z) tt)
+          ∙ subst (λ (m : KeyNode). class_of b m ≡ Ok hd.class) old s.1.class;
       security = security_rest c g.old g.new g.same
-          ∙ security_of_same b c g.old (λ some. g.security g.old.security (record { path = p; key = x; reached = h; uses = security_is b x g.old g.read some }))
+          ∙ security_of_same b c g.old
+          (λ some. g.security g.old.security
+          (record { path = p; key = x; reached = h; uses = security_is b x g.old g.read some }))
           ∙ subst (λ (m : KeyNode). security_of b m ≡ Ok hd.security) old s.1.security;
       values = values_rest c g.old g.new g.same
-          ∙ values_of_same b c g.old g.version (λ some. still value_list g.old.value_list (value_list_is b x g.old g.read some) (λ z. z) tt) (λ os v some r i o used.
+          ∙ values_of_same b c g.old g.version
+          (λ some. still value_list g.old.value_list (value_list_is b x g.old g.read some) (λ z. z) tt)
+          (λ os v some r i o used.
           still (value (value_name b v)) o
-          (record { place = v; listed = subst (λ (l : List ℕ). In l v) (sym (values_are b x g.old os g.read some r)) i; named = refl; used = used }) (λ z. z) tt)
+          (record {
+            place = v;
+            listed = subst (λ (l : List ℕ). In l v) (sym (values_are b x g.old os g.read some r)) i;
+            named = refl;
+            used = used;
+          }) (λ z. z) tt)
           ∙ subst (λ (m : KeyNode). values_of b m ≡ Ok hd.values) old s.1.values;
       children = g.listed_new;
     },
     both_stand c front (put ++ back) one.left (come ++ two.right)
-        (all_same b c front (trees one.left) one.first (λ y i q z r. stay y (in_left front (gone ++ back) y i) q z r (stays_front b p front gone back y q distinct i)))
+        (all_same b c front (trees one.left) one.first
+        (λ y i q z r. stay y (in_left front (gone ++ back) y i) q z r
+        (stays_front b p front gone back y q distinct i)))
         (both_stand c put back come two.right new
-        (all_same b c back (trees two.right) two.second (λ y i q z r. stay y (in_right front (gone ++ back) y (in_right gone back y i)) q z r (stays_back b p front gone back y q distinct i)))),
+        (all_same b c back (trees two.right) two.second
+        (λ y i q z r. stay y (in_right front (gone ++ back) y (in_right gone back y i)) q z r
+        (stays_back b p front gone back y q distinct i)))),
   );
 }
   where
@@ -328,27 +364,32 @@ relisted_here b c root t p x left front gone put back counted hd ts come well h 
 
     one : StandBoth b front (gone ++ back) (listed ts)
     one =
-        stand_both b front (gone ++ back) (listed ts) (subst (λ (u : Trees). AllStand b (front ++ (gone ++ back)) u) (sym (trees_listed ts)) (subst (λ (l : List ℕ). AllStand b l ts) offsets s.2))
+        stand_both b front (gone ++ back) (listed ts)
+        (subst (λ (u : Trees). AllStand b (front ++ (gone ++ back)) u) (sym (trees_listed ts))
+        (subst (λ (l : List ℕ). AllStand b l ts) offsets s.2))
 
     two : StandBoth b gone back one.right
     two = stand_both b gone back one.right one.second
 
     still : (r : Role) (o : ℕ) → HasRole b x r o → (IsSecurity r → ⊥) → IsStill r → c.payload o ≡ b.payload o
     still r o i plain_role stays =
-        still_same b c root t p p x left x front gone put back counted r o well h g h i plain_role (λ e. stays) (λ w. longer_no p (node_name b w.0) w.2 w.3)
+        still_same b c root t p p x left x front gone put back counted r o well h g h i plain_role (λ e. stays)
+        (λ w. longer_no p (node_name b w.0) w.2 w.3)
 
     stay : (y : ℕ) → In (front ++ (gone ++ back)) y → (q : List (List ℕ)) (z : ℕ) → Reaches b y q z
         → (IsGone b p gone (p ++ node_name b y ∷ q) → ⊥) → IsSameKey b c z
     stay y i q z r kept =
         still_elsewhere b c root t p (p ++ node_name b y ∷ q) x left z front gone put back counted well h g
-        (reach_on b p (node_name b y ∷ q) root x z h (y, subst (λ (l : List ℕ). In l y) (sym g.listed) i, refl, r)) (λ e. longer_no p (node_name b y) q (sym e)) kept
+        (reach_on b p (node_name b y ∷ q) root x z h (y, subst (λ (l : List ℕ). In l y) (sym g.listed) i, refl, r))
+        (λ e. longer_no p (node_name b y) q (sym e)) kept
 
 -- the children of a node that lists them
 pub places_listed : (cells : Cells) (at : ℕ) (n : KeyNode) (offsets : List ℕ) → reading key_node_at cells at ≡ Ok n
     → ListsChildren cells n offsets → child_places cells at ≡ offsets
 unfolding child_places
 places_listed cells at n offsets read l =
-    of_node_is cells at n (λ m. if m.child_count == 0 then [] else of_read (entries_at cells m.child_list) (λ os. os)) read
+    of_node_is cells at n (λ m. if m.child_count == 0 then [] else of_read (entries_at cells m.child_list) (λ os. os))
+    read
     ∙ go (n.child_count == 0) l
   where
     go : (b : Bool)

@@ -30,7 +30,8 @@ all_miss : (b c : Cells) (offsets : List ℕ) (ts : Trees) → AllStand b offset
     → ((z : ℕ) (u : Tree) → In offsets z → Stands b z u → Stands c z u) → AllStand c offsets ts
 all_miss b c offsets none e each = e
 all_miss b c offsets (more t ts) a each =
-    let all : (z : ℕ) (u : Tree) → In (a.0 ∷ a.1) z → Stands b z u → Stands c z u = λ z u i. each z u (subst (λ (l : List ℕ). In l z) (sym a.2) i) in
+    let all : (z : ℕ) (u : Tree) → In (a.0 ∷ a.1) z → Stands b z u → Stands c z u =
+    λ z u i. each z u (subst (λ (l : List ℕ). In l z) (sym a.2) i) in
     (a.0, a.1, a.2, all a.0 t (inl refl) a.3, all_miss b c a.1 ts a.4 (λ z u i. all z u (inr i)))
 
 not_named : (name a b : List ℕ) → folds_same b a ≡ false → folds_same name a ≡ true → folds_same name b ≡ false
@@ -43,12 +44,15 @@ not_named name a b apart e = go (folds_same name b) refl
 -- the first child of a name changes, and each other stands as it stood
 pub first_changed : (b c : Cells) (name : List ℕ) (f : Tree → Tree) (offsets : List ℕ) (ts : Trees)
     → AllStand b offsets ts → HaveApartNames ts → Distinct (node_name b) offsets
-    → ((z : ℕ) (u : Tree) → In offsets z → Stands b z u → HasApartNames u → folds_same name (node_name b z) ≡ true → Stands c z (f u))
+    → ((z : ℕ) (u : Tree) → In offsets z → Stands b z u → HasApartNames u → folds_same name (node_name b z) ≡ true
+    → Stands c z (f u))
     → ((z : ℕ) (u : Tree) → In offsets z → Stands b z u → folds_same name (node_name b z) ≡ false → Stands c z u)
     → AllStand c offsets (trees (at_first (is_named name) f (listed ts)))
 first_changed b c name f offsets none e n d hit miss = e
 first_changed b c name f offsets (more t ts) a n d hit miss =
-    go (is_named name t) refl (first_changed b c name f a.1 ts a.4 n.1 apart.1 (λ z u i. hit z u (there z (inr i))) (λ z u i. miss z u (there z (inr i))))
+    go (is_named name t) refl
+    (first_changed b c name f a.1 ts a.4 n.1 apart.1 (λ z u i. hit z u (there z (inr i)))
+    (λ z u i. miss z u (there z (inr i))))
   where
     apart : Distinct (node_name b) (a.0 ∷ a.1)
     apart = subst (Distinct (node_name b)) a.2 d
@@ -68,7 +72,8 @@ first_changed b c name f offsets (more t ts) a n d hit miss =
           a.2,
           hit a.0 t (there a.0 (inl refl)) a.3 n.0 here,
           subst (AllStand c a.1) (sym (trees_listed ts))
-              (all_miss b c a.1 ts a.4 (λ z u i s. miss z u (there z (inr i)) s (not_named name (node_name b a.0) (node_name b z) (apart.0 z i) here))),
+              (all_miss b c a.1 ts a.4 (λ z u i s. miss z u (there z (inr i)) s
+              (not_named name (node_name b a.0) (node_name b z) (apart.0 z i) here))),
         )
     go false is rest = (
       a.0,
@@ -92,9 +97,11 @@ replaced_stands b c change [] (m ∷ p) at x t s n f r each new = absurd f
 replaced_stands b c change (name ∷ path) [] at x t s n f r each new = absurd f
 replaced_stands b c change (name ∷ path) (m ∷ p) at x (key h ts) s n f r each new =
     let places = places_are b at h s.0 s.1 in
-    let listed_there : (z : ℕ) → In s.0 z → In (child_places b at) z = λ z i. subst (λ (l : List ℕ). In l z) (sym places) i in
+    let listed_there : (z : ℕ) → In s.0 z → In (child_places b at) z =
+    λ z i. subst (λ (l : List ℕ). In l z) (sym places) i in
     let named : folds_same name (node_name b r.0) ≡ true = ap (folds_same name) r.2 ∙ f.0 in
-    let one : (z : ℕ) → In s.0 z → folds_same name (node_name b z) ≡ true → r.0 ≡ z = λ z i e. (sound_at b at (key h ts) s n).one_child name r.0 z r.1 (listed_there z i) named e in (
+    let one : (z : ℕ) → In s.0 z → folds_same name (node_name b z) ≡ true → r.0 ≡ z =
+    λ z i e. (sound_at b at (key h ts) s n).one_child name r.0 z r.1 (listed_there z i) named e in (
       s.0,
       key_same b c at h s.0 s.1 (each [] at refl (λ e. e)),
       first_changed b c name (at_key path change) s.0 ts s.2 n.3 (keys_distinct b s.0 ts s.2 n.3 n.2)
@@ -103,7 +110,9 @@ replaced_stands b c change (name ∷ path) (m ∷ p) at x (key h ts) s n f r eac
           subst (λ (w : ℕ). Stands c w (at_key path change u)) same
           (replaced_stands b c change path p r.0 x u (subst (λ (w : ℕ). Stands b w u) (sym same) st) apart f.1 r.3
           (λ q w g out. each (node_name b r.0 ∷ q) w (r.0, r.1, refl, g) (λ x. out x.1)) new))
-          (λ z u i st e. tree_same b c z u st (λ q w g. each (node_name b z ∷ q) w (z, listed_there z i, refl, g) (λ x. absurd (let d : true ≡ false = sym x.0 ∙ e in cc)))),
+          (λ z u i st e. tree_same b c z u st
+          (λ q w g. each (node_name b z ∷ q) w (z, listed_there z i, refl, g)
+          (λ x. absurd (let d : true ≡ false = sym x.0 ∙ e in cc)))),
     )
 
 -- ---- names
@@ -122,8 +131,11 @@ names_differ ts d = from_keys ts (pairwise_from (λ a b. folds_same (head b).nam
     from_keys : (ts : List Tree) → Pairwise (λ a b. folds_same (head b).name (head a).name ≡ false) ts
         → Pairwise Unlike (names_in ts)
     from_keys [] h = tt
-    from_keys (t ∷ ts) h =
-        (λ m i. let p = in_map (λ u. (head u).name) ts m i in subst (Unlike (head t).name) p.2 (h.0 p.0 p.1), from_keys ts h.1)
+    from_keys (t ∷ ts) h = (
+      λ m i. let p = in_map (λ u. (head u).name) ts m i in
+          subst (Unlike (head t).name) p.2 (h.0 p.0 p.1),
+      from_keys ts h.1,
+    )
 
 pub keys_differ : (ts : List Tree) → Pairwise Unlike (names_in ts) → KeysDiffer ts
 keys_differ ts d = pairwise_to (λ a b. folds_same (head b).name (head a).name ≡ false) ts (to_keys ts d)
@@ -137,7 +149,8 @@ keys_differ ts d = pairwise_to (λ a b. folds_same (head b).name (head a).name �
 pub names_some : (ts : List Tree) → All (λ t. 0 < length (head t).name) ts → (m : List ℕ) → In (names_in ts) m
     → 0 < length m
 names_some ts a m i =
-    let p = in_map (λ t. (head t).name) ts m i in subst (λ (n : List ℕ). 0 < length n) p.2 (all_in (λ t. 0 < length (head t).name) ts p.0 a p.1)
+    let p = in_map (λ t. (head t).name) ts m i in
+    subst (λ (n : List ℕ). 0 < length n) p.2 (all_in (λ t. 0 < length (head t).name) ts p.0 a p.1)
 
 pub some_names : (ts : List Tree) → ((m : List ℕ) → In (names_in ts) m → 0 < length m)
     → All (λ t. 0 < length (head t).name) ts
@@ -198,7 +211,8 @@ replaced_names change (name ∷ path) (key h ts) n same new =
     apart_with h ts (at_first (is_named name) (at_key path change) (listed ts)) n
     (subst (Pairwise Unlike) (sym names) (names_differ (listed ts) n.2))
     (λ m i. names_some (listed ts) n.1 m (subst (λ (l : List (List ℕ)). In l m) names i))
-    (first_each HasApartNames (is_named name) (at_key path change) (listed ts) (λ u i. have_each ts u n.3 i) (λ u i a. replaced_names change path u a same new))
+    (first_each HasApartNames (is_named name) (at_key path change) (listed ts) (λ u i. have_each ts u n.3 i)
+    (λ u i a. replaced_names change path u a same new))
   where
     kept : (path : List (List ℕ)) (u : Tree) → (head (at_key path change u)).name ≡ (head u).name
     kept [] u = same u
@@ -231,7 +245,8 @@ first_low P name path f (w ∷ us) m deep all hit u i =
         hit k (ap (λ (z : Bool). option_and_then (find_key path) (cond z (Some w) (find (is_named name) us))) is ∙ e)
 
     pick : (v : Bool) → is_named name w ≡ v
-        → (((k : Tree) → option_and_then (find_key path) (find (is_named name) us) ≡ Some k → P k) → In (at_first (is_named name) f us) u → levels u ≤ m)
+        → (((k : Tree) → option_and_then (find_key path) (find (is_named name) us) ≡ Some k → P k)
+        → In (at_first (is_named name) f us) u → levels u ≤ m)
         → In (cond v (f w ∷ us) (w ∷ at_first (is_named name) f us)) u → levels u ≤ m
     pick true is rest (inl e) = subst (λ (z : Tree). levels z ≤ m) e (deep w (all w (inl refl)) (found true is))
     pick true is rest (inr j) = all u (inr j)
@@ -246,5 +261,6 @@ replaced_levels change [] t m low new = let l = new t refl in omega arith
 replaced_levels change (name ∷ path) (key h ts) zero low new = absurd (omega arith)
 replaced_levels change (name ∷ path) (key h ts) (suc m) low new =
     let l = most_each (at_first (is_named name) (at_key path change) (listed ts)) m
-    (first_low (λ k. length path + levels (change k) ≤ m) name path (at_key path change) (listed ts) m (λ w a b. replaced_levels change path w m a b)
+    (first_low (λ k. length path + levels (change k) ≤ m) name path (at_key path change) (listed ts) m
+    (λ w a b. replaced_levels change path w m a b)
     (λ w j. let l = each_most ts w j in omega arith) (λ k e. let l = new k e in omega arith)) in omega arith

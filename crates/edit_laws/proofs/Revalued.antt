@@ -85,8 +85,12 @@ value_owned : (cells : Cells) (root : ℕ) (p : List (List ℕ)) (x o : ℕ) →
     → In (all_value_cells cells x) o → (r : Role) × Owns cells root p r o × (IsSecurity r → ⊥) × (IsOther r → ⊥)
 value_owned cells root p x o h i = ⊎_elim
     (λ l. (value_list, record { at = x; reached = h; has = l }, (λ z. z), (λ z. z)))
-    (λ l. let f = in_flat (λ v. used_in (value_checks cells [] v)) (value_places cells x) o l in
-    (value (value_name cells f.0), record { at = x; reached = h; has = record { place = f.0; listed = f.1; named = refl; used = f.2 } }, (λ z. z), (λ z. z)))
+    (λ l. let f = in_flat (λ v. used_in (value_checks cells [] v)) (value_places cells x) o l in (
+      value (value_name cells f.0),
+      record { at = x; reached = h; has = record { place = f.0; listed = f.1; named = refl; used = f.2 } },
+      (λ z. z),
+      (λ z. z),
+    ))
     (in_cases (value_list_at cells x) (flat_map (λ v. used_in (value_checks cells [] v)) (value_places cells x)) o i)
 
 -- a cell that is neither the key's node nor of its values is the same
@@ -169,14 +173,21 @@ with_values b c root t p x items well h g (key hd ts) s = (
     name = s.1.name ∙ ap (λ (n : KeyNode). n.name) old ∙ sym g.same.name;
     flags = s.1.flags ∙ ap (λ (n : KeyNode). tree_flags n.flags) old ∙ ap tree_flags (sym g.same.flags);
     stamp = s.1.stamp ∙ ap (λ (n : KeyNode). n.stamp) old ∙ sym g.same.stamp;
-    class = class_as c g.old g.new g.same ∙ class_of_same b c g.old (λ some. here class g.old.class (class_is b x g.old g.read some) tt) ∙ subst (λ (n : KeyNode). class_of b n ≡ Ok hd.class) old s.1.class;
+    class = class_as c g.old g.new g.same
+        ∙ class_of_same b c g.old (λ some. here class g.old.class (class_is b x g.old g.read some) tt)
+        ∙ subst (λ (n : KeyNode). class_of b n ≡ Ok hd.class) old s.1.class;
     security = security_as c g.old g.new g.same
-        ∙ security_of_same b c g.old (λ some. ap (λ (r : Result (List ℕ) HiveKind). (r >>= security_at) >>= λ d. Ok d.descriptor) (here security g.old.security (security_is b x g.old g.read some) tt))
+        ∙ security_of_same b c g.old
+        (λ some. ap (λ (r : Result (List ℕ) HiveKind). (r >>= security_at) >>= λ d. Ok d.descriptor)
+        (here security g.old.security (security_is b x g.old g.read some) tt))
         ∙ subst (λ (n : KeyNode). security_of b n ≡ Ok hd.security) old s.1.security;
     values = g.values;
-    children = listed_as (children_same b c g.old s.0 (λ some o i. here lists o (lists_are b x g.old o g.read some i) tt) (subst (λ (n : KeyNode). ListsChildren b n s.0) old s.1.children));
+    children = listed_as (children_same b c g.old s.0
+        (λ some o i. here lists o (lists_are b x g.old o g.read some i) tt)
+        (subst (λ (n : KeyNode). ListsChildren b n s.0) old s.1.children));
   },
-  all_same b c s.0 ts s.2 (λ y i q z r. elsewhere b c root t p (p ++ node_name b y ∷ q) x z items well h g (reach_on b p (node_name b y ∷ q) root x z h (y, there y i, refl, r)) (not_same y q)),
+  all_same b c s.0 ts s.2 (λ y i q z r. elsewhere b c root t p (p ++ node_name b y ∷ q) x z items well h g
+      (reach_on b p (node_name b y ∷ q) root x z h (y, there y i, refl, r)) (not_same y q)),
 )
   where
     old : s.1.node ≡ g.old
@@ -190,12 +201,15 @@ with_values b c root t p x items well h g (key hd ts) s = (
 
     not_same : (y : ℕ) (q : List (List ℕ)) → p ++ node_name b y ∷ q ≡ p → ⊥
     not_same y q e =
-        let l = longer p (node_name b y) q in let m : length (p ++ node_name b y ∷ q) ≡ length p = ap (λ (z : List (List ℕ)). length z) e in absurd (omega arith)
+        let l = longer p (node_name b y) q in let m : length (p ++ node_name b y ∷ q) ≡ length p =
+        ap (λ (z : List (List ℕ)). length z) e in absurd (omega arith)
 
     listed_as : ListsChildren c g.old s.0 → ListsChildren c g.new s.0
     listed_as l =
-        subst (λ (n : ℕ). MatchBool (n == 0) (s.0 ≡ []) ((entries_at c g.new.child_list ≡ Ok s.0) × (length s.0 ≡ n))) (sym g.same.child_count)
-        (subst (λ (o : ℕ). MatchBool (g.old.child_count == 0) (s.0 ≡ []) ((entries_at c o ≡ Ok s.0) × (length s.0 ≡ g.old.child_count))) (sym g.same.child_list) l)
+        subst (λ (n : ℕ). MatchBool (n == 0) (s.0 ≡ []) ((entries_at c g.new.child_list ≡ Ok s.0) × (length s.0 ≡ n)))
+        (sym g.same.child_count)
+        (subst (λ (o : ℕ). MatchBool (g.old.child_count == 0) (s.0 ≡ [])
+        ((entries_at c o ≡ Ok s.0) × (length s.0 ≡ g.old.child_count))) (sym g.same.child_list) l)
 
 -- ---- its uses
 
@@ -212,19 +226,28 @@ regrouped n a s v l f = ap (λ (z : List (ℕ × Bool)). n ∷ z) (go a s v)
 -- the key uses other cells for its values alone
 swapped_here : (b c : Cells) (root : ℕ) (t : Tree) (p : List (List ℕ)) (left x : ℕ) (items : List Item)
     → IsWellFormed b root t → Reaches b root p x → GetsValues b c x items
-    → IsSwapped (tree_uses (suc left) b x) (tree_uses (suc left) c x) (plain (all_value_cells b x)) (plain (all_value_cells c x))
+    → IsSwapped (tree_uses (suc left) b x) (tree_uses (suc left) c x) (plain (all_value_cells b x))
+    (plain (all_value_cells c x))
 swapped_here b c root t p left x items well h g = record {
   before = (x, false) ∷ (plain (class_cell_at b x) ++ secure (security_cell_at b x));
   behind = plain (list_cells_at b x) ++ flat_map (tree_uses left b) (child_places b x);
-  was = regrouped (x, false) (plain (class_cell_at b x)) (secure (security_cell_at b x)) (plain (all_value_cells b x)) (plain (list_cells_at b x)) (flat_map (tree_uses left b) (child_places b x));
+  was = regrouped (x, false) (plain (class_cell_at b x)) (secure (security_cell_at b x)) (plain (all_value_cells b x))
+      (plain (list_cells_at b x)) (flat_map (tree_uses left b) (child_places b x));
   is =
-      ap (λ (l : List ℕ). own_with l (security_cell_at c x) (list_cells_at c x) ++ flat_map (tree_uses left c) (child_places c x)) (class_kept b c x kept)
-      ∙ ap (λ (l : List ℕ). own_with (class_cell_at b x) l (list_cells_at c x) ++ flat_map (tree_uses left c) (child_places c x)) (security_kept b c x kept)
-      ∙ ap (λ (l : List ℕ). own_with (class_cell_at b x) (security_cell_at b x) l ++ flat_map (tree_uses left c) (child_places c x)) (lists_kept b c x kept children_there)
-      ∙ ap (λ (l : List ℕ). own_with (class_cell_at b x) (security_cell_at b x) (list_cells_at b x) ++ flat_map (tree_uses left c) l) (children_kept b c x kept children_there)
-      ∙ ap (λ (l : List (ℕ × Bool)). own_with (class_cell_at b x) (security_cell_at b x) (list_cells_at b x) ++ l) (uses_over left b c (child_places b x) (λ y i.
-      uses_same left b c y (λ q z r. elsewhere b c root t p (p ++ node_name b y ∷ q) x z items well h g (reach_on b p (node_name b y ∷ q) root x z h (y, i, refl, r)) (not_same y q))))
-      ∙ regrouped (x, false) (plain (class_cell_at b x)) (secure (security_cell_at b x)) (plain (all_value_cells c x)) (plain (list_cells_at b x)) (flat_map (tree_uses left b) (child_places b x));
+      ap (λ (l : List ℕ). own_with l (security_cell_at c x) (list_cells_at c x)
+      ++ flat_map (tree_uses left c) (child_places c x)) (class_kept b c x kept)
+      ∙ ap (λ (l : List ℕ). own_with (class_cell_at b x) l (list_cells_at c x)
+      ++ flat_map (tree_uses left c) (child_places c x)) (security_kept b c x kept)
+      ∙ ap (λ (l : List ℕ). own_with (class_cell_at b x) (security_cell_at b x) l
+      ++ flat_map (tree_uses left c) (child_places c x)) (lists_kept b c x kept children_there)
+      ∙ ap (λ (l : List ℕ). own_with (class_cell_at b x) (security_cell_at b x) (list_cells_at b x)
+      ++ flat_map (tree_uses left c) l) (children_kept b c x kept children_there)
+      ∙ ap (λ (l : List (ℕ × Bool)). own_with (class_cell_at b x) (security_cell_at b x) (list_cells_at b x) ++ l)
+      (uses_over left b c (child_places b x) (λ y i.
+      uses_same left b c y (λ q z r. elsewhere b c root t p (p ++ node_name b y ∷ q) x z items well h g
+      (reach_on b p (node_name b y ∷ q) root x z h (y, i, refl, r)) (not_same y q))))
+      ∙ regrouped (x, false) (plain (class_cell_at b x)) (secure (security_cell_at b x)) (plain (all_value_cells c x))
+      (plain (list_cells_at b x)) (flat_map (tree_uses left b) (child_places b x));
 }
   where
     kept : IsNodeKept b c x
@@ -239,7 +262,8 @@ swapped_here b c root t p left x items well h g = record {
 
     not_same : (y : ℕ) (q : List (List ℕ)) → p ++ node_name b y ∷ q ≡ p → ⊥
     not_same y q e =
-        let l = longer p (node_name b y) q in let m : length (p ++ node_name b y ∷ q) ≡ length p = ap (λ (z : List (List ℕ)). length z) e in absurd (omega arith)
+        let l = longer p (node_name b y) q in let m : length (p ++ node_name b y ∷ q) ≡ length p =
+        ap (λ (z : List (List ℕ)). length z) e in absurd (omega arith)
 
     own_with : List ℕ → List ℕ → List ℕ → List (ℕ × Bool)
     own_with cl se li = (x, false) ∷ (plain cl ++ (secure se ++ (plain (all_value_cells c x) ++ plain li)))
@@ -265,7 +289,8 @@ revalued b c root t path p x items well f h g differ =
 
     stands : Stands c root (at_key path (of_items (λ vs. items)) t)
     stands =
-        replaced_stands b c (of_items (λ vs. items)) path p root x t well.stands well.names f h each (λ k s n. with_values b c root t p x items well h g k s)
+        replaced_stands b c (of_items (λ vs. items)) path p root x t well.stands well.names f h each
+        (λ k s n. with_values b c root t p x items well h g k s)
 
     head_same : (k : Tree) → (head (of_items (λ vs. items) k)).name ≡ (head k).name
     head_same (key hd ts) = refl
@@ -286,11 +311,14 @@ revalued b c root t path p x items well f h g differ =
     short : length p < 512
     short = (sound_hive b root t well).shallow p x h
 
-    swapped : IsSwapped (hive_uses b root) (hive_uses c root) (plain (all_value_cells b x)) (plain (all_value_cells c x))
+    swapped : IsSwapped (hive_uses b root) (hive_uses c root) (plain (all_value_cells b x))
+        (plain (all_value_cells c x))
     swapped =
         let top : above p (suc (511 - length p)) ≡ 512 = above_is p (suc (511 - length p)) ∙ omega (arith, short) in
-        swapped_in (hive_uses b root) (hive_uses c root) (tree_uses (suc (511 - length p)) b x) (tree_uses (suc (511 - length p)) c x) (plain (all_value_cells b x)) (plain (all_value_cells c x))
-        (subst (λ (n : ℕ). IsSwapped (tree_uses n b root) (tree_uses n c root) (tree_uses (suc (511 - length p)) b x) (tree_uses (suc (511 - length p)) c x)) top
+        swapped_in (hive_uses b root) (hive_uses c root) (tree_uses (suc (511 - length p)) b x)
+        (tree_uses (suc (511 - length p)) c x) (plain (all_value_cells b x)) (plain (all_value_cells c x))
+        (subst (λ (n : ℕ). IsSwapped (tree_uses n b root) (tree_uses n c root) (tree_uses (suc (511 - length p)) b x)
+        (tree_uses (suc (511 - length p)) c x)) top
         (around b c path p (suc (511 - length p)) root x t well.stands well.names f h each))
         (swapped_here b c root t p (511 - length p) x items well h g)
 
@@ -298,11 +326,13 @@ revalued b c root t path p x items well f h g differ =
     comes v i =
         let o = in_map (λ (z : ℕ). (z, false)) (all_value_cells c x) v i in
         ⊎_elim
-        (λ j. inl (subst (λ (w : ℕ × Bool). In (plain (all_value_cells b x)) w) o.2 (in_map_from (λ (z : ℕ). (z, false)) (all_value_cells b x) o.0 j)))
+        (λ j. inl (subst (λ (w : ℕ × Bool). In (plain (all_value_cells b x)) w) o.2
+        (in_map_from (λ (z : ℕ). (z, false)) (all_value_cells b x) o.0 j)))
         (λ n. inr (inl (subst (λ (w : ℕ × Bool). IsUnheld b w.0) o.2 n)))
         (g.used o.0 o.1)
 
     once : AreUsedOnce (all_checks c root)
     once =
-        swapped_once b c root t (at_key path (of_items (λ vs. items)) t) (plain (all_value_cells b x)) (plain (all_value_cells c x)) well stands names swapped
+        swapped_once b c root t (at_key path (of_items (λ vs. items)) t) (plain (all_value_cells b x))
+        (plain (all_value_cells c x)) well stands names swapped
         (once_plain (all_value_cells c x) g.once) comes

@@ -41,7 +41,8 @@ pub room_some : (xs ys : List ℕ) → AreSome xs ys → room_of xs ≤ room_of 
 room_some [] ys h = omega arith
 room_some (x ∷ xs) [] h = absurd h
 room_some (x ∷ xs) (y ∷ ys) (inl e) =
-    let r = room_some xs ys e.1 in let s : rounded (x + 32) ≡ rounded (y + 32) = ap (λ (n : ℕ). rounded (n + 32)) e.0 in omega (arith, r, s, room_cons x xs, room_cons y ys)
+    let r = room_some xs ys e.1 in let s : rounded (x + 32) ≡ rounded (y + 32) = ap (λ (n : ℕ). rounded (n + 32)) e.0 in
+    omega (arith, r, s, room_cons x xs, room_cons y ys)
 room_some (x ∷ xs) (y ∷ ys) (inr h) = let r = room_some (x ∷ xs) ys h in omega (arith, r, room_cons y ys)
 
 -- one bin for cells together is no longer than a bin for each
@@ -66,20 +67,25 @@ room_for (x ∷ xs) h = room_joined x xs
 -- what one step may need
 pub strain_one : (version : HiveVersion) (bytes : ℕ) (t u : Tree) (step : Step) (steps : List Step)
     → after_step step t ≡ Ok u
-    → strain_of version bytes t (step ∷ steps) ≡ strain_of version (bytes + room_of (needed_sizes version t step u)) u steps
+    → strain_of version bytes t (step ∷ steps)
+    ≡ strain_of version (bytes + room_of (needed_sizes version t step u)) u steps
 strain_one version bytes t u step steps ok =
-    ap (λ (r : Result Tree Refusal). unless_refused bytes r (λ v. strain_of version (bytes + room_of (needed_sizes version t step v)) v steps)) ok
+    ap (λ (r : Result Tree Refusal). unless_refused bytes r
+    (λ v. strain_of version (bytes + room_of (needed_sizes version t step v)) v steps)) ok
 
 -- longer data have no less strain
 pub strain_more : (version : HiveVersion) (a b : ℕ) (t : Tree) (steps : List Step) → a ≤ b
     → strain_of version a t steps ≤ strain_of version b t steps
 strain_more version a b t [] h = h
 strain_more version a b t (step ∷ steps) h =
-    go (after_step step t) (λ u. strain_more version (a + room_of (needed_sizes version t step u)) (b + room_of (needed_sizes version t step u)) u steps (omega (arith, h)))
+    go (after_step step t) (λ u. strain_more version (a + room_of (needed_sizes version t step u))
+    (b + room_of (needed_sizes version t step u)) u steps (omega (arith, h)))
   where
     go : (r : Result Tree Refusal)
-        → ((u : Tree) → strain_of version (a + room_of (needed_sizes version t step u)) u steps ≤ strain_of version (b + room_of (needed_sizes version t step u)) u steps)
-        → unless_refused a r (λ u. strain_of version (a + room_of (needed_sizes version t step u)) u steps) ≤ unless_refused b r (λ u. strain_of version (b + room_of (needed_sizes version t step u)) u steps)
+        → ((u : Tree) → strain_of version (a + room_of (needed_sizes version t step u)) u steps ≤ strain_of version
+        (b + room_of (needed_sizes version t step u)) u steps)
+        → unless_refused a r (λ u. strain_of version (a + room_of (needed_sizes version t step u)) u steps)
+        ≤ unless_refused b r (λ u. strain_of version (b + room_of (needed_sizes version t step u)) u steps)
     go (Ok u) deep = deep u
     go (Err e) deep = h
 
@@ -90,8 +96,10 @@ strain_least version bytes t (step ∷ steps) =
     go (after_step step t) (λ u. strain_least version (bytes + room_of (needed_sizes version t step u)) u steps)
   where
     go : (r : Result Tree Refusal)
-        → ((u : Tree) → bytes + room_of (needed_sizes version t step u) ≤ strain_of version (bytes + room_of (needed_sizes version t step u)) u steps)
-        → bytes ≤ unless_refused bytes r (λ u. strain_of version (bytes + room_of (needed_sizes version t step u)) u steps)
+        → ((u : Tree) → bytes + room_of (needed_sizes version t step u) ≤ strain_of version
+        (bytes + room_of (needed_sizes version t step u)) u steps)
+        → bytes ≤ unless_refused bytes r
+        (λ u. strain_of version (bytes + room_of (needed_sizes version t step u)) u steps)
     go (Ok u) deep = let d = deep u in omega (arith, d)
     go (Err e) deep = omega arith
 
@@ -101,7 +109,8 @@ pub strain_step : (version : HiveVersion) (bytes now : ℕ) (t u : Tree) (step :
     → now ≤ bytes + room_of asked → strain_of version now u steps ≤ strain_of version bytes t (step ∷ steps)
 strain_step version bytes now t u step steps asked ok part grown =
     let r = room_some asked (needed_sizes version t step u) part in
-    let m = strain_more version now (bytes + room_of (needed_sizes version t step u)) u steps (omega (arith, r, grown)) in
+    let m = strain_more version now (bytes + room_of (needed_sizes version t step u)) u steps
+    (omega (arith, r, grown)) in
     let e = strain_one version bytes t u step steps ok in omega (arith, m, e)
 
 -- Where a bin for cells that a step may need, one behind another, is not to be had below a limit, its strain is over the limit.
@@ -111,7 +120,8 @@ pub no_room : (version : HiveVersion) (bytes limit : ℕ) (t u : Tree) (step : S
 no_room version bytes limit t u step steps asked ok part some over =
     let f = room_for asked some in let r = room_some asked (needed_sizes version t step u) part in
     let e = strain_one version bytes t u step steps ok in
-    let l = strain_least version (bytes + room_of (needed_sizes version t step u)) u steps in omega (arith, f, r, e, l, over)
+    let l = strain_least version (bytes + room_of (needed_sizes version t step u)) u steps in
+    omega (arith, f, r, e, l, over)
 
 -- ---- what a value may need
 
@@ -125,7 +135,8 @@ found_changed f [] t k same e = ap (λ (o : Option Tree). over o) e
     over (Some w) = Some (f w)
     over None = None
 found_changed f (name ∷ path) (key h ts) k same e =
-    ap (λ (us : List Tree). option_and_then (find_key path) (find (is_named name) us)) (listed_trees (at_first (is_named name) (at_key path f) (listed ts)))
+    ap (λ (us : List Tree). option_and_then (find_key path) (find (is_named name) us))
+    (listed_trees (at_first (is_named name) (at_key path f) (listed ts)))
     ∙ go (listed ts) e (λ w d. found_changed f path w k same d)
   where
     kept : (path : List (List ℕ)) (w : Tree) → (head (at_key path f w)).name ≡ (head w).name
@@ -139,10 +150,15 @@ found_changed f (name ∷ path) (key h ts) k same e =
     pick : (w : Tree) (us : List Tree) (v : Bool) → is_named name w ≡ v
         → option_and_then (find_key path) (find (is_named name) (w ∷ us)) ≡ Some k
         → ((z : Tree) → find_key path z ≡ Some k → find_key path (at_key path f z) ≡ Some (f k))
-        → (option_and_then (find_key path) (find (is_named name) us) ≡ Some k → option_and_then (find_key path) (find (is_named name) (at_first (is_named name) (at_key path f) us)) ≡ Some (f k))
-        → option_and_then (find_key path) (find (is_named name) (cond v (at_key path f w ∷ us) (w ∷ at_first (is_named name) (at_key path f) us))) ≡ Some (f k)
+        → (option_and_then (find_key path) (find (is_named name) us) ≡ Some k
+        → option_and_then (find_key path) (find (is_named name) (at_first (is_named name) (at_key path f) us))
+        ≡ Some (f k))
+        → option_and_then (find_key path)
+        (find (is_named name) (cond v (at_key path f w ∷ us) (w ∷ at_first (is_named name) (at_key path f) us)))
+        ≡ Some (f k)
     pick w us true is e deep rest =
-        ap (option_and_then (find_key path)) (found_by true (at_key path f w) us (ap (folds_same name) (kept path w) ∙ is))
+        ap (option_and_then (find_key path))
+        (found_by true (at_key path f w) us (ap (folds_same name) (kept path w) ∙ is))
         ∙ deep w (sym (ap (option_and_then (find_key path)) (found_by true w us is)) ∙ e)
     pick w us false is e deep rest =
         ap (option_and_then (find_key path)) (found_by false w (at_first (is_named name) (at_key path f) us) is)
@@ -150,17 +166,21 @@ found_changed f (name ∷ path) (key h ts) k same e =
 
     go : (us : List Tree) → option_and_then (find_key path) (find (is_named name) us) ≡ Some k
         → ((z : Tree) → find_key path z ≡ Some k → find_key path (at_key path f z) ≡ Some (f k))
-        → option_and_then (find_key path) (find (is_named name) (at_first (is_named name) (at_key path f) us)) ≡ Some (f k)
+        → option_and_then (find_key path) (find (is_named name) (at_first (is_named name) (at_key path f) us))
+        ≡ Some (f k)
     go [] e deep = absurd cc
     go (w ∷ us) e deep = pick w us (is_named name w) refl e deep (λ d. go us d deep)
 
 -- the sizes of the cells that a value that is set may need: its key's list, and the value
 pub set_needs : (version : HiveVersion) (t u k : Tree) (path : List (List ℕ)) (name : List ℕ) (kind : ℕ)
     (bytes : List ℕ) (v : Item) → find_key path u ≡ Some k → find_item name k ≡ Some v
-    → needed_sizes version t (set_value path name kind bytes) u ≡ value_list_sizes (length (head k).values) ++ item_sizes version v
+    → needed_sizes version t (set_value path name kind bytes) u ≡ value_list_sizes (length (head k).values)
+    ++ item_sizes version v
 set_needs version t u k path name kind bytes v found item =
-    ap (λ (o : Option Tree). option_map_or (λ z. value_list_sizes (length (head z).values)) o [] ++ option_map_or (λ z. option_map_or (item_sizes version) (find_item name z) []) o []) found
-    ∙ ap (λ (o : Option Item). value_list_sizes (length (head k).values) ++ option_map_or (item_sizes version) o []) item
+    ap (λ (o : Option Tree). option_map_or (λ z. value_list_sizes (length (head z).values)) o []
+    ++ option_map_or (λ z. option_map_or (item_sizes version) (find_item name z) []) o []) found
+    ∙ ap (λ (o : Option Item). value_list_sizes (length (head k).values) ++ option_map_or (item_sizes version) o [])
+    item
 
 -- the size of the list that a value that is deleted may need
 pub delete_needs : (version : HiveVersion) (t u k : Tree) (path : List (List ℕ)) (name : List ℕ)
@@ -185,13 +205,17 @@ pub added_needs : (version : HiveVersion) (u k w : Tree) (parent : List (List �
     → find_key parent u ≡ Some k → find (is_named name) (children k) ≡ Some w
     → added_sizes_in version parent name u ≡ list_sizes (length (children k)) ++ sizes version (head k).security w
 added_needs version u k w parent name found child =
-    ap (λ (o : Option Tree). option_map_or (λ z. list_sizes (length (children z))) o [] ++ option_map_or (λ z. option_map_or (sizes version (head z).security) (find (is_named name) (children z)) []) o []) found
-    ∙ ap (λ (o : Option Tree). list_sizes (length (children k)) ++ option_map_or (sizes version (head k).security) o []) child
+    ap (λ (o : Option Tree). option_map_or (λ z. list_sizes (length (children z))) o []
+    ++ option_map_or (λ z. option_map_or (sizes version (head z).security) (find (is_named name) (children z)) [])
+    o []) found
+    ∙ ap (λ (o : Option Tree). list_sizes (length (children k)) ++ option_map_or (sizes version (head k).security) o [])
+    child
 
 -- the sizes of the cells that a key that is made may need: the lists of the key above, and the key
 pub make_needs : (version : HiveVersion) (t u k w : Tree) (parent : List (List ℕ)) (name : List ℕ)
     → has_key parent name t ≡ false → find_key parent u ≡ Some k → find (is_named name) (children k) ≡ Some w
-    → needed_sizes version t (make_key parent name) u ≡ list_sizes (length (children k)) ++ sizes version (head k).security w
+    → needed_sizes version t (make_key parent name) u ≡ list_sizes (length (children k))
+    ++ sizes version (head k).security w
 make_needs version t u k w parent name absent found child =
     ap (λ (v : Bool). cond v [] (added_sizes_in version parent name u)) absent
     ∙ added_needs version u k w parent name found child

@@ -33,18 +33,22 @@ rooted b c root tb t step from to well changes touches rest names same no_child 
 
     at_root : (p : List (List ℕ)) (y : ℕ) → Reaches b root p y → Folds [] p → IsKept b c (IsNew b root t step) y
     at_root p y h k =
-        subst (IsKept b c (IsNew b root t step)) (sym (place_one b root [] p [] y root sound k tt h refl)) (relisted_kept b c (IsNew b root t step) root listed)
+        subst (IsKept b c (IsNew b root t step)) (sym (place_one b root [] p [] y root sound k tt h refl))
+        (relisted_kept b c (IsNew b root t step) root listed)
 
     go : (p : List (List ℕ)) (y : ℕ) → Reaches b root p y → Reaches c root p y → Folds [] p ⊎ (Folds [] p → ⊥)
         → Folds [] p ⊎ (Folds (from ∷ []) p ⊎ Folds (to ∷ []) p) → IsKept b c (IsNew b root t step) y
     go p y h g (inl k) d = at_root p y h k
     go p y h g (inr never) (inl k) = at_root p y h k
     go p y h g (inr never) (inr (inl k)) =
-        let s = near_same b c root tb t step well rest p y h (same p y h k) (λ role plain i. never (changes p role plain i)) in
+        let s = near_same b c root tb t step well rest p y h (same p y h k)
+        (λ role plain i. never (changes p role plain i)) in
         let placed = places_same b c y (s.each node y (λ z. z) refl) (λ o i. s.each lists o (λ z. z) i) in
-        kept_same b c (IsNew b root t step) y s (λ w i. names p y w h g i (subst (λ (l : List ℕ). In l w) (sym placed) i))
+        kept_same b c (IsNew b root t step) y s
+        (λ w i. names p y w h g i (subst (λ (l : List ℕ). In l w) (sym placed) i))
     go p y h g (inr never) (inr (inr k)) =
-        absurd (not_through b root [] [] to root sound tt refl no_child (through b [] to p root y (folds_extends (to ∷ []) p k) h))
+        absurd (not_through b root [] [] to root sound tt refl no_child
+        (through b [] to p root y (folds_extends (to ∷ []) p k) h))
 
 pub copied_framed : (b c : Cells) (root : ℕ) (tb t : Tree) (from to : List ℕ) → IsWellFormed b root tb
     → LeavesOthers b c root t (copy_child from to) → KeepsNames b c root
@@ -75,7 +79,8 @@ pub added_framed : (b c : Cells) (root : ℕ) (tb t k : Tree) (name : List ℕ) 
     → IsRelisted b c (IsNew b root t (add_child name k)) root → IsFramed b c root t (add_child name k)
 added_framed b c root tb t k name well rest names no_child listed =
     rooted b c root tb t (add_child name k) name name well (λ p r plain h. h.0) touches rest names
-    (λ p x h f. absurd (not_through b root [] [] name root (sound_hive b root tb well).all tt refl no_child (through b [] name p root x (folds_extends (name ∷ []) p f) h))) no_child listed
+    (λ p x h f. absurd (not_through b root [] [] name root (sound_hive b root tb well).all tt refl no_child
+    (through b [] name p root x (folds_extends (name ∷ []) p f) h))) no_child listed
   where
     near : (p key : List (List ℕ)) → In ((name ∷ []) ∷ []) key → Folds key p ⊎ Folds (parent_of key) p
         → Folds [] p ⊎ (Folds (name ∷ []) p ⊎ Folds (name ∷ []) p)

@@ -27,11 +27,13 @@ same_reading form b c at e = ap (λ r. r >>= form) e
 
 pub same_name : (b c : Cells) (at : ℕ) → c.payload at ≡ b.payload at → node_name c at ≡ node_name b at
 same_name b c at e =
-    ap (λ (r : Result KeyNode HiveKind). first_or_empty (names_of (λ (n : KeyNode). n.name) r)) (same_reading key_node_at b c at e)
+    ap (λ (r : Result KeyNode HiveKind). first_or_empty (names_of (λ (n : KeyNode). n.name) r))
+    (same_reading key_node_at b c at e)
 
 pub same_value_name : (b c : Cells) (at : ℕ) → c.payload at ≡ b.payload at → value_name c at ≡ value_name b at
 same_value_name b c at e =
-    ap (λ (r : Result KeyValue HiveKind). first_or_empty (names_of (λ (v : KeyValue). v.name) r)) (same_reading key_value_at b c at e)
+    ap (λ (r : Result KeyValue HiveKind). first_or_empty (names_of (λ (v : KeyValue). v.name) r))
+    (same_reading key_value_at b c at e)
 
 -- the cells that are used as a form do not matter to which they are
 class_used : (b c : Cells) (n : KeyNode) → used_in (class_checks c n) ≡ used_in (class_checks b n)
@@ -39,7 +41,8 @@ unfolding class_checks
 class_used b c n = go (n.class_length == 0)
   where
     go : (t : Bool)
-        → used_in (cond t [] (use_as false (bytes_in n.class_length) c n.class)) ≡ used_in (cond t [] (use_as false (bytes_in n.class_length) b n.class))
+        → used_in (cond t [] (use_as false (bytes_in n.class_length) c n.class))
+        ≡ used_in (cond t [] (use_as false (bytes_in n.class_length) b n.class))
     go true = refl
     go false = refl
 
@@ -48,7 +51,8 @@ unfolding security_checks
 security_used b c n = go (n.security == nowhere)
   where
     go : (t : Bool)
-        → used_in (cond t [] (use_as true security_at c n.security)) ≡ used_in (cond t [] (use_as true security_at b n.security))
+        → used_in (cond t [] (use_as true security_at c n.security))
+        ≡ used_in (cond t [] (use_as true security_at b n.security))
     go true = refl
     go false = refl
 
@@ -62,7 +66,9 @@ big_used : (b c : Cells) (n at : ℕ) → ((o : ℕ) → In (used_in (big_checks
     → used_in (big_checks c n at) ≡ used_in (big_checks b n at)
 unfolding big_checks
 big_used b c n at h =
-    ap (λ (l : List ℕ). at ∷ l) (ap (λ (q : Result BigData HiveKind). used_in (below_of q (behind_big c n))) (same_reading (big_data_of n) b c at (h at (inl refl)))
+    ap (λ (l : List ℕ). at ∷ l)
+    (ap (λ (q : Result BigData HiveKind). used_in (below_of q (behind_big c n)))
+    (same_reading (big_data_of n) b c at (h at (inl refl)))
     ∙ one (reading (big_data_of n) b at) (λ o i. h o (inr i)))
   where
     two : (q : Result (List ℕ) HiveKind)
@@ -75,7 +81,8 @@ big_used b c n at h =
         → used_in (below_of q (behind_big c n)) ≡ used_in (below_of q (behind_big b n))
     one (Ok big) h =
         ap (λ (l : List ℕ). big.list ∷ l)
-        (ap (λ (q : Result (List ℕ) HiveKind). used_in (below_of q (segments_checks c n))) (same_reading (offsets_in big.segments) b c big.list (h big.list (inl refl)))
+        (ap (λ (q : Result (List ℕ) HiveKind). used_in (below_of q (segments_checks c n)))
+        (same_reading (offsets_in big.segments) b c big.list (h big.list (inl refl)))
         ∙ two (reading (offsets_in big.segments) b big.list))
     one (Err k) h = refl
 
@@ -88,10 +95,13 @@ data_used b c v e h =
   where
     by_version : HiveVersion → List Check
     by_version n =
-        cond (is_some (data_inside v)) [] (cond (is_big n v.size) (big_checks c v.size v.offset) (use_as false (bytes_in v.size) c v.offset))
+        cond (is_some (data_inside v)) []
+        (cond (is_big n v.size) (big_checks c v.size v.offset) (use_as false (bytes_in v.size) c v.offset))
 
     go : (t u : Bool)
-        → ((o : ℕ) → In (used_in (cond t [] (cond u (big_checks b v.size v.offset) (use_as false (bytes_in v.size) b v.offset)))) o → c.payload o ≡ b.payload o)
+        → ((o : ℕ) → In (used_in (cond t []
+        (cond u (big_checks b v.size v.offset) (use_as false (bytes_in v.size) b v.offset)))) o
+        → c.payload o ≡ b.payload o)
         → used_in (cond t [] (cond u (big_checks c v.size v.offset) (use_as false (bytes_in v.size) c v.offset)))
         ≡ used_in (cond t [] (cond u (big_checks b v.size v.offset) (use_as false (bytes_in v.size) b v.offset)))
     go true u h = refl
@@ -110,12 +120,17 @@ pub value_used_same : (b c : Cells) (v : ℕ) → c.version ≡ b.version → Is
     → used_in (value_checks c [] v) ≡ used_in (value_checks b [] v)
 unfolding value_checks
 value_used_same b c v e h =
-    ap (λ (l : List ℕ). v ∷ l) (ap (λ (q : Result KeyValue HiveKind). used_in (below_of q (λ value. name_check [] v value.name ∷ data_checks c value))) (same_reading key_value_at b c v (h v (inl refl)))
+    ap (λ (l : List ℕ). v ∷ l)
+    (ap (λ (q : Result KeyValue HiveKind). used_in
+    (below_of q (λ value. name_check [] v value.name ∷ data_checks c value)))
+    (same_reading key_value_at b c v (h v (inl refl)))
     ∙ one (reading key_value_at b v) (λ o i. h o (inr i)))
   where
     one : (q : Result KeyValue HiveKind)
-        → ((o : ℕ) → In (used_in (below_of q (λ value. name_check [] v value.name ∷ data_checks b value))) o → c.payload o ≡ b.payload o)
-        → used_in (below_of q (λ value. name_check [] v value.name ∷ data_checks c value)) ≡ used_in (below_of q (λ value. name_check [] v value.name ∷ data_checks b value))
+        → ((o : ℕ) → In (used_in (below_of q (λ value. name_check [] v value.name ∷ data_checks b value))) o
+        → c.payload o ≡ b.payload o)
+        → used_in (below_of q (λ value. name_check [] v value.name ∷ data_checks c value))
+        ≡ used_in (below_of q (λ value. name_check [] v value.name ∷ data_checks b value))
     one (Ok x) h = data_used b c x e h
     one (Err k) h = refl
 
@@ -123,7 +138,10 @@ pub entries_used : (b c : Cells) (at : ℕ) → c.payload at ≡ b.payload at
     → used_in (entries_checks c at) ≡ used_in (entries_checks b at)
 unfolding entries_checks
 entries_used b c at e =
-    ap (λ (l : List ℕ). at ∷ l) (ap (λ (q : Result SubkeyList HiveKind). used_in (below_of q (λ list. if is_list_of_lists list.kind then leaves_checks c list.offsets else []))) (same_reading list_at b c at e)
+    ap (λ (l : List ℕ). at ∷ l)
+    (ap (λ (q : Result SubkeyList HiveKind). used_in
+    (below_of q (λ list. if is_list_of_lists list.kind then leaves_checks c list.offsets else [])))
+    (same_reading list_at b c at e)
     ∙ one (reading list_at b at))
   where
     two : (list : SubkeyList) (t : Bool)
@@ -132,7 +150,8 @@ entries_used b c at e =
     two list false = refl
 
     one : (q : Result SubkeyList HiveKind)
-        → used_in (below_of q (λ list. if is_list_of_lists list.kind then leaves_checks c list.offsets else [])) ≡ used_in (below_of q (λ list. if is_list_of_lists list.kind then leaves_checks b list.offsets else []))
+        → used_in (below_of q (λ list. if is_list_of_lists list.kind then leaves_checks c list.offsets else []))
+        ≡ used_in (below_of q (λ list. if is_list_of_lists list.kind then leaves_checks b list.offsets else []))
     one (Ok list) = two list (is_list_of_lists list.kind)
     one (Err k) = refl
 
@@ -140,8 +159,10 @@ joined_same : (b c : Cells) (offsets : List ℕ) → ((o : ℕ) → In offsets o
     → joined_at c offsets ≡ joined_at b offsets
 joined_same b c [] h = refl
 joined_same b c (at ∷ rest) h =
-    ap (λ (q : Result (List ℕ) HiveKind). q >>= λ xs. joined_at c rest >>= λ ys. Ok (xs ++ ys)) (same_reading leaf_at b c at (h at (inl refl)))
-    ∙ ap (λ (q : Result (List ℕ) HiveKind). reading leaf_at b at >>= λ xs. q >>= λ ys. Ok (xs ++ ys)) (joined_same b c rest (λ o i. h o (inr i)))
+    ap (λ (q : Result (List ℕ) HiveKind). q >>= λ xs. joined_at c rest >>= λ ys. Ok (xs ++ ys))
+    (same_reading leaf_at b c at (h at (inl refl)))
+    ∙ ap (λ (q : Result (List ℕ) HiveKind). reading leaf_at b at >>= λ xs. q >>= λ ys. Ok (xs ++ ys))
+    (joined_same b c rest (λ o i. h o (inr i)))
 
 leaf_in : (cells : Cells) (offsets : List ℕ) (o : ℕ) → In offsets o → In (used_in (leaves_checks cells offsets)) o
 leaf_in cells [] o h = absurd h
@@ -162,7 +183,9 @@ entries_same b c at h =
     two list false h = refl
 
     go : (q : Result SubkeyList HiveKind)
-        → ((o : ℕ) → In (used_in (below_of q (λ list. if is_list_of_lists list.kind then leaves_checks b list.offsets else []))) o → c.payload o ≡ b.payload o)
+        → ((o : ℕ) → In (used_in (below_of q
+        (λ list. if is_list_of_lists list.kind then leaves_checks b list.offsets else []))) o
+        → c.payload o ≡ b.payload o)
         → (q >>= entries_of c) ≡ (q >>= entries_of b)
     go (Ok list) h = two list (is_list_of_lists list.kind) h
     go (Err k) h = refl
@@ -188,19 +211,25 @@ pub security_same : (b c : Cells) (at : ℕ) → c.payload at ≡ b.payload at
     → security_cell_at c at ≡ security_cell_at b at
 unfolding security_cell_at
 security_same b c at e =
-    both_nodes b c at (λ n. used_in (security_checks c n)) (λ n. used_in (security_checks b n)) e (λ n r. security_used b c n)
+    both_nodes b c at (λ n. used_in (security_checks c n)) (λ n. used_in (security_checks b n)) e
+    (λ n r. security_used b c n)
 
 pub value_list_same : (b c : Cells) (at : ℕ) → c.payload at ≡ b.payload at → value_list_at c at ≡ value_list_at b at
 unfolding value_list_at
 value_list_same b c at e =
-    both_nodes b c at (λ k. if k.value_count == 0 then [] else k.value_list ∷ []) (λ k. if k.value_count == 0 then [] else k.value_list ∷ []) e (λ n r. refl)
+    both_nodes b c at (λ k. if k.value_count == 0 then [] else k.value_list ∷ [])
+    (λ k. if k.value_count == 0 then [] else k.value_list ∷ []) e (λ n r. refl)
 
 pub lists_same : (b c : Cells) (at : ℕ) → c.payload at ≡ b.payload at
     → ((o : ℕ) → In (list_cells_at b at) o → c.payload o ≡ b.payload o) → list_cells_at c at ≡ list_cells_at b at
 unfolding list_cells_at entries_checks
 lists_same b c at e h =
-    both_nodes b c at (λ m. if m.child_count == 0 then [] else used_in (entries_checks c m.child_list)) (λ m. if m.child_count == 0 then [] else used_in (entries_checks b m.child_list)) e
-    (λ n r. go n (n.child_count == 0) (λ o i. h o (subst (λ (xs : List ℕ). In xs o) (sym (of_node_is b at n (λ m. if m.child_count == 0 then [] else used_in (entries_checks b m.child_list)) r)) i)))
+    both_nodes b c at (λ m. if m.child_count == 0 then [] else used_in (entries_checks c m.child_list))
+    (λ m. if m.child_count == 0 then [] else used_in (entries_checks b m.child_list)) e
+    (λ n r. go n (n.child_count == 0)
+    (λ o i. h o (subst (λ (xs : List ℕ). In xs o)
+    (sym (of_node_is b at n (λ m. if m.child_count == 0 then [] else used_in (entries_checks b m.child_list)) r))
+    i)))
   where
     go : (n : KeyNode) (t : Bool)
         → ((o : ℕ) → In (cond t [] (used_in (entries_checks b n.child_list))) o → c.payload o ≡ b.payload o)
@@ -212,12 +241,17 @@ pub places_same : (b c : Cells) (at : ℕ) → c.payload at ≡ b.payload at
     → ((o : ℕ) → In (list_cells_at b at) o → c.payload o ≡ b.payload o) → child_places c at ≡ child_places b at
 unfolding list_cells_at child_places
 places_same b c at e h =
-    both_nodes b c at (λ m. if m.child_count == 0 then [] else of_read (entries_at c m.child_list) (λ os. os)) (λ m. if m.child_count == 0 then [] else of_read (entries_at b m.child_list) (λ os. os)) e
-    (λ n r. go n (n.child_count == 0) (λ o i. h o (subst (λ (xs : List ℕ). In xs o) (sym (of_node_is b at n (λ m. if m.child_count == 0 then [] else used_in (entries_checks b m.child_list)) r)) i)))
+    both_nodes b c at (λ m. if m.child_count == 0 then [] else of_read (entries_at c m.child_list) (λ os. os))
+    (λ m. if m.child_count == 0 then [] else of_read (entries_at b m.child_list) (λ os. os)) e
+    (λ n r. go n (n.child_count == 0)
+    (λ o i. h o (subst (λ (xs : List ℕ). In xs o)
+    (sym (of_node_is b at n (λ m. if m.child_count == 0 then [] else used_in (entries_checks b m.child_list)) r))
+    i)))
   where
     go : (n : KeyNode) (t : Bool)
         → ((o : ℕ) → In (cond t [] (used_in (entries_checks b n.child_list))) o → c.payload o ≡ b.payload o)
-        → cond t [] (of_read (entries_at c n.child_list) (λ os. os)) ≡ cond t [] (of_read (entries_at b n.child_list) (λ os. os))
+        → cond t [] (of_read (entries_at c n.child_list) (λ os. os))
+        ≡ cond t [] (of_read (entries_at b n.child_list) (λ os. os))
     go n true h = refl
     go n false h = ap (λ (q : Result (List ℕ) HiveKind). of_read q (λ os. os)) (entries_same b c n.child_list h)
 
@@ -225,14 +259,21 @@ pub value_places_same : (b c : Cells) (at : ℕ) → c.payload at ≡ b.payload 
     → ((o : ℕ) → In (value_list_at b at) o → c.payload o ≡ b.payload o) → value_places c at ≡ value_places b at
 unfolding value_list_at value_places
 value_places_same b c at e h =
-    both_nodes b c at (λ k. if k.value_count == 0 then [] else of_read (reading (offsets_in k.value_count) c k.value_list) (λ os. os)) (λ k. if k.value_count == 0 then [] else of_read (reading (offsets_in k.value_count) b k.value_list) (λ os. os)) e
-    (λ n r. go n (n.value_count == 0) (λ o i. h o (subst (λ (xs : List ℕ). In xs o) (sym (of_node_is b at n (λ k. if k.value_count == 0 then [] else k.value_list ∷ []) r)) i)))
+    both_nodes b c at (λ k. if k.value_count == 0 then [] else of_read
+    (reading (offsets_in k.value_count) c k.value_list) (λ os. os))
+    (λ k. if k.value_count == 0 then [] else of_read (reading (offsets_in k.value_count) b k.value_list) (λ os. os))
+    e
+    (λ n r. go n (n.value_count == 0)
+    (λ o i. h o (subst (λ (xs : List ℕ). In xs o)
+    (sym (of_node_is b at n (λ k. if k.value_count == 0 then [] else k.value_list ∷ []) r)) i)))
   where
     go : (n : KeyNode) (t : Bool) → ((o : ℕ) → In (cond t [] (n.value_list ∷ [])) o → c.payload o ≡ b.payload o)
-        → cond t [] (of_read (reading (offsets_in n.value_count) c n.value_list) (λ os. os)) ≡ cond t [] (of_read (reading (offsets_in n.value_count) b n.value_list) (λ os. os))
+        → cond t [] (of_read (reading (offsets_in n.value_count) c n.value_list) (λ os. os))
+        ≡ cond t [] (of_read (reading (offsets_in n.value_count) b n.value_list) (λ os. os))
     go n true h = refl
     go n false h =
-        ap (λ (q : Result (List ℕ) HiveKind). of_read q (λ os. os)) (same_reading (offsets_in n.value_count) b c n.value_list (h n.value_list (inl refl)))
+        ap (λ (q : Result (List ℕ) HiveKind). of_read q (λ os. os))
+        (same_reading (offsets_in n.value_count) b c n.value_list (h n.value_list (inl refl)))
 
 pub first_used : (cells : Cells) (v : ℕ) → In (used_in (value_checks cells [] v)) v
 unfolding value_checks
@@ -247,8 +288,11 @@ same_role b c at s security o h =
 same_role b c at s value_list o h =
     subst (λ (xs : List ℕ). In xs o) (value_list_same b c at (s.each node at (λ z. z) refl)) h
 same_role b c at s (value name) o h =
-    let listed = subst (λ (xs : List ℕ). In xs h.place) (value_places_same b c at (s.each node at (λ z. z) refl) (λ w i. s.each value_list w (λ z. z) i)) h.listed in
-    let there : IsValueSame b c h.place = λ w i. s.each (value (value_name b h.place)) w (λ z. z) (record { place = h.place; listed = listed; named = refl; used = i }) in
+    let listed = subst (λ (xs : List ℕ). In xs h.place)
+    (value_places_same b c at (s.each node at (λ z. z) refl) (λ w i. s.each value_list w (λ z. z) i)) h.listed in
+    let there : IsValueSame b c h.place =
+    λ w i. s.each (value (value_name b h.place)) w (λ z. z)
+    (record { place = h.place; listed = listed; named = refl; used = i }) in
     record {
       place = h.place;
       listed = listed;
@@ -256,14 +300,16 @@ same_role b c at s (value name) o h =
       used = subst (λ (xs : List ℕ). In xs o) (value_used_same b c h.place s.version there) h.used;
     }
 same_role b c at s lists o h =
-    subst (λ (xs : List ℕ). In xs o) (lists_same b c at (s.each node at (λ z. z) refl) (λ w i. s.each lists w (λ z. z) i)) h
+    subst (λ (xs : List ℕ). In xs o)
+    (lists_same b c at (s.each node at (λ z. z) refl) (λ w i. s.each lists w (λ z. z) i)) h
 
 -- ---- what is owned after a step, key by key
 
 -- a key's children after the step were its children, or are new with all below them; and its cells were its own, or are new
 pub record IsKept (b c : Cells) (New : ℕ → Type 0) (x : ℕ) : Type 0 where
   pub child : (y : ℕ) → In (child_places c x) y
-      → (In (child_places b x) y × (node_name c y ≡ node_name b y)) ⊎ ((p : List (List ℕ)) (r : Role) (o : ℕ) → Owns c y p r o → New o)
+      → (In (child_places b x) y × (node_name c y ≡ node_name b y))
+      ⊎ ((p : List (List ℕ)) (r : Role) (o : ℕ) → Owns c y p r o → New o)
   pub role : (r : Role) (o : ℕ) → HasRole c x r o → HasRole b x r o ⊎ New o
 
 -- where each key that is at its path before and after is kept, what is owned after was owned before, or is new
@@ -271,15 +317,18 @@ pub owned_frame : (b c : Cells) (New : ℕ → Type 0) (p : List (List ℕ)) (at
     → ((q : List (List ℕ)) (y : ℕ) → Reaches b at q y → Reaches c at q y → IsKept b c New y) → Reaches c at p x
     → HasRole c x r o → Owns b at p r o ⊎ New o
 owned_frame b c New [] at x r o kept e h =
-    ⊎_elim (λ i. inl (record { at = at; reached = refl; has = i })) (λ n. inr n) ((kept [] at refl refl).role r o (subst (λ (z : ℕ). HasRole c z r o) (sym e) h))
+    ⊎_elim (λ i. inl (record { at = at; reached = refl; has = i })) (λ n. inr n)
+    ((kept [] at refl refl).role r o (subst (λ (z : ℕ). HasRole c z r o) (sym e) h))
 owned_frame b c New (m ∷ p) at x r o kept e h =
-    go (λ i s. owned_frame b c New p e.0 x r o (λ q y w z. kept (m ∷ q) y (e.0, i, sym s ∙ e.2, w) (e.0, e.1, e.2, z)) e.3 h) ((kept [] at refl refl).child e.0 e.1)
+    go (λ i s. owned_frame b c New p e.0 x r o (λ q y w z. kept (m ∷ q) y (e.0, i, sym s ∙ e.2, w) (e.0, e.1, e.2, z))
+    e.3 h) ((kept [] at refl refl).child e.0 e.1)
   where
     up : In (child_places b at) e.0 → node_name c e.0 ≡ node_name b e.0 → Owns b e.0 p r o → Owns b at (m ∷ p) r o
     up i s w = record { at = w.at; reached = (e.0, i, sym s ∙ e.2, w.reached); has = w.has }
 
     go : (In (child_places b at) e.0 → node_name c e.0 ≡ node_name b e.0 → Owns b e.0 p r o ⊎ New o)
-        → (In (child_places b at) e.0 × (node_name c e.0 ≡ node_name b e.0)) ⊎ ((p : List (List ℕ)) (r : Role) (o : ℕ) → Owns c e.0 p r o → New o)
+        → (In (child_places b at) e.0 × (node_name c e.0 ≡ node_name b e.0))
+        ⊎ ((p : List (List ℕ)) (r : Role) (o : ℕ) → Owns c e.0 p r o → New o)
         → Owns b at (m ∷ p) r o ⊎ New o
     go deep (inl i) = ⊎_elim (λ w. inl (up i.0 i.1 w)) (λ n. inr n) (deep i.0 i.1)
     go deep (inr new) = inr (new p r o (record { at = x; reached = e.3; has = h }))
@@ -288,6 +337,7 @@ owned_frame b c New (m ∷ p) at x r o kept e h =
 pub kept_same : (b c : Cells) (New : ℕ → Type 0) (x : ℕ) → IsSame b c x
     → ((y : ℕ) → In (child_places b x) y → node_name c y ≡ node_name b y) → IsKept b c New x
 kept_same b c New x s names = record {
-  child = λ y i. let j = subst (λ (xs : List ℕ). In xs y) (places_same b c x (s.each node x (λ z. z) refl) (λ w k. s.each lists w (λ z. z) k)) i in inl (j, names y j);
+  child = λ y i. let j = subst (λ (xs : List ℕ). In xs y)
+      (places_same b c x (s.each node x (λ z. z) refl) (λ w k. s.each lists w (λ z. z) k)) i in inl (j, names y j);
   role = λ r o h. inl (same_role b c x s r o h);
 }

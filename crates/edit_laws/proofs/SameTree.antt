@@ -29,16 +29,19 @@ segments_same : (b c : Cells) (n : ℕ) (offsets : List ℕ)
     → joined_segments c n offsets ≡ joined_segments b n offsets
 segments_same b c n [] h = refl
 segments_same b c n (at ∷ rest) h =
-    ap (λ (r : Result (List ℕ) HiveKind). r >>= λ bytes. joined_segments c (n - segment_bytes) rest >>= λ others. Ok (bytes ++ others))
+    ap (λ (r : Result (List ℕ) HiveKind). r >>= λ bytes. joined_segments c (n - segment_bytes) rest >>= λ others. Ok
+    (bytes ++ others))
     (same_reading (bytes_in (segment_part n)) b c at (h at (inl refl)))
-    ∙ ap (λ (r : Result (List ℕ) HiveKind). reading (bytes_in (segment_part n)) b at >>= λ bytes. r >>= λ others. Ok (bytes ++ others))
+    ∙ ap (λ (r : Result (List ℕ) HiveKind). reading (bytes_in (segment_part n)) b at >>= λ bytes. r >>= λ others. Ok
+    (bytes ++ others))
     (segments_same b c (n - segment_bytes) rest (λ o i. h o (inr i)))
 
 big_same : (b c : Cells) (n at : ℕ) → ((o : ℕ) → In (used_in (big_checks b n at)) o → c.payload o ≡ b.payload o)
     → big_bytes_at c n at ≡ big_bytes_at b n at
 unfolding big_checks big_bytes_at
 big_same b c n at h =
-    ap (λ (r : Result BigData HiveKind). r >>= λ big. reading (offsets_in big.segments) c big.list >>= joined_segments c n) (same_reading (big_data_of n) b c at (h at (inl refl)))
+    ap (λ (r : Result BigData HiveKind). r >>= λ big. reading (offsets_in big.segments)
+    c big.list >>= joined_segments c n) (same_reading (big_data_of n) b c at (h at (inl refl)))
     ∙ one (reading (big_data_of n) b at) (λ o i. h o (inr i))
   where
     two : (r : Result (List ℕ) HiveKind)
@@ -52,7 +55,8 @@ big_same b c n at h =
         → (r >>= λ big. reading (offsets_in big.segments) c big.list >>= joined_segments c n)
         ≡ (r >>= λ big. reading (offsets_in big.segments) b big.list >>= joined_segments b n)
     one (Ok big) h =
-        ap (λ (r : Result (List ℕ) HiveKind). r >>= joined_segments c n) (same_reading (offsets_in big.segments) b c big.list (h big.list (inl refl)))
+        ap (λ (r : Result (List ℕ) HiveKind). r >>= joined_segments c n)
+        (same_reading (offsets_in big.segments) b c big.list (h big.list (inl refl)))
         ∙ two (reading (offsets_in big.segments) b big.list) (λ o i. h o (inr i))
     one (Err k) h = refl
 
@@ -63,10 +67,13 @@ data_same b c v e h = ap (λ (n : HiveVersion). by_version n) e ∙ go (data_ins
   where
     by_version : HiveVersion → Result (List ℕ) HiveKind
     by_version n =
-        data_or (data_inside v) (cond (is_big n v.size) (big_bytes_at c v.size v.offset) (reading (bytes_in v.size) c v.offset))
+        data_or (data_inside v) (cond (is_big n v.size) (big_bytes_at c v.size v.offset)
+        (reading (bytes_in v.size) c v.offset))
 
     go : (t : Option (List ℕ)) (u : Bool)
-        → ((o : ℕ) → In (used_in (cond (is_some t) [] (cond u (big_checks b v.size v.offset) (use_as false (bytes_in v.size) b v.offset)))) o → c.payload o ≡ b.payload o)
+        → ((o : ℕ) → In (used_in (cond (is_some t) []
+        (cond u (big_checks b v.size v.offset) (use_as false (bytes_in v.size) b v.offset)))) o
+        → c.payload o ≡ b.payload o)
         → data_or t (cond u (big_bytes_at c v.size v.offset) (reading (bytes_in v.size) c v.offset))
         ≡ data_or t (cond u (big_bytes_at b v.size v.offset) (reading (bytes_in v.size) b v.offset))
     go (Some d) u h = refl
@@ -84,18 +91,22 @@ item_same b c v e h =
     ∙ one (reading key_value_at b v) (λ o i. h o (inr i))
   where
     one : (r : Result KeyValue HiveKind)
-        → ((o : ℕ) → In (used_in (below_of r (λ value. name_check [] v value.name ∷ data_checks b value))) o → c.payload o ≡ b.payload o)
+        → ((o : ℕ) → In (used_in (below_of r (λ value. name_check [] v value.name ∷ data_checks b value))) o
+        → c.payload o ≡ b.payload o)
         → (r >>= of_value c) ≡ (r >>= of_value b)
     one (Ok x) h =
-        ap (λ (r : Result (List ℕ) HiveKind). r >>= λ bytes. Ok (record { name = x.name; kind = x.kind; bytes = bytes })) (data_same b c x e h)
+        ap (λ (r : Result (List ℕ) HiveKind). r >>= λ bytes. Ok
+        (record { name = x.name; kind = x.kind; bytes = bytes })) (data_same b c x e h)
     one (Err k) h = refl
 
 pub items_same : (b c : Cells) (offsets : List ℕ) → c.version ≡ b.version
     → ((v : ℕ) → In offsets v → IsValueSame b c v) → items_at c offsets ≡ items_at b offsets
 items_same b c [] e h = refl
 items_same b c (at ∷ rest) e h =
-    ap (λ (r : Result Item HiveKind). r >>= λ item. items_at c rest >>= λ items. Ok (item ∷ items)) (item_same b c at e (h at (inl refl)))
-    ∙ ap (λ (r : Result (List Item) HiveKind). item_at b at >>= λ item. r >>= λ items. Ok (item ∷ items)) (items_same b c rest e (λ v i. h v (inr i)))
+    ap (λ (r : Result Item HiveKind). r >>= λ item. items_at c rest >>= λ items. Ok (item ∷ items))
+    (item_same b c at e (h at (inl refl)))
+    ∙ ap (λ (r : Result (List Item) HiveKind). item_at b at >>= λ item. r >>= λ items. Ok (item ∷ items))
+    (items_same b c rest e (λ v i. h v (inr i)))
 
 -- ---- a key
 
@@ -111,20 +122,23 @@ pub class_is : (cells : Cells) (at : ℕ) (n : KeyNode) → reading key_node_at 
 unfolding class_cell_at class_checks
 class_is cells at n read some =
     subst (λ (l : List ℕ). In l n.class) (sym (of_node_is cells at n (λ m. used_in (class_checks cells m)) read))
-    (subst (λ (b : Bool). In (used_in (cond b [] (use_as false (bytes_in n.class_length) cells n.class))) n.class) (sym some) (inl refl))
+    (subst (λ (b : Bool). In (used_in (cond b [] (use_as false (bytes_in n.class_length) cells n.class))) n.class)
+    (sym some) (inl refl))
 
 pub security_is : (cells : Cells) (at : ℕ) (n : KeyNode) → reading key_node_at cells at ≡ Ok n
     → (n.security == nowhere) ≡ false → In (security_cell_at cells at) n.security
 unfolding security_cell_at security_checks
 security_is cells at n read some =
     subst (λ (l : List ℕ). In l n.security) (sym (of_node_is cells at n (λ m. used_in (security_checks cells m)) read))
-    (subst (λ (b : Bool). In (used_in (cond b [] (use_as true security_at cells n.security))) n.security) (sym some) (inl refl))
+    (subst (λ (b : Bool). In (used_in (cond b [] (use_as true security_at cells n.security))) n.security) (sym some)
+    (inl refl))
 
 pub value_list_is : (cells : Cells) (at : ℕ) (n : KeyNode) → reading key_node_at cells at ≡ Ok n
     → (n.value_count == 0) ≡ false → In (value_list_at cells at) n.value_list
 unfolding value_list_at
 value_list_is cells at n read some =
-    subst (λ (l : List ℕ). In l n.value_list) (sym (of_node_is cells at n (λ k. if k.value_count == 0 then [] else k.value_list ∷ []) read))
+    subst (λ (l : List ℕ). In l n.value_list)
+    (sym (of_node_is cells at n (λ k. if k.value_count == 0 then [] else k.value_list ∷ []) read))
     (subst (λ (b : Bool). In (cond b [] (n.value_list ∷ [])) n.value_list) (sym some) (inl refl))
 
 -- the lists of a node that counts children
@@ -133,7 +147,9 @@ pub lists_are : (cells : Cells) (at : ℕ) (n : KeyNode) (o : ℕ) → reading k
     → In (list_cells_at cells at) o
 unfolding list_cells_at
 lists_are cells at n o read some h =
-    subst (λ (l : List ℕ). In l o) (sym (of_node_is cells at n (λ m. if m.child_count == 0 then [] else used_in (entries_checks cells m.child_list)) read))
+    subst (λ (l : List ℕ). In l o)
+    (sym (of_node_is cells at n
+    (λ m. if m.child_count == 0 then [] else used_in (entries_checks cells m.child_list)) read))
     (subst (λ (b : Bool). In (cond b [] (used_in (entries_checks cells n.child_list))) o) (sym some) h)
 
 -- the values of a node that counts some
@@ -155,25 +171,31 @@ unfolding class_of
 class_of_same b c n h = go (n.class_length == 0) h
   where
     go : (t : Bool) → (t ≡ false → c.payload n.class ≡ b.payload n.class)
-        → cond t (Ok []) (reading (bytes_in n.class_length) c n.class) ≡ cond t (Ok []) (reading (bytes_in n.class_length) b n.class)
+        → cond t (Ok []) (reading (bytes_in n.class_length) c n.class)
+        ≡ cond t (Ok []) (reading (bytes_in n.class_length) b n.class)
     go true h = refl
     go false h = same_reading (bytes_in n.class_length) b c n.class (h refl)
 
 pub security_of_same : (b c : Cells) (n : KeyNode)
-    → ((n.security == nowhere) ≡ false → (reading security_at c n.security >>= λ s. Ok s.descriptor) ≡ (reading security_at b n.security >>= λ s. Ok s.descriptor))
+    → ((n.security == nowhere) ≡ false
+    → (reading security_at c n.security >>= λ s. Ok s.descriptor)
+    ≡ (reading security_at b n.security >>= λ s. Ok s.descriptor))
     → security_of c n ≡ security_of b n
 unfolding security_of
 security_of_same b c n h = go (n.security == nowhere) h
   where
     go : (t : Bool)
-        → (t ≡ false → (reading security_at c n.security >>= λ s. Ok s.descriptor) ≡ (reading security_at b n.security >>= λ s. Ok s.descriptor))
-        → cond t (Ok []) (reading security_at c n.security >>= λ s. Ok s.descriptor) ≡ cond t (Ok []) (reading security_at b n.security >>= λ s. Ok s.descriptor)
+        → (t ≡ false → (reading security_at c n.security >>= λ s. Ok s.descriptor)
+        ≡ (reading security_at b n.security >>= λ s. Ok s.descriptor))
+        → cond t (Ok []) (reading security_at c n.security >>= λ s. Ok s.descriptor)
+        ≡ cond t (Ok []) (reading security_at b n.security >>= λ s. Ok s.descriptor)
     go true h = refl
     go false h = h refl
 
 pub values_of_same : (b c : Cells) (n : KeyNode) → c.version ≡ b.version
     → ((n.value_count == 0) ≡ false → c.payload n.value_list ≡ b.payload n.value_list)
-    → ((offsets : List ℕ) (v : ℕ) → (n.value_count == 0) ≡ false → reading (offsets_in n.value_count) b n.value_list ≡ Ok offsets → In offsets v → IsValueSame b c v)
+    → ((offsets : List ℕ) (v : ℕ) → (n.value_count == 0) ≡ false
+    → reading (offsets_in n.value_count) b n.value_list ≡ Ok offsets → In offsets v → IsValueSame b c v)
     → values_of c n ≡ values_of b n
 unfolding values_of
 values_of_same b c n e h each = go (n.value_count == 0) h each
@@ -185,15 +207,19 @@ values_of_same b c n e h each = go (n.value_count == 0) h each
     some (Err k) each = refl
 
     go : (t : Bool) → (t ≡ false → c.payload n.value_list ≡ b.payload n.value_list)
-        → ((offsets : List ℕ) (v : ℕ) → t ≡ false → reading (offsets_in n.value_count) b n.value_list ≡ Ok offsets → In offsets v → IsValueSame b c v)
-        → cond t (Ok []) (reading (offsets_in n.value_count) c n.value_list >>= items_at c) ≡ cond t (Ok []) (reading (offsets_in n.value_count) b n.value_list >>= items_at b)
+        → ((offsets : List ℕ) (v : ℕ) → t ≡ false → reading (offsets_in n.value_count) b n.value_list ≡ Ok offsets
+        → In offsets v → IsValueSame b c v)
+        → cond t (Ok []) (reading (offsets_in n.value_count) c n.value_list >>= items_at c)
+        ≡ cond t (Ok []) (reading (offsets_in n.value_count) b n.value_list >>= items_at b)
     go true h each = refl
     go false h each =
-        ap (λ (r : Result (List ℕ) HiveKind). r >>= items_at c) (same_reading (offsets_in n.value_count) b c n.value_list (h refl))
+        ap (λ (r : Result (List ℕ) HiveKind). r >>= items_at c)
+        (same_reading (offsets_in n.value_count) b c n.value_list (h refl))
         ∙ some (reading (offsets_in n.value_count) b n.value_list) (λ offsets v r i. each offsets v refl r i)
 
 pub children_same : (b c : Cells) (n : KeyNode) (offsets : List ℕ)
-    → ((n.child_count == 0) ≡ false → (o : ℕ) → In (used_in (entries_checks b n.child_list)) o → c.payload o ≡ b.payload o)
+    → ((n.child_count == 0) ≡ false → (o : ℕ) → In (used_in (entries_checks b n.child_list)) o
+    → c.payload o ≡ b.payload o)
     → ListsChildren b n offsets → ListsChildren c n offsets
 children_same b c n offsets h l = go (n.child_count == 0) h l
   where
@@ -213,12 +239,22 @@ key_same b c at h offsets k s = record {
   name = k.name;
   flags = k.flags;
   stamp = k.stamp;
-  class = class_of_same b c k.node (λ some. s.same.each class k.node.class (λ z. z) (class_is b at k.node k.read some)) ∙ k.class;
-  security = security_of_same b c k.node (λ some. s.security k.node.security (security_is b at k.node k.read some)) ∙ k.security;
-  values = values_of_same b c k.node s.same.version (λ some. s.same.each value_list k.node.value_list (λ z. z) (value_list_is b at k.node k.read some)) (λ os v some r i o used.
+  class = class_of_same b c k.node (λ some. s.same.each class k.node.class (λ z. z) (class_is b at k.node k.read some))
+      ∙ k.class;
+  security = security_of_same b c k.node (λ some. s.security k.node.security (security_is b at k.node k.read some))
+      ∙ k.security;
+  values = values_of_same b c k.node s.same.version
+      (λ some. s.same.each value_list k.node.value_list (λ z. z) (value_list_is b at k.node k.read some))
+      (λ os v some r i o used.
       s.same.each (value (value_name b v)) o (λ z. z)
-      (record { place = v; listed = subst (λ (l : List ℕ). In l v) (sym (values_are b at k.node os k.read some r)) i; named = refl; used = used })) ∙ k.values;
-  children = children_same b c k.node offsets (λ some o i. s.same.each lists o (λ z. z) (lists_are b at k.node o k.read some i)) k.children;
+      (record {
+        place = v;
+        listed = subst (λ (l : List ℕ). In l v) (sym (values_are b at k.node os k.read some r)) i;
+        named = refl;
+        used = used;
+      })) ∙ k.values;
+  children = children_same b c k.node offsets
+      (λ some o i. s.same.each lists o (λ z. z) (lists_are b at k.node o k.read some i)) k.children;
 }
 
 mutual
@@ -229,7 +265,8 @@ mutual
       let places = places_are b at h s.0 s.1 in (
         s.0,
         key_same b c at h s.0 s.1 (each [] at refl),
-        all_same b c s.0 ts s.2 (λ y i p x r. each (node_name b y ∷ p) x (y, subst (λ (l : List ℕ). In l y) (sym places) i, refl, r)),
+        all_same b c s.0 ts s.2 (λ y i p x r. each (node_name b y ∷ p) x
+            (y, subst (λ (l : List ℕ). In l y) (sym places) i, refl, r)),
       )
 
   pub all_same : (b c : Cells) (offsets : List ℕ) (ts : Trees) → AllStand b offsets ts
@@ -237,8 +274,14 @@ mutual
       → AllStand c offsets ts
   all_same b c offsets none e each = e
   all_same b c offsets (more t ts) a each =
-      let each_of : (y : ℕ) → In (a.0 ∷ a.1) y → (p : List (List ℕ)) (x : ℕ) → Reaches b y p x → IsSameKey b c x = λ y i. each y (subst (λ (l : List ℕ). In l y) (sym a.2) i) in
-      (a.0, a.1, a.2, tree_same b c a.0 t a.3 (each_of a.0 (inl refl)), all_same b c a.1 ts a.4 (λ y i. each_of y (inr i)))
+      let each_of : (y : ℕ) → In (a.0 ∷ a.1) y → (p : List (List ℕ)) (x : ℕ) → Reaches b y p x → IsSameKey b c x =
+      λ y i. each y (subst (λ (l : List ℕ). In l y) (sym a.2) i) in (
+        a.0,
+        a.1,
+        a.2,
+        tree_same b c a.0 t a.3 (each_of a.0 (inl refl)),
+        all_same b c a.1 ts a.4 (λ y i. each_of y (inr i)),
+      )
 
 -- ---- uses
 
@@ -252,17 +295,27 @@ values_used_same b c (at ∷ rest) e h =
 -- a key whose cells are the same uses the same values
 pub value_cells_same : (b c : Cells) (at : ℕ) → IsSame b c at → all_value_cells c at ≡ all_value_cells b at
 value_cells_same b c at s =
-    ap (λ (l : List ℕ). l ++ cells_of_values c (value_places c at)) (value_list_same b c at (s.each node at (λ z. z) refl))
-    ∙ ap (λ (l : List ℕ). value_list_at b at ++ cells_of_values c l) (value_places_same b c at (s.each node at (λ z. z) refl) (λ o i. s.each value_list o (λ z. z) i))
+    ap (λ (l : List ℕ). l ++ cells_of_values c (value_places c at))
+    (value_list_same b c at (s.each node at (λ z. z) refl))
+    ∙ ap (λ (l : List ℕ). value_list_at b at ++ cells_of_values c l)
+    (value_places_same b c at (s.each node at (λ z. z) refl) (λ o i. s.each value_list o (λ z. z) i))
     ∙ ap (λ (l : List ℕ). value_list_at b at ++ l) (values_used_same b c (value_places b at) s.version
-    (λ v i o used. s.each (value (value_name b v)) o (λ z. z) (record { place = v; listed = i; named = refl; used = used })))
+    (λ v i o used. s.each (value (value_name b v)) o (λ z. z)
+    (record { place = v; listed = i; named = refl; used = used })))
 
 pub own_same : (b c : Cells) (at : ℕ) → IsSame b c at → own_uses c at ≡ own_uses b at
 own_same b c at s =
-    ap (λ (l : List ℕ). (at, false) ∷ (plain l ++ (secure (security_cell_at c at) ++ (plain (all_value_cells c at) ++ plain (list_cells_at c at))))) (class_same b c at (s.each node at (λ z. z) refl))
-    ∙ ap (λ (l : List ℕ). (at, false) ∷ (plain (class_cell_at b at) ++ (secure l ++ (plain (all_value_cells c at) ++ plain (list_cells_at c at))))) (security_same b c at (s.each node at (λ z. z) refl))
-    ∙ ap (λ (l : List ℕ). (at, false) ∷ (plain (class_cell_at b at) ++ (secure (security_cell_at b at) ++ (plain l ++ plain (list_cells_at c at))))) (value_cells_same b c at s)
-    ∙ ap (λ (l : List ℕ). (at, false) ∷ (plain (class_cell_at b at) ++ (secure (security_cell_at b at) ++ (plain (all_value_cells b at) ++ plain l))))
+    ap (λ (l : List ℕ). (at, false)
+    ∷ (plain l ++ (secure (security_cell_at c at) ++ (plain (all_value_cells c at) ++ plain (list_cells_at c at)))))
+    (class_same b c at (s.each node at (λ z. z) refl))
+    ∙ ap (λ (l : List ℕ). (at, false)
+    ∷ (plain (class_cell_at b at) ++ (secure l ++ (plain (all_value_cells c at) ++ plain (list_cells_at c at)))))
+    (security_same b c at (s.each node at (λ z. z) refl))
+    ∙ ap (λ (l : List ℕ). (at, false)
+    ∷ (plain (class_cell_at b at) ++ (secure (security_cell_at b at) ++ (plain l ++ plain (list_cells_at c at)))))
+    (value_cells_same b c at s)
+    ∙ ap (λ (l : List ℕ). (at, false)
+    ∷ (plain (class_cell_at b at) ++ (secure (security_cell_at b at) ++ (plain (all_value_cells b at) ++ plain l))))
     (lists_same b c at (s.each node at (λ z. z) refl) (λ o i. s.each lists o (λ z. z) i))
 
 -- a key that is the same has its children where they were
@@ -283,7 +336,9 @@ pub uses_same : (left : ℕ) (b c : Cells) (at : ℕ) → ((p : List (List ℕ))
     → tree_uses left c at ≡ tree_uses left b at
 uses_same zero b c at each = refl
 uses_same (suc left) b c at each =
-    ap (λ (l : List (ℕ × Bool)). l ++ flat_map (tree_uses left c) (child_places c at)) (own_same b c at (each [] at refl).same)
+    ap (λ (l : List (ℕ × Bool)). l ++ flat_map (tree_uses left c) (child_places c at))
+    (own_same b c at (each [] at refl).same)
     ∙ ap (λ (l : List ℕ). own_uses b at ++ flat_map (tree_uses left c) l) (places_kept b c at (each [] at refl).same)
     ∙ ap (λ (l : List (ℕ × Bool)). own_uses b at ++ l)
-    (uses_over left b c (child_places b at) (λ y i. uses_same left b c y (λ p x r. each (node_name b y ∷ p) x (y, i, refl, r))))
+    (uses_over left b c (child_places b at)
+    (λ y i. uses_same left b c y (λ p x r. each (node_name b y ∷ p) x (y, i, refl, r))))

@@ -35,7 +35,8 @@ abbrev pub with_numbers : KeyValue → ℕ → ℕ → ℕ → KeyValue
 with_numbers value size offset kind = record value { size = size; offset = offset; kind = kind }
 
 -- where the value of a name is, in its key's list, and what is read there
-pub record IsFound (b : Cells) (root : ℕ) (t : Tree) (path : List (List ℕ)) (name : List ℕ) (x v : ℕ) (p : List ℕ) : Type 0 where
+pub record IsFound (b : Cells) (root : ℕ) (t : Tree) (path : List (List ℕ)) (name : List ℕ) (x v : ℕ)
+    (p : List ℕ) : Type 0 where
   pub stored : List (List ℕ)
   pub reached : Reaches b root stored x
   pub node : KeyNode
@@ -93,7 +94,8 @@ pub set_inside : (b c : Cells) (root : ℕ) (t u : Tree) (path : List (List ℕ)
     → kind < 2 ^ 32 → is_overfull size ≡ false
     → ((value : KeyValue) → data_inside (with_numbers value size offset kind) ≡ Some bytes)
     → IsDone b c root t u (set_value path name kind bytes)
-set_inside b c root t u path name kind bytes x v size offset p well ok at found held version new others ls lo lk fits inside =
+set_inside b c root t u path name kind bytes x v size offset p well ok at found held version new others ls lo lk fits
+    inside =
     a_value_set b c root t u path name kind bytes x v f.front (v ∷ []) f.back well ok at f.named
     (gets_data b c root t f.stored x f.node well f.reached f.read f.front f.back v f.places kind bytes g)
   where
@@ -105,7 +107,8 @@ set_inside b c root t u path name kind bytes x v size offset p well ok at found 
         ap (λ (r : Result (List ℕ) HiveKind). r >>= key_value_at) new
         ∙ value_written p f.value size offset kind f.form ls lo lk fits
 
-    data_there : (used_in (data_checks c (with_numbers f.value size offset kind)) ≡ []) × (data_of c (with_numbers f.value size offset kind) ≡ Ok bytes)
+    data_there : (used_in (data_checks c (with_numbers f.value size offset kind)) ≡ [])
+        × (data_of c (with_numbers f.value size offset kind) ≡ Ok bytes)
     data_there = data_held_inside c (with_numbers f.value size offset kind) bytes (inside f.value)
 
     uses_new : used_in (value_checks c [] v) ≡ v ∷ []
@@ -115,9 +118,12 @@ set_inside b c root t u path name kind bytes x v size offset p well ok at found 
     g : GetsData b c v kind bytes
     g = record {
       version = version;
-      reads = item_is c v (with_numbers f.value size offset kind) bytes read_new data_there.1 ∙ (λ i. Ok (item (sym (name_of_value b v f.value f.there) i) kind bytes));
-      others = λ o q h out. others o q h (λ e. out (subst (In (used_in (value_checks b [] v))) (sym e) (first_used b v)));
-      used = λ o i. inl (⊎_elim (λ (e : v ≡ o). subst (In (used_in (value_checks b [] v))) e (first_used b v)) (λ (z : ⊥). absurd z) (subst (λ (l : List ℕ). In l o) uses_new i));
+      reads = item_is c v (with_numbers f.value size offset kind) bytes read_new data_there.1
+          ∙ (λ i. Ok (item (sym (name_of_value b v f.value f.there) i) kind bytes));
+      others = λ o q h out. others o q h
+          (λ e. out (subst (In (used_in (value_checks b [] v))) (sym e) (first_used b v)));
+      used = λ o i. inl (⊎_elim (λ (e : v ≡ o). subst (In (used_in (value_checks b [] v))) e (first_used b v))
+          (λ (z : ⊥). absurd z) (subst (λ (l : List ℕ). In l o) uses_new i));
       once = subst (Pairwise (λ y z. y ≡ z → ⊥)) (sym uses_new) (single v);
     }
 
@@ -131,7 +137,8 @@ pub set_in_cell : (b c : Cells) (root : ℕ) (t u : Tree) (path : List (List ℕ
     → In (used_in (value_checks b [] v)) y ⊎ IsUnheld b y → (v ≡ y → ⊥) → size < 2 ^ 32 → y < 2 ^ 32 → kind < 2 ^ 32
     → is_overfull size ≡ false → ((value : KeyValue) → data_inside (with_numbers value size y kind) ≡ None)
     → is_big b.version size ≡ false → IsDone b c root t u (set_value path name kind bytes)
-set_in_cell b c root t u path name kind bytes x v y size p d well ok at found held version new there data_read others mine apart ls lo lk fits outside small =
+set_in_cell b c root t u path name kind bytes x v y size p d well ok at found held version new there data_read others
+    mine apart ls lo lk fits outside small =
     a_value_set b c root t u path name kind bytes x v f.front (v ∷ []) f.back well ok at f.named
     (gets_data b c root t f.stored x f.node well f.reached f.read f.front f.back v f.places kind bytes g)
   where
@@ -143,7 +150,8 @@ set_in_cell b c root t u path name kind bytes x v y size p d well ok at found he
         ap (λ (r : Result (List ℕ) HiveKind). r >>= key_value_at) new
         ∙ value_written p f.value size y kind f.form ls lo lk fits
 
-    data_there : (used_in (data_checks c (with_numbers f.value size y kind)) ≡ y ∷ []) × (data_of c (with_numbers f.value size y kind) ≡ reading (bytes_in size) c y)
+    data_there : (used_in (data_checks c (with_numbers f.value size y kind)) ≡ y ∷ [])
+        × (data_of c (with_numbers f.value size y kind) ≡ reading (bytes_in size) c y)
     data_there =
         data_in_cell c (with_numbers f.value size y kind) (outside f.value) (ap (λ w. is_big w size) version ∙ small)
 
@@ -159,9 +167,13 @@ set_in_cell b c root t u path name kind bytes x v y size p d well ok at found he
     g = record {
       version = version;
       reads =
-          item_is c v (with_numbers f.value size y kind) bytes read_new (data_there.1 ∙ ap (λ (r : Result (List ℕ) HiveKind). r >>= bytes_in size) there ∙ data_read)
+          item_is c v (with_numbers f.value size y kind) bytes read_new
+          (data_there.1 ∙ ap (λ (r : Result (List ℕ) HiveKind). r >>= bytes_in size) there ∙ data_read)
           ∙ (λ i. Ok (item (sym (name_of_value b v f.value f.there) i) kind bytes));
       others = others;
       used = λ o i. either o (subst (λ (l : List ℕ). In l o) uses_new i);
-      once = subst (Pairwise (λ w z. w ≡ z → ⊥)) (sym uses_new) ((λ z i. ⊎_elim (λ (e : y ≡ z) (s : v ≡ z). apart (s ∙ sym e)) (λ (n : ⊥) (s : v ≡ z). absurd n) i), single y);
+      once = subst (Pairwise (λ w z. w ≡ z → ⊥)) (sym uses_new) (
+        (λ z i. ⊎_elim (λ (e : y ≡ z) (s : v ≡ z). apart (s ∙ sym e)) (λ (n : ⊥) (s : v ≡ z). absurd n) i),
+        single y,
+      );
     }

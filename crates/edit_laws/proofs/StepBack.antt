@@ -68,29 +68,44 @@ value_found cells name n x o sound i h = go (reading key_node_at cells x) refl h
     inner k offsets all here =
         let there = sound.value h.place (all h.place here) in
         let is : find (is_value_named cells name) offsets ≡ Some h.place =
-        found_one (is_value_named cells name) offsets h.place here (named_back name (λ (v : KeyValue). v.name) (reading key_value_at cells h.place) there.value there.read folds)
-        (λ z hz t. sound.one_value name z h.place (all z hz) (all h.place here) (named_so name (λ (v : KeyValue). v.name) (reading key_value_at cells z) t) folds) in
+        found_one (is_value_named cells name) offsets h.place here
+        (named_back name (λ (v : KeyValue). v.name) (reading key_value_at cells h.place)
+        there.value there.read folds)
+        (λ z hz t. sound.one_value name z h.place (all z hz) (all h.place here)
+        (named_so name (λ (v : KeyValue). v.name) (reading key_value_at cells z) t) folds) in
         subst (λ (f : Option ℕ). In (option_map_or (λ at. used_in (value_checks cells [] at)) f []) o) (sym is) h.used
 
     listed : (k : KeyNode) (r : Result (List ℕ) HiveKind)
         → ((w : ℕ) → In (of_read r (λ offsets. offsets)) w → In (value_places cells x) w)
         → In (of_read r (λ offsets. offsets)) h.place
-        → In (of_read r (λ offsets. option_map_or (λ at. used_in (value_checks cells [] at)) (find (is_value_named cells name) offsets) [])) o
+        → In (of_read r (λ offsets. option_map_or (λ at. used_in (value_checks cells [] at))
+        (find (is_value_named cells name) offsets) [])) o
     listed k (Ok offsets) all here = inner k offsets all here
     listed k (Err e) all here = absurd here
 
     some : (k : KeyNode) (b : Bool)
-        → ((w : ℕ) → In (cond b [] (of_read (reading (offsets_in k.value_count) cells k.value_list) (λ offsets. offsets))) w → In (value_places cells x) w)
+        → ((w : ℕ) → In (cond b []
+        (of_read (reading (offsets_in k.value_count) cells k.value_list) (λ offsets. offsets))) w
+        → In (value_places cells x) w)
         → In (cond b [] (of_read (reading (offsets_in k.value_count) cells k.value_list) (λ offsets. offsets))) h.place
-        → In (cond b [] (k.value_list ∷ of_read (reading (offsets_in k.value_count) cells k.value_list) (λ offsets. option_map_or (λ at. used_in (value_checks cells [] at)) (find (is_value_named cells name) offsets) []))) o
+        → In (cond b [] (k.value_list
+        ∷ of_read (reading (offsets_in k.value_count) cells k.value_list)
+        (λ offsets. option_map_or (λ at. used_in (value_checks cells [] at))
+        (find (is_value_named cells name) offsets) []))) o
     some k true all here = absurd here
     some k false all here = inr (listed k (reading (offsets_in k.value_count) cells k.value_list) all here)
 
     go : (q : Result KeyNode HiveKind) → reading key_node_at cells x ≡ q
-        → In (of_read q (λ k. if k.value_count == 0 then [] else of_read (reading (offsets_in k.value_count) cells k.value_list) (λ offsets. offsets))) h.place
-        → In (of_read q (λ k. if k.value_count == 0 then [] else k.value_list ∷ of_read (reading (offsets_in k.value_count) cells k.value_list) (λ offsets. option_map_or (λ at. used_in (value_checks cells [] at)) (find (is_value_named cells name) offsets) []))) o
+        → In (of_read q (λ k. if k.value_count == 0 then [] else of_read
+        (reading (offsets_in k.value_count) cells k.value_list) (λ offsets. offsets))) h.place
+        → In (of_read q (λ k. if k.value_count == 0 then [] else k.value_list
+        ∷ of_read (reading (offsets_in k.value_count) cells k.value_list)
+        (λ offsets. option_map_or (λ at. used_in (value_checks cells [] at))
+        (find (is_value_named cells name) offsets) []))) o
     go (Ok k) e here = some k (k.value_count == 0)
-        (λ w i. subst (λ (q : Result KeyNode HiveKind). In (of_read q (λ m. if m.value_count == 0 then [] else of_read (reading (offsets_in m.value_count) cells m.value_list) (λ offsets. offsets))) w) (sym e) i) here
+        (λ w i. subst (λ (q : Result KeyNode HiveKind). In
+        (of_read q (λ m. if m.value_count == 0 then [] else of_read
+        (reading (offsets_in m.value_count) cells m.value_list) (λ offsets. offsets))) w) (sym e) i) here
     go (Err k) e here = absurd here
 
 value_list_found : (cells : Cells) (name : List ℕ) (x o : ℕ) → In (value_list_at cells x) o
@@ -99,13 +114,15 @@ unfolding value_cells_at value_list_at
 value_list_found cells name x o h = go (reading key_node_at cells x) h
   where
     some : (k : KeyNode) (b : Bool) → In (cond b [] (k.value_list ∷ [])) o
-        → In (cond b [] (k.value_list ∷ of_read (reading (offsets_in k.value_count) cells k.value_list) (named_value_cells cells name))) o
+        → In (cond b [] (k.value_list
+        ∷ of_read (reading (offsets_in k.value_count) cells k.value_list) (named_value_cells cells name))) o
     some k true h = absurd h
     some k false (inl e) = inl e
     some k false (inr h) = absurd h
 
     go : (q : Result KeyNode HiveKind) → In (of_read q (λ k. if k.value_count == 0 then [] else k.value_list ∷ [])) o
-        → In (of_read q (λ k. if k.value_count == 0 then [] else k.value_list ∷ of_read (reading (offsets_in k.value_count) cells k.value_list) (named_value_cells cells name))) o
+        → In (of_read q (λ k. if k.value_count == 0 then [] else k.value_list
+        ∷ of_read (reading (offsets_in k.value_count) cells k.value_list) (named_value_cells cells name))) o
     go (Ok k) h = some k (k.value_count == 0) h
     go (Err k) h = absurd h
 
@@ -131,7 +148,8 @@ under_back cells root path name stored o r sound e owns =
     let there = named s.mid s.front s.folds s.reached in
     subst (λ (k : Option ℕ). IsUsed (option_map_or (key_checks (512 - length (name ∷ path)) cells false []) k []) o r)
     (sym (place_is cells (name ∷ path) s.front root s.mid sound.all s.folds s.reached))
-    (walk_back (512 - length (name ∷ path)) s.back cells false [] s.mid owns.at o r there.node below there.read (omega arith) s.below owns.has)
+    (walk_back (512 - length (name ∷ path)) s.back cells false [] s.mid owns.at o r there.node below there.read
+    (omega arith) s.below owns.has)
   where
     below_path : (p : List (List ℕ)) (at y : ℕ) → Reaches cells at p y → AllSound cells at → AllSound cells y
     below_path [] at y h all = subst (AllSound cells) h all
@@ -148,12 +166,15 @@ named_in : (cells : Cells) (root : ℕ) (step : Step) (path : List (List ℕ)) (
     → IsNamed step path r → Owns cells root path r o → In (named_nodes cells root step) o
 unfolding named_nodes
 named_in cells root step path r o all n owns =
-    in_flat_from (λ key. of_key cells root key (λ at. at ∷ []) ++ of_key cells root (parent_of key) (λ at. at ∷ [])) (named_keys step) o n.key n.named
+    in_flat_from (λ key. of_key cells root key (λ at. at ∷ []) ++ of_key cells root (parent_of key) (λ at. at ∷ []))
+    (named_keys step) o n.key n.named
     (⊎_elim
     (λ f. in_left (of_key cells root n.key (λ at. at ∷ [])) (of_key cells root (parent_of n.key) (λ at. at ∷ [])) o
-    (of_key_from cells root n.key path (λ at. at ∷ []) owns.at o all f owns.reached (node_back cells owns.at o r n.node owns.has)))
+    (of_key_from cells root n.key path (λ at. at ∷ []) owns.at o all f owns.reached
+    (node_back cells owns.at o r n.node owns.has)))
     (λ f. in_right (of_key cells root n.key (λ at. at ∷ [])) (of_key cells root (parent_of n.key) (λ at. at ∷ [])) o
-    (of_key_from cells root (parent_of n.key) path (λ at. at ∷ []) owns.at o all f owns.reached (node_back cells owns.at o r n.node owns.has)))
+    (of_key_from cells root (parent_of n.key) path (λ at. at ∷ []) owns.at o all f owns.reached
+    (node_back cells owns.at o r n.node owns.has)))
     n.folds)
 
 -- the root's own entries
@@ -173,24 +194,30 @@ changed_in cells root t u (delete_value at name) path r o sound ok c owns =
     (value_back cells name owns.at o r (sound.all.each path owns.at owns.reached) c.1 owns.has)
 changed_in cells root t u (make_key parent name) path r o sound ok c owns =
     subst (λ (b : Bool). In (cond b [] (of_key cells root parent (adding_cells cells))) o) (sym c.0)
-    (of_key_from cells root parent path (adding_cells cells) owns.at o sound.all c.1 owns.reached (adding_back cells owns.at o r c.2 owns.has))
+    (of_key_from cells root parent path (adding_cells cells) owns.at o sound.all c.1 owns.reached
+    (adding_back cells owns.at o r c.2 owns.has))
 changed_in cells root t u (delete_key at) path r o sound ok (inl c) owns =
     in_left (of_key cells root (parent_of at) (list_cells_at cells)) (used_in (checks_below cells root at)) o
-    (of_key_from cells root (parent_of at) path (list_cells_at cells) owns.at o sound.all c.0 owns.reached (lists_back cells owns.at o r c.1 owns.has))
+    (of_key_from cells root (parent_of at) path (list_cells_at cells) owns.at o sound.all c.0 owns.reached
+    (lists_back cells owns.at o r c.1 owns.has))
 changed_in cells root t u (delete_key []) path r o sound ok (inr c) owns = absurd cc
 changed_in cells root t u (delete_key (name ∷ at)) path r o sound ok (inr c) owns =
     let w = under_back cells root at name path o r sound c owns in
-    in_right (of_key cells root (parent_of (name ∷ at)) (list_cells_at cells)) (used_in (checks_below cells root (name ∷ at))) o
+    in_right (of_key cells root (parent_of (name ∷ at)) (list_cells_at cells))
+    (used_in (checks_below cells root (name ∷ at))) o
     (used_from (checks_below cells root (name ∷ at)) o w.way w.used)
 changed_in cells root t u (copy_child from to) path r o sound ok (inl c) owns =
     in_left (list_cells_at cells root) (security_used_in (checks_below cells root (from ∷ []))) o
-    (subst (λ (x : ℕ). In (list_cells_at cells x) o) (sym (root_is cells root path owns.at c.0 owns.reached)) (lists_back cells owns.at o r c.1 owns.has))
+    (subst (λ (x : ℕ). In (list_cells_at cells x) o) (sym (root_is cells root path owns.at c.0 owns.reached))
+    (lists_back cells owns.at o r c.1 owns.has))
 changed_in cells root t u (copy_child from to) path r o sound ok (inr c) owns =
     let w = under_back cells root [] from path o r sound c.0 owns in
     in_right (list_cells_at cells root) (security_used_in (checks_below cells root (from ∷ []))) o
-    (security_from (checks_below cells root (from ∷ [])) o (subst (λ (b : Bool). In (checks_below cells root (from ∷ [])) (uses o b)) (w.security c.1) w.used))
+    (security_from (checks_below cells root (from ∷ [])) o
+    (subst (λ (b : Bool). In (checks_below cells root (from ∷ [])) (uses o b)) (w.security c.1) w.used))
 changed_in cells root t u (add_child name k) path r o sound ok c owns =
-    subst (λ (x : ℕ). In (adding_cells cells x) o) (sym (root_is cells root path owns.at c.0 owns.reached)) (adding_back cells owns.at o r c.1 owns.has)
+    subst (λ (x : ℕ). In (adding_cells cells x) o) (sym (root_is cells root path owns.at c.0 owns.reached))
+    (adding_back cells owns.at o r c.1 owns.has)
 
 pub step_back : (cells : Cells) (root : ℕ) (t u : Tree) (step : Step) (o : ℕ) → IsSoundHive cells root
     → after_step step t ≡ Ok u → IsMatched cells root t step o → Contains (step_cells cells root t step) o
@@ -198,6 +225,8 @@ step_back cells root t u step o sound ok m = contains_from (step_cells cells roo
   where
     go : Matches t step m.path m.role → In (step_cells cells root t step) o
     go (inl n) =
-        in_left (named_nodes cells root step) (changed_cells cells root t step) o (named_in cells root step m.path m.role o sound.all n m.owns)
+        in_left (named_nodes cells root step) (changed_cells cells root t step) o
+        (named_in cells root step m.path m.role o sound.all n m.owns)
     go (inr c) =
-        in_right (named_nodes cells root step) (changed_cells cells root t step) o (changed_in cells root t u step m.path m.role o sound ok c m.owns)
+        in_right (named_nodes cells root step) (changed_cells cells root t step) o
+        (changed_in cells root t u step m.path m.role o sound ok c m.owns)

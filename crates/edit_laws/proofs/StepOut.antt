@@ -28,7 +28,13 @@ keyed : (cells : Cells) (root : ℕ) (path : List (List ℕ)) (listing : ℕ →
     → IsKeyed cells root path P o
 keyed cells root path listing P o each h =
     let k = of_key_to cells root path listing o h in let r = each k.0 k.2 in
-    record { stored = k.1.stored; role = r.0; folds = k.1.folds; owns = record { at = k.0; reached = k.1.reached; has = r.1 }; role_is = r.2 }
+    record {
+      stored = k.1.stored;
+      role = r.0;
+      folds = k.1.folds;
+      owns = record { at = k.0; reached = k.1.reached; has = r.1 };
+      role_is = r.2;
+    }
 
 -- paths put together
 pub reach_on : (cells : Cells) (p q : List (List ℕ)) (at y x : ℕ) → Reaches cells at p y → Reaches cells y q x
@@ -50,14 +56,19 @@ value_out cells name x o h = go (reading key_node_at cells x) refl h
     in_list : (n : KeyNode) → reading key_node_at cells x ≡ Ok n → (n.value_count == 0) ≡ false
         → In (n.value_list ∷ []) o → In (value_list_at cells x) o
     in_list n e z h =
-        subst (λ (xs : List ℕ). In xs o) (sym (ap (λ (q : Result KeyNode HiveKind). of_read q (λ k. if k.value_count == 0 then [] else k.value_list ∷ [])) e
+        subst (λ (xs : List ℕ). In xs o)
+        (sym (ap (λ (q : Result KeyNode HiveKind). of_read q
+        (λ k. if k.value_count == 0 then [] else k.value_list ∷ [])) e
         ∙ ap (λ (c : Bool). cond c [] (n.value_list ∷ [])) z)) h
 
     in_places : (n : KeyNode) (offsets : List ℕ) (v : ℕ) → reading key_node_at cells x ≡ Ok n
         → (n.value_count == 0) ≡ false → reading (offsets_in n.value_count) cells n.value_list ≡ Ok offsets
         → In offsets v → In (value_places cells x) v
     in_places n offsets v e z l h =
-        subst (λ (xs : List ℕ). In xs v) (sym (ap (λ (q : Result KeyNode HiveKind). of_read q (λ k. if k.value_count == 0 then [] else of_read (reading (offsets_in k.value_count) cells k.value_list) (λ os. os))) e
+        subst (λ (xs : List ℕ). In xs v)
+        (sym (ap (λ (q : Result KeyNode HiveKind). of_read q
+        (λ k. if k.value_count == 0 then [] else of_read (reading (offsets_in k.value_count) cells k.value_list)
+        (λ os. os))) e
         ∙ ap (λ (c : Bool). cond c [] (of_read (reading (offsets_in n.value_count) cells n.value_list) (λ os. os))) z
         ∙ ap (λ (q : Result (List ℕ) HiveKind). of_read q (λ os. os)) l)) h
 
@@ -76,20 +87,27 @@ value_out cells name x o h = go (reading key_node_at cells x) refl h
 
     listed : (n : KeyNode) → reading key_node_at cells x ≡ Ok n → (n.value_count == 0) ≡ false
         → (l : Result (List ℕ) HiveKind) → reading (offsets_in n.value_count) cells n.value_list ≡ l
-        → In (of_read l (λ offsets. option_map_or (λ at. used_in (value_checks cells [] at)) (find (is_value_named cells name) offsets) [])) o
+        → In (of_read l (λ offsets. option_map_or (λ at. used_in (value_checks cells [] at))
+        (find (is_value_named cells name) offsets) [])) o
         → (r : Role) × HasRole cells x r o × IsOfValue name r
     listed n e z (Ok offsets) l h = found n offsets e z l (find (is_value_named cells name) offsets) refl h
     listed n e z (Err k) l h = absurd h
 
     some : (n : KeyNode) → reading key_node_at cells x ≡ Ok n → (b : Bool) → (n.value_count == 0) ≡ b
-        → In (cond b [] (n.value_list ∷ of_read (reading (offsets_in n.value_count) cells n.value_list) (λ offsets. option_map_or (λ at. used_in (value_checks cells [] at)) (find (is_value_named cells name) offsets) []))) o
+        → In (cond b [] (n.value_list
+        ∷ of_read (reading (offsets_in n.value_count) cells n.value_list)
+        (λ offsets. option_map_or (λ at. used_in (value_checks cells [] at))
+        (find (is_value_named cells name) offsets) []))) o
         → (r : Role) × HasRole cells x r o × IsOfValue name r
     some n e true z h = absurd h
     some n e false z (inl s) = (value_list, in_list n e z (inl s), tt)
     some n e false z (inr h) = listed n e z (reading (offsets_in n.value_count) cells n.value_list) refl h
 
     go : (q : Result KeyNode HiveKind) → reading key_node_at cells x ≡ q
-        → In (of_read q (λ n. if n.value_count == 0 then [] else n.value_list ∷ of_read (reading (offsets_in n.value_count) cells n.value_list) (λ offsets. option_map_or (λ at. used_in (value_checks cells [] at)) (find (is_value_named cells name) offsets) []))) o
+        → In (of_read q (λ n. if n.value_count == 0 then [] else n.value_list
+        ∷ of_read (reading (offsets_in n.value_count) cells n.value_list)
+        (λ offsets. option_map_or (λ at. used_in (value_checks cells [] at))
+        (find (is_value_named cells name) offsets) []))) o
         → (r : Role) × HasRole cells x r o × IsOfValue name r
     go (Ok n) e h = some n e (n.value_count == 0) refl h
     go (Err k) e h = absurd h
@@ -132,7 +150,11 @@ under cells root path o s h = go (key_place cells path root) refl h
           stored = p.stored ++ b.path;
           role = b.role;
           extends = extends_on path p.stored b.path p.folds;
-          owns = record { at = b.owns.at; reached = reach_on cells p.stored b.path root x b.owns.at p.reached b.owns.reached; has = b.owns.has };
+          owns = record {
+            at = b.owns.at;
+            reached = reach_on cells p.stored b.path root x b.owns.at p.reached b.owns.reached;
+            has = b.owns.has;
+          };
           security = b.security;
         }
 
@@ -150,9 +172,11 @@ unfolding named_nodes
 named_out cells root t step o h =
     let p = in_flat nodes (named_keys step) o h in
     ⊎_elim
-    (λ l. by_key cells root t step o p.0 IsNode (λ stored r f is. inl (record { key = p.0; named = p.1; folds = inl f; node = is }))
+    (λ l. by_key cells root t step o p.0 IsNode
+    (λ stored r f is. inl (record { key = p.0; named = p.1; folds = inl f; node = is }))
     (keyed cells root p.0 (λ at. at ∷ []) IsNode o (λ x i. node_out cells x o i) l))
-    (λ l. by_key cells root t step o (parent_of p.0) IsNode (λ stored r f is. inl (record { key = p.0; named = p.1; folds = inr f; node = is }))
+    (λ l. by_key cells root t step o (parent_of p.0) IsNode
+    (λ stored r f is. inl (record { key = p.0; named = p.1; folds = inr f; node = is }))
     (keyed cells root (parent_of p.0) (λ at. at ∷ []) IsNode o (λ x i. node_out cells x o i) l))
     (in_cases (of_key cells root p.0 (λ at. at ∷ [])) (of_key cells root (parent_of p.0) (λ at. at ∷ [])) o p.2)
   where
@@ -164,7 +188,12 @@ at_root : (cells : Cells) (root : ℕ) (t : Tree) (step : Step) (o : ℕ) (P : R
     → ((stored : List (List ℕ)) (r : Role) → Folds [] stored → P r → Matches t step stored r)
     → (r : Role) × HasRole cells root r o × P r → IsMatched cells root t step o
 at_root cells root t step o P names r =
-    record { path = []; role = r.0; owns = record { at = root; reached = refl; has = r.1 }; matches = names [] r.0 tt r.2 }
+    record {
+      path = [];
+      role = r.0;
+      owns = record { at = root; reached = refl; has = r.1 };
+      matches = names [] r.0 tt r.2;
+    }
 
 changed_out : (cells : Cells) (root : ℕ) (t : Tree) (step : Step) (o : ℕ) → In (changed_cells cells root t step) o
     → IsMatched cells root t step o
@@ -188,7 +217,8 @@ changed_out cells root t (delete_key path) o h = ⊎_elim
     record { path = b.stored; role = b.role; owns = b.owns; matches = inr (inr b.extends) })
     (in_cases (of_key cells root (parent_of path) (list_cells_at cells)) (used_in (checks_below cells root path)) o h)
 changed_out cells root t (copy_child from to) o h = ⊎_elim
-    (λ l. at_root cells root t (copy_child from to) o IsLists (λ stored r f is. inr (inl (f, is))) (lists_out cells root o l))
+    (λ l. at_root cells root t (copy_child from to) o IsLists (λ stored r f is. inr (inl (f, is)))
+    (lists_out cells root o l))
     (λ l. let b = under cells root (from ∷ []) o true (security_to (checks_below cells root (from ∷ [])) o l) in
     record { path = b.stored; role = b.role; owns = b.owns; matches = inr (inr (b.extends, b.security refl)) })
     (in_cases (list_cells_at cells root) (security_used_in (checks_below cells root (from ∷ []))) o h)
@@ -198,4 +228,5 @@ changed_out cells root t (add_child name k) o h =
 pub step_out : (cells : Cells) (root : ℕ) (t : Tree) (step : Step) (o : ℕ) → Contains (step_cells cells root t step) o
     → IsMatched cells root t step o
 step_out cells root t step o h = ⊎_elim (named_out cells root t step o) (changed_out cells root t step o)
-    (in_cases (named_nodes cells root step) (changed_cells cells root t step) o (in_from (step_cells cells root t step) o h))
+    (in_cases (named_nodes cells root step) (changed_cells cells root t step) o
+    (in_from (step_cells cells root t step) o h))

@@ -48,7 +48,8 @@ pub secured_to : (us : List (ℕ × Bool)) (o : ℕ) → In (secured us) o → I
 secured_to [] o h = absurd h
 secured_to (u ∷ us) o h = go u.1 refl (secured_to us o) h
   where
-    go : (s : Bool) → u.1 ≡ s → (In (secured us) o → In us (o, true)) → In (cond s (u.0 ∷ secured us) (secured us)) o → In (u ∷ us) (o, true)
+    go : (s : Bool) → u.1 ≡ s → (In (secured us) o → In us (o, true)) → In (cond s (u.0 ∷ secured us) (secured us)) o
+        → In (u ∷ us) (o, true)
     go true e more (inl f) = inl (λ i. (f i, e i))
     go true e more (inr h) = inr (more h)
     go false e more h = inr (more h)
@@ -56,7 +57,8 @@ secured_to (u ∷ us) o h = go u.1 refl (secured_to us o) h
 pub secured_from : (us : List (ℕ × Bool)) (o : ℕ) → In us (o, true) → In (secured us) o
 secured_from [] o h = absurd h
 secured_from (u ∷ us) o (inl e) =
-    subst (λ (s : Bool). In (cond s (u.0 ∷ secured us) (secured us)) o) (sym (ap (λ (z : ℕ × Bool). z.1) e)) (inl (ap (λ (z : ℕ × Bool). z.0) e))
+    subst (λ (s : Bool). In (cond s (u.0 ∷ secured us) (secured us)) o) (sym (ap (λ (z : ℕ × Bool). z.1) e))
+    (inl (ap (λ (z : ℕ × Bool). z.0) e))
 secured_from (u ∷ us) o (inr h) = go u.1 (secured_from us o h)
   where
     go : (s : Bool) → In (secured us) o → In (cond s (u.0 ∷ secured us) (secured us)) o
@@ -66,10 +68,12 @@ secured_from (u ∷ us) o (inr h) = go u.1 (secured_from us o h)
 in_or_not : (xs : List ℕ) (o : ℕ) → In xs o ⊎ (In xs o → ⊥)
 in_or_not [] o = inr (λ h. h)
 in_or_not (x ∷ xs) o =
-    ⊎_elim (λ e. inl (inl e)) (λ no. ⊎_elim (λ i. inl (inr i)) (λ none. inr (λ h. ⊎_elim no none h)) (in_or_not xs o)) (either_way x o)
+    ⊎_elim (λ e. inl (inl e)) (λ no. ⊎_elim (λ i. inl (inr i)) (λ none. inr (λ h. ⊎_elim no none h)) (in_or_not xs o))
+    (either_way x o)
 
 -- what owns it as the walk uses it, owns it as security
-has_security : (cells : Cells) (at o : ℕ) (r : Role) → HasRole cells at r o → IsSecurity r → In (security_cell_at cells at) o
+has_security : (cells : Cells) (at o : ℕ) (r : Role) → HasRole cells at r o → IsSecurity r
+    → In (security_cell_at cells at) o
 has_security cells at o node h s = absurd s
 has_security cells at o class h s = absurd s
 has_security cells at o security h s = h
@@ -84,7 +88,8 @@ pub below_used : (cells : Cells) (p : List (List ℕ)) (left at x : ℕ) (u : �
 below_used cells [] left at x u h i = subst (λ (z : ℕ). In (tree_uses left cells z) u) (sym h) i
 below_used cells (m ∷ p) left at x u h i =
     in_right (own_uses cells at) (flat_map (tree_uses (above p left) cells) (child_places cells at)) u
-    (in_flat_from (tree_uses (above p left) cells) (child_places cells at) u h.0 h.1 (below_used cells p left h.0 x u h.3 i))
+    (in_flat_from (tree_uses (above p left) cells) (child_places cells at) u h.0 h.1
+    (below_used cells p left h.0 x u h.3 i))
 
 pub hive_used : (cells : Cells) (root : ℕ) (p : List (List ℕ)) (x left : ℕ) (u : ℕ × Bool) → Reaches cells root p x
     → length p + left ≡ 512 → In (tree_uses left cells x) u → In (hive_uses cells root) u
@@ -92,10 +97,15 @@ hive_used cells root p x left u h deep i =
     subst (λ (n : ℕ). In (tree_uses n cells root) u) (above_is p left ∙ deep) (below_used cells p left root x u h i)
 
 list_behind : (cells : Cells) (at o : ℕ) → In (list_cells_at cells at) o
-    → In (plain (class_cell_at cells at) ++ (secure (security_cell_at cells at) ++ (plain (all_value_cells cells at) ++ plain (list_cells_at cells at)))) (o, false)
+    → In (plain (class_cell_at cells at)
+    ++ (secure (security_cell_at cells at) ++ (plain (all_value_cells cells at) ++ plain (list_cells_at cells at))))
+    (o, false)
 list_behind cells at o i =
-    in_right (plain (class_cell_at cells at)) (secure (security_cell_at cells at) ++ (plain (all_value_cells cells at) ++ plain (list_cells_at cells at))) (o, false)
-    (in_right (secure (security_cell_at cells at)) (plain (all_value_cells cells at) ++ plain (list_cells_at cells at)) (o, false)
+    in_right (plain (class_cell_at cells at))
+    (secure (security_cell_at cells at) ++ (plain (all_value_cells cells at) ++ plain (list_cells_at cells at)))
+    (o, false)
+    (in_right (secure (security_cell_at cells at)) (plain (all_value_cells cells at) ++ plain (list_cells_at cells at))
+    (o, false)
     (in_right (plain (all_value_cells cells at)) (plain (list_cells_at cells at)) (o, false)
     (in_map_from (λ (z : ℕ). (z, false)) (list_cells_at cells at) o i)))
 
@@ -111,22 +121,27 @@ no_false o (inr e) = let d = e.0 in absurd cc
 
 -- ---- a key is taken out
 
-module _ (b l c : Cells) (root : ℕ) (t : Tree) (p : List (List ℕ)) (x left : ℕ) (n : KeyNode) (front back : List ℕ) (y list : ℕ)
-    (well : IsWellFormed b root t) (reached : Reaches b root p x) (deep : length p + suc left ≡ 512) (g : TakesChild b l c x left n front back y list) where
+module _ (b l c : Cells) (root : ℕ) (t : Tree) (p : List (List ℕ)) (x left : ℕ) (n : KeyNode) (front back : List ℕ)
+    (y list : ℕ)
+    (well : IsWellFormed b root t) (reached : Reaches b root p x) (deep : length p + suc left ≡ 512)
+    (g : TakesChild b l c x left n front back y list) where
   child_there : In (child_places b x) y
   child_there = subst (λ (os : List ℕ). In os y) (sym g.places) (in_right front (y ∷ back) y (inl refl))
 
   own_in : (u : ℕ × Bool) → In (own_uses b x) u → In (hive_uses b root) u
-  own_in u i = hive_used b root p x (suc left) u reached deep (in_left (own_uses b x) (flat_map (tree_uses left b) (child_places b x)) u i)
+  own_in u i = hive_used b root p x (suc left) u reached deep
+      (in_left (own_uses b x) (flat_map (tree_uses left b) (child_places b x)) u i)
 
   child_in : (u : ℕ × Bool) → In (tree_uses left b y) u → In (hive_uses b root) u
   child_in u i = hive_used b root p x (suc left) u reached deep
-      (in_right (own_uses b x) (flat_map (tree_uses left b) (child_places b x)) u (in_flat_from (tree_uses left b) (child_places b x) u y child_there i))
+      (in_right (own_uses b x) (flat_map (tree_uses left b) (child_places b x)) u
+      (in_flat_from (tree_uses left b) (child_places b x) u y child_there i))
 
   -- a cell is not used both as security and not
   clash : (o : ℕ) → In (hive_uses b root) (o, false) → In (hive_uses b root) (o, true) → ⊥
   clash o i j =
-      no_false o (once_two (hive_uses b root) (o, false) (o, true) (hive_once b root t well.stands well.names well.once) i j refl)
+      no_false o (once_two (hive_uses b root) (o, false) (o, true) (hive_once b root t well.stands well.names well.once)
+      i j refl)
 
   pub node_there : (q : List ℕ) × (b.payload x ≡ Ok q) × (key_node_at q ≡ Ok n)
   node_there = first_part (b.payload x) key_node_at n g.read
@@ -150,7 +165,8 @@ module _ (b l c : Cells) (root : ℕ) (t : Tree) (p : List (List ℕ)) (x left :
       }
 
   descriptors : (o : ℕ) → IsSecurityCell b root o → descriptor_at c o ≡ descriptor_at b o
-  descriptors o s = ⊎_elim (λ i. g.counted o (secured_to (tree_uses left b y) o i)) (λ none. same none) (in_or_not recounted o)
+  descriptors o s = ⊎_elim (λ i. g.counted o (secured_to (tree_uses left b y) o i)) (λ none. same none)
+      (in_or_not recounted o)
     where
       there : In (hive_uses b root) (o, true)
       there = secure_there b root t o well s
@@ -159,7 +175,8 @@ module _ (b l c : Cells) (root : ℕ) (t : Tree) (p : List (List ℕ)) (x left :
       same none =
           let q = used_held b root t well (o, true) there in
           let listed = g.relisted o q.0 q.1 (λ i. clash o (own_in (o, false) (list_used b x o i)) there) in
-          let stays = g.others o q.0 listed (λ e. clash o (own_in (o, false) (inl (λ i. (sym e i, false)))) there) (not_used none) in
+          let stays = g.others o q.0 listed (λ e. clash o (own_in (o, false) (inl (λ i. (sym e i, false)))) there)
+          (not_used none) in
           ap (λ (r : Result (List ℕ) HiveKind). r >>= security_at >>= λ z. Ok z.descriptor) (stays ∙ sym q.1)
         where
           not_used : (In recounted o → ⊥) → (s : Bool) → In (tree_uses left b y) (o, s) → ⊥
@@ -180,14 +197,16 @@ module _ (b l c : Cells) (root : ℕ) (t : Tree) (p : List (List ℕ)) (x left :
   unfolding entries_checks
   list_first = inl refl
 
-  uses_are : (w : ℕ) (os : List ℕ) → front ++ back ≡ w ∷ os → used_in (entries_checks c list) ≡ used_in (entries_checks l list)
+  uses_are : (w : ℕ) (os : List ℕ) → front ++ back ≡ w ∷ os
+      → used_in (entries_checks c list) ≡ used_in (entries_checks l list)
   uses_are w os e = entries_used l c list (list_same w os e list list_first)
 
   pub noted : List ℕ
   noted = with_part 20 (three_numbers (length (front ++ back)) g.volatile list) node_there.0
 
   node_stays : l.payload x ≡ Ok node_there.0
-  node_stays = g.relisted x node_there.0 node_there.1 (λ i. no_node ((own_once b root t p x well reached).0 (x, false) (list_behind b x x i) refl))
+  node_stays = g.relisted x node_there.0 node_there.1
+      (λ i. no_node ((own_once b root t p x well reached).0 (x, false) (list_behind b x x i) refl))
     where
       no_node : (false ≡ true) × (false ≡ true) → ⊥
       no_node e = let d = e.0 in absurd cc
@@ -204,21 +223,27 @@ module _ (b l c : Cells) (root : ℕ) (t : Tree) (p : List (List ℕ)) (x left :
     security = descriptors;
     fresh = λ w os e u i.
         let m = in_map (λ (z : ℕ). (z, false)) (used_in (entries_checks c list)) u i in
-        subst (IsUnheld b) (ap (λ (z : ℕ × Bool). z.0) m.2) (g.fresh w os e m.0 (subst (λ (os : List ℕ). In os m.0) (uses_are w os e) m.1));
+        subst (IsUnheld b) (ap (λ (z : ℕ × Bool). z.0) m.2)
+        (g.fresh w os e m.0 (subst (λ (os : List ℕ). In os m.0) (uses_are w os e) m.1));
     once = λ w os e.
-        pairwise_map (λ u v. u ≡ v → ⊥) Agree (λ (o : ℕ). (o, false)) (used_in (entries_checks c list)) (λ u v i j differ same. absurd (differ same))
+        pairwise_map (λ u v. u ≡ v → ⊥) Agree (λ (o : ℕ). (o, false)) (used_in (entries_checks c list))
+        (λ u v i j differ same. absurd (differ same))
         (subst (Pairwise (λ u v. u ≡ v → ⊥)) (sym (uses_are w os e)) (g.once w os e));
   }
 
-  pub deleted : (parent : List (List ℕ)) (name : List ℕ) → Rattle.edit_laws.specs.Owned.Folds parent p → folds_same name (node_name b y) ≡ true
+  pub deleted : (parent : List (List ℕ)) (name : List ℕ) → Rattle.edit_laws.specs.Owned.Folds parent p
+      → folds_same name (node_name b y) ≡ true
       → Deletes b root parent name y recounted
   unfolding counted_there
   deleted parent name folds named = record {
     named = named;
     count = λ o i.
         let w = below o i in
-        let s = counted_there o i in
-        (s.path, extends_on parent p name (node_name b y) w.path folds named, record { at = s.key; reached = s.reached; has = s.uses });
+        let s = counted_there o i in (
+          s.path,
+          extends_on parent p name (node_name b y) w.path folds named,
+          record { at = s.key; reached = s.reached; has = s.uses },
+        );
   }
 
 pub key_taken_out : (b l c : Cells) (root : ℕ) (t u : Tree) (parent : List (List ℕ)) (name : List ℕ) (x y left list : ℕ)
@@ -227,8 +252,10 @@ pub key_taken_out : (b l c : Cells) (root : ℕ) (t u : Tree) (parent : List (Li
     → TakesChild b l c x left n front back y list → IsDone b c root t u (delete_key (parent ++ name ∷ []))
 key_taken_out b l c root t u parent name x y left list n front back well ok at deep named g =
     let w : IsPlaced b root parent x = placed_at b parent root x at in
-    let stored : length w.stored + suc left ≡ 512 = (let f = folds_length parent w.stored w.folds in ap (λ (m : ℕ). m + suc left) (sym f) ∙ deep) in
-    key_taken b c root t u parent name x left n well at g.read deep front back y (noted b l c root t w.stored x left n front back y list well w.reached stored g) list
+    let stored : length w.stored + suc left ≡ 512 =
+    (let f = folds_length parent w.stored w.folds in ap (λ (m : ℕ). m + suc left) (sym f) ∙ deep) in
+    key_taken b c root t u parent name x left n well at g.read deep front back y
+    (noted b l c root t w.stored x left n front back y list well w.reached stored g) list
     (recounted b l c root t w.stored x left n front back y list well w.reached stored g) ok g.places
     (deleted b l c root t w.stored x left n front back y list well w.reached stored g parent name w.folds named)
     (removed b l c root t w.stored x left n front back y list well w.reached stored g)

@@ -35,8 +35,10 @@ list_total n = go (n == 0) (nat_lt n 501) (n % 500 == 0)
     rest xs = let a = total_append full xs in let r = replicate_total (n / 500) in omega (arith, a, r)
 
     go : (a b d : Bool)
-        → total (cond a [] (cond b (cell (4 + 8 * n) ∷ []) (cell (4 + 4 * part_count n) ∷ (full ++ cond d [] (cell (4 + 8 * (n % 500)) ∷ [])))))
-        ≡ cond a 0 (cond b (cell (4 + 8 * n)) (cell (4 + 4 * part_count n) + n / 500 * cell 4004 + cond d 0 (cell (4 + 8 * (n % 500)))))
+        → total (cond a [] (cond b (cell (4 + 8 * n) ∷ [])
+        (cell (4 + 4 * part_count n) ∷ (full ++ cond d [] (cell (4 + 8 * (n % 500)) ∷ [])))))
+        ≡ cond a 0 (cond b (cell (4 + 8 * n))
+        (cell (4 + 4 * part_count n) + n / 500 * cell 4004 + cond d 0 (cell (4 + 8 * (n % 500)))))
     go true b d = refl
     go false true d = omega arith
     go false false true = let r = rest [] in omega (arith, r)
@@ -112,7 +114,8 @@ flat_total version (v ∷ vs) =
     let a = total_append (item_sizes version v) (flat_map (item_sizes version) vs) in
     let b = item_total version v in
     let d = flat_total version vs in
-    sum (total (item_sizes version v ++ flat_map (item_sizes version) vs)) (total (item_sizes version v)) (total (flat_map (item_sizes version) vs)) (item_size version v) (items_sum version vs) a b d
+    sum (total (item_sizes version v ++ flat_map (item_sizes version) vs)) (total (item_sizes version v))
+    (total (flat_map (item_sizes version) vs)) (item_size version v) (items_sum version vs) a b d
   where
     sum : (w x y i r : ℕ) → w ≡ x + y → x ≡ i → y ≡ r → w ≡ i + r
     sum w x y i r a b d = omega (arith, a, b, d)
@@ -122,39 +125,51 @@ values_total : (version : HiveVersion) (vs : List Item)
 values_total version [] = refl
 values_total version (v ∷ vs) =
     let some : (length (v ∷ vs) == 0) ≡ false = ne_eqb (length (v ∷ vs)) 0 (λ z. omega (arith, z)) in
-    ap (λ (b : Bool). total (cond b [] (cell (4 * length (v ∷ vs)) ∷ []) ++ flat_map (item_sizes version) (v ∷ vs))) some
+    ap (λ (b : Bool). total (cond b [] (cell (4 * length (v ∷ vs)) ∷ []) ++ flat_map (item_sizes version) (v ∷ vs)))
+    some
     ∙ ap (λ (n : ℕ). cell (4 * length (v ∷ vs)) + n) (flat_total version (v ∷ vs))
 
-head_total : (version : HiveVersion) (shared : List ℕ) (h : Head) → total (head_sizes version shared h) ≡ head_size version shared h
+head_total : (version : HiveVersion) (shared : List ℕ) (h : Head)
+    → total (head_sizes version shared h) ≡ head_size version shared h
 head_total version shared h =
     let vs = value_list_sizes (length h.values) ++ flat_map (item_sizes version) h.values in
     let sec = some_cell (security_size shared h.security) in
     let cls = some_cell (class_size h.class) in
-    sum (node_size h) (total (cls ++ (sec ++ vs))) (total cls) (total (sec ++ vs)) (total sec) (total vs) (class_size h.class)
+    sum (node_size h) (total (cls ++ (sec ++ vs))) (total cls) (total (sec ++ vs)) (total sec) (total vs)
+    (class_size h.class)
     (security_size shared h.security) (items_size version h.values)
-    (total_append cls (sec ++ vs)) (total_append sec vs) (some_total (class_size h.class)) (some_total (security_size shared h.security)) (values_total version h.values)
+    (total_append cls (sec ++ vs)) (total_append sec vs) (some_total (class_size h.class))
+    (some_total (security_size shared h.security)) (values_total version h.values)
   where
-    sum : (n whole c later s v cls sec items : ℕ) → whole ≡ c + later → later ≡ s + v → c ≡ cls → s ≡ sec → v ≡ items → n + whole ≡ n + cls + sec + items
+    sum : (n whole c later s v cls sec items : ℕ) → whole ≡ c + later → later ≡ s + v → c ≡ cls → s ≡ sec → v ≡ items
+        → n + whole ≡ n + cls + sec + items
     sum n whole c later s v cls sec items a b d e f = omega (arith, a, b, d, e, f)
 
 mutual
-  pub tree_total : (version : HiveVersion) (shared : List ℕ) (t : Tree) → total (sizes version shared t) ≡ size version shared t
+  pub tree_total : (version : HiveVersion) (shared : List ℕ) (t : Tree)
+      → total (sizes version shared t) ≡ size version shared t
   tree_total version shared (key h ts) =
-      sum (total (head_sizes version shared h ++ (list_sizes (count ts) ++ sizes_of_all version h.security ts))) (total (head_sizes version shared h))
-      (total (list_sizes (count ts) ++ sizes_of_all version h.security ts)) (total (list_sizes (count ts))) (total (sizes_of_all version h.security ts))
+      sum (total (head_sizes version shared h ++ (list_sizes (count ts) ++ sizes_of_all version h.security ts)))
+      (total (head_sizes version shared h))
+      (total (list_sizes (count ts) ++ sizes_of_all version h.security ts)) (total (list_sizes (count ts)))
+      (total (sizes_of_all version h.security ts))
       (head_size version shared h) (list_size (count ts)) (size_of_all version h.security ts)
       (total_append (head_sizes version shared h) (list_sizes (count ts) ++ sizes_of_all version h.security ts))
-      (total_append (list_sizes (count ts)) (sizes_of_all version h.security ts)) (head_total version shared h) (list_total (count ts)) (trees_total version h.security ts)
+      (total_append (list_sizes (count ts)) (sizes_of_all version h.security ts)) (head_total version shared h)
+      (list_total (count ts)) (trees_total version h.security ts)
     where
       sum : (w a b c d x y z : ℕ) → w ≡ a + b → b ≡ c + d → a ≡ x → c ≡ y → d ≡ z → w ≡ x + y + z
       sum w a b c d x y z e f g h i = omega (arith, e, f, g, h, i)
 
-  trees_total : (version : HiveVersion) (shared : List ℕ) (ts : Trees) → total (sizes_of_all version shared ts) ≡ size_of_all version shared ts
+  trees_total : (version : HiveVersion) (shared : List ℕ) (ts : Trees)
+      → total (sizes_of_all version shared ts) ≡ size_of_all version shared ts
   trees_total version shared none = refl
   trees_total version shared (more t ts) =
-      sum (total (sizes version shared t ++ sizes_of_all version shared ts)) (total (sizes version shared t)) (total (sizes_of_all version shared ts))
+      sum (total (sizes version shared t ++ sizes_of_all version shared ts)) (total (sizes version shared t))
+      (total (sizes_of_all version shared ts))
       (size version shared t) (size_of_all version shared ts)
-      (total_append (sizes version shared t) (sizes_of_all version shared ts)) (tree_total version shared t) (trees_total version shared ts)
+      (total_append (sizes version shared t) (sizes_of_all version shared ts)) (tree_total version shared t)
+      (trees_total version shared ts)
     where
       sum : (w a b x y : ℕ) → w ≡ a + b → a ≡ x → b ≡ y → w ≡ x + y
       sum w a b x y e f g = omega (arith, e, f, g)
@@ -165,7 +180,8 @@ pub placed_length : (k : Tree) (us : List Tree) → length (placed k us) ≡ len
 placed_length k [] = refl
 placed_length k (u ∷ us) = go (is_gt (folded_order (head u).name (head k).name)) (placed_length k us)
   where
-    go : (v : Bool) → length (placed k us) ≡ length us + 1 → length (cond v (k ∷ u ∷ us) (u ∷ placed k us)) ≡ length (u ∷ us) + 1
+    go : (v : Bool) → length (placed k us) ≡ length us + 1
+        → length (cond v (k ∷ u ∷ us) (u ∷ placed k us)) ≡ length (u ∷ us) + 1
     go true e = omega arith
     go false e = omega (arith, e)
 
@@ -175,7 +191,8 @@ placed_sizes version s k [] = refl
 placed_sizes version s k (u ∷ us) = go (is_gt (folded_order (head u).name (head k).name)) (placed_sizes version s k us)
   where
     go : (v : Bool) → sizes_of version s (placed k us) ≡ size version s k + sizes_of version s us
-        → sizes_of version s (cond v (k ∷ u ∷ us) (u ∷ placed k us)) ≡ size version s k + (size version s u + sizes_of version s us)
+        → sizes_of version s (cond v (k ∷ u ∷ us) (u ∷ placed k us)) ≡ size version s k
+        + (size version s u + sizes_of version s us)
     go true e = refl
     go false e = omega (arith, e)
 
@@ -183,7 +200,8 @@ pub found_placed : (name : List ℕ) (k : Tree) (us : List Tree) → is_named na
     → find (is_named name) (placed k us) ≡ Some k
 found_placed name k [] here lacks = ap (λ (v : Bool). cond v (Some k) None) here
 found_placed name k (u ∷ us) here lacks =
-    go (is_named name u) refl lacks (is_gt (folded_order (head u).name (head k).name)) (λ n. found_placed name k us here n)
+    go (is_named name u) refl lacks (is_gt (folded_order (head u).name (head k).name))
+    (λ n. found_placed name k us here n)
   where
     go : (v : Bool) → is_named name u ≡ v → cond v (Some u) (find (is_named name) us) ≡ None → (w : Bool)
         → (find (is_named name) us ≡ None → find (is_named name) (placed k us) ≡ Some k)
@@ -198,9 +216,12 @@ pub child_size : (version : HiveVersion) (name : List ℕ) (k t : Tree)
     → size version [] (with_child name k t) + list_size (length (children t))
     ≡ size version [] t + (list_size (length (children t) + 1) + size version (head t).security (renamed name k))
 child_size version name k (key hd ts) =
-    sums (size version [] (with_child name k (key hd ts))) (size version [] (key hd ts)) (list_size (count ts)) (list_size (length (placed (renamed name k) (listed ts))))
-    (list_size (count ts + 1)) (sizes_of version hd.security (listed ts)) (sizes_of version hd.security (placed (renamed name k) (listed ts))) (size version hd.security (renamed name k))
-    (relisted_size version [] [] (key hd ts) hd ts (placed (renamed name k)) refl) (ap list_size (placed_length (renamed name k) (listed ts)))
+    sums (size version [] (with_child name k (key hd ts))) (size version [] (key hd ts)) (list_size (count ts))
+    (list_size (length (placed (renamed name k) (listed ts))))
+    (list_size (count ts + 1)) (sizes_of version hd.security (listed ts))
+    (sizes_of version hd.security (placed (renamed name k) (listed ts))) (size version hd.security (renamed name k))
+    (relisted_size version [] [] (key hd ts) hd ts (placed (renamed name k)) refl)
+    (ap list_size (placed_length (renamed name k) (listed ts)))
     (placed_sizes version hd.security (renamed name k) (listed ts))
   where
     sums : (u t l m m' z w c : ℕ) → u + (l + z) ≡ t + (m + w) → m ≡ m' → w ≡ c + z → u + l ≡ t + (m' + c)

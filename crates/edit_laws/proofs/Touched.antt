@@ -112,7 +112,8 @@ touched_or step p =
 -- touched key that is still at its path is kept.
 pub step_framed : (b c : Cells) (root : ℕ) (tb t : Tree) (step : Step) → IsWellFormed b root tb
     → LeavesOthers b c root t step → KeepsNames b c root
-    → ((p : List (List ℕ)) (x : ℕ) → IsTouched step p → Reaches b root p x → Reaches c root p x → IsKept b c (IsNew b root t step) x)
+    → ((p : List (List ℕ)) (x : ℕ) → IsTouched step p → Reaches b root p x → Reaches c root p x
+    → IsKept b c (IsNew b root t step) x)
     → IsFramed b c root t step
 step_framed b c root tb t step well rest names touched =
     framed b c root t step rest (λ p x h g. go p x h g (touched_or step p))
@@ -121,6 +122,7 @@ step_framed b c root tb t step well rest names touched =
         → IsKept b c (IsNew b root t step) x
     go p x h g (inl one) = touched p x one h g
     go p x h g (inr never) =
-        let s = untouched b c root t step (are_once b root tb well) (are_held b root tb well) rest p x h (λ r plain m. never (matched_touched t step p r plain m)) in
+        let s = untouched b c root t step (are_once b root tb well) (are_held b root tb well) rest p x h
+        (λ r plain m. never (matched_touched t step p r plain m)) in
         let same = places_same b c x (s.each node x (λ z. z) refl) (λ o i. s.each lists o (λ z. z) i) in
         kept_same b c (IsNew b root t step) x s (λ y i. names p x y h g i (subst (λ (l : List ℕ). In l y) (sym same) i))

@@ -27,7 +27,8 @@ root_reads : (cells : Cells) (at : ℕ) (n : KeyNode) → reading key_node_at ce
 unfolding node_at
 root_reads cells at n read =
     let p = first_part (cells.payload at) key_node_at n read in
-    ap (λ q. q >>= λ bytes. key_node_at bytes >>= λ m. if (length m.name == 0) && not true then Err FormName else Ok m) p.1
+    ap (λ q. q >>= λ bytes. key_node_at bytes >>= λ m. if (length m.name == 0) && not true then Err FormName else Ok m)
+    p.1
     ∙ ap (λ q. q >>= λ m. if (length m.name == 0) && not true then Err FormName else Ok m) p.2
     ∙ go (length n.name == 0)
   where
@@ -43,7 +44,10 @@ pub are_once : (b : Cells) (root : ℕ) (t : Tree) → IsWellFormed b root t →
 unfolding all_checks
 are_once b root t w =
     let sound = sound_hive b root t w in let n = root_node b root t w.stands in
-    record { one = λ p q r k o h g. owned_once 512 b true root n.0 sound.all n.1 w.once p q r k o (sound.shallow p h.at h.reached) (sound.shallow q g.at g.reached) h g }
+    record {
+      one = λ p q r k o h g. owned_once 512 b true root n.0 sound.all n.1 w.once p q r k o
+          (sound.shallow p h.at h.reached) (sound.shallow q g.at g.reached) h g;
+    }
 
 -- ---- what is owned, from keys that are kept
 
@@ -70,11 +74,13 @@ pub role_same : (b c : Cells) (root : ℕ) (t : Tree) (step : Step) → AreOnce 
 role_same b c root t step once held rest p x r o reached plain apart h =
     let own : Owns b root p r o = record { at = x; reached = reached; has = h } in
     let q = held.held p r o own in
-    rest.rest o q.0 q.1 (λ there. let m = step_out b root t step o there in other m (once.one p m.path r m.role o own m.owns)) ∙ sym q.1
+    rest.rest o q.0 q.1 (λ there. let m = step_out b root t step o there in
+    other m (once.one p m.path r m.role o own m.owns)) ∙ sym q.1
   where
     other : (m : IsMatched b root t step o) → IsOne p r m.path m.role → ⊥
     other m (inl same) =
-        apart (subst (λ (q : List (List ℕ)). Matches t step q r) (sym same.0) (subst (λ (k : Role). Matches t step m.path k) (sym same.1) m.matches))
+        apart (subst (λ (q : List (List ℕ)). Matches t step q r) (sym same.0)
+        (subst (λ (k : Role). Matches t step m.path k) (sym same.1) m.matches))
     other m (inr sec) = plain sec.0
 
 -- a key of which the step names nothing but perhaps its security is the same after it
@@ -82,4 +88,7 @@ pub untouched : (b c : Cells) (root : ℕ) (t : Tree) (step : Step) → AreOnce 
     → LeavesOthers b c root t step → (p : List (List ℕ)) (x : ℕ) → Reaches b root p x
     → ((r : Role) → (IsSecurity r → ⊥) → Matches t step p r → ⊥) → IsSame b c x
 untouched b c root t step once held rest p x reached apart =
-    record { version = rest.version; each = λ r o plain h. role_same b c root t step once held rest p x r o reached plain (apart r plain) h }
+    record {
+      version = rest.version;
+      each = λ r o plain h. role_same b c root t step once held rest p x r o reached plain (apart r plain) h;
+    }

@@ -122,7 +122,8 @@ marks_security cells n at read =
     go (n.security == nowhere) ∙ ap secure (sym (of_node_is cells at n (λ m. used_in (security_checks cells m)) read))
   where
     go : (b : Bool)
-        → marks (cond b [] (use_as true security_at cells n.security)) ≡ secure (used_in (cond b [] (use_as true security_at cells n.security)))
+        → marks (cond b [] (use_as true security_at cells n.security))
+        ≡ secure (used_in (cond b [] (use_as true security_at cells n.security)))
     go true = refl
     go false = refl
 
@@ -138,7 +139,8 @@ unfolding value_checks
 told_none cells names at = ap (λ (l : List ℕ). at ∷ l) (go (reading key_value_at cells at))
   where
     go : (r : Result KeyValue HiveKind)
-        → used_in (below_of r (λ value. name_check names at value.name ∷ data_checks cells value)) ≡ used_in (below_of r (λ value. name_check [] at value.name ∷ data_checks cells value))
+        → used_in (below_of r (λ value. name_check names at value.name ∷ data_checks cells value))
+        ≡ used_in (below_of r (λ value. name_check [] at value.name ∷ data_checks cells value))
     go (Ok v) = refl
     go (Err k) = refl
 
@@ -155,19 +157,25 @@ in_turn_plain : (cells : Cells) (names : List (List ℕ)) (offsets : List ℕ)
     → IsPlain (values_in_turn cells names offsets)
 in_turn_plain cells names [] o h = h
 in_turn_plain cells names (at ∷ rest) o h =
-    plain_append (value_checks cells names at) (values_in_turn cells (names ++ names_of (λ (v : KeyValue). v.name) (reading key_value_at cells at)) rest)
-    (value_plain cells names at) (in_turn_plain cells (names ++ names_of (λ (v : KeyValue). v.name) (reading key_value_at cells at)) rest) o h
+    plain_append (value_checks cells names at)
+    (values_in_turn cells (names ++ names_of (λ (v : KeyValue). v.name) (reading key_value_at cells at)) rest)
+    (value_plain cells names at)
+    (in_turn_plain cells (names ++ names_of (λ (v : KeyValue). v.name) (reading key_value_at cells at)) rest) o h
 
 values_plain : (cells : Cells) (n : KeyNode) → IsPlain (values_checks cells n)
 unfolding values_checks
 values_plain cells n = go (n.value_count == 0)
   where
     go : (b : Bool)
-        → IsPlain (cond b [] (use_as false (offsets_in n.value_count) cells n.value_list ++ below_of (reading (offsets_in n.value_count) cells n.value_list) (values_in_turn cells [])))
+        → IsPlain (cond b [] (use_as false (offsets_in n.value_count) cells n.value_list
+        ++ below_of (reading (offsets_in n.value_count) cells n.value_list) (values_in_turn cells [])))
     go true o h = h
     go false o h =
-        plain_append (use_as false (offsets_in n.value_count) cells n.value_list) (below_of (reading (offsets_in n.value_count) cells n.value_list) (values_in_turn cells []))
-        (plain_use (offsets_in n.value_count) cells n.value_list) (plain_read (reading (offsets_in n.value_count) cells n.value_list) (values_in_turn cells []) (in_turn_plain cells [])) o h
+        plain_append (use_as false (offsets_in n.value_count) cells n.value_list)
+        (below_of (reading (offsets_in n.value_count) cells n.value_list) (values_in_turn cells []))
+        (plain_use (offsets_in n.value_count) cells n.value_list)
+        (plain_read (reading (offsets_in n.value_count) cells n.value_list) (values_in_turn cells [])
+        (in_turn_plain cells [])) o h
 
 marks_values : (cells : Cells) (n : KeyNode) (at : ℕ) → reading key_node_at cells at ≡ Ok n
     → marks (values_checks cells n) ≡ plain (all_value_cells cells at)
@@ -175,19 +183,26 @@ unfolding values_checks value_list_at value_places
 marks_values cells n at read =
     marks_plain (values_checks cells n) (values_plain cells n)
     ∙ ap plain (go (n.value_count == 0)
-    ∙ ap (λ (l : List ℕ). l ++ flat_map (λ v. used_in (value_checks cells [] v)) (cond (n.value_count == 0) [] (of_read (reading (offsets_in n.value_count) cells n.value_list) (λ os. os))))
+    ∙ ap (λ (l : List ℕ). l ++ flat_map (λ v. used_in (value_checks cells [] v))
+    (cond (n.value_count == 0) [] (of_read (reading (offsets_in n.value_count) cells n.value_list) (λ os. os))))
     (sym (of_node_is cells at n (λ k. if k.value_count == 0 then [] else k.value_list ∷ []) read))
     ∙ ap (λ (l : List ℕ). value_list_at cells at ++ flat_map (λ v. used_in (value_checks cells [] v)) l)
-    (sym (of_node_is cells at n (λ k. if k.value_count == 0 then [] else of_read (reading (offsets_in k.value_count) cells k.value_list) (λ os. os)) read)))
+    (sym (of_node_is cells at n
+    (λ k. if k.value_count == 0 then [] else of_read (reading (offsets_in k.value_count) cells k.value_list)
+    (λ os. os)) read)))
   where
     some : (r : Result (List ℕ) HiveKind)
-        → used_in (below_of r (values_in_turn cells [])) ≡ flat_map (λ v. used_in (value_checks cells [] v)) (of_read r (λ os. os))
+        → used_in (below_of r (values_in_turn cells []))
+        ≡ flat_map (λ v. used_in (value_checks cells [] v)) (of_read r (λ os. os))
     some (Ok offsets) = used_values cells [] offsets
     some (Err k) = refl
 
     go : (b : Bool)
-        → used_in (cond b [] (use_as false (offsets_in n.value_count) cells n.value_list ++ below_of (reading (offsets_in n.value_count) cells n.value_list) (values_in_turn cells [])))
-        ≡ cond b [] (n.value_list ∷ []) ++ flat_map (λ v. used_in (value_checks cells [] v)) (cond b [] (of_read (reading (offsets_in n.value_count) cells n.value_list) (λ os. os)))
+        → used_in (cond b [] (use_as false (offsets_in n.value_count) cells n.value_list
+        ++ below_of (reading (offsets_in n.value_count) cells n.value_list) (values_in_turn cells [])))
+        ≡ cond b [] (n.value_list ∷ [])
+        ++ flat_map (λ v. used_in (value_checks cells [] v))
+        (cond b [] (of_read (reading (offsets_in n.value_count) cells n.value_list) (λ os. os)))
     go true = refl
     go false = ap (λ (l : List ℕ). n.value_list ∷ l) (some (reading (offsets_in n.value_count) cells n.value_list))
 
@@ -200,39 +215,59 @@ marks_keys left checks cells names (at ∷ rest) each =
     let more = names ++ names_of (λ (n : KeyNode). n.name) (reading (node_at false) cells at) in
     marks_append (checks names at) (keys_in_turn checks cells more rest)
     ∙ ap (λ (l : List (ℕ × Bool)). l ++ marks (keys_in_turn checks cells more rest)) (each names at (inl refl))
-    ∙ ap (λ (l : List (ℕ × Bool)). tree_uses left cells at ++ l) (marks_keys left checks cells more rest (λ told y i. each told y (inr i)))
+    ∙ ap (λ (l : List (ℕ × Bool)). tree_uses left cells at ++ l)
+    (marks_keys left checks cells more rest (λ told y i. each told y (inr i)))
 
 marks_children : (left : ℕ) (checks : List (List ℕ) → ℕ → List Check) (cells : Cells) (n : KeyNode) (at : ℕ)
     → reading key_node_at cells at ≡ Ok n
     → ((told : List (List ℕ)) (y : ℕ) → In (child_places cells at) y → marks (checks told y) ≡ tree_uses left cells y)
-    → marks (children_checks checks cells n at) ≡ plain (list_cells_at cells at) ++ flat_map (tree_uses left cells) (child_places cells at)
+    → marks (children_checks checks cells n at) ≡ plain (list_cells_at cells at)
+    ++ flat_map (tree_uses left cells) (child_places cells at)
 unfolding children_checks list_cells_at child_places
 marks_children left checks cells n at read each =
     go (n.child_count == 0) (λ told y i. each told y (subst (λ (xs : List ℕ). In xs y) (sym places) i))
-    ∙ ap (λ (l : List ℕ). plain l ++ flat_map (tree_uses left cells) (cond (n.child_count == 0) [] (of_read (entries_at cells n.child_list) (λ os. os))))
-    (sym (of_node_is cells at n (λ m. if m.child_count == 0 then [] else used_in (entries_checks cells m.child_list)) read))
+    ∙ ap (λ (l : List ℕ). plain l
+    ++ flat_map (tree_uses left cells)
+    (cond (n.child_count == 0) [] (of_read (entries_at cells n.child_list) (λ os. os))))
+    (sym (of_node_is cells at n (λ m. if m.child_count == 0 then [] else used_in (entries_checks cells m.child_list))
+    read))
     ∙ ap (λ (l : List ℕ). plain (list_cells_at cells at) ++ flat_map (tree_uses left cells) l) (sym places)
   where
     places : child_places cells at ≡ cond (n.child_count == 0) [] (of_read (entries_at cells n.child_list) (λ os. os))
     places =
-        of_node_is cells at n (λ m. if m.child_count == 0 then [] else of_read (entries_at cells m.child_list) (λ os. os)) read
+        of_node_is cells at n (λ m. if m.child_count == 0 then [] else of_read (entries_at cells m.child_list)
+        (λ os. os)) read
 
     some : (r : Result (List ℕ) HiveKind)
-        → ((told : List (List ℕ)) (y : ℕ) → In (of_read r (λ os. os)) y → marks (checks told y) ≡ tree_uses left cells y)
-        → marks (below_of r (λ offsets. tests at (failing (not (length offsets == n.child_count)) Count) ∷ keys_in_turn checks cells [] offsets)) ≡ flat_map (tree_uses left cells) (of_read r (λ os. os))
+        → ((told : List (List ℕ)) (y : ℕ) → In (of_read r (λ os. os)) y
+        → marks (checks told y) ≡ tree_uses left cells y)
+        → marks (below_of r (λ offsets. tests at (failing (not (length offsets == n.child_count)) Count)
+        ∷ keys_in_turn checks cells [] offsets)) ≡ flat_map (tree_uses left cells) (of_read r (λ os. os))
     some (Ok offsets) each = marks_keys left checks cells [] offsets each
     some (Err k) each = refl
 
     go : (b : Bool)
-        → ((told : List (List ℕ)) (y : ℕ) → In (cond b [] (of_read (entries_at cells n.child_list) (λ os. os))) y → marks (checks told y) ≡ tree_uses left cells y)
-        → marks (cond b [] (entries_checks cells n.child_list ++ below_of (entries_at cells n.child_list) (λ offsets. tests at (failing (not (length offsets == n.child_count)) Count) ∷ keys_in_turn checks cells [] offsets)))
-        ≡ plain (cond b [] (used_in (entries_checks cells n.child_list))) ++ flat_map (tree_uses left cells) (cond b [] (of_read (entries_at cells n.child_list) (λ os. os)))
+        → ((told : List (List ℕ)) (y : ℕ) → In (cond b [] (of_read (entries_at cells n.child_list) (λ os. os))) y
+        → marks (checks told y) ≡ tree_uses left cells y)
+        → marks (cond b [] (entries_checks cells n.child_list
+        ++ below_of (entries_at cells n.child_list)
+        (λ offsets. tests at (failing (not (length offsets == n.child_count)) Count)
+        ∷ keys_in_turn checks cells [] offsets)))
+        ≡ plain (cond b [] (used_in (entries_checks cells n.child_list)))
+        ++ flat_map (tree_uses left cells) (cond b [] (of_read (entries_at cells n.child_list) (λ os. os)))
     go true each = refl
     go false each =
-        marks_append (entries_checks cells n.child_list) (below_of (entries_at cells n.child_list) (λ offsets. tests at (failing (not (length offsets == n.child_count)) Count) ∷ keys_in_turn checks cells [] offsets))
-        ∙ ap (λ (l : List (ℕ × Bool)). l ++ marks (below_of (entries_at cells n.child_list) (λ offsets. tests at (failing (not (length offsets == n.child_count)) Count) ∷ keys_in_turn checks cells [] offsets)))
+        marks_append (entries_checks cells n.child_list)
+        (below_of (entries_at cells n.child_list)
+        (λ offsets. tests at (failing (not (length offsets == n.child_count)) Count)
+        ∷ keys_in_turn checks cells [] offsets))
+        ∙ ap (λ (l : List (ℕ × Bool)). l
+        ++ marks (below_of (entries_at cells n.child_list)
+        (λ offsets. tests at (failing (not (length offsets == n.child_count)) Count)
+        ∷ keys_in_turn checks cells [] offsets)))
         (marks_plain (entries_checks cells n.child_list) (entries_plain cells n.child_list))
-        ∙ ap (λ (l : List (ℕ × Bool)). plain (used_in (entries_checks cells n.child_list)) ++ l) (some (entries_at cells n.child_list) each)
+        ∙ ap (λ (l : List (ℕ × Bool)). plain (used_in (entries_checks cells n.child_list)) ++ l)
+        (some (entries_at cells n.child_list) each)
 
 append_three : (a b c d e : List (ℕ × Bool)) → a ++ (b ++ (c ++ (d ++ e))) ≡ (a ++ (b ++ (c ++ d))) ++ e
 append_three [] [] [] d e = refl
@@ -249,18 +284,29 @@ walk_uses zero cells root names at n all read = refl
 walk_uses (suc left) cells root names at n all read =
     ap (λ (l : List (ℕ × Bool)). (at, false) ∷ l)
     (ap (λ (r : Result KeyNode HiveKind). marks (below_of r inside)) read
-    ∙ marks_append (class_checks cells n) (security_checks cells n ++ (values_checks cells n ++ children_checks (key_checks left cells false) cells n at))
-    ∙ ap (λ (l : List (ℕ × Bool)). l ++ marks (security_checks cells n ++ (values_checks cells n ++ children_checks (key_checks left cells false) cells n at))) (marks_class cells n at plain_read_here)
+    ∙ marks_append (class_checks cells n)
+    (security_checks cells n ++ (values_checks cells n ++ children_checks (key_checks left cells false) cells n at))
+    ∙ ap (λ (l : List (ℕ × Bool)). l
+    ++ marks (security_checks cells n
+    ++ (values_checks cells n ++ children_checks (key_checks left cells false) cells n at)))
+    (marks_class cells n at plain_read_here)
     ∙ ap (λ (l : List (ℕ × Bool)). plain (class_cell_at cells at) ++ l)
-    (marks_append (security_checks cells n) (values_checks cells n ++ children_checks (key_checks left cells false) cells n at)
-    ∙ ap (λ (l : List (ℕ × Bool)). l ++ marks (values_checks cells n ++ children_checks (key_checks left cells false) cells n at)) (marks_security cells n at plain_read_here)
+    (marks_append (security_checks cells n)
+    (values_checks cells n ++ children_checks (key_checks left cells false) cells n at)
+    ∙ ap (λ (l : List (ℕ × Bool)). l
+    ++ marks (values_checks cells n ++ children_checks (key_checks left cells false) cells n at))
+    (marks_security cells n at plain_read_here)
     ∙ ap (λ (l : List (ℕ × Bool)). secure (security_cell_at cells at) ++ l)
     (marks_append (values_checks cells n) (children_checks (key_checks left cells false) cells n at)
-    ∙ ap (λ (l : List (ℕ × Bool)). l ++ marks (children_checks (key_checks left cells false) cells n at)) (marks_values cells n at plain_read_here)
+    ∙ ap (λ (l : List (ℕ × Bool)). l ++ marks (children_checks (key_checks left cells false) cells n at))
+    (marks_values cells n at plain_read_here)
     ∙ ap (λ (l : List (ℕ × Bool)). plain (all_value_cells cells at) ++ l)
     (marks_children left (key_checks left cells false) cells n at plain_read_here
-    (λ told y i. let c = (all.each [] at refl).child y i in walk_uses left cells false told y c.node (sound_below cells at y i all) c.read))))
-    ∙ append_three (plain (class_cell_at cells at)) (secure (security_cell_at cells at)) (plain (all_value_cells cells at)) (plain (list_cells_at cells at)) (flat_map (tree_uses left cells) (child_places cells at)))
+    (λ told y i. let c = (all.each [] at refl).child y i in
+    walk_uses left cells false told y c.node (sound_below cells at y i all) c.read))))
+    ∙ append_three (plain (class_cell_at cells at)) (secure (security_cell_at cells at))
+    (plain (all_value_cells cells at)) (plain (list_cells_at cells at))
+    (flat_map (tree_uses left cells) (child_places cells at)))
   where
     plain_read_here : reading key_node_at cells at ≡ Ok n
     plain_read_here = plain_node root cells at n read

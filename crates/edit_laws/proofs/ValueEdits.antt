@@ -45,7 +45,8 @@ went_named b name v values before went behind read whole differ named =
     let parts : values ≡ before ++ one.0 ∷ behind = whole ∙ ap (λ (l : List Item). before ++ (l ++ behind)) same in
     let passes : is_item name one.0 ≡ true = ap (folds_same name) name_same ∙ named in
     let p = pairwise_parts (λ (u : Item) (w : Item). folds_same w.name u.name ≡ false) before (one.0 ∷ behind)
-    (pairwise_from (λ (u : Item) (w : Item). folds_same w.name u.name ≡ false) (before ++ one.0 ∷ behind) (subst ItemsDiffer parts differ)) in (
+    (pairwise_from (λ (u : Item) (w : Item). folds_same w.name u.name ≡ false) (before ++ one.0 ∷ behind)
+    (subst ItemsDiffer parts differ)) in (
       record {
         item = one.0;
         whole = parts;
@@ -67,7 +68,8 @@ first_behind : (p : Item → Bool) (f : Item → Item) (before behind : List Ite
     → at_first p f (before ++ item ∷ behind) ≡ before ++ f item ∷ behind
 first_behind p f [] behind item apart is = ap (λ (b : Bool). cond b (f item ∷ behind) (item ∷ at_first p f behind)) is
 first_behind p f (u ∷ before) behind item apart is =
-    ap (λ (b : Bool). cond b (f u ∷ (before ++ item ∷ behind)) (u ∷ at_first p f (before ++ item ∷ behind))) (apart u (inl refl))
+    ap (λ (b : Bool). cond b (f u ∷ (before ++ item ∷ behind)) (u ∷ at_first p f (before ++ item ∷ behind)))
+    (apart u (inl refl))
     ∙ ap (λ (l : List Item). u ∷ l) (first_behind p f before behind item (λ w i. apart w (inr i)) is)
 
 without_behind : (p : Item → Bool) (before behind : List Item) (item : Item)
@@ -75,7 +77,8 @@ without_behind : (p : Item → Bool) (before behind : List Item) (item : Item)
     → without_first p (before ++ item ∷ behind) ≡ before ++ behind
 without_behind p [] behind item apart is = ap (λ (b : Bool). cond b behind (item ∷ without_first p behind)) is
 without_behind p (u ∷ before) behind item apart is =
-    ap (λ (b : Bool). cond b (before ++ item ∷ behind) (u ∷ without_first p (before ++ item ∷ behind))) (apart u (inl refl))
+    ap (λ (b : Bool). cond b (before ++ item ∷ behind) (u ∷ without_first p (before ++ item ∷ behind)))
+    (apart u (inl refl))
     ∙ ap (λ (l : List Item). u ∷ l) (without_behind p before behind item (λ w i. apart w (inr i)) is)
 
 found_behind : (p : Item → Bool) (before behind : List Item) (item : Item) → p item ≡ true
@@ -99,26 +102,35 @@ pub set_there : (b c : Cells) (root : ℕ) (t k : Tree) (path p : List (List ℕ
 set_there b c root t k path p x v front put back name kind bytes well folds r found s named g =
     value_is_set b c root t k path p x name kind bytes well folds r found (subst (GetsValues b c x) (sym same) d.gets)
   where
-    d : HasChanged b c x front (v ∷ []) back (head k).values (record { name = value_name b v; kind = kind; bytes = bytes } ∷ [])
+    d : HasChanged b c x front (v ∷ []) back (head k).values
+        (record { name = value_name b v; kind = kind; bytes = bytes } ∷ [])
     d =
-        changed b c root t k p x front (v ∷ []) put back (record { name = value_name b v; kind = kind; bytes = bytes } ∷ []) well r s g
+        changed b c root t k p x front (v ∷ []) put back
+        (record { name = value_name b v; kind = kind; bytes = bytes } ∷ []) well r s g
 
     w : (h : HasNamed name (head k).values d.before d.behind) × (d.went ≡ h.item ∷ []) × (h.item.name ≡ value_name b v)
     w =
-        went_named b name v (head k).values d.before d.went d.behind d.read_gone d.values_are (found_items path t k well.names found) named
+        went_named b name v (head k).values d.before d.went d.behind d.read_gone d.values_are
+        (found_items path t k well.names found) named
 
     become : Item → Item
     become i = record i { kind = kind; bytes = bytes }
 
-    as_item : (n m : List ℕ) → n ≡ m → record { name = n; kind = kind; bytes = bytes } ∷ d.behind ≡ record { name = m; kind = kind; bytes = bytes } ∷ d.behind
+    as_item : (n m : List ℕ) → n ≡ m
+        → record { name = n; kind = kind; bytes = bytes } ∷ d.behind ≡ record { name = m; kind = kind; bytes = bytes }
+        ∷ d.behind
     as_item n m e i = record { name = e i; kind = kind; bytes = bytes } ∷ d.behind
 
-    same : with_item name kind bytes (head k).values ≡ d.before ++ (record { name = value_name b v; kind = kind; bytes = bytes } ∷ [] ++ d.behind)
+    same : with_item name kind bytes (head k).values ≡ d.before
+        ++ (record { name = value_name b v; kind = kind; bytes = bytes } ∷ [] ++ d.behind)
     same =
         ap (with_item name kind bytes) w.0.whole
-        ∙ ap (λ (z : Bool). cond z (at_first (is_item name) (λ i. record i { kind = kind; bytes = bytes }) (d.before ++ w.0.item ∷ d.behind)) ((d.before ++ w.0.item ∷ d.behind) ++ record { name = name; kind = kind; bytes = bytes } ∷ []))
+        ∙ ap (λ (z : Bool). cond z
+        (at_first (is_item name) (λ i. record i { kind = kind; bytes = bytes }) (d.before ++ w.0.item ∷ d.behind))
+        ((d.before ++ w.0.item ∷ d.behind) ++ record { name = name; kind = kind; bytes = bytes } ∷ []))
         (found_behind (is_item name) d.before d.behind w.0.item w.0.named)
-        ∙ first_behind (is_item name) (λ i. record i { kind = kind; bytes = bytes }) d.before d.behind w.0.item w.0.apart w.0.named
+        ∙ first_behind (is_item name) (λ i. record i { kind = kind; bytes = bytes })
+        d.before d.behind w.0.item w.0.apart w.0.named
         ∙ ap (λ (l : List Item). d.before ++ l) (as_item w.0.item.name (value_name b v) w.2)
 
 -- a value of a new name comes last
@@ -148,9 +160,11 @@ set_new b c root t k path p x front put name kind bytes well folds r found s non
         d.values_are ∙ ap (λ (l : List Item). d.before ++ (l ++ d.behind)) went
         ∙ ap (λ (l : List Item). d.before ++ l) behind ∙ nothing d.before
 
-    same : with_item name kind bytes (head k).values ≡ d.before ++ (record { name = name; kind = kind; bytes = bytes } ∷ [] ++ d.behind)
+    same : with_item name kind bytes (head k).values ≡ d.before
+        ++ (record { name = name; kind = kind; bytes = bytes } ∷ [] ++ d.behind)
     same =
-        ap (λ (z : Bool). cond z (at_first (is_item name) (λ i. record i { kind = kind; bytes = bytes }) (head k).values) ((head k).values ++ record { name = name; kind = kind; bytes = bytes } ∷ [])) none
+        ap (λ (z : Bool). cond z (at_first (is_item name) (λ i. record i { kind = kind; bytes = bytes })
+        (head k).values) ((head k).values ++ record { name = name; kind = kind; bytes = bytes } ∷ [])) none
         ∙ ap (λ (l : List Item). l ++ record { name = name; kind = kind; bytes = bytes } ∷ []) before
         ∙ ap (λ (l : List Item). d.before ++ (record { name = name; kind = kind; bytes = bytes } ∷ l)) (sym behind)
 
@@ -167,7 +181,8 @@ value_gone b c root t k path p x v front back name well folds r found s named g 
 
     w : (h : HasNamed name (head k).values d.before d.behind) × (d.went ≡ h.item ∷ []) × (h.item.name ≡ value_name b v)
     w =
-        went_named b name v (head k).values d.before d.went d.behind d.read_gone d.values_are (found_items path t k well.names found) named
+        went_named b name v (head k).values d.before d.went d.behind d.read_gone d.values_are
+        (found_items path t k well.names found) named
 
     same : without_first (is_item name) (head k).values ≡ d.before ++ ([] ++ d.behind)
     same =

@@ -55,14 +55,28 @@ are_among : (b : Cells) (root : ℕ) (tb t u : Tree) (step : Step) (path p : Lis
     → Reaches b root p x → ((v : ℕ) → In gone v → In (value_places b x) v × (folds_same name (value_name b v) ≡ true))
     → AreAmong b root t step x gone
 are_among b root tb t u step path p name x gone well ok names f h each = record {
-  key = back x (record { path = p; role = node; owns = record { at = x; reached = h; has = refl }; matches = names.key p f });
+  key = back x (record {
+    path = p;
+    role = node;
+    owns = record { at = x; reached = h; has = refl };
+    matches = names.key p f;
+  });
   values = λ o i. ⊎_elim
-      (λ j. back o (record { path = p; role = value_list; owns = record { at = x; reached = h; has = j }; matches = names.list p f }))
+      (λ j. back o (record {
+        path = p;
+        role = value_list;
+        owns = record { at = x; reached = h; has = j };
+        matches = names.list p f;
+      }))
       (λ j. let v = in_flat (λ w. used_in (value_checks b [] w)) gone o j in
       back o (record {
         path = p;
         role = value (value_name b v.0);
-        owns = record { at = x; reached = h; has = record { place = v.0; listed = (each v.0 v.1).0; named = refl; used = v.2 } };
+        owns = record {
+          at = x;
+          reached = h;
+          has = record { place = v.0; listed = (each v.0 v.1).0; named = refl; used = v.2 };
+        };
         matches = names.value_of p (value_name b v.0) f (each v.0 v.1).1;
       }))
       (in_cases (value_list_at b x) (cells_of_values b gone) o i);
@@ -76,7 +90,8 @@ leaves : (b c : Cells) (root : ℕ) (t : Tree) (step : Step) (x : ℕ) (front go
 leaves b c root t step x front gone put back come among g = record {
   version = g.version;
   rest = λ o q held out. g.others o q held (λ e. out (subst (Contains (step_cells b root t step)) (sym e) among.key))
-      (λ i. out (among.values o (in_left (value_list_at b x) (cells_of_values b gone) o i))) (λ i. out (among.values o (in_right (value_list_at b x) (cells_of_values b gone) o i)));
+      (λ i. out (among.values o (in_left (value_list_at b x) (cells_of_values b gone) o i)))
+      (λ i. out (among.values o (in_right (value_list_at b x) (cells_of_values b gone) o i)));
 }
 
 -- a key that is at its path before and after keeps its name
@@ -95,7 +110,8 @@ keeps b c root t p x items well h g q y k = go (either_way y x)
     go (inl e) = ap (node_name c) e ∙ here ∙ ap (node_name b) (sym e)
     go (inr differs) =
         let s = elsewhere b c root t p q x y items well h g k
-        (λ e. differs (reach_one b p root y x (sound_hive b root t well).all (subst (λ (z : List (List ℕ)). Reaches b root z y) e k) h)) in
+        (λ e. differs (reach_one b p root y x (sound_hive b root t well).all
+        (subst (λ (z : List (List ℕ)). Reaches b root z y) e k) h)) in
         same_name b c y (s.same.each node y (λ z. z) refl)
 
 -- the key is revalued
@@ -119,9 +135,11 @@ is_revalued b c root tb t k step p x front gone put back come well h s among g =
     list = g.same.child_list;
     list_cells = λ o i. other_same b c root tb p p x x lists o items well h d.gets h i (λ e. tt);
   };
-  names = λ y i. keeps b c root tb p x items well h d.gets (p ++ node_name b y ∷ []) y (reach_on b p (node_name b y ∷ []) root x y h (y, i, refl, refl));
+  names = λ y i. keeps b c root tb p x items well h d.gets (p ++ node_name b y ∷ []) y
+      (reach_on b p (node_name b y ∷ []) root x y h (y, i, refl, refl));
   value_list = λ o i. old_or_new o (g.used o (in_left (value_list_at c x) (cells_of_values c put) o i));
-  value = λ v i. which v (in_cases front (put ++ back) v (subst (λ (l : List ℕ). In l v) (listed_places c x g.new (front ++ (put ++ back)) g.read_new g.listed_new) i));
+  value = λ v i. which v (in_cases front (put ++ back) v
+      (subst (λ (l : List ℕ). In l v) (listed_places c x g.new (front ++ (put ++ back)) g.read_new g.listed_new) i));
 }
   where
     d : HasChanged b c x front gone back (head k).values come
@@ -142,10 +160,13 @@ is_revalued b c root tb t k step p x front gone put back come well h s among g =
     there v i = subst (λ (l : List ℕ). In l v) (sym g.listed) i
 
     which : (v : ℕ) → In front v ⊎ In (put ++ back) v
-        → (In (value_places b x) v × IsValueSame b c v) ⊎ ((o : ℕ) → In (used_in (value_checks c [] v)) o → IsNew b root t step o)
+        → (In (value_places b x) v × IsValueSame b c v)
+        ⊎ ((o : ℕ) → In (used_in (value_checks c [] v)) o → IsNew b root t step o)
     which v (inl i) = inl (there v (in_left front (gone ++ back) v i), d.kept_front v i)
     which v (inr i) = ⊎_elim
-        (λ j. inr (λ o used. new o (g.used o (in_right (value_list_at c x) (cells_of_values c put) o (in_flat_from (λ w. used_in (value_checks c [] w)) put o v j used)))))
+        (λ j. inr (λ o used. new o
+        (g.used o (in_right (value_list_at c x) (cells_of_values c put) o
+        (in_flat_from (λ w. used_in (value_checks c [] w)) put o v j used)))))
         (λ j. inl (there v (in_right front (gone ++ back) v (in_right gone back v j)), d.kept_back v j))
         (in_cases put back v i)
 
@@ -157,8 +178,12 @@ pub set_leaves : (b c : Cells) (root : ℕ) (tb t u : Tree) (path p : List (List
     → LeavesOthers b c root t (set_value path name kind bytes)
 set_leaves b c root tb t u path p name kind bytes x front gone put back come well ok f h named g =
     leaves b c root t (set_value path name kind bytes) x front gone put back come
-    (are_among b root tb t u (set_value path name kind bytes) path p name x gone well ok (set_names t path name kind bytes) f h
-    (λ v i. (subst (λ (l : List ℕ). In l v) (sym g.listed) (in_right front (gone ++ back) v (in_left gone back v i)), named v i))) g
+    (are_among b root tb t u (set_value path name kind bytes) path p name x gone well ok
+    (set_names t path name kind bytes) f h
+    (λ v i. (
+      subst (λ (l : List ℕ). In l v) (sym g.listed) (in_right front (gone ++ back) v (in_left gone back v i)),
+      named v i,
+    ))) g
 
 -- the same of a value that is deleted
 pub delete_leaves : (b c : Cells) (root : ℕ) (tb t u : Tree) (path p : List (List ℕ)) (name : List ℕ) (x : ℕ)
@@ -169,7 +194,10 @@ pub delete_leaves : (b c : Cells) (root : ℕ) (tb t u : Tree) (path p : List (L
 delete_leaves b c root tb t u path p name x front gone put back come well ok f h named g =
     leaves b c root t (delete_value path name) x front gone put back come
     (are_among b root tb t u (delete_value path name) path p name x gone well ok (delete_names t path name) f h
-    (λ v i. (subst (λ (l : List ℕ). In l v) (sym g.listed) (in_right front (gone ++ back) v (in_left gone back v i)), named v i))) g
+    (λ v i. (
+      subst (λ (l : List ℕ). In l v) (sym g.listed) (in_right front (gone ++ back) v (in_left gone back v i)),
+      named v i,
+    ))) g
 
 -- A value is set, as its cells show it: the step is framed.
 pub set_is_framed : (b c : Cells) (root : ℕ) (tb t u k : Tree) (path p : List (List ℕ)) (name : List ℕ) (kind : ℕ)
@@ -178,13 +206,20 @@ pub set_is_framed : (b c : Cells) (root : ℕ) (tb t u k : Tree) (path p : List 
     → ((v : ℕ) → In gone v → folds_same name (value_name b v) ≡ true) → ChangesValues b c x front gone put back come
     → IsFramed b c root t (set_value path name kind bytes)
 set_is_framed b c root tb t u k path p name kind bytes x front gone put back come well ok f h s named g =
-    set_framed b c root tb t path name kind bytes well (set_leaves b c root tb t u path p name kind bytes x front gone put back come well ok f h named g)
-    (λ q z y r rc i j. keeps b c root tb p x (d.before ++ (come ++ d.behind)) well h d.gets (q ++ node_name b y ∷ []) y (reach_on b q (node_name b y ∷ []) root z y r (y, i, refl, refl)))
-    (λ q z r near apart. (elsewhere b c root tb p q x z (d.before ++ (come ++ d.behind)) well h d.gets r (λ e. apart (subst (Folds path) (sym e) f))).same.each node z (λ w. w) refl)
+    set_framed b c root tb t path name kind bytes well
+    (set_leaves b c root tb t u path p name kind bytes x front gone put back come well ok f h named g)
+    (λ q z y r rc i j. keeps b c root tb p x (d.before ++ (come ++ d.behind)) well h d.gets (q ++ node_name b y ∷ []) y
+    (reach_on b q (node_name b y ∷ []) root z y r (y, i, refl, refl)))
+    (λ q z r near apart. (elsewhere b c root tb p q x z (d.before ++ (come ++ d.behind)) well h d.gets r
+    (λ e. apart (subst (Folds path) (sym e) f))).same.each node z (λ w. w) refl)
     p x f h
     (is_revalued b c root tb t k (set_value path name kind bytes) p x front gone put back come well h s
-    (are_among b root tb t u (set_value path name kind bytes) path p name x gone well ok (set_names t path name kind bytes) f h
-    (λ v i. (subst (λ (l : List ℕ). In l v) (sym g.listed) (in_right front (gone ++ back) v (in_left gone back v i)), named v i))) g)
+    (are_among b root tb t u (set_value path name kind bytes) path p name x gone well ok
+    (set_names t path name kind bytes) f h
+    (λ v i. (
+      subst (λ (l : List ℕ). In l v) (sym g.listed) (in_right front (gone ++ back) v (in_left gone back v i)),
+      named v i,
+    ))) g)
   where
     d : HasChanged b c x front gone back (head k).values come
     d = changed b c root tb k p x front gone put back come well h s g
@@ -196,13 +231,19 @@ pub delete_is_framed : (b c : Cells) (root : ℕ) (tb t u k : Tree) (path p : Li
     → ((v : ℕ) → In gone v → folds_same name (value_name b v) ≡ true) → ChangesValues b c x front gone put back come
     → IsFramed b c root t (delete_value path name)
 delete_is_framed b c root tb t u k path p name x front gone put back come well ok f h s named g =
-    unset_framed b c root tb t path name well (delete_leaves b c root tb t u path p name x front gone put back come well ok f h named g)
-    (λ q z y r rc i j. keeps b c root tb p x (d.before ++ (come ++ d.behind)) well h d.gets (q ++ node_name b y ∷ []) y (reach_on b q (node_name b y ∷ []) root z y r (y, i, refl, refl)))
-    (λ q z r near apart. (elsewhere b c root tb p q x z (d.before ++ (come ++ d.behind)) well h d.gets r (λ e. apart (subst (Folds path) (sym e) f))).same.each node z (λ w. w) refl)
+    unset_framed b c root tb t path name well
+    (delete_leaves b c root tb t u path p name x front gone put back come well ok f h named g)
+    (λ q z y r rc i j. keeps b c root tb p x (d.before ++ (come ++ d.behind)) well h d.gets (q ++ node_name b y ∷ []) y
+    (reach_on b q (node_name b y ∷ []) root z y r (y, i, refl, refl)))
+    (λ q z r near apart. (elsewhere b c root tb p q x z (d.before ++ (come ++ d.behind)) well h d.gets r
+    (λ e. apart (subst (Folds path) (sym e) f))).same.each node z (λ w. w) refl)
     p x f h
     (is_revalued b c root tb t k (delete_value path name) p x front gone put back come well h s
     (are_among b root tb t u (delete_value path name) path p name x gone well ok (delete_names t path name) f h
-    (λ v i. (subst (λ (l : List ℕ). In l v) (sym g.listed) (in_right front (gone ++ back) v (in_left gone back v i)), named v i))) g)
+    (λ v i. (
+      subst (λ (l : List ℕ). In l v) (sym g.listed) (in_right front (gone ++ back) v (in_left gone back v i)),
+      named v i,
+    ))) g)
   where
     d : HasChanged b c x front gone back (head k).values come
     d = changed b c root tb k p x front gone put back come well h s g

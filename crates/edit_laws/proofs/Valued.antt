@@ -28,7 +28,8 @@ near_same b c root tb t step well rest p x h same unchanged = record { version =
 
     by_role : (r : Role) (o : ℕ) → (IsNode r → ⊥) → (IsSecurity r → ⊥) → HasRole b x r o → c.payload o ≡ b.payload o
     by_role r o other plain i =
-        role_same b c root t step (are_once b root tb well) (are_held b root tb well) rest p x r o h plain (named r other plain) i
+        role_same b c root t step (are_once b root tb well) (are_held b root tb well) rest p x r o h plain
+        (named r other plain) i
 
     each : (r : Role) (o : ℕ) → (IsSecurity r → ⊥) → HasRole b x r o → c.payload o ≡ b.payload o
     each node o plain i = subst (λ (z : ℕ). c.payload z ≡ b.payload z) i same
@@ -43,7 +44,8 @@ valued : (b c : Cells) (root : ℕ) (tb t : Tree) (step : Step) (path : List (Li
     → ((p : List (List ℕ)) (r : Role) → IsChanged t step p r → Folds path p)
     → ((p : List (List ℕ)) → IsTouched step p → Folds path p ⊎ Folds (parent_of path) p)
     → LeavesOthers b c root t step → KeepsNames b c root
-    → ((p : List (List ℕ)) (x : ℕ) → Reaches b root p x → Folds (parent_of path) p → (Folds path p → ⊥) → c.payload x ≡ b.payload x)
+    → ((p : List (List ℕ)) (x : ℕ) → Reaches b root p x → Folds (parent_of path) p → (Folds path p → ⊥)
+    → c.payload x ≡ b.payload x)
     → (stored : List (List ℕ)) (x : ℕ) → Folds path stored → Reaches b root stored x
     → IsRevalued b c (IsNew b root t step) x → IsFramed b c root t step
 valued b c root tb t step path well changes touches rest names parent stored x f r listed =
@@ -51,14 +53,17 @@ valued b c root tb t step path well changes touches rest names parent stored x f
   where
     at_key : (p : List (List ℕ)) (y : ℕ) → Reaches b root p y → Folds path p → IsKept b c (IsNew b root t step) y
     at_key p y h k =
-        subst (IsKept b c (IsNew b root t step)) (sym (place_one b root path p stored y x (sound_hive b root tb well).all k f h r)) (revalued_kept b c (IsNew b root t step) x listed)
+        subst (IsKept b c (IsNew b root t step))
+        (sym (place_one b root path p stored y x (sound_hive b root tb well).all k f h r))
+        (revalued_kept b c (IsNew b root t step) x listed)
 
     go : (p : List (List ℕ)) (y : ℕ) → Reaches b root p y → Reaches c root p y → Folds path p ⊎ (Folds path p → ⊥)
         → Folds path p ⊎ Folds (parent_of path) p → IsKept b c (IsNew b root t step) y
     go p y h g (inl k) d = at_key p y h k
     go p y h g (inr never) (inl k) = at_key p y h k
     go p y h g (inr never) (inr k) =
-        let s = near_same b c root tb t step well rest p y h (parent p y h k never) (λ role plain i. never (changes p role i)) in
+        let s = near_same b c root tb t step well rest p y h (parent p y h k never)
+        (λ role plain i. never (changes p role i)) in
         let same = places_same b c y (s.each node y (λ z. z) refl) (λ o i. s.each lists o (λ z. z) i) in
         kept_same b c (IsNew b root t step) y s (λ w i. names p y w h g i (subst (λ (l : List ℕ). In l w) (sym same) i))
 
@@ -70,17 +75,21 @@ one_near path key p (inr e) f = absurd e
 pub set_framed : (b c : Cells) (root : ℕ) (tb t : Tree) (path : List (List ℕ)) (name : List ℕ) (kind : ℕ)
     (bytes : List ℕ) → IsWellFormed b root tb → LeavesOthers b c root t (set_value path name kind bytes)
     → KeepsNames b c root
-    → ((p : List (List ℕ)) (x : ℕ) → Reaches b root p x → Folds (parent_of path) p → (Folds path p → ⊥) → c.payload x ≡ b.payload x)
+    → ((p : List (List ℕ)) (x : ℕ) → Reaches b root p x → Folds (parent_of path) p → (Folds path p → ⊥)
+    → c.payload x ≡ b.payload x)
     → (stored : List (List ℕ)) (x : ℕ) → Folds path stored → Reaches b root stored x
     → IsRevalued b c (IsNew b root t (set_value path name kind bytes)) x
     → IsFramed b c root t (set_value path name kind bytes)
 set_framed b c root tb t path name kind bytes well =
-    valued b c root tb t (set_value path name kind bytes) path well (λ p r k. k.0) (λ p touch. ⊎_elim (λ n. one_near path n.key p n.named n.folds) (λ k. inl k) touch)
+    valued b c root tb t (set_value path name kind bytes) path well (λ p r k. k.0)
+    (λ p touch. ⊎_elim (λ n. one_near path n.key p n.named n.folds) (λ k. inl k) touch)
 
 pub unset_framed : (b c : Cells) (root : ℕ) (tb t : Tree) (path : List (List ℕ)) (name : List ℕ)
     → IsWellFormed b root tb → LeavesOthers b c root t (delete_value path name) → KeepsNames b c root
-    → ((p : List (List ℕ)) (x : ℕ) → Reaches b root p x → Folds (parent_of path) p → (Folds path p → ⊥) → c.payload x ≡ b.payload x)
+    → ((p : List (List ℕ)) (x : ℕ) → Reaches b root p x → Folds (parent_of path) p → (Folds path p → ⊥)
+    → c.payload x ≡ b.payload x)
     → (stored : List (List ℕ)) (x : ℕ) → Folds path stored → Reaches b root stored x
     → IsRevalued b c (IsNew b root t (delete_value path name)) x → IsFramed b c root t (delete_value path name)
 unset_framed b c root tb t path name well =
-    valued b c root tb t (delete_value path name) path well (λ p r k. k.0) (λ p touch. ⊎_elim (λ n. one_near path n.key p n.named n.folds) (λ k. inl k) touch)
+    valued b c root tb t (delete_value path name) path well (λ p r k. k.0)
+    (λ p touch. ⊎_elim (λ n. one_near path n.key p n.named n.folds) (λ k. inl k) touch)

@@ -40,7 +40,9 @@ both_fold (n ∷ name) (x ∷ a) (y ∷ b) e f =
     let p = and_parts (folded_unit n == folded_unit x) (folds_same name a) e in
     let q = and_parts (folded_unit n == folded_unit y) (folds_same name b) f in
     and_both (folded_unit x == folded_unit y) (folds_same a b)
-    (eq-eqb (folded_unit x) (folded_unit y) (sym (eqb-true (folded_unit n) (folded_unit x) p.0) ∙ eqb-true (folded_unit n) (folded_unit y) q.0)) (both_fold name a b p.1 q.1)
+    (eq-eqb (folded_unit x) (folded_unit y)
+    (sym (eqb-true (folded_unit n) (folded_unit x) p.0) ∙ eqb-true (folded_unit n) (folded_unit y) q.0))
+    (both_fold name a b p.1 q.1)
 
 -- a name that folds to one of two that differ does not fold to the other
 pub not_named : (name a b : List ℕ) → folds_same b a ≡ false → folds_same name b ≡ true → folds_same name a ≡ false
@@ -75,11 +77,13 @@ pub places_are : (cells : Cells) (at : ℕ) (h : Head) (offsets : List ℕ) → 
     → child_places cells at ≡ offsets
 unfolding child_places
 places_are cells at h offsets k =
-    of_node_is cells at k.node (λ m. if m.child_count == 0 then [] else of_read (entries_at cells m.child_list) (λ os. os)) k.read
+    of_node_is cells at k.node
+    (λ m. if m.child_count == 0 then [] else of_read (entries_at cells m.child_list) (λ os. os)) k.read
     ∙ go (k.node.child_count == 0) k.children
   where
     go : (b : Bool)
-        → MatchBool b (offsets ≡ []) ((entries_at cells k.node.child_list ≡ Ok offsets) × (length offsets ≡ k.node.child_count))
+        → MatchBool b (offsets ≡ [])
+        ((entries_at cells k.node.child_list ≡ Ok offsets) × (length offsets ≡ k.node.child_count))
         → cond b [] (of_read (entries_at cells k.node.child_list) (λ os. os)) ≡ offsets
     go true e = sym e
     go false e = ap (λ (r : Result (List ℕ) HiveKind). of_read r (λ os. os)) e.0
@@ -103,7 +107,8 @@ named_reads : (cells : Cells) (at : ℕ) (n : KeyNode) → reading key_node_at c
 unfolding node_at
 named_reads cells at n read some =
     let p = first_part (cells.payload at) key_node_at n read in
-    ap (λ q. q >>= λ bytes. key_node_at bytes >>= λ m. if (length m.name == 0) && not false then Err FormName else Ok m) p.1
+    ap (λ q. q >>= λ bytes. key_node_at bytes >>= λ m. if (length m.name == 0) && not false then Err FormName else Ok m)
+    p.1
     ∙ ap (λ q. q >>= λ m. if (length m.name == 0) && not false then Err FormName else Ok m) p.2
     ∙ go (length n.name == 0) refl
   where
@@ -113,7 +118,11 @@ named_reads cells at n read some =
 
 tree_named : (cells : Cells) (at : ℕ) (t : Tree) → Stands cells at t → 0 < length (head t).name → IsNamedNode cells at
 tree_named cells at (key h ts) s some =
-    record { node = s.1.node; read = named_reads cells at s.1.node s.1.read (let e : length h.name ≡ length s.1.node.name = ap length s.1.name in omega arith) }
+    record {
+      node = s.1.node;
+      read = named_reads cells at s.1.node s.1.read
+          (let e : length h.name ≡ length s.1.node.name = ap length s.1.name in omega arith);
+    }
 
 -- a child's tree
 pub record HasTree (cells : Cells) (y most : ℕ) (ts : Trees) : Type 0 where
@@ -132,9 +141,21 @@ tree_of cells offsets (more t ts) y a n h =
     go : (In a.1 y → HasTree cells y (most_levels ts) ts) → In (a.0 ∷ a.1) y
         → HasTree cells y (max (levels t) (most_levels ts)) (more t ts)
     go deep (inl e) =
-        record { tree = t; stands = subst (λ (z : ℕ). Stands cells z t) e a.3; names = n.0; low = omega arith; listed_there = inl refl }
+        record {
+          tree = t;
+          stands = subst (λ (z : ℕ). Stands cells z t) e a.3;
+          names = n.0;
+          low = omega arith;
+          listed_there = inl refl;
+        }
     go deep (inr h) =
-        let d = deep h in record { tree = d.tree; stands = d.stands; names = d.names; low = (let l = d.low in omega arith); listed_there = inr d.listed_there }
+        let d = deep h in record {
+          tree = d.tree;
+          stands = d.stands;
+          names = d.names;
+          low = (let l = d.low in omega arith);
+          listed_there = inr d.listed_there;
+        }
 
 all_in : (P : Tree → Type 0) (xs : List Tree) (x : Tree) → All P xs → In xs x → P x
 all_in P [] x a h = absurd h
@@ -150,7 +171,8 @@ keys_distinct cells offsets (more t ts) a n d =
           let other = tree_of cells a.1 ts z a.4 n.1 h in
           ap (λ (m : List ℕ). folds_same m (node_name cells a.0)) (tree_name cells z other.tree other.stands)
           ∙ ap (folds_same (head other.tree).name) (tree_name cells a.0 t a.3)
-          ∙ all_in (λ s. folds_same (head s).name (head t).name ≡ false) (listed ts) other.tree (λ k e within. d 0 (suc k) e (omega arith) (omega arith)) other.listed_there,
+          ∙ all_in (λ s. folds_same (head s).name (head t).name ≡ false) (listed ts) other.tree
+          (λ k e within. d 0 (suc k) e (omega arith) (omega arith)) other.listed_there,
       keys_distinct cells a.1 ts a.4 n.1 (λ i j e lt within. d (suc i) (suc j) e (omega arith) (omega arith)),
     )
 
@@ -180,7 +202,8 @@ pub item_value : (cells : Cells) (v : ℕ) (item : Item) → item_at cells v ≡
     → (k : KeyValue) × (reading key_value_at cells v ≡ Ok k) × (k.name ≡ item.name)
 unfolding item_at
 item_value cells v item e =
-    let p = first_part (reading key_value_at cells v) (λ value. data_of cells value >>= λ bytes. Ok (item_from value bytes)) item e in
+    let p = first_part (reading key_value_at cells v)
+    (λ value. data_of cells value >>= λ bytes. Ok (item_from value bytes)) item e in
     let d = first_part (data_of cells p.0) (λ bytes. Ok (item_from p.0 bytes)) item p.2 in
     (p.0, p.1, ap (λ i. i.name) (ok_item (item_from p.0 d.0) item d.2))
 
@@ -201,10 +224,22 @@ item_of cells (at ∷ rest) items v e h = go (item_of cells rest others.0 v othe
     go : (In rest v → HasItem cells v others.0) → In (at ∷ rest) v → HasItem cells v items
     go deep (inl w) =
         let k = item_value cells at one.0 one.1 in
-        record { item = one.0; there = k.0; read = subst (λ (z : ℕ). reading key_value_at cells z ≡ Ok k.0) w k.1; name = k.2; listed_there = subst (λ (l : List Item). In l one.0) same (inl refl) }
+        record {
+          item = one.0;
+          there = k.0;
+          read = subst (λ (z : ℕ). reading key_value_at cells z ≡ Ok k.0) w k.1;
+          name = k.2;
+          listed_there = subst (λ (l : List Item). In l one.0) same (inl refl);
+        }
     go deep (inr h) =
         let d = deep h in
-        record { item = d.item; there = d.there; read = d.read; name = d.name; listed_there = subst (λ (l : List Item). In l d.item) same (inr d.listed_there) }
+        record {
+          item = d.item;
+          there = d.there;
+          read = d.read;
+          name = d.name;
+          listed_there = subst (λ (l : List Item). In l d.item) same (inr d.listed_there);
+        }
 
 value_named : (cells : Cells) (v : ℕ) (items : List Item) (i : HasItem cells v items)
     → value_name cells v ≡ i.item.name
@@ -228,8 +263,10 @@ items_distinct cells (at ∷ rest) items e d =
       λ z h.
           let other = item_of cells rest others.0 z others.1 h in
           ap (λ (m : List ℕ). folds_same m (value_name cells at)) (value_named cells z others.0 other)
-          ∙ ap (folds_same other.item.name) (ap (λ (r : Result KeyValue HiveKind). first_or_empty (names_of (λ (w : KeyValue). w.name) r)) k.1 ∙ k.2)
-          ∙ items_in (λ i. folds_same i.name one.0.name ≡ false) others.0 other.item (λ j w within. p 0 (suc j) w (omega arith) (omega arith)) other.listed_there,
+          ∙ ap (folds_same other.item.name)
+          (ap (λ (r : Result KeyValue HiveKind). first_or_empty (names_of (λ (w : KeyValue). w.name) r)) k.1 ∙ k.2)
+          ∙ items_in (λ i. folds_same i.name one.0.name ≡ false) others.0 other.item
+          (λ j w within. p 0 (suc j) w (omega arith) (omega arith)) other.listed_there,
       items_distinct cells rest others.0 others.1 (λ i j w lt within. p (suc i) (suc j) w (omega arith) (omega arith)),
     )
 
@@ -249,14 +286,23 @@ pub items_are : (cells : Cells) (at : ℕ) (h : Head) (offsets : List ℕ) → K
 unfolding value_places values_of
 items_are cells at h offsets k =
     let r = go (k.node.value_count == 0) k.values in
-    record { offsets = r.offsets; places = of_node_is cells at k.node (λ n. if n.value_count == 0 then [] else of_read (reading (offsets_in n.value_count) cells n.value_list) (λ os. os)) k.read ∙ r.places; read = r.read }
+    record {
+      offsets = r.offsets;
+      places = of_node_is cells at k.node
+          (λ n. if n.value_count == 0 then [] else of_read (reading (offsets_in n.value_count) cells n.value_list)
+          (λ os. os)) k.read ∙ r.places;
+      read = r.read;
+    }
   where
     go : (b : Bool)
-        → cond b (Ok []) (reading (offsets_in k.node.value_count) cells k.node.value_list >>= items_at cells) ≡ Ok h.values
-        → HasOffsets cells h.values (cond b [] (of_read (reading (offsets_in k.node.value_count) cells k.node.value_list) (λ os. os)))
+        → cond b (Ok []) (reading (offsets_in k.node.value_count) cells k.node.value_list >>= items_at cells)
+        ≡ Ok h.values
+        → HasOffsets cells h.values
+        (cond b [] (of_read (reading (offsets_in k.node.value_count) cells k.node.value_list) (λ os. os)))
     go true e = record { offsets = []; places = refl; read = e }
     go false e =
-        let p = first_part (reading (offsets_in k.node.value_count) cells k.node.value_list) (items_at cells) h.values e in
+        let p = first_part (reading (offsets_in k.node.value_count) cells k.node.value_list) (items_at cells)
+        h.values e in
         record { offsets = p.0; places = ap (λ (r : Result (List ℕ) HiveKind). of_read r (λ os. os)) p.1; read = p.2 }
 
 -- ---- the whole
@@ -267,11 +313,14 @@ sound_at cells x (key h ts) s n =
     let v = items_are cells x h s.0 s.1 in
     record {
       child = λ y i. let c = tree_of cells s.0 ts y s.2 n.3 (subst (λ (xs : List ℕ). In xs y) places i) in
-          tree_named cells y c.tree c.stands (all_in (λ u. 0 < length (head u).name) (listed ts) c.tree n.1 c.listed_there);
+          tree_named cells y c.tree c.stands
+          (all_in (λ u. 0 < length (head u).name) (listed ts) c.tree n.1 c.listed_there);
       one_child = λ name y z i j. one_of (node_name cells) s.0 name y z (keys_distinct cells s.0 ts s.2 n.3 n.2)
           (subst (λ (xs : List ℕ). In xs y) places i) (subst (λ (xs : List ℕ). In xs z) places j);
-      value = λ w i. let c = item_of cells v.offsets h.values w v.read (subst (λ (xs : List ℕ). In xs w) v.places i) in record { value = c.there; read = c.read };
-      one_value = λ name y z i j. one_of (value_name cells) v.offsets name y z (items_distinct cells v.offsets h.values v.read n.0)
+      value = λ w i. let c = item_of cells v.offsets h.values w v.read (subst (λ (xs : List ℕ). In xs w) v.places i) in
+          record { value = c.there; read = c.read };
+      one_value = λ name y z i j. one_of (value_name cells) v.offsets name y z
+          (items_distinct cells v.offsets h.values v.read n.0)
           (subst (λ (xs : List ℕ). In xs y) v.places i) (subst (λ (xs : List ℕ). In xs z) v.places j);
     }
 
@@ -301,6 +350,10 @@ sound_tree cells root t s n =
 
 pub sound_hive : (cells : Cells) (root : ℕ) (t : Tree) → IsWellFormed cells root t → IsSoundHive cells root
 sound_hive cells root t w = record {
-  all = record { each = λ path x r. let d = standing cells path root x t w.stands w.names r in sound_at cells x d.tree d.stands d.names };
-  shallow = λ path x r. let d = standing cells path root x t w.stands w.names r in let a = d.low in let b = w.levels in let c = some_levels d.tree in omega arith;
+  all = record {
+    each = λ path x r. let d = standing cells path root x t w.stands w.names r in
+        sound_at cells x d.tree d.stands d.names;
+  };
+  shallow = λ path x r. let d = standing cells path root x t w.stands w.names r in let a = d.low in let b = w.levels in
+      let c = some_levels d.tree in omega arith;
 }

@@ -14,7 +14,10 @@ use Rattle.edit_laws.proofs.StepBack.{step_back}
 
 pub bridges : (a : Cells) (root : ℕ) → IsSoundHive a root → Bridges a root
 bridges a root sound =
-    record { out = λ b t u step o ok h. step_out b root t step o h; back = λ t u step o ok m. step_back a root t u step o sound ok m }
+    record {
+      out = λ b t u step o ok h. step_out b root t step o h;
+      back = λ t u step o ok m. step_back a root t u step o sound ok m;
+    }
 
 pub outside_same : (a c : Cells) (root : ℕ) (t : Tree) (steps : List Step) → IsSoundHive a root
     → Edits root a t steps c → (o : ℕ) (q : List ℕ) → a.payload o ≡ Ok q → (IsInFootprint a root t steps o → ⊥)

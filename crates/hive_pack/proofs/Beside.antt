@@ -33,11 +33,13 @@ WithinCheck most lo hi s (uses at b) = ((lo ≤ at) × (at < hi)) ⊎ ((b ≡ tr
 abbrev pub Within : ℕ → ℕ → ℕ → ℕ → List Check → Type 0
 Within most lo hi s cs = AllByRecursion (WithinCheck most lo hi s) cs
 
-pub all_append : (P : Check → Type 0) (a b : List Check) → AllByRecursion P a → AllByRecursion P b → AllByRecursion P (a ++ b)
+pub all_append : (P : Check → Type 0) (a b : List Check) → AllByRecursion P a → AllByRecursion P b
+    → AllByRecursion P (a ++ b)
 all_append P [] b p q = q
 all_append P (c ∷ cs) b p q = (p.0, all_append P cs b p.1 q)
 
-within_wider : (most lo hi lo' hi' s : ℕ) (cs : List Check) → lo' ≤ lo → hi ≤ hi' → Within most lo hi s cs → Within most lo' hi' s cs
+within_wider : (most lo hi lo' hi' s : ℕ) (cs : List Check) → lo' ≤ lo → hi ≤ hi' → Within most lo hi s cs
+    → Within most lo' hi' s cs
 within_wider most lo hi lo' hi' s [] l h w = tt
 within_wider most lo hi lo' hi' s (tests at b ∷ cs) l h w = (tt, within_wider most lo hi lo' hi' s cs l h w.1)
 within_wider most lo hi lo' hi' s (uses at b ∷ cs) l h w = (go w.0, within_wider most lo hi lo' hi' s cs l h w.1)
@@ -47,11 +49,13 @@ within_wider most lo hi lo' hi' s (uses at b ∷ cs) l h w = (go w.0, within_wid
     go (inr p) = inr p
 
 -- what the children use, under the key's own descriptor, lies in the key's own range
-within_own : (most lo hi lo' hi' s s' : ℕ) (cs : List Check) → lo' ≤ lo → hi ≤ hi' → lo' ≤ s' → s' < hi' → Within most lo hi s' cs
+within_own : (most lo hi lo' hi' s s' : ℕ) (cs : List Check) → lo' ≤ lo → hi ≤ hi' → lo' ≤ s' → s' < hi'
+    → Within most lo hi s' cs
     → Within most lo' hi' s cs
 within_own most lo hi lo' hi' s s' [] l h k m w = tt
 within_own most lo hi lo' hi' s s' (tests at b ∷ cs) l h k m w = (tt, within_own most lo hi lo' hi' s s' cs l h k m w.1)
-within_own most lo hi lo' hi' s s' (uses at b ∷ cs) l h k m w = (go w.0, within_own most lo hi lo' hi' s s' cs l h k m w.1)
+within_own most lo hi lo' hi' s s' (uses at b ∷ cs) l h k m w =
+    (go w.0, within_own most lo hi lo' hi' s s' cs l h k m w.1)
   where
     go : WithinCheck most lo hi s' (uses at b) → WithinCheck most lo' hi' s (uses at b)
     go (inl p) = inl (omega (arith, p.0), omega (arith, p.1))
@@ -68,7 +72,8 @@ within_none most lo hi s d (uses at b ∷ cs) l w = (go w.0, within_none most lo
     go (inr p) = absurd (omega (arith, p.2))
 
 -- in a part of the range
-clean_in : (most lo hi lo' hi' s : ℕ) (cs : List Check) → lo ≤ lo' → hi' ≤ hi → Clean most lo hi s cs → Clean most lo' hi' s cs
+clean_in : (most lo hi lo' hi' s : ℕ) (cs : List Check) → lo ≤ lo' → hi' ≤ hi → Clean most lo hi s cs
+    → Clean most lo' hi' s cs
 clean_in most lo hi lo' hi' s [] l h c = tt
 clean_in most lo hi lo' hi' s (tests at k ∷ cs) l h c = (tt, clean_in most lo hi lo' hi' s cs l h c.1)
 clean_in most lo hi lo' hi' s (uses at b ∷ cs) l h c = ((go c.0.0, c.0.1), clean_in most lo hi lo' hi' s cs l h c.1)
@@ -92,10 +97,12 @@ clean_new most lo hi s s' (uses at b ∷ cs) l h c =
 clean_none : (most lo hi s d : ℕ) (cs : List Check) → most ≤ d → Clean most lo hi s cs → Clean most lo hi d cs
 clean_none most lo hi s d [] l c = tt
 clean_none most lo hi s d (tests at k ∷ cs) l c = (tt, clean_none most lo hi s d cs l c.1)
-clean_none most lo hi s d (uses at b ∷ cs) l c = ((c.0.0, λ e lt. absurd (omega arith)), clean_none most lo hi s d cs l c.1)
+clean_none most lo hi s d (uses at b ∷ cs) l c =
+    ((c.0.0, λ e lt. absurd (omega arith)), clean_none most lo hi s d cs l c.1)
 
 -- what is used in a range is clean for the one behind it
-clean_within : (most lo mid hi s : ℕ) (cs : List Check) → Outside s lo hi → lo ≤ mid → mid ≤ hi → Within most lo mid s cs
+clean_within : (most lo mid hi s : ℕ) (cs : List Check) → Outside s lo hi → lo ≤ mid → mid ≤ hi
+    → Within most lo mid s cs
     → Clean most mid hi s cs
 clean_within most lo mid hi s [] o l h w = tt
 clean_within most lo mid hi s (tests at k ∷ cs) o l h w = (tt, clean_within most lo mid hi s cs o l h w.1)
@@ -122,7 +129,8 @@ one : (s a : ℕ) (b : Bool) (h : a ≡ s → b ≡ true) (cs : List Check) → 
     → list_any (clash s true) (uses a b ∷ cs) ≡ false
 one s a b h cs r = rw (kept_both s a b (eqb s a) refl h) r
 
-shared : (most lo hi s : ℕ) (before : List Check) → s < most → Clean most lo hi s before → list_any (clash s true) before ≡ false
+shared : (most lo hi s : ℕ) (before : List Check) → s < most → Clean most lo hi s before
+    → list_any (clash s true) before ≡ false
 shared most lo hi s [] l c = refl
 shared most lo hi s (tests a k ∷ cs) l c = shared most lo hi s cs l c.1
 shared most lo hi s (uses a b ∷ cs) l c = one s a b (λ e. c.0.1 e l) cs (shared most lo hi s cs l c.1)
@@ -130,9 +138,13 @@ shared most lo hi s (uses a b ∷ cs) l c = one s a b (λ e. c.0.1 e l) cs (shar
 once_append : (before a b : List Check) → OnceBehind before a → OnceBehind (before ++ a) b → OnceBehind before (a ++ b)
 once_append before [] b p q = subst (λ (l : List Check). OnceBehind l b) (append-nil before) q
 once_append before (tests at k ∷ cs) b p q =
-    once_append (before ++ tests at k ∷ []) cs b p (subst (λ (l : List Check). OnceBehind l b) (sym (append_assoc before (tests at k ∷ []) cs)) q)
-once_append before (uses at k ∷ cs) b p q =
-    (p.0, once_append (before ++ uses at k ∷ []) cs b p.1 (subst (λ (l : List Check). OnceBehind l b) (sym (append_assoc before (uses at k ∷ []) cs)) q))
+    once_append (before ++ tests at k ∷ []) cs b p
+    (subst (λ (l : List Check). OnceBehind l b) (sym (append_assoc before (tests at k ∷ []) cs)) q)
+once_append before (uses at k ∷ cs) b p q = (
+  p.0,
+  once_append (before ++ uses at k ∷ []) cs b p.1
+      (subst (λ (l : List Check). OnceBehind l b) (sym (append_assoc before (uses at k ∷ []) cs)) q),
+)
 
 -- ---- a stretch of checks
 
@@ -142,8 +154,10 @@ pub record Good (most lo hi s : ℕ) (cs : List Check) : Type 0 where
   pub once : (before : List Check) → Clean most lo hi s before → OnceBehind before cs
 
 -- under a bound that the descriptor is before if it is before the other
-pub good_bound : (most most' lo hi s : ℕ) (cs : List Check) → (s < most → s < most') → Good most lo hi s cs → Good most' lo hi s cs
-good_bound most most' lo hi s cs k g = record { within = wider cs g.within; once = λ before c. g.once before (cleaner before c) }
+pub good_bound : (most most' lo hi s : ℕ) (cs : List Check) → (s < most → s < most') → Good most lo hi s cs
+    → Good most' lo hi s cs
+good_bound most most' lo hi s cs k g =
+    record { within = wider cs g.within; once = λ before c. g.once before (cleaner before c) }
   where
     within_use : (at : ℕ) (b : Bool) → WithinCheck most lo hi s (uses at b) → WithinCheck most' lo hi s (uses at b)
     within_use at b (inl p) = inl p
@@ -162,13 +176,15 @@ good_bound most most' lo hi s cs k g = record { within = wider cs g.within; once
 pub good_none : {most : ℕ} (lo hi s : ℕ) → Good most lo hi s []
 good_none lo hi s = record { within = tt; once = λ before c. tt }
 
-pub good_append : {most : ℕ} (lo mid hi s : ℕ) (a b : List Check) → lo ≤ mid → mid ≤ hi → Outside s lo hi → Good most lo mid s a
+pub good_append : {most : ℕ} (lo mid hi s : ℕ) (a b : List Check) → lo ≤ mid → mid ≤ hi → Outside s lo hi
+    → Good most lo mid s a
     → Good most mid hi s b → Good most lo hi s (a ++ b)
 good_append {most} lo mid hi s a b l h o g k = record {
   within = all_append (WithinCheck most lo hi s) a b (within_wider most lo mid lo hi s a (omega arith) h g.within)
       (within_wider most mid hi lo hi s b l (omega arith) k.within);
   once = λ before c. once_append before a b (g.once before (clean_in most lo hi lo mid s before (omega arith) h c))
-      (k.once (before ++ a) (all_append (CleanCheck most mid hi s) before a (clean_in most lo hi mid hi s before l (omega arith) c)
+      (k.once (before ++ a) (all_append (CleanCheck most mid hi s) before a
+      (clean_in most lo hi mid hi s before l (omega arith) c)
       (clean_within most lo mid hi s a o l h g.within)));
 }
 
@@ -176,7 +192,8 @@ pub good_tests : {most : ℕ} (lo hi s at : ℕ) (kind : Option HiveKind) (cs : 
     → Good most lo hi s (tests at kind ∷ cs)
 good_tests {most} lo hi s at kind cs g = record {
   within = (tt, g.within);
-  once = λ before c. g.once (before ++ tests at kind ∷ []) (all_append (CleanCheck most lo hi s) before (tests at kind ∷ []) c (tt, tt));
+  once = λ before c. g.once (before ++ tests at kind ∷ [])
+      (all_append (CleanCheck most lo hi s) before (tests at kind ∷ []) c (tt, tt));
 }
 
 pub good_use : {most : ℕ} (lo mid hi s at : ℕ) (cs : List Check) → lo ≤ at → at < mid → mid ≤ hi → Outside s lo hi
@@ -198,30 +215,39 @@ good_shared {most} lo hi s cs l o g = record {
   within = (inr (refl, refl, l), g.within);
   once = λ before c. (
     shared most lo hi s before l c,
-    g.once (before ++ uses s true ∷ []) (all_append (CleanCheck most lo hi s) before (uses s true ∷ []) c ((o, λ e lt. refl), tt)),
+    g.once (before ++ uses s true ∷ [])
+        (all_append (CleanCheck most lo hi s) before (uses s true ∷ []) c ((o, λ e lt. refl), tt)),
   );
 }
 
 -- without a descriptor
 pub good_other : {most : ℕ} (lo hi s d : ℕ) (cs : List Check) → most ≤ d → Good most lo hi d cs → Good most lo hi s cs
 good_other {most} lo hi s d cs l g =
-    record { within = within_none most lo hi s d cs l g.within; once = λ before c. g.once before (clean_none most lo hi s d before l c) }
+    record {
+      within = within_none most lo hi s d cs l g.within;
+      once = λ before c. g.once before (clean_none most lo hi s d before l c);
+    }
 
 -- a descriptor of the key's own
 pub good_own : {most : ℕ} (lo mid hi s d : ℕ) (cs : List Check) → lo ≤ d → d < mid → mid ≤ hi → Good most mid hi d cs
     → Good most lo hi s (uses d true ∷ cs)
 good_own {most} lo mid hi s d cs l m h g = record {
-  within = (inl (l, omega arith), within_own most mid hi lo hi s d cs (omega arith) (omega arith) l (omega arith) g.within);
+  within = (
+    inl (l, omega arith),
+    within_own most mid hi lo hi s d cs (omega arith) (omega arith) l (omega arith) g.within,
+  );
   once = λ before c. (
     unused most lo hi s d true before l (omega arith) c,
     g.once (before ++ uses d true ∷ []) (all_append (CleanCheck most mid hi d) before (uses d true ∷ [])
-        (clean_in most lo hi mid hi d before (omega arith) (omega arith) (clean_new most lo hi s d before l (omega arith) c))
+        (clean_in most lo hi mid hi d before (omega arith) (omega arith)
+        (clean_new most lo hi s d before l (omega arith) c))
         ((inl m, λ e lt. refl), tt)),
   );
 }
 
 -- a use of a cell in the range
-pub use_only : {most : ℕ} {F : Type 0} (form : List ℕ → Result F HiveKind) (cells : Cells) (lo hi s at : ℕ) → lo ≤ at → at < hi
+pub use_only : {most : ℕ} {F : Type 0} (form : List ℕ → Result F HiveKind) (cells : Cells) (lo hi s at : ℕ) → lo ≤ at
+    → at < hi
     → Outside s lo hi → Good most lo hi s (use_as false form cells at)
 use_only form cells lo hi s at l h o =
     good_use lo hi hi s at (tests at (found (reading form cells at)) ∷ []) l h (omega arith) o
@@ -230,7 +256,8 @@ use_only form cells lo hi s at l h o =
 -- and what is read there asks for more
 pub use_then : {most : ℕ} {F : Type 0} (form : List ℕ → Result F HiveKind) (cells : Cells) (lo mid hi s at : ℕ) (x : F)
     (below : F → List Check) → reading form cells at ≡ Ok x → lo ≤ at → at < mid → mid ≤ hi → Outside s lo hi
-    → Good most mid hi s (below x) → Good most lo hi s (use_as false form cells at ++ below_of (reading form cells at) below)
+    → Good most mid hi s (below x)
+    → Good most lo hi s (use_as false form cells at ++ below_of (reading form cells at) below)
 use_then {most} form cells lo mid hi s at x below e l m h o g =
     subst (λ (r : Result _ HiveKind). Good most lo hi s (uses at false ∷ tests at (found r) ∷ below_of r below)) (sym e)
     (good_use lo mid hi s at (tests at None ∷ below x) l m h o (good_tests mid hi s at None (below x) g))

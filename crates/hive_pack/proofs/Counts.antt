@@ -20,11 +20,14 @@ if_few false n m h = omega arith
 mutual
   pub few_sharers : (version : HiveVersion) (s shared : List ℕ) (t : Tree) → sharers s t ≤ size version shared t
   few_sharers version s shared (key h ts) =
-      if_few (pointwise nat_eq s h.security) (sharers_of_all s ts) (size version shared (key h ts)) (omega (arith, few_of_all version s h.security ts))
+      if_few (pointwise nat_eq s h.security) (sharers_of_all s ts) (size version shared (key h ts))
+      (omega (arith, few_of_all version s h.security ts))
 
-  pub few_of_all : (version : HiveVersion) (s shared : List ℕ) (ts : Trees) → sharers_of_all s ts ≤ size_of_all version shared ts
+  pub few_of_all : (version : HiveVersion) (s shared : List ℕ) (ts : Trees)
+      → sharers_of_all s ts ≤ size_of_all version shared ts
   few_of_all version s shared none = omega arith
-  few_of_all version s shared (more t ts) = omega (arith, few_sharers version s shared t, few_of_all version s shared ts)
+  few_of_all version s shared (more t ts) =
+      omega (arith, few_sharers version s shared t, few_of_all version s shared ts)
 
 pub sharers_parted : (s : List ℕ) (t : Tree)
     → sharers s t ≡ (if pointwise nat_eq s (head t).security then 1 + sharers_of_all s (trees (children t)) else 0)
@@ -37,7 +40,8 @@ pub short_names : (ks : List Tree) → AllHoldKeys (trees ks) → greatest (λ (
 short_names [] f = omega arith
 short_names (k ∷ ks) f = omega (arith, (holds_parted k f.0).0.name, short_names ks f.1)
 
-pub short_classes : (ks : List Tree) → AllHoldKeys (trees ks) → greatest (λ (k : Tree). length (head k).class) ks < 2 ^ 16
+pub short_classes : (ks : List Tree) → AllHoldKeys (trees ks)
+    → greatest (λ (k : Tree). length (head k).class) ks < 2 ^ 16
 short_classes [] f = omega arith
 short_classes (k ∷ ks) f = omega (arith, (holds_parted k f.0).0.class, short_classes ks f.1)
 

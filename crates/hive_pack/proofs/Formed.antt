@@ -27,5 +27,6 @@ packed_is_well_formed version t f n le =
       stands = packed_stands version t f n le;
       levels = f.levels;
       names = apart t f.keys;
-      once = checks_once cells (top (ring version [] 32 t)) t room refl (above_root cells t room) (has_all version t) f.keys n f.levels;
+      once = checks_once cells (top (ring version [] 32 t)) t room refl (above_root cells t room) (has_all version t)
+          f.keys n f.levels;
     }

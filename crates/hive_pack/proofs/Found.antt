@@ -23,12 +23,15 @@ has_front cells at (p ∷ ps) b h = (h.0, has_front cells (at + cell (length p))
 
 pub has_back : (cells : Cells) (at : ℕ) (a b : List (List ℕ)) → Has cells at (a ++ b) → Has cells (at + space a) b
 has_back cells at [] b h = let e : at + 0 ≡ at = omega arith in rw e h
-has_back cells at (p ∷ ps) b h = let e : at + (cell (length p) + space ps) ≡ at + cell (length p) + space ps = omega arith in rw e (has_back cells (at + cell (length p)) ps b h.1)
+has_back cells at (p ∷ ps) b h = let e : at + (cell (length p) + space ps) ≡ at + cell (length p) + space ps =
+    omega arith in rw e (has_back cells (at + cell (length p)) ps b h.1)
 
 -- behind cells that take so many bytes
-pub has_behind : (cells : Cells) (at n place : ℕ) (a b : List (List ℕ)) → space a ≡ n → at + n ≡ place → Has cells at (a ++ b)
+pub has_behind : (cells : Cells) (at n place : ℕ) (a b : List (List ℕ)) → space a ≡ n → at + n ≡ place
+    → Has cells at (a ++ b)
     → Has cells place b
-has_behind cells at n place a b s p h = subst (λ (k : ℕ). Has cells k b) (ap (λ k. at + k) s ∙ p) (has_back cells at a b h)
+has_behind cells at n place a b s p h =
+    subst (λ (k : ℕ). Has cells k b) (ap (λ k. at + k) s ∙ p) (has_back cells at a b h)
 
 -- behind a payload of k bytes
 pub has_next : (cells : Cells) (at k : ℕ) (p : List ℕ) (ps : List (List ℕ)) → length p ≡ k → Has cells at (p ∷ ps)
@@ -53,16 +56,19 @@ has_seen version start (p ∷ ps) more =
     let next : start + cell_size (allocated_cell p) ≡ start + cell (length p) = omega (arith, length_filled p) in
     let here : eqb start start ≡ true = eq-eqb start start refl in (
       rw here refl,
-      has_same (seen version cs (start + cell (length p))) (seen version (allocated_cell p ∷ cs) start) (start + cell (length p)) ps
+      has_same (seen version cs (start + cell (length p))) (seen version (allocated_cell p ∷ cs) start)
+          (start + cell (length p)) ps
           (λ o le.
           let no : eqb start o ≡ false = ne_eqb start o (λ e. omega arith) in
           rw (no, next) refl)
           (has_seen version (start + cell (length p)) ps more),
     )
 
-pub has_all : (version : HiveVersion) (t : Tree) → Has (look_up version (packed_bins version t)) 32 (packed_cells version t)
+pub has_all : (version : HiveVersion) (t : Tree)
+    → Has (look_up version (packed_bins version t)) 32 (packed_cells version t)
 unfolding packed_bins
-has_all version t = has_seen version 32 (packed_cells version t) (free_cells (rounded (whole version t) - whole version t))
+has_all version t = has_seen version 32 (packed_cells version t)
+    (free_cells (rounded (whole version t) - whole version t))
 
 -- a form that is read, whatever fills the cell behind it, is read in its cell
 pub reads_in : {F : Type 0} (form : List ℕ → Result F HiveKind) (cells : Cells) (at : ℕ) (p : List ℕ) (x : F)

@@ -12,7 +12,11 @@ use Rattle.hive_pack.proofs.Whole.{eights, bin_is}
 
 used_is_cell : (p : List ℕ) → cell (length p) ≤ 16777216 → IsCell (allocated_cell p)
 used_is_cell p le =
-    record { least = omega (arith, length_filled p); whole = omega (arith, length_filled p); fits = omega (arith, length_filled p) }
+    record {
+      least = omega (arith, length_filled p);
+      whole = omega (arith, length_filled p);
+      fits = omega (arith, length_filled p);
+    }
 
 all_cells : (ps : List (List ℕ)) (later : List Cell) → space ps ≤ 16777216 → AllByRecursion IsCell later
     → AllByRecursion IsCell (map allocated_cell ps ++ later)
@@ -38,7 +42,8 @@ packed_is_bins version t le =
           record {
             ignored = refl;
             whole = omega (arith, total);
-            cells = all_cells (packed_cells version t) (free_cells free) (omega (arith, space-is)) (free_are_cells free (omega (arith, n)) (omega arith));
+            cells = all_cells (packed_cells version t) (free_cells free) (omega (arith, space-is))
+                (free_are_cells free (omega (arith, n)) (omega arith));
           },
           tt,
         );

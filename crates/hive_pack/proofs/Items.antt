@@ -116,11 +116,13 @@ item_fits version at v f g le = go (nat_lt 4 (length v.bytes)) refl
           units = value_units v g;
         })
 
-pub item_read : (cells : Cells) (at : ℕ) (v : Item) → Has cells at (item_cells cells.version at v) → IsItem v → ItemNumbers v
+pub item_read : (cells : Cells) (at : ℕ) (v : Item) → Has cells at (item_cells cells.version at v) → IsItem v
+    → ItemNumbers v
     → at + item_size cells.version v ≤ 16777216 → reading key_value_at cells at ≡ Ok (item_form at v)
 unfolding item_cells
 item_read cells at v h f g le =
-    reads_in key_value_at cells at (key_value_text (item_form at v)) (item_form at v) h.0 (λ slack. key_value_again (item_form at v) slack (item_fits cells.version at v f g le))
+    reads_in key_value_at cells at (key_value_text (item_form at v)) (item_form at v) h.0
+    (λ slack. key_value_again (item_form at v) slack (item_fits cells.version at v f g le))
 
 -- ---- its data
 
@@ -138,7 +140,8 @@ segment_places_fit (suc k) at h = (omega arith, segment_places_fit k (at + cell 
 segment_read : (cells : Cells) (at n : ℕ) (p : List ℕ) → cells.payload at ≡ Ok (filled p) → length p ≡ n
     → reading (bytes_in n) cells at ≡ Ok p
 segment_read cells at n p h e =
-    reads_in (bytes_in n) cells at p p h (λ slack. subst (λ (k : ℕ). bytes_in k (p ++ slack) ≡ Ok p) e (bytes_again p slack))
+    reads_in (bytes_in n) cells at p p h
+    (λ slack. subst (λ (k : ℕ). bytes_in k (p ++ slack) ≡ Ok p) e (bytes_again p slack))
 
 -- segments one behind another are read as the bytes that they hold
 segments_read : (cells : Cells) (k n at : ℕ) (bytes : List ℕ) → length bytes ≡ n → segment_count n ≡ k
@@ -161,7 +164,8 @@ segments_read cells (suc k) n at bytes l e has =
 
     Behind : Type 0
     Behind =
-        length later ≡ n - 16344 → segment_count (n - 16344) ≡ k → Has cells (at + cell 16344) (segments k later) → joined_segments cells (n - 16344) (segment_places k (at + cell 16344)) ≡ Ok later
+        length later ≡ n - 16344 → segment_count (n - 16344) ≡ k → Has cells (at + cell 16344) (segments k later)
+        → joined_segments cells (n - 16344) (segment_places k (at + cell 16344)) ≡ Ok later
 
     go : (16344 < n) ⊎ (n ≤ 16344) → Behind → joined_segments cells n (segment_places (suc k) at) ≡ Ok bytes
     go (inl many) behind =
@@ -170,7 +174,8 @@ segments_read cells (suc k) n at bytes l e has =
         rw (one, others) (ap (λ (x : List ℕ). Ok x) (take-append-drop 16344 bytes))
     go (inr few) behind =
         let last : k ≡ 0 = omega arith in
-        let none_left : joined_segments cells (n - 16344) (segment_places k (at + cell 16344)) ≡ Ok [] = ap (λ (m : ℕ). joined_segments cells (n - 16344) (segment_places m (at + cell 16344))) last in
+        let none_left : joined_segments cells (n - 16344) (segment_places k (at + cell 16344)) ≡ Ok [] =
+        ap (λ (m : ℕ). joined_segments cells (n - 16344) (segment_places m (at + cell 16344))) last in
         let nothing : later ≡ [] = no_bytes (n - 16344) later (omega (arith, length-drop 16344 bytes)) (omega arith) in
         let all : front ++ [] ≡ bytes = ap (λ (x : List ℕ). front ++ x) (sym nothing) ∙ take-append-drop 16344 bytes in
         rw (one, none_left) (ap (λ (x : List ℕ). Ok x) all)
@@ -182,7 +187,9 @@ pub record BigStands (cells : Cells) (at k : ℕ) (bytes : List ℕ) : Type 0 wh
   pub segments : joined_segments cells (length bytes) (segment_places k (at + cell 8 + cell (4 * k))) ≡ Ok bytes
 
 -- the cell of big data is read, and has as many segments as the bytes fill
-big_again : (n k at : ℕ) (slack : List ℕ) → segment_count n ≡ k → k < 2 ^ 16 → at < 2 ^ 32 → big_data_of n (big_data_text (record { segments = k; list = at }) ++ slack) ≡ Ok (record { segments = k; list = at })
+big_again : (n k at : ℕ) (slack : List ℕ) → segment_count n ≡ k → k < 2 ^ 16 → at < 2 ^ 32
+    → big_data_of n (big_data_text (record { segments = k; list = at }) ++ slack)
+    ≡ Ok (record { segments = k; list = at })
 unfolding big_data_of
 big_again n k at slack e few small =
     let form : BigData = record { segments = k; list = at } in
@@ -201,12 +208,17 @@ big_stands cells at k bytes e has le =
     let first = list + cell (4 * k) in
     let form : BigData = record { segments = k; list = list } in
     let places = segment_places k first in
-    let behind = has_next cells at 8 (big_data_text form) (offsets_text places ∷ segments k bytes) (length_big_data form) has in
-    let last = has_next cells list (4 * k) (offsets_text places) (segments k bytes) (length_segment_list k first) behind in
+    let behind = has_next cells at 8 (big_data_text form) (offsets_text places ∷ segments k bytes)
+    (length_big_data form) has in
+    let last = has_next cells list (4 * k) (offsets_text places) (segments k bytes) (length_segment_list k first)
+    behind in
     record {
-      big = reads_in (big_data_of (length bytes)) cells at (big_data_text form) form has.0 (λ slack. big_again (length bytes) k list slack e (omega (arith, room)) (omega arith));
+      big = reads_in (big_data_of (length bytes)) cells at (big_data_text form) form has.0
+          (λ slack. big_again (length bytes) k list slack e (omega (arith, room)) (omega arith));
       list = reads_in (offsets_in k) cells list (offsets_text places) places behind.0
-          (λ slack. subst (λ (m : ℕ). offsets_in m (offsets_text places ++ slack) ≡ Ok places) (length_segment_places k first) (offsets_again places slack (segment_places_fit k first (omega (arith, room)))));
+          (λ slack. subst (λ (m : ℕ). offsets_in m (offsets_text places ++ slack) ≡ Ok places)
+          (length_segment_places k first)
+          (offsets_again places slack (segment_places_fit k first (omega (arith, room)))));
       segments = segments_read cells k (length bytes) first bytes refl e last;
     }
 
@@ -222,9 +234,11 @@ not_big V3 n h = refl
 not_big V5 n h = le-ltb 16344 n (omega arith)
 
 -- data of over four bytes in cells of their own
-cells_stand : (cells : Cells) (at : ℕ) (bytes : List ℕ) → 4 < length bytes → Has cells at (data_cells cells.version at bytes)
+cells_stand : (cells : Cells) (at : ℕ) (bytes : List ℕ) → 4 < length bytes
+    → Has cells at (data_cells cells.version at bytes)
     → at + data_size cells.version bytes ≤ 16777216
-    → (if is_big cells.version (length bytes) then big_bytes_at cells (length bytes) at else reading (bytes_in (length bytes)) cells at)
+    → (if is_big cells.version (length bytes) then big_bytes_at cells (length bytes) at else reading
+    (bytes_in (length bytes)) cells at)
     ≡ Ok bytes
 cells_stand cells at bytes long has le = go (is_big cells.version (length bytes)) refl
   where
@@ -232,12 +246,14 @@ cells_stand cells at bytes long has le = go (is_big cells.version (length bytes)
     four_more = lt-ltb 4 (length bytes) long
 
     go : (big : Bool) → is_big cells.version (length bytes) ≡ big
-        → (if is_big cells.version (length bytes) then big_bytes_at cells (length bytes) at else reading (bytes_in (length bytes)) cells at)
+        → (if is_big cells.version (length bytes) then big_bytes_at cells (length bytes) at else reading
+        (bytes_in (length bytes)) cells at)
         ≡ Ok bytes
     go true q =
         let here : Has cells at (big_cells at (segment_count (length bytes)) bytes) = rw q at has in
         let room = rw q at le in
-        rw q (bytes_stand cells at (segment_count (length bytes)) bytes (big_stands cells at (segment_count (length bytes)) bytes refl here room))
+        rw q (bytes_stand cells at (segment_count (length bytes)) bytes
+        (big_stands cells at (segment_count (length bytes)) bytes refl here room))
     go false q =
         let here : Has cells at (bytes ∷ []) = rw (q, four_more) at has in
         rw q (segment_read cells at (length bytes) bytes here.0 refl)
@@ -261,7 +277,9 @@ data_stands cells at v has g le few = go (nat_lt 4 (length v.bytes)) refl
         let short : length v.bytes ≤ 4 = ltb-false 4 (length v.bytes) e in
         let large : nat_le 2147483648 (2147483648 + length v.bytes) ≡ true = le-leb _ _ (omega arith) in
         let n : 2147483648 + length v.bytes - 2147483648 ≡ length v.bytes = omega arith in
-        let again : to_le_bytes w32 (from_le_bytes w32 own) ≡ own = le_bytes_4 own (from_le_bytes w32 own) (own_length v.bytes short) (filled_fits v.bytes (4 - length v.bytes) g.bytes) refl in
+        let again : to_le_bytes w32 (from_le_bytes w32 own) ≡ own =
+        le_bytes_4 own (from_le_bytes w32 own) (own_length v.bytes short)
+        (filled_fits v.bytes (4 - length v.bytes) g.bytes) refl in
         rw (e, large, n, again, take_at v.bytes (replicate (4 - length v.bytes) 0) (length v.bytes) refl) refl
 
 -- the cells of a value's data stand behind its own
@@ -269,9 +287,11 @@ pub data_has : (cells : Cells) (at : ℕ) (v : Item) → Has cells at (item_cell
     → Has cells (data_place at v) (data_cells cells.version (data_place at v) v.bytes)
 unfolding item_cells
 data_has cells at v has =
-    has_next cells at (20 + name_bytes v.name) (key_value_text (item_form at v)) (data_cells cells.version (data_place at v) v.bytes) (length_value at v) has
+    has_next cells at (20 + name_bytes v.name) (key_value_text (item_form at v))
+    (data_cells cells.version (data_place at v) v.bytes) (length_value at v) has
 
-pub item_stands : (cells : Cells) (at : ℕ) (v : Item) → Has cells at (item_cells cells.version at v) → IsItem v → ItemNumbers v
+pub item_stands : (cells : Cells) (at : ℕ) (v : Item) → Has cells at (item_cells cells.version at v) → IsItem v
+    → ItemNumbers v
     → at + item_size cells.version v ≤ 16777216 → item_at cells at ≡ Ok v
 unfolding item_at
 item_stands cells at v h f g le =
@@ -279,14 +299,18 @@ item_stands cells at v h f g le =
 
 -- ---- all values of a key
 
-items_stand : (cells : Cells) (at : ℕ) (vs : List Item) → Has cells at (cells_of_items cells.version at vs) → All IsItem vs
+items_stand : (cells : Cells) (at : ℕ) (vs : List Item) → Has cells at (cells_of_items cells.version at vs)
+    → All IsItem vs
     → AllByRecursion ItemNumbers vs → at + items_sum cells.version vs ≤ 16777216
     → items_at cells (item_places cells.version at vs) ≡ Ok vs
 items_stand cells at [] h f g le = refl
 items_stand cells at (v ∷ vs) h f g le =
     let next = at + item_size cells.version v in
-    let back = has_behind cells at (item_size cells.version v) next (item_cells cells.version at v) (cells_of_items cells.version next vs) (space_value cells.version at v) refl h in
-    let one = item_stands cells at v (has_front cells at (item_cells cells.version at v) (cells_of_items cells.version next vs) h) (f 0 v (omega arith)) g.0 (omega arith) in
+    let back = has_behind cells at (item_size cells.version v) next (item_cells cells.version at v)
+    (cells_of_items cells.version next vs) (space_value cells.version at v) refl h in
+    let one = item_stands cells at v
+    (has_front cells at (item_cells cells.version at v) (cells_of_items cells.version next vs) h)
+    (f 0 v (omega arith)) g.0 (omega arith) in
     let all = items_stand cells next vs back (all_later v vs f) g.1 (omega arith) in
     rw (one, all) refl
 
@@ -307,9 +331,12 @@ values_stand cells node start (v ∷ vs) n l has f g le =
     let count : length ps ≡ length (v ∷ vs) = length_item_places cells.version first (v ∷ vs) in
     let some : eqb (length (v ∷ vs)) 0 ≡ false = ne_eqb _ _ (λ z. omega arith) in
     let place : node.value_list ≡ start = l ∙ rw some refl in
-    let back = has_next cells start (4 * length (v ∷ vs)) (offsets_text ps) (cells_of_items cells.version first (v ∷ vs)) (length_values_list cells.version first (v ∷ vs)) has in
+    let back = has_next cells start (4 * length (v ∷ vs)) (offsets_text ps)
+    (cells_of_items cells.version first (v ∷ vs)) (length_values_list cells.version first (v ∷ vs)) has in
     let read : reading (offsets_in (length (v ∷ vs))) cells start ≡ Ok ps =
-    reads_in (offsets_in (length (v ∷ vs))) cells start (offsets_text ps) ps has.0 (λ slack. subst (λ (k : ℕ). offsets_in k (offsets_text ps ++ slack) ≡ Ok ps) count (offsets_again ps slack (places_fit cells.version first (v ∷ vs) (omega arith)))) in
+    reads_in (offsets_in (length (v ∷ vs))) cells start (offsets_text ps) ps has.0
+    (λ slack. subst (λ (k : ℕ). offsets_in k (offsets_text ps ++ slack) ≡ Ok ps) count
+    (offsets_again ps slack (places_fit cells.version first (v ∷ vs) (omega arith)))) in
     let all = items_stand cells first (v ∷ vs) back f g (omega arith) in
     rw (n, some, place, read) all
 
@@ -324,12 +351,16 @@ values_read cells start v vs has le =
     let first = start + cell (4 * length (v ∷ vs)) in
     let ps = item_places cells.version first (v ∷ vs) in
     reads_in (offsets_in (length (v ∷ vs))) cells start (offsets_text ps) ps has.0
-    (λ slack. subst (λ (k : ℕ). offsets_in k (offsets_text ps ++ slack) ≡ Ok ps) (length_item_places cells.version first (v ∷ vs)) (offsets_again ps slack (places_fit cells.version first (v ∷ vs) (omega arith))))
+    (λ slack. subst (λ (k : ℕ). offsets_in k (offsets_text ps ++ slack) ≡ Ok ps)
+    (length_item_places cells.version first (v ∷ vs))
+    (offsets_again ps slack (places_fit cells.version first (v ∷ vs) (omega arith))))
 
 pub values_behind : (cells : Cells) (start : ℕ) (v : Item) (vs : List Item)
     → Has cells start (items_cells cells.version start (v ∷ vs))
-    → Has cells (start + cell (4 * length (v ∷ vs))) (cells_of_items cells.version (start + cell (4 * length (v ∷ vs))) (v ∷ vs))
+    → Has cells (start + cell (4 * length (v ∷ vs)))
+    (cells_of_items cells.version (start + cell (4 * length (v ∷ vs))) (v ∷ vs))
 unfolding items_cells
 values_behind cells start v vs has =
     let first = start + cell (4 * length (v ∷ vs)) in
-    has_next cells start (4 * length (v ∷ vs)) (offsets_text (item_places cells.version first (v ∷ vs))) (cells_of_items cells.version first (v ∷ vs)) (length_values_list cells.version first (v ∷ vs)) has
+    has_next cells start (4 * length (v ∷ vs)) (offsets_text (item_places cells.version first (v ∷ vs)))
+    (cells_of_items cells.version first (v ∷ vs)) (length_values_list cells.version first (v ∷ vs)) has

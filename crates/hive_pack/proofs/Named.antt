@@ -32,14 +32,16 @@ written_kind V3 = Lf
 written_kind V5 = Lh
 
 -- a written list is read, whatever fills its cell
-list_again : (version : HiveVersion) (os : List ℕ) (hs : List (List ℕ)) (slack : List ℕ) → length os ≡ length hs → length os ≤ 500
+list_again : (version : HiveVersion) (os : List ℕ) (hs : List (List ℕ)) (slack : List ℕ) → length os ≡ length hs
+    → length os ≤ 500
     → AreOffsets os → AreHints hs
     → list_at (list_text version os hs ++ slack) ≡ Ok (record { kind = written_kind version; offsets = os })
 list_again V3 os hs slack e few f g = lf_again os hs slack e (omega arith) f g
 list_again V5 os hs slack e few f g = lh_again os hs slack e (omega arith) f g
 
 -- and it is no list of lists
-leaf_again : (version : HiveVersion) (os : List ℕ) (hs : List (List ℕ)) (slack : List ℕ) → length os ≡ length hs → length os ≤ 500
+leaf_again : (version : HiveVersion) (os : List ℕ) (hs : List (List ℕ)) (slack : List ℕ) → length os ≡ length hs
+    → length os ≤ 500
     → AreOffsets os → AreHints hs
     → leaf_at (list_text version os hs ++ slack) ≡ Ok os
 unfolding leaf_at
@@ -53,10 +55,12 @@ no_lists V5 = refl
 
 -- one list
 leaf_read : (cells : Cells) (at : ℕ) (os : List ℕ) (hs : List (List ℕ)) (later : List (List ℕ))
-    → Has cells at (list_text cells.version os hs ∷ later) → length os ≡ length hs → length os ≤ 500 → AreOffsets os → AreHints hs
+    → Has cells at (list_text cells.version os hs ∷ later) → length os ≡ length hs → length os ≤ 500 → AreOffsets os
+    → AreHints hs
     → reading leaf_at cells at ≡ Ok os
 leaf_read cells at os hs later has e few f g =
-    reads_in leaf_at cells at (list_text cells.version os hs) os has.0 (λ slack. leaf_again cells.version os hs slack e few f g)
+    reads_in leaf_at cells at (list_text cells.version os hs) os has.0
+    (λ slack. leaf_again cells.version os hs slack e few f g)
 
 no_items : (n : ℕ) (os : List ℕ) → length os ≡ n → n ≡ 0 → os ≡ []
 no_items n [] e z = refl
@@ -82,7 +86,8 @@ part_then cells k n at os l p one rest = go (cases_lt 500 n)
     go (inl many) = rw (one, rest many) (ap (λ (x : List ℕ). Ok x) (take-append-drop 500 os))
     go (inr few) =
         let last : k ≡ 0 = omega arith in
-        let none_left : joined_at cells (part_places k (at + cell 4004)) ≡ Ok [] = ap (λ (m : ℕ). joined_at cells (part_places m (at + cell 4004))) last in
+        let none_left : joined_at cells (part_places k (at + cell 4004)) ≡ Ok [] =
+        ap (λ (m : ℕ). joined_at cells (part_places m (at + cell 4004))) last in
         rw (one, none_left) (ap (λ (x : List ℕ). Ok x) (append-nil (take 500 os) ∙ take_all os (omega arith)))
 
 -- the lists of a list of lists
@@ -96,11 +101,16 @@ parts_read cells (suc k) n at os hs l e f g p has =
     let same : length (take 500 os) ≡ length (take 500 hs) = omega (arith, length-take 500 os, length-take 500 hs) in
     let few : length (take 500 os) ≤ 500 = omega (arith, length-take 500 os) in
     let len : length first ≡ 4 + 8 * min 500 n =
-    length_list_text cells.version (take 500 os) (take 500 hs) same (hints_take 500 hs g) ∙ omega (arith, length-take 500 os) in
-    part_then cells k n at os l p (leaf_read cells at (take 500 os) (take 500 hs) later has same few (offsets_take 500 os f) (hints_take 500 hs g))
+    length_list_text cells.version (take 500 os) (take 500 hs) same (hints_take 500 hs g)
+    ∙ omega (arith, length-take 500 os) in
+    part_then cells k n at os l p
+    (leaf_read cells at (take 500 os) (take 500 hs) later has same few (offsets_take 500 os f)
+    (hints_take 500 hs g))
     (λ many.
     let full : length first ≡ 4004 = len ∙ omega arith in
-    parts_read cells k (n - 500) (at + cell 4004) (drop 500 os) (drop 500 hs) (length-drop 500 os ∙ omega arith) (omega (arith, length-drop 500 os, length-drop 500 hs)) (offsets_drop 500 os f) (hints_drop 500 hs g) (omega arith)
+    parts_read cells k (n - 500) (at + cell 4004) (drop 500 os) (drop 500 hs) (length-drop 500 os ∙ omega arith)
+    (omega (arith, length-drop 500 os, length-drop 500 hs)) (offsets_drop 500 os f) (hints_drop 500 hs g)
+    (omega arith)
     (has_next cells at 4004 first later full has))
 
 starts_fit : (k at : ℕ) → at + 4008 * k < 2 ^ 32 → AreOffsets (part_places k at)
@@ -108,7 +118,8 @@ starts_fit zero at h = tt
 starts_fit (suc k) at h = (omega arith, starts_fit k (at + cell 4004) (omega arith))
 
 -- one list is read
-pub list_read : (cells : Cells) (at : ℕ) (os : List ℕ) (hs : List (List ℕ)) → Has cells at (list_cells cells.version at os hs)
+pub list_read : (cells : Cells) (at : ℕ) (os : List ℕ) (hs : List (List ℕ))
+    → Has cells at (list_cells cells.version at os hs)
     → 0 < length os → length os < 501 → length os ≡ length hs → AreOffsets os → AreHints hs
     → reading list_at cells at ≡ Ok (record { kind = written_kind cells.version; offsets = os })
 unfolding list_cells
@@ -116,25 +127,34 @@ list_read cells at os hs has some few e f g =
     let not_none : eqb (length os) 0 ≡ false = ne_eqb (length os) 0 (λ z. omega arith) in
     let one : nat_lt (length os) 501 ≡ true = lt-ltb (length os) 501 few in
     let here : Has cells at (list_text cells.version os hs ∷ []) = rw (not_none, one) at has in
-    reads_in list_at cells at (list_text cells.version os hs) _ here.0 (λ slack. list_again cells.version os hs slack e (omega arith) f g)
+    reads_in list_at cells at (list_text cells.version os hs) _ here.0
+    (λ slack. list_again cells.version os hs slack e (omega arith) f g)
 
 -- a list of lists is read
-pub lists_read : (cells : Cells) (at : ℕ) (os : List ℕ) (hs : List (List ℕ)) → Has cells at (list_cells cells.version at os hs)
+pub lists_read : (cells : Cells) (at : ℕ) (os : List ℕ) (hs : List (List ℕ))
+    → Has cells at (list_cells cells.version at os hs)
     → 501 ≤ length os → at + list_size (length os) ≤ 16777216
     → reading list_at cells at
-    ≡ Ok (record { kind = Ri; offsets = part_places (part_count (length os)) (at + cell (4 + 4 * part_count (length os))) })
+    ≡ Ok (record {
+      kind = Ri;
+      offsets = part_places (part_count (length os)) (at + cell (4 + 4 * part_count (length os)));
+    })
 unfolding list_cells
 lists_read cells at os hs has many le =
     let not_none : eqb (length os) 0 ≡ false = ne_eqb (length os) 0 (λ z. omega arith) in
     let lists : nat_lt (length os) 501 ≡ false = le-ltb (length os) 501 many in
     let first = at + cell (4 + 4 * part_count (length os)) in
     let starts = part_places (part_count (length os)) first in
-    let here : Has cells at (ri_text starts ∷ parts cells.version (part_count (length os)) os hs) = rw (not_none, lists) at has in
+    let here : Has cells at (ri_text starts ∷ parts cells.version (part_count (length os)) os hs) =
+    rw (not_none, lists) at has in
     let k : length starts ≡ part_count (length os) = length_part_places (part_count (length os)) first in
     let size = many_lists (length os) many in
-    reads_in list_at cells at (ri_text starts) _ here.0 (λ slack. ri_again starts slack (omega (arith, k, size)) (starts_fit (part_count (length os)) first (omega (arith, size))))
+    reads_in list_at cells at (ri_text starts) _ here.0
+    (λ slack. ri_again starts slack (omega (arith, k, size))
+    (starts_fit (part_count (length os)) first (omega (arith, size))))
 
-pub entries_read : (cells : Cells) (at : ℕ) (os : List ℕ) (hs : List (List ℕ)) → Has cells at (list_cells cells.version at os hs)
+pub entries_read : (cells : Cells) (at : ℕ) (os : List ℕ) (hs : List (List ℕ))
+    → Has cells at (list_cells cells.version at os hs)
     → 0 < length os → length os ≡ length hs → AreOffsets os → AreHints hs → at + list_size (length os) ≤ 16777216
     → entries_at cells at ≡ Ok os
 unfolding list_cells entries_at
@@ -150,24 +170,31 @@ entries_read cells at os hs has some e f g le = go (cases_lt (length os) 501)
     go (inl few) =
         let one : nat_lt (length os) 501 ≡ true = lt-ltb (length os) 501 few in
         let here : Has cells at (list_text cells.version os hs ∷ []) = rw (not_none, one) at has in
-        let read : reading list_at cells at ≡ Ok (record { kind = written_kind cells.version; offsets = os }) = reads_in list_at cells at (list_text cells.version os hs) _ here.0 (λ slack. list_again cells.version os hs slack e (omega arith) f g) in
+        let read : reading list_at cells at ≡ Ok (record { kind = written_kind cells.version; offsets = os }) =
+        reads_in list_at cells at (list_text cells.version os hs) _ here.0
+        (λ slack. list_again cells.version os hs slack e (omega arith) f g) in
         rw (read, no_lists cells.version) refl
     go (inr many) =
         let lists : nat_lt (length os) 501 ≡ false = le-ltb (length os) 501 many in
         let first = at + cell (4 + 4 * part_count (length os)) in
         let starts = part_places (part_count (length os)) first in
-        let here : Has cells at (ri_text starts ∷ parts cells.version (part_count (length os)) os hs) = rw (not_none, lists) at has in
+        let here : Has cells at (ri_text starts ∷ parts cells.version (part_count (length os)) os hs) =
+        rw (not_none, lists) at has in
         let k : length starts ≡ part_count (length os) = length_part_places (part_count (length os)) first in
         let size = many_lists (length os) many in
         let read : reading list_at cells at ≡ Ok (record { kind = Ri; offsets = starts }) =
-        reads_in list_at cells at (ri_text starts) _ here.0 (λ slack. ri_again starts slack (omega (arith, k, size)) (starts_fit (part_count (length os)) first (omega (arith, size)))) in
-        let back = has_next cells at (4 + 4 * part_count (length os)) (ri_text starts) (parts cells.version (part_count (length os)) os hs) (length_ri starts ∙ ap (λ x. 4 + 4 * x) k) here in
+        reads_in list_at cells at (ri_text starts) _ here.0
+        (λ slack. ri_again starts slack (omega (arith, k, size))
+        (starts_fit (part_count (length os)) first (omega (arith, size)))) in
+        let back = has_next cells at (4 + 4 * part_count (length os)) (ri_text starts)
+        (parts cells.version (part_count (length os)) os hs) (length_ri starts ∙ ap (λ x. 4 + 4 * x) k) here in
         rw read (parts_read cells (part_count (length os)) (length os) first os hs refl e f g refl back)
 
 pub children_named : (cells : Cells) (node : KeyNode) (at : ℕ) (os : List ℕ) (hs : List (List ℕ))
     → Has cells at (list_cells cells.version at os hs) → node.child_count ≡ length os
     → node.child_list ≡ place_of_some (length os) at
-    → length os ≡ length hs → AreOffsets os → AreHints hs → at + list_size (length os) ≤ 16777216 → ListsChildren cells node os
+    → length os ≡ length hs → AreOffsets os → AreHints hs → at + list_size (length os) ≤ 16777216
+    → ListsChildren cells node os
 children_named cells node at [] hs has c l e f g le = rw c refl
 children_named cells node at (o ∷ os) hs has c l e f g le =
     let some : eqb (length (o ∷ os)) 0 ≡ false = ne_eqb _ _ (λ z. omega arith) in

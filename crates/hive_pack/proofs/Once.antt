@@ -25,7 +25,8 @@ sooner : (lo mid hi s : ℕ) → mid ≤ hi → Outside s lo hi → s < mid → 
 sooner lo mid hi s h (inl p) l = p
 sooner lo mid hi s h (inr p) l = absurd (omega arith)
 
-pub good_append : (lo mid hi s : ℕ) (a b : List Check) → lo ≤ mid → mid ≤ hi → Outside s lo hi → Good lo mid s a → Good mid hi s b
+pub good_append : (lo mid hi s : ℕ) (a b : List Check) → lo ≤ mid → mid ≤ hi → Outside s lo hi → Good lo mid s a
+    → Good mid hi s b
     → Good lo hi s (a ++ b)
 good_append lo mid hi s a b l h o g k =
     Beside.good_append lo mid hi s a b l h o g (Beside.good_bound mid lo mid hi s b (sooner lo mid hi s h o) k)
@@ -36,8 +37,10 @@ pub use_only : {F : Type 0} (form : List ℕ → Result F HiveKind) (cells : Cel
 use_only form cells lo hi s at l h o = Beside.use_only form cells lo hi s at l h o
 
 -- and what is read there asks for more
-pub use_then : {F : Type 0} (form : List ℕ → Result F HiveKind) (cells : Cells) (lo mid hi s at : ℕ) (x : F) (below : F → List Check)
+pub use_then : {F : Type 0} (form : List ℕ → Result F HiveKind) (cells : Cells) (lo mid hi s at : ℕ) (x : F)
+    (below : F → List Check)
     → reading form cells at ≡ Ok x → lo ≤ at → at < mid → mid ≤ hi → Outside s lo hi
     → Good mid hi s (below x) → Good lo hi s (use_as false form cells at ++ below_of (reading form cells at) below)
 use_then form cells lo mid hi s at x below e l m h o g =
-    Beside.use_then form cells lo mid hi s at x below e l m h o (Beside.good_bound mid lo mid hi s (below x) (sooner lo mid hi s h o) g)
+    Beside.use_then form cells lo mid hi s at x below e l m h o
+    (Beside.good_bound mid lo mid hi s (below x) (sooner lo mid hi s h o) g)

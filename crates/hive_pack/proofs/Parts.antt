@@ -11,7 +11,8 @@ use Rattle.hive_model.specs.Packed.{segment_places, segments, hint, part_places,
 
 -- the first four bytes of a name, zeros behind a short one
 pub first_four : (name : List ℕ)
-    → slice_index name 0 ∷ slice_index name 1 ∷ slice_index name 2 ∷ slice_index name 3 ∷ [] ≡ take 4 (name ++ 0 ∷ 0 ∷ 0 ∷ 0 ∷ [])
+    → slice_index name 0 ∷ slice_index name 1 ∷ slice_index name 2 ∷ slice_index name 3 ∷ []
+    ≡ take 4 (name ++ 0 ∷ 0 ∷ 0 ∷ 0 ∷ [])
 first_four [] = refl
 first_four (a ∷ []) = refl
 first_four (a ∷ b ∷ []) = refl
@@ -41,16 +42,26 @@ drop_least (suc k) (suc n) (x ∷ xs) e = drop_least k n xs (omega arith)
 pub parts_next : (version : HiveVersion) (left k : ℕ) (places : List ℕ) (keys : List Tree) → 0 < left
     → length places ≡ length keys → k ≡ min (length places) 500
     → parts version left places (map (hint version) keys)
-    ≡ list_text version (take k places) (map (hint version) (take k keys)) ∷ parts version (left - 1) (drop k places) (map (hint version) (drop k keys))
+    ≡ list_text version (take k places) (map (hint version) (take k keys))
+    ∷ parts version (left - 1) (drop k places) (map (hint version) (drop k keys))
 parts_next version zero k places keys h l e = absurd (omega arith)
 parts_next version (suc left) k places keys h l e =
     let n : suc left - 1 ≡ left = omega arith in
     let same : k ≡ min (length keys) 500 = omega arith in
     let hints = hint version in
-    rw (n, take-map hints 500 keys, drop-map hints 500 keys, take_least k 500 places e, take_least k 500 keys same, drop_least k 500 places e, drop_least k 500 keys same) refl
+    rw (
+      n,
+      take-map hints 500 keys,
+      drop-map hints 500 keys,
+      take_least k 500 places e,
+      take_least k 500 keys same,
+      drop_least k 500 places e,
+      drop_least k 500 keys same,
+    ) refl
 
 -- the hashes of names, as four bytes each
-pub hashes_are : (keys : List Tree) → map (to_le_bytes w32) (map (λ (t : Tree). hash_of (head t).name) keys) ≡ map (hint V5) keys
+pub hashes_are : (keys : List Tree)
+    → map (to_le_bytes w32) (map (λ (t : Tree). hash_of (head t).name) keys) ≡ map (hint V5) keys
 hashes_are [] = refl
 hashes_are (t ∷ ts) = ap (λ (hs : List (List ℕ)). hint V5 t ∷ hs) (hashes_are ts)
 

@@ -47,19 +47,25 @@ mutual
       let p = descriptor_place at h in
       let first = children_place version shared at h (count ts) in
       let all = ring_of_all version h.security first ts in
-      joined at (own_place shared p h.security) (p + security_size shared h.security) all hi (earlier at p (own_place shared p h.security) (p + security_size shared h.security) (omega arith) (own_rises shared p h.security))
-      (earlier (p + security_size shared h.security) first all hi (omega arith) (trees_rise version h.security first hi ts (omega arith)))
+      joined at (own_place shared p h.security) (p + security_size shared h.security) all hi
+      (earlier at p (own_place shared p h.security) (p + security_size shared h.security) (omega arith)
+      (own_rises shared p h.security))
+      (earlier (p + security_size shared h.security) first all hi (omega arith)
+      (trees_rise version h.security first hi ts (omega arith)))
 
-  trees_rise : (version : HiveVersion) (shared : List ℕ) (at hi : ℕ) (ts : Trees) → at + size_of_all version shared ts ≡ hi
+  trees_rise : (version : HiveVersion) (shared : List ℕ) (at hi : ℕ) (ts : Trees)
+      → at + size_of_all version shared ts ≡ hi
       → Rises at (ring_of_all version shared at ts) hi
   trees_rise version shared at hi none e = omega arith
   trees_rise version shared at hi (more t ts) e =
       let next = at + size version shared t in
-      joined at (ring version shared at t) next (ring_of_all version shared next ts) hi (tree_rises version shared at next t refl) (trees_rise version shared next hi ts (omega arith))
+      joined at (ring version shared at t) next (ring_of_all version shared next ts) hi
+      (tree_rises version shared at next t refl) (trees_rise version shared next hi ts (omega arith))
 
 pub ring_rises : (version : HiveVersion) (shared : List ℕ) (at : ℕ) (t : Tree) → IsRising (ring version shared at t)
 ring_rises version shared at t =
-    rising at (ring version shared at t) (at + size version shared t) (tree_rises version shared at (at + size version shared t) t refl)
+    rising at (ring version shared at t) (at + size version shared t)
+    (tree_rises version shared at (at + size version shared t) t refl)
 
 rises_least : (lo : ℕ) (xs : List ℕ) (hi : ℕ) → Rises lo xs hi → lo ≤ hi
 rises_least lo [] hi r = r
@@ -72,4 +78,5 @@ rises_fit lo (x ∷ xs) hi r h = (omega (arith, rises_least (x + 1) xs hi r.1), 
 pub ring_fits : (version : HiveVersion) (shared : List ℕ) (at : ℕ) (t : Tree) → at + size version shared t ≤ 16777216
     → AreOffsets (ring version shared at t)
 ring_fits version shared at t h =
-    rises_fit at (ring version shared at t) (at + size version shared t) (tree_rises version shared at (at + size version shared t) t refl) h
+    rises_fit at (ring version shared at t) (at + size version shared t)
+    (tree_rises version shared at (at + size version shared t) t refl) h

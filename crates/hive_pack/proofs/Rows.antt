@@ -68,7 +68,11 @@ length_value at v =
 pub length_filled : (p : List ℕ) → length (filled p) ≡ cell (length p) - 4
 unfolding filled
 length_filled p =
-    omega (arith, length-append p (replicate (cell (length p) - 4 - length p) 0), length-replicate {A = ℕ} (cell (length p) - 4 - length p) 0)
+    omega (
+      arith,
+      length-append p (replicate (cell (length p) - 4 - length p) 0),
+      length-replicate {A = ℕ} (cell (length p) - 4 - length p) 0,
+    )
 
 -- four bytes for the size, with the sign of an allocated cell, and the payload
 pub cell_text_is : (p : List ℕ) → cell_text p ≡ to_le_bytes w32 (4294967296 - cell (length p)) ++ filled p
@@ -78,7 +82,8 @@ cell_text_is p =
     ap (λ k. to_le_bytes w32 (4294967296 - k) ++ filled p) n
 
 -- what is there once a cell was appended part by part
-pub cell_written : (old one two new p : List ℕ) (n : ℕ) → n ≡ cell (length p) → one ≡ old ++ to_le_bytes w32 (4294967296 - n)
+pub cell_written : (old one two new p : List ℕ) (n : ℕ) → n ≡ cell (length p)
+    → one ≡ old ++ to_le_bytes w32 (4294967296 - n)
     → two ≡ one ++ p → new ≡ two ++ replicate (n - 4 - length p) 0 → new ≡ old ++ cell_text p
 unfolding filled
 cell_written old one two new p n s a b c =
@@ -103,7 +108,8 @@ space_segments : (k : ℕ) (bytes : List ℕ) → space (segments k bytes) ≡ c
 space_segments zero bytes = refl
 space_segments (suc k) bytes =
     ap (λ n. cell n + space (segments k (drop 16344 bytes))) (length-take 16344 bytes)
-    ∙ ap (λ n. cell (min 16344 (length bytes)) + n) (space_segments k (drop 16344 bytes) ∙ ap (λ n. cells_sum (segment_sizes k n)) (length-drop 16344 bytes))
+    ∙ ap (λ n. cell (min 16344 (length bytes)) + n)
+    (space_segments k (drop 16344 bytes) ∙ ap (λ n. cells_sum (segment_sizes k n)) (length-drop 16344 bytes))
 
 -- as many places as segments
 pub length_segment_places : (k at : ℕ) → length (segment_places k at) ≡ k
@@ -115,7 +121,8 @@ pub length_segment_list : (k at : ℕ) → length (offsets_text (segment_places 
 length_segment_list k at = length_offsets (segment_places k at) ∙ ap (λ n. 4 * n) (length_segment_places k at)
 
 -- the cells of big data
-space_big : (at k : ℕ) (bytes : List ℕ) → space (big_cells at k bytes) ≡ cells_sum (8 ∷ 4 * k ∷ segment_sizes k (length bytes))
+space_big : (at k : ℕ) (bytes : List ℕ)
+    → space (big_cells at k bytes) ≡ cells_sum (8 ∷ 4 * k ∷ segment_sizes k (length bytes))
 unfolding big_cells
 space_big at k bytes =
     omega (
@@ -126,14 +133,17 @@ space_big at k bytes =
     )
 
 -- the cells of data
-pub space_data : (version : HiveVersion) (at : ℕ) (bytes : List ℕ) → space (data_cells version at bytes) ≡ data_size version bytes
+pub space_data : (version : HiveVersion) (at : ℕ) (bytes : List ℕ)
+    → space (data_cells version at bytes) ≡ data_size version bytes
 space_data version at bytes = go (is_big version n) (nat_lt 4 n)
   where
     n : ℕ
     n = length bytes
 
-    go : (big long : Bool) → space (if big then big_cells at (segment_count n) bytes else if long then bytes ∷ [] else [])
-        ≡ cells_sum (if big then 8 ∷ 4 * segment_count n ∷ segment_sizes (segment_count n) n else if long then n ∷ [] else [])
+    go : (big long : Bool) → space
+        (if big then big_cells at (segment_count n) bytes else if long then bytes ∷ [] else [])
+        ≡ cells_sum (if big then 8 ∷ 4 * segment_count n ∷ segment_sizes (segment_count n) n else if long then n
+        ∷ [] else [])
     go true long = space_big at (segment_count n) bytes
     go false true = refl
     go false false = refl
@@ -143,7 +153,8 @@ pub segments_room : (k n : ℕ) → segment_count n ≡ k → 16352 * k ≤ cell
 segments_room zero n e = omega arith
 segments_room (suc k) n e = go (cases_lt 16344 n) (segments_room k (n - 16344))
   where
-    go : (16344 < n) ⊎ (n ≤ 16344) → (segment_count (n - 16344) ≡ k → 16352 * k ≤ cells_sum (segment_sizes k (n - 16344)) + 16344)
+    go : (16344 < n) ⊎ (n ≤ 16344)
+        → (segment_count (n - 16344) ≡ k → 16352 * k ≤ cells_sum (segment_sizes k (n - 16344)) + 16344)
         → 16352 * suc k ≤ cells_sum (segment_sizes (suc k) n) + 16344
     go (inl many) later =
         let m : min 16344 n ≡ 16344 = omega arith in
@@ -159,7 +170,8 @@ big_some V3 n e = absurd cc
 big_some V5 n e = omega (arith, ltb-true 16344 n e)
 
 -- how many bytes segments take, each but the last full
-segments_exact : (k n : ℕ) → segment_count n ≡ suc k → cells_sum (segment_sizes (suc k) n) ≡ k * 16352 + cell (n - k * 16344)
+segments_exact : (k n : ℕ) → segment_count n ≡ suc k
+    → cells_sum (segment_sizes (suc k) n) ≡ k * 16352 + cell (n - k * 16344)
 segments_exact zero n e =
     let m : min 16344 n ≡ n = omega arith in
     rw m (omega arith)
@@ -170,7 +182,8 @@ segments_exact (suc k) n e =
 
 -- the same, with as many segments as the bytes fill
 pub segments_size : (n : ℕ) → 0 < n
-    → cells_sum (segment_sizes (segment_count n) n) ≡ (segment_count n - 1) * 16352 + cell (n - (segment_count n - 1) * 16344)
+    → cells_sum (segment_sizes (segment_count n) n) ≡ (segment_count n - 1) * 16352
+    + cell (n - (segment_count n - 1) * 16344)
 segments_size n h =
     let k : segment_count n ≡ suc (segment_count n - 1) = omega arith in
     ap (λ (m : ℕ). cells_sum (segment_sizes m n)) k ∙ segments_exact (segment_count n - 1) n k
@@ -183,7 +196,8 @@ data_few version bytes = go (is_big version n) (nat_lt 4 n) refl refl
     n = length bytes
 
     go : (big long : Bool) → is_big version n ≡ big → nat_lt 4 n ≡ long
-        → cells_sum (if big then 8 ∷ 4 * segment_count n ∷ segment_sizes (segment_count n) n else if long then n ∷ [] else []) ≤ 16777216
+        → cells_sum (if big then 8 ∷ 4 * segment_count n ∷ segment_sizes (segment_count n) n else if long then n
+        ∷ [] else []) ≤ 16777216
         → n ≤ 16777216
     go true long e f le = omega (arith, segments_size n (big_some version n e))
     go false true e f le = omega arith
@@ -193,12 +207,19 @@ pub space_value : (version : HiveVersion) (at : ℕ) (v : Item) → space (item_
 unfolding item_cells
 space_value version at v = omega (arith, length_value at v, space_data version (data_place at v) v.bytes)
 
-pub space_values : (version : HiveVersion) (at : ℕ) (vs : List Item) → space (cells_of_items version at vs) ≡ items_sum version vs
+pub space_values : (version : HiveVersion) (at : ℕ) (vs : List Item)
+    → space (cells_of_items version at vs) ≡ items_sum version vs
 space_values version at [] = refl
 space_values version at (v ∷ vs) =
-    omega (arith, space_append (item_cells version at v) (cells_of_items version (at + item_size version v) vs), space_value version at v, space_values version (at + item_size version v) vs)
+    omega (
+      arith,
+      space_append (item_cells version at v) (cells_of_items version (at + item_size version v) vs),
+      space_value version at v,
+      space_values version (at + item_size version v) vs,
+    )
 
-pub length_item_places : (version : HiveVersion) (at : ℕ) (vs : List Item) → length (item_places version at vs) ≡ length vs
+pub length_item_places : (version : HiveVersion) (at : ℕ) (vs : List Item)
+    → length (item_places version at vs) ≡ length vs
 length_item_places version at [] = refl
 length_item_places version at (v ∷ vs) = omega (arith, length_item_places version (at + item_size version v) vs)
 
@@ -222,10 +243,12 @@ unfolding class_cells
 space_class [] = refl
 space_class (b ∷ c) = omega arith
 
-pub space_security : (up : Above) (at : ℕ) (s : List ℕ) (n : ℕ) → space (security_cells up at s n) ≡ security_size up.security s
+pub space_security : (up : Above) (at : ℕ) (s : List ℕ) (n : ℕ)
+    → space (security_cells up at s n) ≡ security_size up.security s
 unfolding security_cells
 space_security up at s n =
-    go (has_own up.security s) (record { forward = forward up.ring at; backward = backward up.ring at; uses = 1 + n; descriptor = s })
+    go (has_own up.security s)
+    (record { forward = forward up.ring at; backward = backward up.ring at; uses = 1 + n; descriptor = s })
   where
     go : (b : Bool) (p : SecurityCell)
         → space (if b then security_text p ∷ [] else []) ≡ (if b then cell (20 + length p.descriptor) else 0)
@@ -292,7 +315,8 @@ unfolding tail_size
 tail_full n h =
     let q : (n - 500) / 500 + 1 ≡ n / 500 = omega arith in
     let r : (n - 500) % 500 ≡ n % 500 = omega arith in
-    ap (λ k. cell (4 + 8 * 500) + ((n - 500) / 500 * 4008 + (if k == 0 then 0 else cell (4 + 8 * k)))) r ∙ omega (arith, q)
+    ap (λ k. cell (4 + 8 * 500) + ((n - 500) / 500 * 4008 + (if k == 0 then 0 else cell (4 + 8 * k)))) r
+    ∙ omega (arith, q)
 
 tail_last : (n : ℕ) → 0 < n → n < 500 → cell (4 + 8 * n) ≡ tail_size n
 unfolding tail_size
@@ -306,16 +330,20 @@ no_tail : (n : ℕ) → n ≡ 0 → tail_size n ≡ 0
 unfolding tail_size
 no_tail n e = rw e refl
 
-space_parts : (version : HiveVersion) (k n : ℕ) (os : List ℕ) (hs : List (List ℕ)) → length os ≡ n → length os ≡ length hs
+space_parts : (version : HiveVersion) (k n : ℕ) (os : List ℕ) (hs : List (List ℕ)) → length os ≡ n
+    → length os ≡ length hs
     → AreHints hs → part_count n ≡ k → space (parts version k os hs) ≡ tail_size n
 space_parts version zero n os hs l e f p = sym (no_tail n (omega arith))
 space_parts version (suc k) n os hs l e f p =
     let first : length (list_text version (take 500 os) (take 500 hs)) ≡ 4 + 8 * min 500 n =
-    length_list_text version (take 500 os) (take 500 hs) (omega (arith, length-take 500 os, length-take 500 hs)) (hints_take 500 hs f)
+    length_list_text version (take 500 os) (take 500 hs) (omega (arith, length-take 500 os, length-take 500 hs))
+    (hints_take 500 hs f)
     ∙ omega (arith, length-take 500 os) in
     let rest : space (parts version k (drop 500 os) (drop 500 hs)) ≡ tail_size (n - 500) =
-    space_parts version k (n - 500) (drop 500 os) (drop 500 hs) (omega (arith, length-drop 500 os)) (omega (arith, length-drop 500 os, length-drop 500 hs)) (hints_drop 500 hs f) (omega arith) in
-    ap (λ x. cell x + space (parts version k (drop 500 os) (drop 500 hs))) first ∙ ap (λ x. cell (4 + 8 * min 500 n) + x) rest
+    space_parts version k (n - 500) (drop 500 os) (drop 500 hs) (omega (arith, length-drop 500 os))
+    (omega (arith, length-drop 500 os, length-drop 500 hs)) (hints_drop 500 hs f) (omega arith) in
+    ap (λ x. cell x + space (parts version k (drop 500 os) (drop 500 hs))) first
+    ∙ ap (λ x. cell (4 + 8 * min 500 n) + x) rest
     ∙ step (cases_lt n 500)
   where
     step : (n < 500) ⊎ (500 ≤ n) → cell (4 + 8 * min 500 n) + tail_size (n - 500) ≡ tail_size n
@@ -330,7 +358,8 @@ pub length_part_places : (n at : ℕ) → length (part_places n at) ≡ n
 length_part_places zero at = refl
 length_part_places (suc n) at = omega (arith, length_part_places n (at + cell 4004))
 
-pub space_list : (version : HiveVersion) (at : ℕ) (os : List ℕ) (hs : List (List ℕ)) → length os ≡ length hs → AreHints hs
+pub space_list : (version : HiveVersion) (at : ℕ) (os : List ℕ) (hs : List (List ℕ)) → length os ≡ length hs
+    → AreHints hs
     → space (list_cells version at os hs) ≡ list_size (length os)
 unfolding list_cells tail_size
 space_list version at os hs e f = go (length os == 0) (nat_lt (length os) 501)
@@ -342,12 +371,16 @@ space_list version at os hs e f = go (length os == 0) (nat_lt (length os) 501)
     starts = part_places (part_count n) (at + cell (4 + 4 * part_count n))
 
     go : (b c : Bool)
-        → space (if b then [] else if c then list_text version os hs ∷ [] else ri_text starts ∷ parts version (part_count n) os hs)
-        ≡ (if b then 0 else if c then cell (4 + 8 * n) else cell (4 + 4 * part_count n) + n / 500 * cell 4004 + (if n % 500 == 0 then 0 else cell (4 + 8 * (n % 500))))
+        → space (if b then [] else if c then list_text version os hs ∷ [] else ri_text starts
+        ∷ parts version (part_count n) os hs)
+        ≡ (if b then 0 else if c then cell (4 + 8 * n) else cell (4 + 4 * part_count n) + n / 500 * cell 4004
+        + (if n % 500 == 0 then 0 else cell (4 + 8 * (n % 500))))
     go true c = refl
     go false true = omega (arith, length_list_text version os hs e f)
     go false false =
-        ap (λ x. cell x + space (parts version (part_count n) os hs)) (length_ri starts ∙ ap (λ x. 4 + 4 * x) (length_part_places (part_count n) (at + cell (4 + 4 * part_count n))))
+        ap (λ x. cell x + space (parts version (part_count n) os hs))
+        (length_ri starts ∙ ap (λ x. 4 + 4 * x)
+        (length_part_places (part_count n) (at + cell (4 + 4 * part_count n))))
         ∙ ap (λ x. cell (4 + 4 * part_count n) + x) (space_parts version (part_count n) n os hs refl e f refl)
         ∙ omega arith
 
@@ -359,7 +392,8 @@ many_lists n h =
 
 pub lists_many : (version : HiveVersion) (at : ℕ) (os : List ℕ) (hs : List (List ℕ)) → 501 ≤ length os
     → text (list_cells version at os hs)
-    ≡ cell_text (ri_text (part_places (part_count (length os)) (at + cell (4 + 4 * part_count (length os))))) ++ text (parts version (part_count (length os)) os hs)
+    ≡ cell_text (ri_text (part_places (part_count (length os)) (at + cell (4 + 4 * part_count (length os)))))
+    ++ text (parts version (part_count (length os)) os hs)
 unfolding list_cells
 lists_many version at os hs h =
     let a : eqb (length os) 0 ≡ false = ne_eqb (length os) 0 (λ e. omega arith) in
@@ -371,16 +405,19 @@ lists_many version at os hs h =
 pub length_places : (version : HiveVersion) (shared : List ℕ) (at : ℕ) (ts : Trees)
     → length (places version shared at ts) ≡ count ts
 length_places version shared at none = refl
-length_places version shared at (more t ts) = omega (arith, length_places version shared (at + size version shared t) ts)
+length_places version shared at (more t ts) =
+    omega (arith, length_places version shared (at + size version shared t) ts)
 
 pub same_hints : (version : HiveVersion) (shared : List ℕ) (at : ℕ) (ts : Trees)
     → length (places version shared at ts) ≡ length (map (hint version) (listed ts))
 same_hints version shared at ts = length_places version shared at ts ∙ sym (length-map (listed ts) (hint version))
 
 pub space_lists : (version : HiveVersion) (list_at : ℕ) (shared : List ℕ) (at : ℕ) (ts : Trees)
-    → space (list_cells version list_at (places version shared at ts) (map (hint version) (listed ts))) ≡ list_size (count ts)
+    → space (list_cells version list_at (places version shared at ts) (map (hint version) (listed ts)))
+    ≡ list_size (count ts)
 space_lists version list_at shared at ts =
-    space_list version list_at (places version shared at ts) (map (hint version) (listed ts)) (same_hints version shared at ts) (hints_of version (listed ts))
+    space_list version list_at (places version shared at ts) (map (hint version) (listed ts))
+    (same_hints version shared at ts) (hints_of version (listed ts))
     ∙ ap list_size (length_places version shared at ts)
 
 mutual
@@ -388,7 +425,8 @@ mutual
       → space (cells_of version up at t) ≡ size version up.security t
   space_tree version up at (key h ts) =
       let first = children_place version up.security at h (count ts) in
-      let lists = list_cells version (list_place version up.security at h) (places version h.security first ts) (map (hint version) (listed ts)) in
+      let lists = list_cells version (list_place version up.security at h) (places version h.security first ts)
+      (map (hint version) (listed ts)) in
       omega (
         arith,
         space_append (head_cells version up at h ts) (lists ++ cells_of_all version (below up at h) first ts),
@@ -402,6 +440,12 @@ mutual
       → space (cells_of_all version up at ts) ≡ size_of_all version up.security ts
   space_trees version up at none = refl
   space_trees version up at (more t ts) =
-      omega (arith, space_append (cells_of version up at t) (cells_of_all version up (at + size version up.security t) ts), space_tree version up at t, space_trees version up (at + size version up.security t) ts)
+      omega (
+        arith,
+        space_append (cells_of version up at t)
+            (cells_of_all version up (at + size version up.security t) ts),
+        space_tree version up at t,
+        space_trees version up (at + size version up.security t) ts,
+      )
 
 pub ruleset lengths = (length_node, length_value, length_security)

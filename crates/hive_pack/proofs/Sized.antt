@@ -19,7 +19,8 @@ length_cell c = omega arith
 
 length_cells : (cs : List Cell) → length (flat_map cell_bytes cs) ≡ cells_size cs
 length_cells [] = refl
-length_cells (c ∷ cs) = omega (arith, length-append (cell_bytes c) (flat_map cell_bytes cs), length_cell c, length_cells cs)
+length_cells (c ∷ cs) = omega
+    (arith, length-append (cell_bytes c) (flat_map cell_bytes cs), length_cell c, length_cells cs)
 
 length_packed : (version : HiveVersion) (t : Tree) → length (packed version t) ≡ rounded (whole version t)
 length_packed version t =

@@ -77,7 +77,8 @@ descriptor_stands cells up at (b ∷ s) n a h le few = go (pointwise nat_eq up.s
     go : (same : Bool) → pointwise nat_eq up.security (b ∷ s) ≡ same
         → descriptor_at cells (security_place_of up at (b ∷ s)) ≡ Ok (b ∷ s)
     go true e =
-        rw e (subst (λ (d : List ℕ). descriptor_at cells up.security_place ≡ Ok d) ((bytes_eq-Decides up.security (b ∷ s)).0 e) a.descriptor)
+        rw e (subst (λ (d : List ℕ). descriptor_at cells up.security_place ≡ Ok d)
+        ((bytes_eq-Decides up.security (b ∷ s)).0 e) a.descriptor)
     go false e =
         let here : Has cells at (security_text form ∷ []) = rw e at h in
         let room = rw e at le in
@@ -88,7 +89,8 @@ descriptor_stands cells up at (b ∷ s) n a h le few = go (pointwise nat_eq up.s
           descriptor = omega arith;
         } in
         let somewhere : eqb at nowhere ≡ false = ne_eqb _ _ (λ z. omega arith) in
-        let read : reading security_at cells at ≡ Ok form = reads_in security_at cells at (security_text form) form here.0 (λ slack. security_again form slack fits) in
+        let read : reading security_at cells at ≡ Ok form =
+        reads_in security_at cells at (security_text form) form here.0 (λ slack. security_again form slack fits) in
         rw (e, somewhere, read) refl
 
 security_place_fits : (cells : Cells) (up : Above) (at : ℕ) (s : List ℕ) → AboveStands cells up → at ≤ 16777216
@@ -128,7 +130,8 @@ flags_again name flags h = go (is_narrow name)
         let e : flags - flags / 32 % 2 * 32 + 0 ≡ flags = omega arith in
         rw (e, h) refl
 
-pub node_fits : (cells : Cells) (up : Above) (at : ℕ) (h : Head) (keys : List Tree) → AboveStands cells up → IsKey h keys
+pub node_fits : (cells : Cells) (up : Above) (at : ℕ) (h : Head) (keys : List Tree) → AboveStands cells up
+    → IsKey h keys
     → AllHoldKeys (trees keys) → HeadNumbers h → at + head_size cells.version up.security h ≤ 16777216
     → IsKeyNode (node_of cells.version up at h keys)
 node_fits cells up at h keys a f g n le = record {
@@ -160,7 +163,8 @@ class_stands cells node at [] n p has = rw n refl
 class_stands cells node at (b ∷ c) n p has =
     let some : eqb (length (b ∷ c)) 0 ≡ false = ne_eqb _ _ (λ z. omega arith) in
     let place : node.class ≡ at = p ∙ rw some refl in
-    rw (n, some, place) (reads_in (bytes_in (length (b ∷ c))) cells at (b ∷ c) (b ∷ c) has.0 (λ slack. bytes_again (b ∷ c) slack))
+    rw (n, some, place) (reads_in (bytes_in (length (b ∷ c))) cells at (b ∷ c) (b ∷ c) has.0
+    (λ slack. bytes_again (b ∷ c) slack))
 
 security_is : (cells : Cells) (node : KeyNode) (s : List ℕ) → descriptor_at cells node.security ≡ Ok s
     → security_of cells node ≡ Ok s
@@ -171,12 +175,16 @@ security_is cells node s h = h
 
 -- what stands of a key's own cells
 pub record HeadHas (cells : Cells) (up : Above) (at : ℕ) (h : Head) (ts : Trees) : Type 0 where
-  pub node : cells.payload at ≡ Ok (Rattle.hive_model.specs.Packed.filled (key_node_text (node_of cells.version up at h (listed ts))))
+  pub node : cells.payload at
+      ≡ Ok (Rattle.hive_model.specs.Packed.filled (key_node_text (node_of cells.version up at h (listed ts))))
   pub class : Has cells (at + node_size h) (class_cells h.class)
-  pub security : Has cells (descriptor_place at h) (security_cells up (descriptor_place at h) h.security (sharers_of_all h.security ts))
-  pub values : Has cells (values_place up.security at h) (items_cells cells.version (values_place up.security at h) h.values)
+  pub security : Has cells (descriptor_place at h)
+      (security_cells up (descriptor_place at h) h.security (sharers_of_all h.security ts))
+  pub values : Has cells (values_place up.security at h)
+      (items_cells cells.version (values_place up.security at h) h.values)
 
-pub head_has : (cells : Cells) (up : Above) (at : ℕ) (h : Head) (ts : Trees) → Has cells at (head_cells cells.version up at h ts)
+pub head_has : (cells : Cells) (up : Above) (at : ℕ) (h : Head) (ts : Trees)
+    → Has cells at (head_cells cells.version up at h ts)
     → HeadHas cells up at h ts
 unfolding head_cells
 head_has cells up at h ts has =
@@ -185,16 +193,20 @@ head_has cells up at h ts has =
     let cls = class_cells h.class in
     let sec = security_cells up own h.security (sharers_of_all h.security ts) in
     let vals = items_cells cells.version (values_place up.security at h) h.values in
-    let rest = has_next cells at (76 + Rattle.hive_model.specs.Size.name_bytes h.name) node (cls ++ (sec ++ vals)) (length_node cells.version up at h (listed ts)) has in
-    let later = has_behind cells (at + node_size h) (class_size h.class) own cls (sec ++ vals) (space_class h.class) refl rest in
+    let rest = has_next cells at (76 + Rattle.hive_model.specs.Size.name_bytes h.name) node (cls ++ (sec ++ vals))
+    (length_node cells.version up at h (listed ts)) has in
+    let later = has_behind cells (at + node_size h) (class_size h.class) own cls (sec ++ vals) (space_class h.class)
+    refl rest in
     record {
       node = has.0;
       class = has_front cells (at + node_size h) cls (sec ++ vals) rest;
       security = has_front cells own sec vals later;
-      values = has_behind cells own (security_size up.security h.security) (values_place up.security at h) sec vals (space_security up own h.security (sharers_of_all h.security ts)) refl later;
+      values = has_behind cells own (security_size up.security h.security) (values_place up.security at h) sec vals
+          (space_security up own h.security (sharers_of_all h.security ts)) refl later;
     }
 
-pub places_fit : (version : HiveVersion) (shared : List ℕ) (at : ℕ) (ts : Trees) → at + size_of_all version shared ts ≤ 16777216
+pub places_fit : (version : HiveVersion) (shared : List ℕ) (at : ℕ) (ts : Trees)
+    → at + size_of_all version shared ts ≤ 16777216
     → AreOffsets (places version shared at ts)
 places_fit version shared at none le = tt
 places_fit version shared at (more t ts) le =
@@ -210,47 +222,72 @@ mutual
       let hs = map (hint cells.version) (listed ts) in
       let lists = list_cells cells.version (list_place cells.version up.security at h) os hs in
       let all = cells_of_all cells.version (below up at h) first ts in
-      let mine = head_has cells up at h ts (has_front cells at (head_cells cells.version up at h ts) (lists ++ all) has) in
-      let behind_head = has_behind cells at (head_size cells.version up.security h) (list_place cells.version up.security at h) (head_cells cells.version up at h ts) (lists ++ all) (space_head cells.version up at h ts) (omega arith) has in
+      let mine = head_has cells up at h ts
+      (has_front cells at (head_cells cells.version up at h ts) (lists ++ all) has) in
+      let behind_head = has_behind cells at (head_size cells.version up.security h)
+      (list_place cells.version up.security at h) (head_cells cells.version up at h ts) (lists ++ all)
+      (space_head cells.version up at h ts) (omega arith) has in
       let list = has_front cells (list_place cells.version up.security at h) lists all behind_head in
-      let later = has_behind cells (list_place cells.version up.security at h) (list_size (count ts)) first lists all (space_lists cells.version (list_place cells.version up.security at h) h.security first ts) refl behind_head in
-      let few : sharers_of_all h.security ts ≤ 16777216 = omega (arith, few_of_all cells.version h.security h.security ts) in
+      let later = has_behind cells (list_place cells.version up.security at h) (list_size (count ts)) first lists all
+      (space_lists cells.version (list_place cells.version up.security at h) h.security first ts)
+      refl behind_head in
+      let few : sharers_of_all h.security ts ≤ 16777216 =
+      omega (arith, few_of_all cells.version h.security h.security ts) in
       let keys = subst AllHoldKeys (sym (trees_listed ts)) f.1 in
       let node = node_of cells.version up at h (listed ts) in
       let n_os = length_places cells.version h.security first ts in (
         os,
         record {
           node = node;
-          read = reads_in key_node_at cells at (key_node_text node) node mine.node (λ slack. key_node_again node slack (node_fits cells up at h (listed ts) a f.0 keys n.0 (omega arith)));
+          read = reads_in key_node_at cells at (key_node_text node) node mine.node
+              (λ slack. key_node_again node slack (node_fits cells up at h (listed ts) a f.0 keys n.0 (omega arith)));
           name = refl;
           flags = flags_again h.name h.flags f.0.flags;
           stamp = refl;
           class = class_stands cells node (at + node_size h) h.class refl refl mine.class;
-          security = security_is cells node h.security (descriptor_stands cells up (descriptor_place at h) h.security (sharers_of_all h.security ts) a mine.security (omega arith) few);
-          values = values_stand cells node (values_place up.security at h) h.values refl refl mine.values f.0.items n.0.items (omega arith);
-          children = children_named cells node (list_place cells.version up.security at h) os hs list (sym n_os) (ap (λ k. place_of_some k (list_place cells.version up.security at h)) (sym n_os)) (same_hints cells.version h.security first ts) (places_fit cells.version h.security first ts (omega arith)) (hints_of cells.version (listed ts)) (omega (arith, ap list_size n_os));
+          security = security_is cells node h.security
+              (descriptor_stands cells up (descriptor_place at h) h.security (sharers_of_all h.security ts)
+              a mine.security (omega arith) few);
+          values = values_stand cells node (values_place up.security at h)
+              h.values refl refl mine.values f.0.items n.0.items (omega arith);
+          children = children_named cells node (list_place cells.version up.security at h) os hs list (sym n_os)
+              (ap (λ k. place_of_some k (list_place cells.version up.security at h)) (sym n_os))
+              (same_hints cells.version h.security first ts)
+              (places_fit cells.version h.security first ts (omega arith)) (hints_of cells.version (listed ts))
+              (omega (arith, ap list_size n_os));
         },
-        trees_stand cells (below up at h) first ts (below_stands cells up at h (sharers_of_all h.security ts) a mine.security (omega arith) few) later f.1 n.1 (omega arith),
+        trees_stand cells (below up at h) first ts
+            (below_stands cells up at h (sharers_of_all h.security ts) a mine.security (omega arith) few) later f.1 n.1
+            (omega arith),
       )
 
   trees_stand : (cells : Cells) (up : Above) (at : ℕ) (ts : Trees) → AboveStands cells up
       → Has cells at (cells_of_all cells.version up at ts) → AllHoldKeys ts → AllHaveNumbers ts
-      → at + size_of_all cells.version up.security ts ≤ 16777216 → AllStand cells (places cells.version up.security at ts) ts
+      → at + size_of_all cells.version up.security ts ≤ 16777216
+      → AllStand cells (places cells.version up.security at ts) ts
   trees_stand cells up at none a has f n le = refl
   trees_stand cells up at (more t ts) a has f n le =
       let next = at + size cells.version up.security t in
-      let back = has_behind cells at (size cells.version up.security t) next (cells_of cells.version up at t) (cells_of_all cells.version up next ts) (space_tree cells.version up at t) refl has in (
+      let back = has_behind cells at (size cells.version up.security t) next (cells_of cells.version up at t)
+      (cells_of_all cells.version up next ts) (space_tree cells.version up at t) refl has in (
         at,
         places cells.version up.security next ts,
         refl,
-        tree_stands cells up at t a (has_front cells at (cells_of cells.version up at t) (cells_of_all cells.version up next ts) has) f.0 n.0 (omega arith),
+        tree_stands cells up at t a
+            (has_front cells at (cells_of cells.version up at t) (cells_of_all cells.version up next ts) has) f.0 n.0
+            (omega arith),
         trees_stand cells up next ts a back f.1 n.1 (omega arith),
       )
 
 pub above_root : (cells : Cells) (t : Tree) → 32 + size cells.version [] t ≤ 16777216
     → AboveStands cells (top (ring cells.version [] 32 t))
 above_root cells t room =
-    record { place = omega arith; security_place = omega arith; descriptor = refl; ring = ring_fits cells.version [] 32 t room }
+    record {
+      place = omega arith;
+      security_place = omega arith;
+      descriptor = refl;
+      ring = ring_fits cells.version [] 32 t room;
+    }
 
 pub packed_stands : PackedStands
 packed_stands version t f n le =

@@ -11,7 +11,8 @@ behind_none first (x ∷ xs) at h =
     let no : eqb x at ≡ false = ne_eqb x at (h 0 (omega arith)) in
     rw no (behind_none first xs at (λ k lt. h (suc k) (omega arith)))
 
-pub behind_at : (first : ℕ) (xs : List ℕ) (at i : ℕ) → i < length xs → get_or xs i 0 ≡ at → ((k : ℕ) → k < i → get_or xs k 0 < at)
+pub behind_at : (first : ℕ) (xs : List ℕ) (at i : ℕ) → i < length xs → get_or xs i 0 ≡ at
+    → ((k : ℕ) → k < i → get_or xs k 0 < at)
     → behind first xs at ≡ first_or first (drop (suc i) xs)
 behind_at first [] at i lt e h = absurd (omega arith)
 behind_at first (x ∷ xs) at zero lt e h = let yes : eqb x at ≡ true = eq-eqb x at e in rw yes refl
@@ -90,31 +91,37 @@ pub next_is : (xs : List ℕ) (at i : ℕ) → IsRising xs → i < length xs →
 next_is xs at i r lt e more =
     let one : i + 1 ≡ suc i = omega arith in
     ap (λ k. get_or xs k 0) one
-    ∙ sym (behind_at (first_or 0 xs) xs at i lt e (λ k l. omega (arith, r k i l lt, e)) ∙ head_drop (first_or 0 xs) xs (suc i) (omega arith))
+    ∙ sym (behind_at (first_or 0 xs) xs at i lt e (λ k l. omega (arith, r k i l lt, e))
+    ∙ head_drop (first_or 0 xs) xs (suc i) (omega arith))
 
 pub next_of_last : (xs : List ℕ) (at i : ℕ) → IsRising xs → i < length xs → get_or xs i 0 ≡ at → length xs ≤ i + 1
     → get_or xs 0 0 ≡ forward xs at
 next_of_last xs at i r lt e last =
-    sym (behind_at (first_or 0 xs) xs at i lt e (λ k l. omega (arith, r k i l lt, e)) ∙ head_past (first_or 0 xs) xs (suc i) (omega arith) ∙ head_first xs (omega arith))
+    sym (behind_at (first_or 0 xs) xs at i lt e (λ k l. omega (arith, r k i l lt, e))
+    ∙ head_past (first_or 0 xs) xs (suc i) (omega arith) ∙ head_first xs (omega arith))
 
 pub before_is : (xs : List ℕ) (at i : ℕ) → IsRising xs → i < length xs → get_or xs i 0 ≡ at → 0 < i
     → get_or xs (i - 1) 0 ≡ backward xs at
 before_is xs at i r lt e some =
     let one : suc (i - 1) ≡ i = omega arith in
-    sym (ahead_later (last_or 0 xs) xs at (i - 1) (omega arith) (ap (λ k. get_or xs k 0) one ∙ e) (λ k l. omega (arith, r k i (omega arith) lt, e)))
+    sym (ahead_later (last_or 0 xs) xs at (i - 1) (omega arith) (ap (λ k. get_or xs k 0) one ∙ e)
+    (λ k l. omega (arith, r k i (omega arith) lt, e)))
 
 pub before_first : (xs : List ℕ) (at i : ℕ) → 0 < length xs → get_or xs i 0 ≡ at → i ≡ 0
     → get_or xs (length xs - 1) 0 ≡ backward xs at
-before_first xs at i lt e z = sym (ahead_first (last_or 0 xs) xs at lt (ap (λ k. get_or xs k 0) (sym z) ∙ e) ∙ last_at 0 xs lt)
+before_first xs at i lt e z =
+    sym (ahead_first (last_or 0 xs) xs at lt (ap (λ k. get_or xs k 0) (sym z) ∙ e) ∙ last_at 0 xs lt)
 
 -- backward undoes forward
-pub turned_back : (xs : List ℕ) (i : ℕ) → IsRising xs → i < length xs → backward xs (forward xs (get_or xs i 0)) ≡ get_or xs i 0
+pub turned_back : (xs : List ℕ) (i : ℕ) → IsRising xs → i < length xs
+    → backward xs (forward xs (get_or xs i 0)) ≡ get_or xs i 0
 turned_back xs i r lt =
     elim (cases_lt (i + 1) (length xs)) [
       | inl more ↦
           let there = next_is xs (get_or xs i 0) i r lt refl more in
           let one : i + 1 - 1 ≡ i = omega arith in
-          sym (before_is xs (forward xs (get_or xs i 0)) (i + 1) r more there (omega arith)) ∙ ap (λ k. get_or xs k 0) one
+          sym (before_is xs (forward xs (get_or xs i 0)) (i + 1) r more there (omega arith))
+          ∙ ap (λ k. get_or xs k 0) one
       | inr last ↦
           let there = next_of_last xs (get_or xs i 0) i r lt refl last in
           let one : length xs - 1 ≡ i = omega arith in

@@ -39,7 +39,8 @@ not_here : (up : Above) (p lo hi d : ℕ) (s : List ℕ) → Outside p lo hi →
 not_here up p lo hi d [] out l r real above q = real q
 not_here up p lo hi d (x ∷ s) out l r real above q = go (has_own up.security (x ∷ s)) r q
   where
-    go : (own : Bool) → d + (if own then cell (20 + length (x ∷ s)) else 0) ≤ hi → (if own then d else up.security_place) ≡ p → ⊥
+    go : (own : Bool) → d + (if own then cell (20 + length (x ∷ s)) else 0) ≤ hi
+        → (if own then d else up.security_place) ≡ p → ⊥
     go true r q = elim out [ inl a ↦ omega (arith, a, l, q) | inr b ↦ omega (arith, b, r, q) ]
     go false r q = above q
 
@@ -51,7 +52,8 @@ place_shared up d (x ∷ s) l e = rw e refl
 place_apart : (up : Above) (d p : ℕ) (s : List ℕ) → p < d → (nowhere ≡ p → ⊥) → pointwise nat_eq up.security s ≡ false
     → security_place_of up d s ≡ p → ⊥
 place_apart up d p [] l real e q = real q
-place_apart up d p (x ∷ s) l real e q = let is : security_place_of up d (x ∷ s) ≡ d = rw e refl in omega (arith, l, is, q)
+place_apart up d p (x ∷ s) l real e q = let is : security_place_of up d (x ∷ s) ≡ d = rw e refl in
+    omega (arith, l, is, q)
 
 place_own : (up : Above) (d : ℕ) (s : List ℕ) → has_own up.security s ≡ true
     → (security_place_of up d s ≡ d) × (0 < length s) × (0 < security_size up.security s)
@@ -73,7 +75,8 @@ mutual
       let d = security_place_of up own h.security in
       let differs : d ≡ p → ⊥ = not_here up p at hi own h.security out (omega arith) (omega arith) real above in
       other p d (named_of_all version (below up at h) first ts) differs
-      ∙ all_unnamed version p (below up at h) first hi ts (omega arith) (narrow p at hi first hi out (omega arith) (omega arith)) real differs
+      ∙ all_unnamed version p (below up at h) first hi ts (omega arith)
+      (narrow p at hi first hi out (omega arith) (omega arith)) real differs
 
   all_unnamed : (version : HiveVersion) (p : ℕ) (up : Above) (at hi : ℕ) (ts : Trees)
       → at + size_of_all version up.security ts ≡ hi → Outside p at hi → (nowhere ≡ p → ⊥) → (up.security_place ≡ p → ⊥)
@@ -85,7 +88,8 @@ mutual
         arith,
         times-append p (named version up at t) (named_of_all version up next ts),
         unnamed version p up at next t refl (narrow p at hi at next out (omega arith) (omega arith)) real above,
-        all_unnamed version p up next hi ts (omega arith) (narrow p at hi next hi out (omega arith) (omega arith)) real above,
+        all_unnamed version p up next hi ts (omega arith) (narrow p at hi next hi out (omega arith) (omega arith))
+            real above,
       )
 
 -- ---- trees below a key that names a place
@@ -106,10 +110,12 @@ shared_here p up own s ts rest low real above some sharing_below none_below = go
         let place = place_shared up own s many q ∙ above in
         once_more p (security_place_of up own s) rest place
         ∙ ap (λ n. 1 + n) (sharing_below place many ∙ ap (λ (x : List ℕ). sharers_of_all x ts) (sym alike))
-    go false q = let differs = place_apart up own p s low real q in other p (security_place_of up own s) rest differs ∙ none_below differs
+    go false q = let differs = place_apart up own p s low real q in
+        other p (security_place_of up own s) rest differs ∙ none_below differs
 
 mutual
-  sharing : (version : HiveVersion) (p : ℕ) (up : Above) (at hi : ℕ) (t : Tree) → at + size version up.security t ≡ hi → p < at
+  sharing : (version : HiveVersion) (p : ℕ) (up : Above) (at hi : ℕ) (t : Tree) → at + size version up.security t ≡ hi
+      → p < at
       → (nowhere ≡ p → ⊥) → up.security_place ≡ p → 0 < length up.security
       → times p (named version up at t) ≡ sharers up.security t
   sharing version p up at hi (key h ts) e low real above some =
@@ -120,7 +126,8 @@ mutual
       (λ differs. all_unnamed version p (below up at h) first hi ts (omega arith) (inl (omega arith)) real differs)
 
   all_sharing : (version : HiveVersion) (p : ℕ) (up : Above) (at hi : ℕ) (ts : Trees)
-      → at + size_of_all version up.security ts ≡ hi → p < at → (nowhere ≡ p → ⊥) → up.security_place ≡ p → 0 < length up.security
+      → at + size_of_all version up.security ts ≡ hi → p < at → (nowhere ≡ p → ⊥) → up.security_place ≡ p
+      → 0 < length up.security
       → times p (named_of_all version up at ts) ≡ sharers_of_all up.security ts
   all_sharing version p up at hi none e low real above some = refl
   all_sharing version p up at hi (more t ts) e low real above some =
@@ -139,23 +146,28 @@ abbrev Agrees : List ℕ → List ℕ → ℕ → ℕ → Type 0
 Agrees names some lo hi = (p : ℕ) → lo ≤ p → p < hi → times p names ≡ times p some
 
 mutual
-  counted : (version : HiveVersion) (names : List ℕ) (up : Above) (at hi : ℕ) (t : Tree) → at + size version up.security t ≡ hi
+  counted : (version : HiveVersion) (names : List ℕ) (up : Above) (at hi : ℕ) (t : Tree)
+      → at + size version up.security t ≡ hi
       → hi ≤ 16777216 → IsAbove up at → Agrees names (named version up at t) at hi → AreCounted version names up at t
   counted version names up at hi (key h ts) e small i g =
       let own = descriptor_place at h in
       let first = children_place version up.security at h (count ts) in
       let d = security_place_of up own h.security in
       let rest = named_of_all version (below up at h) first ts in
-      let d-above : IsAbove (below up at h) (own + security_size up.security h.security) = above_below up at own h.security i (omega arith) in
-      let first-above = later_above (below up at h) (own + security_size up.security h.security) first (omega arith) d-above in (
+      let d-above : IsAbove (below up at h) (own + security_size up.security h.security) =
+      above_below up at own h.security i (omega arith) in
+      let first-above = later_above (below up at h) (own + security_size up.security h.security) first (omega arith)
+      d-above in (
         λ mine.
             let parts = place_own up own h.security mine in
             sym (
             g own (omega arith) (omega (arith, parts.2))
             ∙ once_more own d rest parts.0
-            ∙ ap (λ n. 1 + n) (all_sharing version own (below up at h) first hi ts (omega arith) (omega (arith, parts.2)) (λ q. omega arith) parts.0 parts.1)
+            ∙ ap (λ n. 1 + n) (all_sharing version own (below up at h) first hi ts (omega arith)
+            (omega (arith, parts.2)) (λ q. omega arith) parts.0 parts.1)
             ),
-        all_counted version names (below up at h) first hi ts (omega arith) small first-above (λ p l r. g p (omega arith) r ∙ other p d rest (apart (below up at h) first p first-above l (omega arith))),
+        all_counted version names (below up at h) first hi ts (omega arith) small first-above
+            (λ p l r. g p (omega arith) r ∙ other p d rest (apart (below up at h) first p first-above l (omega arith))),
       )
 
   all_counted : (version : HiveVersion) (names : List ℕ) (up : Above) (at hi : ℕ) (ts : Trees)
@@ -171,17 +183,20 @@ mutual
               arith,
               g p l (omega arith),
               times-append p front back,
-              all_unnamed version p up next hi ts (omega arith) (inl r) (λ q. omega arith) (apart up at p i l (omega arith)),
+              all_unnamed version p up next hi ts (omega arith) (inl r) (λ q. omega arith)
+                  (apart up at p i l (omega arith)),
             )),
         all_counted version names up next hi ts (omega arith) small (later_above up at next (omega arith) i) (λ p l r.
             omega (
               arith,
               g p (omega arith) r,
               times-append p front back,
-              unnamed version p up at next t refl (inr l) (λ q. omega arith) (apart up at p i (omega arith) (omega arith)),
+              unnamed version p up at next t refl (inr l) (λ q. omega arith)
+                  (apart up at p i (omega arith) (omega arith)),
             )),
       )
 
 pub uses_are_counted : PackedCountsUses
 uses_are_counted version t room =
-    counted version (named version (top (ring version [] 32 t)) 32 t) (top (ring version [] 32 t)) 32 (32 + size version [] t) t refl (omega arith) (inr refl) (λ p l r. refl)
+    counted version (named version (top (ring version [] 32 t)) 32 t) (top (ring version [] 32 t)) 32
+    (32 + size version [] t) t refl (omega arith) (inr refl) (λ p l r. refl)

@@ -42,7 +42,8 @@ eights_of_list : (n : ℕ) → list_size n % 8 ≡ 0
 eights_of_list n = go (n == 0) (nat_lt n 501) (n % 500 == 0)
   where
     go : (a b c : Bool)
-        → (if a then 0 else if b then cell (4 + 8 * n) else cell (4 + 4 * part_count n) + n / 500 * cell 4004 + (if c then 0 else cell (4 + 8 * (n % 500)))) % 8
+        → (if a then 0 else if b then cell (4 + 8 * n) else cell (4 + 4 * part_count n) + n / 500 * cell 4004
+        + (if c then 0 else cell (4 + 8 * (n % 500)))) % 8
         ≡ 0
     go true b c = refl
     go false true c = omega arith
@@ -52,7 +53,14 @@ eights_of_list n = go (n == 0) (nat_lt n 501) (n % 500 == 0)
 mutual
   pub eights : (version : HiveVersion) (shared : List ℕ) (t : Tree) → size version shared t % 8 ≡ 0
   eights version shared (key h ts) =
-      omega (arith, eights_of_all_items version h.values, eights_of_class h.class, eights_if (has_own shared h.security) (20 + length h.security), eights_of_list (count ts), eights_of_all version h.security ts)
+      omega (
+        arith,
+        eights_of_all_items version h.values,
+        eights_of_class h.class,
+        eights_if (has_own shared h.security) (20 + length h.security),
+        eights_of_list (count ts),
+        eights_of_all version h.security ts,
+      )
 
   eights_of_all : (version : HiveVersion) (shared : List ℕ) (ts : Trees) → size_of_all version shared ts % 8 ≡ 0
   eights_of_all version shared none = refl
@@ -80,7 +88,8 @@ free_size (suc n) h =
     rw some (omega (arith, length-zeros (suc n - 4)))
 
 pub bin_is : (version : HiveVersion) (t : Tree)
-    → 32 + cells_size (map allocated_cell (packed_cells version t) ++ free_cells (rounded (whole version t) - whole version t))
+    → 32 + cells_size (map allocated_cell (packed_cells version t)
+    ++ free_cells (rounded (whole version t) - whole version t))
     ≡ rounded (whole version t)
 bin_is version t =
     let free = rounded (whole version t) - whole version t in
@@ -95,13 +104,17 @@ bin_is version t =
 -- the bytes: header, cells and the free cell
 pub packed_is : (version : HiveVersion) (t : Tree)
     → packed version t
-    ≡ head_bytes 0 (rounded (whole version t)) (replicate 20 0) ++ (text (packed_cells version t) ++ flat_map cell_bytes (free_cells (rounded (whole version t) - whole version t)))
+    ≡ head_bytes 0 (rounded (whole version t)) (replicate 20 0)
+    ++ (text (packed_cells version t)
+    ++ flat_map cell_bytes (free_cells (rounded (whole version t) - whole version t)))
 unfolding packed packed_bins
 packed_is version t =
     let used = map allocated_cell (packed_cells version t) in
     let free = free_cells (rounded (whole version t) - whole version t) in
     append-nil (head_bytes 0 (32 + cells_size (used ++ free)) (replicate 20 0) ++ flat_map cell_bytes (used ++ free))
-    ∙ (λ j. head_bytes 0 (bin_is version t j) (replicate 20 0) ++ (flat_map-append cell_bytes used free ∙ ap (λ (x : List ℕ). x ++ flat_map cell_bytes free) (used_text (packed_cells version t))) j)
+    ∙ (λ j. head_bytes 0 (bin_is version t j) (replicate 20 0)
+    ++ (flat_map-append cell_bytes used free
+    ∙ ap (λ (x : List ℕ). x ++ flat_map cell_bytes free) (used_text (packed_cells version t))) j)
 
 -- ---- what was written
 
@@ -109,13 +122,20 @@ pub length_whole : (version : HiveVersion) (rs : List ℕ) (t : Tree) (kept_room
     → out ≡ kept_room ++ text (cells_of version (top rs) (length kept_room) t) → length out ≡ whole version t
 length_whole version rs t kept_room out k o =
     let n : length kept_room ≡ 32 = ap (λ (x : List ℕ). length x) k ∙ length-zeros 32 in
-    omega (arith, ap (λ (x : List ℕ). length x) o, length-append kept_room (text (cells_of version (top rs) (length kept_room) t)), length_text (cells_of version (top rs) (length kept_room) t), space_tree version (top rs) (length kept_room) t)
+    omega (
+      arith,
+      ap (λ (x : List ℕ). length x) o,
+      length-append kept_room (text (cells_of version (top rs) (length kept_room) t)),
+      length_text (cells_of version (top rs) (length kept_room) t),
+      space_tree version (top rs) (length kept_room) t,
+    )
 
 pub length_header : (n : ℕ) → length (head_bytes 0 n (replicate 20 0)) ≡ 32
 unfolding head_bytes
 length_header n = refl
 
-pub whole_written : (version : HiveVersion) (ring_places : List ℕ) (t : Tree) (kept_room out three header new : List ℕ) (total free : ℕ)
+pub whole_written : (version : HiveVersion) (ring_places : List ℕ) (t : Tree) (kept_room out three header new : List ℕ)
+    (total free : ℕ)
     → ring_places ≡ ring version [] 32 t → kept_room ≡ zeros 32
     → out ≡ kept_room ++ text (cells_of version (top ring_places) (length kept_room) t)
     → total ≡ rounded (length out) → free ≡ total - length out → three ≡ out ++ flat_map cell_bytes (free_cells free)
@@ -134,5 +154,6 @@ whole_written version ring_places t kept_room out three header new total free g 
     let header-len : length (zeros 32) ≡ length header = sym (ap (λ (x : List ℕ). length x) d ∙ length_header total) in
     filled_in [] (zeros 32) header (body ++ last) three new 0 refl header-len three-is n
     ∙ ap (λ (x : List ℕ). x ++ (body ++ last)) (d ∙ ap (λ (m : ℕ). head_bytes 0 m (replicate 20 0)) size-is)
-    ∙ ap (λ (m : ℕ). head_bytes 0 (rounded (whole version t)) (replicate 20 0) ++ (body ++ flat_map cell_bytes (free_cells m))) free-is
+    ∙ ap (λ (m : ℕ). head_bytes 0 (rounded (whole version t)) (replicate 20 0)
+    ++ (body ++ flat_map cell_bytes (free_cells m))) free-is
     ∙ sym (packed_is version t)

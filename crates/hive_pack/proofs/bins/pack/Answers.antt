@@ -18,26 +18,43 @@ after_nothing new kept_room z e f = f ∙ ap (λ (o : List ℕ). o ++ z) e
 
 pub write_key-requires-clause-rising : goal.write_key-requires-clause-rising
 write_key-requires-clause-rising c =
-    let r = after_nothing c.new-ring.result.items c.ring_of.new.ring.items (ring c.args.version [] 32 c.args.tree.now) c.new-ring.ensures.items c.in_ok-_end.ensures.listed in
+    let r = after_nothing c.new-ring.result.items c.ring_of.new.ring.items (ring c.args.version [] 32 c.args.tree.now)
+    c.new-ring.ensures.items c.in_ok-_end.ensures.listed in
     subst IsRising (sym (c.deref.ensures.value ∙ r)) (ring_rises c.args.version [] 32 c.args.tree.now)
 
 pub put_free-requires-clause-whole : goal.put_free-requires-clause-whole
 put_free-requires-clause-whole c =
-    let k = after_nothing c.new-out.result c.append_zeros.new.self (zeros 32) c.new-out.ensures c.in_ok-append_zeros.ensures.ok in
-    omega (arith, length_whole c.args.version c.deref.result.now c.args.tree.now c.append_zeros.new.self c.write_key.new.out k c.in_ok-write_key.ensures, c.len-used.ensures, eights c.args.version [] c.args.tree.now)
+    let k = after_nothing c.new-out.result c.append_zeros.new.self (zeros 32)
+    c.new-out.ensures c.in_ok-append_zeros.ensures.ok in
+    omega (
+      arith,
+      length_whole c.args.version c.deref.result.now c.args.tree.now c.append_zeros.new.self
+          c.write_key.new.out k c.in_ok-write_key.ensures,
+      c.len-used.ensures,
+      eights c.args.version [] c.args.tree.now,
+    )
 
 pub overflow_cast-size : goal.overflow_cast-size
 overflow_cast-size c =
-    let k = after_nothing c.new-out.result c.append_zeros.new.self (zeros 32) c.new-out.ensures c.in_ok-append_zeros.ensures.ok in
-    omega (arith, length_whole c.args.version c.deref.result.now c.args.tree.now c.append_zeros.new.self c.write_key.new.out k c.in_ok-write_key.ensures, c.len-used.ensures, c.requires.room)
+    let k = after_nothing c.new-out.result c.append_zeros.new.self (zeros 32)
+    c.new-out.ensures c.in_ok-append_zeros.ensures.ok in
+    omega (
+      arith,
+      length_whole c.args.version c.deref.result.now c.args.tree.now c.append_zeros.new.self
+          c.write_key.new.out k c.in_ok-write_key.ensures,
+      c.len-used.ensures,
+      c.requires.room,
+    )
 
 pub overwrite-requires : goal.overwrite-requires
 overwrite-requires c =
-    let k = after_nothing c.new-out.result c.append_zeros.new.self (zeros 32) c.new-out.ensures c.in_ok-append_zeros.ensures.ok in
+    let k = after_nothing c.new-out.result c.append_zeros.new.self (zeros 32)
+    c.new-out.ensures c.in_ok-append_zeros.ensures.ok in
     let size = rounded c.len-used.result in
     omega (
       arith,
-      length_whole c.args.version c.deref.result.now c.args.tree.now c.append_zeros.new.self c.write_key.new.out k c.in_ok-write_key.ensures,
+      length_whole c.args.version c.deref.result.now c.args.tree.now c.append_zeros.new.self c.write_key.new.out k
+          c.in_ok-write_key.ensures,
       ap (λ (x : List ℕ). length x) c.in_ok-put_free.ensures,
       length-append c.write_key.new.out (flat_map cell_bytes (free_cells (size - c.len-used.result))),
       ap (λ (x : List ℕ). length x) (c.as_slice.ensures ∙ c.in_ok-header.ensures),
@@ -46,17 +63,24 @@ overwrite-requires c =
 
 pub returns-clause-bytes : goal.returns-clause-bytes
 returns-clause-bytes c =
-    let k = after_nothing c.new-out.result c.append_zeros.new.self (zeros 32) c.new-out.ensures c.in_ok-append_zeros.ensures.ok in
-    let r = after_nothing c.new-ring.result.items c.ring_of.new.ring.items (ring c.args.version [] 32 c.args.tree.now) c.new-ring.ensures.items c.in_ok-_end.ensures.listed in
-    whole_written c.args.version c.deref.result.now c.args.tree.now c.append_zeros.new.self c.write_key.new.out c.put_free.new.out c.as_slice.result.now c.overwrite.new.self _ _ (c.deref.ensures.value ∙ r) k c.in_ok-write_key.ensures
-    (ap rounded c.len-used.ensures) (ap (λ (n : ℕ). rounded c.len-used.result - n) c.len-used.ensures) c.in_ok-put_free.ensures (c.as_slice.ensures ∙ c.in_ok-header.ensures) c.overwrite.ensures
+    let k = after_nothing c.new-out.result c.append_zeros.new.self (zeros 32)
+    c.new-out.ensures c.in_ok-append_zeros.ensures.ok in
+    let r = after_nothing c.new-ring.result.items c.ring_of.new.ring.items (ring c.args.version [] 32 c.args.tree.now)
+    c.new-ring.ensures.items c.in_ok-_end.ensures.listed in
+    whole_written c.args.version c.deref.result.now c.args.tree.now c.append_zeros.new.self c.write_key.new.out
+    c.put_free.new.out c.as_slice.result.now c.overwrite.new.self _ _ (c.deref.ensures.value ∙ r)
+    k c.in_ok-write_key.ensures
+    (ap rounded c.len-used.ensures) (ap (λ (n : ℕ). rounded c.len-used.result - n) c.len-used.ensures)
+    c.in_ok-put_free.ensures (c.as_slice.ensures ∙ c.in_ok-header.ensures) c.overwrite.ensures
 
 pub returns-clause-sized : goal.returns-clause-sized
 returns-clause-sized c =
-    subst (λ (b : List ℕ). is_bins_size (length b) ≡ true) (sym (returns-clause-bytes c)) (packed_is_sized c.args.version c.args.tree.now c.requires.room)
+    subst (λ (b : List ℕ). is_bins_size (length b) ≡ true) (sym (returns-clause-bytes c))
+    (packed_is_sized c.args.version c.args.tree.now c.requires.room)
 
 pub returns-clause-bins : goal.returns-clause-bins
-returns-clause-bins c = let bins = packed_is_bins c.args.version c.args.tree.now c.requires.room in (bins.0, returns-clause-bytes c ∙ bins.1)
+returns-clause-bins c = let bins = packed_is_bins c.args.version c.args.tree.now c.requires.room in
+    (bins.0, returns-clause-bytes c ∙ bins.1)
 
 pub returns-clause-well_formed : goal.returns-clause-well_formed
 returns-clause-well_formed c =

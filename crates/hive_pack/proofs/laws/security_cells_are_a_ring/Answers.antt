@@ -14,12 +14,14 @@ returns-clause-last c = λ xs i r e. sym (next_of_last xs (get_or xs i 0) i r (o
 
 pub returns-clause-before : goal.returns-clause-before
 returns-clause-before c =
-    λ xs i r lt. let one : i + 1 - 1 ≡ i = omega arith in sym (before_is xs (get_or xs (i + 1) 0) (i + 1) r lt refl (omega arith))
+    λ xs i r lt. let one : i + 1 - 1 ≡ i = omega arith in
+    sym (before_is xs (get_or xs (i + 1) 0) (i + 1) r lt refl (omega arith))
     ∙ ap (λ k. get_or xs k 0) one
 
 pub returns-clause-first : goal.returns-clause-first
 returns-clause-first c =
-    λ xs i r e. let one : length xs - 1 ≡ i = omega arith in sym (before_first xs (get_or xs 0 0) 0 (omega arith) refl refl)
+    λ xs i r e. let one : length xs - 1 ≡ i = omega arith in
+    sym (before_first xs (get_or xs 0 0) 0 (omega arith) refl refl)
     ∙ ap (λ k. get_or xs k 0) one
 
 pub returns-clause-back : goal.returns-clause-back

@@ -9,6 +9,7 @@ pub returns : goal.returns
 returns c =
     let ps = c.args.places.now in
     if_ok c.lh_bytes.result _ _
-    (λ b e. e ∙ ap (λ (hs : List ℕ). lh_text ps (map (to_le_bytes w32) hs)) (c.deref.ensures.value ∙ c.in_ok-hashes.ensures)
+    (λ b e. e ∙ ap (λ (hs : List ℕ). lh_text ps (map (to_le_bytes w32) hs))
+    (c.deref.ensures.value ∙ c.in_ok-hashes.ensures)
     ∙ ap (λ (hs : List (List ℕ)). lh_text ps hs) (hashes_are c.args.keys.now))
     c.lh_bytes.ensures

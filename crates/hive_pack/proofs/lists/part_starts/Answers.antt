@@ -9,6 +9,7 @@ starts-preserved c =
     let old = c.starts.starts.items in
     let later = part_places (c.starts.left - 1) (c.starts.place + 4008) in
     record {
-      listed = ap (λ (s : List ℕ). s ++ later) c.in_ok-push.ensures.items ∙ append_assoc old (c.starts.place ∷ []) later ∙ ap (λ (s : List ℕ). old ++ s) (sym (starts_next c.starts.left c.starts.place (omega arith))) ∙ i.listed;
+      listed = ap (λ (s : List ℕ). s ++ later) c.in_ok-push.ensures.items ∙ append_assoc old (c.starts.place ∷ []) later
+          ∙ ap (λ (s : List ℕ). old ++ s) (sym (starts_next c.starts.left c.starts.place (omega arith))) ∙ i.listed;
       room = omega (arith, i.room);
     }

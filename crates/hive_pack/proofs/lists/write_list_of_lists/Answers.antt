@@ -9,7 +9,13 @@ use Rattle.hive_pack.proofs.lists.write_list_of_lists.Goals as goal
 
 pub part_starts-requires : goal.part_starts-requires
 part_starts-requires c =
-    omega (arith, c.cell_size.ensures, c.part_count-count.ensures, many_lists (length c.args.places.now) c.requires.many, c.requires.room)
+    omega (
+      arith,
+      c.cell_size.ensures,
+      c.part_count-count.ensures,
+      many_lists (length c.args.places.now) c.requires.many,
+      c.requires.room,
+    )
 
 pub ri_bytes-requires : goal.ri_bytes-requires
 ri_bytes-requires c =
@@ -42,11 +48,14 @@ returns c =
     let hs = map (hint c.args.version) ks in
     let out = c.args.out.now in
     let n = c.part_count-count.ensures in
-    let list : c.as_slice.result.now ≡ ri_text (part_places (part_count (length ps)) (c.args.at + cell (4 + 4 * part_count (length ps)))) =
+    let list : c.as_slice.result.now
+    ≡ ri_text (part_places (part_count (length ps)) (c.args.at + cell (4 + 4 * part_count (length ps)))) =
     c.as_slice.ensures ∙ c.in_ok-list.ensures
-    ∙ ap ri_text (c.deref.ensures.value ∙ c.in_ok-starts.ensures ∙ (λ j. part_places (n j) (c.args.at + (c.cell_size.ensures ∙ ap (λ k. cell (4 + 4 * k)) n) j))) in
+    ∙ ap ri_text (c.deref.ensures.value ∙ c.in_ok-starts.ensures
+    ∙ (λ j. part_places (n j) (c.args.at + (c.cell_size.ensures ∙ ap (λ k. cell (4 + 4 * k)) n) j))) in
     on_ok c.write_parts.result _ _
-    (λ e. e ∙ (λ j. (c.in_ok-put_cell.ensures ∙ ap (λ (x : List ℕ). out ++ cell_text x) list) j ++ text (parts c.args.version (n j) ps hs))
+    (λ e. e ∙ (λ j. (c.in_ok-put_cell.ensures ∙ ap (λ (x : List ℕ). out ++ cell_text x) list) j
+    ++ text (parts c.args.version (n j) ps hs))
     ∙ append_assoc out _ _
     ∙ ap (λ (x : List ℕ). out ++ x) (sym (lists_many c.args.version c.args.at ps hs c.requires.many)))
     c.write_parts.ensures

@@ -22,8 +22,10 @@ parts-preserved c =
     let others = parts version (left - 1) later (map (hint version) later_keys) in
     let next : parts version left ps (map (hint version) ks) ≡ one ∷ others =
     parts_next version left k ps ks (omega arith) i.same c.min-n.ensures
-    ∙ (λ j. list_text version (sym c.split_at.ensures.front j) (map (hint version) (sym c.split_at-in-parts.ensures.front j))
-    ∷ parts version (left - 1) (sym c.split_at.ensures.back j) (map (hint version) (sym c.split_at-in-parts.ensures.back j))) in
+    ∙ (λ j. list_text version (sym c.split_at.ensures.front j)
+    (map (hint version) (sym c.split_at-in-parts.ensures.front j))
+    ∷ parts version (left - 1) (sym c.split_at.ensures.back j)
+    (map (hint version) (sym c.split_at-in-parts.ensures.back j))) in
     record {
       written =
           ap (λ (x : List ℕ). x ++ text others) c.in_ok-write_part.ensures

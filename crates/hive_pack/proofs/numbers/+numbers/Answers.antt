@@ -9,4 +9,5 @@ numbers_fit-all_fit-requires t c = (omega (arith, weight_parted c.args.key.now, 
 
 pub numbers_fit-returns : goal.numbers_fit-returns
 numbers_fit-returns t c =
-    numbers_whole c.args.key.now c.head_fits.ensures (subst (λ (ks : List Tree). AllHaveNumbers (trees ks)) c.subkeys.ensures c.all_fit.ensures)
+    numbers_whole c.args.key.now c.head_fits.ensures
+    (subst (λ (ks : List Tree). AllHaveNumbers (trees ks)) c.subkeys.ensures c.all_fit.ensures)

@@ -20,7 +20,8 @@ ring_of-ring_of_all-requires m c =
         c.security_len.ensures ∙ ap (λ (s : List ℕ). security_size shared s) c.security-security.ensures,
         c.values_len.ensures ∙ ap (λ (vs : List Item). items_size c.args.version vs) c.items.ensures,
         c.list_len.ensures ∙ ap (λ (ks : List Tree). list_size (length ks)) c.subkeys.ensures,
-        ap (λ (s : List ℕ). size_of_all c.args.version s (trees c.subkeys-2.result.now)) c.security-security.ensures ∙ ap (λ (ks : List Tree). size_of_all c.args.version (head t).security (trees ks)) c.subkeys-2.ensures,
+        ap (λ (s : List ℕ). size_of_all c.args.version s (trees c.subkeys-2.result.now)) c.security-security.ensures
+            ∙ ap (λ (ks : List Tree). size_of_all c.args.version (head t).security (trees ks)) c.subkeys-2.ensures,
       ),
     )
 
@@ -32,7 +33,8 @@ ring_of-returns-clause-listed m c =
     let first = own + c.security_len.result + c.values_len.result + c.list_len.result in
     let class = c.class_len.ensures ∙ ap class_size c.class.ensures in
     on_ok c.ring_of_all.result _ _
-    (λ e. ring_written c.args.version shared c.args.at t c.args.ring.now.items c.add_own.new.ring.items c.ring_of_all.new.ring.items own first
+    (λ e. ring_written c.args.version shared c.args.at t c.args.ring.now.items c.add_own.new.ring.items
+    c.ring_of_all.new.ring.items own first
     (omega (arith, c.node_len.ensures, class))
     (omega (
       arith,
@@ -42,8 +44,10 @@ ring_of-returns-clause-listed m c =
       c.values_len.ensures ∙ ap (λ (vs : List Item). items_size c.args.version vs) c.items.ensures,
       c.list_len.ensures ∙ ap (λ (ks : List Tree). list_size (length ks)) c.subkeys.ensures,
     ))
-    (c.in_ok-add_own.ensures ∙ ap (λ (s : List ℕ). c.args.ring.now.items ++ own_place shared own s) c.security-security.ensures)
-    (e ∙ (λ j. c.add_own.new.ring.items ++ ring_of_all c.args.version (c.security-security.ensures j) first (trees (c.subkeys-2.ensures j)))))
+    (c.in_ok-add_own.ensures ∙ ap (λ (s : List ℕ). c.args.ring.now.items ++ own_place shared own s)
+    c.security-security.ensures)
+    (e ∙ (λ j. c.add_own.new.ring.items
+    ++ ring_of_all c.args.version (c.security-security.ensures j) first (trees (c.subkeys-2.ensures j)))))
     c.ring_of_all.ensures.listed
 
 pub ring_of-returns-clause-end : goal.ring_of-returns-clause-end
@@ -60,6 +64,7 @@ ring_of-returns-clause-end m c =
       c.security_len.ensures ∙ ap (λ (s : List ℕ). security_size shared s) c.security-security.ensures,
       c.values_len.ensures ∙ ap (λ (vs : List Item). items_size c.args.version vs) c.items.ensures,
       c.list_len.ensures ∙ ap (λ (ks : List Tree). list_size (length ks)) c.subkeys.ensures,
-      ap (λ (s : List ℕ). size_of_all c.args.version s (trees c.subkeys-2.result.now)) c.security-security.ensures ∙ ap (λ (ks : List Tree). size_of_all c.args.version (head t).security (trees ks)) c.subkeys-2.ensures,
+      ap (λ (s : List ℕ). size_of_all c.args.version s (trees c.subkeys-2.result.now)) c.security-security.ensures
+          ∙ ap (λ (ks : List Tree). size_of_all c.args.version (head t).security (trees ks)) c.subkeys-2.ensures,
     ))
     c.ring_of_all.ensures.end

@@ -12,7 +12,8 @@ decreases-ring_of_all l = weights l.keys.now
 
 abbrev pub invariant-ring_of_all-children : goal.invariant-ring_of_all-children
 invariant-ring_of_all-children l = record {
-  listed : l.ring.items ++ ring_of_all l.version l.shared l.end (trees l.rest) ≡ l.fn.ring.items ++ ring_of_all l.version l.shared l.at (trees l.keys);
+  listed : l.ring.items ++ ring_of_all l.version l.shared l.end (trees l.rest) ≡ l.fn.ring.items
+      ++ ring_of_all l.version l.shared l.at (trees l.keys);
   room : l.end + size_of_all l.version l.shared (trees l.rest) ≡ l.at + size_of_all l.version l.shared (trees l.keys);
   fewer : weights l.rest ≤ weights l.keys;
 }

@@ -7,7 +7,8 @@ use Rattle.hive_pack.proofs.security.forward.Goals as goal
 
 none_is : (xs : List ℕ) (at j : ℕ) → 0 < length xs → ((k : ℕ) → k < j → get_or xs k 0 < at)
     → ((k : ℕ) → j ≤ k → k < length xs → at < get_or xs k 0) → get_or xs 0 0 ≡ forward xs at
-none_is xs at j some low high = sym (behind_none (first_or 0 xs) xs at (λ k lt e. go k lt e (cases_lt k j)) ∙ head_first xs some)
+none_is xs at j some low high =
+    sym (behind_none (first_or 0 xs) xs at (λ k lt e. go k lt e (cases_lt k j)) ∙ head_first xs some)
   where
     go : (k : ℕ) → k < length xs → get_or xs k 0 ≡ at → (k < j) ⊎ (j ≤ k) → ⊥
     go k lt e (inl l) = omega (arith, low k l, e)

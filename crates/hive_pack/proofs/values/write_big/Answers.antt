@@ -33,8 +33,10 @@ returns c =
     let two = c.put_cell-2.new.out in
     let k = c.segment_count-count.result in
     on_ok c.write_segments.result _ _
-    (λ e. big_written bytes old one two c.write_segments.new.out k (segment_count (length bytes)) (c.len-list_at.result + 16) (c.len-list_at.result + 16 + c.cell_size.result)
-    (omega (arith, c.segment_count-count.ensures)) (omega (arith, c.len-list_at.ensures)) (omega (arith, c.cell_size.ensures))
+    (λ e. big_written bytes old one two c.write_segments.new.out k (segment_count (length bytes))
+    (c.len-list_at.result + 16) (c.len-list_at.result + 16 + c.cell_size.result)
+    (omega (arith, c.segment_count-count.ensures)) (omega (arith, c.len-list_at.ensures))
+    (omega (arith, c.cell_size.ensures))
     (c.in_ok-put_cell.ensures ∙ ap (λ (x : List ℕ). old ++ cell_text x) (c.as_slice.ensures ∙ c.in_ok-cell.ensures))
     (c.in_ok-put_cell-2.ensures ∙ ap (λ (x : List ℕ). one ++ cell_text x) (c.as_slice-2.ensures ∙ c.in_ok-list.ensures))
     e)

@@ -8,8 +8,10 @@ use Rattle.hive_pack.proofs.values.write_each_value.Given as goal
 
 abbrev pub invariant-values : goal.invariant-values
 invariant-values l = record {
-  written : l.out ++ text (cells_of_items l.version (length l.out) l.rest) ≡ l.fn.out ++ text (cells_of_items l.version (length l.fn.out) l.values);
-  places : l.places ++ offsets_text (item_places l.version (length l.out) l.rest) ≡ offsets_text (item_places l.version (length l.fn.out) l.values);
+  written : l.out ++ text (cells_of_items l.version (length l.out) l.rest) ≡ l.fn.out
+      ++ text (cells_of_items l.version (length l.fn.out) l.values);
+  places : l.places ++ offsets_text (item_places l.version (length l.out) l.rest)
+      ≡ offsets_text (item_places l.version (length l.fn.out) l.values);
   valid : All IsItem l.rest;
   room : length l.out + items_sum l.version l.rest ≤ 16777216;
 }

@@ -36,6 +36,7 @@ returns c =
     c.as_slice.ensures ∙ c.in_ok-cell.ensures
     ∙ ap key_value_text (c.in_ok-form.ensures ∙ ap (λ n. item_form n v) c.len.ensures) in
     on_ok c.write_data.result _ _
-    (λ e. value_written c.args.version out one c.write_data.new.out v (c.in_ok-put_cell.ensures ∙ ap (λ (p : List ℕ). out ++ cell_text p) cell)
+    (λ e. value_written c.args.version out one c.write_data.new.out v
+    (c.in_ok-put_cell.ensures ∙ ap (λ (p : List ℕ). out ++ cell_text p) cell)
     (e ∙ ap (λ (b : List ℕ). one ++ text (data_cells c.args.version (length one) b)) c.data.ensures))
     c.write_data.ensures

@@ -9,7 +9,12 @@ use Rattle.hive_pack.proofs.values.write_values.Goals as goal
 pub put_cell-requires : goal.put_cell-requires
 put_cell-requires c =
     let vs = c.args.values.now in
-    omega (arith, ap (λ (x : List ℕ). length x) (c.as_slice.ensures ∙ c.in_ok-places.ensures.places), length_values_list c.args.version (length c.append_zeros.new.self) vs, values_room c.args.version vs (omega arith))
+    omega (
+      arith,
+      ap (λ (x : List ℕ). length x) (c.as_slice.ensures ∙ c.in_ok-places.ensures.places),
+      length_values_list c.args.version (length c.append_zeros.new.self) vs,
+      values_room c.args.version vs (omega arith),
+    )
 
 pub overwrite-requires : goal.overwrite-requires
 overwrite-requires c =
@@ -35,8 +40,11 @@ overwrite-requires c =
 pub returns : goal.returns
 returns c =
     let vs = c.args.values.now in
-    let list : c.as_slice-2.result.now ≡ cell_text (offsets_text (item_places c.args.version (length c.append_zeros.new.self) vs)) =
+    let list : c.as_slice-2.result.now
+    ≡ cell_text (offsets_text (item_places c.args.version (length c.append_zeros.new.self) vs)) =
     c.as_slice-2.ensures ∙ c.in_ok-put_cell.ensures
     ∙ rw (c.new-list.ensures, c.as_slice.ensures, c.in_ok-places.ensures.places) refl in
-    values_written c.args.version c.args.out.now c.append_zeros.new.self c.write_each_value.new.out c.as_slice-2.result.now c.overwrite.new.self c.len-at.result c.cell_size.result vs (omega arith) c.len-at.ensures c.cell_size.ensures c.in_ok-append_zeros.ensures.ok
+    values_written c.args.version c.args.out.now c.append_zeros.new.self c.write_each_value.new.out
+    c.as_slice-2.result.now c.overwrite.new.self c.len-at.result c.cell_size.result vs (omega arith)
+    c.len-at.ensures c.cell_size.ensures c.in_ok-append_zeros.ensures.ok
     c.in_ok-places.ensures.written list c.overwrite.ensures

@@ -21,14 +21,20 @@ write_children-children-preserved m c =
     let later : List Tree = take (length rest - 1) (drop 1 rest) in
     let r : rest ≡ t ∷ later = uncons rest t c.in-len1-up.len_at_least c.child-item.is in
     let at = child_next_place c.args.version up t out c.write_key.new.out c.in_ok-write_key.ensures in
-    let room = subst (λ (xs : List Tree). length out + size_of_all c.args.version up.security (trees xs) ≤ 16777216) r i.room in
+    let room = subst (λ (xs : List Tree). length out + size_of_all c.args.version up.security (trees xs) ≤ 16777216)
+    r i.room in
     record {
-      written = child_next c.args.version up t (trees later) out c.write_key.new.out c.in_ok-write_key.ensures ∙ ap (λ (xs : List Tree). out ++ text (cells_of_all c.args.version up (length out) (trees xs))) (sym r) ∙ i.written;
+      written = child_next c.args.version up t (trees later) out c.write_key.new.out c.in_ok-write_key.ensures
+          ∙ ap (λ (xs : List Tree). out ++ text (cells_of_all c.args.version up (length out) (trees xs))) (sym r)
+          ∙ i.written;
       places =
-          ap (λ (ps : List ℕ). ps ++ places c.args.version up.security (length c.write_key.new.out) (trees later)) (c.in_ok-push.ensures.items ∙ ap (λ (n : ℕ). c.children.places.items ++ n ∷ []) c.len.ensures)
-          ∙ append_assoc c.children.places.items (length out ∷ []) (places c.args.version up.security (length c.write_key.new.out) (trees later))
+          ap (λ (ps : List ℕ). ps ++ places c.args.version up.security (length c.write_key.new.out) (trees later))
+          (c.in_ok-push.ensures.items ∙ ap (λ (n : ℕ). c.children.places.items ++ n ∷ []) c.len.ensures)
+          ∙ append_assoc c.children.places.items (length out ∷ [])
+          (places c.args.version up.security (length c.write_key.new.out) (trees later))
           ∙ ap (λ (n : ℕ). c.children.places.items ++ length out ∷ places c.args.version up.security n (trees later)) at
-          ∙ ap (λ (xs : List Tree). c.children.places.items ++ places c.args.version up.security (length out) (trees xs)) (sym r)
+          ∙ ap (λ (xs : List Tree). c.children.places.items
+          ++ places c.args.version up.security (length out) (trees xs)) (sym r)
           ∙ i.places;
       valid = (subst (λ (xs : List Tree). AllHoldKeys (trees xs)) r i.valid).1;
       room = omega (arith, room, at);
@@ -43,8 +49,11 @@ write_key-write_children-requires m c =
     let old = c.args.out.now in
     let f = holds_parted t c.requires.valid in
     let n : c.list_len.result ≡ list_size (count (trees cs)) =
-    c.list_len.ensures ∙ ap (λ (ks : List Tree). list_size (length ks)) (c.subkeys-keys.ensures ∙ sym (listed_trees cs)) in
-    let first = first_place c.args.version up (head t) (trees cs) old c.write_head.new.out c.append_zeros.new.self c.list_len.result c.in_ok-write_head.ensures n c.in_ok-append_zeros.ensures.ok in
+    c.list_len.ensures ∙ ap (λ (ks : List Tree). list_size (length ks))
+    (c.subkeys-keys.ensures ∙ sym (listed_trees cs)) in
+    let first = first_place c.args.version up (head t) (trees cs)
+    old c.write_head.new.out c.append_zeros.new.self c.list_len.result c.in_ok-write_head.ensures n
+    c.in_ok-append_zeros.ensures.ok in
     let security = ap (λ (u : Above). u.security) c.below_up-mine.ensures in (
       omega (arith, weight_parted t, ap weights c.subkeys-keys.ensures),
       (
@@ -57,7 +66,9 @@ write_key-write_children-requires m c =
             c.requires.room,
             size_parted c.args.version up.security t,
             ap list_size (counted cs),
-            ap (λ (s : List ℕ). size_of_all c.args.version s (trees c.subkeys-keys.result.now)) security ∙ ap (λ (ks : List Tree). size_of_all c.args.version (head t).security (trees ks)) c.subkeys-keys.ensures,
+            ap (λ (s : List ℕ). size_of_all c.args.version s (trees c.subkeys-keys.result.now)) security
+                ∙ ap (λ (ks : List Tree). size_of_all c.args.version (head t).security (trees ks))
+                c.subkeys-keys.ensures,
           ),
         ),
       ),
@@ -84,14 +95,16 @@ write_key-write_lists-requires-clause-room m c =
     omega (
       arith,
       c.len-list_at.ensures,
-      lists_place c.args.version up (head t) (trees (children t)) c.args.out.now c.write_head.new.out c.in_ok-write_head.ensures,
+      lists_place c.args.version up (head t) (trees (children t))
+          c.args.out.now c.write_head.new.out c.in_ok-write_head.ensures,
       ap list_size n,
       size_parted c.args.version up.security t,
       c.requires.room,
     )
 
 -- what was written of the lists
-lists_are : (version : HiveVersion) (at n : ℕ) (security shared : List ℕ) (ks cs : List Tree) (start new list ps : List ℕ)
+lists_are : (version : HiveVersion) (at n : ℕ) (security shared : List ℕ) (ks cs : List Tree)
+    (start new list ps : List ℕ)
     → ks ≡ cs → security ≡ shared → ps ≡ places version security n (trees ks)
     → start ≡ [] → new ≡ start ++ text (list_cells version at ps (map (hint version) ks)) → list ≡ new
     → list ≡ text (list_cells version at (places version shared n (trees cs)) (map (hint version) (listed (trees cs))))
@@ -99,7 +112,8 @@ lists_are version at n security shared ks cs start new list ps k s p e w l =
     l ∙ w ∙ ap (λ (x : List ℕ). x ++ text (list_cells version at ps (map (hint version) ks))) e
     ∙ (λ j. text (list_cells version at (p j) (map (hint version) ks)))
     ∙ (λ j. text (list_cells version at (places version (s j) n (trees (k j))) (map (hint version) (k j))))
-    ∙ ap (λ (us : List Tree). text (list_cells version at (places version shared n (trees cs)) (map (hint version) us))) (sym (listed_trees cs))
+    ∙ ap (λ (us : List Tree). text (list_cells version at (places version shared n (trees cs)) (map (hint version) us)))
+    (sym (listed_trees cs))
 
 pub write_key-overwrite-requires : goal.write_key-overwrite-requires
 write_key-overwrite-requires m c =
@@ -108,18 +122,28 @@ write_key-overwrite-requires m c =
     let ks = c.subkeys-keys.result.now in
     let two = c.append_zeros.new.self in
     let n : c.list_len.result ≡ list_size (count (trees cs)) =
-    c.list_len.ensures ∙ ap (λ (us : List Tree). list_size (length us)) (c.subkeys-keys.ensures ∙ sym (listed_trees cs)) in
+    c.list_len.ensures ∙ ap (λ (us : List Tree). list_size (length us))
+    (c.subkeys-keys.ensures ∙ sym (listed_trees cs)) in
     let security = ap (λ (u : Above). u.security) c.below_up-mine.ensures in
-    let list = lists_are c.args.version c.len-list_at.result (length two) c.below_up-mine.result.security.now (head t).security ks cs c.new-lists.result c.write_lists.new.out c.as_slice.result.now c.deref.result.now
-    c.subkeys-keys.ensures security (c.deref.ensures.value ∙ c.in_ok-places.ensures.places) c.new-lists.ensures c.in_ok-write_lists.ensures c.as_slice.ensures in
+    let list = lists_are c.args.version c.len-list_at.result (length two) c.below_up-mine.result.security.now
+    (head t).security ks cs c.new-lists.result c.write_lists.new.out c.as_slice.result.now c.deref.result.now
+    c.subkeys-keys.ensures security (c.deref.ensures.value ∙ c.in_ok-places.ensures.places)
+    c.new-lists.ensures c.in_ok-write_lists.ensures c.as_slice.ensures in
     let len : length c.as_slice.result.now ≡ list_size (count (trees cs)) =
     ap (λ (x : List ℕ). length x) list
-    ∙ length_text (list_cells c.args.version c.len-list_at.result (places c.args.version (head t).security (length two) (trees cs)) (map (hint c.args.version) (listed (trees cs))))
+    ∙ length_text (list_cells c.args.version c.len-list_at.result
+    (places c.args.version (head t).security (length two) (trees cs))
+    (map (hint c.args.version) (listed (trees cs))))
     ∙ space_lists c.args.version c.len-list_at.result (head t).security (length two) (trees cs) in
     omega (
       arith,
-      list_room c.args.version (above c.below_up-mine.result) (head t) (trees cs) 0 c.write_head.new.out two c.write_children.new.out c.as_slice.result.now c.list_len.result n c.in_ok-append_zeros.ensures.ok
-          (c.in_ok-places.ensures.written ∙ ap (λ (us : List Tree). two ++ text (cells_of_all c.args.version (above c.below_up-mine.result) (length two) (trees us))) c.subkeys-keys.ensures) len,
+      list_room c.args.version (above c.below_up-mine.result) (head t) (trees cs)
+          0 c.write_head.new.out two c.write_children.new.out c.as_slice.result.now c.list_len.result n
+          c.in_ok-append_zeros.ensures.ok
+          (c.in_ok-places.ensures.written
+          ∙ ap (λ (us : List Tree). two
+          ++ text (cells_of_all c.args.version (above c.below_up-mine.result) (length two) (trees us)))
+          c.subkeys-keys.ensures) len,
       c.len-list_at.ensures,
     )
 
@@ -132,15 +156,20 @@ write_key-returns m c =
     let two = c.append_zeros.new.self in
     let up = above c.args.up in
     let n : c.list_len.result ≡ list_size (count (trees cs)) =
-    c.list_len.ensures ∙ ap (λ (us : List Tree). list_size (length us)) (c.subkeys-keys.ensures ∙ sym (listed_trees cs)) in
+    c.list_len.ensures ∙ ap (λ (us : List Tree). list_size (length us))
+    (c.subkeys-keys.ensures ∙ sym (listed_trees cs)) in
     let mine : above c.below_up-mine.result ≡ below up (length old) (head t) =
     c.below_up-mine.ensures ∙ ap (λ (k : ℕ). below up k (head t)) c.len-at.ensures in
     let three =
     c.in_ok-places.ensures.written
     ∙ (λ j. two ++ text (cells_of_all c.args.version (mine j) (length two) (trees (c.subkeys-keys.ensures j)))) in
     let security = ap (λ (u : Above). u.security) c.below_up-mine.ensures in
-    let list = lists_are c.args.version c.len-list_at.result (length two) c.below_up-mine.result.security.now (head t).security ks cs c.new-lists.result c.write_lists.new.out c.as_slice.result.now c.deref.result.now
-    c.subkeys-keys.ensures security (c.deref.ensures.value ∙ c.in_ok-places.ensures.places) c.new-lists.ensures c.in_ok-write_lists.ensures c.as_slice.ensures in
-    key_written c.args.version up (head t) (trees cs) old c.write_head.new.out two c.write_children.new.out c.as_slice.result.now c.overwrite.new.self c.len-list_at.result c.list_len.result c.in_ok-write_head.ensures c.len-list_at.ensures n
+    let list = lists_are c.args.version c.len-list_at.result (length two) c.below_up-mine.result.security.now
+    (head t).security ks cs c.new-lists.result c.write_lists.new.out c.as_slice.result.now c.deref.result.now
+    c.subkeys-keys.ensures security (c.deref.ensures.value ∙ c.in_ok-places.ensures.places)
+    c.new-lists.ensures c.in_ok-write_lists.ensures c.as_slice.ensures in
+    key_written c.args.version up (head t) (trees cs)
+    old c.write_head.new.out two c.write_children.new.out c.as_slice.result.now c.overwrite.new.self
+    c.len-list_at.result c.list_len.result c.in_ok-write_head.ensures c.len-list_at.ensures n
     c.in_ok-append_zeros.ensures.ok three list c.overwrite.ensures
     ∙ ap (λ (u : Tree). old ++ text (cells_of c.args.version up (length old) u)) (parted t)

@@ -16,8 +16,10 @@ abbrev pub invariant-write_children-children : goal.invariant-write_children-chi
 invariant-write_children-children l =
     let up = above l.up in
     record {
-      written : l.out ++ text (cells_of_all l.version up (length l.out) (trees l.rest)) ≡ l.fn.out ++ text (cells_of_all l.version up (length l.fn.out) (trees l.keys));
-      places : l.places.items ++ places l.version up.security (length l.out) (trees l.rest) ≡ places l.version up.security (length l.fn.out) (trees l.keys);
+      written : l.out ++ text (cells_of_all l.version up (length l.out) (trees l.rest)) ≡ l.fn.out
+          ++ text (cells_of_all l.version up (length l.fn.out) (trees l.keys));
+      places : l.places.items ++ places l.version up.security (length l.out) (trees l.rest)
+          ≡ places l.version up.security (length l.fn.out) (trees l.keys);
       valid : AllHoldKeys (trees l.rest);
       room : length l.out + size_of_all l.version up.security (trees l.rest) ≤ 16777216;
       fewer : weights l.rest ≤ weights l.keys;

@@ -18,14 +18,24 @@ write_security-requires-clause-room c =
     let cs = children t in
     let node =
     c.in_ok-write_node.ensures
-    ∙ ap (λ (ks : List Tree). old ++ cell_text (key_node_text (node_of c.args.version up (length old) (head t) ks))) (sym (listed_trees cs)) in
-    let class = c.in_ok-write_class.ensures ∙ ap (λ (b : List ℕ). c.write_node.new.out ++ text (class_cells b)) c.class.ensures in
-    omega (arith, class_at c.args.version up (head t) (trees cs) old c.write_node.new.out c.write_class.new.out node class, ap (λ (s : List ℕ). security_size up.security s) c.security.ensures, size_parted c.args.version up.security t, c.requires.room)
+    ∙ ap (λ (ks : List Tree). old ++ cell_text (key_node_text (node_of c.args.version up (length old) (head t) ks)))
+    (sym (listed_trees cs)) in
+    let class = c.in_ok-write_class.ensures
+    ∙ ap (λ (b : List ℕ). c.write_node.new.out ++ text (class_cells b)) c.class.ensures in
+    omega (
+      arith,
+      class_at c.args.version up (head t) (trees cs)
+          old c.write_node.new.out c.write_class.new.out node class,
+      ap (λ (s : List ℕ). security_size up.security s) c.security.ensures,
+      size_parted c.args.version up.security t,
+      c.requires.room,
+    )
 
 pub write_security-requires-clause-few : goal.write_security-requires-clause-few
 write_security-requires-clause-few c =
     let t = c.args.key.now in
-    let same : sharers_of_all c.security.result.now (trees c.subkeys.result.now) ≡ sharers_of_all (head t).security (trees (children t)) =
+    let same : sharers_of_all c.security.result.now (trees c.subkeys.result.now)
+    ≡ sharers_of_all (head t).security (trees (children t)) =
     λ j. sharers_of_all (c.security.ensures j) (trees (c.subkeys.ensures j)) in
     omega (
       arith,
@@ -44,13 +54,22 @@ write_values-requires-clause-room c =
     let two = c.write_class.new.out in
     let node =
     c.in_ok-write_node.ensures
-    ∙ ap (λ (ks : List Tree). old ++ cell_text (key_node_text (node_of c.args.version up (length old) (head t) ks))) (sym (listed_trees cs)) in
-    let class = c.in_ok-write_class.ensures ∙ ap (λ (b : List ℕ). c.write_node.new.out ++ text (class_cells b)) c.class.ensures in
+    ∙ ap (λ (ks : List Tree). old ++ cell_text (key_node_text (node_of c.args.version up (length old) (head t) ks)))
+    (sym (listed_trees cs)) in
+    let class = c.in_ok-write_class.ensures
+    ∙ ap (λ (b : List ℕ). c.write_node.new.out ++ text (class_cells b)) c.class.ensures in
     let own = class_at c.args.version up (head t) (trees cs) old c.write_node.new.out two node class in
     let three : c.write_security.new.out ≡ two ++ text (own_security up (length old) (head t) (trees cs)) =
     c.in_ok-write_security.ensures
-    ∙ (λ j. two ++ text (security_cells up (own j) (c.security.ensures j) (sharers_of_all (c.security.ensures j) (trees (c.subkeys.ensures j))))) in
-    omega (arith, values_at up (head t) (trees cs) old two c.write_security.new.out own three, ap (λ (vs : List Item). items_size c.args.version vs) c.items.ensures, size_parted c.args.version up.security t, c.requires.room)
+    ∙ (λ j. two ++ text (security_cells up (own j) (c.security.ensures j)
+    (sharers_of_all (c.security.ensures j) (trees (c.subkeys.ensures j))))) in
+    omega (
+      arith,
+      values_at up (head t) (trees cs) old two c.write_security.new.out own three,
+      ap (λ (vs : List Item). items_size c.args.version vs) c.items.ensures,
+      size_parted c.args.version up.security t,
+      c.requires.room,
+    )
 
 pub returns : goal.returns
 returns c =
@@ -62,11 +81,16 @@ returns c =
     let three = c.write_security.new.out in
     let node =
     c.in_ok-write_node.ensures
-    ∙ ap (λ (ks : List Tree). old ++ cell_text (key_node_text (node_of c.args.version up (length old) (head t) ks))) (sym (listed_trees cs)) in
-    let class = c.in_ok-write_class.ensures ∙ ap (λ (b : List ℕ). c.write_node.new.out ++ text (class_cells b)) c.class.ensures in
+    ∙ ap (λ (ks : List Tree). old ++ cell_text (key_node_text (node_of c.args.version up (length old) (head t) ks)))
+    (sym (listed_trees cs)) in
+    let class = c.in_ok-write_class.ensures
+    ∙ ap (λ (b : List ℕ). c.write_node.new.out ++ text (class_cells b)) c.class.ensures in
     let security =
     c.in_ok-write_security.ensures
-    ∙ (λ j. two ++ text (security_cells up (length two) (c.security.ensures j) (sharers_of_all (c.security.ensures j) (trees (c.subkeys.ensures j))))) in
+    ∙ (λ j. two ++ text (security_cells up (length two) (c.security.ensures j)
+    (sharers_of_all (c.security.ensures j) (trees (c.subkeys.ensures j))))) in
     on_ok c.write_values.result _ _
-    (λ e. head_written c.args.version up (head t) (trees cs) old c.write_node.new.out two three c.write_values.new.out node class security (e ∙ ap (λ (vs : List Item). three ++ text (items_cells c.args.version (length three) vs)) c.items.ensures))
+    (λ e. head_written c.args.version up (head t) (trees cs)
+    old c.write_node.new.out two three c.write_values.new.out node class security
+    (e ∙ ap (λ (vs : List Item). three ++ text (items_cells c.args.version (length three) vs)) c.items.ensures))
     c.write_values.ensures
