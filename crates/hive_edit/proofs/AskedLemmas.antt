@@ -1,26 +1,30 @@
 -- What judging whether a key may be made answers, by the hive's cells.
-use Rattle.std.proofs.Common.{◌≡◌, ◌≤◌, ◌<◌, ℕ, ◌+◌, ◌-◌, Bool, true, false, cond, List, [], ◌∷◌, length, min, Option, Some, None, Result, Ok, Err, refl, sym, ap, subst, ◌∙◌, arith}
-use Rattle.std.specs.Prelude.{nat_lt, find, is_some}
-use Rattle.std.proofs.lemmas.Bool.{le-ltb, lt-ltb}
+use Rattle.std.proofs.Common.{◌≡◌, ◌≤◌, ◌<◌, ℕ, ◌+◌, ◌-◌, Bool, true, false, List, [], ◌∷◌, length, Option, Some, None, Result, Ok, Err, refl, sym, ap, subst, ◌∙◌, arith}
+use Rattle.std.specs.Prelude.{find, is_some}
 use Rattle.nt_bytes.specs.declared.version.HiveVersion.{HiveVersion}
-use Rattle.hive_model.specs.Bins.{Bin, Cells, look_up}
+use Rattle.hive_model.specs.Bins.{Bin, Cells, bins_size, look_up}
 use Rattle.hive_model.specs.KeyNode.{KeyNode, key_node_at}
 use Rattle.hive_model.specs.Tree.{Tree, children, find_key}
 use Rattle.hive_model.specs.Size.{cell, name_bytes, list_size, bulk_of}
-use Rattle.hive_model.specs.Edit.{Refusal, make_key, no_key, bad_name, name_too_long, too_deep, full, is_bad_name, most_bulk, edited}
+use Rattle.hive_model.specs.Edit.{Refusal, make_key, no_key, bad_name, name_too_long, too_deep, is_bad_name, after_step}
 use Rattle.hive_model.specs.Walk.{reading}
 use Rattle.hive_model.specs.Footprint.{key_place, child_places, is_node_named, has_key}
+use Rattle.hive_model.specs.Stands.{IsWellFormed}
+use Rattle.edit_laws.proofs.InOrder.{a_key_there}
 use Rattle.edit_laws.proofs.Out.{placed_at}
 use Rattle.hive_edit.specs.declared.adding.NewPlace.{NewPlace}
-use Rattle.hive_edit.specs.declared.making.Above.{Above}
-use Rattle.hive_edit.specs.Hive.{HiveCells, hive_of, IsHive}
+use Rattle.hive_edit.specs.Hive.{HiveCells, cells_in, hive_of, IsHive}
 use Rattle.hive_edit.specs.Standing.{tree_of}
-use Rattle.hive_edit.specs.Making.{made_tree, AboveIs, MayMake}
+use Rattle.hive_edit.specs.Stepped.{IsStepped, LacksStepRoom}
+use Rattle.hive_edit.specs.Making.{made_tree, IsMadeAlready, IsOpen, MayMake}
+use Rattle.hive_edit.specs.Places.{IsKeyAt}
 use Rattle.hive_edit.proofs.ResultLemmas.{done, some}
 use Rattle.hive_edit.proofs.PlaceLemmas.{KeyThere, key_there, no_place}
 use Rattle.hive_edit.proofs.EditLemmas.{the_tree}
+use Rattle.hive_edit.proofs.LowLemmas.{bulk_is}
 use Rattle.hive_edit.proofs.ParentLemmas.{IsParent}
-use Rattle.hive_edit.proofs.JudgeLemmas.{refused_key, refused_name, refused_long, refused_deep, MayTry, edit_made, key_present, key_absent, nothing_made, Grows, grows, full_many, full_grown, within_grown, counted_children}
+use Rattle.hive_edit.proofs.SteppedLemmas.{lacks_room}
+use Rattle.hive_edit.proofs.JudgeLemmas.{refused_key, refused_name, refused_long, refused_deep, MayTry, step_made, key_present, key_absent, nothing_made, Grows, grows, grown_is, lists_over, make_room, counted_children}
 use Rattle.hive_edit.proofs.KeyLemmas.{node_read}
 
 abbrev pub none_there : Option ℕ
@@ -36,7 +40,7 @@ pub record Lent (bins heap : List Bin) (root : ℕ) (version : HiveVersion) (bul
   pub view : hive_of bins root version ≡ h
 
 abbrev Answers : HiveCells → List (List ℕ) → List ℕ → Result Tree Refusal → Type 0
-Answers h parent name r = edited h.version h.tree (make_key parent name ∷ []) ≡ r
+Answers h parent name r = after_step (make_key parent name) h.tree ≡ r
 
 -- the path leads to a key
 pub record FindsKey (bins : List Bin) (root : ℕ) (version : HiveVersion) (parent : List (List ℕ)) (at : ℕ) : Type 0 where
@@ -50,30 +54,30 @@ finds_key bins heap root version bulk h parent at l e =
     record { place = place; key = key_there (look_up version bins) parent root (tree_of (look_up version bins) root) at l.is.stands place }
 
 pub asks_no_key : (bins heap : List Bin) (root : ℕ) (version : HiveVersion) (bulk : ℕ) (h : HiveCells) (parent : List (List ℕ)) (name : List ℕ) → Lent bins heap root version bulk h
-    → none_there ≡ key_place (look_up version heap) parent root → edited h.version h.tree (make_key parent name ∷ []) ≡ refused no_key
+    → none_there ≡ key_place (look_up version heap) parent root → after_step (make_key parent name) h.tree ≡ refused no_key
 asks_no_key bins heap root version bulk h parent name l e =
     let b = look_up version bins in
     let none : key_place b parent root ≡ None = subst (λ (z : List Bin). key_place (look_up version z) parent root ≡ None) l.same (sym e) in
-    subst (λ (g : HiveCells). Answers g parent name (Err no_key)) l.view (refused_key version parent name (tree_of b root) (no_place b parent root (tree_of b root) l.is.stands none))
+    subst (λ (g : HiveCells). Answers g parent name (Err no_key)) l.view (refused_key parent name (tree_of b root) (no_place b parent root (tree_of b root) l.is.stands none))
 
 pub asks_bad_name : (bins heap : List Bin) (root : ℕ) (version : HiveVersion) (bulk : ℕ) (h : HiveCells) (parent : List (List ℕ)) (name : List ℕ) (at : ℕ) → Lent bins heap root version bulk h
-    → some at ≡ key_place (look_up version heap) parent root → is_bad_name name ≡ true → edited h.version h.tree (make_key parent name ∷ []) ≡ refused bad_name
+    → some at ≡ key_place (look_up version heap) parent root → is_bad_name name ≡ true → after_step (make_key parent name) h.tree ≡ refused bad_name
 asks_bad_name bins heap root version bulk h parent name at l e bad =
     let f = finds_key bins heap root version bulk h parent at l e in
-    subst (λ (g : HiveCells). Answers g parent name (Err bad_name)) l.view (refused_name version parent name (tree_of (look_up version bins) root) f.key.there f.key.found bad)
+    subst (λ (g : HiveCells). Answers g parent name (Err bad_name)) l.view (refused_name parent name (tree_of (look_up version bins) root) f.key.there f.key.found bad)
 
 pub asks_long : (bins heap : List Bin) (root : ℕ) (version : HiveVersion) (bulk : ℕ) (h : HiveCells) (parent : List (List ℕ)) (name : List ℕ) (at : ℕ) → Lent bins heap root version bulk h
-    → some at ≡ key_place (look_up version heap) parent root → is_bad_name name ≡ false → 255 < length name → edited h.version h.tree (make_key parent name ∷ []) ≡ refused name_too_long
+    → some at ≡ key_place (look_up version heap) parent root → is_bad_name name ≡ false → 255 < length name → after_step (make_key parent name) h.tree ≡ refused name_too_long
 asks_long bins heap root version bulk h parent name at l e good long =
     let f = finds_key bins heap root version bulk h parent at l e in
-    subst (λ (g : HiveCells). Answers g parent name (Err name_too_long)) l.view (refused_long version parent name (tree_of (look_up version bins) root) f.key.there f.key.found good long)
+    subst (λ (g : HiveCells). Answers g parent name (Err name_too_long)) l.view (refused_long parent name (tree_of (look_up version bins) root) f.key.there f.key.found good long)
 
 pub asks_deep : (bins heap : List Bin) (root : ℕ) (version : HiveVersion) (bulk : ℕ) (h : HiveCells) (parent : List (List ℕ)) (name : List ℕ) (at : ℕ) → Lent bins heap root version bulk h
     → some at ≡ key_place (look_up version heap) parent root → is_bad_name name ≡ false → length name ≤ 255 → 510 < length parent
-    → edited h.version h.tree (make_key parent name ∷ []) ≡ refused too_deep
+    → after_step (make_key parent name) h.tree ≡ refused too_deep
 asks_deep bins heap root version bulk h parent name at l e good short deep =
     let f = finds_key bins heap root version bulk h parent at l e in
-    subst (λ (g : HiveCells). Answers g parent name (Err too_deep)) l.view (refused_deep version parent name (tree_of (look_up version bins) root) f.key.there f.key.found good short deep)
+    subst (λ (g : HiveCells). Answers g parent name (Err too_deep)) l.view (refused_deep parent name (tree_of (look_up version bins) root) f.key.there f.key.found good short deep)
 
 -- ---- the path and the name are good
 
@@ -115,74 +119,111 @@ module _ (bins heap : List Bin) (root : ℕ) (version : HiveVersion) (bulk : ℕ
   absent r e s =
       key_absent (look_up version bins) root (tree_of (look_up version bins) root) finds.key.there parent name at finds.key.well finds.key.found (in_bins r e ∙ none_of r s)
 
-  -- the edit, by the bulk of what it makes
-  over : nat_lt most_bulk (bulk_of version (made_tree parent name (tree_of (look_up version bins) root))) ≡ true → edited h.version h.tree (make_key parent name ∷ []) ≡ refused full
-  over e =
-      subst (λ (z : HiveCells). Answers z parent name (Err full)) g.lent.view
-      (edit_made version parent name (tree_of (look_up version bins) root) finds.key.there try
-      ∙ ap (λ (v : Bool). cond v (Err full) (the_tree (made_tree parent name (tree_of (look_up version bins) root)))) e)
-
-  pub asks_there_full : (r : Option ℕ) → r ≡ child_in (look_up version heap) name at → is_some r ≡ true → 16773120 < bulk
-      → edited h.version h.tree (make_key parent name ∷ []) ≡ refused full
-  asks_there_full r e s big =
-      let same = nothing_made parent name (tree_of (look_up version bins) root) finds.key.there finds.key.found (present r e s) in
-      over (ap (λ (u : Tree). nat_lt most_bulk (bulk_of version u)) same
-      ∙ lt-ltb most_bulk (bulk_of version (tree_of (look_up version bins) root)) (subst (λ (n : ℕ). 16773120 < n) g.lent.is.counted big))
-
-  pub asks_there : (r : Option ℕ) → r ≡ child_in (look_up version heap) name at → is_some r ≡ true → bulk ≤ 16773120
-      → edited h.version h.tree (make_key parent name ∷ []) ≡ the_tree h.tree
-  asks_there r e s small =
+  pub asks_there : (r : Option ℕ) → r ≡ child_in (look_up version heap) name at → is_some r ≡ true → IsMadeAlready h parent name
+  asks_there r e s =
       let t = tree_of (look_up version bins) root in
-      let same = nothing_made parent name t finds.key.there finds.key.found (present r e s) in
-      let within : nat_lt most_bulk (bulk_of version t) ≡ false = le-ltb most_bulk (bulk_of version t) (subst (λ (n : ℕ). n ≤ 16773120) g.lent.is.counted small) in
-      subst (λ (z : HiveCells). Answers z parent name (the_tree z.tree)) g.lent.view
-      (edit_made version parent name t finds.key.there try
-      ∙ ap (λ (u : Tree). cond (nat_lt most_bulk (bulk_of version u)) (Err full) (the_tree u)) same
-      ∙ ap (λ (v : Bool). cond v (Err full) (the_tree t)) within)
-
-  -- how many children its node counts
-  many : (above : Above) → ((n : KeyNode) → reading key_node_at (look_up version heap) at ≡ Ok n → AboveIs above n) → above.count ≡ length (children finds.key.there)
-  many above says =
-      let read = node_read (look_up version bins) at finds.key.there finds.key.well.stands in
-      let is = says read.0 (subst (λ (z : List Bin). reading key_node_at (look_up version z) at ≡ done read.0) (sym g.lent.same) read.1) in
-      let placed = placed_at (look_up version bins) parent root at finds.place in
-      is.count ∙ counted_children (look_up version bins) root (tree_of (look_up version bins) root) placed.stored at finds.key.there read.0
-      (record { well = g.lent.is.stands; reached = placed.reached; below = finds.key.well; read = read.1 })
-
-  growth : (above : Above) → ((n : KeyNode) → reading key_node_at (look_up version heap) at ≡ Ok n → AboveIs above n)
-      → (r : Option ℕ) → r ≡ child_in (look_up version heap) name at → is_some r ≡ false → Grows version parent name (tree_of (look_up version bins) root) above.count
-  growth above says r e s =
-      subst (Grows version parent name (tree_of (look_up version bins) root)) (sym (many above says))
-      (grows version parent name (tree_of (look_up version bins) root) finds.key.there finds.key.found (absent r e s))
-
-  pub asks_many : (above : Above) → ((n : KeyNode) → reading key_node_at (look_up version heap) at ≡ Ok n → AboveIs above n)
-      → (r : Option ℕ) → r ≡ child_in (look_up version heap) name at → is_some r ≡ false → 2097150 < above.count
-      → edited h.version h.tree (make_key parent name ∷ []) ≡ refused full
-  asks_many above says r e s big =
-      over (full_many version parent name (tree_of (look_up version bins) root) above.count (growth above says r e s) big)
-
-  pub asks_grown : (above : Above) → ((n : KeyNode) → reading key_node_at (look_up version heap) at ≡ Ok n → AboveIs above n)
-      → (r : Option ℕ) → r ≡ child_in (look_up version heap) name at → is_some r ≡ false → above.count ≤ 2097150 → (grown : ℕ)
-      → grown ≡ min (bulk + (cell (76 + name_bytes name) + list_size (above.count + 1))) 18446744073709551615 - list_size above.count → 16773120 < grown
-      → edited h.version h.tree (make_key parent name ∷ []) ≡ refused full
-  asks_grown above says r e s few grown is big =
-      over (full_grown version parent name (tree_of (look_up version bins) root) above.count bulk grown (growth above says r e s) few g.lent.is.counted is big)
-
-  pub asks_may : (above : Above) → ((n : KeyNode) → reading key_node_at (look_up version heap) at ≡ Ok n → AboveIs above n)
-      → (r : Option ℕ) → r ≡ child_in (look_up version heap) name at → is_some r ≡ false → above.count ≤ 2097150 → (grown : ℕ)
-      → grown ≡ min (bulk + (cell (76 + name_bytes name) + list_size (above.count + 1))) 18446744073709551615 - list_size above.count → grown ≤ 16773120
-      → MayMake h parent name (record { at = at; bulk = grown })
-  asks_may above says r e s few grown is small =
-      subst (λ (z : HiveCells). MayMake z parent name (record { at = at; bulk = grown })) g.lent.view (record {
-        at = finds.place;
-        absent = absent r e s;
-        short = g.short;
-        good = g.good;
-        deep = g.deep;
-        bulk = within_grown version parent name (tree_of (look_up version bins) root) above.count bulk grown (growth above says r e s) few g.lent.is.counted is small;
-        fits = small;
-        few = λ n read.
-            let a = says n (subst (λ (z : List Bin). reading key_node_at (look_up version z) at ≡ done n) (sym g.lent.same) read) in
-            let c = a.count in
-            omega (arith, c, few);
+      subst (λ (z : HiveCells). IsMadeAlready z parent name) g.lent.view (record {
+        key = finds.key.there;
+        found = finds.key.found;
+        present = present r e s;
+        step = step_made parent name t finds.key.there try ∙ ap the_tree (nothing_made parent name t finds.key.there finds.key.found (present r e s));
       })
+
+  pub asks_open : (r : Option ℕ) → r ≡ child_in (look_up version heap) name at → is_some r ≡ false → IsOpen h parent name at
+  asks_open r e s =
+      subst (λ (z : HiveCells). IsOpen z parent name at) g.lent.view
+      (record { place = finds.place; absent = absent r e s; short = g.short; good = g.good; deep = g.deep })
+
+-- ---- a key that is there makes nothing
+
+pub already_stepped : (bins : List Bin) (root : ℕ) (version : HiveVersion) (bulk : ℕ) (h : HiveCells) (parent : List (List ℕ)) (name : List ℕ) → IsHive bins root version bulk
+    → hive_of bins root version ≡ h → IsMadeAlready h parent name → IsStepped h (make_key parent name) h
+already_stepped bins root version bulk h parent name is view m =
+    let well = subst (λ (z : HiveCells). IsWellFormed (cells_in z) z.root z.tree) view is.stands in
+    record {
+      version = refl;
+      root = refl;
+      tree = m.step;
+      done = a_key_there (cells_in h) h.root h.tree h.tree m.key parent name well (nothing_made parent name h.tree m.key m.found m.present) m.found m.present;
+      long = omega arith;
+      room = omega arith;
+    }
+
+-- ---- a key that may be made
+
+-- what is known of the place, in the bins
+pub record OpenHere (bins : List Bin) (root : ℕ) (version : HiveVersion) (parent : List (List ℕ)) (name : List ℕ) (at : ℕ) : Type 0 where
+  pub place : key_place (look_up version bins) parent root ≡ some at
+  pub key : KeyThere (look_up version bins) parent (tree_of (look_up version bins) root) at
+  pub try : MayTry parent name (tree_of (look_up version bins) root) key.there
+  pub absent : has_key parent name (tree_of (look_up version bins) root) ≡ false
+
+pub open_here : (bins : List Bin) (root : ℕ) (version : HiveVersion) (bulk : ℕ) (h : HiveCells) (parent : List (List ℕ)) (name : List ℕ) (at : ℕ) → IsHive bins root version bulk
+    → hive_of bins root version ≡ h → IsOpen h parent name at → OpenHere bins root version parent name at
+open_here bins root version bulk h parent name at is view isopen =
+    let o : IsOpen (hive_of bins root version) parent name at = subst (λ (z : HiveCells). IsOpen z parent name at) (sym view) isopen in
+    let k = key_there (look_up version bins) parent root (tree_of (look_up version bins) root) at is.stands o.place in
+    record { place = o.place; key = k; try = record { found = k.found; good = o.good; short = o.short; deep = o.deep }; absent = o.absent }
+
+-- the key stands in the cells as they are lent
+pub open_stands : (bins heap : List Bin) (root : ℕ) (version : HiveVersion) (bulk : ℕ) (h : HiveCells) (parent : List (List ℕ)) (name : List ℕ) (at : ℕ)
+    → IsHive bins root version bulk → heap ≡ bins → hive_of bins root version ≡ h → IsOpen h parent name at → IsKeyAt (look_up version heap) at
+open_stands bins heap root version bulk h parent name at is same view isopen =
+    let o = open_here bins root version bulk h parent name at is view isopen in
+    subst (λ (z : List Bin). IsKeyAt (look_up version z) at) (sym same) (o.key.there, o.key.well)
+
+-- its node, seen in the hive
+pub node_seen : (bins heap : List Bin) (root : ℕ) (version : HiveVersion) (h : HiveCells) (at : ℕ) (n : KeyNode) → heap ≡ bins → hive_of bins root version ≡ h
+    → reading key_node_at (cells_in h) at ≡ Ok n → reading key_node_at (look_up version heap) at ≡ Ok n
+node_seen bins heap root version h at n same view e =
+    subst (λ (z : List Bin). reading key_node_at (look_up version z) at ≡ done n) (sym same)
+    (subst (λ (z : HiveCells). reading key_node_at (cells_in z) at ≡ done n) (sym view) e)
+
+-- how many children it counts
+open_many : (bins : List Bin) (root : ℕ) (version : HiveVersion) (bulk : ℕ) (h : HiveCells) (parent : List (List ℕ)) (name : List ℕ) (at count : ℕ)
+    → IsHive bins root version bulk → hive_of bins root version ≡ h → (o : OpenHere bins root version parent name at)
+    → ((n : KeyNode) → reading key_node_at (cells_in h) at ≡ Ok n → count ≡ n.child_count) → count ≡ length (children o.key.there)
+open_many bins root version bulk h parent name at count is view o counts =
+    let b = look_up version bins in
+    let t = tree_of b root in
+    let read = node_read b at o.key.there o.key.well.stands in
+    let placed = placed_at b parent root at o.place in
+    counts read.0 (subst (λ (z : HiveCells). reading key_node_at (cells_in z) at ≡ done read.0) view read.1)
+    ∙ counted_children b root t placed.stored at o.key.there read.0 (record { well = is.stands; reached = placed.reached; below = o.key.well; read = read.1 })
+
+-- too many siblings: there is no room for the lists
+pub asks_many : (bins : List Bin) (root : ℕ) (version : HiveVersion) (bulk : ℕ) (h : HiveCells) (parent : List (List ℕ)) (name : List ℕ) (at count : ℕ)
+    → IsHive bins root version bulk → hive_of bins root version ≡ h → IsOpen h parent name at
+    → ((n : KeyNode) → reading key_node_at (cells_in h) at ≡ Ok n → count ≡ n.child_count) → 2097150 < count → LacksStepRoom h (make_key parent name)
+asks_many bins root version bulk h parent name at count is view isopen counts many =
+    let t = tree_of (look_up version bins) root in
+    let o = open_here bins root version bulk h parent name at is view isopen in
+    let c = open_many bins root version bulk h parent name at count is view o counts in
+    let r = make_room version parent name t o.key.there o.key.found o.absent in
+    let l = lists_over (length (children o.key.there) + 1) (omega (arith, c, many)) in
+    lacks_room bins root version h (made_tree parent name t) (make_key parent name) view (step_made parent name t o.key.there o.try) (omega (arith, r, l))
+
+-- the bulk with it
+pub asks_bulk : (bins : List Bin) (root : ℕ) (version : HiveVersion) (bulk : ℕ) (h : HiveCells) (parent : List (List ℕ)) (name : List ℕ) (at count : ℕ)
+    → IsHive bins root version bulk → hive_of bins root version ≡ h → bins_size bins ≤ 16777216 → IsOpen h parent name at
+    → ((n : KeyNode) → reading key_node_at (cells_in h) at ≡ Ok n → count ≡ n.child_count) → count ≤ 2097150
+    → (list_size count ≤ bulk + (cell (76 + name_bytes name) + list_size (count + 1)))
+    × (bulk + (cell (76 + name_bytes name) + list_size (count + 1)) - list_size count ≡ bulk_of version (made_tree parent name (tree_of (look_up version bins) root)))
+asks_bulk bins root version bulk h parent name at count is view fit isopen counts few =
+    let t = tree_of (look_up version bins) root in
+    let o = open_here bins root version bulk h parent name at is view isopen in
+    let c = open_many bins root version bulk h parent name at count is view o counts in
+    let g = subst (Grows version parent name t) (sym c) (grows version parent name t o.key.there o.key.found o.absent) in
+    grown_is version parent name t count bulk g few o.try.short (bulk_is bins root version bulk is fit)
+
+pub asks_may : (bins : List Bin) (root : ℕ) (version : HiveVersion) (bulk : ℕ) (h : HiveCells) (parent : List (List ℕ)) (name : List ℕ) (at count grown : ℕ)
+    → IsHive bins root version bulk → hive_of bins root version ≡ h → bins_size bins ≤ 16777216 → IsOpen h parent name at
+    → ((n : KeyNode) → reading key_node_at (cells_in h) at ≡ Ok n → count ≡ n.child_count) → count ≤ 2097150
+    → grown ≡ bulk + (cell (76 + name_bytes name) + list_size (count + 1)) - list_size count
+    → MayMake h parent name (record { at = at; bulk = grown })
+asks_may bins root version bulk h parent name at count grown is view fit isopen counts few g = record {
+  open_at = isopen;
+  bulk = subst (λ (z : HiveCells). grown ≡ bulk_of z.version (made_tree parent name z.tree)) view
+      (g ∙ (asks_bulk bins root version bulk h parent name at count is view fit isopen counts few).1);
+  few = λ n read. let c = counts n read in omega (arith, c, few);
+}

@@ -1,9 +1,11 @@
 -- Whether a key may be made, and the bulk of the tree with it.
 use Rattle.std.proofs.Common.{◌≡◌, ◌≤◌, ◌<◌, ℕ, zero, suc, ◌+◌, ◌-◌, ◌*◌, ◌/◌, ◌%◌, ◌||◌, Bool, true, false, not, eqb, cond, List, [], ◌∷◌, ◌++◌, length, min, Option, Some, None, Result, Ok, Err, ◌⊎◌, inl, inr, refl, sym, ap, subst, ◌∙◌, arith}
-use Rattle.std.specs.Prelude.{nat_lt, nat_eq, find, is_some, if◌then◌else◌}
+use Rattle.std.specs.Prelude.{◌==◌, nat_lt, nat_eq, find, is_some, if◌then◌else◌}
 use Rattle.std.specs.Option.{is_none, option_map_or}
 use Rattle.std.specs.Ordering.{is_gt}
+use lib.ListN.{replicate}
 use lib.Pointwise.{pointwise}
+use Rattle.std.proofs.lemmas.List.Sums.{sum_by-cons}
 use Rattle.std.proofs.lemmas.Bool.{ne_eqb, eq-eqb, le-ltb, lt-ltb, cases_lt}
 use Rattle.std.proofs.lemmas.Slice.Eq.{bytes_eq-Decides}
 use Rattle.nt_bytes.specs.Folding.{folded_order}
@@ -12,29 +14,26 @@ use Rattle.hive_model.specs.Bins.{Bin, Cells, look_up}
 use Rattle.hive_model.specs.KeyNode.{KeyNode, key_node_at}
 use Rattle.hive_model.specs.Tree.{Tree, Trees, Head, key, none, more, head, listed, children, is_named, find_key}
 use Rattle.hive_model.specs.Size.{cell, name_bytes, has_own, part_count, list_size, count, size, bulk_of}
-use Rattle.hive_model.specs.Edit.{Step, make_key, Refusal, no_key, bad_name, name_too_long, too_deep, full, unless, then_edit, has_child, is_bad_name, of_children, placed, new_key, with_key, at_key, key_made, after_step, after_steps, most_bulk, edited}
+use Rattle.hive_model.specs.Edit.{make_key, Refusal, no_key, bad_name, name_too_long, too_deep, unless, has_child, is_bad_name, of_children, placed, new_key, with_key, at_key, key_made, after_step}
 use Rattle.hive_model.specs.Walk.{reading}
-use Rattle.hive_model.specs.Footprint.{key_place, child_places, is_node_named, has_key}
+use Rattle.hive_model.specs.Packed.{rounded}
+use Rattle.hive_model.specs.Footprint.{key_place, child_places, is_node_named, has_key, some_cell, list_sizes, sizes, needed_sizes, room_of}
 use Rattle.hive_model.specs.Stands.{Stands, AllStand, IsWellFormed}
 use Rattle.edit_laws.specs.Sizes.{sizes_of}
 use Rattle.edit_laws.proofs.ChildEdits.{relisted_size}
 use Rattle.edit_laws.proofs.Found.{changed_alike}
+use Rattle.edit_laws.proofs.Patch.{folds_itself}
+use Rattle.edit_laws.proofs.Replaced.{listed_trees}
+use Rattle.edit_laws.proofs.RoomLemmas.{found_changed, make_needs}
 use Rattle.edit_laws.proofs.InOrder.{at_key_itself}
 use Rattle.edit_laws.proofs.Wellformed.{places_are}
-use Rattle.key_index.proofs.Runs.{list_least}
 use Rattle.hive_edit.specs.Making.{made_tree}
 use Rattle.hive_edit.proofs.ResultLemmas.{done, some}
 use Rattle.hive_edit.proofs.PlaceLemmas.{IsPlaceOf, child_place, key_there}
+use Rattle.hive_edit.proofs.LowLemmas.{BulkIs, bulk_then, name_low}
 use Rattle.hive_edit.proofs.ParentLemmas.{IsParent, children_are, siblings_are}
 
 -- ---- the edit
-
-abbrev edit_of : HiveVersion → Result Tree Refusal → Result Tree Refusal
-edit_of version r = then_edit (then_edit r (λ u. Ok u)) (λ u. cond (nat_lt most_bulk (bulk_of version u)) (Err full) (Ok u))
-
-pub one_edit : (version : HiveVersion) (t : Tree) (step : Step) → edited version t (step ∷ []) ≡ edit_of version (after_step step t)
-unfolding edited
-one_edit version t step = refl
 
 abbrev tested : Bool → Bool → Bool → Bool → Tree → Result Tree Refusal
 tested a b c d u = unless ((a, no_key) ∷ (b, bad_name) ∷ (c, name_too_long) ∷ (d, too_deep) ∷ []) u
@@ -43,29 +42,24 @@ key_tested : (parent : List (List ℕ)) (name : List ℕ) (t : Tree) (a b c d : 
     → nat_lt 512 (length parent + 2) ≡ d → key_made parent name t ≡ tested a b c d (made_tree parent name t)
 key_tested parent name t a b c d e f g h = λ i. tested (e i) (f i) (g i) (h i) (made_tree parent name t)
 
-pub refused_key : (version : HiveVersion) (parent : List (List ℕ)) (name : List ℕ) (t : Tree) → find_key parent t ≡ None
-    → edited version t (make_key parent name ∷ []) ≡ Err no_key
-refused_key version parent name t e =
-    one_edit version t (make_key parent name)
-    ∙ ap (edit_of version) (key_tested parent name t true (is_bad_name name) (nat_lt 255 (length name)) (nat_lt 512 (length parent + 2)) (ap is_none e) refl refl refl)
+pub refused_key : (parent : List (List ℕ)) (name : List ℕ) (t : Tree) → find_key parent t ≡ None → after_step (make_key parent name) t ≡ Err no_key
+refused_key parent name t e =
+    key_tested parent name t true (is_bad_name name) (nat_lt 255 (length name)) (nat_lt 512 (length parent + 2)) (ap is_none e) refl refl refl
 
-pub refused_name : (version : HiveVersion) (parent : List (List ℕ)) (name : List ℕ) (t k : Tree) → find_key parent t ≡ Some k → is_bad_name name ≡ true
-    → edited version t (make_key parent name ∷ []) ≡ Err bad_name
-refused_name version parent name t k e bad =
-    one_edit version t (make_key parent name)
-    ∙ ap (edit_of version) (key_tested parent name t false true (nat_lt 255 (length name)) (nat_lt 512 (length parent + 2)) (ap is_none e) bad refl refl)
+pub refused_name : (parent : List (List ℕ)) (name : List ℕ) (t k : Tree) → find_key parent t ≡ Some k → is_bad_name name ≡ true
+    → after_step (make_key parent name) t ≡ Err bad_name
+refused_name parent name t k e bad =
+    key_tested parent name t false true (nat_lt 255 (length name)) (nat_lt 512 (length parent + 2)) (ap is_none e) bad refl refl
 
-pub refused_long : (version : HiveVersion) (parent : List (List ℕ)) (name : List ℕ) (t k : Tree) → find_key parent t ≡ Some k → is_bad_name name ≡ false → 255 < length name
-    → edited version t (make_key parent name ∷ []) ≡ Err name_too_long
-refused_long version parent name t k e good long =
-    one_edit version t (make_key parent name)
-    ∙ ap (edit_of version) (key_tested parent name t false false true (nat_lt 512 (length parent + 2)) (ap is_none e) good (lt-ltb 255 (length name) long) refl)
+pub refused_long : (parent : List (List ℕ)) (name : List ℕ) (t k : Tree) → find_key parent t ≡ Some k → is_bad_name name ≡ false → 255 < length name
+    → after_step (make_key parent name) t ≡ Err name_too_long
+refused_long parent name t k e good long =
+    key_tested parent name t false false true (nat_lt 512 (length parent + 2)) (ap is_none e) good (lt-ltb 255 (length name) long) refl
 
-pub refused_deep : (version : HiveVersion) (parent : List (List ℕ)) (name : List ℕ) (t k : Tree) → find_key parent t ≡ Some k → is_bad_name name ≡ false → length name ≤ 255
-    → 510 < length parent → edited version t (make_key parent name ∷ []) ≡ Err too_deep
-refused_deep version parent name t k e good short deep =
-    one_edit version t (make_key parent name)
-    ∙ ap (edit_of version) (key_tested parent name t false false false true (ap is_none e) good (le-ltb 255 (length name) short) (lt-ltb 512 (length parent + 2) (omega arith)))
+pub refused_deep : (parent : List (List ℕ)) (name : List ℕ) (t k : Tree) → find_key parent t ≡ Some k → is_bad_name name ≡ false → length name ≤ 255
+    → 510 < length parent → after_step (make_key parent name) t ≡ Err too_deep
+refused_deep parent name t k e good short deep =
+    key_tested parent name t false false false true (ap is_none e) good (le-ltb 255 (length name) short) (lt-ltb 512 (length parent + 2) (omega arith))
 
 -- what is to be known of the path and the name
 pub record MayTry (parent : List (List ℕ)) (name : List ℕ) (t k : Tree) : Type 0 where
@@ -77,10 +71,6 @@ pub record MayTry (parent : List (List ℕ)) (name : List ℕ) (t k : Tree) : Ty
 pub step_made : (parent : List (List ℕ)) (name : List ℕ) (t k : Tree) → MayTry parent name t k → after_step (make_key parent name) t ≡ Ok (made_tree parent name t)
 step_made parent name t k m =
     key_tested parent name t false false false false (ap is_none m.found) m.good (le-ltb 255 (length name) m.short) (le-ltb 512 (length parent + 2) (let d = m.deep in omega (arith, d)))
-
-pub edit_made : (version : HiveVersion) (parent : List (List ℕ)) (name : List ℕ) (t k : Tree) → MayTry parent name t k
-    → edited version t (make_key parent name ∷ []) ≡ cond (nat_lt most_bulk (bulk_of version (made_tree parent name t))) (Err full) (Ok (made_tree parent name t))
-edit_made version parent name t k m = one_edit version t (make_key parent name) ∙ ap (edit_of version) (step_made parent name t k m)
 
 -- ---- is it there?
 
@@ -143,10 +133,9 @@ new_size version hd ts name =
 -- how the sizes before and after belong together, where so many keys are siblings of the new one
 pub record Grows (version : HiveVersion) (parent : List (List ℕ)) (name : List ℕ) (t : Tree) (n : ℕ) : Type 0 where
   pub sizes : size version [] (made_tree parent name t) + list_size n ≡ size version [] t + (cell (76 + name_bytes name) + list_size (n + 1))
-  pub least : list_size (n + 1) ≤ size version [] (made_tree parent name t)
 
-sums : (u t l m z c d r : ℕ) → u + (l + z) ≡ t + (m + (c + z)) → d + (l + z) ≡ t + (0 + 0) → (u + l ≡ t + (c + m)) × (m ≤ u)
-sums u t l m z c d r e f = (omega (arith, e), omega (arith, e, f))
+sums : (u t l m z c : ℕ) → u + (l + z) ≡ t + (m + (c + z)) → u + l ≡ t + (c + m)
+sums u t l m z c e = omega (arith, e)
 
 pub grows : (version : HiveVersion) (parent : List (List ℕ)) (name : List ℕ) (t k : Tree) → find_key parent t ≡ Some k → has_key parent name t ≡ false
     → Grows version parent name t (length (children k))
@@ -157,7 +146,6 @@ grows version parent name t (key hd ts) found absent =
     changed_alike (of_children (placed nk)) (with_key name) parent t k found
     (sym (ap (λ (v : Bool). cond v k (of_children (placed nk) k)) (has_there parent name t k false found absent))) in
     let e = relisted_size version [] parent t hd ts (placed nk) found in
-    let f = relisted_size version [] parent t hd ts (λ (us : List Tree). []) found in
     let l = placed_length nk (listed ts) in
     let z = placed_sizes version hd.security nk (listed ts) in
     let g : size version [] (made_tree parent name t) + (list_size (count ts) + sizes_of version hd.security (listed ts))
@@ -165,9 +153,10 @@ grows version parent name t (key hd ts) found absent =
     ap (λ (u : Tree). size version [] u + (list_size (count ts) + sizes_of version hd.security (listed ts))) (sym made) ∙ e
     ∙ (λ i. size version [] t + (list_size (l i) + z i))
     ∙ ap (λ (q : ℕ). size version [] t + (list_size (count ts + 1) + (q + sizes_of version hd.security (listed ts)))) (new_size version hd ts name) in
-    let both = sums (size version [] (made_tree parent name t)) (size version [] t) (list_size (count ts)) (list_size (count ts + 1)) (sizes_of version hd.security (listed ts))
-    (cell (76 + name_bytes name)) (size version [] (at_key parent (of_children (λ (us : List Tree). [])) t)) 0 g f in
-    record { sizes = both.0; least = both.1 }
+    record {
+      sizes = sums (size version [] (made_tree parent name t)) (size version [] t) (list_size (count ts)) (list_size (count ts + 1)) (sizes_of version hd.security (listed ts))
+          (cell (76 + name_bytes name)) g;
+    }
 
 list_most : (n : ℕ) → n ≤ 2097152 → list_size n ≤ 17000000
 list_most n h = go (eqb n 0) refl (nat_lt n 501) (eqb (n % 500) 0)
@@ -179,37 +168,113 @@ list_most n h = go (eqb n 0) refl (nat_lt n 501) (eqb (n % 500) 0)
     go false e false true = omega arith
     go false e false false = omega arith
 
--- too many siblings
-pub full_many : (version : HiveVersion) (parent : List (List ℕ)) (name : List ℕ) (t : Tree) (n : ℕ) → Grows version parent name t n → 2097150 < n
-    → nat_lt most_bulk (bulk_of version (made_tree parent name t)) ≡ true
-full_many version parent name t n g many =
-    let l = g.least in
-    let m = list_least (n + 1) (omega arith) in
-    lt-ltb most_bulk (bulk_of version (made_tree parent name t)) (over (size version [] (made_tree parent name t)) (list_size (n + 1)) n many l m)
+-- the bulk with the new key
+pub grown_is : (version : HiveVersion) (parent : List (List ℕ)) (name : List ℕ) (t : Tree) (n bulk : ℕ) → Grows version parent name t n → n ≤ 2097150 → length name ≤ 255
+    → BulkIs version t bulk
+    → (list_size n ≤ bulk + (cell (76 + name_bytes name) + list_size (n + 1)))
+    × (bulk + (cell (76 + name_bytes name) + list_size (n + 1)) - list_size n ≡ bulk_of version (made_tree parent name t))
+grown_is version parent name t n bulk g few short b =
+    bulk_then version t (made_tree parent name t) bulk (cell (76 + name_bytes name) + list_size (n + 1)) (list_size n) b g.sizes
+    (small (name_bytes name) (length name) (list_size (n + 1)) (name_low name) short (list_most (n + 1) (omega arith)))
   where
-    over : (s a n : ℕ) → 2097150 < n → a ≤ s → 8 * (n + 1) ≤ a → 16773120 < min (32 + s) 18446744073709551615
-    over s a n many l m = omega arith
+    small : (x m l : ℕ) → x ≤ 2 * m → m ≤ 255 → l ≤ 17000000 → cell (76 + x) + l ≤ 68719476736
+    small x m l e f h = omega (arith, e, f, h)
 
-grown_over : (s t a l bulk grown : ℕ) → s + l ≡ t + a → l ≤ 17000000 → bulk ≡ min (32 + t) 18446744073709551615 → grown ≡ min (bulk + a) 18446744073709551615 - l
-    → 16773120 < grown → 16773120 < min (32 + s) 18446744073709551615
-grown_over s t a l bulk grown e m b g over = omega arith
+-- ---- the room
 
-grown_within : (s t a l bulk grown : ℕ) → s + l ≡ t + a → l ≤ 17000000 → bulk ≡ min (32 + t) 18446744073709551615 → grown ≡ min (bulk + a) 18446744073709551615 - l
-    → grown ≤ 16773120 → grown ≡ min (32 + s) 18446744073709551615
-grown_within s t a l bulk grown e m b g over = omega arith
+room_next : (x : ℕ) (xs : List ℕ) → room_of (x ∷ xs) ≡ rounded (x + 32) + room_of xs
+room_next x xs = sum_by-cons (λ s. rounded (s + 32)) x xs
 
-pub full_grown : (version : HiveVersion) (parent : List (List ℕ)) (name : List ℕ) (t : Tree) (n bulk grown : ℕ) → Grows version parent name t n → n ≤ 2097150
-    → bulk ≡ bulk_of version t → grown ≡ min (bulk + (cell (76 + name_bytes name) + list_size (n + 1))) 18446744073709551615 - list_size n → 16773120 < grown
-    → nat_lt most_bulk (bulk_of version (made_tree parent name t)) ≡ true
-full_grown version parent name t n bulk grown g few b e over =
-    lt-ltb most_bulk (bulk_of version (made_tree parent name t))
-    (grown_over (size version [] (made_tree parent name t)) (size version [] t) (cell (76 + name_bytes name) + list_size (n + 1)) (list_size n) bulk grown g.sizes (list_most n (omega arith)) b e over)
+pub room_both : (xs ys : List ℕ) → room_of (xs ++ ys) ≡ room_of xs + room_of ys
+room_both [] ys = omega arith
+room_both (x ∷ xs) ys =
+    let a = room_next x (xs ++ ys) in
+    let b = room_next x xs in
+    let c = room_both xs ys in omega (arith, a, b, c)
 
-pub within_grown : (version : HiveVersion) (parent : List (List ℕ)) (name : List ℕ) (t : Tree) (n bulk grown : ℕ) → Grows version parent name t n → n ≤ 2097150
-    → bulk ≡ bulk_of version t → grown ≡ min (bulk + (cell (76 + name_bytes name) + list_size (n + 1))) 18446744073709551615 - list_size n → grown ≤ 16773120
-    → grown ≡ bulk_of version (made_tree parent name t)
-within_grown version parent name t n bulk grown g few b e within =
-    grown_within (size version [] (made_tree parent name t)) (size version [] t) (cell (76 + name_bytes name) + list_size (n + 1)) (list_size n) bulk grown g.sizes (list_most n (omega arith)) b e within
+room_alike : (k : ℕ) → room_of (replicate k (cell 4004)) ≡ 4096 * k
+room_alike zero = omega arith
+room_alike (suc k) =
+    let a = room_next (cell 4004) (replicate k (cell 4004)) in
+    let b = room_alike k in omega (arith, a, b)
+
+-- the lists of too many children have no room
+pub lists_over : (n : ℕ) → 2097151 < n → 16777216 < room_of (list_sizes n)
+unfolding list_sizes
+lists_over n many =
+    let a : (n == 0) ≡ false = ne_eqb n 0 (λ e. omega (arith, e, many)) in
+    let b : nat_lt n 501 ≡ false = le-ltb n 501 (omega (arith, many)) in
+    let full = replicate (n / 500) (cell 4004) in
+    let rest = cond (n % 500 == 0) [] (cell (4 + 8 * (n % 500)) ∷ []) in
+    let is : list_sizes n ≡ cell (4 + 4 * part_count n) ∷ (full ++ rest) =
+    (λ i. cond (a i) [] (cond (b i) (cell (4 + 8 * n) ∷ []) (cell (4 + 4 * part_count n) ∷ (full ++ rest)))) in
+    let one = room_next (cell (4 + 4 * part_count n)) (full ++ rest) in
+    let two = room_both full rest in
+    let three = room_alike (n / 500) in
+    subst (λ (l : List ℕ). 16777216 < room_of l) (sym is)
+    (sum n (room_of (cell (4 + 4 * part_count n) ∷ (full ++ rest))) (rounded (cell (4 + 4 * part_count n) + 32)) (room_of (full ++ rest)) (room_of full) (room_of rest) many one two three)
+  where
+    sum : (n w x y f r : ℕ) → 2097151 < n → w ≡ x + y → y ≡ f + r → f ≡ 4096 * (n / 500) → 16777216 < w
+    sum n w x y f r a b c d = omega (arith, a, b, c, d)
+
+placed_found : (name : List ℕ) (k : Tree) (us : List Tree) → is_named name k ≡ true → find (is_named name) us ≡ None → find (is_named name) (placed k us) ≡ Some k
+placed_found name k [] is lacks = ap (λ (v : Bool). cond v (Some k) None) is
+placed_found name k (u ∷ us) is lacks = go (is_gt (folded_order (head u).name (head k).name)) (is_named name u) refl lacks (λ e. placed_found name k us is e)
+  where
+    go : (v w : Bool) → is_named name u ≡ w → cond w (Some u) (find (is_named name) us) ≡ None
+        → (find (is_named name) us ≡ None → find (is_named name) (placed k us) ≡ Some k)
+        → find (is_named name) (cond v (k ∷ u ∷ us) (u ∷ placed k us)) ≡ Some k
+    go true w e n deep = ap (λ (z : Bool). cond z (Some k) (find (is_named name) (u ∷ us))) is
+    go false true e n deep = absurd cc
+    go false false e n deep = ap (λ (z : Bool). cond z (Some u) (find (is_named name) (placed k us))) e ∙ deep n
+
+none_of_name : (name : List ℕ) (k : Tree) → has_child name k ≡ false → find (is_named name) (children k) ≡ None
+none_of_name name k e = go (find (is_named name) (children k)) e
+  where
+    go : (o : Option Tree) → is_some o ≡ false → o ≡ None
+    go None e = refl
+    go (Some u) e = absurd cc
+
+with_key_name : (name : List ℕ) (w : Tree) → (head (with_key name w)).name ≡ (head w).name
+with_key_name name (key hd ts) = go (has_child name (key hd ts))
+  where
+    go : (v : Bool) → (head (cond v (key hd ts) (of_children (placed (new_key name (key hd ts))) (key hd ts)))).name ≡ hd.name
+    go true = refl
+    go false = refl
+
+-- the sizes of the new key's cells: its node alone
+new_sizes : (version : HiveVersion) (hd : Head) (ts : Trees) (name : List ℕ)
+    → sizes version hd.security (new_key name (key hd ts)) ≡ cell (76 + name_bytes name) ∷ []
+unfolding list_sizes
+new_sizes version hd ts name =
+    ap (λ (v : Bool). cell (76 + name_bytes name) ∷ ((some_cell (cond v (cell (20 + length hd.security)) 0) ++ []) ++ [])) (shared hd.security)
+
+-- the room for the cells that a new key may need: the lists of its parent, and its node
+pub make_room : (version : HiveVersion) (parent : List (List ℕ)) (name : List ℕ) (t k : Tree) → find_key parent t ≡ Some k → has_key parent name t ≡ false
+    → room_of (needed_sizes version t (make_key parent name) (made_tree parent name t))
+    ≡ room_of (list_sizes (length (children k) + 1)) + rounded (cell (76 + name_bytes name) + 32)
+make_room version parent name t (key hd ts) found absent =
+    let k = key hd ts in
+    let nk = new_key name k in
+    let lacks = has_there parent name t k false found absent in
+    let w = with_key name k in
+    let is : w ≡ of_children (placed nk) k = ap (λ (v : Bool). cond v k (of_children (placed nk) k)) lacks in
+    let kids : children w ≡ placed nk (listed ts) = ap children is ∙ listed_trees (placed nk (listed ts)) in
+    let same : (head w).security ≡ hd.security = ap (λ (u : Tree). (head u).security) is in
+    let there : find_key parent (made_tree parent name t) ≡ Some w = found_changed (with_key name) parent t k (with_key_name name) found in
+    let child : find (is_named name) (children w) ≡ Some nk =
+    ap (find (is_named name)) kids ∙ placed_found name nk (listed ts) (folds_itself name) (none_of_name name k lacks) in
+    let needs = make_needs version t (made_tree parent name t) w nk parent name absent there child in
+    let sizes_are : sizes version (head w).security nk ≡ cell (76 + name_bytes name) ∷ [] = ap (λ (s : List ℕ). sizes version s nk) same ∙ new_sizes version hd ts name in
+    let many : length (children w) ≡ length (listed ts) + 1 = ap (λ (l : List Tree). length l) kids ∙ placed_length nk (listed ts) in
+    let all = ap room_of (needs ∙ (λ i. list_sizes (many i) ++ sizes_are i)) in
+    let both = room_both (list_sizes (length (listed ts) + 1)) (cell (76 + name_bytes name) ∷ []) in
+    let one = room_next (cell (76 + name_bytes name)) [] in
+    sum (room_of (needed_sizes version t (make_key parent name) (made_tree parent name t))) (room_of (list_sizes (length (listed ts) + 1) ++ cell (76 + name_bytes name) ∷ []))
+    (room_of (list_sizes (length (listed ts) + 1))) (room_of (cell (76 + name_bytes name) ∷ [])) (rounded (cell (76 + name_bytes name) + 32)) all both one
+  where
+    sum : (w b l n r : ℕ) → w ≡ b → b ≡ l + n → n ≡ r + 0 → w ≡ l + r
+    sum w b l n r e f g = omega (arith, e, f, g)
 
 -- ---- how many children a node counts
 

@@ -1,56 +1,56 @@
 -- A hive in which a key was made, or in which nothing was made.
-use Rattle.std.proofs.Common.{◌≡◌, ◌≤◌, ◌<◌, ◌^◌, ℕ, ◌+◌, ◌||◌, Bool, true, false, cond, List, [], ◌∷◌, ◌++◌, length, Option, Some, None, Result, Ok, Err, refl, sym, ap, subst, ◌∙◌, arith}
-use Rattle.std.specs.Prelude.{nat_lt, ◌==◌, Contains, slice_index, MatchBool, OnErr}
+use Rattle.std.proofs.Common.{◌≡◌, ◌≤◌, ◌<◌, ◌^◌, ℕ, ◌+◌, ◌*◌, ◌||◌, Bool, true, false, cond, List, [], ◌∷◌, ◌++◌, length, take, drop, Option, Some, None, Result, Ok, Err, refl, sym, ap, subst, ◌∙◌, arith}
+use Rattle.std.specs.Prelude.{◌==◌, Contains, slice_index, MatchBool, if◌then◌else◌}
 use Rattle.std.specs.Option.{IsSome, IsSomeAnd}
 use Rattle.std.specs.Result.{IsOk}
-use Rattle.std.specs.List.{list_any}
-use Rattle.std.proofs.lemmas.Bool.{le-ltb, ltb-false}
-use Rattle.std.proofs.lemmas.List.Elements.{All-cons, All-nil, Contains-append_left}
+use Rattle.std.specs.List.{list_any, position_or_len}
+use Rattle.std.proofs.lemmas.Bool.{ltb-false}
+use Rattle.std.proofs.lemmas.List.{take-append-drop}
 use Rattle.nt_bytes.specs.declared.fault.HiveKind.{HiveKind}
 use Rattle.nt_bytes.specs.Fields.{u32_in, u64_in}
 use Rattle.nt_bytes.specs.declared.version.HiveVersion.{HiveVersion}
-use Rattle.hive_model.specs.Bins.{Bin, Cells, bins_size, look_up}
+use Rattle.hive_model.specs.Bins.{Bin, Cells, bins_size, look_up, spelled}
 use Rattle.hive_model.specs.Forms.{◌>>=◌}
 use Rattle.hive_model.specs.KeyNode.{KeyNode, key_node_at, key_node_text, is_narrow_key}
 use Rattle.hive_model.specs.Security.{security_at}
-use Rattle.hive_model.specs.Tree.{Tree, key, head, find_key}
-use Rattle.hive_model.specs.Size.{bulk_of}
+use Rattle.hive_model.specs.Tree.{Tree, key, head, children}
+use Rattle.hive_model.specs.Size.{cell, is_narrow, name_bytes, bulk_of}
 use Rattle.hive_model.specs.Valid.{is_backslash}
-use Rattle.hive_model.specs.Edit.{Step, Refusal, make_key, full, is_bad_name, after_step, most_bulk, edited}
+use Rattle.hive_model.specs.Edit.{make_key, is_bad_name}
+use Rattle.hive_model.specs.Packed.{rounded}
 use Rattle.hive_model.specs.Walk.{reading, nowhere}
-use Rattle.hive_model.specs.Footprint.{key_place, has_key, step_cells, unless_refused, security_cell_at, list_cells_at}
+use Rattle.hive_model.specs.Footprint.{key_place, has_key, security_cell_at, list_cells_at, list_sizes, needed_sizes, room_of}
 use Rattle.hive_model.specs.Stands.{Stands, IsWellFormed}
-use Rattle.hive_model.proofs.Spelling.{length_key_node, length_name}
+use Rattle.hive_model.specs.StoredNames.{name_text}
+use Rattle.hive_model.proofs.Spelling.{length_key_node, length_name, length_wide}
 use Rattle.hive_cells.specs.Held.{held_at}
+use Rattle.hive_cells.specs.Holes.{new_bin_size}
 use Rattle.hive_cells.proofs.HeldLemmas.{payload_held, held_payload}
-use Rattle.reg_tree.specs.Fitting.{Fits}
-use Rattle.reg_tree.proofs.Edited.{edited_valid}
+use Rattle.hive_read.proofs.FormFacts.{IsBytes}
 use Rattle.edit_laws.specs.Owned.{In}
-use Rattle.edit_laws.specs.Done.{IsDone}
 use Rattle.edit_laws.proofs.Ins.{in_from}
 use Rattle.edit_laws.proofs.Out.{placed_at}
 use Rattle.edit_laws.proofs.Patches.{node_text}
-use Rattle.key_index.specs.Lists.{payload_in, lists_at, IsNode, ListsSiblings}
+use Rattle.key_index.specs.Lists.{payload_in, children_at, lists_at, name_in, is_behind, IsNode, ListsSiblings}
 use Rattle.key_index.specs.Relists.{AreApart}
 use Rattle.hive_edit.specs.declared.adding.NewPlace.{NewPlace}
 use Rattle.hive_edit.specs.declared.making.Above.{Above}
 use Rattle.hive_edit.specs.Hive.{HiveCells, cells_in, hive_of, IsHive}
-use Rattle.hive_edit.specs.Edits.{IsEditedInPlace}
 use Rattle.hive_edit.specs.Standing.{tree_of}
-use Rattle.hive_edit.specs.Making.{new_node, made_tree, above_lists, AboveIs, IsPutAt, IsLinkable, IsAddable, IsAdded, MayMake, IsMade, IsUnmade}
+use Rattle.hive_edit.specs.Making.{new_node, made_tree, above_lists, above_children, AboveIs, IsPutAt, IsLinkable, IsAddable, IsAdded, LacksNodeRoom, MayMake}
+use Rattle.hive_edit.specs.Stepped.{LacksStepRoom}
 use Rattle.hive_edit.specs.Places.{IsKeyAt}
 use Rattle.hive_edit.proofs.ResultLemmas.{done, some, then_so, is_ok_of, ok_same}
-use Rattle.hive_edit.proofs.StandingLemmas.{tree_is}
 use Rattle.hive_edit.proofs.HiveLemmas.{hive_opened}
 use Rattle.hive_edit.proofs.PlaceLemmas.{key_there}
 use Rattle.hive_edit.proofs.NodeLemmas.{NodeHere}
 use Rattle.hive_edit.proofs.NodeLemmas.{node_here as node_at_key}
-use Rattle.hive_edit.proofs.EditLemmas.{the_tree}
 use Rattle.hive_edit.proofs.NodeMade.{MayBeNode, node_again, security_text_is}
 use Rattle.hive_edit.proofs.ParentLemmas.{Keeps, kept_well, IsParent, kept_parent, parent_held, lists_are, siblings_are, lists_apart, list_no_node, list_no_security, node_no_security, security_there, node_stands, security_read}
 use Rattle.hive_edit.proofs.AddedLemmas.{no_some}
 use Rattle.hive_edit.proofs.MakingLemmas.{put_keeps, lists_still, key_done}
-use Rattle.hive_edit.proofs.JudgeLemmas.{MayTry, step_made, edit_made}
+use Rattle.hive_edit.proofs.JudgeLemmas.{MayTry, step_made, make_room, counted_children}
+use Rattle.hive_edit.proofs.SteppedLemmas.{IsStepMade, stepped, lacks_room}
 
 -- all that is known of the parent where a key may be made
 pub record Ready (bins : List Bin) (root : ℕ) (version : HiveVersion) (parent : List (List ℕ)) (name : List ℕ) (place : NewPlace) (above : Above) (stamp : ℕ) : Type 0 where
@@ -66,7 +66,6 @@ pub record Ready (bins : List Bin) (root : ℕ) (version : HiveVersion) (parent 
   pub absent : has_key parent name (tree_of (look_up version bins) root) ≡ false
   pub at : key_place (look_up version bins) parent root ≡ some place.at
   pub bulk : place.bulk ≡ bulk_of version (made_tree parent name (tree_of (look_up version bins) root))
-  pub fits : place.bulk ≤ 16773120
 
 no_slash : (name : List ℕ) → is_bad_name name ≡ false → list_any is_backslash name ≡ false
 no_slash name e = go (length name == 0) (list_any is_backslash name) e
@@ -88,8 +87,9 @@ ready bins heap root version bulk h parent name place above stamp is view same m
     let b = look_up version bins in
     let t = tree_of b root in
     let m : MayMake (hive_of bins root version) parent name place = subst (λ (g : HiveCells). MayMake g parent name place) (sym view) may_make in
-    let there = key_there b parent root t place.at is.stands m.at in
-    let placed = placed_at b parent root place.at m.at in
+    let o = m.open_at in
+    let there = key_there b parent root t place.at is.stands o.place in
+    let placed = placed_at b parent root place.at o.place in
     let read = node_read b place.at there.there there.well.stands in
     let says = says_all read.0 (subst (λ (z : List Bin). reading key_node_at (look_up version z) place.at ≡ done read.0) (sym same) read.1) in
     let stamp_is = stamp_all read.0 (subst (λ (z : List Bin). reading key_node_at (look_up version z) place.at ≡ done read.0) (sym same) read.1) in
@@ -105,17 +105,16 @@ ready bins heap root version bulk h parent name place above stamp is view same m
         parent_fits = at_fits;
         stamp_fits = subst (λ (z : ℕ). z < 2 ^ 64) stamp_is stamp_fits;
         security_fits = subst (λ (z : ℕ). z < 2 ^ 32) says.security security_fits;
-        short = m.short;
-        no_backslash = no_slash name m.good;
+        short = o.short;
+        no_backslash = no_slash name o.good;
         units = units;
       };
       stamp_is = stamp_is;
       few = omega (arith, count, few);
-      try = record { found = there.found; good = m.good; short = m.short; deep = m.deep };
-      absent = m.absent;
-      at = m.at;
+      try = record { found = there.found; good = o.good; short = o.short; deep = o.deep };
+      absent = o.absent;
+      at = o.place;
       bulk = m.bulk;
-      fits = m.fits;
     }
 
 -- ---- the node can be put and named
@@ -181,69 +180,88 @@ linkable bins new root version parent name place above stamp node child r e put 
 
 -- ---- the key is made
 
-pub record IsKeyMade (h : HiveCells) (new : List Bin) (root : ℕ) (version : HiveVersion) (bulk : ℕ) (parent : List (List ℕ)) (name : List ℕ) : Type 0 where
-  pub hive : IsHive new root version bulk
-  pub made : IsMade h parent name (hive_of new root version)
+-- how long the node is
+node_long : (parent stamp security : ℕ) (name : List ℕ) → length (key_node_text (new_node parent stamp security name)) ≡ 76 + name_bytes name
+node_long parent stamp security name =
+    length_key_node (new_node parent stamp security name) ∙ ap (λ (n : ℕ). 76 + n) (go (is_narrow name))
+  where
+    go : (v : Bool) → length (name_text (is_narrow_key (cond v 32 0)) name) ≡ cond v (length name) (2 * length name)
+    go true = refl
+    go false = length_wide name
+
+-- one child more
+pub children_more : (version : HiveVersion) (parent : ℕ) (above : Above) (child : ℕ) (bins : List Bin) → IsLinkable version parent above child bins
+    → length (above_children version above child bins) ≡ above.count + 1
+children_more version parent above child bins l =
+    let m = look_up version bins in
+    let offs = children_at m above.list above.count in
+    let p = position_or_len (is_behind m (name_in m child)) offs in
+    let whole : length offs ≡ length (take p offs ++ drop p offs) = ap (λ (xs : List ℕ). length xs) (sym (take-append-drop p offs)) in
+    let number = l.siblings.number in
+    let more = one_more (take p offs) child (drop p offs) in
+    omega (arith, whole, number, more)
+  where
+    one_more : (front : List ℕ) (y : ℕ) (back : List ℕ) → length (front ++ y ∷ back) ≡ length (front ++ back) + 1
+    one_more [] y back = omega arith
+    one_more (z ∷ front) y back = let d = one_more front y back in omega (arith, d)
+
+-- the room for the node and the lists is that for the cells that the step may need
+needed_room : (bins : List Bin) (root : ℕ) (version : HiveVersion) (parent : List (List ℕ)) (name : List ℕ) (place : NewPlace) (above : Above) (stamp : ℕ) (node : List ℕ)
+    → (r : Ready bins root version parent name place above stamp) → node ≡ key_node_text (new_node place.at stamp above.security name)
+    → room_of (needed_sizes version (tree_of (look_up version bins) root) (make_key parent name) (made_tree parent name (tree_of (look_up version bins) root)))
+    ≡ new_bin_size (cell (length node)) + room_of (list_sizes (above.count + 1))
+needed_room bins root version parent name place above stamp node r e =
+    let t = tree_of (look_up version bins) root in
+    let many : above.count ≡ length (children r.there) = r.says.count ∙ counted_children (look_up version bins) root t r.path place.at r.there r.node r.parent_is in
+    let all = make_room version parent name t r.there r.try.found r.absent in
+    let long : length node ≡ 76 + name_bytes name = ap (λ (z : List ℕ). length z) e ∙ node_long place.at stamp above.security name in
+    let one : new_bin_size (cell (length node)) ≡ rounded (cell (76 + name_bytes name) + 32) = ap (λ (n : ℕ). rounded (cell n + 32)) long in
+    let lists : room_of (list_sizes (above.count + 1)) ≡ room_of (list_sizes (length (children r.there) + 1)) = ap (λ (n : ℕ). room_of (list_sizes (n + 1))) many in
+    omega (arith, all, one, lists)
+
+-- where there is no room for them
+pub make_lacks : (bins : List Bin) (root : ℕ) (version : HiveVersion) (h : HiveCells) (parent : List (List ℕ)) (name : List ℕ) (place : NewPlace) (above : Above) (stamp : ℕ) (node : List ℕ)
+    → hive_of bins root version ≡ h → (r : Ready bins root version parent name place above stamp) → node ≡ key_node_text (new_node place.at stamp above.security name)
+    → LacksNodeRoom node above.count bins → LacksStepRoom h (make_key parent name)
+make_lacks bins root version h parent name place above stamp node view r e lacks =
+    let t = tree_of (look_up version bins) root in
+    let n = needed_room bins root version parent name place above stamp node r e in
+    lacks_room bins root version h (made_tree parent name t) (make_key parent name) view (step_made parent name t r.there r.try) (omega (arith, lacks, n))
 
 pub is_made : (old new : List Bin) (root : ℕ) (version : HiveVersion) (bulk : ℕ) (h : HiveCells) (parent : List (List ℕ)) (name : List ℕ) (place : NewPlace) (above : Above) (stamp : ℕ) (node : List ℕ)
     → IsHive old root version bulk → hive_of old root version ≡ h → (r : Ready old root version parent name place above stamp)
-    → node ≡ key_node_text (new_node place.at stamp above.security name) → IsAdded version place.at above node old new
-    → IsKeyMade h new root version place.bulk parent name
-is_made old new root version bulk h parent name place above stamp node is view r e added =
-    let b = look_up version old in
-    let c = look_up version new in
-    let t = tree_of b root in
+    → node ≡ key_node_text (new_node place.at stamp above.security name) → IsAdded version place.at above node old new → IsBytes (spelled 0 new)
+    → IsStepMade h new root version place.bulk (make_key parent name)
+is_made old new root version bulk h parent name place above stamp node is view r e added bytes =
+    let t = tree_of (look_up version old) root in
     let u = made_tree parent name t in
     let text = node_is old root version parent name place above stamp node r e in
     let a : IsAdded version place.at above (key_node_text (new_node place.at r.node.stamp r.node.security name)) old new = subst (λ (z : List ℕ). IsAdded version place.at above z old new) text added in
     let deep = r.try.deep in
     let d = key_done version old new root t u parent r.path place.at r.there r.node above name r.parent_is r.says r.may r.few a (step_made parent name t r.there r.try) r.absent r.at r.try.found (omega (arith, deep)) in
-    let within : nat_lt most_bulk (bulk_of version u) ≡ false = le-ltb most_bulk (bulk_of version u) (subst (λ (z : ℕ). z ≤ 16773120) r.bulk r.fits) in
-    let edit : edited version t (make_key parent name ∷ []) ≡ the_tree u = edit_made version parent name t r.there r.try ∙ ap (λ (v : Bool). cond v (Err full) (the_tree u)) within in
-    let valid = edited_valid version t u (make_key parent name ∷ []) is.valid (All-cons Fits (make_key parent name) [] tt (All-nil Fits)) edit in
-    let tree : tree_of c root ≡ u = tree_is c root u d.stands in
-    record {
-      hive = hive_opened new new root version place.bulk u refl d.stands valid r.bulk;
-      made = subst (λ (g : HiveCells). IsMade g parent name (hive_of new root version)) view (record {
-        edit = edit ∙ sym (ap the_tree tree);
-        version = refl;
-        kept = record {
-          kept = λ o q held outside. payload_held new o q (d.leaves.rest o q (held_payload old o q held)
-              (λ i. outside (Contains-append_left (step_cells b root t (make_key parent name)) (unless_refused [] (after_step (make_key parent name) t) (λ z. [])) o i)));
-          root = refl;
-          long =
-              let one = a.put.least in
-              let two = a.linked.lists.kept_long in
-              let three = a.linked.fields.long in
-              let four = a.linked.counted.long in
-              omega (arith, one, two, three, four);
-        };
-      });
-    }
+    let many = children_more version place.at above added.child added.mid (linkable old added.mid root version parent name place above stamp node added.child r e added.put) in
+    let room : room_of (list_sizes (length (above_children version above added.child added.mid))) ≡ room_of (list_sizes (above.count + 1)) = ap (λ (n : ℕ). room_of (list_sizes n)) many in
+    let n = needed_room old root version parent name place above stamp node r e in
+    let one = added.put.least in
+    let two = added.linked.lists.kept_long in
+    let three = added.linked.fields.long in
+    let four = added.linked.counted.long in
+    let five = added.put.long in
+    let six = added.linked.lists.long in
+    stepped old new root version bulk place.bulk h u (make_key parent name) is view (step_made parent name t r.there r.try) d bytes r.bulk
+    (omega (arith, one, two, three, four)) (omega (arith, n, room, three, four, five, six))
 
 -- ---- nothing is made
 
-pub record IsNoneMade (h : HiveCells) (new : List Bin) (root : ℕ) (version : HiveVersion) (bulk : ℕ) : Type 0 where
-  pub hive : IsHive new root version bulk
-  pub unmade : IsUnmade h (hive_of new root version)
-
-pub is_unmade : (old new : List Bin) (root : ℕ) (version : HiveVersion) (bulk : ℕ) (h : HiveCells) → IsHive old root version bulk → hive_of old root version ≡ h
-    → ((o : ℕ) → held_at new o ≡ held_at old o) → bins_size old ≤ bins_size new → IsNoneMade h new root version bulk
-is_unmade old new root version bulk h is view held long =
+-- the hive is one as before
+pub is_unmade : (old new : List Bin) (root : ℕ) (version : HiveVersion) (bulk : ℕ) → IsHive old root version bulk
+    → ((o : ℕ) → held_at new o ≡ held_at old o) → IsHive new root version bulk
+is_unmade old new root version bulk is held =
     let b = look_up version old in
     let c = look_up version new in
     let t = tree_of b root in
     let well = kept_well b c root t is.stands (record { version = refl; held = λ o q e. held_payload new o q (held o ∙ payload_held old o q e) }) in
-    record {
-      hive = hive_opened new new root version bulk t refl well is.valid is.counted;
-      unmade = subst (λ (g : HiveCells). IsUnmade g (hive_of new root version)) view (record {
-        tree = tree_is c root t well;
-        root = refl;
-        version = refl;
-        held = held;
-        long = long;
-      });
-    }
+    hive_opened new new root version bulk t refl well is.valid is.counted
 
 -- ---- what a node says
 
@@ -271,7 +289,7 @@ pub at_there : (bins heap : List Bin) (root : ℕ) (version : HiveVersion) (bulk
     → IsHive bins root version bulk → hive_of bins root version ≡ h → heap ≡ bins → MayMake h parent name place → IsKeyAt (look_up version heap) place.at
 at_there bins heap root version bulk h parent name place is view same may_make =
     let m : MayMake (hive_of bins root version) parent name place = subst (λ (g : HiveCells). MayMake g parent name place) (sym view) may_make in
-    let there = key_there (look_up version bins) parent root (tree_of (look_up version bins) root) place.at is.stands m.at in
+    let there = key_there (look_up version bins) parent root (tree_of (look_up version bins) root) place.at is.stands m.open_at.place in
     subst (λ (z : List Bin). IsKeyAt (look_up version z) place.at) (sym same) (there.there, there.well)
 
 pub addable : (bins : List Bin) (root : ℕ) (version : HiveVersion) (parent : List (List ℕ)) (name : List ℕ) (place : NewPlace) (above : Above) (stamp : ℕ) (node : List ℕ)
@@ -286,25 +304,3 @@ addable bins root version parent name place above stamp node r e = record {
       omega (arith, l, m, s);
   linkable = λ child new put. linkable bins new root version parent name place above stamp node child r e put;
 }
-
--- ---- a hive as it is
-
-pub unmade_itself : (h : HiveCells) → IsUnmade h h
-unmade_itself h = record { tree = refl; root = refl; version = refl; held = λ o. refl; long = omega arith }
-
-pub kept_itself : (h : HiveCells) (steps : List Step) → IsEditedInPlace h steps h
-kept_itself h steps = record { kept = λ o p held outside. held; root = refl; long = omega arith }
-
--- by a flag
-pub if_done : (A B : Type 0) (d : Bool) → d ≡ true → MatchBool d A B → A
-if_done A B true e h = h
-if_done A B false e h = absurd cc
-
-pub if_undone : (A B : Type 0) (d : Bool) → d ≡ false → MatchBool d A B → B
-if_undone A B true e h = absurd cc
-if_undone A B false e h = h
-
--- what holds anyway holds where there is an error
-pub on_err_of : {X E : Type 0} (r : Result X E) (P : Type 0) → P → OnErr r P
-on_err_of (Ok x) P p = tt
-on_err_of (Err e) P p = p

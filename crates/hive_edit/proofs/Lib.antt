@@ -40,3 +40,5 @@ pub mod RemovedLemmas
 pub mod PairLemmas
 pub mod DeletingLemmas
 pub mod DeleteLemmas
+pub mod LowLemmas
+pub mod SteppedLemmas

@@ -169,7 +169,8 @@ adds_value version old new x place count list v run can c_is l_is e room fit is 
     fresh = λ o i. unheld o (let u = used.within o i in r.put.fresh o u.0 (omega (arith, u.1, long)));
     once = used.once;
   };
-  long = omega (arith, r.long, r.put.least);
+  least = omega (arith, r.long, r.put.least);
+  long = subst (λ (m : ℕ). bins_size new ≤ bins_size old + new_bin_size m) (long ∙ ap (λ (k : ℕ). added_size version k v) c_is) (omega (arith, r.long, r.put.long));
 }
   where
     b : Cells

@@ -5,7 +5,7 @@ use Rattle.std.specs.Option.{is_none, option_and_then, option_map_or}
 use Rattle.std.proofs.lemmas.Bool.{ltb-false, ltb-true, le-ltb, lt-ltb, ne_eqb, eqb-true, eqb-false}
 use Rattle.nt_bytes.specs.declared.fault.HiveKind.{HiveKind}
 use Rattle.nt_bytes.specs.declared.version.HiveVersion.{HiveVersion}
-use Rattle.hive_model.specs.Bins.{Bin, Cells, bins_size, look_up}
+use Rattle.hive_model.specs.Bins.{Bin, Cells, bins_size, look_up, spelled}
 use Rattle.hive_model.specs.Forms.{◌>>=◌}
 use Rattle.hive_model.specs.KeyNode.{KeyNode, key_node_at}
 use Rattle.hive_model.specs.Lists.{offsets_in}
@@ -15,9 +15,10 @@ use Rattle.hive_model.specs.Tree.{key as tree_key}
 use Rattle.hive_model.specs.Edit.{set_value, Refusal, no_key, name_too_long, data_too_long, full, unless, then_edit, with_item, of_items, has_item, after_step, after_steps, most_bulk, edited}
 use Rattle.hive_model.specs.Packed.{rounded}
 use Rattle.hive_model.specs.Walk.{reading}
-use Rattle.hive_model.specs.Footprint.{of_read, key_place, value_list_sizes, item_sizes, strain_of}
+use Rattle.hive_model.specs.Footprint.{of_read, key_place, value_list_sizes, item_sizes, needed_sizes, room_of, strain_of}
 use Rattle.hive_model.specs.Stands.{Stands, IsWellFormed, items_at, values_of}
 use Rattle.hive_cells.specs.Holes.{new_bin_size}
+use Rattle.hive_read.proofs.FormFacts.{IsBytes}
 use Rattle.edit_laws.specs.Owned.{In, value_list_at}
 use Rattle.edit_laws.specs.Owned.{value_places as owned_places}
 use Rattle.edit_laws.specs.Done.{item}
@@ -28,25 +29,27 @@ use Rattle.edit_laws.proofs.Out.{placed_at}
 use Rattle.edit_laws.proofs.Patch.{folds_itself}
 use Rattle.edit_laws.proofs.ChangedValues.{values_apart}
 use Rattle.edit_laws.proofs.ItemSizes.{added_size as added_items}
-use Rattle.edit_laws.proofs.RoomLemmas.{some_all, no_room, found_changed, set_needs, item_total}
+use Rattle.edit_laws.proofs.RoomLemmas.{room_for, found_changed, set_needs, item_total}
 use Rattle.edit_laws.proofs.Sizes.{revalued_size}
 use Rattle.edit_laws.proofs.ValueCells.{value_added}
 use Rattle.reg_tree.specs.declared.stop.EditStop.{EditStop}
 use Rattle.reg_tree.specs.Makes.{Makes}
 use Rattle.hive_edit.specs.Edits.{IsPackedAnew, IsPackedForRoom}
 use Rattle.hive_edit.specs.Given.{place_in}
-use Rattle.hive_edit.specs.Gone.{list_room, HasOffsets, TellsBulk}
+use Rattle.hive_edit.specs.Gone.{list_room, HasOffsets}
 use Rattle.hive_edit.specs.Hive.{HiveCells, cells_in, hive_of, IsHive}
 use Rattle.hive_edit.specs.NewValue.{added_size, CanAdd, IsNewIn, LacksRoomForValue, NeverSets, PutsValue, set_tree}
-use Rattle.hive_edit.specs.Places.{value_place, value_places}
+use Rattle.hive_edit.specs.Places.{IsKeyAt, value_place, value_places}
 use Rattle.hive_edit.specs.Standing.{tree_of}
-use Rattle.hive_edit.proofs.EditLemmas.{set_edited, made, the_tree}
+use Rattle.hive_edit.specs.Stepped.{LacksStepRoom}
+use Rattle.hive_edit.proofs.EditLemmas.{made, the_tree}
 use Rattle.hive_edit.proofs.GoneLemmas.{list_facts}
 use Rattle.hive_edit.proofs.InPlaceLemmas.{places_same}
 use Rattle.hive_edit.proofs.PlaceLemmas.{key_there, no_place, items_stand}
 use Rattle.hive_edit.proofs.ResultLemmas.{done, some, ok_same, then_so}
-use Rattle.hive_edit.proofs.StepLemmas.{IsStepDone, step_done}
-use Rattle.hive_edit.proofs.UnsetLemmas.{held_offsets, items_length, sized, none_named, room_less}
+use Rattle.hive_edit.proofs.LowLemmas.{items_length, bulk_is, bulk_then}
+use Rattle.hive_edit.proofs.SteppedLemmas.{IsStepMade, stepped, lacks_room}
+use Rattle.hive_edit.proofs.UnsetLemmas.{held_offsets, sized, none_named}
 
 -- ---- the values of a key
 
@@ -133,19 +136,16 @@ values_many version bins x k well can =
 
 -- ---- the edit
 
--- it is refused for the bulk alone
-pub record EditNew (version : HiveVersion) (t : Tree) (path : List (List ℕ)) (name : List ℕ) (kind : ℕ) (bytes : List ℕ) : Type 0 where
-  pub absent : has_item path name t ≡ false
-  pub step : after_step (set_value path name kind bytes) t ≡ the_tree (set_tree path name kind bytes t)
-  pub edit : edited version t (set_value path name kind bytes ∷ [])
-      ≡ cond (nat_lt most_bulk (bulk_of version (set_tree path name kind bytes t))) (Err full) (Ok (set_tree path name kind bytes t))
+-- it is made
+record EditNew (t : Tree) (path : List (List ℕ)) (name : List ℕ) (kind : ℕ) (bytes : List ℕ) : Type 0 where
+  absent : has_item path name t ≡ false
+  step : after_step (set_value path name kind bytes) t ≡ the_tree (set_tree path name kind bytes t)
 
-edit_new : (version : HiveVersion) (t k : Tree) (path : List (List ℕ)) (name : List ℕ) (kind : ℕ) (bytes : List ℕ) → find_key path t ≡ some k → find_item name k ≡ None
-    → length name ≤ 16383 → length bytes ≤ 1048576 → EditNew version t path name kind bytes
-edit_new version t k path name kind bytes found none short few = record {
+edit_new : (t k : Tree) (path : List (List ℕ)) (name : List ℕ) (kind : ℕ) (bytes : List ℕ) → find_key path t ≡ some k → find_item name k ≡ None
+    → length name ≤ 16383 → length bytes ≤ 1048576 → EditNew t path name kind bytes
+edit_new t k path name kind bytes found none short few = record {
   absent = ap (λ (o : Option Tree). option_map_or (λ k. is_some (find_item name k)) o false) found ∙ ap (λ (o : Option Item). is_some o) none;
   step = made path name kind bytes t (ap is_none found) (le-ltb 16383 (length name) short) (le-ltb 1048576 (length bytes) few);
-  edit = set_edited version t k path name kind bytes found short few;
 }
 
 -- what an edit that is made tells of the key and the name
@@ -168,16 +168,6 @@ set_made version t u path name kind bytes e = go (is_none (find_key path t)) (na
 
 -- ---- the bulk
 
-sum_more : (s u r m : ℕ) → u + r ≡ s + m → r ≤ m → m ≤ 68719476736
-    → (r ≤ min (min (32 + s) 18446744073709551615 + m) 18446744073709551615)
-    × TellsBulk (min (min (32 + s) 18446744073709551615 + m) 18446744073709551615 - r) (min (32 + u) 18446744073709551615)
-sum_more s u r m e le few = (omega (arith, e, le, few), go (nat_lt 18446744073709551615 (32 + s + m)) refl)
-  where
-    go : (b : Bool) → nat_lt 18446744073709551615 (32 + s + m) ≡ b
-        → TellsBulk (min (min (32 + s) 18446744073709551615 + m) 18446744073709551615 - r) (min (32 + u) 18446744073709551615)
-    go true t = let l = ltb-true 18446744073709551615 (32 + s + m) t in inr (omega (arith, e, le, few, l), omega (arith, e, le, few, l))
-    go false t = let l = ltb-false 18446744073709551615 (32 + s + m) t in inl (omega (arith, e, le, few, l))
-
 size_more : (version : HiveVersion) (t k : Tree) (path : List (List ℕ)) (name : List ℕ) (kind : ℕ) (bytes : List ℕ) → find_key path t ≡ some k → find_item name k ≡ None
     → size version [] (set_tree path name kind bytes t) + list_room (length (head k).values)
     ≡ size version [] t + added_size version (length (head k).values) (item name kind bytes)
@@ -189,16 +179,6 @@ size_more version t k path name kind bytes found none =
   where
     sum : (x y i j r q c v : ℕ) → x + i ≡ y + j → i ≡ r + q → j ≡ c + q + v → x + r ≡ y + (c + v)
     sum x y i j r q c v e f g = omega (arith, e, f, g)
-
-less_room : (n : ℕ) → list_room n ≤ cell (4 * suc n)
-less_room n =
-    let one : suc n - 1 ≡ n = omega arith in
-    let some_list : list_room (suc n) ≡ cell (4 * suc n) = ap (λ (b : Bool). cond b 0 (cell (4 * suc n))) (ne_eqb (suc n) 0 (λ e. omega (arith, e))) in
-    let less = subst (λ (k : ℕ). list_room k ≤ list_room (suc n)) one (room_less (suc n)) in
-    below (list_room n) (list_room (suc n)) (cell (4 * suc n)) less some_list
-  where
-    below : (x y z : ℕ) → x ≤ y → y ≡ z → x ≤ z
-    below x y z l e = omega (arith, l, e)
 
 -- ---- the hive
 
@@ -226,11 +206,11 @@ hive_can_add bins root version bulk h path name x is view new =
 
 -- the bulk with it
 pub new_bulk : (bins : List Bin) (root : ℕ) (version : HiveVersion) (bulk : ℕ) (h : HiveCells) (path : List (List ℕ)) (name : List ℕ) (x kind : ℕ) (bytes : List ℕ) (count more less : ℕ)
-    → IsHive bins root version bulk → hive_of bins root version ≡ h → IsNewIn h path name x
+    → IsHive bins root version bulk → hive_of bins root version ≡ h → IsNewIn h path name x → bins_size bins ≤ 16777216
     → ((n : KeyNode) → reading key_node_at (look_up version bins) x ≡ done n → count ≡ n.value_count)
     → more ≡ added_size version count (item name kind bytes) → more ≤ 68719476736 → less ≡ list_room count
-    → (less ≤ min (bulk + more) 18446744073709551615) × TellsBulk (min (bulk + more) 18446744073709551615 - less) (bulk_of h.version (set_tree path name kind bytes h.tree))
-new_bulk bins root version bulk h path name x kind bytes count more less is view new counts m few l =
+    → (less ≤ bulk + more) × (bulk + more - less ≡ bulk_of h.version (set_tree path name kind bytes h.tree))
+new_bulk bins root version bulk h path name x kind bytes count more less is view new fit counts m few l =
     let b = look_up version bins in
     let t = tree_of b root in
     let n = new_there bins root version bulk h path name x is view new in
@@ -242,50 +222,17 @@ new_bulk bins root version bulk h path name x kind bytes count more less is view
     ap (λ (r : ℕ). u + r) (l ∙ ap list_room counted)
     ∙ size_more version t n.key path name kind bytes n.found n.none
     ∙ ap (λ (r : ℕ). s + r) (sym (m ∙ ap (λ (k : ℕ). added_size version k (item name kind bytes)) counted)) in
-    let less_is : less ≤ more = within less more (list_room count) (cell (4 * suc count)) (item_size version (item name kind bytes)) l m (less_room count) in
-    let d = sum_more s u less more e less_is few in
-    let told = subst (λ (k : ℕ). (less ≤ min (k + more) 18446744073709551615) × TellsBulk (min (k + more) 18446744073709551615 - less) (bulk_of version (set_tree path name kind bytes t)))
-    (sym is.counted) d in
-    (told.0, subst (λ (g : HiveCells). TellsBulk (min (bulk + more) 18446744073709551615 - less) (bulk_of g.version (set_tree path name kind bytes g.tree))) view told.1)
-  where
-    within : (a b r c v : ℕ) → a ≡ r → b ≡ c + v → r ≤ c → a ≤ b
-    within a b r c v e f g = omega (arith, e, f, g)
+    let d = bulk_then version t (set_tree path name kind bytes t) bulk more less (bulk_is bins root version bulk is fit) e few in
+    (d.0, subst (λ (g : HiveCells). bulk + more - less ≡ bulk_of g.version (set_tree path name kind bytes g.tree)) view d.1)
 
-abbrev refused : Refusal → Result Tree Refusal
-refused why = Err why
-
--- over the greatest bulk the edit is refused
-pub new_full : (bins : List Bin) (root : ℕ) (version : HiveVersion) (bulk after : ℕ) (h : HiveCells) (path : List (List ℕ)) (name : List ℕ) (x kind : ℕ) (bytes : List ℕ)
+pub new_step : (bins : List Bin) (root : ℕ) (version : HiveVersion) (bulk : ℕ) (h : HiveCells) (path : List (List ℕ)) (name : List ℕ) (x kind : ℕ) (bytes : List ℕ)
     → IsHive bins root version bulk → hive_of bins root version ≡ h → IsNewIn h path name x → length bytes ≤ 1048576
-    → TellsBulk after (bulk_of h.version (set_tree path name kind bytes h.tree)) → 16773120 < after → edited h.version h.tree (set_value path name kind bytes ∷ []) ≡ refused full
-new_full bins root version bulk after h path name x kind bytes is view new few tells big =
+    → after_step (set_value path name kind bytes) h.tree ≡ the_tree (set_tree path name kind bytes h.tree)
+new_step bins root version bulk h path name x kind bytes is view new few =
     let t = tree_of (look_up version bins) root in
-    let u = set_tree path name kind bytes t in
     let n = new_there bins root version bulk h path name x is view new in
-    let d = edit_new version t n.key path name kind bytes n.found n.none n.short few in
-    let told = subst (λ (g : HiveCells). TellsBulk after (bulk_of g.version (set_tree path name kind bytes g.tree))) (sym view) tells in
-    let more : 16773120 < bulk_of version u = ⊎_elim (λ (s : after ≡ bulk_of version u). subst (λ (m : ℕ). 16773120 < m) s big) (λ p. p.1) told in
-    subst (λ (g : HiveCells). edited g.version g.tree (set_value path name kind bytes ∷ []) ≡ refused full) view
-    (d.edit ∙ ap (λ (q : Bool). cond q (Err full) (Ok u)) (lt-ltb most_bulk (bulk_of version u) more))
-
--- where the value was put
-pub new_set : (old new : List Bin) (root : ℕ) (version : HiveVersion) (bulk after : ℕ) (h : HiveCells) (path : List (List ℕ)) (name : List ℕ) (x kind : ℕ) (bytes : List ℕ)
-    → IsHive old root version bulk → hive_of old root version ≡ h → IsNewIn h path name x → length bytes ≤ 1048576
-    → TellsBulk after (bulk_of h.version (set_tree path name kind bytes h.tree)) → after ≤ 16773120 → PutsValue version old new x (item name kind bytes)
-    → IsStepDone h new root version after (set_value path name kind bytes)
-new_set old new root version bulk after h path name x kind bytes is view isnew few tells room put =
-    let b = look_up version old in
-    let c = look_up version new in
-    let t = tree_of b root in
-    let u = set_tree path name kind bytes t in
-    let n = new_there old root version bulk h path name x is view isnew in
-    let d = edit_new version t n.key path name kind bytes n.found n.none n.short few in
-    let told = subst (λ (g : HiveCells). TellsBulk after (bulk_of g.version (set_tree path name kind bytes g.tree))) (sym view) tells in
-    let counted : after ≡ bulk_of version u = ⊎_elim (λ (s : after ≡ bulk_of version u). s) (λ p. absurd (let l = p.0 in omega (arith, l, room))) told in
-    let within : nat_lt most_bulk (bulk_of version u) ≡ false = le-ltb most_bulk (bulk_of version u) (subst (λ (m : ℕ). m ≤ 16773120) counted room) in
-    let made_of = value_added b c root t u path name x put.node is.stands n.place put.read kind bytes put.offsets put.place put.text put.list d.step put.places d.absent put.adds in
-    step_done old new root version bulk after h u (set_value path name kind bytes) is view
-    (d.edit ∙ ap (λ (q : Bool). cond q (Err full) (Ok u)) within) tt made_of counted put.long
+    subst (λ (g : HiveCells). after_step (set_value path name kind bytes) g.tree ≡ the_tree (set_tree path name kind bytes g.tree)) view
+    (edit_new t n.key path name kind bytes n.found n.none n.short few).step
 
 -- ---- no room
 
@@ -320,43 +267,66 @@ values_then name kind bytes (tree_key h ts) none =
 kept_name : (name : List ℕ) (kind : ℕ) (bytes : List ℕ) (w : Tree) → (head (of_items (with_item name kind bytes) w)).name ≡ (head w).name
 kept_name name kind bytes (tree_key h ts) = refl
 
--- where a new bin for the run is not to be had
-pub new_strained : (bins : List Bin) (root : ℕ) (version : HiveVersion) (bulk : ℕ) (h : HiveCells) (path : List (List ℕ)) (name : List ℕ) (x kind : ℕ) (bytes : List ℕ)
-    → IsHive bins root version bulk → hive_of bins root version ≡ h → IsNewIn h path name x → length bytes ≤ 1048576
-    → LacksRoomForValue version bins x (item name kind bytes) → 16777216 < strain_of h.version (bins_size h.bins) h.tree (set_value path name kind bytes ∷ [])
-new_strained bins root version bulk h path name x kind bytes is view isnew few lacks =
-    let b = look_up version bins in
-    let t = tree_of b root in
+-- a new bin for the run is within the room for the cells that the step may need
+run_within : (version : HiveVersion) (t k : Tree) (path : List (List ℕ)) (name : List ℕ) (kind : ℕ) (bytes : List ℕ) (count : ℕ)
+    → find_key path t ≡ some k → find_item name k ≡ None → count ≡ length (head k).values
+    → new_bin_size (added_size version count (item name kind bytes)) ≤ room_of (needed_sizes version t (set_value path name kind bytes) (set_tree path name kind bytes t))
+run_within version t old path name kind bytes count found none counted =
     let u = set_tree path name kind bytes t in
     let v = item name kind bytes in
-    let step = set_value path name kind bytes in
-    let n = new_there bins root version bulk h path name x is view isnew in
-    let can = can_add version bins root t path x is.stands n.place in
-    let d = edit_new version t n.key path name kind bytes n.found n.none n.short few in
-    let after = values_then name kind bytes n.key n.none in
-    let k = of_items (with_item name kind bytes) n.key in
-    let found : find_key path u ≡ Some k = found_changed (of_items (with_item name kind bytes)) path t n.key (kept_name name kind bytes) n.found in
-    let node : lacks.node ≡ can.node = ok_same lacks.node can.node (sym lacks.read ∙ can.read) in
-    let counted : lacks.node.value_count ≡ length (head n.key).values = ap (λ (m : KeyNode). m.value_count) node ∙ values_many version bins x n.key n.well can in
-    let many = length (head n.key).values in
+    let after = values_then name kind bytes old none in
+    let k = of_items (with_item name kind bytes) old in
+    let there : find_key path u ≡ Some k = found_changed (of_items (with_item name kind bytes)) path t old (kept_name name kind bytes) found in
+    let many = length (head old).values in
     let asked = cell (4 * suc many) ∷ item_sizes version v in
     let list : value_list_sizes (length (head k).values) ≡ cell (4 * suc many) ∷ [] =
     ap value_list_sizes after.many ∙ ap (λ (q : Bool). cond q [] (cell (4 * suc many) ∷ [])) (ne_eqb (suc many) 0 (λ e. omega (arith, e))) in
-    let needs = set_needs version t u k path name kind bytes v found after.found ∙ ap (λ (l : List ℕ). l ++ item_sizes version v) list in
+    let needs = set_needs version t u k path name kind bytes v there after.found ∙ ap (λ (l : List ℕ). l ++ item_sizes version v) list in
     let all : total asked ≡ added_size version many v = ap (λ (m : ℕ). cell (4 * suc many) + m) (item_total version v) in
-    let over : 16777216 < bins_size bins + rounded (total asked + 32) =
-    subst (λ (m : ℕ). 16777216 < bins_size bins + rounded (m + 32)) (sym all)
-    (subst (λ (m : ℕ). 16777216 < bins_size bins + new_bin_size (added_size version m v)) counted lacks.full) in
-    subst (λ (g : HiveCells). 16777216 < strain_of g.version (bins_size g.bins) g.tree (step ∷ [])) view
-    (no_room version (bins_size bins) 16777216 t u step [] asked d.step
-    (subst (Rattle.edit_laws.specs.Sizes.AreSome asked) (sym needs) (some_all asked)) (omega (arith, all)) over)
+    let r = room_for asked (omega (arith, all)) in
+    let n : room_of (needed_sizes version t (set_value path name kind bytes) u) ≡ room_of asked = ap room_of needs in
+    let e : rounded (total asked + 32) ≡ new_bin_size (added_size version count v) = ap (λ (m : ℕ). rounded (m + 32)) (all ∙ ap (λ (m : ℕ). added_size version m v) (sym counted)) in
+    within (rounded (total asked + 32)) (room_of asked) (room_of (needed_sizes version t (set_value path name kind bytes) u)) (new_bin_size (added_size version count v)) r n e
+  where
+    within : (a b c d : ℕ) → a ≤ b → c ≡ b → a ≡ d → d ≤ c
+    within a b c d e f g = omega (arith, e, f, g)
 
--- an edit that packs the tree anew does so for want of room, where the strain of each edit that is made is over the limit
-pub packed_for_room : (h new : HiveCells) (step : Rattle.hive_model.specs.Edit.Step) (r : Result (Unit {0}) EditStop) (P : Type 0) → Makes h.tree new.tree r (edited h.version h.tree (step ∷ []))
-    → OnOk r (IsPackedAnew new) → ((u : Tree) → edited h.version h.tree (step ∷ []) ≡ the_tree u → 16777216 < strain_of h.version (bins_size h.bins) h.tree (step ∷ []))
-    → OnOk r (P ⊎ IsPackedForRoom h (step ∷ []) new)
-packed_for_room h new step (Ok x) P made anew strained = inr (record { packed = anew; strained = strained new.tree made })
-packed_for_room h new step (Err stop) P made anew strained = tt
+-- where the value was put
+pub new_set : (old new : List Bin) (root : ℕ) (version : HiveVersion) (bulk after : ℕ) (h : HiveCells) (path : List (List ℕ)) (name : List ℕ) (x kind : ℕ) (bytes : List ℕ)
+    → IsHive old root version bulk → hive_of old root version ≡ h → IsNewIn h path name x → length bytes ≤ 1048576
+    → after ≡ bulk_of h.version (set_tree path name kind bytes h.tree) → IsBytes (spelled 0 new) → PutsValue version old new x (item name kind bytes)
+    → IsStepMade h new root version after (set_value path name kind bytes)
+new_set old new root version bulk after h path name x kind bytes is view isnew few counted small put =
+    let b = look_up version old in
+    let c = look_up version new in
+    let t = tree_of b root in
+    let u = set_tree path name kind bytes t in
+    let n = new_there old root version bulk h path name x is view isnew in
+    let can = can_add version old root t path x is.stands n.place in
+    let d = edit_new t n.key path name kind bytes n.found n.none n.short few in
+    let told : after ≡ bulk_of version u = subst (λ (g : HiveCells). after ≡ bulk_of g.version (set_tree path name kind bytes g.tree)) (sym view) counted in
+    let made_of = value_added b c root t u path name x put.node is.stands n.place put.read kind bytes put.offsets put.place put.text put.list d.step put.places d.absent put.adds in
+    let node : put.node ≡ can.node = ok_same put.node can.node (sym put.read ∙ can.read) in
+    let many : put.node.value_count ≡ length (head n.key).values = ap (λ (m : KeyNode). m.value_count) node ∙ values_many version old x n.key n.well can in
+    let r = run_within version t n.key path name kind bytes put.node.value_count n.found n.none many in
+    let l = put.long in
+    stepped old new root version bulk after h u (set_value path name kind bytes) is view d.step made_of small told put.least (omega (arith, l, r))
+
+-- where a new bin for the run is not to be had
+pub new_lacks : (bins : List Bin) (root : ℕ) (version : HiveVersion) (bulk : ℕ) (h : HiveCells) (path : List (List ℕ)) (name : List ℕ) (x kind : ℕ) (bytes : List ℕ)
+    → IsHive bins root version bulk → hive_of bins root version ≡ h → IsNewIn h path name x → length bytes ≤ 1048576
+    → LacksRoomForValue version bins x (item name kind bytes) → LacksStepRoom h (set_value path name kind bytes)
+new_lacks bins root version bulk h path name x kind bytes is view isnew few lacks =
+    let b = look_up version bins in
+    let t = tree_of b root in
+    let n = new_there bins root version bulk h path name x is view isnew in
+    let can = can_add version bins root t path x is.stands n.place in
+    let d = edit_new t n.key path name kind bytes n.found n.none n.short few in
+    let node : lacks.node ≡ can.node = ok_same lacks.node can.node (sym lacks.read ∙ can.read) in
+    let many : lacks.node.value_count ≡ length (head n.key).values = ap (λ (m : KeyNode). m.value_count) node ∙ values_many version bins x n.key n.well can in
+    let r = run_within version t n.key path name kind bytes lacks.node.value_count n.found n.none many in
+    let over = lacks.full in
+    lacks_room bins root version h (set_tree path name kind bytes t) (set_value path name kind bytes) view d.step (omega (arith, over, r))
 
 -- a value of the name is there, or there is none
 pub by_place : (o : Option ℕ) (P : Type 0) → ((at : ℕ) → o ≡ some at → P) → (o ≡ None → P) → P
@@ -400,3 +370,65 @@ pub value_named_there : (bins heap : List Bin) (root : ℕ) (version : HiveVersi
 value_named_there bins heap root version h path name x v e view k n =
     sym (n ∙ ap (option_and_then (value_place (look_up version heap) name)) k
     ∙ ap (λ (bs : List Bin). place_in (look_up version bs) path name root) e ∙ ap (λ (g : HiveCells). place_in (cells_in g) path name g.root) view)
+
+-- ---- why a value is not set
+
+abbrev refused : Refusal → Result Tree Refusal
+refused why = Err why
+
+abbrev tested : Bool → Bool → Bool → Tree → Result Tree Refusal
+tested a b c u = unless ((a, no_key) ∷ (b, name_too_long) ∷ (c, data_too_long) ∷ []) u
+
+pub sets_nowhere : (bins heap : List Bin) (root : ℕ) (version : HiveVersion) (bulk : ℕ) (h : HiveCells) (path : List (List ℕ)) (name : List ℕ) (kind : ℕ) (bytes : List ℕ)
+    → IsHive bins root version bulk → heap ≡ bins → hive_of bins root version ≡ h → nowhere ≡ key_place (look_up version heap) path root
+    → after_step (set_value path name kind bytes) h.tree ≡ refused no_key
+sets_nowhere bins heap root version bulk h path name kind bytes is e view none =
+    subst (λ (g : HiveCells). after_step (set_value path name kind bytes) g.tree ≡ refused no_key) view
+    (let b = look_up version bins in
+    let here : key_place b path root ≡ nowhere = sym (none ∙ ap (λ (bs : List Bin). key_place (look_up version bs) path root) e) in
+    let gone = no_place b path root (tree_of b root) is.stands here in
+    ap (λ (q : Bool). tested q (nat_lt 16383 (length name)) (nat_lt 1048576 (length bytes)) (set_tree path name kind bytes (tree_of b root))) (ap is_none gone))
+
+-- a key that is there, seen in the hive
+pub key_seen : (bins heap : List Bin) (root : ℕ) (version : HiveVersion) (h : HiveCells) (path : List (List ℕ)) (x : ℕ) → heap ≡ bins → hive_of bins root version ≡ h
+    → some x ≡ key_place (look_up version heap) path root → key_place (cells_in h) path h.root ≡ some x
+key_seen bins heap root version h path x e view k =
+    sym (k ∙ ap (λ (bs : List Bin). key_place (look_up version bs) path root) e ∙ ap (λ (g : HiveCells). key_place (cells_in g) path g.root) view)
+
+found_there : (bins : List Bin) (root : ℕ) (version : HiveVersion) (bulk : ℕ) (h : HiveCells) (path : List (List ℕ)) (x : ℕ) → IsHive bins root version bulk
+    → hive_of bins root version ≡ h → key_place (cells_in h) path h.root ≡ some x → is_none (find_key path h.tree) ≡ false
+found_there bins root version bulk h path x is view k =
+    subst (λ (g : HiveCells). is_none (find_key path g.tree) ≡ false) view
+    (let here = subst (λ (g : HiveCells). key_place (cells_in g) path g.root ≡ some x) (sym view) k in
+    ap is_none (key_there (look_up version bins) path root (tree_of (look_up version bins) root) x is.stands here).found)
+
+pub sets_long_name : (bins : List Bin) (root : ℕ) (version : HiveVersion) (bulk : ℕ) (h : HiveCells) (path : List (List ℕ)) (name : List ℕ) (x kind : ℕ) (bytes : List ℕ)
+    → IsHive bins root version bulk → hive_of bins root version ≡ h → key_place (cells_in h) path h.root ≡ some x → 16383 < length name
+    → after_step (set_value path name kind bytes) h.tree ≡ refused name_too_long
+sets_long_name bins root version bulk h path name x kind bytes is view k long =
+    λ i. tested (found_there bins root version bulk h path x is view k i) (lt-ltb 16383 (length name) long i) (nat_lt 1048576 (length bytes)) (set_tree path name kind bytes h.tree)
+
+pub sets_long_data : (bins : List Bin) (root : ℕ) (version : HiveVersion) (bulk : ℕ) (h : HiveCells) (path : List (List ℕ)) (name : List ℕ) (x kind : ℕ) (bytes : List ℕ)
+    → IsHive bins root version bulk → hive_of bins root version ≡ h → key_place (cells_in h) path h.root ≡ some x → length name ≤ 16383 → 1048576 < length bytes
+    → after_step (set_value path name kind bytes) h.tree ≡ refused data_too_long
+sets_long_data bins root version bulk h path name x kind bytes is view k short long =
+    λ i. tested (found_there bins root version bulk h path x is view k i) (le-ltb 16383 (length name) short i) (lt-ltb 1048576 (length bytes) long i) (set_tree path name kind bytes h.tree)
+
+-- where the value of a name is in a key
+pub value_seen_in : (bins heap : List Bin) (root : ℕ) (version : HiveVersion) (h : HiveCells) (name : List ℕ) (x : ℕ) → heap ≡ bins → hive_of bins root version ≡ h
+    → value_place (look_up version heap) name x ≡ value_place (cells_in h) name x
+value_seen_in bins heap root version h name x e view =
+    ap (λ (bs : List Bin). value_place (look_up version bs) name x) e ∙ ap (λ (g : HiveCells). value_place (cells_in g) name x) view
+
+-- the key stands in the cells as they are lent
+pub stands_at : (bins heap : List Bin) (root : ℕ) (version : HiveVersion) (bulk : ℕ) (h : HiveCells) (path : List (List ℕ)) (x : ℕ) → IsHive bins root version bulk
+    → heap ≡ bins → hive_of bins root version ≡ h → key_place (cells_in h) path h.root ≡ some x → IsKeyAt (look_up version heap) x
+stands_at bins heap root version bulk h path x is e view k =
+    let here = subst (λ (g : HiveCells). key_place (cells_in g) path g.root ≡ some x) (sym view) k in
+    let there = key_there (look_up version bins) path root (tree_of (look_up version bins) root) x is.stands here in
+    subst (λ (bs : List Bin). IsKeyAt (look_up version bs) x) (sym e) (there.there, there.well)
+
+-- the value is there by its key
+pub placed_in : (h : HiveCells) (path : List (List ℕ)) (name : List ℕ) (x v : ℕ) → key_place (cells_in h) path h.root ≡ some x → some v ≡ value_place (cells_in h) name x
+    → place_in (cells_in h) path name h.root ≡ some v
+placed_in h path name x v k e = ap (option_and_then (value_place (cells_in h) name)) k ∙ sym e

@@ -1,5 +1,5 @@
 -- A value that is there, set in place: the edit, the bulk, and the hive after it.
-use Rattle.std.proofs.Common.{◌≡◌, ◌≤◌, ◌<◌, ◌^◌, ◌⊎◌, inl, inr, ℕ, ◌+◌, Bool, true, false, cond, List, [], ◌∷◌, ◌++◌, length, Option, Some, None, Result, Ok, Err, refl, sym, ap, subst, ◌∙◌, arith}
+use Rattle.std.proofs.Common.{◌≡◌, ◌≤◌, ◌<◌, ◌^◌, ◌⊎◌, inl, inr, ℕ, ◌+◌, ◌-◌, Bool, true, false, cond, List, [], ◌∷◌, ◌++◌, length, Option, Some, None, Result, Ok, Err, refl, sym, ap, subst, ◌∙◌, arith}
 use Rattle.std.specs.Prelude.{nat_lt, min, find}
 use Rattle.std.specs.Result.{IsOk}
 use Rattle.std.specs.Option.{is_none, option_and_then, option_map, IsSome, IsSomeAnd}
@@ -38,15 +38,17 @@ use Rattle.edit_laws.proofs.ValueCells.{data_set}
 use Rattle.hive_edit.specs.Edits.{value_fields}
 use Rattle.hive_edit.specs.Given.{with_fields, place_in, IsGiven}
 use Rattle.hive_edit.specs.Hive.{HiveCells, cells_in, hive_of, IsHive}
+use Rattle.hive_edit.specs.NewValue.{set_tree}
 use Rattle.hive_edit.specs.Places.{value_places, value_place, data_places, data_room, room_for_item, IsItemHere}
 use Rattle.hive_edit.specs.Standing.{tree_of}
 use Rattle.hive_edit.proofs.ResultLemmas.{done, some, some_same, then_so, is_ok_of}
-use Rattle.hive_edit.proofs.EditLemmas.{set_tree, set_edited, made, the_tree}
+use Rattle.hive_edit.proofs.EditLemmas.{made, the_tree}
 use Rattle.hive_edit.proofs.InPlaceLemmas.{found_among, named_folds}
 use Rattle.hive_edit.proofs.ItemLemmas.{item_facts, value_facts}
+use Rattle.hive_edit.proofs.LowLemmas.{bulk_is, bulk_then}
 use Rattle.hive_edit.proofs.PlaceLemmas.{key_there, IsItemAt, place_of_item}
 use Rattle.hive_edit.proofs.SetLemmas.{name_short}
-use Rattle.hive_edit.proofs.StepLemmas.{IsStepDone, step_done, ValueOwn, value_own, places_same, data_held, data_apart}
+use Rattle.hive_edit.proofs.StepLemmas.{ValueOwn, value_own, places_same, data_held, data_apart}
 
 -- ---- where it is
 
@@ -92,43 +94,13 @@ resized version t k path name kind bytes one found there =
     sum : (x y i j c d e : ℕ) → x + i ≡ y + j → j + (c + d) ≡ i + (c + e) → x + d ≡ y + e
     sum x y i j c d e p q = omega (arith, p, q)
 
--- below a far bound the bulk grows by what the data take, less what they took
-bulk_then : (version : HiveVersion) (t k : Tree) (path : List (List ℕ)) (name : List ℕ) (kind : ℕ) (bytes : List ℕ) (one : Item) → find_key path t ≡ some k → find_item name k ≡ some one
-    → bulk_of version t ≤ 1099511627776 → data_size version bytes ≤ 4294967296
-    → bulk_of version (set_tree path name kind bytes t) + data_size version one.bytes ≡ bulk_of version t + data_size version bytes
-bulk_then version t k path name kind bytes one found there low few =
-    sum (size version [] (set_tree path name kind bytes t)) (size version [] t) (data_size version one.bytes) (data_size version bytes)
-    low few (resized version t k path name kind bytes one found there)
-  where
-    sum : (x y d e : ℕ) → min (32 + y) 18446744073709551615 ≤ 1099511627776 → e ≤ 4294967296 → x + d ≡ y + e
-        → min (32 + x) 18446744073709551615 + d ≡ min (32 + y) 18446744073709551615 + e
-    sum x y d e p q r = omega (arith, p, q, r)
-
--- far above the greatest it stays above
-bulk_far : (version : HiveVersion) (t k : Tree) (path : List (List ℕ)) (name : List ℕ) (kind : ℕ) (bytes : List ℕ) (one : Item) → find_key path t ≡ some k → find_item name k ≡ some one
-    → 1099511627776 < bulk_of version t → data_size version one.bytes ≤ 4294967296 → 16773120 < bulk_of version (set_tree path name kind bytes t)
-bulk_far version t k path name kind bytes one found there far few =
-    sum (size version [] (set_tree path name kind bytes t)) (size version [] t) (data_size version one.bytes) (data_size version bytes)
-    far few (resized version t k path name kind bytes one found there)
-  where
-    sum : (x y d e : ℕ) → 1099511627776 < min (32 + y) 18446744073709551615 → d ≤ 4294967296 → x + d ≡ y + e → 16773120 < min (32 + x) 18446744073709551615
-    sum x y d e p q r = omega (arith, p, q, r)
-
 -- ---- the edit
 
--- it is refused for the bulk alone
-pub record EditThere (version : HiveVersion) (t : Tree) (path : List (List ℕ)) (name : List ℕ) (kind : ℕ) (bytes : List ℕ) : Type 0 where
-  pub edit : edited version t (set_value path name kind bytes ∷ []) ≡ cond (nat_lt most_bulk (bulk_of version (set_tree path name kind bytes t))) (Err full) (Ok (set_tree path name kind bytes t))
-  pub step : after_step (set_value path name kind bytes) t ≡ the_tree (set_tree path name kind bytes t)
-
-pub edit_there : (b : Cells) (version : HiveVersion) (root : ℕ) (t : Tree) (path : List (List ℕ)) (name : List ℕ) (kind : ℕ) (bytes : List ℕ) (v : ℕ) → ThereIs b t root path name v
-    → length bytes ≤ 1048576 → EditThere version t path name kind bytes
-edit_there b version root t path name kind bytes v i few =
-    let short = name_short b name i.key v i.value i.named i.read in
-    record {
-      edit = set_edited version t i.tree path name kind bytes i.found short few;
-      step = made path name kind bytes t (ap is_none i.found) (le-ltb 16383 (length name) short) (le-ltb 1048576 (length bytes) few);
-    }
+-- it is made
+pub edit_there : (b : Cells) (root : ℕ) (t : Tree) (path : List (List ℕ)) (name : List ℕ) (kind : ℕ) (bytes : List ℕ) (v : ℕ) → ThereIs b t root path name v
+    → length bytes ≤ 1048576 → after_step (set_value path name kind bytes) t ≡ the_tree (set_tree path name kind bytes t)
+edit_there b root t path name kind bytes v i few =
+    made path name kind bytes t (ap is_none i.found) (le-ltb 16383 (length name) (name_short b name i.key v i.value i.named i.read)) (le-ltb 1048576 (length bytes) few)
 
 -- the value is found in the hive
 pub value_seen : (bins heap : List Bin) (root : ℕ) (version : HiveVersion) (h : HiveCells) (path : List (List ℕ)) (name : List ℕ) → heap ≡ bins → hive_of bins root version ≡ h
@@ -142,51 +114,31 @@ there_in bins root version bulk h path name v is view e =
     there_is (look_up version bins) (tree_of (look_up version bins) root) root path name v is.stands
     (subst (λ (g : HiveCells). place_in (cells_in g) path name g.root ≡ some v) (sym view) e)
 
+pub there_step : (bins : List Bin) (root : ℕ) (version : HiveVersion) (bulk : ℕ) (h : HiveCells) (path : List (List ℕ)) (name : List ℕ) (kind : ℕ) (bytes : List ℕ) (v : ℕ)
+    → IsHive bins root version bulk → hive_of bins root version ≡ h → place_in (cells_in h) path name h.root ≡ some v → length bytes ≤ 1048576
+    → after_step (set_value path name kind bytes) h.tree ≡ the_tree (set_tree path name kind bytes h.tree)
+there_step bins root version bulk h path name kind bytes v is view e few =
+    subst (λ (g : HiveCells). after_step (set_value path name kind bytes) g.tree ≡ the_tree (set_tree path name kind bytes g.tree)) view
+    (edit_there (look_up version bins) root (tree_of (look_up version bins) root) path name kind bytes v (there_in bins root version bulk h path name v is view e) few)
+
 room_is : (b : Cells) (v : ℕ) (one : Item) → item_at b v ≡ done one → data_room b v ≡ data_size b.version one.bytes
 room_is b v one e = ap (room_for_item b.version) e
 
-abbrev refusal : Refusal → Result Tree Refusal
-refusal why = Err why
-
-over : (version : HiveVersion) (t : Tree) (path : List (List ℕ)) (name : List ℕ) (kind : ℕ) (bytes : List ℕ) → EditThere version t path name kind bytes
-    → 16773120 < bulk_of version (set_tree path name kind bytes t) → edited version t (set_value path name kind bytes ∷ []) ≡ refusal full
-over version t path name kind bytes d big =
-    d.edit ∙ ap (λ (q : Bool). cond q (Err full) (Ok (set_tree path name kind bytes t))) (lt-ltb most_bulk (bulk_of version (set_tree path name kind bytes t)) big)
-
--- far over the greatest bulk, or over it
-pub there_far : (bins : List Bin) (root : ℕ) (version : HiveVersion) (bulk : ℕ) (h : HiveCells) (path : List (List ℕ)) (name : List ℕ) (kind : ℕ) (bytes : List ℕ) (v : ℕ)
-    → IsHive bins root version bulk → hive_of bins root version ≡ h → place_in (cells_in h) path name h.root ≡ some v → length bytes ≤ 1048576
-    → 1099511627776 < bulk → data_room (look_up version bins) v ≤ 4294967296 → edited h.version h.tree (set_value path name kind bytes ∷ []) ≡ refusal full
-there_far bins root version bulk h path name kind bytes v is view e few far had =
-    let b = look_up version bins in
-    let t = tree_of b root in
-    let i = there_in bins root version bulk h path name v is view e in
-    let d = edit_there b version root t path name kind bytes v i few in
-    subst (λ (g : HiveCells). edited g.version g.tree (set_value path name kind bytes ∷ []) ≡ refusal full) view
-    (over version t path name kind bytes d
-    (bulk_far version t i.tree path name kind bytes i.one i.found i.there (subst (λ (n : ℕ). 1099511627776 < n) is.counted far) (subst (λ (n : ℕ). n ≤ 4294967296) (room_is b v i.one i.stands) had)))
-
 -- the bulk after the step
-pub there_bulk : (bins : List Bin) (root : ℕ) (version : HiveVersion) (bulk : ℕ) (h : HiveCells) (path : List (List ℕ)) (name : List ℕ) (kind : ℕ) (bytes : List ℕ) (v : ℕ)
-    → IsHive bins root version bulk → hive_of bins root version ≡ h → place_in (cells_in h) path name h.root ≡ some v → bulk ≤ 1099511627776 → data_size version bytes ≤ 4294967296
-    → bulk_of version (set_tree path name kind bytes (tree_of (look_up version bins) root)) + data_room (look_up version bins) v ≡ bulk + data_size version bytes
-there_bulk bins root version bulk h path name kind bytes v is view e low few =
+pub there_bulk : (bins : List Bin) (root : ℕ) (version : HiveVersion) (bulk : ℕ) (h : HiveCells) (path : List (List ℕ)) (name : List ℕ) (kind : ℕ) (bytes : List ℕ) (v has had : ℕ)
+    → IsHive bins root version bulk → hive_of bins root version ≡ h → place_in (cells_in h) path name h.root ≡ some v → bins_size bins ≤ 16777216
+    → has ≡ data_size version bytes → has ≤ 4294967296 → had ≡ data_room (look_up version bins) v
+    → (had ≤ bulk + has) × (bulk + has - had ≡ bulk_of h.version (set_tree path name kind bytes h.tree))
+there_bulk bins root version bulk h path name kind bytes v has had is view e fit new few old =
     let b = look_up version bins in
     let t = tree_of b root in
     let i = there_in bins root version bulk h path name v is view e in
-    ap (λ (n : ℕ). bulk_of version (set_tree path name kind bytes t) + n) (room_is b v i.one i.stands)
-    ∙ bulk_then version t i.tree path name kind bytes i.one i.found i.there (subst (λ (n : ℕ). n ≤ 1099511627776) is.counted low) few
-    ∙ ap (λ (n : ℕ). n + data_size version bytes) (sym is.counted)
-
-pub there_full : (bins : List Bin) (root : ℕ) (version : HiveVersion) (bulk : ℕ) (h : HiveCells) (path : List (List ℕ)) (name : List ℕ) (kind : ℕ) (bytes : List ℕ) (v : ℕ)
-    → IsHive bins root version bulk → hive_of bins root version ≡ h → place_in (cells_in h) path name h.root ≡ some v → length bytes ≤ 1048576
-    → 16773120 < bulk_of version (set_tree path name kind bytes (tree_of (look_up version bins) root)) → edited h.version h.tree (set_value path name kind bytes ∷ []) ≡ refusal full
-there_full bins root version bulk h path name kind bytes v is view e few big =
-    let b = look_up version bins in
-    let t = tree_of b root in
-    let i = there_in bins root version bulk h path name v is view e in
-    subst (λ (g : HiveCells). edited g.version g.tree (set_value path name kind bytes ∷ []) ≡ refusal full) view
-    (over version t path name kind bytes (edit_there b version root t path name kind bytes v i few) big)
+    let room = old ∙ room_is b v i.one i.stands in
+    let s : size version [] (set_tree path name kind bytes t) + had ≡ size version [] t + has =
+    ap (λ (n : ℕ). size version [] (set_tree path name kind bytes t) + n) room
+    ∙ resized version t i.tree path name kind bytes i.one i.found i.there ∙ ap (λ (n : ℕ). size version [] t + n) (sym new) in
+    let d = bulk_then version t (set_tree path name kind bytes t) bulk has had (bulk_is bins root version bulk is fit) s (omega (arith, few)) in
+    (d.0, subst (λ (g : HiveCells). bulk + has - had ≡ bulk_of g.version (set_tree path name kind bytes g.tree)) view d.1)
 
 -- ---- the cells
 
@@ -239,26 +191,24 @@ own_there b root t path name v well i = value_own b root t path name i.key v i.v
 node_read : (cells : Cells) (at : ℕ) (k : Tree) → Stands cells at k → (n : KeyNode) × (reading key_node_at cells at ≡ done n)
 node_read cells at (tree_key g ts) s = (s.1.node, s.1.read)
 
-pub there_set : (old new : List Bin) (root : ℕ) (version : HiveVersion) (bulk bulk_new : ℕ) (h : HiveCells) (path : List (List ℕ)) (name : List ℕ) (kind : ℕ) (bytes : List ℕ) (v : ℕ)
+-- the step is done
+pub there_done : (old new : List Bin) (root : ℕ) (version : HiveVersion) (bulk : ℕ) (h : HiveCells) (path : List (List ℕ)) (name : List ℕ) (kind : ℕ) (bytes : List ℕ) (v : ℕ)
     → IsHive old root version bulk → hive_of old root version ≡ h → place_in (cells_in h) path name h.root ≡ some v → length bytes ≤ 1048576 → kind < 2 ^ 32
-    → bulk_new ≡ bulk_of version (set_tree path name kind bytes (tree_of (look_up version old) root)) → bulk_new ≤ 16773120
-    → IsGiven version v kind bytes (data_places (look_up version old) v) old new → IsStepDone h new root version bulk_new (set_value path name kind bytes)
-there_set old new root version bulk bulk_new h path name kind bytes v is view e few kind_fits counted room g =
+    → IsGiven version v kind bytes (data_places (look_up version old) v) old new
+    → IsDone (look_up version old) (look_up version new) root (tree_of (look_up version old) root) (set_tree path name kind bytes (tree_of (look_up version old) root)) (set_value path name kind bytes)
+there_done old new root version bulk h path name kind bytes v is view e few kind_fits g =
     let b = look_up version old in
     let c = look_up version new in
     let t = tree_of b root in
     let u = set_tree path name kind bytes t in
     let i = there_in old root version bulk h path name v is view e in
-    let d = edit_there b version root t path name kind bytes v i few in
-    let within : nat_lt most_bulk (bulk_of version u) ≡ false = le-ltb most_bulk (bulk_of version u) (subst (λ (n : ℕ). n ≤ 16773120) counted room) in
+    let d = edit_there b root t path name kind bytes v i few in
     let among = found_among (is_value_named b name) (value_places b i.key) v i.named in
     let node = node_read b i.key i.tree i.well.stands in
     let gets = given_gets version v kind bytes old new (own_there b root t path name v is.stands i) g kind_fits in
-    let made_of = data_set b c root t u path name i.key node.0 is.stands i.place node.1 kind bytes among.front among.back v d.step
+    data_set b c root t u path name i.key node.0 is.stands i.place node.1 kind bytes among.front among.back v d
     (places_same b i.key ∙ among.whole)
-    (ap (folds_same name) (name_of_value b v i.value i.read) ∙ named_folds b name v i.value i.read among.passes) gets in
-    step_done old new root version bulk bulk_new h u (set_value path name kind bytes) is view
-    (d.edit ∙ ap (λ (q : Bool). cond q (Err full) (Ok u)) within) tt made_of counted g.least
+    (ap (folds_same name) (name_of_value b v i.value i.read) ∙ named_folds b name v i.value i.read among.passes) gets
 
 -- ---- what is asked on the way
 

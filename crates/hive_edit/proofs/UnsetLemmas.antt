@@ -12,7 +12,7 @@ use Rattle.nt_bytes.specs.declared.fault.HiveKind.TheVariants.{FormLength}
 use Rattle.nt_bytes.specs.declared.version.HiveVersion.{HiveVersion}
 use Rattle.nt_bytes.specs.Fields.{u16_in, u32_in}
 use Rattle.nt_bytes.specs.Folding.{folds_same}
-use Rattle.hive_model.specs.Bins.{Bin, Cells, bins_size, look_up}
+use Rattle.hive_model.specs.Bins.{Bin, Cells, bins_size, look_up, spelled}
 use Rattle.hive_model.specs.Forms.{◌>>=◌, bytes_in}
 use Rattle.hive_model.specs.KeyNode.{KeyNode, key_node_at}
 use Rattle.hive_model.specs.KeyValue.{KeyValue, key_value_at, data_inside, is_in_place}
@@ -27,6 +27,7 @@ use Rattle.hive_model.specs.Footprint.{used_in, key_place, is_value_named, step_
 use Rattle.hive_model.specs.Stands.{Stands, IsWellFormed, big_bytes_at, joined_segments, data_of, item_at, items_at}
 use Rattle.hive_cells.specs.Held.{held_at, patched}
 use Rattle.hive_cells.proofs.HeldLemmas.{held_payload, payload_held}
+use Rattle.hive_read.proofs.FormFacts.{IsBytes}
 use Rattle.edit_laws.specs.Owned.{In, value_list_at}
 use Rattle.edit_laws.specs.Owned.{value_places as owned_places}
 use Rattle.edit_laws.specs.Pairs.{Pairwise}
@@ -58,6 +59,8 @@ use Rattle.hive_edit.proofs.ItemLemmas.{item_facts}
 use Rattle.hive_edit.proofs.HiveLemmas.{hive_opened}
 use Rattle.hive_edit.proofs.InPlaceLemmas.{found_among, listed_values, places_same, value_first, named_folds}
 use Rattle.hive_edit.proofs.EditLemmas.{the_tree}
+use Rattle.hive_edit.proofs.LowLemmas.{items_length, bulk_is}
+use Rattle.hive_edit.proofs.SteppedLemmas.{IsStepMade, stepped}
 use Rattle.hive_edit.proofs.GoneLemmas.{is_held, and_some, at_place, ListFacts, list_facts}
 
 -- ---- the cells of a value's data
@@ -306,40 +309,25 @@ made : (path : List (List ℕ)) (name : List ℕ) (t : Tree) → is_none (find_k
 made path name t a b = λ i. unless ((a i, no_key) ∷ (b i, no_value) ∷ []) (unset_tree path name t)
 
 -- a value that is there is deleted
-pub record UnsetThere (version : HiveVersion) (t : Tree) (path : List (List ℕ)) (name : List ℕ) : Type 0 where
-  pub step : after_step (delete_value path name) t ≡ Ok (unset_tree path name t)
-  pub edit : edited version t (delete_value path name ∷ [])
-      ≡ cond (nat_lt most_bulk (bulk_of version (unset_tree path name t))) (Err full) (Ok (unset_tree path name t))
-
-pub unset_there : (version : HiveVersion) (t k : Tree) (path : List (List ℕ)) (name : List ℕ) (item : Item) → find_key path t ≡ Some k → find_item name k ≡ Some item
-    → UnsetThere version t path name
-unfolding edited
-unset_there version t k path name item found there =
+pub unset_there : (t k : Tree) (path : List (List ℕ)) (name : List ℕ) (item : Item) → find_key path t ≡ Some k → find_item name k ≡ Some item
+    → after_step (delete_value path name) t ≡ Ok (unset_tree path name t)
+unset_there t k path name item found there =
     let has : has_item path name t ≡ true = ap (λ (o : Option Tree). option_map_or (λ k. is_some (find_item name k)) o false) found ∙ ap is_some there in
-    let step = made path name t (ap is_none found) (ap not has) in
-    record {
-      step = step;
-      edit = ap (λ (r : Result Tree Refusal). then_edit (then_edit r (λ u. after_steps u [])) (λ u. cond (nat_lt most_bulk (bulk_of version u)) (Err full) (Ok u))) step;
-    }
+    made path name t (ap is_none found) (ap not has)
 
 abbrev refused : Refusal → Result Tree Refusal
 refused why = Err why
 
-pub no_key_there : (version : HiveVersion) (t : Tree) (path : List (List ℕ)) (name : List ℕ) → find_key path t ≡ None → edited version t (delete_value path name ∷ []) ≡ refused no_key
-unfolding edited
-no_key_there version t path name none =
-    let step : value_deleted path name t ≡ refused no_key = ap (λ (b : Bool). cond b (refused no_key) (unless ((not (has_item path name t), no_value) ∷ []) (unset_tree path name t))) (ap is_none none) in
-    ap (λ (r : Result Tree Refusal). then_edit (then_edit r (λ u. after_steps u [])) (λ u. cond (nat_lt most_bulk (bulk_of version u)) (Err full) (Ok u))) step
+pub no_key_there : (t : Tree) (path : List (List ℕ)) (name : List ℕ) → find_key path t ≡ None → after_step (delete_value path name) t ≡ refused no_key
+no_key_there t path name none =
+    ap (λ (b : Bool). cond b (refused no_key) (unless ((not (has_item path name t), no_value) ∷ []) (unset_tree path name t))) (ap is_none none)
 
-pub no_value_there : (version : HiveVersion) (t k : Tree) (path : List (List ℕ)) (name : List ℕ) → find_key path t ≡ Some k → find_item name k ≡ None
-    → edited version t (delete_value path name ∷ []) ≡ refused no_value
-unfolding edited
-no_value_there version t k path name found none =
+pub no_value_there : (t k : Tree) (path : List (List ℕ)) (name : List ℕ) → find_key path t ≡ Some k → find_item name k ≡ None
+    → after_step (delete_value path name) t ≡ refused no_value
+no_value_there t k path name found none =
     let has : has_item path name t ≡ false = ap (λ (o : Option Tree). option_map_or (λ k. is_some (find_item name k)) o false) found ∙ ap is_some none in
     let key : is_none (find_key path t) ≡ false = ap is_none found in
-    let step : value_deleted path name t ≡ refused no_value =
-    (λ i. unless ((key i, no_key) ∷ (not (has i), no_value) ∷ []) (unset_tree path name t)) in
-    ap (λ (r : Result Tree Refusal). then_edit (then_edit r (λ u. after_steps u [])) (λ u. cond (nat_lt most_bulk (bulk_of version u)) (Err full) (Ok u))) step
+    (λ i. unless ((key i, no_key) ∷ (not (has i), no_value) ∷ []) (unset_tree path name t))
 
 -- ---- the bulk
 
@@ -356,15 +344,6 @@ length_less p (w ∷ vs) v e = go (p w) e (λ d. length_less p vs v d)
         → suc (length (cond b vs (w ∷ without_first p vs))) ≡ length (w ∷ vs)
     go true e deep = omega arith
     go false e deep = let d = deep e in omega (arith, d)
-
-pub items_length : (cells : Cells) (offsets : List ℕ) (vs : List Item) → items_at cells offsets ≡ done vs → length offsets ≡ length vs
-items_length cells [] vs e = ap length (ok_same [] vs e)
-items_length cells (at ∷ offsets) vs e =
-    let one = then_so (item_at cells at) (λ v. items_at cells offsets >>= λ ws. Ok (v ∷ ws)) vs e in
-    let others = then_so (items_at cells offsets) (λ ws. Ok (one.0 ∷ ws)) vs one.2 in
-    let d = items_length cells offsets others.0 others.1 in
-    let l : length (one.0 ∷ others.0) ≡ length vs = ap length (ok_same (one.0 ∷ others.0) vs others.2) in
-    omega (arith, d, l)
 
 sum_up : (s u a b r q own x y : ℕ) → u + a ≡ s + b → y + own ≡ x → a ≡ r + x → b ≡ q + y → u + (r + own) ≡ s + q
 sum_up s u a b r q own x y e f g h = omega (arith, e, f, g, h)
@@ -392,40 +371,6 @@ room_less (suc zero) = below (list_room (1 - 1)) (list_room 1) 0 (cell (4 * 1)) 
 room_less (suc (suc n)) =
     let one : suc (suc n) - 1 ≡ suc n = omega arith in
     below (list_room (suc (suc n) - 1)) (list_room (suc (suc n))) (cell (4 * suc n)) (cell (4 * suc (suc n))) (ap list_room one ∙ list_room_some n) (list_room_some (suc n)) (omega arith)
-
--- what is known of the value that is to go, and of its sizes
-pub record BulkLess (version : HiveVersion) (t : Tree) (path : List (List ℕ)) (name : List ℕ) (bulk less : ℕ) : Type 0 where
-  pub within : less ≤ bulk
-  pub tells : TellsBulk (bulk - less) (bulk_of version (unset_tree path name t))
-
-sum_less : (s u r q own : ℕ) → u + (r + own) ≡ s + q → q ≤ r → own ≤ 8590065664 → r ≤ 68719476736
-    → (r + own - q ≤ min (32 + s) 18446744073709551615) × TellsBulk (min (32 + s) 18446744073709551615 - (r + own - q)) (min (32 + u) 18446744073709551615)
-sum_less s u r q own e le few room = (omega (arith, e), go (nat_lt 18446744073709551615 (32 + s)) refl)
-  where
-    go : (b : Bool) → nat_lt 18446744073709551615 (32 + s) ≡ b → TellsBulk (min (32 + s) 18446744073709551615 - (r + own - q)) (min (32 + u) 18446744073709551615)
-    go true t = let l = Rattle.std.proofs.lemmas.Bool.ltb-true 18446744073709551615 (32 + s) t in inr (omega (arith, e, l), omega (arith, e, l))
-    go false t = let l = Rattle.std.proofs.lemmas.Bool.ltb-false 18446744073709551615 (32 + s) t in inl (omega (arith, e, l))
-
-turned : (a b q less : ℕ) → less ≡ a + b - q → b + a - q ≡ less
-turned a b q less l = omega (arith, l)
-
-pub bulk_less : (version : HiveVersion) (t k : Tree) (path : List (List ℕ)) (name : List ℕ) (item : Item) (bulk count own less : ℕ) → find_key path t ≡ Some k
-    → find_item name k ≡ Some item → bulk ≡ bulk_of version t → count ≡ length (head k).values → own ≡ item_size version item → own ≤ 8590065664
-    → list_room count ≤ 68719476736 → less ≡ own + list_room count - list_room (count - 1) → BulkLess version t path name bulk less
-bulk_less version t k path name item bulk count own less found there b c o few room l =
-    let n = length (head k).values in
-    let s = size version [] t in
-    let u = size version [] (unset_tree path name t) in
-    let e : u + (list_room count + own) ≡ s + list_room (count - 1) =
-    subst (λ (m : ℕ). u + (list_room m + own) ≡ s + list_room (m - 1)) (sym c)
-    (subst (λ (w : ℕ). u + (list_room n + w) ≡ s + list_room (n - 1)) (sym o) (size_less version t k path name item found there)) in
-    let d = sum_less s u (list_room count) (list_room (count - 1)) own e (room_less count) few room in
-    let is = turned own (list_room count) (list_room (count - 1)) less l in
-    record {
-      within = subst (λ (m : ℕ). m ≤ bulk) is (subst (λ (m : ℕ). list_room count + own - list_room (count - 1) ≤ m) (sym b) d.0);
-      tells = subst (λ (m : ℕ). TellsBulk (bulk - m) (bulk_of version (unset_tree path name t))) is
-          (subst (λ (m : ℕ). TellsBulk (m - (list_room count + own - list_room (count - 1))) (bulk_of version (unset_tree path name t))) (sym b) d.1);
-    }
 
 -- ---- the hive
 
@@ -461,23 +406,23 @@ nowhere = None
 
 pub hive_no_key : (bins heap : List Bin) (root : ℕ) (version : HiveVersion) (bulk : ℕ) (h : HiveCells) (path : List (List ℕ)) (name : List ℕ) → IsHive bins root version bulk
     → heap ≡ bins → hive_of bins root version ≡ h → nowhere ≡ key_place (look_up version heap) path root
-    → edited h.version h.tree (delete_value path name ∷ []) ≡ refused no_key
+    → after_step (delete_value path name) h.tree ≡ refused no_key
 hive_no_key bins heap root version bulk h path name is e view none =
-    subst (λ (g : HiveCells). edited g.version g.tree (delete_value path name ∷ []) ≡ refused no_key) view
+    subst (λ (g : HiveCells). after_step (delete_value path name) g.tree ≡ refused no_key) view
     (let b = look_up version bins in
     let here : key_place b path root ≡ nowhere = sym (none ∙ ap (λ (bs : List Bin). key_place (look_up version bs) path root) e) in
-    no_key_there version (tree_of b root) path name (no_place b path root (tree_of b root) is.stands here))
+    no_key_there (tree_of b root) path name (no_place b path root (tree_of b root) is.stands here))
 
 pub hive_no_value : (bins heap : List Bin) (root : ℕ) (version : HiveVersion) (bulk : ℕ) (h : HiveCells) (path : List (List ℕ)) (name : List ℕ) (x : ℕ) → IsHive bins root version bulk
     → heap ≡ bins → hive_of bins root version ≡ h → some x ≡ key_place (look_up version heap) path root → nowhere ≡ value_place (look_up version heap) name x
-    → edited h.version h.tree (delete_value path name ∷ []) ≡ refused no_value
+    → after_step (delete_value path name) h.tree ≡ refused no_value
 hive_no_value bins heap root version bulk h path name x is e view k none =
-    subst (λ (g : HiveCells). edited g.version g.tree (delete_value path name ∷ []) ≡ refused no_value) view
+    subst (λ (g : HiveCells). after_step (delete_value path name) g.tree ≡ refused no_value) view
     (let b = look_up version bins in
     let here : key_place b path root ≡ some x = sym (k ∙ ap (λ (bs : List Bin). key_place (look_up version bs) path root) e) in
     let gone : value_place b name x ≡ nowhere = sym (none ∙ ap (λ (bs : List Bin). value_place (look_up version bs) name x) e) in
     let there = key_there b path root (tree_of b root) x is.stands here in
-    no_value_there version (tree_of b root) there.there path name there.found (none_named b name x there.there there.well gone))
+    no_value_there (tree_of b root) there.there path name there.found (none_named b name x there.there there.well gone))
 
 -- the cells of the hive, where these are named
 pub named_seen : (bins heap : List Bin) (root : ℕ) (version : HiveVersion) (h : HiveCells) (path : List (List ℕ)) (name : List ℕ) (x v : ℕ)
@@ -509,12 +454,13 @@ hive_can_take bins root version bulk h path name x v is view k e =
 
 -- the bulk without it
 pub hive_bulk : (bins heap : List Bin) (root : ℕ) (version : HiveVersion) (bulk : ℕ) (h : HiveCells) (path : List (List ℕ)) (name : List ℕ) (x v count own less : ℕ)
-    → IsHive bins root version bulk → hive_of bins root version ≡ h → heap ≡ bins → key_place (cells_in h) path h.root ≡ some x → value_place (cells_in h) name x ≡ some v
+    → IsHive bins root version bulk → hive_of bins root version ≡ h → heap ≡ bins → bins_size bins ≤ 16777216
+    → key_place (cells_in h) path h.root ≡ some x → value_place (cells_in h) name x ≡ some v
     → ((n : KeyNode) → reading key_node_at (look_up version bins) x ≡ done n → count ≡ n.value_count)
-    → ((i : Item) → item_at (look_up version heap) v ≡ done i → own ≡ item_size version i) → own ≤ 8590065664 → list_room count ≤ 68719476736
+    → ((i : Item) → item_at (look_up version heap) v ≡ done i → own ≡ item_size version i)
     → less ≡ own + list_room count - list_room (count - 1)
-    → (less ≤ bulk) × TellsBulk (bulk - less) (bulk_of h.version (unset_tree path name h.tree))
-hive_bulk bins heap root version bulk h path name x v count own less is view same k e counts sizes few room l =
+    → (less ≤ bulk) × (bulk - less ≡ bulk_of h.version (unset_tree path name h.tree))
+hive_bulk bins heap root version bulk h path name x v count own less is view same fit k e counts sizes l =
     let b = look_up version bins in
     let t = tree_of b root in
     let n = is_named bins root version h path name x v view k e in
@@ -527,25 +473,30 @@ hive_bulk bins heap root version bulk h path name x v count own less is view sam
     let counted : count ≡ length (head there.key).values =
     counts c.node c.read ∙ sym f.number ∙ many in
     let owned : own ≡ item_size version there.item = sizes there.item (subst (λ (bs : List Bin). item_at (look_up version bs) v ≡ done there.item) (sym same) there.stands) in
-    let d = bulk_less version t there.key path name there.item bulk count own less there.found there.named is.counted counted owned few room l in
-    (d.within, subst (λ (g : HiveCells). TellsBulk (bulk - less) (bulk_of g.version (unset_tree path name g.tree))) view d.tells)
+    let vs = (head there.key).values in
+    let w = unset_tree path name t in
+    let s : size version [] w + (list_room count + own) ≡ size version [] t + list_room (count - 1) =
+    subst (λ (m : ℕ). size version [] w + (list_room m + own) ≡ size version [] t + list_room (m - 1)) (sym counted)
+    (subst (λ (z : ℕ). size version [] w + (list_room (length vs) + z) ≡ size version [] t + list_room (length vs - 1)) (sym owned)
+    (size_less version t there.key path name there.item there.found there.named)) in
+    let d = sum bulk (size version [] t) (size version [] w) (list_room count) (list_room (count - 1)) own less (bulk_is bins root version bulk is fit).exact
+    (bulk_is bins root version bulk is fit).low s (room_less count) l in
+    (d.0, subst (λ (g : HiveCells). bulk - less ≡ bulk_of g.version (unset_tree path name g.tree)) view d.1)
+  where
+    sum : (n s u r q o l : ℕ) → n ≡ 32 + s → n ≤ 576460752303423488 → u + (r + o) ≡ s + q → q ≤ r → l ≡ o + r - q
+        → (l ≤ n) × (n - l ≡ min (32 + u) 18446744073709551615)
+    sum n s u r q o l a b e le is = (omega (arith, a, e, le, is), omega (arith, a, b, e, le, is))
 
--- over the greatest bulk the edit is refused
-pub unset_full : (bins : List Bin) (root : ℕ) (version : HiveVersion) (bulk after : ℕ) (h : HiveCells) (path : List (List ℕ)) (name : List ℕ) (x v : ℕ) → IsHive bins root version bulk
+-- the step is made
+pub hive_unset : (bins : List Bin) (root : ℕ) (version : HiveVersion) (bulk : ℕ) (h : HiveCells) (path : List (List ℕ)) (name : List ℕ) (x v : ℕ) → IsHive bins root version bulk
     → hive_of bins root version ≡ h → key_place (cells_in h) path h.root ≡ some x → value_place (cells_in h) name x ≡ some v
-    → TellsBulk after (bulk_of h.version (unset_tree path name h.tree)) → 16773120 < after
-    → edited h.version h.tree (delete_value path name ∷ []) ≡ refused full
-unset_full bins root version bulk after h path name x v is view k e tells big =
+    → after_step (delete_value path name) h.tree ≡ the_tree (unset_tree path name h.tree)
+hive_unset bins root version bulk h path name x v is view k e =
     let n = is_named bins root version h path name x v view k e in
-    let b = look_up version bins in
-    let t = tree_of b root in
-    let there = named_there b root t path name x v is.stands n.key n.value in
-    let d = unset_there version t there.key path name there.item there.found there.named in
-    let told = subst (λ (g : HiveCells). TellsBulk after (bulk_of g.version (unset_tree path name g.tree))) (sym view) tells in
-    let more : 16773120 < bulk_of version (unset_tree path name t) = ⊎_elim (λ (s : after ≡ bulk_of version (unset_tree path name t)). subst (λ (m : ℕ). 16773120 < m) s big) (λ p. p.1) told in
-    let over = lt-ltb most_bulk (bulk_of version (unset_tree path name t)) more in
-    subst (λ (g : HiveCells). edited g.version g.tree (delete_value path name ∷ []) ≡ refused full) view
-    (d.edit ∙ ap (λ (q : Bool). cond q (Err full) (Ok (unset_tree path name t))) over)
+    let t = tree_of (look_up version bins) root in
+    let there = named_there (look_up version bins) root t path name x v is.stands n.key n.value in
+    subst (λ (g : HiveCells). after_step (delete_value path name) g.tree ≡ the_tree (unset_tree path name g.tree)) view
+    (unset_there t there.key path name there.item there.found there.named)
 
 -- what an edit in place leaves outside the cells of its one step
 pub kept_done : (version : HiveVersion) (old new : List Bin) (root : ℕ) (t u : Tree) (step : Step) → IsDone (look_up version old) (look_up version new) root t u step
@@ -555,45 +506,28 @@ kept_done version old new root t u step d o p held outside =
     payload_held new o p (d.leaves.rest o p (held_payload old o p held)
     (λ i. outside (Contains-append_left (step_cells b root t step) (unless_refused [] (after_step step t) (λ u. [])) o i)))
 
--- where the value was taken out
-pub record IsUnset (h : HiveCells) (new : List Bin) (root : ℕ) (version : HiveVersion) (bulk : ℕ) (path : List (List ℕ)) (name : List ℕ) : Type 0 where
-  pub hive : IsHive new root version bulk
-  pub edit : edited h.version h.tree (delete_value path name ∷ []) ≡ Ok (tree_of (look_up version new) root)
-  pub kept : IsEditedInPlace h (delete_value path name ∷ []) (hive_of new root version)
-
 name_there : (cells : Cells) (v : ℕ) (h : IsItemHere cells v) → (k : KeyValue) × (reading key_value_at cells v ≡ done k)
 name_there cells v h = let f = item_facts cells v h in (f.value, f.read)
 
+-- where the value was taken out
 pub is_unset : (old new : List Bin) (root : ℕ) (version : HiveVersion) (bulk after : ℕ) (h : HiveCells) (path : List (List ℕ)) (name : List ℕ) (x v : ℕ) → IsHive old root version bulk
     → hive_of old root version ≡ h → key_place (cells_in h) path h.root ≡ some x → value_place (cells_in h) name x ≡ some v → TakesOut version old new x v
-    → TellsBulk after (bulk_of h.version (unset_tree path name h.tree)) → after ≤ 16773120 → IsUnset h new root version after path name
-is_unset old new root version bulk after h path name x v is view k e taken tells room =
+    → IsBytes (spelled 0 new) → after ≡ bulk_of h.version (unset_tree path name h.tree) → IsStepMade h new root version after (delete_value path name)
+is_unset old new root version bulk after h path name x v is view k e taken bytes counted =
     let n = is_named old root version h path name x v view k e in
     let b = look_up version old in
     let c = look_up version new in
     let t = tree_of b root in
     let u = unset_tree path name t in
     let there = named_there b root t path name x v is.stands n.key n.value in
-    let d = unset_there version t there.key path name there.item there.found there.named in
-    let told = subst (λ (g : HiveCells). TellsBulk after (bulk_of g.version (unset_tree path name g.tree))) (sym view) tells in
-    let counted : after ≡ bulk_of version u = ⊎_elim (λ (s : after ≡ bulk_of version u). s) (λ p. absurd (let l = p.0 in omega (arith, l, room))) told in
-    let within = le-ltb most_bulk (bulk_of version u) (subst (λ (m : ℕ). m ≤ 16773120) counted room) in
-    let edit : edited version t (delete_value path name ∷ []) ≡ Ok u = d.edit ∙ ap (λ (q : Bool). cond q (Err full) (Ok u)) within in
+    let d = unset_there t there.key path name there.item there.found there.named in
+    let told : after ≡ bulk_of version u = subst (λ (g : HiveCells). after ≡ bulk_of g.version (unset_tree path name g.tree)) (sym view) counted in
     let among = found_among (is_value_named b name) (value_places b x) v n.value in
     let value = name_there b v (is_ok_of (item_at b v) there.item there.stands) in
-    let named = ap (Rattle.nt_bytes.specs.Folding.folds_same name) (name_of_value b v value.0 value.1) ∙ named_folds b name v value.0 value.1 among.passes in
-    let made = value_taken b c root t u path name x taken.node is.stands n.key taken.read taken.front taken.back v taken.text taken.list d.step taken.places named taken.takes in
-    let tree : tree_of c root ≡ u = tree_is c root u made.stands in
-    let valid = edited_valid version t u (delete_value path name ∷ []) is.valid (All-cons Fits (delete_value path name) [] tt (All-nil Fits)) edit in
-    record {
-      hive = hive_opened new new root version after u refl made.stands valid counted;
-      edit = subst (λ (g : HiveCells). edited g.version g.tree (delete_value path name ∷ []) ≡ the_tree (tree_of c root)) view (edit ∙ sym (ap the_tree tree));
-      kept = subst (λ (g : HiveCells). IsEditedInPlace g (delete_value path name ∷ []) (hive_of new root version)) view (record {
-        kept = kept_done version old new root t u (delete_value path name) made;
-        root = refl;
-        long = omega (arith, taken.long);
-      });
-    }
+    let named = ap (folds_same name) (name_of_value b v value.0 value.1) ∙ named_folds b name v value.0 value.1 among.passes in
+    let made = value_taken b c root t u path name x taken.node is.stands n.key taken.read taken.front taken.back v taken.text taken.list d taken.places named taken.takes in
+    let long = taken.long in
+    stepped old new root version bulk after h u (delete_value path name) is view d made bytes told (omega (arith, long)) (omega (arith, long))
 
 pub room_few : (n : ℕ) → n < 2 ^ 32 → list_room n ≤ 68719476736
 room_few zero lt = below (list_room 0) 68719476736 0 68719476736 refl refl (omega arith)

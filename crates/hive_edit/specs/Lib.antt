@@ -12,3 +12,4 @@ pub mod NewValue
 pub mod Dropped
 pub mod Stepped
 pub mod Deleting
+pub mod Steps

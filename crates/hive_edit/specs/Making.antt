@@ -6,12 +6,12 @@ use Rattle.std.specs.Int.{w32, to_le_bytes}
 use Rattle.nt_bytes.specs.Fields.{u32_in}
 use Rattle.nt_bytes.specs.declared.version.HiveVersion.{HiveVersion}
 use Rattle.hive_model.specs.Bins.{Bin, Cells, look_up, bins_size}
-use Rattle.hive_model.specs.Tree.{Tree}
+use Rattle.hive_model.specs.Tree.{Tree, find_key}
 use Rattle.hive_model.specs.Size.{is_narrow, bulk_of, cell}
 use Rattle.hive_model.specs.KeyNode.{KeyNode, key_node_at}
-use Rattle.hive_model.specs.Edit.{make_key, with_key, at_key, edited, is_bad_name}
+use Rattle.hive_model.specs.Edit.{make_key, with_key, at_key, after_step, is_bad_name}
 use Rattle.hive_model.specs.Walk.{reading, nowhere}
-use Rattle.hive_model.specs.Footprint.{key_place, has_key, list_strain_of}
+use Rattle.hive_model.specs.Footprint.{key_place, has_key, list_sizes, list_strain_of, room_of}
 use Rattle.hive_model.specs.InPlace.{recounted}
 use Rattle.hive_cells.specs.Held.{held_at, patched}
 use Rattle.hive_cells.specs.Holes.{new_bin_size}
@@ -19,7 +19,6 @@ use Rattle.key_index.specs.Lists.{children_at, hints_in, lists_at, with_child, I
 use Rattle.key_index.specs.Relists.{AreApart, AreRelisted}
 use Rattle.hive_edit.specs.declared.making.Above.{Above}
 use Rattle.hive_edit.specs.declared.adding.NewPlace.{NewPlace}
-use Rattle.hive_edit.specs.Edits.{IsEditedInPlace}
 use Rattle.hive_edit.specs.Hive.{HiveCells, cells_in}
 
 -- the node of a new key below a parent at an offset: with its stamp and its security, and nothing else
@@ -124,6 +123,11 @@ pub record IsAlike (node : List ℕ) (old new : List Bin) : Type 0 where
   pub long : bins_size new ≤ bins_size old + new_bin_size (cell (length node))
   pub least : bins_size old ≤ bins_size new
 
+-- there is no room for the node and for the lists of a key that has so many children before it
+abbrev pub LacksNodeRoom : List ℕ → ℕ → List Bin → Type 0
+LacksNodeRoom node count old =
+    16777216 < bins_size old + (new_bin_size (cell (length node)) + room_of (list_sizes (count + 1)))
+
 -- what is asked of a parent that gets a child with this node: with the node in a cell that was none, it can be named
 pub record IsAddable (version : HiveVersion) (parent : ℕ) (above : Above) (node : List ℕ) (bins : List Bin) : Type 0 where
   pub short : length node ≤ 65536
@@ -148,27 +152,23 @@ pub record AboveIs (above : Above) (n : KeyNode) : Type 0 where
 abbrev pub made_tree : List (List ℕ) → List ℕ → Tree → Tree
 made_tree parent name t = at_key parent (with_key name) t
 
--- a key of this name may be made below the key at a path, which has none: the edit is not refused, and the bulk is that of its tree
-pub record MayMake (h : HiveCells) (parent : List (List ℕ)) (name : List ℕ) (place : NewPlace) : Type 0 where
-  pub at : key_place (cells_in h) parent h.root ≡ Some place.at
+-- the path leads to a key that has a child of this name, and the step that makes one makes nothing
+pub record IsMadeAlready (h : HiveCells) (parent : List (List ℕ)) (name : List ℕ) : Type 0 where
+  pub key : Tree
+  pub found : find_key parent h.tree ≡ Some key
+  pub present : has_key parent name h.tree ≡ true
+  pub step : after_step (make_key parent name) h.tree ≡ Ok h.tree
+
+-- the path leads to the key at an offset, which has no child of this name, and one may have it
+pub record IsOpen (h : HiveCells) (parent : List (List ℕ)) (name : List ℕ) (at : ℕ) : Type 0 where
+  pub place : key_place (cells_in h) parent h.root ≡ Some at
   pub absent : has_key parent name h.tree ≡ false
   pub short : length name ≤ 255
   pub good : is_bad_name name ≡ false
   pub deep : length parent ≤ 510
+
+-- a key of this name may be made below the key at a path, and the bulk is that of its tree
+pub record MayMake (h : HiveCells) (parent : List (List ℕ)) (name : List ℕ) (place : NewPlace) : Type 0 where
+  pub open_at : IsOpen h parent name place.at
   pub bulk : place.bulk ≡ bulk_of h.version (made_tree parent name h.tree)
-  pub fits : place.bulk ≤ 16773120
   pub few : (n : KeyNode) → reading key_node_at (cells_in h) place.at ≡ Ok n → n.child_count ≤ 2097150
-
--- the key is made in place
-pub record IsMade (old : HiveCells) (parent : List (List ℕ)) (name : List ℕ) (new : HiveCells) : Type 0 where
-  pub edit : edited old.version old.tree (make_key parent name ∷ []) ≡ Ok new.tree
-  pub version : new.version ≡ old.version
-  pub kept : IsEditedInPlace old (make_key parent name ∷ []) new
-
--- nothing is made: the tree is the one from before, and each cell is held as before; the bins data may be longer
-pub record IsUnmade (old new : HiveCells) : Type 0 where
-  pub tree : new.tree ≡ old.tree
-  pub root : new.root ≡ old.root
-  pub version : new.version ≡ old.version
-  pub held : (o : ℕ) → held_at new.bins o ≡ held_at old.bins o
-  pub long : bins_size old.bins ≤ bins_size new.bins

@@ -69,7 +69,8 @@ pub record PutsValue (version : HiveVersion) (old new : List Bin) (x : ℕ) (v :
   pub read : reading key_node_at (look_up version old) x ≡ Ok node
   pub places : value_places (look_up version old) x ≡ offsets
   pub adds : AddsValue (look_up version old) (look_up version new) x node offsets place text list v
-  pub long : bins_size old ≤ bins_size new
+  pub least : bins_size old ≤ bins_size new
+  pub long : bins_size new ≤ bins_size old + new_bin_size (added_size version node.value_count v)
 
 -- there is no room for the run: the bins data would be longer than 16,777,216 bytes by a new bin
 pub record LacksRoomForValue (version : HiveVersion) (bins : List Bin) (x : ℕ) (v : Item) : Type 0 where

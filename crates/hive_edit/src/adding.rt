@@ -1,28 +1,27 @@
 //! A key made in place.
 
-ghost use Rattle.std.specs.Prelude.{◌≡◌, ◌≤◌, ◌+◌, ◌-◌, [], ◌∷◌, length, min, true, false, Ok, IfOk, IfErr, OnErr, MatchBool, MatchResult};
+ghost use Rattle.std.specs.Prelude.{◌≡◌, ◌≤◌, ◌+◌, ◌-◌, length, Ok, IfOk, MatchBool, MatchResult};
 ghost use Rattle.std.specs.Option.{MatchOption};
-ghost use Rattle.hive_model.specs.Edit.{edited, make_key, is_bad_name};
+ghost use Rattle.hive_model.specs.Edit.{make_key, is_bad_name, after_step};
 ghost use Rattle.hive_model.specs.Size.{cell, list_size, name_bytes, part_count};
 ghost use Rattle.reg_tree.specs.Makes.{IsRefused};
-ghost use Rattle.reg_tree.specs.declared.stop.EditStop.TheVariants.{Memory};
 ghost use Rattle.hive_model.specs.KeyNode.{KeyNode, key_node_at};
 ghost use Rattle.hive_model.specs.Walk.{reading};
-ghost use Rattle.hive_edit.specs.Edits.{IsEditedInPlace};
-ghost use Rattle.hive_edit.specs.Making.{AboveIs, IsMade, IsUnmade, MayMake};
+ghost use Rattle.hive_edit.specs.Hive.{cells_in};
+ghost use Rattle.hive_edit.specs.Making.{AboveIs, IsOpen, MayMake};
 ghost use Rattle.hive_edit.specs.Places.{IsKeyAt};
 ghost use Rattle.hive_edit.specs.Sources.{cells_of};
+ghost use Rattle.hive_edit.specs.Stepped.{IsStepped, LacksStepRoom};
 
+use crate::cells::are_bytes;
 use crate::hive::HiveBytes;
 use crate::making::{Above, add_node, name_len, new_node, node_fits};
 use crate::path::{child_at, key_at};
 use crate::source::{Source, payload};
+use crate::unset::bins_fit;
 use nt_bytes::{Names, u32_at, u64_at};
 use reg_tree::EditStop;
 use std::alloc::{AllocError, Global};
-
-/// The greatest bulk of an edited tree, in bytes.
-const MOST_BULK: u64 = 16_773_120;
 
 /// Where a key may be made, and the bulk of the tree with it.
 #[derive(Clone, Copy)]
@@ -74,11 +73,13 @@ fn is_bad_name(name: &[u16]) -> bool
 fn grown_bulk(bulk: u64, count: u32, name: &[u16]) -> u64
     requires few { count ≤ 2097150 }
     requires short { length name.now ≤ 255 }
-    ensures { result ≡ min (bulk + (cell (76 + name_bytes name.now) + list_size (count + 1))) 18446744073709551615 - list_size count }
+    requires less { list_size count ≤ bulk + (cell (76 + name_bytes name.now) + list_size (count + 1)) }
+    requires low { bulk ≤ 1152921504606846976 }
+    ensures { result ≡ bulk + (cell (76 + name_bytes name.now) + list_size (count + 1)) - list_size count }
 {
     let more = cell_size(76 + name_len(name)) + list_len(count as usize + 1);
     let less = list_len(count as usize);
-    bulk.saturating_add(more as u64) - less as u64
+    bulk + more as u64 - less as u64
 }
 
 /// What the node of a key says of its children, and where its security is.
@@ -105,17 +106,15 @@ fn stamp_at(cells: &Source, at: u32) -> u64
 }
 
 impl HiveBytes {
-    /// Judges whether a key may be made, in the order of the book. `None` where it is there.
-    fn judged(&self, parent: &Names, name: &[u16]) -> Result<Option<NewPlace>, EditStop>
-        ensures judged { MatchResult result (λ r. MatchOption r (edited self.now.version self.now.tree (make_key parent.now name.now ∷ []) ≡ Ok self.now.tree)
-            (MayMake self.now parent.now name.now)) (IsRefused (edited self.now.version self.now.tree (make_key parent.now name.now ∷ []))) }
-        ensures no_memory { IfErr result (λ stop. stop ≡ Memory → ⊥) }
+    /// Where a key may be made, in the order of the book. `None` where it is there.
+    fn open_place(&self, parent: &Names, name: &[u16]) -> Result<Option<u32>, EditStop>
+        ensures judged { MatchResult result (λ r. MatchOption r (IsStepped self.now (make_key parent.now name.now) self.now) (IsOpen self.now parent.now name.now))
+            (IsRefused (after_step (make_key parent.now name.now) self.now.tree)) }
     {
         let source = Source {
             heap: self.cells.cells(),
             version: self.version,
         };
-        let bulk = self.bulk;
         let at = match key_at(&source, self.root, parent) {
             None => return Err(EditStop::NoKey),
             Some(at) => at,
@@ -130,23 +129,39 @@ impl HiveBytes {
             return Err(EditStop::TooDeep);
         }
         if child_at(&source, at, name).is_some() {
-            if bulk > MOST_BULK {
-                return Err(EditStop::Full);
-            }
             return Ok(None);
         }
-        let count = above_at(&source, at).count;
-        if count > 2_097_150 {
-            return Err(EditStop::Full);
-        }
-        let grown = grown_bulk(bulk, count, name);
-        if grown > MOST_BULK {
-            return Err(EditStop::Full);
-        }
-        Ok(Some(NewPlace { at, bulk: grown }))
+        Ok(Some(at))
     }
 
-    /// Makes a key that may be made.
+    /// How many children the key at an offset has.
+    fn count_at(&self, at: u32, parent: &Names, name: &[u16]) -> u32
+        requires { IsOpen self.now parent.now name.now at }
+        ensures { (n : KeyNode) → reading key_node_at (cells_in self.now) at ≡ Ok n → result ≡ n.child_count }
+    {
+        let source = Source {
+            heap: self.cells.cells(),
+            version: self.version,
+        };
+        above_at(&source, at).count
+    }
+
+    /// Where the key may be made, with the bulk of the tree then. `None` where the key above has too many children for it.
+    fn new_place(&self, at: u32, parent: &Names, name: &[u16]) -> Option<NewPlace>
+        requires { IsOpen self.now parent.now name.now at }
+        ensures { MatchOption result (LacksStepRoom self.now (make_key parent.now name.now)) (MayMake self.now parent.now name.now) }
+    {
+        bins_fit(&self.cells);
+        let count = self.count_at(at, parent, name);
+        if count > 2_097_150 {
+            return None;
+        }
+        let bulk = grown_bulk(self.bulk, count, name);
+        Some(NewPlace { at, bulk })
+    }
+
+    /// Makes a key that may be made, whatever the bulk then. `false` where there is no room for its node, or for the lists
+    /// of the key above it.
     fn make_at(
         &mut self,
         alloc: Global,
@@ -155,8 +170,8 @@ impl HiveBytes {
         name: &[u16],
     ) -> Result<bool, AllocError>
         requires may { MayMake self.old parent.now name.now place }
-        ensures made { IfOk result (λ done. MatchBool done (IsMade self.old parent.now name.now self.new) (IsUnmade self.old self.new)) }
-        ensures refused { OnErr result (IsUnmade self.old self.new) }
+        ensures made { IfOk result (λ done. MatchBool done (IsStepped self.old (make_key parent.now name.now) self.new)
+            (LacksStepRoom self.old (make_key parent.now name.now))) }
     {
         let source = Source {
             heap: self.cells.cells(),
@@ -179,36 +194,34 @@ impl HiveBytes {
             return Ok(false);
         }
         self.bulk = place.bulk;
+        are_bytes(&self.cells);
         Ok(true)
     }
 
-    /// Gives the key that a path leads to a child of this name, unless it has one: with its stamp and its security, and
-    /// nothing else, in the order of folded names. Its node is put into a cell that was none, the parent's lists are
-    /// written anew, and the security counts one key more. `false` where there is no room for the node or the lists.
-    /// Then, and where there is no memory, the tree is as before, and each cell is held as before, but the bins data may be
-    /// longer by a bin for the node. After any other `Err` the hive is as before.
-    #[tactic(auto, using(crate::proofs::KeyLemmas::unmade_itself, crate::proofs::KeyLemmas::kept_itself))]
-    pub(crate) fn make_key(
+    /// Gives the key that a path leads to a child of this name, unless it has one, whatever the bulk of the tree then: with
+    /// its stamp and its security, and nothing else, in the order of folded names. Its node is put into a cell that was
+    /// none, the parent's lists are written anew, and the security counts one key more. `false` where there is no room for
+    /// the node or the lists. The hive is a draft, to be dropped then, and after an `Err`.
+    pub(crate) fn make_key_step(
         &mut self,
         alloc: Global,
         parent: &Names,
         name: &[u16],
     ) -> Result<bool, EditStop>
-        ensures made { MatchResult result (λ done. MatchBool done (edited self.old.version self.old.tree (make_key parent.now name.now ∷ []) ≡ Ok self.new.tree)
-            (self.new.tree ≡ self.old.tree)) (IsRefused (edited self.old.version self.old.tree (make_key parent.now name.now ∷ []))) }
-        ensures no_room { result ≡ Ok false → IsUnmade self.old self.new }
-        ensures refused { OnErr result (IsUnmade self.old self.new) }
-        ensures unchanged { IfErr result (λ stop. (stop ≡ Memory → ⊥) → self.new ≡ self.old) }
-        ensures version { self.new.version ≡ self.old.version }
-        ensures done { result ≡ Ok true → IsEditedInPlace self.old (make_key parent.now name.now ∷ []) self.new }
+        ensures made { MatchResult result
+            (λ done. MatchBool done (IsStepped self.old (make_key parent.now name.now) self.new) (LacksStepRoom self.old (make_key parent.now name.now)))
+            (IsRefused (after_step (make_key parent.now name.now) self.old.tree)) }
     {
-        match self.judged(parent, name) {
+        match self.open_place(parent, name) {
             Err(stop) => Err(stop),
             Ok(None) => Ok(true),
-            Ok(Some(place)) => match self.make_at(alloc, place, parent, name) {
-                Ok(true) => Ok(true),
-                Ok(false) => Ok(false),
-                Err(_) => Err(EditStop::Memory),
+            Ok(Some(at)) => match self.new_place(at, parent, name) {
+                None => Ok(false),
+                Some(place) => match self.make_at(alloc, place, parent, name) {
+                    Ok(true) => Ok(true),
+                    Ok(false) => Ok(false),
+                    Err(_) => Err(EditStop::Memory),
+                },
             },
         }
     }

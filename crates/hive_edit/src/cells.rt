@@ -1,9 +1,9 @@
 //! Runs of new cells put, and old cells freed.
 
-ghost use Rattle.std.specs.Prelude.{◌≡◌, ◌≤◌, ◌<◌, ℕ, length, Contains, None, OnOk, OnErr, MatchOption};
+ghost use Rattle.std.specs.Prelude.{◌≡◌, ◌≤◌, ◌<◌, ℕ, length, slice_index, Contains, None, OnOk, OnErr, MatchOption};
 ghost use Rattle.std.specs.Option.{IsSome};
 ghost use Rattle.std.specs.List.{All};
-ghost use Rattle.hive_model.specs.Bins.{bins_size};
+ghost use Rattle.hive_model.specs.Bins.{bins_size, spelled};
 ghost use Rattle.hive_cells.specs.Held.{held_at, run_cells, IsRun};
 ghost use Rattle.key_index.specs.Relists.{AreApart};
 ghost use Rattle.hive_edit.specs.Runs.{IsNewPlace, IsPlace, IsPutAt, LacksPlace};
@@ -17,6 +17,20 @@ pub(crate) fn long(heap: &OpenHeap) -> u32
     ensures fits { bins_size heap.now ≤ 16777216 }
 {
     heap.bytes().len() as u32
+}
+
+/// What the bins data have are bytes.
+pub(crate) fn are_bytes(heap: &OpenHeap)
+    ensures { (i : ℕ) → slice_index (spelled 0 heap.now) i < 256 }
+{
+    bytes_small(heap.bytes());
+}
+
+/// Bytes are small numbers.
+fn bytes_small(bytes: &[u8])
+    ensures { (i : ℕ) → slice_index bytes.now i < 256 }
+{
+    let _whole = bytes;
 }
 
 /// Frees these cells.

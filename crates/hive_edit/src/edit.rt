@@ -1,18 +1,20 @@
 //! A value set, where it stands or with all cells packed anew, and steps in order.
 
-ghost use Rattle.std.specs.Prelude.{◌≡◌, ◌≤◌, ◌<◌, ℕ, List, ◌+◌, ◌⊎◌, [], ◌∷◌, length, map, is_some, true, false, Some, Ok, IfOk, IfErr, OnOk, OnErr, MatchResult};
+ghost use Rattle.std.specs.Prelude.{◌≡◌, ◌≤◌, ◌<◌, ℕ, ◌+◌, ◌⊎◌, [], ◌∷◌, length, map, is_some, true, false, Some, Ok, IfOk, IfErr, OnOk, OnErr, MatchResult};
 ghost use Rattle.std.specs.List.{All};
 ghost use Rattle.std.specs.Int.{w32, from_le_bytes};
 ghost use Rattle.hive_model.specs.Bins.{bins_size};
-ghost use Rattle.hive_model.specs.Edit.{edited, set_value, make_key};
+ghost use Rattle.hive_model.specs.Edit.{edited, set_value};
 ghost use Rattle.hive_model.specs.Footprint.{strain_of};
 ghost use Rattle.hive_model.specs.Tree.{Tree};
 ghost use Rattle.reg_tree.specs.Fitting.{Fits};
 ghost use Rattle.hive_model.specs.Size.{bulk_of};
 ghost use Rattle.hive_model.specs.Valid.{IsValid};
+ghost use Rattle.hive_model.specs.Stands.{IsWellFormed};
 ghost use Rattle.reg_tree.specs.Makes.{IsRefused, Makes, step_of};
 ghost use Rattle.reg_tree.specs.declared.stop.EditStop.TheVariants.{Full, Memory};
 ghost use Rattle.hive_edit.specs.Hive.{cells_in};
+ghost use Rattle.hive_edit.specs.Steps.{IsInPlace};
 ghost use Rattle.hive_edit.specs.Edits.{inside_place, value_fields, IsEditedInPlace, IsPackedAnew, IsPackedForRoom, WritesFields};
 
 use crate::give::inside_fields;
@@ -58,20 +60,6 @@ fn setting(
     Ok(steps)
 }
 
-/// The step that makes a key.
-fn making(alloc: Global, parent: &Names, name: &[u16]) -> Result<Steps, EditStop>
-    ensures made { IfOk result (λ steps. map step_of steps ≡ make_key parent.now name.now ∷ []) }
-    ensures fits { IfOk result (λ steps. All Fits (map step_of steps)) }
-    ensures memory { IfErr result (λ stop. stop ≡ Memory) }
-{
-    let mut steps = Row::new(alloc);
-    steps.push(TreeStep::MakeKey {
-        parent: parent.copy(alloc)?,
-        name: Units::from_slice(alloc, name)?,
-    })?;
-    Ok(steps)
-}
-
 impl HiveBytes {
     /// The same hive in memory of its own.
     pub(crate) fn copy(&self, alloc: Global) -> Result<HiveBytes, AllocError>
@@ -84,6 +72,13 @@ impl HiveBytes {
             version: self.version,
             bulk: self.bulk,
         })
+    }
+
+    /// A tree stands in the cells.
+    fn stands(&self)
+        ensures { IsWellFormed (cells_in self.now) self.now.root self.now.tree }
+    {
+        let _root = self.root();
     }
 
     /// The offset of the value of a name in the key that a path leads to, where it holds its data itself.
@@ -134,33 +129,40 @@ impl HiveBytes {
         Ok(())
     }
 
-    /// Makes one key in a copy of the cells, so that a refusal leaves nothing behind; where it has no room, packs the
-    /// tree anew.
-    fn make_or_pack(&mut self, alloc: Global, parent: &Names, name: &[u16]) -> Result<(), EditStop>
-        ensures made { Makes self.old.tree self.new.tree result (edited self.old.version self.old.tree (make_key parent.now name.now ∷ [])) }
+    /// Makes the steps in order, all or none, in a copy of the cells; where one of them is not made there, packs the tree
+    /// anew.
+    fn apply_in_order(&mut self, alloc: Global, steps: Steps) -> Result<(), EditStop>
+        requires fits { All Fits (map step_of steps) }
+        ensures made { Makes self.old.tree self.new.tree result (edited self.old.version self.old.tree (map step_of steps)) }
         ensures refused { OnErr result (self.new ≡ self.old) }
         ensures version { self.new.version ≡ self.old.version }
-        ensures cells { OnOk result (IsEditedInPlace self.old (make_key parent.now name.now ∷ []) self.new ⊎ IsPackedAnew self.new) }
+        ensures cells { OnOk result (IsEditedInPlace self.old (map step_of steps) self.new ⊎ IsPackedAnew self.new) }
+        ensures room { All IsInPlace (map step_of steps)
+            → OnOk result (IsEditedInPlace self.old (map step_of steps) self.new ⊎ IsPackedForRoom self.old (map step_of steps) self.new) }
     {
+        self.stands();
         let mut draft = self.copy(alloc)?;
-        if draft.make_key(alloc, parent, name)? {
+        if draft.make_steps(alloc, steps.as_slice())? {
+            if draft.bulk() > MOST_BULK {
+                return Err(EditStop::Full);
+            }
             *self = draft;
             return Ok(());
         }
-        let steps = making(alloc, parent, name)?;
         self.apply_anew(alloc, steps)
     }
 
     /// Makes the steps in order, all or none. A hive can hold each key that a step brings along. One value that is set
-    /// or deleted changes few cells, as `set_value` and `delete_value` say, and so does one key that is made, in a copy
-    /// of the cells; all else packs the tree anew. After an `Err` the hive is as before.
+    /// or deleted changes few cells, as `set_value` and `delete_value` say; other steps do so in a copy of the cells, one
+    /// behind another, where each has room and is of a kind that is made in place, and else pack the tree anew. After an
+    /// `Err` the hive is as before.
     pub fn apply(&mut self, alloc: Global, steps: Steps) -> Result<(), EditStop>
         requires fits { All Fits (map step_of steps) }
         ensures made { Makes self.old.tree self.new.tree result (edited self.old.version self.old.tree (map step_of steps)) }
         ensures refused { OnErr result (self.new ≡ self.old) }
         ensures version { self.new.version ≡ self.old.version }
         ensures cells { OnOk result (IsEditedInPlace self.old (map step_of steps) self.new ⊎ IsPackedAnew self.new) }
-        ensures one_value { (path : List (List ℕ)) (name : List ℕ) (kind : ℕ) (bytes : List ℕ) → map step_of steps ≡ set_value path name kind bytes ∷ []
+        ensures room { All IsInPlace (map step_of steps)
             → OnOk result (IsEditedInPlace self.old (map step_of steps) self.new ⊎ IsPackedForRoom self.old (map step_of steps) self.new) }
     {
         match steps.as_slice() {
@@ -173,10 +175,7 @@ impl HiveBytes {
                 },
             ] => self.set_value(alloc, path, name.as_slice(), *kind, bytes.as_slice()),
             [TreeStep::DeleteValue { path, name }] => self.delete_value(path, name.as_slice()),
-            [TreeStep::MakeKey { parent, name }] => {
-                self.make_or_pack(alloc, parent, name.as_slice())
-            }
-            _ => self.apply_anew(alloc, steps),
+            _ => self.apply_in_order(alloc, steps),
         }
     }
 

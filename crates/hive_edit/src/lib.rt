@@ -22,6 +22,7 @@ mod path;
 mod runs;
 mod set;
 mod source;
+mod steps;
 mod unset;
 mod uses;
 mod values;

@@ -10,7 +10,7 @@ ghost use Rattle.hive_model.specs.Size.{cell, is_narrow, name_bytes};
 ghost use Rattle.hive_model.specs.KeyNode.{key_node_text};
 ghost use Rattle.hive_model.specs.Walk.{nowhere};
 ghost use Rattle.hive_cells.specs.Held.{held_at};
-ghost use Rattle.hive_edit.specs.Making.{child_fields, new_node, above_children, IsAddable, IsAdded, IsAlike, IsFreedAgain, IsLinkable, IsLinked, IsPutAt, IsRaised, IsWritten, LacksRoomFor, LacksListRoom};
+ghost use Rattle.hive_edit.specs.Making.{child_fields, new_node, above_children, IsAddable, IsAdded, IsAlike, IsFreedAgain, IsLinkable, IsLinked, IsPutAt, IsRaised, IsWritten, LacksNodeRoom, LacksRoomFor, LacksListRoom};
 
 use cell_forms::{NkForm, nk_bytes};
 use hive_cells::OpenHeap;
@@ -262,6 +262,7 @@ pub(crate) fn add_node(
 ) -> Result<bool, AllocError>
     requires addable { IsAddable version parent above node.now heap.old }
     ensures added { IfOk result (λ done. MatchBool done (IsAdded version parent above node.now heap.old heap.new) (IsAlike node.now heap.old heap.new)) }
+    ensures no_room { result ≡ Ok false → LacksNodeRoom node.now above.count heap.old }
     ensures refused { OnErr result (IsAlike node.now heap.old heap.new) }
 {
     match put_payload(alloc, heap, node)? {

@@ -1,17 +1,17 @@
 //! A value of a new name, put behind the others of its key: one run of the list with it, its cell and those of its data.
 
-ghost use Rattle.std.specs.Prelude.{◌≡◌, ◌≤◌, ◌<◌, ◌+◌, ◌-◌, ◌*◌, ◌++◌, ◌∷◌, [], ℕ, List, suc, true, false, nat_lt, if◌then◌else◌, length, take, None, Some, Ok, IfOk, OnErr, OnOk, MatchBool, MatchResult};
+ghost use Rattle.std.specs.Prelude.{◌≡◌, ◌≤◌, ◌<◌, ◌+◌, ◌-◌, ◌*◌, ◌++◌, ◌∷◌, [], ℕ, List, suc, true, false, nat_lt, if◌then◌else◌, length, take, None, Some, Ok, IfOk, IfErr, OnErr, OnOk, MatchBool, MatchResult};
 ghost use Rattle.std.specs.Option.{IfSome, IsSome, IsSomeAnd};
 ghost use Rattle.hive_model.specs.Bins.{bins_size, look_up};
 ghost use Rattle.std.specs.Int.{w32, from_le_bytes};
 ghost use lib.ListN.{replicate};
-ghost use Rattle.hive_model.specs.Edit.{edited, set_value};
+ghost use Rattle.hive_model.specs.Edit.{edited, set_value, after_step};
 ghost use Rattle.hive_model.specs.Size.{cell, cells_sum, data_sizes, bulk_of, item_size, name_bytes};
 ghost use Rattle.hive_model.specs.Tree.{Tree};
 ghost use Rattle.hive_model.specs.KeyNode.{KeyNode, key_node_at};
 ghost use Rattle.hive_model.specs.KeyValue.{key_value_text};
 ghost use Rattle.hive_model.specs.Lists.{AreOffsets, numbers_in, offsets_text};
-ghost use Rattle.hive_model.specs.Footprint.{strain_of};
+ghost use Rattle.hive_model.specs.Footprint.{key_place, strain_of};
 ghost use Rattle.hive_model.specs.Packed.{item_cells, item_form, text};
 ghost use Rattle.hive_model.specs.Walk.{reading};
 ghost use Rattle.cell_forms.specs.Views.{key_value_of};
@@ -20,12 +20,13 @@ ghost use Rattle.edit_laws.specs.Done.{item};
 ghost use Rattle.reg_tree.specs.Makes.{IsRefused};
 ghost use Rattle.hive_edit.specs.Edits.{IsEditedInPlace};
 ghost use Rattle.hive_edit.specs.Given.{place_in};
-ghost use Rattle.hive_edit.specs.Gone.{TellsBulk};
 ghost use Rattle.hive_edit.specs.Hive.{cells_in};
 ghost use Rattle.hive_edit.specs.NewValue.{added_cells, added_size, CanAdd, IsNewIn, IsRelistedAt, LacksRoomForValue, ListsThese, NeverSets, PutsValue, set_tree};
+ghost use Rattle.hive_edit.specs.Places.{value_place};
 ghost use Rattle.hive_edit.specs.Runs.{IsPlace};
+ghost use Rattle.hive_edit.specs.Stepped.{IsStepped, LacksStepRoom};
 
-use crate::cells::{place_for, put_run};
+use crate::cells::{are_bytes, place_for, put_run};
 use crate::give::own_number;
 use crate::hive::HiveBytes;
 use crate::making::{cell_bytes, is_narrow, name_len};
@@ -43,6 +44,9 @@ use std::alloc::{AllocError, Global};
 
 /// The greatest bulk of an edited tree, in bytes.
 const MOST_BULK: u64 = 16_773_120;
+
+/// The greatest number of bytes that a value's data have.
+const MOST_DATA: usize = 1_048_576;
 
 /// How long bins data may be.
 const MOST_BINS: u64 = 16_777_216;
@@ -327,15 +331,46 @@ impl HiveBytes {
         }
     }
 
-    /// The bulk with a value of a new name in a key; over the greatest of an edited tree where that is.
+    /// The bulk with a value of a new name in a key.
     fn bulk_with(&self, path: &Names, name: &[u16], key: u32, kind: u32, bytes: &[u8]) -> u64
         requires new { IsNewIn self.now path.now name.now key }
         requires few { length bytes.now ≤ 1048576 }
-        ensures { TellsBulk result (bulk_of self.now.version (set_tree path.now name.now kind bytes.now self.now.tree)) }
+        ensures bulk { result ≡ bulk_of self.now.version (set_tree path.now name.now kind bytes.now self.now.tree) }
+        ensures step { after_step (set_value path.now name.now kind bytes.now) self.now.tree ≡ Ok (set_tree path.now name.now kind bytes.now self.now.tree) }
     {
+        bins_fit(&self.cells);
         let (count, _list) = values_of(&self.cells, self.version, key);
         let more = added_len(self.version, count, name, bytes.len() as u32);
-        self.bulk.saturating_add(more) - list_len(count)
+        self.bulk + more - list_len(count)
+    }
+
+    /// Puts a value of a new name into a key, whatever the bulk then, which is told. `false` where there is no room for it;
+    /// the hive is as before then, and where there is no memory.
+    fn put_new(
+        &mut self,
+        alloc: Global,
+        path: &Names,
+        name: &[u16],
+        key: u32,
+        kind: u32,
+        bytes: &[u8],
+        bulk: u64,
+    ) -> Result<bool, AllocError>
+        requires new { IsNewIn self.old path.now name.now key }
+        requires few { length bytes.now ≤ 1048576 }
+        requires bulk { bulk ≡ bulk_of self.old.version (set_tree path.now name.now kind bytes.now self.old.tree) }
+        ensures stepped { IfOk result (λ done. MatchBool done (IsStepped self.old (set_value path.now name.now kind bytes.now) self.new)
+            (LacksStepRoom self.old (set_value path.now name.now kind bytes.now) × (self.new ≡ self.old))) }
+        ensures bulk { result ≡ Ok true → bulk ≡ bulk_of self.old.version self.new.tree }
+        ensures refused { OnErr result (self.new ≡ self.old) }
+    {
+        let version = self.version;
+        if add_value(alloc, &mut self.cells, version, key, name, kind, bytes)? {
+            self.bulk = bulk;
+            are_bytes(&self.cells);
+            return Ok(true);
+        }
+        Ok(false)
     }
 
     /// Puts a value of a new name into a key in place. `false` where there is no room for it; the hive is as before then,
@@ -358,16 +393,14 @@ impl HiveBytes {
         ensures refused { OnErr result (self.new ≡ self.old) }
         ensures version { self.new.version ≡ self.old.version }
         ensures done { result ≡ Ok true → IsEditedInPlace self.old (set_value path.now name.now kind bytes.now ∷ []) self.new }
-        ensures no_room { result ≡ Ok false
+        ensures no_room { result ≡ Ok false → (u : Tree) → edited self.old.version self.old.tree (set_value path.now name.now kind bytes.now ∷ []) ≡ Ok u
             → 16777216 < strain_of self.old.version (bins_size self.old.bins) self.old.tree (set_value path.now name.now kind bytes.now ∷ []) }
     {
         let bulk = self.bulk_with(path, name, key, kind, bytes);
         if bulk > MOST_BULK {
             return Err(EditStop::Full);
         }
-        let version = self.version;
-        if add_value(alloc, &mut self.cells, version, key, name, kind, bytes)? {
-            self.bulk = bulk;
+        if self.put_new(alloc, path, name, key, kind, bytes, bulk)? {
             return Ok(true);
         }
         Ok(false)
@@ -398,6 +431,95 @@ impl HiveBytes {
         match self.new_in(path, name) {
             None => Ok(false),
             Some(key) => self.add_new(alloc, path, name, key, kind, bytes),
+        }
+    }
+
+    /// The key that gets the value, or why it is refused: that there is no key, or that the name or the data are too long.
+    fn settable(&self, path: &Names, name: &[u16], bytes: &[u8]) -> Result<u32, EditStop>
+        ensures key { IfOk result (λ key. key_place (cells_in self.now) path.now self.now.root ≡ Some key) }
+        ensures short { IfOk result (λ key. length name.now ≤ 16383) }
+        ensures few { IfOk result (λ key. length bytes.now ≤ 1048576) }
+        ensures refused { IfErr result (λ stop. (kind : ℕ) → IsRefused (after_step (set_value path.now name.now kind bytes.now) self.now.tree) stop) }
+    {
+        let source = Source {
+            heap: self.cells.cells(),
+            version: self.version,
+        };
+        match key_at(&source, self.root, path) {
+            None => Err(EditStop::NoKey),
+            Some(key) => {
+                if name.len() > 16383 {
+                    return Err(EditStop::NameTooLong);
+                }
+                if bytes.len() > MOST_DATA {
+                    return Err(EditStop::DataTooLong);
+                }
+                Ok(key)
+            }
+        }
+    }
+
+    /// The offset of the value of a name in a key.
+    fn value_in(&self, path: &Names, name: &[u16], key: u32) -> Option<u32>
+        requires { key_place (cells_in self.now) path.now self.now.root ≡ Some key }
+        ensures { result ≡ value_place (cells_in self.now) name.now key }
+    {
+        let source = Source {
+            heap: self.cells.cells(),
+            version: self.version,
+        };
+        value_at(&source, key, name)
+    }
+
+    /// Gives a key a value, whatever the bulk of the tree then. `false` where there is no room for it.
+    fn set_in(
+        &mut self,
+        alloc: Global,
+        path: &Names,
+        name: &[u16],
+        key: u32,
+        kind: u32,
+        bytes: &[u8],
+    ) -> Result<bool, AllocError>
+        requires key { key_place (cells_in self.old) path.now self.old.root ≡ Some key }
+        requires short { length name.now ≤ 16383 }
+        requires few { length bytes.now ≤ 1048576 }
+        ensures { IfOk result (λ done. MatchBool done (IsStepped self.old (set_value path.now name.now kind bytes.now) self.new)
+            (LacksStepRoom self.old (set_value path.now name.now kind bytes.now) × (self.new ≡ self.old))) }
+    {
+        match self.value_in(path, name, key) {
+            None => {
+                let bulk = self.bulk_with(path, name, key, kind, bytes);
+                self.put_new(alloc, path, name, key, kind, bytes, bulk)
+            }
+            Some(at) => {
+                let bulk = self.bulk_given(path, name, at, kind, bytes);
+                self.give_there(alloc, path, name, at, kind, bytes, bulk)
+            }
+        }
+    }
+
+    /// Gives the key that a path leads to a value, whatever the bulk of the tree then. `false` where there is no room for
+    /// it.
+    pub(crate) fn set_value_step(
+        &mut self,
+        alloc: Global,
+        path: &Names,
+        name: &[u16],
+        kind: u32,
+        bytes: &[u8],
+    ) -> Result<bool, EditStop>
+        ensures made { MatchResult result
+            (λ done. MatchBool done (IsStepped self.old (set_value path.now name.now kind bytes.now) self.new) (LacksStepRoom self.old (set_value path.now name.now kind bytes.now)))
+            (IsRefused (after_step (set_value path.now name.now kind bytes.now) self.old.tree)) }
+    {
+        match self.settable(path, name, bytes) {
+            Err(stop) => Err(stop),
+            Ok(key) => match self.set_in(alloc, path, name, key, kind, bytes) {
+                Ok(true) => Ok(true),
+                Ok(false) => Ok(false),
+                Err(_) => Err(EditStop::Memory),
+            },
         }
     }
 }

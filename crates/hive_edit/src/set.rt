@@ -1,30 +1,32 @@
 //! A value that is there, set in place.
 
-ghost use Rattle.std.specs.Prelude.{◌≡◌, ◌≤◌, ◌<◌, ℕ, [], ◌∷◌, length, true, false, Some, Ok, OnErr, MatchResult};
+ghost use Rattle.std.specs.Prelude.{◌≡◌, ◌≤◌, ◌<◌, ℕ, [], ◌∷◌, length, true, false, Some, Ok, IfOk, OnErr, MatchBool, MatchResult};
 ghost use Rattle.hive_model.specs.Bins.{bins_size};
-ghost use Rattle.hive_model.specs.Edit.{edited, set_value};
+ghost use Rattle.hive_model.specs.Edit.{edited, set_value, after_step};
+ghost use Rattle.hive_model.specs.Size.{bulk_of};
 ghost use Rattle.hive_model.specs.Footprint.{strain_of};
 ghost use Rattle.reg_tree.specs.Makes.{IsRefused};
 ghost use Rattle.hive_edit.specs.Hive.{cells_in};
 ghost use Rattle.hive_edit.specs.Edits.{IsEditedInPlace};
 ghost use Rattle.hive_edit.specs.Given.{place_in};
+ghost use Rattle.hive_edit.specs.NewValue.{set_tree};
+ghost use Rattle.hive_edit.specs.Stepped.{IsStepped, LacksStepRoom};
 
+use crate::cells::are_bytes;
 use crate::data::{data_places, data_room};
 use crate::give::give;
 use crate::hive::HiveBytes;
 use crate::path::key_at;
 use crate::runs::data_len;
 use crate::source::Source;
+use crate::unset::bins_fit;
 use crate::values::value_at;
 use nt_bytes::Names;
 use reg_tree::EditStop;
-use std::alloc::Global;
+use std::alloc::{AllocError, Global};
 
 /// The greatest bulk of an edited tree, in bytes.
 const MOST_BULK: u64 = 16_773_120;
-
-/// A bulk far above the greatest: data of one value don't bring it below.
-const FAR_BULK: u64 = 1_099_511_627_776;
 
 impl HiveBytes {
     /// The offset of the value of a name in the key that a path leads to.
@@ -39,6 +41,72 @@ impl HiveBytes {
             None => None,
             Some(key) => value_at(&source, key, name),
         }
+    }
+
+    /// The bulk with these data in the value that is there.
+    pub(crate) fn bulk_given(
+        &self,
+        path: &Names,
+        name: &[u16],
+        at: u32,
+        kind: u32,
+        bytes: &[u8],
+    ) -> u64
+        requires there { place_in (cells_in self.now) path.now name.now self.now.root ≡ Some at }
+        requires few { length bytes.now ≤ 1048576 }
+        ensures bulk { result ≡ bulk_of self.now.version (set_tree path.now name.now kind bytes.now self.now.tree) }
+        ensures step { after_step (set_value path.now name.now kind bytes.now) self.now.tree ≡ Ok (set_tree path.now name.now kind bytes.now self.now.tree) }
+    {
+        bins_fit(&self.cells);
+        let source = Source {
+            heap: self.cells.cells(),
+            version: self.version,
+        };
+        let had = data_room(&source, at);
+        let has = data_len(self.version, bytes.len());
+        self.bulk + has as u64 - had as u64
+    }
+
+    /// Gives the value that is there a type and data, whatever the bulk then, which is told. `false` where there is no
+    /// room for the data; the hive is as before then, and where there is no memory.
+    pub(crate) fn give_there(
+        &mut self,
+        alloc: Global,
+        path: &Names,
+        name: &[u16],
+        at: u32,
+        kind: u32,
+        bytes: &[u8],
+        bulk: u64,
+    ) -> Result<bool, AllocError>
+        requires there { place_in (cells_in self.old) path.now name.now self.old.root ≡ Some at }
+        requires few { length bytes.now ≤ 1048576 }
+        requires bulk { bulk ≡ bulk_of self.old.version (set_tree path.now name.now kind bytes.now self.old.tree) }
+        ensures stepped { IfOk result (λ done. MatchBool done (IsStepped self.old (set_value path.now name.now kind bytes.now) self.new)
+            (LacksStepRoom self.old (set_value path.now name.now kind bytes.now) × (self.new ≡ self.old))) }
+        ensures bulk { result ≡ Ok true → bulk ≡ bulk_of self.old.version self.new.tree }
+        ensures refused { OnErr result (self.new ≡ self.old) }
+    {
+        let source = Source {
+            heap: self.cells.cells(),
+            version: self.version,
+        };
+        let gone = data_places(alloc, &source, at)?;
+        let version = self.version;
+        if give(
+            alloc,
+            &mut self.cells,
+            version,
+            at,
+            kind,
+            bytes,
+            gone.as_slice(),
+        )? {
+            self.bulk = bulk;
+            are_bytes(&self.cells);
+            return Ok(true);
+        }
+        Ok(false)
     }
 
     /// Sets a value that is there in place. `false` where there is none, or no room for its data; the hive is as before
@@ -65,31 +133,11 @@ impl HiveBytes {
         let Some(at) = self.value_there(path, name) else {
             return Ok(false);
         };
-        let source = Source {
-            heap: self.cells.cells(),
-            version: self.version,
-        };
-        let had = data_room(&source, at);
-        let gone = data_places(alloc, &source, at)?;
-        let has = data_len(self.version, bytes.len());
-        if self.bulk > FAR_BULK {
-            return Err(EditStop::Full);
-        }
-        let bulk = self.bulk + has as u64 - had as u64;
+        let bulk = self.bulk_given(path, name, at, kind, bytes);
         if bulk > MOST_BULK {
             return Err(EditStop::Full);
         }
-        let version = self.version;
-        if give(
-            alloc,
-            &mut self.cells,
-            version,
-            at,
-            kind,
-            bytes,
-            gone.as_slice(),
-        )? {
-            self.bulk = bulk;
+        if self.give_there(alloc, path, name, at, kind, bytes, bulk)? {
             return Ok(true);
         }
         Ok(false)

@@ -1,6 +1,6 @@
 //! A value taken out of the cells of its key. Nothing here wants memory or room.
 
-ghost use Rattle.std.specs.Prelude.{◌≡◌, ◌≤◌, ◌<◌, ◌+◌, ◌-◌, ◌*◌, ◌++◌, ◌∷◌, [], ℕ, List, length, Some, Ok, IfOk, IfErr, OnOk, OnErr, Err};
+ghost use Rattle.std.specs.Prelude.{◌≡◌, ◌≤◌, ◌<◌, ◌+◌, ◌-◌, ◌*◌, ◌++◌, ◌∷◌, [], ℕ, List, length, Some, Ok, IfOk, IfErr, OnOk, OnErr, Err, MatchBool, MatchResult};
 ghost use Rattle.std.specs.Option.{IsSome, IsSomeAnd};
 ghost use Rattle.std.specs.Result.{IsOk};
 ghost use Rattle.nt_bytes.specs.Fields.{u32_in};
@@ -16,10 +16,12 @@ ghost use Rattle.edit_laws.specs.Written.{two_numbers};
 ghost use Rattle.reg_tree.specs.Makes.{IsRefused, Makes};
 ghost use Rattle.reg_tree.specs.declared.stop.EditStop.TheVariants.{Full, Memory, NoKey, NoValue};
 ghost use Rattle.hive_edit.specs.Edits.{IsEditedInPlace};
-ghost use Rattle.hive_edit.specs.Gone.{AreGone, CanGo, CanTake, ClosesGap, HasData, HasOffsets, HasSegments, TakesOut, TellsBulk, Unlists, data_cells, list_room, unset_tree};
+ghost use Rattle.hive_edit.specs.Gone.{AreGone, CanGo, CanTake, ClosesGap, HasData, HasOffsets, HasSegments, TakesOut, Unlists, data_cells, list_room, unset_tree};
 ghost use Rattle.hive_edit.specs.Hive.{cells_in};
 ghost use Rattle.hive_edit.specs.Places.{IsItemHere, IsKeyAt, value_place};
+ghost use Rattle.hive_edit.specs.Stepped.{IsStepped, LacksStepRoom};
 
+use crate::cells::are_bytes;
 use crate::hive::HiveBytes;
 use crate::measure::{cell_len, is_big, value_len};
 use crate::path::key_at;
@@ -237,7 +239,7 @@ impl HiveBytes {
     fn named(&self, path: &Names, name: &[u16]) -> Result<(u32, u32), EditStop>
         ensures key { IfOk result (λ r. key_place (cells_in self.now) path.now self.now.root ≡ Some r.0) }
         ensures value { IfOk result (λ r. value_place (cells_in self.now) name.now r.0 ≡ Some r.1) }
-        ensures refused { IfErr result (λ stop. IsRefused (edited self.now.version self.now.tree (delete_value path.now name.now ∷ [])) stop) }
+        ensures refused { IfErr result (λ stop. IsRefused (after_step (delete_value path.now name.now) self.now.tree) stop) }
         ensures no_memory { IfErr result (λ stop. stop ≡ Memory → ⊥) }
     {
         let source = Source {
@@ -253,12 +255,14 @@ impl HiveBytes {
         }
     }
 
-    /// The bulk without a value of a key; over the greatest of an edited tree where that is.
+    /// The bulk without a value of a key.
     fn bulk_without(&self, path: &Names, name: &[u16], key: u32, value: u32) -> u64
         requires key { key_place (cells_in self.now) path.now self.now.root ≡ Some key }
         requires value { value_place (cells_in self.now) name.now key ≡ Some value }
-        ensures { TellsBulk result (bulk_of self.now.version (unset_tree path.now name.now self.now.tree)) }
+        ensures bulk { result ≡ bulk_of self.now.version (unset_tree path.now name.now self.now.tree) }
+        ensures step { after_step (delete_value path.now name.now) self.now.tree ≡ Ok (unset_tree path.now name.now self.now.tree) }
     {
+        bins_fit(&self.cells);
         let source = Source {
             heap: self.cells.cells(),
             version: self.version,
@@ -267,6 +271,20 @@ impl HiveBytes {
         let own = value_len(&source, value);
         let less = (own + list_len(count)) - list_len(count - 1);
         self.bulk - less
+    }
+
+    /// Deletes the value that is there, whatever the bulk then, which is told.
+    fn take_named(&mut self, path: &Names, name: &[u16], key: u32, value: u32, bulk: u64)
+        requires key { key_place (cells_in self.old) path.now self.old.root ≡ Some key }
+        requires value { value_place (cells_in self.old) name.now key ≡ Some value }
+        requires bulk { bulk ≡ bulk_of self.old.version (unset_tree path.now name.now self.old.tree) }
+        ensures stepped { IsStepped self.old (delete_value path.now name.now) self.new }
+        ensures bulk { bulk ≡ bulk_of self.old.version self.new.tree }
+        ensures long { bins_size self.new.bins ≡ bins_size self.old.bins }
+    {
+        take_out(&mut self.cells, self.version, key, value);
+        self.bulk = bulk;
+        are_bytes(&self.cells);
     }
 
     /// Deletes the value that is there.
@@ -284,8 +302,7 @@ impl HiveBytes {
         if bulk > MOST_BULK {
             return Err(EditStop::Full);
         }
-        take_out(&mut self.cells, self.version, key, value);
-        self.bulk = bulk;
+        self.take_named(path, name, key, value, bulk);
         Ok(())
     }
 
@@ -300,7 +317,25 @@ impl HiveBytes {
         ensures long { bins_size self.new.bins ≡ bins_size self.old.bins }
         ensures no_memory { IfErr result (λ stop. stop ≡ Memory → ⊥) }
     {
-        let (key, value) = self.named(path, name)?;
-        self.unset(path, name, key, value)
+        match self.named(path, name) {
+            Ok((key, value)) => self.unset(path, name, key, value),
+            Err(stop) => Err(stop),
+        }
+    }
+
+    /// Deletes a value of the key that a path leads to, whatever the bulk of the tree then.
+    pub(crate) fn delete_value_step(&mut self, path: &Names, name: &[u16]) -> Result<bool, EditStop>
+        ensures made { MatchResult result
+            (λ done. MatchBool done (IsStepped self.old (delete_value path.now name.now) self.new) (LacksStepRoom self.old (delete_value path.now name.now)))
+            (IsRefused (after_step (delete_value path.now name.now) self.old.tree)) }
+    {
+        match self.named(path, name) {
+            Ok((key, value)) => {
+                let bulk = self.bulk_without(path, name, key, value);
+                self.take_named(path, name, key, value, bulk);
+                Ok(true)
+            }
+            Err(stop) => Err(stop),
+        }
     }
 }

@@ -4,7 +4,7 @@ use Rattle.hive_model.specs.KeyNode.{key_node_at}
 use Rattle.hive_model.specs.Walk.{reading}
 use Rattle.hive_edit.specs.Places.{IsItemHere}
 use Rattle.hive_edit.proofs.ResultLemmas.{is_ok_of}
-use Rattle.hive_edit.proofs.UnsetLemmas.{hive_can_take, can_count, hive_bulk, room_few}
+use Rattle.hive_edit.proofs.UnsetLemmas.{hive_unset, hive_can_take, can_count, hive_bulk}
 use Rattle.hive_edit.proofs.hive.HiveBytes.bulk_without.Goals as goal
 
 pub values_of-count-requires : goal.values_of-count-requires
@@ -31,19 +31,18 @@ overflow_sub-count c =
 pub overflow_sub-result : goal.overflow_sub-result
 overflow_sub-result c =
     let i = c.self.inside in
-    (
-    hive_bulk i.cells c.cells.result.now i.root i.version i.bulk c.args.self.now c.args.path.now c.args.name.now c.args.key c.args.value c.values_of-count.result.0
-    c.value_len-own.result _ c.self.invariant c.self.view_is c.cells.ensures c.requires.key c.requires.value (λ n r. (c.values_of-count.ensures n r).0)
-    c.value_len-own.ensures.exact c.value_len-own.ensures.few (room_few c.values_of-count.result.0 (omega arith))
-    (λ j. c.value_len-own.result + c.list_len.ensures j - c.list_len-2.ensures j)
-    ).0
+    (hive_bulk i.cells c.cells.result.now i.root i.version i.bulk c.args.self.now c.args.path.now c.args.name.now c.args.key c.args.value c.values_of-count.result.0
+    c.value_len-own.result _ c.self.invariant c.self.view_is c.cells.ensures c.bins_fit.ensures c.requires.key c.requires.value (λ n r. (c.values_of-count.ensures n r).0)
+    c.value_len-own.ensures.exact (λ j. c.value_len-own.result + c.list_len.ensures j - c.list_len-2.ensures j)).0
 
-pub returns : goal.returns
-returns c =
+pub returns-clause-bulk : goal.returns-clause-bulk
+returns-clause-bulk c =
     let i = c.self.inside in
-    (
-    hive_bulk i.cells c.cells.result.now i.root i.version i.bulk c.args.self.now c.args.path.now c.args.name.now c.args.key c.args.value c.values_of-count.result.0
-    c.value_len-own.result _ c.self.invariant c.self.view_is c.cells.ensures c.requires.key c.requires.value (λ n r. (c.values_of-count.ensures n r).0)
-    c.value_len-own.ensures.exact c.value_len-own.ensures.few (room_few c.values_of-count.result.0 (omega arith))
-    (λ j. c.value_len-own.result + c.list_len.ensures j - c.list_len-2.ensures j)
-    ).1
+    (hive_bulk i.cells c.cells.result.now i.root i.version i.bulk c.args.self.now c.args.path.now c.args.name.now c.args.key c.args.value c.values_of-count.result.0
+    c.value_len-own.result _ c.self.invariant c.self.view_is c.cells.ensures c.bins_fit.ensures c.requires.key c.requires.value (λ n r. (c.values_of-count.ensures n r).0)
+    c.value_len-own.ensures.exact (λ j. c.value_len-own.result + c.list_len.ensures j - c.list_len-2.ensures j)).1
+
+pub returns-clause-step : goal.returns-clause-step
+returns-clause-step c =
+    let i = c.self.inside in
+    hive_unset i.cells i.root i.version i.bulk c.args.self.now c.args.path.now c.args.name.now c.args.key c.args.value c.self.invariant c.self.view_is c.requires.key c.requires.value

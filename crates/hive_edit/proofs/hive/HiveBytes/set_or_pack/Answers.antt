@@ -2,7 +2,7 @@ use Rattle.std.proofs.Common.{◌≡◌, Bool, [], ◌∷◌, Ok, ap, subst}
 use Rattle.hive_model.specs.Edit.{edited, set_value}
 use Rattle.reg_tree.specs.Makes.{Makes}
 use Rattle.hive_edit.specs.Hive.{HiveCells}
-use Rattle.hive_edit.proofs.NewValueLemmas.{packed_for_room}
+use Rattle.hive_edit.proofs.SteppedLemmas.{packed_for_room}
 use Rattle.hive_edit.proofs.StrainLemmas.{too_long}
 use Rattle.hive_edit.proofs.hive.HiveBytes.set_or_pack.Goals as goal
 
@@ -16,6 +16,6 @@ returns-clause-room c =
     let h = c.args.self.now in
     let step = set_value c.args.path.now c.args.name.now c.args.kind c.args.bytes.now in
     let same : c.set_in_place.new.self ≡ h = c.in_ok-set_in_place.ensures.unmade (ap (λ (b : Bool). Ok b) c.if-branch.false) in
-    packed_for_room h c.set_anew-2.new.self step c.set_anew-2.result _
+    packed_for_room h c.set_anew-2.new.self (step ∷ []) c.set_anew-2.result _
     (subst (λ (g : HiveCells). Makes g.tree c.set_anew-2.new.self.tree c.set_anew-2.result (edited g.version g.tree (step ∷ []))) same c.set_anew-2.ensures.made)
     c.set_anew-2.ensures.anew (λ u e. c.in_ok-set_in_place.ensures.no_room (ap (λ (b : Bool). Ok b) c.if-branch.false) u e)

@@ -1,0 +1,35 @@
+use Rattle.std.proofs.Common.{◌≤◌, ◌+◌, sym, arith}
+use Rattle.hive_edit.proofs.LowLemmas.{bulk_low}
+use Rattle.hive_edit.proofs.ThereLemmas.{there_step, there_here, there_bulk, room_same}
+use Rattle.hive_edit.proofs.hive.HiveBytes.bulk_given.Goals as goal
+
+pub data_room-had-requires : goal.data_room-had-requires
+data_room-had-requires c =
+    let i = c.self.inside in
+    there_here i.cells c.cells.result.now i.root i.version i.bulk c.args.self.now c.args.path.now c.args.name.now c.args.at
+    c.self.invariant c.cells.ensures c.self.view_is c.requires.there
+
+pub overflow_add-result : goal.overflow_add-result
+overflow_add-result c =
+    let i = c.self.inside in
+    let low = bulk_low i.cells i.root i.version i.bulk c.self.invariant c.bins_fit.ensures in
+    omega (arith, low, c.data_len-has.ensures.len)
+
+pub overflow_sub-result : goal.overflow_sub-result
+overflow_sub-result c =
+    let i = c.self.inside in
+    let had = room_same i.cells c.cells.result.now i.version c.args.at c.data_room-had.result c.cells.ensures c.data_room-had.ensures.room in
+    (there_bulk i.cells i.root i.version i.bulk c.args.self.now c.args.path.now c.args.name.now c.args.kind c.args.bytes.now c.args.at c.data_len-has.result c.data_room-had.result
+    c.self.invariant c.self.view_is c.requires.there c.bins_fit.ensures c.data_len-has.ensures.len (omega (arith, c.data_len-has.ensures.len)) had).0
+
+pub returns-clause-bulk : goal.returns-clause-bulk
+returns-clause-bulk c =
+    let i = c.self.inside in
+    let had = room_same i.cells c.cells.result.now i.version c.args.at c.data_room-had.result c.cells.ensures c.data_room-had.ensures.room in
+    (there_bulk i.cells i.root i.version i.bulk c.args.self.now c.args.path.now c.args.name.now c.args.kind c.args.bytes.now c.args.at c.data_len-has.result c.data_room-had.result
+    c.self.invariant c.self.view_is c.requires.there c.bins_fit.ensures c.data_len-has.ensures.len (omega (arith, c.data_len-has.ensures.len)) had).1
+
+pub returns-clause-step : goal.returns-clause-step
+returns-clause-step c =
+    let i = c.self.inside in
+    there_step i.cells i.root i.version i.bulk c.args.self.now c.args.path.now c.args.name.now c.args.kind c.args.bytes.now c.args.at c.self.invariant c.self.view_is c.requires.there c.requires.few

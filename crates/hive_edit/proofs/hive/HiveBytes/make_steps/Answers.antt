@@ -1,0 +1,61 @@
+use Rattle.std.proofs.Common.{◌≡◌, ◌<◌, ℕ, suc, ◌+◌, List, [], ◌∷◌, ◌++◌, length, map, take, drop, sym, ap, subst, ◌∙◌, arith}
+use Rattle.std.proofs.lemmas.Result.{err_from_is_err_and}
+use Rattle.hive_model.specs.Edit.{Step, after_steps}
+use Rattle.reg_tree.specs.Fitting.{Fits}
+use Rattle.reg_tree.specs.Makes.{IsRefused, step_of}
+use Rattle.hive_edit.specs.Steps.{AreStepped}
+use Rattle.hive_edit.proofs.SteppedLemmas.{if_done, if_undone, stepped_more, refused_behind, fits_here, map_more, map_parts}
+use Rattle.hive_edit.proofs.hive.HiveBytes.make_steps.Goals as goal
+
+pub make_step-requires : goal.make_step-requires
+make_step-requires c =
+    let xs = c.args.steps.now in
+    let k = c.loop-step.step-index in
+    let item = c.step-item.result in
+    let lt : k < length xs = c.loop-step-test.true in
+    record { fits = fits_here Fits step_of xs k item c.requires.fits lt c.step-item.is }
+
+pub returns-in_err-make_step : goal.returns-in_err-make_step
+returns-in_err-make_step c =
+    let xs = c.args.steps.now in
+    let k = c.loop-step.step-index in
+    let item = c.step-item.result in
+    let lt : k < length xs = c.loop-step-test.true in
+    let stop = c.in_err-make_step.field-0.0 in
+    let h = c.args.self.now in
+    let p = err_from_is_err_and c.from_residual.result c.from_residual.ensures.1 in
+    rw (p.1, p.2) (record {
+      made = subst (λ (l : List Step). IsRefused (after_steps h.tree l) stop) (sym (map_parts step_of xs k item lt c.step-item.is))
+          (refused_behind (map step_of (take k xs)) (map step_of (drop (suc k) xs)) (step_of item) h c.loop-step.self stop c.loop-step.invariant c.in_err-make_step.ensures.made);
+    })
+
+pub returns-then-not-branch : goal.returns-then-not-branch
+returns-then-not-branch c =
+    let xs = c.args.steps.now in
+    let k = c.loop-step.step-index in
+    let item = c.step-item.result in
+    let lt : k < length xs = c.loop-step-test.true in
+    record {
+      made = record {
+        front = map step_of (take k xs);
+        step = step_of item;
+        back = map step_of (drop (suc k) xs);
+        mid = c.loop-step.self;
+        whole = map_parts step_of xs k item lt c.step-item.is;
+        made = c.loop-step.invariant;
+        cannot = if_undone _ _ _ c.if-not-branch.true c.in_ok-make_step.ensures.made;
+      };
+    }
+
+pub loop-step-preserved : goal.loop-step-preserved
+loop-step-preserved c =
+    let xs = c.args.steps.now in
+    let k = c.loop-step.step-index in
+    let item = c.step-item.result in
+    let lt : k < length xs = c.loop-step-test.true in
+    let next : suc k ≡ k + 1 = omega arith in
+    let more : map step_of (take (k + 1) xs) ≡ map step_of (take k xs) ++ step_of item ∷ [] =
+    ap (λ (n : ℕ). map step_of (take n xs)) (sym next) ∙ map_more step_of xs k item lt c.step-item.is in
+    subst (λ (l : List Step). AreStepped c.args.self.now l c.make_step.new.self) (sym more)
+    (stepped_more (map step_of (take k xs)) c.args.self.now c.loop-step.self c.make_step.new.self (step_of item) c.loop-step.invariant
+    (if_done _ _ _ c.if-not-branch.false c.in_ok-make_step.ensures.made))
