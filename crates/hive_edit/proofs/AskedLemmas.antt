@@ -1,5 +1,5 @@
 -- What judging whether a key may be made answers, by the hive's cells.
-use Rattle.std.proofs.Common.{◌≡◌, ◌≤◌, ◌<◌, ℕ, ◌+◌, ◌-◌, Bool, true, false, List, [], ◌∷◌, length, Option, Some, None, Result, Ok, Err, refl, sym, ap, subst, ◌∙◌, arith}
+use Rattle.std.proofs.Common.{◌≡◌, ◌≤◌, ◌<◌, ℕ, ◌+◌, ◌-◌, true, false, List, length, Option, Some, None, Result, Ok, Err, refl, sym, ap, subst, ◌∙◌, arith}
 use Rattle.std.specs.Prelude.{find, is_some}
 use Rattle.nt_bytes.specs.declared.version.HiveVersion.{HiveVersion}
 use Rattle.hive_model.specs.Bins.{Bin, Cells, bins_size, look_up}
@@ -12,17 +12,15 @@ use Rattle.hive_model.specs.Footprint.{key_place, child_places, is_node_named, h
 use Rattle.hive_model.specs.Stands.{IsWellFormed}
 use Rattle.edit_laws.proofs.InOrder.{a_key_there}
 use Rattle.edit_laws.proofs.Out.{placed_at}
-use Rattle.hive_edit.specs.declared.adding.NewPlace.{NewPlace}
 use Rattle.hive_edit.specs.Hive.{HiveCells, cells_in, hive_of, IsHive}
 use Rattle.hive_edit.specs.Standing.{tree_of}
 use Rattle.hive_edit.specs.Stepped.{IsStepped, LacksStepRoom}
-use Rattle.hive_edit.specs.Making.{made_tree, IsMadeAlready, IsOpen, MayMake}
+use Rattle.hive_edit.specs.Making.{made_tree, IsOpen, MayMake}
 use Rattle.hive_edit.specs.Places.{IsKeyAt}
 use Rattle.hive_edit.proofs.ResultLemmas.{done, some}
 use Rattle.hive_edit.proofs.PlaceLemmas.{KeyThere, key_there, no_place}
 use Rattle.hive_edit.proofs.EditLemmas.{the_tree}
 use Rattle.hive_edit.proofs.LowLemmas.{bulk_is}
-use Rattle.hive_edit.proofs.ParentLemmas.{IsParent}
 use Rattle.hive_edit.proofs.SteppedLemmas.{lacks_room}
 use Rattle.hive_edit.proofs.JudgeLemmas.{refused_key, refused_name, refused_long, refused_deep, MayTry, step_made, key_present, key_absent, nothing_made, Grows, grows, grown_is, lists_over, make_room, counted_children}
 use Rattle.hive_edit.proofs.KeyLemmas.{node_read}
@@ -78,6 +76,13 @@ pub asks_deep : (bins heap : List Bin) (root : ℕ) (version : HiveVersion) (bul
 asks_deep bins heap root version bulk h parent name at l e good short deep =
     let f = finds_key bins heap root version bulk h parent at l e in
     subst (λ (g : HiveCells). Answers g parent name (Err too_deep)) l.view (refused_deep parent name (tree_of (look_up version bins) root) f.key.there f.key.found good short deep)
+
+-- the path leads to a key that has a child of this name, and the step that makes one makes nothing
+pub record IsMadeAlready (h : HiveCells) (parent : List (List ℕ)) (name : List ℕ) : Type 0 where
+  pub key : Tree
+  pub found : find_key parent h.tree ≡ Some key
+  pub present : has_key parent name h.tree ≡ true
+  pub step : after_step (make_key parent name) h.tree ≡ Ok h.tree
 
 -- ---- the path and the name are good
 

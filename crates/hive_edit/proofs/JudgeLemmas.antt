@@ -1,23 +1,21 @@
 -- Whether a key may be made, and the bulk of the tree with it.
-use Rattle.std.proofs.Common.{◌≡◌, ◌≤◌, ◌<◌, ℕ, zero, suc, ◌+◌, ◌-◌, ◌*◌, ◌/◌, ◌%◌, ◌||◌, Bool, true, false, not, eqb, cond, List, [], ◌∷◌, ◌++◌, length, min, Option, Some, None, Result, Ok, Err, ◌⊎◌, inl, inr, refl, sym, ap, subst, ◌∙◌, arith}
-use Rattle.std.specs.Prelude.{◌==◌, nat_lt, nat_eq, find, is_some, if◌then◌else◌}
+use Rattle.std.proofs.Common.{◌≡◌, ◌≤◌, ◌<◌, ℕ, zero, suc, ◌+◌, ◌-◌, ◌*◌, ◌/◌, ◌%◌, Bool, true, false, not, eqb, cond, List, [], ◌∷◌, ◌++◌, length, Option, Some, None, Result, Ok, Err, refl, sym, ap, subst, ◌∙◌, arith}
+use Rattle.std.specs.Prelude.{◌==◌, nat_lt, find, is_some}
 use Rattle.std.specs.Option.{is_none, option_map_or}
 use Rattle.std.specs.Ordering.{is_gt}
 use lib.ListN.{replicate}
-use lib.Pointwise.{pointwise}
 use Rattle.std.proofs.lemmas.List.Sums.{sum_by-cons}
-use Rattle.std.proofs.lemmas.Bool.{ne_eqb, eq-eqb, le-ltb, lt-ltb, cases_lt}
+use Rattle.std.proofs.lemmas.Bool.{ne_eqb, le-ltb, lt-ltb}
 use Rattle.std.proofs.lemmas.Slice.Eq.{bytes_eq-Decides}
 use Rattle.nt_bytes.specs.Folding.{folded_order}
 use Rattle.nt_bytes.specs.declared.version.HiveVersion.{HiveVersion}
-use Rattle.hive_model.specs.Bins.{Bin, Cells, look_up}
-use Rattle.hive_model.specs.KeyNode.{KeyNode, key_node_at}
+use Rattle.hive_model.specs.Bins.{Cells}
+use Rattle.hive_model.specs.KeyNode.{KeyNode}
 use Rattle.hive_model.specs.Tree.{Tree, Trees, Head, key, none, more, head, listed, children, is_named, find_key}
 use Rattle.hive_model.specs.Size.{cell, name_bytes, has_own, part_count, list_size, count, size, bulk_of}
 use Rattle.hive_model.specs.Edit.{make_key, Refusal, no_key, bad_name, name_too_long, too_deep, unless, has_child, is_bad_name, of_children, placed, new_key, with_key, at_key, key_made, after_step}
-use Rattle.hive_model.specs.Walk.{reading}
 use Rattle.hive_model.specs.Packed.{rounded}
-use Rattle.hive_model.specs.Footprint.{key_place, child_places, is_node_named, has_key, some_cell, list_sizes, sizes, needed_sizes, room_of}
+use Rattle.hive_model.specs.Footprint.{child_places, is_node_named, has_key, some_cell, list_sizes, sizes, needed_sizes, room_of}
 use Rattle.hive_model.specs.Stands.{Stands, AllStand, IsWellFormed}
 use Rattle.edit_laws.specs.Sizes.{sizes_of}
 use Rattle.edit_laws.proofs.ChildEdits.{relisted_size}
@@ -28,8 +26,8 @@ use Rattle.edit_laws.proofs.RoomLemmas.{found_changed, make_needs}
 use Rattle.edit_laws.proofs.InOrder.{at_key_itself}
 use Rattle.edit_laws.proofs.Wellformed.{places_are}
 use Rattle.hive_edit.specs.Making.{made_tree}
-use Rattle.hive_edit.proofs.ResultLemmas.{done, some}
-use Rattle.hive_edit.proofs.PlaceLemmas.{IsPlaceOf, child_place, key_there}
+use Rattle.hive_edit.proofs.ResultLemmas.{some}
+use Rattle.hive_edit.proofs.PlaceLemmas.{IsPlaceOf, child_place}
 use Rattle.hive_edit.proofs.LowLemmas.{BulkIs, bulk_then, name_low}
 use Rattle.hive_edit.proofs.ParentLemmas.{IsParent, children_are, siblings_are}
 

@@ -1,6 +1,6 @@
 -- A hive in which a key was made, or in which nothing was made.
-use Rattle.std.proofs.Common.{◌≡◌, ◌≤◌, ◌<◌, ◌^◌, ℕ, ◌+◌, ◌*◌, ◌||◌, Bool, true, false, cond, List, [], ◌∷◌, ◌++◌, length, take, drop, Option, Some, None, Result, Ok, Err, refl, sym, ap, subst, ◌∙◌, arith}
-use Rattle.std.specs.Prelude.{◌==◌, Contains, slice_index, MatchBool, if◌then◌else◌}
+use Rattle.std.proofs.Common.{◌≡◌, ◌≤◌, ◌<◌, ◌^◌, ℕ, ◌+◌, ◌*◌, ◌||◌, Bool, true, false, cond, List, [], ◌∷◌, ◌++◌, length, take, drop, Option, Result, Ok, refl, sym, ap, subst, ◌∙◌, arith}
+use Rattle.std.specs.Prelude.{◌==◌, slice_index}
 use Rattle.std.specs.Option.{IsSome, IsSomeAnd}
 use Rattle.std.specs.Result.{IsOk}
 use Rattle.std.specs.List.{list_any, position_or_len}
@@ -9,8 +9,7 @@ use Rattle.std.proofs.lemmas.List.{take-append-drop}
 use Rattle.nt_bytes.specs.declared.fault.HiveKind.{HiveKind}
 use Rattle.nt_bytes.specs.Fields.{u32_in, u64_in}
 use Rattle.nt_bytes.specs.declared.version.HiveVersion.{HiveVersion}
-use Rattle.hive_model.specs.Bins.{Bin, Cells, bins_size, look_up, spelled}
-use Rattle.hive_model.specs.Forms.{◌>>=◌}
+use Rattle.hive_model.specs.Bins.{Bin, Cells, look_up, spelled}
 use Rattle.hive_model.specs.KeyNode.{KeyNode, key_node_at, key_node_text, is_narrow_key}
 use Rattle.hive_model.specs.Security.{security_at}
 use Rattle.hive_model.specs.Tree.{Tree, key, head, children}
@@ -20,7 +19,7 @@ use Rattle.hive_model.specs.Edit.{make_key, is_bad_name}
 use Rattle.hive_model.specs.Packed.{rounded}
 use Rattle.hive_model.specs.Walk.{reading, nowhere}
 use Rattle.hive_model.specs.Footprint.{key_place, has_key, security_cell_at, list_cells_at, list_sizes, needed_sizes, room_of}
-use Rattle.hive_model.specs.Stands.{Stands, IsWellFormed}
+use Rattle.hive_model.specs.Stands.{Stands}
 use Rattle.hive_model.specs.StoredNames.{name_text}
 use Rattle.hive_model.proofs.Spelling.{length_key_node, length_name, length_wide}
 use Rattle.hive_cells.specs.Held.{held_at}
@@ -35,7 +34,7 @@ use Rattle.key_index.specs.Lists.{payload_in, children_at, lists_at, name_in, is
 use Rattle.key_index.specs.Relists.{AreApart}
 use Rattle.hive_edit.specs.declared.adding.NewPlace.{NewPlace}
 use Rattle.hive_edit.specs.declared.making.Above.{Above}
-use Rattle.hive_edit.specs.Hive.{HiveCells, cells_in, hive_of, IsHive}
+use Rattle.hive_edit.specs.Hive.{HiveCells, hive_of, IsHive}
 use Rattle.hive_edit.specs.Standing.{tree_of}
 use Rattle.hive_edit.specs.Making.{new_node, made_tree, above_lists, above_children, AboveIs, IsPutAt, IsLinkable, IsAddable, IsAdded, LacksNodeRoom, MayMake}
 use Rattle.hive_edit.specs.Stepped.{LacksStepRoom}
@@ -43,11 +42,9 @@ use Rattle.hive_edit.specs.Places.{IsKeyAt}
 use Rattle.hive_edit.proofs.ResultLemmas.{done, some, then_so, is_ok_of, ok_same}
 use Rattle.hive_edit.proofs.HiveLemmas.{hive_opened}
 use Rattle.hive_edit.proofs.PlaceLemmas.{key_there}
-use Rattle.hive_edit.proofs.NodeLemmas.{NodeHere}
 use Rattle.hive_edit.proofs.NodeLemmas.{node_here as node_at_key}
 use Rattle.hive_edit.proofs.NodeMade.{MayBeNode, node_again, security_text_is}
-use Rattle.hive_edit.proofs.ParentLemmas.{Keeps, kept_well, IsParent, kept_parent, parent_held, lists_are, siblings_are, lists_apart, list_no_node, list_no_security, node_no_security, security_there, node_stands, security_read}
-use Rattle.hive_edit.proofs.AddedLemmas.{no_some}
+use Rattle.hive_edit.proofs.ParentLemmas.{Keeps, kept_well, IsParent, kept_parent, parent_held, siblings_are, lists_apart, list_no_node, list_no_security, node_no_security, security_there, node_stands, security_read}
 use Rattle.hive_edit.proofs.MakingLemmas.{put_keeps, lists_still, key_done}
 use Rattle.hive_edit.proofs.JudgeLemmas.{MayTry, step_made, make_room, counted_children}
 use Rattle.hive_edit.proofs.SteppedLemmas.{IsStepMade, stepped, lacks_room}

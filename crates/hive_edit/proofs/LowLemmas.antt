@@ -1,7 +1,6 @@
 -- A hive's tree is far below what a bulk has room for: each key and each value of it has a cell of its own.
-use Rattle.std.proofs.Common.{Result, Ok, ◌≡◌, ◌≤◌, ◌<◌, ◌^◌, ℕ, zero, suc, ◌+◌, ◌-◌, ◌*◌, ◌/◌, ◌%◌, Bool, true, false, cond, eqb, List, [], ◌∷◌, ◌++◌, length, length-append, Option, Some, None, inl, inr, refl, sym, ap, subst, ◌∙◌, arith}
-use Rattle.std.specs.Prelude.{min, nat_lt, ◌==◌, flat_map}
-use Rattle.std.specs.List.{list_any}
+use Rattle.std.proofs.Common.{Ok, ◌≡◌, ◌≤◌, ◌<◌, ℕ, zero, suc, ◌+◌, ◌-◌, ◌*◌, ◌/◌, ◌%◌, Bool, true, false, cond, eqb, List, [], ◌∷◌, ◌++◌, length, length-append, Option, Some, None, inl, inr, refl, sym, ap, subst, ◌∙◌, arith}
+use Rattle.std.specs.Prelude.{min, nat_lt, flat_map}
 use Rattle.std.proofs.lemmas.Bool.{eqb-true, eqb-false}
 use Rattle.std.proofs.lemmas.Bool.Decides.{Decides-eqb}
 use Rattle.std.proofs.lemmas.Map.Steps.{length-le_from_distinct_below}
@@ -10,8 +9,8 @@ use Rattle.std.proofs.lemmas.Map.Views.{Contains-from_any}
 use Rattle.nt_bytes.specs.declared.version.HiveVersion.{HiveVersion}
 use Rattle.hive_model.specs.Forms.{◌>>=◌}
 use Rattle.hive_model.specs.Bins.{Bin, Cell, Cells, bin_size, bins_size, cell_size, cells_size, in_cells, in_bins, or_else, cell_at, look_up}
-use Rattle.hive_model.specs.Size.{cell, name_bytes, is_narrow, cells_sum, is_big, segment_count, segment_sizes, data_sizes, item_size, items_sum, items_size, node_size, class_size, security_size, has_own, part_count, list_size, count, size, size_of_all, bulk_of}
-use Rattle.hive_model.specs.Tree.{Tree, Trees, Item, Head, key, none, more, listed, head}
+use Rattle.hive_model.specs.Size.{cell, name_bytes, is_narrow, cells_sum, is_big, segment_count, segment_sizes, data_sizes, item_size, items_sum, items_size, class_size, security_size, has_own, part_count, list_size, count, size, size_of_all, bulk_of}
+use Rattle.hive_model.specs.Tree.{Tree, Trees, Item, key, none, more}
 use Rattle.hive_model.specs.Valid.{IsItem, HoldsKeys, AllHoldKeys, levels, most_levels}
 use Rattle.hive_model.specs.Walk.{value_checks}
 use Rattle.hive_model.specs.Footprint.{used_in, child_places, security_cell_at, list_cells_at}
@@ -21,7 +20,7 @@ use Rattle.hive_cells.proofs.HeldLemmas.{payload_held}
 use Rattle.reg_tree.proofs.Unlike.{Each, each_from}
 use Rattle.edit_laws.specs.Owned.{In, class_cell_at, value_list_at, value_places}
 use Rattle.edit_laws.specs.Pairs.{Pairwise}
-use Rattle.edit_laws.specs.Revalues.{cells_of_values, all_value_cells}
+use Rattle.edit_laws.specs.Revalues.{cells_of_values}
 use Rattle.edit_laws.specs.Uses.{Agree, plain, secure, own_uses, tree_uses}
 use Rattle.edit_laws.proofs.Around.{hive_once, used_held}
 use Rattle.edit_laws.proofs.Ins.{in_from}

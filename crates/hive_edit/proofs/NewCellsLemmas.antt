@@ -1,5 +1,5 @@
 -- A value of a new name in the cells of its key: what was put, written and freed, and what is read then.
-use Rattle.std.proofs.Common.{◌≡◌, ◌≤◌, ◌<◌, ◌^◌, inl, inr, ⊎_elim, ℕ, suc, ◌+◌, ◌-◌, ◌*◌, Bool, true, false, cond, List, [], ◌∷◌, ◌++◌, length, map, take, Option, Some, None, Ok, refl, sym, ap, subst, ◌∙◌, arith}
+use Rattle.std.proofs.Common.{◌≡◌, ◌≤◌, ◌<◌, ◌^◌, inl, inr, ℕ, suc, ◌+◌, ◌-◌, ◌*◌, Bool, true, false, cond, List, [], ◌∷◌, ◌++◌, length, map, take, Option, Some, None, Ok, refl, sym, ap, subst, ◌∙◌, arith}
 use lib.ListN.{replicate}
 use Rattle.std.specs.Prelude.{nat_lt, nat_le, ◌==◌}
 use Rattle.std.specs.Option.{IsSome, IsSomeAnd, option_map}
@@ -10,7 +10,7 @@ use Rattle.hive_model.specs.Bins.{Bin, Cell, Cells, bins_size, look_up, or_else}
 use Rattle.hive_model.specs.KeyNode.{KeyNode, key_node_at}
 use Rattle.hive_model.specs.KeyValue.{KeyValue}
 use Rattle.hive_model.specs.Lists.{AreOffsets, offsets_in, offsets_text}
-use Rattle.hive_model.specs.Size.{cell, is_narrow, data_size, item_size}
+use Rattle.hive_model.specs.Size.{is_narrow, data_size, item_size}
 use Rattle.hive_model.specs.Tree.{Item}
 use Rattle.hive_model.specs.Valid.{IsItem}
 use Rattle.hive_model.specs.Packed.{allocated_cell, data_place, item_form, data_cells, item_cells, text}

@@ -1,8 +1,8 @@
 -- A value of a new name in a hive: where it goes, the edit, the bulk, the strain, and the hive after it.
-use Rattle.std.proofs.Common.{◌≡◌, ◌≤◌, ◌<◌, ◌⊎◌, inl, inr, ⊎_elim, ℕ, zero, suc, ◌+◌, ◌-◌, ◌*◌, Bool, true, false, eqb, cond, List, [], ◌∷◌, ◌++◌, length, Option, Some, None, Result, Ok, Err, refl, sym, ap, subst, ◌∙◌, arith}
-use Rattle.std.specs.Prelude.{nat_lt, min, find, is_some, OnOk}
+use Rattle.std.proofs.Common.{◌≡◌, ◌≤◌, ◌<◌, inl, ℕ, zero, suc, ◌+◌, ◌-◌, ◌*◌, Bool, true, false, eqb, cond, List, [], ◌∷◌, ◌++◌, length, Option, Some, None, Result, Ok, Err, refl, sym, ap, subst, ◌∙◌, arith}
+use Rattle.std.specs.Prelude.{nat_lt, find, is_some}
 use Rattle.std.specs.Option.{is_none, option_and_then, option_map_or}
-use Rattle.std.proofs.lemmas.Bool.{ltb-false, ltb-true, le-ltb, lt-ltb, ne_eqb, eqb-true, eqb-false}
+use Rattle.std.proofs.lemmas.Bool.{ltb-false, le-ltb, lt-ltb, ne_eqb, eqb-true, eqb-false}
 use Rattle.nt_bytes.specs.declared.fault.HiveKind.{HiveKind}
 use Rattle.nt_bytes.specs.declared.version.HiveVersion.{HiveVersion}
 use Rattle.hive_model.specs.Bins.{Bin, Cells, bins_size, look_up, spelled}
@@ -15,7 +15,7 @@ use Rattle.hive_model.specs.Tree.{key as tree_key}
 use Rattle.hive_model.specs.Edit.{set_value, Refusal, no_key, name_too_long, data_too_long, full, unless, then_edit, with_item, of_items, has_item, after_step, after_steps, most_bulk, edited}
 use Rattle.hive_model.specs.Packed.{rounded}
 use Rattle.hive_model.specs.Walk.{reading}
-use Rattle.hive_model.specs.Footprint.{of_read, key_place, value_list_sizes, item_sizes, needed_sizes, room_of, strain_of}
+use Rattle.hive_model.specs.Footprint.{of_read, key_place, value_list_sizes, item_sizes, needed_sizes, room_of}
 use Rattle.hive_model.specs.Stands.{Stands, IsWellFormed, items_at, values_of}
 use Rattle.hive_cells.specs.Holes.{new_bin_size}
 use Rattle.hive_read.proofs.FormFacts.{IsBytes}
@@ -32,9 +32,6 @@ use Rattle.edit_laws.proofs.ItemSizes.{added_size as added_items}
 use Rattle.edit_laws.proofs.RoomLemmas.{room_for, found_changed, set_needs, item_total}
 use Rattle.edit_laws.proofs.Sizes.{revalued_size}
 use Rattle.edit_laws.proofs.ValueCells.{value_added}
-use Rattle.reg_tree.specs.declared.stop.EditStop.{EditStop}
-use Rattle.reg_tree.specs.Makes.{Makes}
-use Rattle.hive_edit.specs.Edits.{IsPackedAnew, IsPackedForRoom}
 use Rattle.hive_edit.specs.Given.{place_in}
 use Rattle.hive_edit.specs.Gone.{list_room, HasOffsets}
 use Rattle.hive_edit.specs.Hive.{HiveCells, cells_in, hive_of, IsHive}

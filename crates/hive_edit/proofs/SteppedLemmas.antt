@@ -6,7 +6,7 @@ use Rattle.std.specs.List.{All}
 use Rattle.std.proofs.lemmas.Bool.{le-ltb, lt-ltb}
 use Rattle.std.proofs.lemmas.List.Elements.{Contains-append_left}
 use Rattle.nt_bytes.specs.declared.version.HiveVersion.{HiveVersion}
-use Rattle.hive_model.specs.Bins.{Bin, Cells, bins_size, look_up, spelled}
+use Rattle.hive_model.specs.Bins.{Bin, bins_size, look_up, spelled}
 use Rattle.hive_model.specs.Size.{bulk_of}
 use Rattle.hive_model.specs.Tree.{Tree}
 use Rattle.hive_model.specs.Edit.{Step, Refusal, full, then_edit, after_step, after_steps, most_bulk, edited}
@@ -28,7 +28,7 @@ use Rattle.hive_edit.specs.Edits.{IsEditedInPlace, IsPackedAnew, IsPackedForRoom
 use Rattle.hive_edit.specs.Hive.{HiveCells, cells_in, hive_of, IsHive}
 use Rattle.hive_edit.specs.Standing.{tree_of}
 use Rattle.hive_edit.specs.Stepped.{IsStepped, LacksStepRoom}
-use Rattle.hive_edit.specs.Steps.{IsInPlace, CannotStep, AreStepped, StopsAtOne}
+use Rattle.hive_edit.specs.Steps.{IsInPlace, AreStepped, StopsAtOne}
 use Rattle.hive_edit.proofs.EditLemmas.{the_tree}
 use Rattle.hive_edit.proofs.HiveLemmas.{hive_opened}
 use Rattle.hive_edit.proofs.StandingLemmas.{tree_is}

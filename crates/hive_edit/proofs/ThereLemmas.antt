@@ -1,10 +1,8 @@
 -- A value that is there, set in place: the edit, the bulk, and the hive after it.
-use Rattle.std.proofs.Common.{◌≡◌, ◌≤◌, ◌<◌, ◌^◌, ◌⊎◌, inl, inr, ℕ, ◌+◌, ◌-◌, Bool, true, false, cond, List, [], ◌∷◌, ◌++◌, length, Option, Some, None, Result, Ok, Err, refl, sym, ap, subst, ◌∙◌, arith}
-use Rattle.std.specs.Prelude.{nat_lt, min, find}
-use Rattle.std.specs.Result.{IsOk}
+use Rattle.std.proofs.Common.{◌≡◌, ◌≤◌, ◌<◌, ◌^◌, ◌⊎◌, inl, inr, ℕ, ◌+◌, ◌-◌, List, [], ◌∷◌, length, Option, Some, None, Result, refl, sym, ap, subst, ◌∙◌, arith}
 use Rattle.std.specs.Option.{is_none, option_and_then, option_map, IsSome, IsSomeAnd}
 use Rattle.std.specs.List.{All, Contains}
-use Rattle.std.proofs.lemmas.Bool.{le-ltb, lt-ltb}
+use Rattle.std.proofs.lemmas.Bool.{le-ltb}
 use Rattle.nt_bytes.specs.declared.fault.HiveKind.{HiveKind}
 use Rattle.nt_bytes.specs.declared.version.HiveVersion.{HiveVersion}
 use Rattle.nt_bytes.specs.Folding.{folds_same}
@@ -12,26 +10,24 @@ use Rattle.hive_model.specs.Bins.{Bin, Cells, bins_size, look_up}
 use Rattle.hive_model.specs.Forms.{◌>>=◌}
 use Rattle.hive_model.specs.KeyNode.{KeyNode, key_node_at}
 use Rattle.hive_model.specs.KeyValue.{KeyValue, key_value_at}
-use Rattle.hive_model.specs.Size.{cell, name_bytes, data_size, item_size, items_size, size, bulk_of}
+use Rattle.hive_model.specs.Size.{cell, name_bytes, data_size, items_size, size, bulk_of}
 use Rattle.hive_model.specs.Tree.{Tree, Item, head, find_key, find_item}
 use Rattle.hive_model.specs.Tree.{key as tree_key}
-use Rattle.hive_model.specs.Edit.{Step, set_value, Refusal, full, most_bulk, edited, after_step, with_item}
+use Rattle.hive_model.specs.Edit.{set_value, after_step, with_item}
 use Rattle.hive_model.specs.Walk.{reading, value_checks, data_checks}
 use Rattle.hive_model.specs.Footprint.{used_in, key_place, is_value_named}
 use Rattle.hive_model.specs.Stands.{Stands, item_at, IsWellFormed}
 use Rattle.hive_cells.specs.Held.{held_at, patched}
 use Rattle.hive_cells.proofs.HeldLemmas.{payload_held, held_payload}
 use Rattle.key_index.specs.Relists.{AreApart}
-use Rattle.edit_laws.specs.Owned.{In, value_name, Reaches}
-use Rattle.edit_laws.specs.Owned.{value_places as owned_places}
+use Rattle.edit_laws.specs.Owned.{In}
 use Rattle.edit_laws.specs.Framed.{IsUnheld}
 use Rattle.edit_laws.specs.Pairs.{Pairwise}
 use Rattle.edit_laws.specs.Changes.{GetsData}
 use Rattle.edit_laws.specs.Done.{item, IsDone}
 use Rattle.edit_laws.proofs.FromCells.{item_is, value_uses, name_of_value}
-use Rattle.edit_laws.proofs.Ins.{in_from, contains_from}
+use Rattle.edit_laws.proofs.Ins.{in_from}
 use Rattle.edit_laws.proofs.ItemSizes.{set_size}
-use Rattle.edit_laws.proofs.Out.{placed_at}
 use Rattle.edit_laws.proofs.Patches.{value_written}
 use Rattle.edit_laws.proofs.Sizes.{revalued_size}
 use Rattle.edit_laws.proofs.ValueCells.{data_set}
@@ -41,7 +37,7 @@ use Rattle.hive_edit.specs.Hive.{HiveCells, cells_in, hive_of, IsHive}
 use Rattle.hive_edit.specs.NewValue.{set_tree}
 use Rattle.hive_edit.specs.Places.{value_places, value_place, data_places, data_room, room_for_item, IsItemHere}
 use Rattle.hive_edit.specs.Standing.{tree_of}
-use Rattle.hive_edit.proofs.ResultLemmas.{done, some, some_same, then_so, is_ok_of}
+use Rattle.hive_edit.proofs.ResultLemmas.{done, some, then_so, is_ok_of}
 use Rattle.hive_edit.proofs.EditLemmas.{made, the_tree}
 use Rattle.hive_edit.proofs.InPlaceLemmas.{found_among, named_folds}
 use Rattle.hive_edit.proofs.ItemLemmas.{item_facts, value_facts}

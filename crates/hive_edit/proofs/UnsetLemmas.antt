@@ -1,27 +1,26 @@
 -- A value taken out of the cells of its key, and of a hive.
-use Rattle.std.proofs.Common.{◌≡◌, ◌≤◌, ◌<◌, ◌^◌, ℕ, zero, suc, ◌+◌, ◌-◌, ◌*◌, Bool, true, false, not, eqb, cond, List, [], ◌∷◌, ◌++◌, length, take, drop, Option, Some, None, Result, Ok, Err, ◌⊎◌, inl, inr, ⊎_elim, refl, sym, ap, subst, ◌∙◌, arith}
-use Rattle.std.specs.Prelude.{◌==◌, nat_lt, nat_le, find, is_some, min, flat_map}
-use Rattle.std.specs.Option.{IsSome, IsSomeAnd, is_none, option_map, option_map_or}
-use Rattle.std.specs.Result.{IsOk}
+use Rattle.std.proofs.Common.{◌≡◌, ◌≤◌, ◌<◌, ◌^◌, ℕ, zero, suc, ◌+◌, ◌-◌, ◌*◌, Bool, true, false, not, cond, List, [], ◌∷◌, ◌++◌, length, take, Option, Some, None, Result, Ok, Err, ◌⊎◌, inl, inr, ⊎_elim, refl, sym, ap, subst, ◌∙◌, arith}
+use Rattle.std.specs.Prelude.{◌==◌, find, is_some, min, flat_map}
+use Rattle.std.specs.Option.{IsSomeAnd, is_none, option_map, option_map_or}
 use Rattle.std.specs.Int.{w32, to_le_bytes}
-use Rattle.std.proofs.lemmas.Bool.{le-ltb, lt-ltb, ne_eqb}
+use Rattle.std.proofs.lemmas.Bool.{ne_eqb}
 use Rattle.std.proofs.lemmas.Bool.Decides.{nat_tests}
-use Rattle.std.proofs.lemmas.List.Elements.{All-cons, All-nil, Contains-append_left}
+use Rattle.std.proofs.lemmas.List.Elements.{Contains-append_left}
 use Rattle.nt_bytes.specs.declared.fault.HiveKind.{HiveKind}
 use Rattle.nt_bytes.specs.declared.fault.HiveKind.TheVariants.{FormLength}
 use Rattle.nt_bytes.specs.declared.version.HiveVersion.{HiveVersion}
-use Rattle.nt_bytes.specs.Fields.{u16_in, u32_in}
+use Rattle.nt_bytes.specs.Fields.{u32_in}
 use Rattle.nt_bytes.specs.Folding.{folds_same}
 use Rattle.hive_model.specs.Bins.{Bin, Cells, bins_size, look_up, spelled}
-use Rattle.hive_model.specs.Forms.{◌>>=◌, bytes_in}
+use Rattle.hive_model.specs.Forms.{◌>>=◌}
 use Rattle.hive_model.specs.KeyNode.{KeyNode, key_node_at}
 use Rattle.hive_model.specs.KeyValue.{KeyValue, key_value_at, data_inside, is_in_place}
 use Rattle.hive_model.specs.BigData.{BigData, big_data_at}
 use Rattle.hive_model.specs.Lists.{offsets_in}
-use Rattle.hive_model.specs.Size.{is_big, segment_bytes, segment_count, cell, item_size, items_sum, items_size, size, bulk_of, capped}
+use Rattle.hive_model.specs.Size.{is_big, segment_bytes, segment_count, cell, item_size, items_sum, items_size, size, bulk_of}
 use Rattle.hive_model.specs.Tree.{Tree, Item, head, find_key, find_item, is_item}
 use Rattle.hive_model.specs.Tree.{key as tree_key}
-use Rattle.hive_model.specs.Edit.{Step, delete_value, Refusal, no_key, no_value, full, unless, then_edit, without_first, of_items, at_key, has_item, value_deleted, after_step, after_steps, most_bulk, edited}
+use Rattle.hive_model.specs.Edit.{Step, delete_value, Refusal, no_key, no_value, unless, without_first, has_item, value_deleted, after_step}
 use Rattle.hive_model.specs.Walk.{reading, below_of, use_as, big_data_of, segments_checks, big_checks, data_checks, value_checks}
 use Rattle.hive_model.specs.Footprint.{used_in, key_place, is_value_named, step_cells, unless_refused, IsInFootprint}
 use Rattle.hive_model.specs.Stands.{Stands, IsWellFormed, big_bytes_at, joined_segments, data_of, item_at, items_at}
@@ -41,23 +40,18 @@ use Rattle.edit_laws.proofs.FromCells.{value_uses, data_held_inside, data_in_cel
 use Rattle.edit_laws.proofs.ValueCells.{value_taken}
 use Rattle.edit_laws.proofs.ItemSizes.{deleted_sum}
 use Rattle.edit_laws.proofs.Sizes.{revalued_size}
-use Rattle.reg_tree.specs.Fitting.{Fits}
-use Rattle.reg_tree.proofs.Edited.{edited_valid}
 use Rattle.edit_laws.specs.Written.{with_part, two_numbers, HasNewValues}
 use Rattle.edit_laws.proofs.Patches.{node_text, values_written}
 use Rattle.key_index.specs.Lists.{payload_in}
 use Rattle.key_index.proofs.Below.{in_payload}
 use Rattle.hive_edit.specs.Hive.{HiveCells, cells_in, hive_of, IsHive}
-use Rattle.hive_edit.specs.Edits.{IsEditedInPlace}
-use Rattle.hive_edit.specs.Gone.{CanGo, AreGone, HasOffsets, HasSegments, Unlists, HasData, with_data, data_cells, CanTake, TakesOut, unset_tree, list_room, TellsBulk}
-use Rattle.hive_edit.specs.Places.{IsKeyAt, IsItemHere, value_place, value_places}
+use Rattle.hive_edit.specs.Gone.{AreGone, HasOffsets, HasSegments, Unlists, HasData, with_data, data_cells, CanTake, TakesOut, unset_tree, list_room}
+use Rattle.hive_edit.specs.Places.{IsItemHere, value_place, value_places}
 use Rattle.hive_edit.specs.Standing.{tree_of}
-use Rattle.hive_edit.proofs.ResultLemmas.{done, some, ok_same, some_same, then_so, value_of, is_ok_of, only_if}
-use Rattle.hive_edit.proofs.StandingLemmas.{tree_is}
+use Rattle.hive_edit.proofs.ResultLemmas.{done, some, ok_same, then_so, value_of, is_ok_of, only_if}
 use Rattle.hive_edit.proofs.PlaceLemmas.{KeyThere, key_there, no_place, IsItemAt, place_of_item, items_stand}
 use Rattle.hive_edit.proofs.ItemLemmas.{item_facts}
-use Rattle.hive_edit.proofs.HiveLemmas.{hive_opened}
-use Rattle.hive_edit.proofs.InPlaceLemmas.{found_among, listed_values, places_same, value_first, named_folds}
+use Rattle.hive_edit.proofs.InPlaceLemmas.{found_among, listed_values, places_same, named_folds}
 use Rattle.hive_edit.proofs.EditLemmas.{the_tree}
 use Rattle.hive_edit.proofs.LowLemmas.{items_length, bulk_is}
 use Rattle.hive_edit.proofs.SteppedLemmas.{IsStepMade, stepped}
@@ -528,7 +522,3 @@ is_unset old new root version bulk after h path name x v is view k e taken bytes
     let made = value_taken b c root t u path name x taken.node is.stands n.key taken.read taken.front taken.back v taken.text taken.list d taken.places named taken.takes in
     let long = taken.long in
     stepped old new root version bulk after h u (delete_value path name) is view d made bytes told (omega (arith, long)) (omega (arith, long))
-
-pub room_few : (n : ℕ) → n < 2 ^ 32 → list_room n ≤ 68719476736
-room_few zero lt = below (list_room 0) 68719476736 0 68719476736 refl refl (omega arith)
-room_few (suc n) lt = below (list_room (suc n)) 68719476736 (cell (4 * suc n)) 68719476736 (list_room_some n) refl (omega (arith, lt))

@@ -1,15 +1,15 @@
 -- What is done where a key is made in place, and what is judged first? (This project's own; the fields: regf format 1.3 and 1.5, key
 -- node and key security.)
-use Rattle.std.specs.Prelude.{◌≡◌, ◌≤◌, ◌<◌, ◌^◌, ℕ, ◌+◌, true, false, Contains, if◌then◌else◌, List, [], ◌∷◌, ◌++◌, length, Option, Some, None, Result, Ok, Err}
+use Rattle.std.specs.Prelude.{◌≡◌, ◌≤◌, ◌<◌, ◌^◌, ℕ, ◌+◌, true, false, Contains, if◌then◌else◌, List, ◌++◌, length, Some, None, Ok}
 use Rattle.std.specs.Option.{IsSome, IsSomeAnd}
 use Rattle.std.specs.Int.{w32, to_le_bytes}
 use Rattle.nt_bytes.specs.Fields.{u32_in}
 use Rattle.nt_bytes.specs.declared.version.HiveVersion.{HiveVersion}
-use Rattle.hive_model.specs.Bins.{Bin, Cells, look_up, bins_size}
-use Rattle.hive_model.specs.Tree.{Tree, find_key}
+use Rattle.hive_model.specs.Bins.{Bin, look_up, bins_size}
+use Rattle.hive_model.specs.Tree.{Tree}
 use Rattle.hive_model.specs.Size.{is_narrow, bulk_of, cell}
 use Rattle.hive_model.specs.KeyNode.{KeyNode, key_node_at}
-use Rattle.hive_model.specs.Edit.{make_key, with_key, at_key, after_step, is_bad_name}
+use Rattle.hive_model.specs.Edit.{with_key, at_key, is_bad_name}
 use Rattle.hive_model.specs.Walk.{reading, nowhere}
 use Rattle.hive_model.specs.Footprint.{key_place, has_key, list_sizes, list_strain_of, room_of}
 use Rattle.hive_model.specs.InPlace.{recounted}
@@ -151,13 +151,6 @@ pub record AboveIs (above : Above) (n : KeyNode) : Type 0 where
 -- the tree with a key of this name below the key at a path
 abbrev pub made_tree : List (List ℕ) → List ℕ → Tree → Tree
 made_tree parent name t = at_key parent (with_key name) t
-
--- the path leads to a key that has a child of this name, and the step that makes one makes nothing
-pub record IsMadeAlready (h : HiveCells) (parent : List (List ℕ)) (name : List ℕ) : Type 0 where
-  pub key : Tree
-  pub found : find_key parent h.tree ≡ Some key
-  pub present : has_key parent name h.tree ≡ true
-  pub step : after_step (make_key parent name) h.tree ≡ Ok h.tree
 
 -- the path leads to the key at an offset, which has no child of this name, and one may have it
 pub record IsOpen (h : HiveCells) (parent : List (List ℕ)) (name : List ℕ) (at : ℕ) : Type 0 where

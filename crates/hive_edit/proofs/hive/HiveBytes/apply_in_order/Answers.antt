@@ -1,6 +1,6 @@
-use Rattle.std.proofs.Common.{◌≡◌, List, map, refl, ap, subst, inl}
+use Rattle.std.proofs.Common.{◌≡◌, List, map, refl, subst, inl}
 use Rattle.std.proofs.lemmas.Result.{err_from_is_err_and}
-use Rattle.hive_model.specs.Edit.{Step, after_steps}
+use Rattle.hive_model.specs.Edit.{after_steps}
 use Rattle.reg_tree.specs.declared.steps.TreeStep.{TreeStep}
 use Rattle.reg_tree.specs.Makes.{IsRefused, step_of}
 use Rattle.hive_edit.specs.Hive.{HiveCells}

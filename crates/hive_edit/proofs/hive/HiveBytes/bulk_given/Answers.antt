@@ -1,4 +1,4 @@
-use Rattle.std.proofs.Common.{◌≤◌, ◌+◌, sym, arith}
+use Rattle.std.proofs.Common.{arith}
 use Rattle.hive_edit.proofs.LowLemmas.{bulk_low}
 use Rattle.hive_edit.proofs.ThereLemmas.{there_step, there_here, there_bulk, room_same}
 use Rattle.hive_edit.proofs.hive.HiveBytes.bulk_given.Goals as goal

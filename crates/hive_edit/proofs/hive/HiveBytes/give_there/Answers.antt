@@ -1,4 +1,4 @@
-use Rattle.std.proofs.Common.{◌≡◌, false, true, sym, ◌∙◌, arith}
+use Rattle.std.proofs.Common.{false, true, ◌∙◌, arith}
 use Rattle.hive_model.specs.Edit.{set_value}
 use Rattle.hive_edit.specs.Given.{Gives}
 use Rattle.hive_edit.proofs.SteppedLemmas.{stepped_bulk, same_hive}

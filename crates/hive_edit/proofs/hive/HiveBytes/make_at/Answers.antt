@@ -1,4 +1,4 @@
-use Rattle.std.proofs.Common.{◌≡◌, Bool, Ok, ap, ◌∙◌, arith}
+use Rattle.std.proofs.Common.{◌≡◌, Bool, Ok, ap, ◌∙◌}
 use Rattle.hive_model.specs.KeyNode.{key_node_text}
 use Rattle.hive_edit.specs.Making.{new_node, IsAlike, IsAdded}
 use Rattle.hive_edit.proofs.KeyLemmas.{at_there, ready, addable, make_lacks, is_made, is_unmade}

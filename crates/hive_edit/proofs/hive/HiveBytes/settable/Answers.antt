@@ -1,4 +1,3 @@
-use Rattle.std.proofs.Common.{arith}
 use Rattle.hive_edit.proofs.NewValueLemmas.{sets_nowhere, sets_long_name, sets_long_data, key_seen}
 use Rattle.hive_edit.proofs.hive.HiveBytes.settable.Goals as goal
 
