@@ -42,3 +42,9 @@ pub mod DeletingLemmas
 pub mod DeleteLemmas
 pub mod LowLemmas
 pub mod SteppedLemmas
+pub mod GraftRuns
+pub mod GraftLemmas
+pub mod GraftedLemmas
+pub mod ChildLemmas
+pub mod AddStepLemmas
+pub mod GraftLinks

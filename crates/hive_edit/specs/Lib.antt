@@ -7,6 +7,8 @@ pub mod Edits
 pub mod Runs
 pub mod Given
 pub mod Gone
+pub mod Grafted
+pub mod Children
 pub mod Making
 pub mod NewValue
 pub mod Dropped

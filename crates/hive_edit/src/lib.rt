@@ -7,6 +7,7 @@
 #![tactic(auto)]
 
 mod adding;
+mod adding_child;
 mod cells;
 mod children;
 mod data;
@@ -14,6 +15,7 @@ mod deleting;
 mod dropping;
 mod edit;
 mod give;
+mod grafting;
 mod hive;
 mod making;
 mod measure;

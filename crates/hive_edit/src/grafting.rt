@@ -1,0 +1,92 @@
+//! The cells of a key that is put below the root with all below it: one run, new lists of the root, and the count of the security
+//! that it shares.
+
+ghost use Rattle.std.specs.Prelude.{◌≡◌, ◌≤◌, ◌<◌, ◌⊎◌, length, IfOk, MatchBool, OnErr};
+ghost use Rattle.std.specs.Option.{IsSomeAnd, MatchOption};
+ghost use Rattle.hive_model.specs.Size.{size};
+ghost use Rattle.hive_model.specs.Walk.{nowhere};
+ghost use Rattle.hive_cells.specs.Held.{held_at};
+ghost use Rattle.hive_edit.specs.Making.{IsLinkable, LacksListRoom};
+ghost use Rattle.hive_edit.specs.Grafted.{CanGraft, IsGrafted, IsLinkedBy, IsRaisedBy, IsRunPut, LacksGraftLists};
+
+use crate::cells::put_run;
+use crate::making::{Above, note, uses_at};
+use hive_cells::OpenHeap;
+use hive_pack::{cells_below, sharing_keys, tree_fits};
+use key_index::insert_child;
+use nt_bytes::HiveVersion;
+use reg_tree::Key;
+use std::alloc::{AllocError, Global};
+
+/// An offset that names nothing.
+const NOWHERE: u32 = 0xffff_ffff;
+
+/// So many keys more use the security cell, if there is one.
+fn raise_by(heap: &mut OpenHeap, at: u32, keys: u32)
+    requires { (at ≡ nowhere → ⊥) → IsSomeAnd (held_at heap.old at) (λ p. 20 ≤ length p) }
+    ensures { IsRaisedBy at keys heap.old heap.new }
+{
+    if at == NOWHERE {
+        return;
+    }
+    let uses = uses_at(heap, at).saturating_add(keys);
+    heap.patch(at, 12, &uses.to_le_bytes());
+}
+
+/// Names a key in new lists of its parent, where so many keys more use the security. `false` where there is no room for the
+/// lists; the cells are then as they were.
+fn link_by(
+    alloc: Global,
+    heap: &mut OpenHeap,
+    version: HiveVersion,
+    parent: u32,
+    above: Above,
+    child: u32,
+    keys: u32,
+) -> Result<bool, AllocError>
+    requires linkable { IsLinkable version parent above child heap.old }
+    ensures linked { IfOk result (λ done. MatchBool done (IsLinkedBy version parent above child keys heap.old heap.new)
+        (LacksListRoom version above child heap.old heap.new)) }
+    ensures refused { OnErr result (heap.new ≡ heap.old) }
+{
+    match insert_child(alloc, heap, version, above.list, above.count, child)? {
+        None => Ok(false),
+        Some(list) => {
+            note(heap, parent, above.count + 1, above.volatile, list);
+            raise_by(heap, above.security, keys);
+            Ok(true)
+        }
+    }
+}
+
+/// Puts the cells of a key and of all below it at a place that has room for them, and names the key in new lists of its
+/// parent. `false` where there is no room for the lists; the run stands there then, and nothing names it.
+pub(crate) fn graft_cells(
+    alloc: Global,
+    heap: &mut OpenHeap,
+    version: HiveVersion,
+    parent: u32,
+    above: Above,
+    shared: &[u8],
+    key: &Key,
+    at: u32,
+) -> Result<bool, AllocError>
+    requires can { CanGraft version parent above shared.now key.now at heap.old }
+    ensures grafted { IfOk result (λ done. MatchBool done (IsGrafted version parent above shared.now key.now at heap.old heap.new)
+        (LacksGraftLists version parent above shared.now key.now at heap.old heap.new)) }
+    ensures refused { OnErr result ((heap.new ≡ heap.old) ⊎ IsRunPut version parent above shared.now key.now at heap.old heap.new) }
+{
+    tree_fits(key);
+    let run = cells_below(
+        alloc,
+        version,
+        parent,
+        shared,
+        above.security,
+        at as usize,
+        key,
+    )?;
+    let keys = sharing_keys(shared, key);
+    put_run(heap, at, run.as_slice())?;
+    link_by(alloc, heap, version, parent, above, at, keys)
+}
