@@ -16,7 +16,6 @@ use Rattle.hive_cells.specs.Held.{held_at}
 use Rattle.hive_cells.proofs.HeldLemmas.{payload_held, held_payload}
 use Rattle.hive_read.proofs.ValidTrees.{AreBytes, well-formed-valid, cells-bytes}
 use Rattle.hive_read.proofs.FormFacts.{IsBytes}
-use Rattle.hive_read.proofs.One.{one_stands}
 use Rattle.edit_laws.specs.Done.{IsDone}
 use Rattle.edit_laws.specs.Lessened.{HasChildThere}
 use Rattle.edit_laws.specs.Uses.{tree_uses}
@@ -349,21 +348,22 @@ step_seen bins root version bulk h path (Some p) is view e =
 
 -- the bulk is told by the child and the lists
 pub bulk_seen : (bins heap : List Bin) (root : ℕ) (version : HiveVersion) (bulk : ℕ) (h : HiveCells) (path : List (List ℕ)) (p : KeyPair) (above : Above)
-    (shared : List ℕ) (kid : Tree) (now fewer below : ℕ) → IsHive bins root version bulk → hive_of bins root version ≡ h → heap ≡ bins
+    (shared : List ℕ) (now fewer below : ℕ) → IsHive bins root version bulk → hive_of bins root version ≡ h → heap ≡ bins
     → pair_place (cells_in h) path h.root ≡ a_pair p → ((n : KeyNode) → reading key_node_at (look_up version heap) p.above ≡ Ok n → AboveIs above n)
-    → ((t : Tree) → IsWellFormed (look_up version heap) p.above t → shared ≡ (head t).security) → IsWellFormed (look_up version heap) p.at kid
-    → bulk ≤ 1099511627776 → now ≡ list_size above.count → fewer ≡ list_size (above.count - 1) → fewer ≤ 100000000000 → below ≡ size version shared kid
+    → ((t : Tree) → IsWellFormed (look_up version heap) p.above t → shared ≡ (head t).security) → bulk ≤ 1099511627776
+    → now ≡ list_size above.count → fewer ≡ list_size (above.count - 1) → fewer ≤ 100000000000
+    → ((t : Tree) → IsWellFormed (look_up version heap) p.at t → below ≡ size version shared t)
     → (now + below ≤ bulk + fewer) × (bulk + fewer - (now + below) ≡ bulk_of h.version (without_key path h.tree))
-bulk_seen bins heap root version bulk h path p above shared kid now fewer below is view same place says shares stands few n f small k =
+bulk_seen bins heap root version bulk h path p above shared now fewer below is view same place says shares few n f small told =
     let b = look_up version bins in
     let t = tree_of b root in
     let here = pair_seen bins root version bulk h path p is view place in
     let read = subst (λ (z : List Bin). reading key_node_at (look_up version z) p.above ≡ Ok here.node) (sym same) here.parent_is.read in
     let count = (says here.node read).count ∙ counted_children b root t here.stored p.above here.there here.node here.parent_is in
     let security = shares here.there (subst (λ (z : List Bin). IsWellFormed (look_up version z) p.above here.there) (sym same) here.parent_is.below) in
-    let kid_is : kid ≡ here.kid = one_stands b p.at kid here.kid (subst (λ (z : List Bin). IsWellFormed (look_up version z) p.at kid) same stands).stands here.kid_well.stands in
+    let k = told here.kid (subst (λ (z : List Bin). IsWellFormed (look_up version z) p.at here.kid) (sym same) here.kid_well) in
     let r = bulk_less version b root t path p bulk fewer now below here is.counted few (n ∙ ap list_size count) (f ∙ ap (λ (z : ℕ). list_size (z - 1)) count) small
-    (k ∙ (λ i. size version (security i) (kid_is i))) in
+    (k ∙ ap (λ (s : List ℕ). size version s here.kid) security) in
     (r.0, subst (λ (g : HiveCells). bulk + fewer - (now + below) ≡ bulk_of g.version (without_key path g.tree)) view r.1)
 
 pub some_children : (bins heap : List Bin) (root : ℕ) (version : HiveVersion) (bulk : ℕ) (h : HiveCells) (path : List (List ℕ)) (p : KeyPair) (above : Above)
@@ -374,3 +374,10 @@ some_children bins heap root version bulk h path p above is view same place says
     let here = pair_seen bins root version bulk h path p is view place in
     let read = subst (λ (z : List Bin). reading key_node_at (look_up version z) p.above ≡ Ok here.node) (sym same) here.parent_is.read in
     (can_remove version bins root (tree_of b root) path p above here (says here.node read)).some
+
+-- what a key and all below it take under another key, by its bulk and its own descriptor
+pub below_seen : (version : HiveVersion) (shared own : List ℕ) (k : Tree) (bulk more less : ℕ) → bulk ≡ bulk_of version k → own ≡ (head k).security
+    → bulk ≤ 1099511627776 → more ≡ security_size shared own → less ≡ 32 + security_size [] own
+    → (less ≤ bulk + more) × (bulk + more - less ≡ size version shared k)
+below_seen version shared own k bulk more less b o few m l =
+    below_size version shared k bulk more less b few (m ∙ ap (security_size shared) o) (l ∙ ap (λ (s : List ℕ). 32 + security_size [] s) o)

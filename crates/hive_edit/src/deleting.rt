@@ -27,9 +27,9 @@ use crate::path::child_at;
 use crate::source::{Source, payload};
 use crate::uses::push_key;
 use hive_cells::OpenHeap;
-use hive_read::read_tree;
+use hive_read::judge;
 use nt_bytes::{HiveVersion, Names, ReadStop, Row, u32_at};
-use reg_tree::{EditStop, Key, Steps, TreeStep};
+use reg_tree::{EditStop, Steps, TreeStep};
 use std::alloc::{AllocError, Global};
 
 /// The greatest bulk of an edited tree, in bytes.
@@ -176,34 +176,41 @@ fn descriptor_at<'a>(cells: &Source<'a>, at: u32) -> &'a [u8]
     &security[20..end]
 }
 
-/// The cells of a key and of all below it, under a key with this descriptor. None where they are too many to be summed.
-fn below_len(key: &Key, shared: &[u8], version: HiveVersion) -> Option<u64>
-    ensures exact { IfSome result (λ n. n ≡ size version shared.now key.now) }
-    ensures few { IfSome result (λ n. n ≤ 2000000000000) }
-{
-    let bulk = key.bulk(version);
-    let security = key.security();
-    if bulk > MANY {
-        return None;
-    }
-    if security.len() > 0xffff_ffff {
-        return None;
-    }
-    let more = security_len(shared, security);
-    let less = 32 + security_len(&[], security);
-    Some(bulk + more - less)
-}
-
-/// The key at an offset, with all below it, in memory of its own.
-fn tree_at(alloc: Global, cells: &Source, at: u32) -> Result<Key, AllocError>
+/// The bulk of the key at an offset with all below it, as if it were a tree of its own.
+fn bulk_at(alloc: Global, cells: &Source, at: u32) -> Result<u64, AllocError>
     requires { IsKeyAt (cells_of cells.now) at }
-    ensures { IfOk result (λ t. IsWellFormed (cells_of cells.now) at t) }
+    ensures { IfOk result (λ n. (t : Tree) → IsWellFormed (cells_of cells.now) at t → n ≡ bulk_of cells.now.version t) }
 {
-    match read_tree(alloc, cells.heap, at, cells.version) {
-        Ok(key) => Ok(key),
+    match judge(alloc, cells.heap, at, cells.version) {
+        Ok(bulk) => Ok(bulk),
         Err(ReadStop::Memory) => Err(AllocError),
         Err(ReadStop::Fault(_)) => unreachable!(),
     }
+}
+
+/// The cells of the key at an offset and of all below it, under a key with this descriptor. None where they are too many to
+/// be summed.
+fn below_len(
+    alloc: Global,
+    cells: &Source,
+    shared: &[u8],
+    at: u32,
+) -> Result<Option<u64>, AllocError>
+    requires { IsKeyAt (cells_of cells.now) at }
+    ensures exact { IfOk result (λ r. IfSome r (λ n. (t : Tree) → IsWellFormed (cells_of cells.now) at t → n ≡ size cells.now.version shared.now t)) }
+    ensures few { IfOk result (λ r. IfSome r (λ n. n ≤ 2000000000000)) }
+{
+    let bulk = bulk_at(alloc, cells, at)?;
+    if bulk > MANY {
+        return Ok(None);
+    }
+    let own = descriptor_at(cells, at);
+    if own.len() > 0xffff_ffff {
+        return Ok(None);
+    }
+    let more = security_len(shared, own);
+    let less = 32 + security_len(&[], own);
+    Ok(Some(bulk + more - less))
 }
 
 /// The bulk of the tree that stands at a root.
@@ -220,8 +227,8 @@ fn bulk_in(
         heap: heap.cells(),
         version,
     };
-    let tree = tree_at(alloc, &source, root)?;
-    Ok(tree.bulk(version))
+    let bulk = bulk_at(alloc, &source, root)?;
+    Ok(bulk)
 }
 
 /// Each is below 256.
@@ -278,8 +285,8 @@ impl HiveBytes {
         }
         let count = above_at(&source, pair.above).count;
         let shared = descriptor_at(&source, pair.above);
-        let key = tree_at(alloc, &source, pair.at)?;
-        match below_len(&key, shared, self.version) {
+        let own = below_len(alloc, &source, shared, pair.at)?;
+        match own {
             None => Ok(None),
             Some(below) => {
                 let less = list_len(count) + below;

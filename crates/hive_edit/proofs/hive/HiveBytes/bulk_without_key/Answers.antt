@@ -20,8 +20,8 @@ descriptor_at-shared-requires c =
     subst (λ (z : List Bin). IsKeyAt (look_up i.version z) c.args.pair.above) (sym c.cells.ensures)
     (above_stands (look_up i.version i.cells) i.root (tree_of (look_up i.version i.cells) i.root) c.args.path.now c.args.pair h)
 
-pub tree_at-requires : goal.tree_at-requires
-tree_at-requires c =
+pub below_len-requires : goal.below_len-requires
+below_len-requires c =
     let i = c.self.inside in
     let h = pair_seen i.cells i.root i.version i.bulk c.args.self.now c.args.path.now c.args.pair c.self.invariant c.self.view_is c.requires.place in
     subst (λ (z : List Bin). IsKeyAt (look_up i.version z) c.args.pair.at) (sym c.cells.ensures)
@@ -37,14 +37,14 @@ pub overflow_sub-result : goal.overflow_sub-result
 overflow_sub-result c =
     let i = c.self.inside in
     (bulk_seen i.cells c.cells.result.now i.root i.version i.bulk c.args.self.now c.args.path.now c.args.pair c.above_at-count.result c.descriptor_at-shared.result.now
-    c.in_ok-key.key c.list_len.result c.list_len-in-Some.result c.in-Some.below c.self.invariant c.self.view_is c.cells.ensures c.requires.place
-    c.above_at-count.ensures c.descriptor_at-shared.ensures c.in_ok-key.ensures c.if-bulk-gt-MANY.false c.list_len.ensures.exact c.list_len-in-Some.ensures.exact
-    c.list_len-in-Some.ensures.few c.in-Some.ensures.exact).0
+    c.list_len.result c.list_len-in-Some.result c.in-Some.below c.self.invariant c.self.view_is c.cells.ensures c.requires.place
+    c.above_at-count.ensures c.descriptor_at-shared.ensures c.if-bulk-gt-MANY.false c.list_len.ensures.exact c.list_len-in-Some.ensures.exact
+    c.list_len-in-Some.ensures.few (rw c.in-Some.is at c.in_ok-own.ensures.exact)).0
 
-pub returns : goal.returns
-returns c =
+pub returns-in-Some : goal.returns-in-Some
+returns-in-Some c =
     let i = c.self.inside in
     (bulk_seen i.cells c.cells.result.now i.root i.version i.bulk c.args.self.now c.args.path.now c.args.pair c.above_at-count.result c.descriptor_at-shared.result.now
-    c.in_ok-key.key c.list_len.result c.list_len-in-Some.result c.in-Some.below c.self.invariant c.self.view_is c.cells.ensures c.requires.place
-    c.above_at-count.ensures c.descriptor_at-shared.ensures c.in_ok-key.ensures c.if-bulk-gt-MANY.false c.list_len.ensures.exact c.list_len-in-Some.ensures.exact
-    c.list_len-in-Some.ensures.few c.in-Some.ensures.exact).1
+    c.list_len.result c.list_len-in-Some.result c.in-Some.below c.self.invariant c.self.view_is c.cells.ensures c.requires.place
+    c.above_at-count.ensures c.descriptor_at-shared.ensures c.if-bulk-gt-MANY.false c.list_len.ensures.exact c.list_len-in-Some.ensures.exact
+    c.list_len-in-Some.ensures.few (rw c.in-Some.is at c.in_ok-own.ensures.exact)).1
