@@ -17,6 +17,7 @@ mod edit;
 mod give;
 mod grafting;
 mod hive;
+mod key_size;
 mod making;
 mod measure;
 mod new_value;

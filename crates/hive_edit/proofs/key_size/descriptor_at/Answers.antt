@@ -3,7 +3,7 @@ use Rattle.std.specs.Prelude.{slice_range}
 use Rattle.hive_edit.specs.Sources.{cells_of}
 use Rattle.hive_edit.proofs.NodeLemmas.{node_long}
 use Rattle.hive_edit.proofs.PairLemmas.{no_descriptor, descriptor_here}
-use Rattle.hive_edit.proofs.deleting.descriptor_at.Goals as goal
+use Rattle.hive_edit.proofs.key_size.descriptor_at.Goals as goal
 
 pub u32_at-place-requires : goal.u32_at-place-requires
 u32_at-place-requires c = omega (arith, node_long (cells_of c.args.cells.now) c.args.at c.payload-node.result.now c.requires c.payload-node.ensures)

@@ -3,7 +3,7 @@ use Rattle.hive_model.specs.Size.{bulk_of}
 use Rattle.hive_read.proofs.One.{one_stands}
 use Rattle.hive_edit.specs.Sources.{cells_of}
 use Rattle.hive_edit.proofs.HiveLemmas.{no_fault_there}
-use Rattle.hive_edit.proofs.deleting.bulk_at.Goals as goal
+use Rattle.hive_edit.proofs.key_size.bulk_at.Goals as goal
 
 pub unreachable-requires : goal.unreachable-requires
 unreachable-requires c =

@@ -1,7 +1,7 @@
 use Rattle.std.proofs.Common.{List, sym, subst}
 use Rattle.hive_model.specs.Bins.{Bin, look_up}
 use Rattle.hive_model.specs.Stands.{IsWellFormed}
-use Rattle.hive_edit.proofs.deleting.bulk_in.Goals as goal
+use Rattle.hive_edit.proofs.key_size.bulk_in.Goals as goal
 
 pub returns : goal.returns
 returns c = λ t well.

@@ -1,6 +1,6 @@
 use Rattle.std.proofs.Common.{◌+◌, ap}
 use Rattle.hive_edit.proofs.DeletingLemmas.{below_seen}
-use Rattle.hive_edit.proofs.deleting.below_len.Goals as goal
+use Rattle.hive_edit.proofs.key_size.below_len.Goals as goal
 
 pub overflow_sub-result : goal.overflow_sub-result
 overflow_sub-result c =
