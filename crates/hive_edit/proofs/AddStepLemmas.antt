@@ -1,5 +1,5 @@
 -- The step that adds a child: what it is judged by, and that it is made.
-use Rattle.std.proofs.Common.{◌≡◌, ◌≤◌, ◌<◌, ◌^◌, ℕ, suc, ◌+◌, ◌-◌, ◌⊎◌, ◌||◌, Bool, true, false, cond, List, [], ◌∷◌, ◌++◌, length, Option, Some, None, Result, Ok, Err, refl, sym, ap, subst, ◌∙◌, inl, inr, arith}
+use Rattle.std.proofs.Common.{◌≡◌, ◌≤◌, ◌<◌, ◌^◌, ℕ, ◌+◌, ◌-◌, ◌⊎◌, ◌||◌, Bool, true, false, List, [], ◌∷◌, ◌++◌, length, Option, Some, None, Result, Ok, Err, refl, sym, ap, subst, ◌∙◌, inl, inr, arith}
 use Rattle.std.specs.Prelude.{nat_lt, find, is_some, ◌==◌, MatchBool, IfOk}
 use Rattle.std.specs.Result.{IsOk}
 use Rattle.std.specs.Option.{IfSome}
@@ -10,11 +10,11 @@ use Rattle.nt_bytes.specs.declared.version.HiveVersion.{HiveVersion}
 use Rattle.hive_model.specs.Bins.{Bin, Cells, bins_size, look_up}
 use Rattle.hive_model.specs.KeyNode.{KeyNode, key_node_at}
 use Rattle.hive_model.specs.Walk.{reading}
-use Rattle.hive_model.specs.Tree.{Tree, Trees, Head, key, head, children, listed, trees, is_named, find_key}
-use Rattle.hive_model.specs.Valid.{IsKey, HoldsKeys, levels, most_levels, is_backslash}
-use Rattle.hive_model.specs.Size.{size, count}
+use Rattle.hive_model.specs.Tree.{Tree, Trees, key, head, children, listed, trees, is_named}
+use Rattle.hive_model.specs.Valid.{HoldsKeys, levels, most_levels, is_backslash}
+use Rattle.hive_model.specs.Size.{size}
 use Rattle.hive_model.specs.Packed.{rounded}
-use Rattle.hive_model.specs.Edit.{Step, add_child, Refusal, bad_name, name_too_long, exists, too_deep, unless, has_child, is_bad_name, placed, renamed, with_child, after_step}
+use Rattle.hive_model.specs.Edit.{add_child, Refusal, bad_name, name_too_long, exists, too_deep, unless, has_child, is_bad_name, placed, renamed, with_child, after_step}
 use Rattle.hive_model.specs.Footprint.{child_places, security_cell_at, is_node_named, list_sizes, sizes, room_of, needed_sizes, added_sizes_in}
 use Rattle.hive_model.specs.Stands.{IsWellFormed, security_of}
 use Rattle.hive_cells.specs.Holes.{new_bin_size}
@@ -153,7 +153,7 @@ needs_both version name k (key hd ts) absent =
 
 -- ---- the step is made
 
-with_again : (name : List ℕ) (k t : Tree) → with_child (head (renamed name k)).name (renamed name k) t ≡ with_child name k t
+pub with_again : (name : List ℕ) (k t : Tree) → with_child (head (renamed name k)).name (renamed name k) t ≡ with_child name k t
 with_again name (key hd ts) (key g us) = refl
 
 pub add_stepped : (old new : HiveCells) (name : List ℕ) (k : Tree) → IsWellFormed (cells_in old) old.root old.tree → IsFreeName old name → HoldsKeys k → levels k ≤ 511

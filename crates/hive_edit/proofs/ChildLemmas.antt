@@ -1,21 +1,19 @@
 -- A hive whose root got a child, or for which there is no room.
-use Rattle.std.proofs.Common.{◌≡◌, ◌≤◌, ◌<◌, ◌^◌, ℕ, suc, ◌+◌, ◌*◌, ◌-◌, min, Bool, true, false, eqb, cond, List, [], ◌∷◌, ◌++◌, length, take, drop, Option, Some, None, Result, Ok, Err, refl, sym, ap, subst, ◌∙◌, inl, inr, arith}
-use Rattle.std.specs.Prelude.{◌⊎◌, nat_lt, find, is_some}
+use Rattle.std.proofs.Common.{◌≡◌, ◌≤◌, ◌<◌, ◌^◌, ℕ, ◌+◌, ◌*◌, ◌-◌, min, List, [], ◌∷◌, ◌++◌, length, take, drop, refl, sym, ap, subst, ◌∙◌, inl, inr, arith}
+use Rattle.std.specs.Prelude.{◌⊎◌}
 use Rattle.std.specs.List.{position_or_len}
 use Rattle.std.proofs.lemmas.List.{length-append, take-append-drop}
-use Rattle.std.proofs.lemmas.List.Sums.{sum_by-append}
 use Rattle.nt_bytes.specs.declared.version.HiveVersion.{HiveVersion}
-use Rattle.hive_model.specs.Bins.{Bin, Cells, bins_size, look_up, spelled}
-use Rattle.hive_model.specs.KeyNode.{KeyNode, key_node_at}
-use Rattle.hive_model.specs.Tree.{Tree, Trees, Head, key, head, children}
-use Rattle.hive_model.specs.Valid.{HoldsKeys, levels}
+use Rattle.hive_model.specs.Bins.{Bin, bins_size, look_up, spelled}
+use Rattle.hive_model.specs.KeyNode.{KeyNode}
+use Rattle.hive_model.specs.Tree.{Tree, key, head, children}
+use Rattle.hive_model.specs.Valid.{HoldsKeys}
 use Rattle.hive_model.specs.Size.{size, list_size, bulk_of}
 use Rattle.hive_model.specs.Packed.{rounded}
 use Rattle.hive_model.specs.Edit.{renamed, with_child}
-use Rattle.hive_model.specs.Walk.{reading, nowhere}
-use Rattle.hive_model.specs.Footprint.{list_sizes, room_of, list_strain_of}
+use Rattle.hive_model.specs.Footprint.{list_sizes, room_of}
 use Rattle.hive_model.specs.Stands.{Stands, IsWellFormed}
-use Rattle.hive_cells.specs.Holes.{new_bin_size, NoneFits}
+use Rattle.hive_cells.specs.Holes.{new_bin_size}
 use Rattle.hive_pack.specs.Below.{beside}
 use Rattle.hive_pack.specs.Numbers.{HasNumbers}
 use Rattle.hive_pack.proofs.Formed.{apart}
@@ -29,15 +27,15 @@ use Rattle.key_index.specs.Lists.{children_at, name_in, is_behind}
 use Rattle.key_index.proofs.Runs.{list_least}
 use Rattle.hive_edit.specs.declared.making.Above.{Above}
 use Rattle.hive_edit.specs.Making.{above_children}
-use Rattle.hive_edit.specs.Grafted.{SharesAt, IsRunPut, CanGraft, IsGrafted, LacksGraftLists}
-use Rattle.hive_edit.specs.Children.{ListsAs, MayGraft, IsNewChild, IsGraftedIn, LacksGraftRoom, security_listed}
-use Rattle.hive_edit.specs.Hive.{HiveCells, cells_in, hive_of, IsHive}
-use Rattle.hive_edit.specs.Runs.{IsPlace, IsPutAt, LacksPlace}
+use Rattle.hive_edit.specs.Grafted.{IsRunPut, CanGraft, IsGrafted, LacksGraftLists}
+use Rattle.hive_edit.specs.Children.{MayGraft, IsNewChild, IsGraftedIn, LacksGraftRoom, security_listed}
+use Rattle.hive_edit.specs.Hive.{HiveCells, hive_of, IsHive}
+use Rattle.hive_edit.specs.Runs.{IsPlace, LacksPlace}
 use Rattle.hive_edit.specs.Standing.{tree_of}
 use Rattle.hive_edit.proofs.HiveLemmas.{hive_opened}
 use Rattle.hive_edit.proofs.JudgeLemmas.{counted_children}
 use Rattle.hive_edit.proofs.KeyLemmas.{node_read}
-use Rattle.hive_edit.proofs.ParentLemmas.{Keeps, kept_well, IsParent}
+use Rattle.hive_edit.proofs.ParentLemmas.{Keeps, kept_well}
 use Rattle.hive_edit.proofs.StandingLemmas.{tree_is}
 use Rattle.hive_edit.proofs.GraftRuns.{graft_run, run_there}
 use Rattle.hive_edit.proofs.GraftLemmas.{changes, stands_new}

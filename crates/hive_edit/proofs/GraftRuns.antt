@@ -1,19 +1,17 @@
 -- The run of a key and of all below it, put into cells: it stands there, and what it uses is in the run, or the security that it shares.
-use Rattle.std.proofs.Common.{◌≡◌, ◌≤◌, ◌<◌, ◌⊎◌, inl, inr, ⊎_elim, ℕ, zero, suc, ◌+◌, ◌-◌, Bool, true, false, List, [], ◌∷◌, ◌++◌, length, map, Option, Some, None, Result, Ok, refl, sym, ap, subst, ◌∙◌, arith}
-use Rattle.std.specs.Prelude.{flat_map}
-use Rattle.std.specs.List.{AllByRecursion}
+use Rattle.std.proofs.Common.{◌≡◌, ◌≤◌, ◌<◌, ◌⊎◌, inl, inr, ⊎_elim, ℕ, ◌+◌, Bool, true, List, [], ◌∷◌, length, map, Option, Some, None, Result, Ok, refl, sym, ap, subst, ◌∙◌, arith}
 use Rattle.nt_bytes.specs.declared.fault.HiveKind.{HiveKind}
 use Rattle.nt_bytes.specs.declared.version.HiveVersion.{HiveVersion}
 use Rattle.hive_model.specs.Bins.{Cell, Bin, Cells, cells_size, look_up, or_else}
 use Rattle.hive_model.specs.Forms.{◌>>=◌}
-use Rattle.hive_model.specs.Tree.{Tree, Head, Trees, key, head}
+use Rattle.hive_model.specs.Tree.{Tree, key}
 use Rattle.hive_model.specs.Valid.{HoldsKeys, levels}
-use Rattle.hive_model.specs.Size.{cell, size}
+use Rattle.hive_model.specs.Size.{size}
 use Rattle.hive_model.specs.Security.{security_at}
 use Rattle.hive_model.specs.Packed.{Above, allocated_cell, text, cells_of}
 use Rattle.hive_model.specs.Stands.{Stands, IsWellFormed}
-use Rattle.hive_model.specs.Walk.{reading, nowhere, Check, uses, tests, key_checks, all_checks}
-use Rattle.hive_model.specs.Footprint.{child_places, security_cell_at}
+use Rattle.hive_model.specs.Walk.{nowhere, Check, uses, key_checks, all_checks}
+use Rattle.hive_model.specs.Footprint.{security_cell_at}
 use Rattle.hive_model.proofs.UsedOnce.{used_once}
 use Rattle.hive_cells.specs.Held.{held_at, held_among, run_cells, IsRun}
 use Rattle.hive_cells.proofs.HeldLemmas.{payload_held, held_payload}
@@ -26,9 +24,8 @@ use Rattle.hive_pack.proofs.Formed.{apart}
 use Rattle.hive_pack.proofs.Beside
 use Rattle.hive_pack.proofs.Beside.{Outside, Within, WithinCheck}
 use Rattle.edit_laws.specs.Owned.{Role, In, IsSecurity, HasRole, Reaches, Owns}
-use Rattle.edit_laws.specs.Uses.{Once, own_uses, tree_uses}
+use Rattle.edit_laws.specs.Uses.{Once, tree_uses}
 use Rattle.edit_laws.specs.Relists.{descriptor_at}
-use Rattle.edit_laws.proofs.Ins.{in_left}
 use Rattle.edit_laws.proofs.Uses.{mark_to, once_from, walk_uses, marks}
 use Rattle.edit_laws.proofs.Untouched.{root_node, are_once}
 use Rattle.edit_laws.proofs.Held.{are_held}

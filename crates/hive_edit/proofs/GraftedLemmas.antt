@@ -1,6 +1,6 @@
 -- What the changes of bins come to, where the run of a key is put into them and named by the root.
-use Rattle.std.proofs.Common.{◌≡◌, ◌≤◌, ◌<◌, ◌^◌, ℕ, suc, ◌+◌, Bool, true, false, eqb, cond, List, [], ◌∷◌, ◌++◌, length, take, drop, Option, Some, None, Result, Ok, Err, refl, sym, ap, subst, ◌∙◌, inl, inr, arith}
-use Rattle.std.specs.Prelude.{Contains, ◌⊎◌}
+use Rattle.std.proofs.Common.{◌≡◌, ◌≤◌, ◌<◌, ◌^◌, ℕ, ◌+◌, Bool, true, false, eqb, cond, List, [], length, take, drop, Option, Result, Ok, refl, sym, ap, subst, ◌∙◌, inl, inr, arith}
+use Rattle.std.specs.Prelude.{◌⊎◌}
 use Rattle.std.specs.Option.{IsSome, IsSomeAnd}
 use Rattle.std.specs.Result.{IsOk}
 use Rattle.std.specs.List.{position_or_len}
@@ -15,14 +15,13 @@ use Rattle.nt_bytes.specs.Folding.{folded_order}
 use Rattle.hive_model.specs.Bins.{Bin, Cells, look_up}
 use Rattle.hive_model.specs.Forms.{◌>>=◌}
 use Rattle.hive_model.specs.KeyNode.{KeyNode, key_node_at}
-use Rattle.hive_model.specs.Security.{SecurityCell, security_at}
+use Rattle.hive_model.specs.Security.{security_at}
 use Rattle.hive_model.specs.Tree.{Tree, head}
 use Rattle.hive_model.specs.Valid.{HoldsKeys, levels}
 use Rattle.hive_model.specs.Size.{size}
 use Rattle.hive_model.specs.Packed.{Above as PackedAbove}
 use Rattle.hive_model.specs.Walk.{reading, nowhere, entries_checks}
 use Rattle.hive_model.specs.Footprint.{of_read, used_in, child_places, list_cells_at, security_cell_at}
-use Rattle.hive_model.specs.Stands.{Stands}
 use Rattle.hive_cells.specs.Held.{held_at, patched}
 use Rattle.hive_cells.proofs.HeldLemmas.{payload_held, held_payload}
 use Rattle.hive_pack.specs.Below.{beside}
@@ -42,13 +41,12 @@ use Rattle.key_index.specs.Lists.{children_at, lists_at, name_in, is_behind, pay
 use Rattle.key_index.specs.Relists.{AreApart}
 use Rattle.key_index.proofs.Meeting.{lists_apart}
 use Rattle.hive_edit.specs.declared.making.Above.{Above}
-use Rattle.hive_edit.specs.Making.{above_lists, above_children, child_fields, IsLinkable}
-use Rattle.hive_edit.specs.Grafted.{counted_more, descriptor_of, SharesAt, run_of, IsRunPut, CanGraft, IsGrafted}
+use Rattle.hive_edit.specs.Making.{above_lists, child_fields, IsLinkable}
+use Rattle.hive_edit.specs.Grafted.{sharing, counted_more, descriptor_of, SharesAt, IsRunPut, IsGrafted}
 use Rattle.hive_edit.specs.Children.{ListsAs}
-use Rattle.hive_edit.specs.Runs.{IsPlace}
 use Rattle.hive_edit.proofs.ResultLemmas.{done, some, then_so, is_ok_of}
 use Rattle.hive_edit.proofs.NodeMade.{security_text_is}
-use Rattle.hive_edit.proofs.ParentLemmas.{Keeps, IsParent, kept_parent, parent_held, lists_are, children_are, siblings_are, list_no_node, list_no_security, node_no_security, list_held}
+use Rattle.hive_edit.proofs.ParentLemmas.{Keeps, IsParent, kept_parent, parent_held, lists_are, children_are, siblings_are, list_no_node, list_no_security, node_no_security}
 use Rattle.hive_edit.proofs.ParentLemmas.{lists_apart as parent_apart}
 use Rattle.hive_edit.proofs.PlacedLemmas.{name_read, node_name_read, has_place}
 use Rattle.hive_edit.proofs.MakingLemmas.{node_kept, list_kept}
@@ -279,9 +277,9 @@ grafts version old new root t n above shared k at r holds a =
           ∙ a.linked.fields.here q (payload_held a.linked.listed root q e)
           ∙ ap (λ (z : ℕ). some (patched 20 (child_fields (z + 1) above.volatile a.linked.list) q)) count);
       secure_c = λ q used e. (
-        counted_more a.keys (u32_in q 12),
-        count_small a.keys (u32_in q 12),
-        held_payload new above.security (patched 12 (to_le_bytes w32 (counted_more a.keys (u32_in q 12))) q)
+        counted_more (sharing shared k) (u32_in q 12),
+        count_small (sharing shared k) (u32_in q 12),
+        held_payload new above.security (patched 12 (to_le_bytes w32 (counted_more (sharing shared k) (u32_in q 12))) q)
             (a.linked.counted.here q used
             (a.linked.fields.others above.security (λ z. let u = r.shares.used used in
             node_no_security b root t [] root t n u.path u.key r.parent u.reached (subst (In (security_cell_at b u.key)) z u.uses))

@@ -48,3 +48,4 @@ pub mod GraftedLemmas
 pub mod ChildLemmas
 pub mod AddStepLemmas
 pub mod GraftLinks
+pub mod CopyStepLemmas

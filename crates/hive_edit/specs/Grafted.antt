@@ -1,6 +1,6 @@
 -- What is done where a key is put below the root with all below it? (This project's own; the field: regf format 1.3 and 1.5, key
 -- security.)
-use Rattle.std.specs.Prelude.{◌≡◌, ◌⊎◌, ◌≤◌, ◌<◌, ◌^◌, ℕ, ◌+◌, min, ◌==◌, if◌then◌else◌, List, [], length, Some, Result, Ok}
+use Rattle.std.specs.Prelude.{◌≡◌, ◌<◌, ◌^◌, ℕ, ◌+◌, min, ◌==◌, if◌then◌else◌, List, [], ◌∷◌, length, Some, Result, Ok}
 use Rattle.std.specs.Int.{w32, to_le_bytes}
 use Rattle.nt_bytes.specs.Fields.{u32_in}
 use Rattle.nt_bytes.specs.declared.version.HiveVersion.{HiveVersion}
@@ -10,7 +10,7 @@ use Rattle.hive_model.specs.Bins.{Bin, Cells, bins_size, look_up}
 use Rattle.hive_model.specs.Tree.{Tree}
 use Rattle.hive_model.specs.Valid.{HoldsKeys}
 use Rattle.hive_model.specs.Size.{size}
-use Rattle.hive_model.specs.Packed.{text, cells_of}
+use Rattle.hive_model.specs.Packed.{text, cells_of, sharers}
 use Rattle.hive_model.specs.Walk.{nowhere}
 use Rattle.hive_model.specs.Footprint.{list_strain_of}
 use Rattle.hive_cells.specs.Held.{held_at, patched, run_cells}
@@ -21,6 +21,11 @@ use Rattle.hive_pack.specs.Numbers.{HasNumbers}
 use Rattle.hive_edit.specs.declared.making.Above.{Above}
 use Rattle.hive_edit.specs.Making.{above_lists, above_children, child_fields, IsLinkable, IsWritten}
 use Rattle.hive_edit.specs.Runs.{IsPlace, IsPutAt}
+
+-- how many keys of a tree use the cell of a descriptor that is shared with the key above them; an empty one has no cell
+abbrev pub sharing : List ℕ → Tree → ℕ
+sharing [] k = 0
+sharing (b ∷ s) k = sharers (b ∷ s) k
 
 -- a count of uses with so many more, at most the greatest of four bytes
 abbrev pub counted_more : ℕ → ℕ → ℕ
@@ -60,13 +65,12 @@ pub record CanGraft (version : HiveVersion) (parent : ℕ) (above : Above) (shar
   pub place : IsPlace (size version shared k) bins at
   pub linkable : (mid : List Bin) → HasNumbers k → IsRunPut version parent above shared k at bins mid → IsLinkable version parent above at mid
 
--- the run is there, and the key is named
+-- the run is there, the key is named, and as many keys more use the security as share it
 pub record IsGrafted (version : HiveVersion) (parent : ℕ) (above : Above) (shared : List ℕ) (k : Tree) (at : ℕ) (old new : List Bin) : Type 0 where
   pub numbers : HasNumbers k
-  pub keys : ℕ
   pub mid : List Bin
   pub put : IsRunPut version parent above shared k at old mid
-  pub linked : IsLinkedBy version parent above at keys mid new
+  pub linked : IsLinkedBy version parent above at (sharing shared k) mid new
 
 -- the run is there, and there is no room for lists that name the key
 pub record LacksGraftLists (version : HiveVersion) (parent : ℕ) (above : Above) (shared : List ℕ) (k : Tree) (at : ℕ) (old new : List Bin) : Type 0 where

@@ -9,6 +9,7 @@ pub mod Given
 pub mod Gone
 pub mod Grafted
 pub mod Children
+pub mod Copying
 pub mod Making
 pub mod NewValue
 pub mod Dropped

@@ -76,7 +76,7 @@ fn spared(shared: &[u8], security: &[u8]) -> u64
 }
 
 /// How many bytes the cells of a key and of all below it take, below one with a descriptor, where that is at most 16 MiB.
-fn size_below(version: HiveVersion, shared: &[u8], key: &Key) -> Option<u32>
+pub(crate) fn size_below(version: HiveVersion, shared: &[u8], key: &Key) -> Option<u32>
     ensures size { MatchOption result (16777216 < size version shared.now key.now) (λ n. n ≡ size version shared.now key.now) }
     ensures few { IfSome result (λ n. n ≤ 16777216) }
 {
@@ -89,7 +89,7 @@ fn size_below(version: HiveVersion, shared: &[u8], key: &Key) -> Option<u32>
 }
 
 /// The key under another name, in memory of its own.
-fn renamed(alloc: Global, key: &Key, name: &[u16]) -> Result<Key, AllocError>
+pub(crate) fn renamed(alloc: Global, key: &Key, name: &[u16]) -> Result<Key, AllocError>
     ensures { IfOk result (λ k. k ≡ renamed name.now key.now) }
 {
     let mut copy = key.copy(alloc)?;
@@ -99,7 +99,7 @@ fn renamed(alloc: Global, key: &Key, name: &[u16]) -> Result<Key, AllocError>
 
 /// The descriptor in the cell of security at an offset, none where that names nothing.
 #[tactic(auto, unfolding(key_index::specs::Lists::payload_in))]
-fn descriptor(alloc: Global, cells: &Source, at: u32) -> Result<Bytes, AllocError>
+pub(crate) fn descriptor(alloc: Global, cells: &Source, at: u32) -> Result<Bytes, AllocError>
     requires { IsOk (descriptor_of (cells_of cells.now) at) }
     ensures { IfOk result (λ d. descriptor_of (cells_of cells.now) at ≡ Ok d) }
 {
@@ -125,7 +125,7 @@ fn grafted_bulk(bulk: u64, count: u32, bytes: u32) -> u64
 }
 
 /// Offsets fit four bytes.
-fn offset_fits(at: u32)
+pub(crate) fn offset_fits(at: u32)
     ensures { at < 2 ^ 32 }
 {}
 
@@ -152,7 +152,7 @@ fn bytes_small(bytes: &[u8])
 
 impl HiveBytes {
     /// Judges a name for a child of the root, in the order of the book.
-    fn judge_name(&self, name: &[u16]) -> Result<(), EditStop>
+    pub(crate) fn judge_name(&self, name: &[u16]) -> Result<(), EditStop>
         ensures { MatchResult result (λ _. IsFreeName self.now name.now) (RefusesName self.now name.now) }
     {
         let source = Source {
@@ -215,7 +215,7 @@ impl HiveBytes {
     }
 
     /// Puts a key below the root, whatever the bulk then. `false` where there is no room for its run, or for the root's lists.
-    fn graft(
+    pub(crate) fn graft(
         &mut self,
         alloc: Global,
         above: Above,

@@ -3,11 +3,11 @@
 
 ghost use Rattle.std.specs.Prelude.{◌≡◌, ◌≤◌, ◌<◌, ◌⊎◌, length, IfOk, MatchBool, OnErr};
 ghost use Rattle.std.specs.Option.{IsSomeAnd, MatchOption};
-ghost use Rattle.hive_model.specs.Size.{size};
+ghost use Rattle.hive_model.specs.Packed.{sharers};
 ghost use Rattle.hive_model.specs.Walk.{nowhere};
 ghost use Rattle.hive_cells.specs.Held.{held_at};
 ghost use Rattle.hive_edit.specs.Making.{IsLinkable, LacksListRoom};
-ghost use Rattle.hive_edit.specs.Grafted.{CanGraft, IsGrafted, IsLinkedBy, IsRaisedBy, IsRunPut, LacksGraftLists};
+ghost use Rattle.hive_edit.specs.Grafted.{CanGraft, IsGrafted, IsLinkedBy, IsRaisedBy, IsRunPut, LacksGraftLists, sharing};
 
 use crate::cells::put_run;
 use crate::making::{Above, note, uses_at};
@@ -59,6 +59,17 @@ fn link_by(
     }
 }
 
+/// How many keys of a tree use the cell of a descriptor that is shared with the key above them; an empty one has no cell.
+fn sharing(shared: &[u8], key: &Key) -> u32
+    requires { sharers shared.now key.now ≤ 16777216 }
+    ensures { result ≡ sharing shared.now key.now }
+{
+    if shared.len() == 0 {
+        return 0;
+    }
+    sharing_keys(shared, key)
+}
+
 /// Puts the cells of a key and of all below it at a place that has room for them, and names the key in new lists of its
 /// parent. `false` where there is no room for the lists; the run stands there then, and nothing names it.
 pub(crate) fn graft_cells(
@@ -86,7 +97,7 @@ pub(crate) fn graft_cells(
         at as usize,
         key,
     )?;
-    let keys = sharing_keys(shared, key);
+    let keys = sharing(shared, key);
     put_run(heap, at, run.as_slice())?;
     link_by(alloc, heap, version, parent, above, at, keys)
 }

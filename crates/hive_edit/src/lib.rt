@@ -10,6 +10,7 @@ mod adding;
 mod adding_child;
 mod cells;
 mod children;
+mod copying_child;
 mod data;
 mod deleting;
 mod dropping;

@@ -1,6 +1,5 @@
-use Rattle.std.proofs.Common.{◌≡◌, ◌≤◌, ◌+◌, ℕ, List, length, sym, ap, subst, ◌∙◌, arith}
+use Rattle.std.proofs.Common.{◌≡◌, ℕ, sym, subst, ◌∙◌, arith}
 use Rattle.hive_model.specs.Packed.{text, cells_of}
-use Rattle.hive_model.specs.Size.{size}
 use Rattle.hive_pack.specs.Below.{beside}
 use Rattle.hive_pack.proofs.Counts.{few_sharers}
 use Rattle.hive_edit.specs.Grafted.{IsRunPut}
@@ -9,8 +8,8 @@ use Rattle.hive_edit.proofs.GraftRuns.{IsGraftRun, graft_run}
 use Rattle.hive_edit.proofs.GraftLinks.{graft_linked, graft_refused}
 use Rattle.hive_edit.proofs.grafting.graft_cells.Goals as goal
 
-pub sharing_keys-keys-requires : goal.sharing_keys-keys-requires
-sharing_keys-keys-requires c =
+pub sharing-keys-requires : goal.sharing-keys-requires
+sharing-keys-requires c =
     let inside = c.requires.can.place.inside in
     omega (arith, few_sharers c.args.version c.args.shared.now c.args.shared.now c.args.key.now, inside)
 
@@ -40,8 +39,8 @@ pub returns-clause-grafted : goal.returns-clause-grafted
 returns-clause-grafted c =
     let put : IsRunPut c.args.version c.args.parent c.args.above c.args.shared.now c.args.key.now c.args.at c.args.heap.now c.put_run.new.heap =
     record { run = c.as_slice.result.now; is = c.as_slice.ensures ∙ c.in_ok-run.ensures; put = c.in_ok-put_run.ensures.put } in
-    graft_linked c.link_by.result c.args.version c.args.parent c.args.above c.args.shared.now c.args.key.now c.args.at c.sharing_keys-keys.result c.args.heap.now
-    c.put_run.new.heap c.link_by.new.heap c.tree_fits.ensures put c.link_by.ensures.linked
+    graft_linked c.link_by.result c.args.version c.args.parent c.args.above c.args.shared.now c.args.key.now c.args.at c.sharing-keys.result c.args.heap.now
+    c.put_run.new.heap c.link_by.new.heap c.sharing-keys.ensures c.tree_fits.ensures put c.link_by.ensures.linked
 
 pub returns-clause-refused : goal.returns-clause-refused
 returns-clause-refused c =

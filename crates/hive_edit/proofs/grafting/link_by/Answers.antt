@@ -2,7 +2,7 @@ use Rattle.std.proofs.Common.{◌≤◌, ℕ, List, length}
 use Rattle.hive_model.specs.Bins.{look_up}
 use Rattle.key_index.specs.Lists.{hints_in}
 use Rattle.key_index.specs.Relists.{AreRelisted}
-use Rattle.hive_edit.specs.Making.{child_fields, above_lists, above_children}
+use Rattle.hive_edit.specs.Making.{above_lists, above_children}
 use Rattle.hive_edit.proofs.LinkLemmas.{kept_and, written_and}
 use Rattle.hive_edit.proofs.grafting.link_by.Goals as goal
 

@@ -1,8 +1,8 @@
-use Rattle.std.proofs.Common.{◌≡◌, ◌<◌, ℕ, List, sym, ap, subst, ◌∙◌, arith}
+use Rattle.std.proofs.Common.{◌≡◌, ◌<◌, ℕ, ap, subst, ◌∙◌, arith}
 use Rattle.hive_model.specs.Tree.{head}
 use Rattle.hive_model.specs.Size.{size}
 use Rattle.hive_edit.specs.Hive.{HiveCells}
-use Rattle.hive_edit.proofs.AddStepLemmas.{RootSays, root_says, root_count, root_readable, root_shared, may_graft, added_if}
+use Rattle.hive_edit.proofs.AddStepLemmas.{root_says, root_count, root_readable, root_shared, may_graft, added_if}
 use Rattle.hive_edit.proofs.ChildLemmas.{lacks_size, lacks_many}
 use Rattle.hive_edit.proofs.hive.HiveBytes.add_below_root.Goals as goal
 
