@@ -51,12 +51,15 @@ abbrev of_tests : Bool → Bool → Bool → List (Bool × Refusal) → Tree →
 of_tests a b c further u = unless ((a, bad_name) ∷ (b, name_too_long) ∷ (c, exists) ∷ further) u
 
 pub refuses_bad : (h : HiveCells) (name : List ℕ) → is_bad_name name ≡ true → RefusesName h name stops.BadName
-refuses_bad h name e = λ further u. ap (λ (v : Bool). of_tests v (nat_lt 255 (length name)) (has_child name h.tree) further u) e
+refuses_bad h name e = λ further u. ap
+    (λ (v : Bool). of_tests v (nat_lt 255 (length name)) (has_child name h.tree) further u) e
 
-pub refuses_long : (h : HiveCells) (name : List ℕ) → is_bad_name name ≡ false → 255 < length name → RefusesName h name stops.NameTooLong
+pub refuses_long : (h : HiveCells) (name : List ℕ) → is_bad_name name ≡ false → 255 < length name
+    → RefusesName h name stops.NameTooLong
 refuses_long h name e l = λ further u i. of_tests (e i) (lt-ltb 255 (length name) l i) (has_child name h.tree) further u
 
-pub refuses_there : (h : HiveCells) (name : List ℕ) → is_bad_name name ≡ false → length name ≤ 255 → has_child name h.tree ≡ true → RefusesName h name stops.Exists
+pub refuses_there : (h : HiveCells) (name : List ℕ) → is_bad_name name ≡ false → length name ≤ 255
+    → has_child name h.tree ≡ true → RefusesName h name stops.Exists
 refuses_there h name e l t = λ further u i. of_tests (e i) (le-ltb 255 (length name) l i) (t i) further u
 
 -- ---- the step is judged
@@ -64,22 +67,28 @@ refuses_there h name e l t = λ further u i. of_tests (e i) (le-ltb 255 (length 
 abbrev judged : Bool → Bool → Bool → Bool → Tree → Result Tree Refusal
 judged a b c d u = of_tests a b c ((d, too_deep) ∷ []) u
 
-pub refuses_step : (h : HiveCells) (name : List ℕ) (k : Tree) (stop : EditStop) → RefusesName h name stop → IsRefused (after_step (add_child name k) h.tree) stop
+pub refuses_step : (h : HiveCells) (name : List ℕ) (k : Tree) (stop : EditStop) → RefusesName h name stop
+    → IsRefused (after_step (add_child name k) h.tree) stop
 refuses_step h name k stop r = go (refusal_of stop) r
   where
     go : (o : Option Refusal)
-        → IfSome o (λ why. (further : List (Bool × Refusal)) (u : Tree) → of_tests (is_bad_name name) (nat_lt 255 (length name)) (has_child name h.tree) further u ≡ Err why)
+        → IfSome o (λ why. (further : List (Bool × Refusal)) (u : Tree)
+        → of_tests (is_bad_name name) (nat_lt 255 (length name)) (has_child name h.tree) further u ≡ Err why)
         → IfSome o (λ why. after_step (add_child name k) h.tree ≡ Err why)
     go None r = tt
     go (Some why) r = r ((nat_lt 512 (levels k + 1), too_deep) ∷ []) (with_child name k h.tree)
 
-pub refuses_deep : (h : HiveCells) (name : List ℕ) (k : Tree) → IsFreeName h name → 511 < levels k → after_step (add_child name k) h.tree ≡ Err too_deep
+pub refuses_deep : (h : HiveCells) (name : List ℕ) (k : Tree) → IsFreeName h name → 511 < levels k
+    → after_step (add_child name k) h.tree ≡ Err too_deep
 refuses_deep h name k f deep = λ i.
-    judged (f.good i) (le-ltb 255 (length name) f.short i) (f.absent i) (lt-ltb 512 (levels k + 1) (omega arith) i) (with_child name k h.tree)
+    judged (f.good i) (le-ltb 255 (length name) f.short i) (f.absent i) (lt-ltb 512 (levels k + 1) (omega arith) i)
+    (with_child name k h.tree)
 
-pub step_added : (h : HiveCells) (name : List ℕ) (k : Tree) → IsFreeName h name → levels k ≤ 511 → after_step (add_child name k) h.tree ≡ the_tree (with_child name k h.tree)
+pub step_added : (h : HiveCells) (name : List ℕ) (k : Tree) → IsFreeName h name → levels k ≤ 511
+    → after_step (add_child name k) h.tree ≡ the_tree (with_child name k h.tree)
 step_added h name k f low = λ i.
-    judged (f.good i) (le-ltb 255 (length name) f.short i) (f.absent i) (le-ltb 512 (levels k + 1) (omega arith) i) (with_child name k h.tree)
+    judged (f.good i) (le-ltb 255 (length name) f.short i) (f.absent i) (le-ltb 512 (levels k + 1) (omega arith) i)
+    (with_child name k h.tree)
 
 -- ---- the key under its new name
 
@@ -90,7 +99,8 @@ no_slash name e = go (length name == 0) (list_any is_backslash name) e
     go true b e = absurd cc
     go false b e = e
 
-renamed_holds : (name : List ℕ) (k : Tree) → is_bad_name name ≡ false → length name ≤ 255 → HoldsKeys k → HoldsKeys (renamed name k)
+renamed_holds : (name : List ℕ) (k : Tree) → is_bad_name name ≡ false → length name ≤ 255 → HoldsKeys k
+    → HoldsKeys (renamed name k)
 renamed_holds name (key hd ts) good short h = (
   record {
     name = short;
@@ -108,7 +118,8 @@ renamed_holds name (key hd ts) good short h = (
   h.1,
 )
 
-pub new_child : (h : HiveCells) (name : List ℕ) (k : Tree) → IsFreeName h name → HoldsKeys k → levels k ≤ 511 → IsNewChild h (renamed name k)
+pub new_child : (h : HiveCells) (name : List ℕ) (k : Tree) → IsFreeName h name → HoldsKeys k → levels k ≤ 511
+    → IsNewChild h (renamed name k)
 new_child h name k f holds low = record {
   holds = renamed_holds name k f.good f.short holds;
   low = let l = renamed_levels name k in omega (arith, l, low);
@@ -118,7 +129,8 @@ new_child h name k f holds low = record {
 
 -- ---- the room
 
-none_there : (name : List ℕ) (us : List Tree) → is_some (find (is_named name) us) ≡ false → find (is_named name) us ≡ None
+none_there : (name : List ℕ) (us : List Tree) → is_some (find (is_named name) us) ≡ false
+    → find (is_named name) us ≡ None
 none_there name us e = go (find (is_named name) us) e
   where
     go : (o : Option Tree) → is_some o ≡ false → o ≡ None
@@ -136,27 +148,37 @@ needs_both version name k (key hd ts) absent =
     let w = renamed name k in
     let us = listed_trees (placed w (listed ts)) in
     let found : find (is_named name) (children u) ≡ Some w =
-    ap (find (is_named name)) us ∙ found_placed name w (listed ts) (named_here name k) (none_there name (listed ts) absent) in
-    let n : length (children u) ≡ length (listed ts) + 1 = ap (λ (l : List Tree). length l) us ∙ placed_length w (listed ts) in
+    ap (find (is_named name)) us
+    ∙ found_placed name w (listed ts) (named_here name k) (none_there name (listed ts) absent) in
+    let n : length (children u) ≡ length (listed ts) + 1 =
+    ap (λ (l : List Tree). length l) us ∙ placed_length w (listed ts) in
     let needs = added_needs version u u w [] name refl found in
     let t = tree_total version hd.security w in
     let some = size_some version hd.security w in
     let room = room_for (sizes version hd.security w) (omega (arith, t, some)) in
-    let split = sum_by-append (λ (s : ℕ). rounded (s + 32)) (list_sizes (length (children u))) (sizes version hd.security w) in
-    let same : room_of (list_sizes (length (children u))) ≡ room_of (list_sizes (length (listed ts) + 1)) = ap (λ (m : ℕ). room_of (list_sizes m)) n in
-    let whole : room_of (added_sizes_in version [] name u) ≡ room_of (list_sizes (length (children u)) ++ sizes version hd.security w) = ap room_of needs in
-    both (size version hd.security w) (total (sizes version hd.security w)) (room_of (sizes version hd.security w)) (room_of (list_sizes (length (children u))))
-    (room_of (list_sizes (length (listed ts) + 1))) (room_of (list_sizes (length (children u)) ++ sizes version hd.security w)) (room_of (added_sizes_in version [] name u)) t room split same whole
+    let split = sum_by-append (λ (s : ℕ). rounded (s + 32)) (list_sizes (length (children u)))
+    (sizes version hd.security w) in
+    let same : room_of (list_sizes (length (children u))) ≡ room_of (list_sizes (length (listed ts) + 1)) =
+    ap (λ (m : ℕ). room_of (list_sizes m)) n in
+    let whole : room_of (added_sizes_in version [] name u)
+    ≡ room_of (list_sizes (length (children u)) ++ sizes version hd.security w) = ap room_of needs in
+    both (size version hd.security w) (total (sizes version hd.security w)) (room_of (sizes version hd.security w))
+    (room_of (list_sizes (length (children u))))
+    (room_of (list_sizes (length (listed ts) + 1)))
+    (room_of (list_sizes (length (children u)) ++ sizes version hd.security w))
+    (room_of (added_sizes_in version [] name u)) t room split same whole
   where
     both : (s w r l m j a : ℕ) → w ≡ s → rounded (w + 32) ≤ r → j ≡ l + r → l ≡ m → a ≡ j → rounded (s + 32) + m ≤ a
     both s w r l m j a b c d e f = omega (arith, b, c, d, e, f)
 
 -- ---- the step is made
 
-pub with_again : (name : List ℕ) (k t : Tree) → with_child (head (renamed name k)).name (renamed name k) t ≡ with_child name k t
+pub with_again : (name : List ℕ) (k t : Tree)
+    → with_child (head (renamed name k)).name (renamed name k) t ≡ with_child name k t
 with_again name (key hd ts) (key g us) = refl
 
-pub add_stepped : (old new : HiveCells) (name : List ℕ) (k : Tree) → IsWellFormed (cells_in old) old.root old.tree → IsFreeName old name → HoldsKeys k → levels k ≤ 511
+pub add_stepped : (old new : HiveCells) (name : List ℕ) (k : Tree) → IsWellFormed (cells_in old) old.root old.tree
+    → IsFreeName old name → HoldsKeys k → levels k ≤ 511
     → IsAddedIn old (renamed name k) new → IsStepped old (add_child name k) new
 add_stepped old new name k well f holds low a =
     let g = a.grafted in
@@ -167,29 +189,39 @@ add_stepped old new name k well f holds low a =
     let room = g.room in
     let needs = needs_both old.version name k t f.absent in
     let made : IsDone (cells_in old) (cells_in new) old.root t u (add_child name k) =
-    a_child_added (cells_in old) (cells_in new) old.root t u k name g.at g.front g.back (security_listed a.security) well ok (apart k holds) g.changes a.counts g.stands
-    (subst (λ (z : List ℕ). Rattle.edit_laws.specs.Relists.HasPlace (cells_in old) z g.front g.back) (renamed_name name k) g.place) in
+    a_child_added (cells_in old) (cells_in new) old.root t u k name g.at g.front g.back (security_listed a.security)
+    well ok (apart k holds) g.changes a.counts g.stands
+    (subst (λ (z : List ℕ). Rattle.edit_laws.specs.Relists.HasPlace (cells_in old) z g.front g.back)
+    (renamed_name name k) g.place) in
     record {
       version = g.version;
       root = g.root;
       tree = ok ∙ sym (ap the_tree tree);
       done = subst (λ (w : Tree). IsDone (cells_in old) (cells_in new) old.root t w (add_child name k)) (sym tree) made;
       long = g.long;
-      room = subst (λ (w : Tree). bins_size new.bins ≤ bins_size old.bins + room_of (needed_sizes old.version t (add_child name k) w)) (sym tree)
-          (within (bins_size new.bins) (bins_size old.bins) (new_bin_size (size old.version (head t).security (renamed name k)) + room_of (list_sizes (length (children t) + 1)))
+      room = subst (λ (w : Tree). bins_size new.bins ≤ bins_size old.bins
+          + room_of (needed_sizes old.version t (add_child name k) w)) (sym tree)
+          (within (bins_size new.bins) (bins_size old.bins)
+          (new_bin_size (size old.version (head t).security (renamed name k))
+          + room_of (list_sizes (length (children t) + 1)))
           (room_of (needed_sizes old.version t (add_child name k) u)) room needs);
     }
   where
     within : (n o x y : ℕ) → n ≤ o + x → x ≤ y → n ≤ o + y
     within n o x y a b = omega (arith, a, b)
 
-pub add_lacks : (h : HiveCells) (name : List ℕ) (k : Tree) → IsFreeName h name → levels k ≤ 511 → LacksGraftRoom h (head h.tree).security (renamed name k)
+pub add_lacks : (h : HiveCells) (name : List ℕ) (k : Tree) → IsFreeName h name → levels k ≤ 511
+    → LacksGraftRoom h (head h.tree).security (renamed name k)
     → LacksStepRoom h (add_child name k)
 add_lacks h name k f low over = λ w e.
-    let same : with_child name k h.tree ≡ w = let d = sym (step_added h name k f low) ∙ e in same_tree (with_child name k h.tree) w d in
+    let same : with_child name k h.tree ≡ w = let d = sym (step_added h name k f low) ∙ e in
+    same_tree (with_child name k h.tree) w d in
     let needs = needs_both h.version name k h.tree f.absent in
-    subst (λ (z : Tree). 16777216 < bins_size h.bins + room_of (needed_sizes h.version h.tree (add_child name k) z)) same
-    (beyond (bins_size h.bins) (new_bin_size (size h.version (head h.tree).security (renamed name k)) + room_of (list_sizes (length (children h.tree) + 1)))
+    subst (λ (z : Tree). 16777216 < bins_size h.bins + room_of (needed_sizes h.version h.tree (add_child name k) z))
+    same
+    (beyond (bins_size h.bins)
+    (new_bin_size (size h.version (head h.tree).security (renamed name k))
+    + room_of (list_sizes (length (children h.tree) + 1)))
     (room_of (needed_sizes h.version h.tree (add_child name k) (with_child name k h.tree))) over needs)
   where
     same_tree : (a b : Tree) → the_tree a ≡ the_tree b → a ≡ b
@@ -203,10 +235,12 @@ add_lacks h name k f low over = λ w e.
 levels_parted : (t : Tree) → levels t ≡ most_levels (trees (children t)) + 1
 levels_parted (key hd ts) = ap (λ (us : Trees). most_levels us + 1) (sym (trees_listed ts))
 
-pub deeper : (most : ℕ) (t : Tree) (ts : List Tree) (r : Bool) → 0 < most → ts ≡ children t → r ≡ nat_lt (most - 1) (most_levels (trees ts)) → r ≡ nat_lt most (levels t)
+pub deeper : (most : ℕ) (t : Tree) (ts : List Tree) (r : Bool) → 0 < most → ts ≡ children t
+    → r ≡ nat_lt (most - 1) (most_levels (trees ts)) → r ≡ nat_lt most (levels t)
 deeper most t ts r some same e =
     e ∙ ap (λ (us : List Tree). nat_lt (most - 1) (most_levels (trees us))) same
-    ∙ shift (most_levels (trees (children t))) (cases_lt (most - 1) (most_levels (trees (children t)))) ∙ ap (nat_lt most) (sym (levels_parted t))
+    ∙ shift (most_levels (trees (children t))) (cases_lt (most - 1) (most_levels (trees (children t))))
+    ∙ ap (nat_lt most) (sym (levels_parted t))
   where
     shift : (x : ℕ) → (most - 1 < x) ⊎ (x ≤ most - 1) → nat_lt (most - 1) x ≡ nat_lt most (x + 1)
     shift x (inl l) = lt-ltb (most - 1) x l ∙ sym (lt-ltb most (x + 1) (omega arith))
@@ -214,17 +248,21 @@ deeper most t ts r some same e =
 
 -- ---- is a child there?
 
-pub child_there : (bins heap : List Bin) (root : ℕ) (version : HiveVersion) (bulk : ℕ) (h : HiveCells) (name : List ℕ) (r : Option ℕ) (v : Bool)
+pub child_there : (bins heap : List Bin) (root : ℕ) (version : HiveVersion) (bulk : ℕ) (h : HiveCells) (name : List ℕ)
+    (r : Option ℕ) (v : Bool)
     → IsHive bins root version bulk → hive_of bins root version ≡ h → heap ≡ bins
-    → r ≡ find (is_node_named (look_up version heap) name) (child_places (look_up version heap) root) → is_some r ≡ v → has_child name h.tree ≡ v
+    → r ≡ find (is_node_named (look_up version heap) name) (child_places (look_up version heap) root) → is_some r ≡ v
+    → has_child name h.tree ≡ v
 child_there bins heap root version bulk h name r v is view same e some =
     subst (λ (g : HiveCells). has_child name g.tree ≡ v) view
-    (go r (sym (e ∙ ap (λ (z : List Bin). find (is_node_named (look_up version z) name) (child_places (look_up version z) root)) same)) some)
+    (go r (sym (e ∙ ap (λ (z : List Bin). find (is_node_named (look_up version z) name)
+    (child_places (look_up version z) root)) same)) some)
   where
     t : Tree
     t = tree_of (look_up version bins) root
 
-    go : (o : Option ℕ) → find (is_node_named (look_up version bins) name) (child_places (look_up version bins) root) ≡ o → is_some o ≡ v → has_child name t ≡ v
+    go : (o : Option ℕ) → find (is_node_named (look_up version bins) name) (child_places (look_up version bins) root)
+        ≡ o → is_some o ≡ v → has_child name t ≡ v
     go None f g = key_absent (look_up version bins) root t t [] name root is.stands refl f ∙ g
     go (Some y) f g = key_present (look_up version bins) root t t [] name root y is.stands refl f ∙ g
 
@@ -235,46 +273,60 @@ pub record RootSays (h : HiveCells) (above : Above) : Type 0 where
   pub parent : IsParent (cells_in h) h.root h.tree [] h.root h.tree node
   pub says : AboveIs above node
 
-pub root_says : (bins heap : List Bin) (root : ℕ) (version : HiveVersion) (bulk : ℕ) (h : HiveCells) (above : Above) → IsHive bins root version bulk
-    → hive_of bins root version ≡ h → heap ≡ bins → ((n : KeyNode) → reading key_node_at (look_up version heap) root ≡ Ok n → AboveIs above n) → RootSays h above
+pub root_says : (bins heap : List Bin) (root : ℕ) (version : HiveVersion) (bulk : ℕ) (h : HiveCells) (above : Above)
+    → IsHive bins root version bulk
+    → hive_of bins root version ≡ h → heap ≡ bins
+    → ((n : KeyNode) → reading key_node_at (look_up version heap) root ≡ Ok n → AboveIs above n) → RootSays h above
 root_says bins heap root version bulk h above is view same says =
     let t = tree_of (look_up version bins) root in
     let read = node_read (look_up version bins) root t is.stands.stands in
     subst (λ (g : HiveCells). RootSays g above) view (record {
       node = read.0;
       parent = record { well = is.stands; reached = refl; below = is.stands; read = read.1 };
-      says = says read.0 (subst (λ (z : List Bin). reading key_node_at (look_up version z) root ≡ Ok read.0) (sym same) read.1);
+      says = says read.0 (subst (λ (z : List Bin). reading key_node_at (look_up version z) root ≡ Ok read.0) (sym same)
+          read.1);
     })
 
 pub root_count : (h : HiveCells) (above : Above) → RootSays h above → above.count ≡ length (children h.tree)
 root_count h above r = r.says.count ∙ counted_children (cells_in h) h.root h.tree [] h.root h.tree r.node r.parent
 
-pub root_descriptor : (h : HiveCells) (above : Above) → RootSays h above → descriptor_of (cells_in h) above.security ≡ Ok (head h.tree).security
+pub root_descriptor : (h : HiveCells) (above : Above) → RootSays h above
+    → descriptor_of (cells_in h) above.security ≡ Ok (head h.tree).security
 unfolding security_of
 root_descriptor h above r =
-    ap (descriptor_of (cells_in h)) r.says.security ∙ (node_stands (cells_in h) h.root h.tree r.node r.parent.well.stands r.parent.read).security
+    ap (descriptor_of (cells_in h)) r.says.security
+    ∙ (node_stands (cells_in h) h.root h.tree r.node r.parent.well.stands r.parent.read).security
 
 -- the cells that a lookup reads from are the hive's
-pub same_cells : (bins heap : List Bin) (root : ℕ) (version : HiveVersion) (h : HiveCells) → hive_of bins root version ≡ h → heap ≡ bins → look_up version heap ≡ cells_in h
+pub same_cells : (bins heap : List Bin) (root : ℕ) (version : HiveVersion) (h : HiveCells)
+    → hive_of bins root version ≡ h → heap ≡ bins → look_up version heap ≡ cells_in h
 same_cells bins heap root version h view same = ap (look_up version) same ∙ ap cells_in view
 
-pub root_readable : (bins heap : List Bin) (root : ℕ) (version : HiveVersion) (h : HiveCells) (above : Above) → hive_of bins root version ≡ h → heap ≡ bins → RootSays h above
+pub root_readable : (bins heap : List Bin) (root : ℕ) (version : HiveVersion) (h : HiveCells) (above : Above)
+    → hive_of bins root version ≡ h → heap ≡ bins → RootSays h above
     → IsOk (descriptor_of (look_up version heap) above.security)
 root_readable bins heap root version h above view same r =
     is_ok_of (descriptor_of (look_up version heap) above.security) (head h.tree).security
-    (ap (λ (z : Cells). descriptor_of z above.security) (same_cells bins heap root version h view same) ∙ root_descriptor h above r)
+    (ap (λ (z : Cells). descriptor_of z above.security) (same_cells bins heap root version h view same)
+    ∙ root_descriptor h above r)
 
-pub root_shared : (bins heap : List Bin) (root : ℕ) (version : HiveVersion) (h : HiveCells) (above : Above) (shared : List ℕ) → hive_of bins root version ≡ h → heap ≡ bins → RootSays h above
+pub root_shared : (bins heap : List Bin) (root : ℕ) (version : HiveVersion) (h : HiveCells) (above : Above)
+    (shared : List ℕ) → hive_of bins root version ≡ h → heap ≡ bins → RootSays h above
     → descriptor_of (look_up version heap) above.security ≡ Ok shared → shared ≡ (head h.tree).security
 root_shared bins heap root version h above shared view same r e =
     ok_same shared (head h.tree).security
-    (sym e ∙ ap (λ (z : Cells). descriptor_of z above.security) (same_cells bins heap root version h view same) ∙ root_descriptor h above r)
+    (sym e ∙ ap (λ (z : Cells). descriptor_of z above.security) (same_cells bins heap root version h view same)
+    ∙ root_descriptor h above r)
 
-pub may_graft : (h : HiveCells) (above : Above) (shared : List ℕ) → RootSays h above → shared ≡ (head h.tree).security → above.security < 2 ^ 32 → above.count ≤ 2097150
+pub may_graft : (h : HiveCells) (above : Above) (shared : List ℕ) → RootSays h above → shared ≡ (head h.tree).security
+    → above.security < 2 ^ 32 → above.count ≤ 2097150
     → MayGraft h above shared
 may_graft h above shared r same small few = record {
   says = λ n e. let z : r.node ≡ n = ok_same r.node n (sym r.parent.read ∙ e) in
-      record { list = r.says.list ∙ ap (λ (m : KeyNode). m.child_list) z; count = r.says.count ∙ ap (λ (m : KeyNode). m.child_count) z };
+      record {
+        list = r.says.list ∙ ap (λ (m : KeyNode). m.child_list) z;
+        count = r.says.count ∙ ap (λ (m : KeyNode). m.child_count) z;
+      };
   shares = record {
     small = small;
     descriptor = root_descriptor h above r ∙ sym (ap done same);
@@ -290,7 +342,8 @@ may_graft h above shared r same small few = record {
 }
 
 -- a key that was put below the root, with the root's descriptor
-pub added_if : {E : Type 0} (r : Result Bool E) (h new : HiveCells) (above : Above) (shared : List ℕ) (k : Tree) → RootSays h above → shared ≡ (head h.tree).security
+pub added_if : {E : Type 0} (r : Result Bool E) (h new : HiveCells) (above : Above) (shared : List ℕ) (k : Tree)
+    → RootSays h above → shared ≡ (head h.tree).security
     → IfOk r (λ done. MatchBool done (IsGraftedIn h above.security shared k new) (LacksGraftRoom h shared k))
     → IfOk r (λ done. MatchBool done (IsAddedIn h k new) (LacksGraftRoom h (head h.tree).security k))
 added_if (Ok true) h new above shared k says same g = record {
@@ -302,9 +355,11 @@ added_if (Ok true) h new above shared k says same g = record {
 added_if (Ok false) h new above shared k says same g = subst (λ (z : List ℕ). LacksGraftRoom h z k) same g
 added_if (Err e) h new above shared k says same g = tt
 
-pub well_in : (bins : List Bin) (root : ℕ) (version : HiveVersion) (bulk : ℕ) (h : HiveCells) → IsHive bins root version bulk → hive_of bins root version ≡ h
+pub well_in : (bins : List Bin) (root : ℕ) (version : HiveVersion) (bulk : ℕ) (h : HiveCells)
+    → IsHive bins root version bulk → hive_of bins root version ≡ h
     → IsWellFormed (cells_in h) h.root h.tree
-well_in bins root version bulk h is view = subst (λ (g : HiveCells). IsWellFormed (cells_in g) g.root g.tree) view is.stands
+well_in bins root version bulk h is view =
+    subst (λ (g : HiveCells). IsWellFormed (cells_in g) g.root g.tree) view is.stands
 
 pub low_by : (k : Tree) (v : Bool) → v ≡ nat_lt 511 (levels k) → v ≡ false → levels k ≤ 511
 low_by k v e f = ltb-false 511 (levels k) (sym e ∙ f)

@@ -41,41 +41,61 @@ abbrev Answers : HiveCells → List (List ℕ) → List ℕ → Result Tree Refu
 Answers h parent name r = after_step (make_key parent name) h.tree ≡ r
 
 -- the path leads to a key
-pub record FindsKey (bins : List Bin) (root : ℕ) (version : HiveVersion) (parent : List (List ℕ)) (at : ℕ) : Type 0 where
+pub record FindsKey (bins : List Bin) (root : ℕ) (version : HiveVersion) (parent : List (List ℕ))
+    (at : ℕ) : Type 0 where
   pub place : key_place (look_up version bins) parent root ≡ some at
   pub key : KeyThere (look_up version bins) parent (tree_of (look_up version bins) root) at
 
-pub finds_key : (bins heap : List Bin) (root : ℕ) (version : HiveVersion) (bulk : ℕ) (h : HiveCells) (parent : List (List ℕ)) (at : ℕ) → Lent bins heap root version bulk h
+pub finds_key : (bins heap : List Bin) (root : ℕ) (version : HiveVersion) (bulk : ℕ) (h : HiveCells)
+    (parent : List (List ℕ)) (at : ℕ) → Lent bins heap root version bulk h
     → some at ≡ key_place (look_up version heap) parent root → FindsKey bins root version parent at
 finds_key bins heap root version bulk h parent at l e =
-    let place : key_place (look_up version bins) parent root ≡ some at = subst (λ (z : List Bin). key_place (look_up version z) parent root ≡ some at) l.same (sym e) in
-    record { place = place; key = key_there (look_up version bins) parent root (tree_of (look_up version bins) root) at l.is.stands place }
+    let place : key_place (look_up version bins) parent root ≡ some at =
+    subst (λ (z : List Bin). key_place (look_up version z) parent root ≡ some at) l.same (sym e) in
+    record {
+      place = place;
+      key = key_there (look_up version bins) parent root (tree_of (look_up version bins) root)
+          at l.is.stands place;
+    }
 
-pub asks_no_key : (bins heap : List Bin) (root : ℕ) (version : HiveVersion) (bulk : ℕ) (h : HiveCells) (parent : List (List ℕ)) (name : List ℕ) → Lent bins heap root version bulk h
-    → none_there ≡ key_place (look_up version heap) parent root → after_step (make_key parent name) h.tree ≡ refused no_key
+pub asks_no_key : (bins heap : List Bin) (root : ℕ) (version : HiveVersion) (bulk : ℕ) (h : HiveCells)
+    (parent : List (List ℕ)) (name : List ℕ) → Lent bins heap root version bulk h
+    → none_there ≡ key_place (look_up version heap) parent root
+    → after_step (make_key parent name) h.tree ≡ refused no_key
 asks_no_key bins heap root version bulk h parent name l e =
     let b = look_up version bins in
-    let none : key_place b parent root ≡ None = subst (λ (z : List Bin). key_place (look_up version z) parent root ≡ None) l.same (sym e) in
-    subst (λ (g : HiveCells). Answers g parent name (Err no_key)) l.view (refused_key parent name (tree_of b root) (no_place b parent root (tree_of b root) l.is.stands none))
+    let none : key_place b parent root ≡ None =
+    subst (λ (z : List Bin). key_place (look_up version z) parent root ≡ None) l.same (sym e) in
+    subst (λ (g : HiveCells). Answers g parent name (Err no_key)) l.view
+    (refused_key parent name (tree_of b root) (no_place b parent root (tree_of b root) l.is.stands none))
 
-pub asks_bad_name : (bins heap : List Bin) (root : ℕ) (version : HiveVersion) (bulk : ℕ) (h : HiveCells) (parent : List (List ℕ)) (name : List ℕ) (at : ℕ) → Lent bins heap root version bulk h
-    → some at ≡ key_place (look_up version heap) parent root → is_bad_name name ≡ true → after_step (make_key parent name) h.tree ≡ refused bad_name
+pub asks_bad_name : (bins heap : List Bin) (root : ℕ) (version : HiveVersion) (bulk : ℕ) (h : HiveCells)
+    (parent : List (List ℕ)) (name : List ℕ) (at : ℕ) → Lent bins heap root version bulk h
+    → some at ≡ key_place (look_up version heap) parent root → is_bad_name name ≡ true
+    → after_step (make_key parent name) h.tree ≡ refused bad_name
 asks_bad_name bins heap root version bulk h parent name at l e bad =
     let f = finds_key bins heap root version bulk h parent at l e in
-    subst (λ (g : HiveCells). Answers g parent name (Err bad_name)) l.view (refused_name parent name (tree_of (look_up version bins) root) f.key.there f.key.found bad)
+    subst (λ (g : HiveCells). Answers g parent name (Err bad_name)) l.view
+    (refused_name parent name (tree_of (look_up version bins) root) f.key.there f.key.found bad)
 
-pub asks_long : (bins heap : List Bin) (root : ℕ) (version : HiveVersion) (bulk : ℕ) (h : HiveCells) (parent : List (List ℕ)) (name : List ℕ) (at : ℕ) → Lent bins heap root version bulk h
-    → some at ≡ key_place (look_up version heap) parent root → is_bad_name name ≡ false → 255 < length name → after_step (make_key parent name) h.tree ≡ refused name_too_long
+pub asks_long : (bins heap : List Bin) (root : ℕ) (version : HiveVersion) (bulk : ℕ) (h : HiveCells)
+    (parent : List (List ℕ)) (name : List ℕ) (at : ℕ) → Lent bins heap root version bulk h
+    → some at ≡ key_place (look_up version heap) parent root → is_bad_name name ≡ false → 255 < length name
+    → after_step (make_key parent name) h.tree ≡ refused name_too_long
 asks_long bins heap root version bulk h parent name at l e good long =
     let f = finds_key bins heap root version bulk h parent at l e in
-    subst (λ (g : HiveCells). Answers g parent name (Err name_too_long)) l.view (refused_long parent name (tree_of (look_up version bins) root) f.key.there f.key.found good long)
+    subst (λ (g : HiveCells). Answers g parent name (Err name_too_long)) l.view
+    (refused_long parent name (tree_of (look_up version bins) root) f.key.there f.key.found good long)
 
-pub asks_deep : (bins heap : List Bin) (root : ℕ) (version : HiveVersion) (bulk : ℕ) (h : HiveCells) (parent : List (List ℕ)) (name : List ℕ) (at : ℕ) → Lent bins heap root version bulk h
-    → some at ≡ key_place (look_up version heap) parent root → is_bad_name name ≡ false → length name ≤ 255 → 510 < length parent
+pub asks_deep : (bins heap : List Bin) (root : ℕ) (version : HiveVersion) (bulk : ℕ) (h : HiveCells)
+    (parent : List (List ℕ)) (name : List ℕ) (at : ℕ) → Lent bins heap root version bulk h
+    → some at ≡ key_place (look_up version heap) parent root → is_bad_name name ≡ false → length name ≤ 255
+    → 510 < length parent
     → after_step (make_key parent name) h.tree ≡ refused too_deep
 asks_deep bins heap root version bulk h parent name at l e good short deep =
     let f = finds_key bins heap root version bulk h parent at l e in
-    subst (λ (g : HiveCells). Answers g parent name (Err too_deep)) l.view (refused_deep parent name (tree_of (look_up version bins) root) f.key.there f.key.found good short deep)
+    subst (λ (g : HiveCells). Answers g parent name (Err too_deep)) l.view
+    (refused_deep parent name (tree_of (look_up version bins) root) f.key.there f.key.found good short deep)
 
 -- the path leads to a key that has a child of this name, and the step that makes one makes nothing
 pub record IsMadeAlready (h : HiveCells) (parent : List (List ℕ)) (name : List ℕ) : Type 0 where
@@ -86,7 +106,8 @@ pub record IsMadeAlready (h : HiveCells) (parent : List (List ℕ)) (name : List
 
 -- ---- the path and the name are good
 
-pub record Good (bins heap : List Bin) (root : ℕ) (version : HiveVersion) (bulk : ℕ) (h : HiveCells) (parent : List (List ℕ)) (name : List ℕ) (at : ℕ) : Type 0 where
+pub record Good (bins heap : List Bin) (root : ℕ) (version : HiveVersion) (bulk : ℕ) (h : HiveCells)
+    (parent : List (List ℕ)) (name : List ℕ) (at : ℕ) : Type 0 where
   pub lent : Lent bins heap root version bulk h
   pub place : some at ≡ key_place (look_up version heap) parent root
   pub good : is_bad_name name ≡ false
@@ -104,7 +125,8 @@ none_of : (r : Option ℕ) → is_some r ≡ false → r ≡ None
 none_of None e = refl
 none_of (Some y) e = absurd cc
 
-module _ (bins heap : List Bin) (root : ℕ) (version : HiveVersion) (bulk : ℕ) (h : HiveCells) (parent : List (List ℕ)) (name : List ℕ) (at : ℕ)
+module _ (bins heap : List Bin) (root : ℕ) (version : HiveVersion) (bulk : ℕ) (h : HiveCells) (parent : List (List ℕ))
+    (name : List ℕ) (at : ℕ)
     (g : Good bins heap root version bulk h parent name at) where
   finds : FindsKey bins root version parent at
   finds = finds_key bins heap root version bulk h parent at g.lent g.place
@@ -115,33 +137,41 @@ module _ (bins heap : List Bin) (root : ℕ) (version : HiveVersion) (bulk : ℕ
   in_bins : (r : Option ℕ) → r ≡ child_in (look_up version heap) name at → child_in (look_up version bins) name at ≡ r
   in_bins r e = ap (λ (z : List Bin). child_in (look_up version z) name at) (sym g.lent.same) ∙ sym e
 
-  present : (r : Option ℕ) → r ≡ child_in (look_up version heap) name at → is_some r ≡ true → has_key parent name (tree_of (look_up version bins) root) ≡ true
+  present : (r : Option ℕ) → r ≡ child_in (look_up version heap) name at → is_some r ≡ true
+      → has_key parent name (tree_of (look_up version bins) root) ≡ true
   present r e s =
       let y = some_of r s in
-      key_present (look_up version bins) root (tree_of (look_up version bins) root) finds.key.there parent name at y.0 finds.key.well finds.key.found (in_bins r e ∙ y.1)
+      key_present (look_up version bins) root (tree_of (look_up version bins) root)
+      finds.key.there parent name at y.0 finds.key.well finds.key.found (in_bins r e ∙ y.1)
 
-  absent : (r : Option ℕ) → r ≡ child_in (look_up version heap) name at → is_some r ≡ false → has_key parent name (tree_of (look_up version bins) root) ≡ false
+  absent : (r : Option ℕ) → r ≡ child_in (look_up version heap) name at → is_some r ≡ false
+      → has_key parent name (tree_of (look_up version bins) root) ≡ false
   absent r e s =
-      key_absent (look_up version bins) root (tree_of (look_up version bins) root) finds.key.there parent name at finds.key.well finds.key.found (in_bins r e ∙ none_of r s)
+      key_absent (look_up version bins) root (tree_of (look_up version bins) root)
+      finds.key.there parent name at finds.key.well finds.key.found (in_bins r e ∙ none_of r s)
 
-  pub asks_there : (r : Option ℕ) → r ≡ child_in (look_up version heap) name at → is_some r ≡ true → IsMadeAlready h parent name
+  pub asks_there : (r : Option ℕ) → r ≡ child_in (look_up version heap) name at → is_some r ≡ true
+      → IsMadeAlready h parent name
   asks_there r e s =
       let t = tree_of (look_up version bins) root in
       subst (λ (z : HiveCells). IsMadeAlready z parent name) g.lent.view (record {
         key = finds.key.there;
         found = finds.key.found;
         present = present r e s;
-        step = step_made parent name t finds.key.there try ∙ ap the_tree (nothing_made parent name t finds.key.there finds.key.found (present r e s));
+        step = step_made parent name t finds.key.there try
+            ∙ ap the_tree (nothing_made parent name t finds.key.there finds.key.found (present r e s));
       })
 
-  pub asks_open : (r : Option ℕ) → r ≡ child_in (look_up version heap) name at → is_some r ≡ false → IsOpen h parent name at
+  pub asks_open : (r : Option ℕ) → r ≡ child_in (look_up version heap) name at → is_some r ≡ false
+      → IsOpen h parent name at
   asks_open r e s =
       subst (λ (z : HiveCells). IsOpen z parent name at) g.lent.view
       (record { place = finds.place; absent = absent r e s; short = g.short; good = g.good; deep = g.deep })
 
 -- ---- a key that is there makes nothing
 
-pub already_stepped : (bins : List Bin) (root : ℕ) (version : HiveVersion) (bulk : ℕ) (h : HiveCells) (parent : List (List ℕ)) (name : List ℕ) → IsHive bins root version bulk
+pub already_stepped : (bins : List Bin) (root : ℕ) (version : HiveVersion) (bulk : ℕ) (h : HiveCells)
+    (parent : List (List ℕ)) (name : List ℕ) → IsHive bins root version bulk
     → hive_of bins root version ≡ h → IsMadeAlready h parent name → IsStepped h (make_key parent name) h
 already_stepped bins root version bulk h parent name is view m =
     let well = subst (λ (z : HiveCells). IsWellFormed (cells_in z) z.root z.tree) view is.stands in
@@ -149,7 +179,8 @@ already_stepped bins root version bulk h parent name is view m =
       version = refl;
       root = refl;
       tree = m.step;
-      done = a_key_there (cells_in h) h.root h.tree h.tree m.key parent name well (nothing_made parent name h.tree m.key m.found m.present) m.found m.present;
+      done = a_key_there (cells_in h) h.root h.tree h.tree m.key parent name well
+          (nothing_made parent name h.tree m.key m.found m.present) m.found m.present;
       long = omega arith;
       room = omega arith;
     }
@@ -157,72 +188,95 @@ already_stepped bins root version bulk h parent name is view m =
 -- ---- a key that may be made
 
 -- what is known of the place, in the bins
-pub record OpenHere (bins : List Bin) (root : ℕ) (version : HiveVersion) (parent : List (List ℕ)) (name : List ℕ) (at : ℕ) : Type 0 where
+pub record OpenHere (bins : List Bin) (root : ℕ) (version : HiveVersion) (parent : List (List ℕ)) (name : List ℕ)
+    (at : ℕ) : Type 0 where
   pub place : key_place (look_up version bins) parent root ≡ some at
   pub key : KeyThere (look_up version bins) parent (tree_of (look_up version bins) root) at
   pub try : MayTry parent name (tree_of (look_up version bins) root) key.there
   pub absent : has_key parent name (tree_of (look_up version bins) root) ≡ false
 
-pub open_here : (bins : List Bin) (root : ℕ) (version : HiveVersion) (bulk : ℕ) (h : HiveCells) (parent : List (List ℕ)) (name : List ℕ) (at : ℕ) → IsHive bins root version bulk
+pub open_here : (bins : List Bin) (root : ℕ) (version : HiveVersion) (bulk : ℕ) (h : HiveCells) (parent : List (List ℕ))
+    (name : List ℕ) (at : ℕ) → IsHive bins root version bulk
     → hive_of bins root version ≡ h → IsOpen h parent name at → OpenHere bins root version parent name at
 open_here bins root version bulk h parent name at is view isopen =
-    let o : IsOpen (hive_of bins root version) parent name at = subst (λ (z : HiveCells). IsOpen z parent name at) (sym view) isopen in
+    let o : IsOpen (hive_of bins root version) parent name at =
+    subst (λ (z : HiveCells). IsOpen z parent name at) (sym view) isopen in
     let k = key_there (look_up version bins) parent root (tree_of (look_up version bins) root) at is.stands o.place in
-    record { place = o.place; key = k; try = record { found = k.found; good = o.good; short = o.short; deep = o.deep }; absent = o.absent }
+    record {
+      place = o.place;
+      key = k;
+      try = record { found = k.found; good = o.good; short = o.short; deep = o.deep };
+      absent = o.absent;
+    }
 
 -- the key stands in the cells as they are lent
-pub open_stands : (bins heap : List Bin) (root : ℕ) (version : HiveVersion) (bulk : ℕ) (h : HiveCells) (parent : List (List ℕ)) (name : List ℕ) (at : ℕ)
-    → IsHive bins root version bulk → heap ≡ bins → hive_of bins root version ≡ h → IsOpen h parent name at → IsKeyAt (look_up version heap) at
+pub open_stands : (bins heap : List Bin) (root : ℕ) (version : HiveVersion) (bulk : ℕ) (h : HiveCells)
+    (parent : List (List ℕ)) (name : List ℕ) (at : ℕ)
+    → IsHive bins root version bulk → heap ≡ bins → hive_of bins root version ≡ h → IsOpen h parent name at
+    → IsKeyAt (look_up version heap) at
 open_stands bins heap root version bulk h parent name at is same view isopen =
     let o = open_here bins root version bulk h parent name at is view isopen in
     subst (λ (z : List Bin). IsKeyAt (look_up version z) at) (sym same) (o.key.there, o.key.well)
 
 -- its node, seen in the hive
-pub node_seen : (bins heap : List Bin) (root : ℕ) (version : HiveVersion) (h : HiveCells) (at : ℕ) (n : KeyNode) → heap ≡ bins → hive_of bins root version ≡ h
+pub node_seen : (bins heap : List Bin) (root : ℕ) (version : HiveVersion) (h : HiveCells) (at : ℕ) (n : KeyNode)
+    → heap ≡ bins → hive_of bins root version ≡ h
     → reading key_node_at (cells_in h) at ≡ Ok n → reading key_node_at (look_up version heap) at ≡ Ok n
 node_seen bins heap root version h at n same view e =
     subst (λ (z : List Bin). reading key_node_at (look_up version z) at ≡ done n) (sym same)
     (subst (λ (z : HiveCells). reading key_node_at (cells_in z) at ≡ done n) (sym view) e)
 
 -- how many children it counts
-open_many : (bins : List Bin) (root : ℕ) (version : HiveVersion) (bulk : ℕ) (h : HiveCells) (parent : List (List ℕ)) (name : List ℕ) (at count : ℕ)
+open_many : (bins : List Bin) (root : ℕ) (version : HiveVersion) (bulk : ℕ) (h : HiveCells) (parent : List (List ℕ))
+    (name : List ℕ) (at count : ℕ)
     → IsHive bins root version bulk → hive_of bins root version ≡ h → (o : OpenHere bins root version parent name at)
-    → ((n : KeyNode) → reading key_node_at (cells_in h) at ≡ Ok n → count ≡ n.child_count) → count ≡ length (children o.key.there)
+    → ((n : KeyNode) → reading key_node_at (cells_in h) at ≡ Ok n → count ≡ n.child_count)
+    → count ≡ length (children o.key.there)
 open_many bins root version bulk h parent name at count is view o counts =
     let b = look_up version bins in
     let t = tree_of b root in
     let read = node_read b at o.key.there o.key.well.stands in
     let placed = placed_at b parent root at o.place in
     counts read.0 (subst (λ (z : HiveCells). reading key_node_at (cells_in z) at ≡ done read.0) view read.1)
-    ∙ counted_children b root t placed.stored at o.key.there read.0 (record { well = is.stands; reached = placed.reached; below = o.key.well; read = read.1 })
+    ∙ counted_children b root t placed.stored at o.key.there read.0
+    (record { well = is.stands; reached = placed.reached; below = o.key.well; read = read.1 })
 
 -- too many siblings: there is no room for the lists
-pub asks_many : (bins : List Bin) (root : ℕ) (version : HiveVersion) (bulk : ℕ) (h : HiveCells) (parent : List (List ℕ)) (name : List ℕ) (at count : ℕ)
+pub asks_many : (bins : List Bin) (root : ℕ) (version : HiveVersion) (bulk : ℕ) (h : HiveCells) (parent : List (List ℕ))
+    (name : List ℕ) (at count : ℕ)
     → IsHive bins root version bulk → hive_of bins root version ≡ h → IsOpen h parent name at
-    → ((n : KeyNode) → reading key_node_at (cells_in h) at ≡ Ok n → count ≡ n.child_count) → 2097150 < count → LacksStepRoom h (make_key parent name)
+    → ((n : KeyNode) → reading key_node_at (cells_in h) at ≡ Ok n → count ≡ n.child_count) → 2097150 < count
+    → LacksStepRoom h (make_key parent name)
 asks_many bins root version bulk h parent name at count is view isopen counts many =
     let t = tree_of (look_up version bins) root in
     let o = open_here bins root version bulk h parent name at is view isopen in
     let c = open_many bins root version bulk h parent name at count is view o counts in
     let r = make_room version parent name t o.key.there o.key.found o.absent in
     let l = lists_over (length (children o.key.there) + 1) (omega (arith, c, many)) in
-    lacks_room bins root version h (made_tree parent name t) (make_key parent name) view (step_made parent name t o.key.there o.try) (omega (arith, r, l))
+    lacks_room bins root version h (made_tree parent name t) (make_key parent name) view
+    (step_made parent name t o.key.there o.try) (omega (arith, r, l))
 
 -- the bulk with it
-pub asks_bulk : (bins : List Bin) (root : ℕ) (version : HiveVersion) (bulk : ℕ) (h : HiveCells) (parent : List (List ℕ)) (name : List ℕ) (at count : ℕ)
-    → IsHive bins root version bulk → hive_of bins root version ≡ h → bins_size bins ≤ 16777216 → IsOpen h parent name at
+pub asks_bulk : (bins : List Bin) (root : ℕ) (version : HiveVersion) (bulk : ℕ) (h : HiveCells) (parent : List (List ℕ))
+    (name : List ℕ) (at count : ℕ)
+    → IsHive bins root version bulk → hive_of bins root version ≡ h → bins_size bins ≤ 16777216
+    → IsOpen h parent name at
     → ((n : KeyNode) → reading key_node_at (cells_in h) at ≡ Ok n → count ≡ n.child_count) → count ≤ 2097150
     → (list_size count ≤ bulk + (cell (76 + name_bytes name) + list_size (count + 1)))
-    × (bulk + (cell (76 + name_bytes name) + list_size (count + 1)) - list_size count ≡ bulk_of version (made_tree parent name (tree_of (look_up version bins) root)))
+    × (bulk + (cell (76 + name_bytes name) + list_size (count + 1)) - list_size count
+    ≡ bulk_of version (made_tree parent name (tree_of (look_up version bins) root)))
 asks_bulk bins root version bulk h parent name at count is view fit isopen counts few =
     let t = tree_of (look_up version bins) root in
     let o = open_here bins root version bulk h parent name at is view isopen in
     let c = open_many bins root version bulk h parent name at count is view o counts in
-    let g = subst (Grows version parent name t) (sym c) (grows version parent name t o.key.there o.key.found o.absent) in
+    let g = subst (Grows version parent name t) (sym c)
+    (grows version parent name t o.key.there o.key.found o.absent) in
     grown_is version parent name t count bulk g few o.try.short (bulk_is bins root version bulk is fit)
 
-pub asks_may : (bins : List Bin) (root : ℕ) (version : HiveVersion) (bulk : ℕ) (h : HiveCells) (parent : List (List ℕ)) (name : List ℕ) (at count grown : ℕ)
-    → IsHive bins root version bulk → hive_of bins root version ≡ h → bins_size bins ≤ 16777216 → IsOpen h parent name at
+pub asks_may : (bins : List Bin) (root : ℕ) (version : HiveVersion) (bulk : ℕ) (h : HiveCells) (parent : List (List ℕ))
+    (name : List ℕ) (at count grown : ℕ)
+    → IsHive bins root version bulk → hive_of bins root version ≡ h → bins_size bins ≤ 16777216
+    → IsOpen h parent name at
     → ((n : KeyNode) → reading key_node_at (cells_in h) at ≡ Ok n → count ≡ n.child_count) → count ≤ 2097150
     → grown ≡ bulk + (cell (76 + name_bytes name) + list_size (count + 1)) - list_size count
     → MayMake h parent name (record { at = at; bulk = grown })

@@ -47,17 +47,21 @@ use Rattle.hive_edit.proofs.GraftedLemmas.{Ready, linkable, front, back, placed,
 abbrev pub tree_in : HiveVersion → List Bin → ℕ → Tree
 tree_in version bins root = tree_of (look_up version bins) root
 
-pub record IsReady (version : HiveVersion) (old : List Bin) (root : ℕ) (above : Above) (shared : List ℕ) (k : Tree) (at : ℕ) : Type 0 where
+pub record IsReady (version : HiveVersion) (old : List Bin) (root : ℕ) (above : Above) (shared : List ℕ) (k : Tree)
+    (at : ℕ) : Type 0 where
   pub node : KeyNode
   pub ready : Ready version old root (tree_in version old root) node above shared k at
   pub holds : HoldsKeys k
   pub child : IsNewChild (hive_of old root version) k
 
-pub root_ready : (old : List Bin) (root : ℕ) (version : HiveVersion) (bulk : ℕ) (h : HiveCells) (above : Above) (shared : List ℕ) (k : Tree) (at : ℕ)
-    → IsHive old root version bulk → hive_of old root version ≡ h → IsNewChild h k → MayGraft h above shared → at + size version shared k ≤ 16777216
+pub root_ready : (old : List Bin) (root : ℕ) (version : HiveVersion) (bulk : ℕ) (h : HiveCells) (above : Above)
+    (shared : List ℕ) (k : Tree) (at : ℕ)
+    → IsHive old root version bulk → hive_of old root version ≡ h → IsNewChild h k → MayGraft h above shared
+    → at + size version shared k ≤ 16777216
     → root < 2 ^ 32 → IsReady version old root above shared k at
 root_ready old root version bulk h above shared k at is view child may inside small =
-    let m : MayGraft (hive_of old root version) above shared = subst (λ (g : HiveCells). MayGraft g above shared) (sym view) may in
+    let m : MayGraft (hive_of old root version) above shared =
+    subst (λ (g : HiveCells). MayGraft g above shared) (sym view) may in
     let n : IsNewChild (hive_of old root version) k = subst (λ (g : HiveCells). IsNewChild g k) (sym view) child in
     let read = node_read (look_up version old) root (tree_in version old root) is.stands.stands in
     record {
@@ -75,54 +79,69 @@ root_ready old root version bulk h above shared k at is view child may inside sm
       child = n;
     }
 
-pub can_graft : (version : HiveVersion) (old : List Bin) (root : ℕ) (above : Above) (shared : List ℕ) (k : Tree) (at : ℕ) → IsReady version old root above shared k at
+pub can_graft : (version : HiveVersion) (old : List Bin) (root : ℕ) (above : Above) (shared : List ℕ) (k : Tree)
+    (at : ℕ) → IsReady version old root above shared k at
     → IsPlace (size version shared k) old at → CanGraft version root above shared k at old
 can_graft version old root above shared k at r place = record {
   holds = r.holds;
   place = place;
-  linkable = λ mid numbers put. linkable version old mid root (tree_in version old root) r.node above shared k at r.ready numbers r.holds put;
+  linkable = λ mid numbers put. linkable version old mid root (tree_in version old root)
+      r.node above shared k at r.ready numbers r.holds put;
 }
 
 -- ---- how long the lists and the bins data are
 
-with_length : (n place : ℕ) (child : ℕ) (offs : List ℕ) → length offs ≡ n → length (take place offs ++ (child ∷ drop place offs)) ≡ n + 1
+with_length : (n place : ℕ) (child : ℕ) (offs : List ℕ) → length offs ≡ n
+    → length (take place offs ++ (child ∷ drop place offs)) ≡ n + 1
 with_length n place child offs e =
     let a = length-append (take place offs) (child ∷ drop place offs) in
     let b = length-append (take place offs) (drop place offs) in
     let c = ap (λ (l : List ℕ). length l) (take-append-drop place offs) in
     omega (arith, a, b, c, e)
 
-pub children_more : (version : HiveVersion) (old mid : List Bin) (root : ℕ) (above : Above) (shared : List ℕ) (k : Tree) (at : ℕ)
+pub children_more : (version : HiveVersion) (old mid : List Bin) (root : ℕ) (above : Above) (shared : List ℕ) (k : Tree)
+    (at : ℕ)
     → (r : IsReady version old root above shared k at) → HasNumbers k → IsRunPut version root above shared k at old mid
     → length (above_children version above at mid) ≡ length (children (tree_in version old root)) + 1
 children_more version old mid root above shared k at r numbers put =
     let t = tree_in version old root in
     let n = siblings_count version old mid root t r.node above shared k at r.ready numbers r.holds put in
-    let count : above.count ≡ length (children t) = r.ready.says.count ∙ counted_children (look_up version old) root t [] root t r.node r.ready.parent in
-    with_length (length (children t)) (position_or_len (is_behind (look_up version mid) (name_in (look_up version mid) at)) (children_at (look_up version mid) above.list above.count)) at
+    let count : above.count ≡ length (children t) =
+    r.ready.says.count ∙ counted_children (look_up version old) root t [] root t r.node r.ready.parent in
+    with_length (length (children t))
+    (position_or_len (is_behind (look_up version mid) (name_in (look_up version mid) at))
+    (children_at (look_up version mid) above.list above.count)) at
     (children_at (look_up version mid) above.list above.count) (n ∙ count)
 
-pub run_room : (version : HiveVersion) (old mid : List Bin) (root : ℕ) (above : Above) (shared : List ℕ) (k : Tree) (at : ℕ)
-    → IsReady version old root above shared k at → (put : IsRunPut version root above shared k at old mid) → bins_size mid ≤ bins_size old + new_bin_size (size version shared k)
+pub run_room : (version : HiveVersion) (old mid : List Bin) (root : ℕ) (above : Above) (shared : List ℕ) (k : Tree)
+    (at : ℕ)
+    → IsReady version old root above shared k at → (put : IsRunPut version root above shared k at old mid)
+    → bins_size mid ≤ bins_size old + new_bin_size (size version shared k)
 run_room version old mid root above shared k at r put =
     let inside = r.ready.inside in
-    let run = graft_run version (beside version root shared above.security at k) at k put.run put.is (omega (arith, inside)) in
+    let run = graft_run version (beside version root shared above.security at k) at k put.run put.is
+    (omega (arith, inside)) in
     subst (λ (n : ℕ). bins_size mid ≤ bins_size old + new_bin_size n) run.long put.put.long
 
 -- ---- the bulk
 
-pub grown : (version : HiveVersion) (name : List ℕ) (k t : Tree) (bulk count own new : ℕ) → bulk ≡ bulk_of version t → count ≡ length (children t)
-    → own ≡ size version (head t).security (renamed name k) → new ≡ min (bulk + (own + (list_size (count + 1) - list_size count))) 18446744073709551615
+pub grown : (version : HiveVersion) (name : List ℕ) (k t : Tree) (bulk count own new : ℕ) → bulk ≡ bulk_of version t
+    → count ≡ length (children t)
+    → own ≡ size version (head t).security (renamed name k)
+    → new ≡ min (bulk + (own + (list_size (count + 1) - list_size count))) 18446744073709551615
     → new ≡ bulk_of version (with_child name k t)
 grown version name k t bulk count own new b c o n =
     let e = child_size version name k t in
     let l = list_more count in
     let at : list_size (length (children t)) ≡ list_size count = ap list_size (sym c) in
-    let more : list_size (length (children t) + 1) ≡ list_size (count + 1) = ap (λ (m : ℕ). list_size (m + 1)) (sym c) in
-    sums (size version [] t) (size version [] (with_child name k t)) (list_size (length (children t))) (list_size (length (children t) + 1)) (list_size count) (list_size (count + 1))
+    let more : list_size (length (children t) + 1) ≡ list_size (count + 1) =
+    ap (λ (m : ℕ). list_size (m + 1)) (sym c) in
+    sums (size version [] t) (size version [] (with_child name k t)) (list_size (length (children t)))
+    (list_size (length (children t) + 1)) (list_size count) (list_size (count + 1))
     (size version (head t).security (renamed name k)) own bulk new e at more o b l n
   where
-    sums : (t u l m l' m' z own bulk new : ℕ) → u + l ≡ t + (m + z) → l ≡ l' → m ≡ m' → own ≡ z → bulk ≡ min (32 + t) 18446744073709551615 → l' ≤ m'
+    sums : (t u l m l' m' z own bulk new : ℕ) → u + l ≡ t + (m + z) → l ≡ l' → m ≡ m' → own ≡ z
+        → bulk ≡ min (32 + t) 18446744073709551615 → l' ≤ m'
         → new ≡ min (bulk + (own + (m' - l'))) 18446744073709551615 → new ≡ min (32 + u) 18446744073709551615
     sums t u l m l' m' z own bulk new e at more o b le n = omega (arith, e, at, more, o, b, le, n)
 
@@ -131,12 +150,15 @@ grown version name k t bulk count own new b c o n =
 renamed_itself : (k : Tree) → renamed (head k).name k ≡ k
 renamed_itself (key h ts) = refl
 
-pub record IsGraftMade (h : HiveCells) (new : List Bin) (root : ℕ) (version : HiveVersion) (bulk : ℕ) (sp : ℕ) (shared : List ℕ) (k : Tree) : Type 0 where
+pub record IsGraftMade (h : HiveCells) (new : List Bin) (root : ℕ) (version : HiveVersion) (bulk : ℕ) (sp : ℕ)
+    (shared : List ℕ) (k : Tree) : Type 0 where
   pub hive : IsHive new root version bulk
   pub made : IsGraftedIn h sp shared k (hive_of new root version)
 
-pub graft_made : (old new : List Bin) (root : ℕ) (version : HiveVersion) (bulk count own after : ℕ) (h : HiveCells) (above : Above) (shared : List ℕ) (k : Tree) (at : ℕ)
-    → IsHive old root version bulk → hive_of old root version ≡ h → (r : IsReady version old root above shared k at) → IsGrafted version root above shared k at old new
+pub graft_made : (old new : List Bin) (root : ℕ) (version : HiveVersion) (bulk count own after : ℕ) (h : HiveCells)
+    (above : Above) (shared : List ℕ) (k : Tree) (at : ℕ)
+    → IsHive old root version bulk → hive_of old root version ≡ h → (r : IsReady version old root above shared k at)
+    → IsGrafted version root above shared k at old new
     → IsBytes (spelled 0 new) → own ≡ size version (head (tree_in version old root)).security k
     → after ≡ min (bulk + (own + (list_size (above.count + 1) - list_size above.count))) 18446744073709551615
     → IsGraftMade h new root version after above.security shared k
@@ -155,14 +177,18 @@ graft_made old new root version bulk count own after h above shared k at is view
     let name = (head k).name in
     let u = with_child name k t in
     let stands : Stands c at k = stands_new b m l c root t n k at sz sp a.linked.list shared fr bk g in
-    let ch : ChangesChildren b c root root 511 fr [] (at ∷ []) bk (security_listed sp) = changes b m l c root t n k at sz sp a.linked.list shared fr bk g in
-    let place : HasPlace b name fr bk = placed version old a.mid root t n above shared k at r.ready a.numbers r.holds a.put in
+    let ch : ChangesChildren b c root root 511 fr [] (at ∷ []) bk (security_listed sp) =
+    changes b m l c root t n k at sz sp a.linked.list shared fr bk g in
+    let place : HasPlace b name fr bk =
+    placed version old a.mid root t n above shared k at r.ready a.numbers r.holds a.put in
     let well : IsWellFormed c root u =
     root_gets b c root t k name at fr bk (security_listed sp) r.ready.parent.well r.child.absent r.child.good ch
     (subst (Stands c at) (sym (renamed_itself k)) stands) (apart k r.holds) r.ready.low place in
-    let count_is : above.count ≡ length (children t) = r.ready.says.count ∙ counted_children b root t [] root t n r.ready.parent in
+    let count_is : above.count ≡ length (children t) =
+    r.ready.says.count ∙ counted_children b root t [] root t n r.ready.parent in
     let bulk_is : after ≡ bulk_of version u =
-    grown version name k t bulk above.count own after is.counted count_is (own_is ∙ ap (size version (head t).security) (sym (renamed_itself k))) after_is in
+    grown version name k t bulk above.count own after is.counted count_is
+    (own_is ∙ ap (size version (head t).security) (sym (renamed_itself k))) after_is in
     let tree : tree_of c root ≡ u = tree_is c root u well in
     let lists = a.linked.lists.long in
     let more = children_more version old a.mid root above shared k at r a.numbers a.put in
@@ -174,7 +200,8 @@ graft_made old new root version bulk count own after h above shared k at is view
     let put_least = a.put.put.least in
     let lists_least = a.linked.lists.kept_long in
     record {
-      hive = hive_opened new new root version after u refl well (well-formed-valid c root u (cells-bytes version new bytes) well) bulk_is;
+      hive = hive_opened new new root version after u refl well
+          (well-formed-valid c root u (cells-bytes version new bytes) well) bulk_is;
       made = subst (λ (g : HiveCells). IsGraftedIn g sp shared k (hive_of new root version)) view (record {
         version = refl;
         root = refl;
@@ -186,7 +213,8 @@ graft_made old new root version bulk count own after h above shared k at is view
         stands = stands;
         place = place;
         long = omega (arith, noted, counted, put_least, lists_least);
-        room = total (bins_size old) (bins_size a.mid) (bins_size a.linked.listed) (bins_size a.linked.noted) (bins_size new) (new_bin_size sz)
+        room = total (bins_size old) (bins_size a.mid) (bins_size a.linked.listed) (bins_size a.linked.noted)
+            (bins_size new) (new_bin_size sz)
             (room_of (list_sizes (length (children t) + 1))) room lists_room noted counted;
       });
     }
@@ -196,53 +224,71 @@ graft_made old new root version bulk count own after h above shared k at is view
 
 -- ---- the hive is as it was, whatever run is put
 
-pub still_hive : (old new : List Bin) (root : ℕ) (version : HiveVersion) (bulk : ℕ) (above : Above) (shared : List ℕ) (k : Tree) (at : ℕ) → IsHive old root version bulk
-    → IsReady version old root above shared k at → IsRunPut version root above shared k at old new → IsHive new root version bulk
+pub still_hive : (old new : List Bin) (root : ℕ) (version : HiveVersion) (bulk : ℕ) (above : Above) (shared : List ℕ)
+    (k : Tree) (at : ℕ) → IsHive old root version bulk
+    → IsReady version old root above shared k at → IsRunPut version root above shared k at old new
+    → IsHive new root version bulk
 still_hive old new root version bulk above shared k at is r put =
     let b = look_up version old in
     let c = look_up version new in
     let t = tree_in version old root in
     let inside = r.ready.inside in
-    let keeps : Keeps b c = (run_there version (beside version root shared above.security at k) at k put.run old new put.is (omega (arith, inside)) put.put).kept in
+    let keeps : Keeps b c = (run_there version (beside version root shared above.security at k)
+    at k put.run old new put.is (omega (arith, inside)) put.put).kept in
     hive_opened new new root version bulk t refl (kept_well b c root t is.stands keeps) is.valid is.counted
 
-pub still_or : (old new : List Bin) (root : ℕ) (version : HiveVersion) (bulk : ℕ) (above : Above) (shared : List ℕ) (k : Tree) (at : ℕ) → IsHive old root version bulk
-    → IsReady version old root above shared k at → (new ≡ old) ⊎ IsRunPut version root above shared k at old new → IsHive new root version bulk
-still_or old new root version bulk above shared k at is r (inl e) = subst (λ (z : List Bin). IsHive z root version bulk) (sym e) is
-still_or old new root version bulk above shared k at is r (inr put) = still_hive old new root version bulk above shared k at is r put
+pub still_or : (old new : List Bin) (root : ℕ) (version : HiveVersion) (bulk : ℕ) (above : Above) (shared : List ℕ)
+    (k : Tree) (at : ℕ) → IsHive old root version bulk
+    → IsReady version old root above shared k at → (new ≡ old) ⊎ IsRunPut version root above shared k at old new
+    → IsHive new root version bulk
+still_or old new root version bulk above shared k at is r (inl e) =
+    subst (λ (z : List Bin). IsHive z root version bulk) (sym e) is
+still_or old new root version bulk above shared k at is r (inr put) =
+    still_hive old new root version bulk above shared k at is r put
 
 -- ---- there is no room
 
-pub lacks_lists : (old new : List Bin) (root : ℕ) (version : HiveVersion) (h : HiveCells) (above : Above) (shared : List ℕ) (k : Tree) (at : ℕ)
-    → hive_of old root version ≡ h → IsReady version old root above shared k at → LacksGraftLists version root above shared k at old new → LacksGraftRoom h shared k
+pub lacks_lists : (old new : List Bin) (root : ℕ) (version : HiveVersion) (h : HiveCells) (above : Above)
+    (shared : List ℕ) (k : Tree) (at : ℕ)
+    → hive_of old root version ≡ h → IsReady version old root above shared k at
+    → LacksGraftLists version root above shared k at old new → LacksGraftRoom h shared k
 lacks_lists old new root version h above shared k at view r a =
     let t = tree_in version old root in
     let more = children_more version old new root above shared k at r a.numbers a.put in
     let room = run_room version old new root above shared k at r a.put in
-    let over : 16777216 < bins_size new + room_of (list_sizes (length (children t) + 1)) = subst (λ (z : ℕ). 16777216 < bins_size new + room_of (list_sizes z)) more a.lacks in
+    let over : 16777216 < bins_size new + room_of (list_sizes (length (children t) + 1)) =
+    subst (λ (z : ℕ). 16777216 < bins_size new + room_of (list_sizes z)) more a.lacks in
     subst (λ (g : HiveCells). LacksGraftRoom g shared k) view
-    (total (bins_size old) (bins_size new) (new_bin_size (size version shared k)) (room_of (list_sizes (length (children t) + 1))) room over)
+    (total (bins_size old) (bins_size new) (new_bin_size (size version shared k))
+    (room_of (list_sizes (length (children t) + 1))) room over)
   where
     total : (o m x y : ℕ) → m ≤ o + x → 16777216 < m + y → 16777216 < o + (x + y)
     total o m x y a b = omega (arith, a, b)
 
-pub lacks_place : (h : HiveCells) (shared : List ℕ) (k : Tree) (n : ℕ) (bins : List Bin) → bins ≡ h.bins → n ≡ size h.version shared k
+pub lacks_place : (h : HiveCells) (shared : List ℕ) (k : Tree) (n : ℕ) (bins : List Bin) → bins ≡ h.bins
+    → n ≡ size h.version shared k
     → LacksPlace n bins → LacksGraftRoom h shared k
 lacks_place h shared k n bins b e l =
-    let here : 16777216 < bins_size h.bins + new_bin_size n = subst (λ (z : List Bin). 16777216 < bins_size z + new_bin_size n) b l.1 in
-    let over : 16777216 < bins_size h.bins + new_bin_size (size h.version shared k) = subst (λ (z : ℕ). 16777216 < bins_size h.bins + new_bin_size z) e here in
-    total (bins_size h.bins) (new_bin_size (size h.version shared k)) (room_of (list_sizes (length (children h.tree) + 1))) over
+    let here : 16777216 < bins_size h.bins + new_bin_size n =
+    subst (λ (z : List Bin). 16777216 < bins_size z + new_bin_size n) b l.1 in
+    let over : 16777216 < bins_size h.bins + new_bin_size (size h.version shared k) =
+    subst (λ (z : ℕ). 16777216 < bins_size h.bins + new_bin_size z) e here in
+    total (bins_size h.bins) (new_bin_size (size h.version shared k))
+    (room_of (list_sizes (length (children h.tree) + 1))) over
   where
     total : (o x y : ℕ) → 16777216 < o + x → 16777216 < o + (x + y)
     total o x y a = omega (arith, a)
 
-pub lacks_size : (h : HiveCells) (shared : List ℕ) (k : Tree) → 16777216 < size h.version shared k → LacksGraftRoom h shared k
-lacks_size h shared k over = total (bins_size h.bins) (size h.version shared k) (room_of (list_sizes (length (children h.tree) + 1))) over
+pub lacks_size : (h : HiveCells) (shared : List ℕ) (k : Tree) → 16777216 < size h.version shared k
+    → LacksGraftRoom h shared k
+lacks_size h shared k over =
+    total (bins_size h.bins) (size h.version shared k) (room_of (list_sizes (length (children h.tree) + 1))) over
   where
     total : (o s y : ℕ) → 16777216 < s → 16777216 < o + (rounded (s + 32) + y)
     total o s y a = omega (arith, a)
 
-pub lacks_many : (h : HiveCells) (shared : List ℕ) (k : Tree) (count : ℕ) → count ≡ length (children h.tree) → 2097150 < count → LacksGraftRoom h shared k
+pub lacks_many : (h : HiveCells) (shared : List ℕ) (k : Tree) (count : ℕ) → count ≡ length (children h.tree)
+    → 2097150 < count → LacksGraftRoom h shared k
 lacks_many h shared k count e many =
     let n = length (children h.tree) + 1 in
     let least = list_least n (omega (arith, e, many)) in
@@ -263,19 +309,24 @@ pub record Asked (h : HiveCells) (above : Above) (shared : List ℕ) (k : Tree) 
   pub long : n ≡ size h.version shared k
   pub place : IsPlace n h.bins at
 
-pub record ReadyAt (version : HiveVersion) (old : List Bin) (root : ℕ) (above : Above) (shared : List ℕ) (k : Tree) (own at : ℕ) : Type 0 where
+pub record ReadyAt (version : HiveVersion) (old : List Bin) (root : ℕ) (above : Above) (shared : List ℕ) (k : Tree)
+    (own at : ℕ) : Type 0 where
   pub ready : IsReady version old root above shared k at
   pub place : IsPlace (size version shared k) old at
   pub own_is : own ≡ size version (head (tree_in version old root)).security k
 
-pub ready_at : (old : List Bin) (root : ℕ) (version : HiveVersion) (bulk : ℕ) (h : HiveCells) (above : Above) (shared : List ℕ) (k : Tree) (own n at : ℕ)
-    → IsHive old root version bulk → hive_of old root version ≡ h → Asked h above shared k own n at → root < 2 ^ 32 → ReadyAt version old root above shared k own at
+pub ready_at : (old : List Bin) (root : ℕ) (version : HiveVersion) (bulk : ℕ) (h : HiveCells) (above : Above)
+    (shared : List ℕ) (k : Tree) (own n at : ℕ)
+    → IsHive old root version bulk → hive_of old root version ≡ h → Asked h above shared k own n at → root < 2 ^ 32
+    → ReadyAt version old root above shared k own at
 ready_at old root version bulk h above shared k own n at is view asked small =
-    let q : Asked (hive_of old root version) above shared k own n at = subst (λ (g : HiveCells). Asked g above shared k own n at) (sym view) asked in
+    let q : Asked (hive_of old root version) above shared k own n at =
+    subst (λ (g : HiveCells). Asked g above shared k own n at) (sym view) asked in
     let place : IsPlace (size version shared k) old at = subst (λ (m : ℕ). IsPlace m old at) q.long q.place in
     let inside = place.inside in
     record {
-      ready = root_ready old root version bulk (hive_of old root version) above shared k at is refl q.child q.may (omega (arith, inside)) small;
+      ready = root_ready old root version bulk (hive_of old root version) above shared k at is refl q.child q.may
+          (omega (arith, inside)) small;
       place = place;
       own_is = q.own_is;
     }

@@ -47,32 +47,42 @@ of_copy a b c d u = unless ((a, no_key) ∷ (b, bad_name) ∷ (c, name_too_long)
 abbrev copied_tree : List ℕ → Option Tree → Tree → Tree
 copied_tree to o t = option_map_or (λ k. with_child to k t) o t
 
-pub refuses_none : (h : HiveCells) (from to : List ℕ) → find_key (from ∷ []) h.tree ≡ None → after_step (copy_child from to) h.tree ≡ Err no_key
+pub refuses_none : (h : HiveCells) (from to : List ℕ) → find_key (from ∷ []) h.tree ≡ None
+    → after_step (copy_child from to) h.tree ≡ Err no_key
 refuses_none h from to e = go (find (is_named from) (children h.tree)) refl e
   where
-    go : (o : Option Tree) → find (is_named from) (children h.tree) ≡ o → option_and_then (find_key []) o ≡ None → after_step (copy_child from to) h.tree ≡ Err no_key
+    go : (o : Option Tree) → find (is_named from) (children h.tree) ≡ o → option_and_then (find_key []) o ≡ None
+        → after_step (copy_child from to) h.tree ≡ Err no_key
     go None f e =
-        ap (λ (v : Option Tree). of_copy (not (is_some v)) (is_bad_name to) (nat_lt 255 (length to)) (has_child to h.tree) (copied_tree to v h.tree)) f
+        ap (λ (v : Option Tree). of_copy (not (is_some v)) (is_bad_name to) (nat_lt 255 (length to))
+        (has_child to h.tree) (copied_tree to v h.tree)) f
     go (Some k) f e = absurd cc
 
-pub refuses_copy : (h : HiveCells) (from to : List ℕ) (k : Tree) (stop : EditStop) → find (is_named from) (children h.tree) ≡ Some k → RefusesName h to stop
+pub refuses_copy : (h : HiveCells) (from to : List ℕ) (k : Tree) (stop : EditStop)
+    → find (is_named from) (children h.tree) ≡ Some k → RefusesName h to stop
     → IsRefused (after_step (copy_child from to) h.tree) stop
 refuses_copy h from to k stop found r = go (refusal_of stop) r
   where
     go : (o : Option Refusal)
-        → IfSome o (λ why. (further : List (Bool × Refusal)) (u : Tree) → unless ((is_bad_name to, bad_name) ∷ (nat_lt 255 (length to), name_too_long) ∷ (has_child to h.tree, exists) ∷ further) u ≡ Err why)
+        → IfSome o (λ why. (further : List (Bool × Refusal)) (u : Tree)
+        → unless ((is_bad_name to, bad_name) ∷ (nat_lt 255 (length to), name_too_long)
+        ∷ (has_child to h.tree, exists) ∷ further) u ≡ Err why)
         → IfSome o (λ why. after_step (copy_child from to) h.tree ≡ Err why)
     go None r = tt
     go (Some why) r =
-        ap (λ (v : Option Tree). of_copy (not (is_some v)) (is_bad_name to) (nat_lt 255 (length to)) (has_child to h.tree) (copied_tree to v h.tree)) found
+        ap (λ (v : Option Tree). of_copy (not (is_some v)) (is_bad_name to) (nat_lt 255 (length to))
+        (has_child to h.tree) (copied_tree to v h.tree)) found
         ∙ r [] (with_child to k h.tree)
 
-pub step_copied : (h : HiveCells) (from to : List ℕ) (k : Tree) → find (is_named from) (children h.tree) ≡ Some k → IsFreeName h to
+pub step_copied : (h : HiveCells) (from to : List ℕ) (k : Tree) → find (is_named from) (children h.tree) ≡ Some k
+    → IsFreeName h to
     → after_step (copy_child from to) h.tree ≡ the_tree (with_child to k h.tree)
 step_copied h from to k found f = λ i.
-    of_copy (not (is_some (found i))) (f.good i) (le-ltb 255 (length to) f.short i) (f.absent i) (copied_tree to (found i) h.tree)
+    of_copy (not (is_some (found i))) (f.good i) (le-ltb 255 (length to) f.short i) (f.absent i)
+    (copied_tree to (found i) h.tree)
 
-pub key_found : (h : HiveCells) (from : List ℕ) (k : Tree) → find_key (from ∷ []) h.tree ≡ Some k → find (is_named from) (children h.tree) ≡ Some k
+pub key_found : (h : HiveCells) (from : List ℕ) (k : Tree) → find_key (from ∷ []) h.tree ≡ Some k
+    → find (is_named from) (children h.tree) ≡ Some k
 key_found h from k e = go (find (is_named from) (children h.tree)) e
   where
     go : (o : Option Tree) → option_and_then (find_key []) o ≡ Some k → o ≡ Some k
@@ -85,12 +95,15 @@ alike : (s : List ℕ) → has_own s s ≡ false
 alike [] = refl
 alike (b ∷ s) = ap not ((bytes_eq-Decides (b ∷ s) (b ∷ s)).1 refl)
 
-size_less : (version : HiveVersion) (shared : List ℕ) (k : Tree) → size version (head k).security k ≤ size version shared k
+size_less : (version : HiveVersion) (shared : List ℕ) (k : Tree)
+    → size version (head k).security k ≤ size version shared k
 size_less version shared (key hd ts) = rw (alike hd.security) (omega arith)
 
-pub lacks_more : (h : HiveCells) (shared : List ℕ) (k : Tree) → LacksGraftRoom h (head k).security k → LacksGraftRoom h shared k
+pub lacks_more : (h : HiveCells) (shared : List ℕ) (k : Tree) → LacksGraftRoom h (head k).security k
+    → LacksGraftRoom h shared k
 lacks_more h shared k over =
-    more (bins_size h.bins) (size h.version (head k).security k) (size h.version shared k) (room_of (list_sizes (length (children h.tree) + 1))) (size_less h.version shared k) over
+    more (bins_size h.bins) (size h.version (head k).security k) (size h.version shared k)
+    (room_of (list_sizes (length (children h.tree) + 1))) (size_less h.version shared k) over
   where
     more : (o s r y : ℕ) → s ≤ r → 16777216 < o + (rounded (s + 32) + y) → 16777216 < o + (rounded (r + 32) + y)
     more o s r y le a = omega (arith, le, a)
@@ -101,10 +114,12 @@ extends_one : (from : List ℕ) (stored : List (List ℕ)) → Folds (from ∷ [
 extends_one from [] f = absurd f
 extends_one from (m ∷ ms) f = (f.0, tt)
 
-pub shares_child : (bins heap : List Bin) (root : ℕ) (version : HiveVersion) (bulk : ℕ) (h : HiveCells) (from : List ℕ) (at place : ℕ)
+pub shares_child : (bins heap : List Bin) (root : ℕ) (version : HiveVersion) (bulk : ℕ) (h : HiveCells) (from : List ℕ)
+    (at place : ℕ)
     → IsHive bins root version bulk → hive_of bins root version ≡ h → heap ≡ bins
     → some at ≡ find (is_node_named (look_up version heap) from) (child_places (look_up version heap) root)
-    → ((n : KeyNode) → reading key_node_at (look_up version heap) at ≡ Ok n → place ≡ n.security) → place < 2 ^ 32 → SharesChild h from place
+    → ((n : KeyNode) → reading key_node_at (look_up version heap) at ≡ Ok n → place ≡ n.security) → place < 2 ^ 32
+    → SharesChild h from place
 unfolding security_of
 shares_child bins heap root version bulk h from at place is view same found says small =
     subst (λ (g : HiveCells). SharesChild g from place) view (record {
@@ -112,7 +127,8 @@ shares_child bins heap root version bulk h from at place is view same found says
       each = λ k e. record {
         small = small;
         descriptor = subst (λ (j : Tree). descriptor_of (look_up version bins) place ≡ Ok (head j).security) (one k e)
-            (ap (descriptor_of (look_up version bins)) place_is ∙ (node_stands (look_up version bins) at there.there node.0 there.well.stands node.1).security);
+            (ap (descriptor_of (look_up version bins)) place_is
+            ∙ (node_stands (look_up version bins) at there.there node.0 there.well.stands node.1).security);
         used = λ used. record {
           path = placed.stored;
           key = at;
@@ -137,7 +153,8 @@ shares_child bins heap root version bulk h from at place is view same found says
     t = tree_of (look_up version bins) root
 
     here : find (is_node_named (look_up version bins) from) (child_places (look_up version bins) root) ≡ some at
-    here = sym (found ∙ ap (λ (z : List Bin). find (is_node_named (look_up version z) from) (child_places (look_up version z) root)) same)
+    here = sym (found ∙ ap (λ (z : List Bin). find (is_node_named (look_up version z) from)
+        (child_places (look_up version z) root)) same)
 
     key_at : key_place (look_up version bins) (from ∷ []) root ≡ some at
     key_at = ap (λ (o : Option ℕ). option_and_then (key_place (look_up version bins) []) o) here
@@ -152,24 +169,33 @@ shares_child bins heap root version bulk h from at place is view same found says
     node = node_read (look_up version bins) at there.there there.well.stands
 
     place_is : place ≡ node.0.security
-    place_is = says node.0 (subst (λ (z : List Bin). reading key_node_at (look_up version z) at ≡ done node.0) (sym same) node.1)
+    place_is = says node.0 (subst (λ (z : List Bin). reading key_node_at (look_up version z) at ≡ done node.0)
+        (sym same) node.1)
 
     one : (k : Tree) → find (is_named from) (children t) ≡ Some k → there.there ≡ k
     one k e = some_same there.there k (sym there.found ∙ ap (λ (o : Option Tree). option_and_then (find_key []) o) e)
 
 -- the place of the descriptor of a child, beside what the root's node says
-pub may_share : (h : HiveCells) (from : List ℕ) (above : Above) (place : ℕ) (k : Tree) → RootSays h above → above.count ≤ 2097150 → SharesChild h from place → HasSecurityOf h from k
-    → (sharing : Above) → sharing.list ≡ above.list → sharing.count ≡ above.count → sharing.security ≡ place → MayGraft h sharing (head k).security
+pub may_share : (h : HiveCells) (from : List ℕ) (above : Above) (place : ℕ) (k : Tree) → RootSays h above
+    → above.count ≤ 2097150 → SharesChild h from place → HasSecurityOf h from k
+    → (sharing : Above) → sharing.list ≡ above.list → sharing.count ≡ above.count → sharing.security ≡ place
+    → MayGraft h sharing (head k).security
 may_share h from above place k r few shares like sharing l c p = record {
   says = λ n e. let z : r.node ≡ n = ok_same r.node n (sym r.parent.read ∙ e) in
-      record { list = l ∙ r.says.list ∙ ap (λ (m : KeyNode). m.child_list) z; count = c ∙ r.says.count ∙ ap (λ (m : KeyNode). m.child_count) z };
+      record {
+        list = l ∙ r.says.list ∙ ap (λ (m : KeyNode). m.child_list) z;
+        count = c ∙ r.says.count ∙ ap (λ (m : KeyNode). m.child_count) z;
+      };
   shares = subst (λ (s : List ℕ). SharesAt (cells_in h) h.root sharing.security s) (sym like.same)
-      (subst (λ (z : ℕ). SharesAt (cells_in h) h.root z (head like.child).security) (sym p) (shares.each like.child like.found));
+      (subst (λ (z : ℕ). SharesAt (cells_in h) h.root z (head like.child).security) (sym p)
+      (shares.each like.child like.found));
   few = omega (arith, c, few);
 }
 
-pub copied_if : {E : Type 0} (r : Result Bool E) (h new : HiveCells) (from : List ℕ) (place : ℕ) (k : Tree) → SharesChild h from place
-    → IfOk r (λ done. MatchBool done (IsGraftedIn h place (head k).security k new) (LacksGraftRoom h (head k).security k))
+pub copied_if : {E : Type 0} (r : Result Bool E) (h new : HiveCells) (from : List ℕ) (place : ℕ) (k : Tree)
+    → SharesChild h from place
+    → IfOk r (λ done. MatchBool done (IsGraftedIn h place (head k).security k new)
+    (LacksGraftRoom h (head k).security k))
     → IfOk r (λ done. MatchBool done (IsCopiedIn h from k new) (LacksGraftRoom h (head h.tree).security k))
 copied_if (Ok true) h new from place k shares g = record { place = place; grafted = g; counts = shares.owned }
 copied_if (Ok false) h new from place k shares g = lacks_more h (head h.tree).security k g
@@ -180,11 +206,14 @@ copied_if (Err e) h new from place k shares g = tt
 renamed_security : (name : List ℕ) (k : Tree) → (head (renamed name k)).security ≡ (head k).security
 renamed_security name (key hd ts) = refl
 
-pub like_itself : (h : HiveCells) (from to : List ℕ) (k : Tree) → find (is_named from) (children h.tree) ≡ Some k → HasSecurityOf h from (renamed to k)
+pub like_itself : (h : HiveCells) (from to : List ℕ) (k : Tree) → find (is_named from) (children h.tree) ≡ Some k
+    → HasSecurityOf h from (renamed to k)
 like_itself h from to k found = record { child = k; found = found; same = renamed_security to k }
 
-pub copy_stepped : (old new : HiveCells) (from to : List ℕ) (k : Tree) → IsWellFormed (cells_in old) old.root old.tree → find (is_named from) (children old.tree) ≡ Some k
-    → IsFreeName old to → HoldsKeys k → levels k ≤ 511 → IsCopiedIn old from (renamed to k) new → IsStepped old (copy_child from to) new
+pub copy_stepped : (old new : HiveCells) (from to : List ℕ) (k : Tree) → IsWellFormed (cells_in old) old.root old.tree
+    → find (is_named from) (children old.tree) ≡ Some k
+    → IsFreeName old to → HoldsKeys k → levels k ≤ 511 → IsCopiedIn old from (renamed to k) new
+    → IsStepped old (copy_child from to) new
 copy_stepped old new from to k well found f holds low a =
     let g = a.grafted in
     let t = old.tree in
@@ -196,29 +225,39 @@ copy_stepped old new from to k well found f holds low a =
     let needs = needs_both old.version to k t f.absent in
     let less = size_less old.version (head t).security w in
     let made : IsDone (cells_in old) (cells_in new) old.root t u (copy_child from to) =
-    a_child_copied (cells_in old) (cells_in new) old.root t u k from to g.at g.front g.back (security_listed a.place) well ok found (apart k holds) low g.changes a.counts g.stands
+    a_child_copied (cells_in old) (cells_in new) old.root t u k from to g.at g.front g.back (security_listed a.place)
+    well ok found (apart k holds) low g.changes a.counts g.stands
     (subst (λ (z : List ℕ). HasPlace (cells_in old) z g.front g.back) (renamed_name to k) g.place) in
     record {
       version = g.version;
       root = g.root;
       tree = ok ∙ sym (ap the_tree tree);
-      done = subst (λ (x : Tree). IsDone (cells_in old) (cells_in new) old.root t x (copy_child from to)) (sym tree) made;
+      done = subst (λ (x : Tree). IsDone (cells_in old) (cells_in new) old.root t x (copy_child from to)) (sym tree)
+          made;
       long = g.long;
-      room = subst (λ (x : Tree). bins_size new.bins ≤ bins_size old.bins + room_of (needed_sizes old.version t (copy_child from to) x)) (sym tree)
-          (within (bins_size new.bins) (bins_size old.bins) (size old.version (head w).security w) (size old.version (head t).security w)
-          (room_of (list_sizes (length (children t) + 1))) (room_of (needed_sizes old.version t (copy_child from to) u)) room less needs);
+      room = subst (λ (x : Tree). bins_size new.bins ≤ bins_size old.bins
+          + room_of (needed_sizes old.version t (copy_child from to) x)) (sym tree)
+          (within (bins_size new.bins) (bins_size old.bins) (size old.version (head w).security w)
+          (size old.version (head t).security w)
+          (room_of (list_sizes (length (children t) + 1))) (room_of (needed_sizes old.version t (copy_child from to) u))
+          room less needs);
     }
   where
     within : (n o s r m y : ℕ) → n ≤ o + (rounded (s + 32) + m) → s ≤ r → rounded (r + 32) + m ≤ y → n ≤ o + y
     within n o s r m y a b c = omega (arith, a, b, c)
 
-pub copy_lacks : (h : HiveCells) (from to : List ℕ) (k : Tree) → find (is_named from) (children h.tree) ≡ Some k → IsFreeName h to
+pub copy_lacks : (h : HiveCells) (from to : List ℕ) (k : Tree) → find (is_named from) (children h.tree) ≡ Some k
+    → IsFreeName h to
     → LacksGraftRoom h (head h.tree).security (renamed to k) → LacksStepRoom h (copy_child from to)
 copy_lacks h from to k found f over = λ w e.
-    let same : with_child to k h.tree ≡ w = let d = sym (step_copied h from to k found f) ∙ e in same_tree (with_child to k h.tree) w d in
+    let same : with_child to k h.tree ≡ w = let d = sym (step_copied h from to k found f) ∙ e in
+    same_tree (with_child to k h.tree) w d in
     let needs = needs_both h.version to k h.tree f.absent in
-    subst (λ (z : Tree). 16777216 < bins_size h.bins + room_of (needed_sizes h.version h.tree (copy_child from to) z)) same
-    (beyond (bins_size h.bins) (new_bin_size (size h.version (head h.tree).security (renamed to k)) + room_of (list_sizes (length (children h.tree) + 1)))
+    subst (λ (z : Tree). 16777216 < bins_size h.bins + room_of (needed_sizes h.version h.tree (copy_child from to) z))
+    same
+    (beyond (bins_size h.bins)
+    (new_bin_size (size h.version (head h.tree).security (renamed to k))
+    + room_of (list_sizes (length (children h.tree) + 1)))
     (room_of (needed_sizes h.version h.tree (copy_child from to) (with_child to k h.tree))) over needs)
   where
     same_tree : (a b : Tree) → the_tree a ≡ the_tree b → a ≡ b

@@ -16,33 +16,41 @@ use Rattle.hive_edit.specs.Edits.{IsPackedAnew, IsPackedForRoom}
 use Rattle.hive_edit.specs.Stepped.{IsStepped, LacksStepRoom}
 use Rattle.hive_edit.specs.Deleting.{DropsUses, IsDeletedInPlace}
 use Rattle.hive_edit.proofs.EditLemmas.{the_tree}
-use Rattle.hive_edit.proofs.NewValueLemmas.{packed_for_room}
+use Rattle.hive_edit.proofs.SteppedLemmas.{packed_for_room}
 use Rattle.hive_edit.proofs.DeletingLemmas.{stepped_in_place}
 
 -- ---- one step as an edit
 
 abbrev edit_of : HiveVersion → Result Tree Refusal → Result Tree Refusal
-edit_of version r = then_edit (then_edit r (λ u. Ok u)) (λ u. cond (nat_lt most_bulk (bulk_of version u)) (Err full) (Ok u))
+edit_of version r = then_edit (then_edit r (λ u. Ok u))
+    (λ u. cond (nat_lt most_bulk (bulk_of version u)) (Err full) (Ok u))
 
-one_edit : (version : HiveVersion) (t : Tree) (step : Step) → edited version t (step ∷ []) ≡ edit_of version (after_step step t)
+one_edit : (version : HiveVersion) (t : Tree) (step : Step)
+    → edited version t (step ∷ []) ≡ edit_of version (after_step step t)
 unfolding edited
 one_edit version t step = refl
 
-pub edit_within : (version : HiveVersion) (t u : Tree) (step : Step) → after_step step t ≡ the_tree u → bulk_of version u ≤ 16773120
+pub edit_within : (version : HiveVersion) (t u : Tree) (step : Step) → after_step step t ≡ the_tree u
+    → bulk_of version u ≤ 16773120
     → edited version t (step ∷ []) ≡ the_tree u
 edit_within version t u step ok small =
-    one_edit version t step ∙ ap (edit_of version) ok ∙ ap (λ (b : Bool). cond b (Err full) (the_tree u)) (le-ltb most_bulk (bulk_of version u) small)
+    one_edit version t step ∙ ap (edit_of version) ok
+    ∙ ap (λ (b : Bool). cond b (Err full) (the_tree u)) (le-ltb most_bulk (bulk_of version u) small)
 
-pub edit_full : (version : HiveVersion) (t u : Tree) (step : Step) → after_step step t ≡ the_tree u → 16773120 < bulk_of version u
+pub edit_full : (version : HiveVersion) (t u : Tree) (step : Step) → after_step step t ≡ the_tree u
+    → 16773120 < bulk_of version u
     → edited version t (step ∷ []) ≡ Err full
 edit_full version t u step ok large =
-    one_edit version t step ∙ ap (edit_of version) ok ∙ ap (λ (b : Bool). cond b (Err full) (the_tree u)) (lt-ltb most_bulk (bulk_of version u) large)
+    one_edit version t step ∙ ap (edit_of version) ok
+    ∙ ap (λ (b : Bool). cond b (Err full) (the_tree u)) (lt-ltb most_bulk (bulk_of version u) large)
 
-pub edit_refused : (version : HiveVersion) (t : Tree) (step : Step) (why : Refusal) → after_step step t ≡ Err why → edited version t (step ∷ []) ≡ Err why
+pub edit_refused : (version : HiveVersion) (t : Tree) (step : Step) (why : Refusal) → after_step step t ≡ Err why
+    → edited version t (step ∷ []) ≡ Err why
 edit_refused version t step why e = one_edit version t step ∙ ap (edit_of version) e
 
 -- an edit of one step that is not refused is the step
-pub edit_step : (version : HiveVersion) (t u : Tree) (step : Step) → edited version t (step ∷ []) ≡ the_tree u → after_step step t ≡ the_tree u
+pub edit_step : (version : HiveVersion) (t u : Tree) (step : Step) → edited version t (step ∷ []) ≡ the_tree u
+    → after_step step t ≡ the_tree u
 edit_step version t u step e = go (after_step step t) (sym (one_edit version t step) ∙ e)
   where
     within : (b : Bool) (v : Tree) → cond b (Err full) (Ok v) ≡ the_tree u → the_tree v ≡ the_tree u
@@ -54,7 +62,8 @@ edit_step version t u step e = go (after_step step t) (sym (one_edit version t s
     go (Err why) f = absurd cc
 
 -- the tree that the step leaves is the one without the key
-pub step_leaves : (path : List (List ℕ)) (t u : Tree) → after_step (delete_key path) t ≡ the_tree u → u ≡ without_key path t
+pub step_leaves : (path : List (List ℕ)) (t u : Tree) → after_step (delete_key path) t ≡ the_tree u
+    → u ≡ without_key path t
 step_leaves path t u e = go ((length path == 0) || is_none (find_key path t)) e
   where
     go : (b : Bool) → unless ((b, no_key) ∷ []) (without_key path t) ≡ the_tree u → u ≡ without_key path t
@@ -63,7 +72,8 @@ step_leaves path t u e = go ((length path == 0) || is_none (find_key path t)) e
 
 -- ---- in place
 
-pub deleted_in_place : (old new : HiveCells) (path : List (List ℕ)) → IsStepped old (delete_key path) new → DropsUses old path new
+pub deleted_in_place : (old new : HiveCells) (path : List (List ℕ)) → IsStepped old (delete_key path) new
+    → DropsUses old path new
     → bulk_of old.version new.tree ≤ 16773120 → IsDeletedInPlace old path new
 deleted_in_place old new path s d small = record {
   edit = edit_within old.version old.tree new.tree (delete_key path) s.tree small;
@@ -74,47 +84,57 @@ deleted_in_place old new path s d small = record {
 
 -- ---- no room
 
-pub lacks_strain : (h : HiveCells) (step : Step) → LacksStepRoom h step → (u : Tree) → edited h.version h.tree (step ∷ []) ≡ the_tree u
+pub lacks_strain : (h : HiveCells) (step : Step) → LacksStepRoom h step → (u : Tree)
+    → edited h.version h.tree (step ∷ []) ≡ the_tree u
     → 16777216 < strain_of h.version (bins_size h.bins) h.tree (step ∷ [])
 lacks_strain h step lacks u e =
     let ok = edit_step h.version h.tree u step e in
     subst (λ (n : ℕ). 16777216 < n)
-    (sym (ap (λ (r : Result Tree Refusal). unless_refused (bins_size h.bins) r (λ v. bins_size h.bins + room_of (needed_sizes h.version h.tree step v))) ok))
+    (sym (ap (λ (r : Result Tree Refusal). unless_refused (bins_size h.bins) r
+    (λ v. bins_size h.bins + room_of (needed_sizes h.version h.tree step v))) ok))
     (lacks u ok)
 
 -- what was packed anew was so for want of room
-pub anew_for_room : (h new : HiveCells) (step : Step) (r : Result (Unit {0}) EditStop) (P : Type 0) → Makes h.tree new.tree r (edited h.version h.tree (step ∷ []))
+pub anew_for_room : (h new : HiveCells) (step : Step) (r : Result (Unit {0}) EditStop) (P : Type 0)
+    → Makes h.tree new.tree r (edited h.version h.tree (step ∷ []))
     → OnOk r (IsPackedAnew new) → LacksStepRoom h step → OnOk r (P ⊎ IsPackedForRoom h (step ∷ []) new)
-anew_for_room h new step r P made anew lacks = packed_for_room h new step r P made anew (λ u e. lacks_strain h step lacks u e)
+anew_for_room h new step r P made anew lacks =
+    packed_for_room h new (step ∷ []) r P made anew (λ u e. lacks_strain h step lacks u e)
 
 -- ---- what is answered
 
 -- a refusal of the step is one of the edit
-pub refused_edit : (version : HiveVersion) (t : Tree) (step : Step) (stop : EditStop) → IsRefused (after_step step t) stop
+pub refused_edit : (version : HiveVersion) (t : Tree) (step : Step) (stop : EditStop)
+    → IsRefused (after_step step t) stop
     → IsRefused (edited version t (step ∷ [])) stop
 refused_edit version t step stop h = go (refusal_of stop) h
   where
-    go : (o : Option Refusal) → IfSome o (λ why. after_step step t ≡ Err why) → IfSome o (λ why. edited version t (step ∷ []) ≡ Err why)
+    go : (o : Option Refusal) → IfSome o (λ why. after_step step t ≡ Err why)
+        → IfSome o (λ why. edited version t (step ∷ []) ≡ Err why)
     go None h = h
     go (Some why) h = edit_refused version t step why h
 
 pub judged_done : (done : Bool) (old new : HiveCells) (path : List (List ℕ))
-    → MatchBool done (IsStepped old (delete_key path) new) (LacksStepRoom old (delete_key path)) → (done ≡ true → DropsUses old path new)
-    → bulk_of old.version (without_key path old.tree) ≤ 16773120 → MatchBool done (IsDeletedInPlace old path new) (LacksStepRoom old (delete_key path))
+    → MatchBool done (IsStepped old (delete_key path) new) (LacksStepRoom old (delete_key path))
+    → (done ≡ true → DropsUses old path new)
+    → bulk_of old.version (without_key path old.tree) ≤ 16773120
+    → MatchBool done (IsDeletedInPlace old path new) (LacksStepRoom old (delete_key path))
 judged_done true old new path s d small =
     deleted_in_place old new path s (d refl)
     (subst (λ (u : Tree). bulk_of old.version u ≤ 16773120) (sym (step_leaves path old.tree new.tree s.tree)) small)
 judged_done false old new path s d small = s
 
 -- a draft in which the key was deleted, whose bulk is judged at its end
-pub drafted_full : (h old new : HiveCells) (path : List (List ℕ)) (bulk : ℕ) → old ≡ h → IsStepped old (delete_key path) new
+pub drafted_full : (h old new : HiveCells) (path : List (List ℕ)) (bulk : ℕ) → old ≡ h
+    → IsStepped old (delete_key path) new
     → bulk ≡ bulk_of new.version new.tree → 16773120 < bulk → edited h.version h.tree (delete_key path ∷ []) ≡ Err full
 drafted_full h old new path bulk same s counted large =
     subst (λ (g : HiveCells). edited g.version g.tree (delete_key path ∷ []) ≡ Err full) same
     (edit_full old.version old.tree new.tree (delete_key path) s.tree
     (subst (λ (n : ℕ). 16773120 < n) (counted ∙ ap (λ (v : HiveVersion). bulk_of v new.tree) s.version) large))
 
-pub drafted_done : (h old new : HiveCells) (path : List (List ℕ)) (bulk : ℕ) → old ≡ h → IsStepped old (delete_key path) new → DropsUses old path new
+pub drafted_done : (h old new : HiveCells) (path : List (List ℕ)) (bulk : ℕ) → old ≡ h
+    → IsStepped old (delete_key path) new → DropsUses old path new
     → bulk ≡ bulk_of new.version new.tree → bulk ≤ 16773120 → IsDeletedInPlace h path new
 drafted_done h old new path bulk same s d counted small =
     subst (λ (g : HiveCells). IsDeletedInPlace g path new) same

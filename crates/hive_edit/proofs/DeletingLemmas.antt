@@ -1,5 +1,5 @@
 -- A key that was taken out of the cells of a hive: the hive is that of the tree without it.
-use Rattle.std.proofs.Common.{◌≡◌, ◌≤◌, ◌<◌, ℕ, suc, ◌+◌, ◌-◌, ◌||◌, Bool, true, false, List, [], ◌∷◌, ◌++◌, length, Option, Some, None, Result, Ok, Err, ◌⊎◌, inl, inr, ⊎_elim, refl, sym, ap, subst, ◌∙◌, arith}
+use Rattle.std.proofs.Common.{◌≡◌, ◌≤◌, ◌<◌, ℕ, suc, ◌+◌, ◌-◌, ◌||◌, Bool, true, false, List, [], ◌∷◌, ◌++◌, length, Option, Some, None, Result, Ok, Err, inl, inr, ⊎_elim, refl, sym, ap, subst, ◌∙◌, arith}
 use Rattle.std.specs.Prelude.{min, find, ◌==◌}
 use Rattle.std.specs.Option.{is_none, MatchOption}
 use Rattle.std.proofs.lemmas.List.Elements.{Contains-append_left}
@@ -8,7 +8,7 @@ use Rattle.hive_model.specs.Bins.{Bin, Cells, bins_size, look_up, spelled}
 use Rattle.hive_model.specs.KeyNode.{KeyNode, key_node_at}
 use Rattle.hive_model.specs.Tree.{Tree, key, head, children, is_named, find_key}
 use Rattle.hive_model.specs.Size.{node_size, class_size, security_size, items_size, list_size, count, size, size_of_all, bulk_of}
-use Rattle.hive_model.specs.Edit.{Step, Refusal, no_key, delete_key, without_key, unless, key_deleted, after_step, edited}
+use Rattle.hive_model.specs.Edit.{Step, Refusal, no_key, delete_key, without_key, unless, key_deleted, after_step}
 use Rattle.hive_model.specs.Walk.{reading}
 use Rattle.hive_model.specs.Footprint.{child_places, step_cells, needed_sizes, room_of, list_strain_of, unless_refused}
 use Rattle.hive_model.specs.Stands.{IsWellFormed}
@@ -31,7 +31,6 @@ use Rattle.hive_edit.specs.Stepped.{IsStepped, LacksStepRoom}
 use Rattle.hive_edit.specs.Making.{AboveIs}
 use Rattle.hive_edit.specs.Dropped.{AreShortened, left_children}
 use Rattle.hive_edit.specs.Deleting.{pair_place, levels_left, DropsUses, IsPairThere, IsPairTaken, IsPairKept}
-use Rattle.hive_edit.proofs.ResultLemmas.{done}
 use Rattle.hive_edit.proofs.StandingLemmas.{tree_is}
 use Rattle.hive_edit.proofs.HiveLemmas.{hive_opened}
 use Rattle.hive_edit.proofs.EditLemmas.{the_tree}
@@ -47,11 +46,14 @@ use Rattle.hive_edit.proofs.PairLemmas.{a_pair, no_pair, PairHere, pair_here, pa
 -- the tree without a key: the step, its size, and the room that the step may need
 pub record Lessens (version : HiveVersion) (t : Tree) (path : List (List ℕ)) (u kid : Tree) : Type 0 where
   pub step : after_step (delete_key path) t ≡ the_tree (without_key path t)
-  pub sizes : size version [] (without_key path t) + (list_size (length (children u)) + size version (head u).security kid)
+  pub sizes : size version [] (without_key path t)
+      + (list_size (length (children u)) + size version (head u).security kid)
       ≡ size version [] t + list_size (length (children u) - 1)
-  pub room : (bytes : ℕ) → bytes + room_of (needed_sizes version t (delete_key path) (without_key path t)) ≡ list_strain_of bytes (length (children u) - 1)
+  pub room : (bytes : ℕ) → bytes + room_of (needed_sizes version t (delete_key path) (without_key path t))
+      ≡ list_strain_of bytes (length (children u) - 1)
 
-lessens : (version : HiveVersion) (t : Tree) (parent : List (List ℕ)) (name : List ℕ) (u kid : Tree) → find_key parent t ≡ Some u
+lessens : (version : HiveVersion) (t : Tree) (parent : List (List ℕ)) (name : List ℕ) (u kid : Tree)
+    → find_key parent t ≡ Some u
     → find (is_named name) (children u) ≡ Some kid → Lessens version t (parent ++ name ∷ []) u kid
 lessens version t parent name (key h ts) kid found child =
     let there : HasChildThere t parent name h ts kid = record { above = found; child = child } in
@@ -61,14 +63,17 @@ lessens version t parent name (key h ts) kid found child =
       step = ok;
       sizes = lessened_size version [] t parent name h ts kid there;
       room = λ bytes.
-          sym (ap (λ (r : Result Tree Refusal). unless_refused bytes r (λ v. bytes + room_of (needed_sizes version t step v))) ok)
+          sym (ap (λ (r : Result Tree Refusal). unless_refused bytes r
+          (λ v. bytes + room_of (needed_sizes version t step v))) ok)
           ∙ lessened_strain version bytes t parent name h ts kid there;
     }
 
-pub pair_lessens : (version : HiveVersion) (b : Cells) (root : ℕ) (t : Tree) (path : List (List ℕ)) (p : KeyPair) → (h : PairHere b root t path p)
+pub pair_lessens : (version : HiveVersion) (b : Cells) (root : ℕ) (t : Tree) (path : List (List ℕ)) (p : KeyPair)
+    → (h : PairHere b root t path p)
     → Lessens version t path h.there h.kid
 pair_lessens version b root t path p h =
-    subst (λ (l : List (List ℕ)). Lessens version t l h.there h.kid) (sym h.whole) (lessens version t h.parent h.name h.there h.kid h.found h.kid_found)
+    subst (λ (l : List (List ℕ)). Lessens version t l h.there h.kid) (sym h.whole)
+    (lessens version t h.parent h.name h.there h.kid h.found h.kid_found)
 
 -- ---- the lists
 
@@ -76,43 +81,52 @@ length_less : (front : List ℕ) (y : ℕ) (back : List ℕ) → length (front +
 length_less [] y back = refl
 length_less (z ∷ front) y back = ap suc (length_less front y back)
 
-split_here : (b : Cells) (root : ℕ) (t : Tree) (path : List (List ℕ)) (p : KeyPair) → PairHere b root t path p → SplitsAt (child_places b p.above) p.at
+split_here : (b : Cells) (root : ℕ) (t : Tree) (path : List (List ℕ)) (p : KeyPair) → PairHere b root t path p
+    → SplitsAt (child_places b p.above) p.at
 split_here b root t path p h =
     split_one (child_places b p.above) p.at (kids_apart b root t h.stored p.above h.there h.node h.parent_is) h.listed
 
-left_length : (version : HiveVersion) (bins : List Bin) (root : ℕ) (t : Tree) (path : List (List ℕ)) (p : KeyPair) (above : Above)
-    → (h : PairHere (look_up version bins) root t path p) → AboveIs above h.node → length (left_children version above p.at bins) ≡ length (children h.there) - 1
+left_length : (version : HiveVersion) (bins : List Bin) (root : ℕ) (t : Tree) (path : List (List ℕ)) (p : KeyPair)
+    (above : Above)
+    → (h : PairHere (look_up version bins) root t path p) → AboveIs above h.node
+    → length (left_children version above p.at bins) ≡ length (children h.there) - 1
 left_length version bins root t path p above h says =
     let b = look_up version bins in
     let s = split_here b root t path p h in
     let kids = children_are b root t h.stored p.above h.there h.node h.parent_is in
-    let all : children_at b above.list above.count ≡ child_places b p.above = (λ i. children_at b (says.list i) (says.count i)) ∙ kids in
+    let all : children_at b above.list above.count ≡ child_places b p.above =
+    (λ i. children_at b (says.list i) (says.count i)) ∙ kids in
     let others = ap (λ (l : List ℕ). length l) (ap (without_child p.at) all ∙ s.others) in
     let whole = ap (λ (l : List ℕ). length l) s.whole in
     let one = length_less s.front p.at s.back in
     let count = counted_children b root t h.stored p.above h.there h.node h.parent_is in
-    let number = (Rattle.hive_edit.proofs.ParentLemmas.siblings_are b root t h.stored p.above h.there h.node h.parent_is).number in
+    let number = (Rattle.hive_edit.proofs.ParentLemmas.siblings_are b root t h.stored p.above h.there h.node
+    h.parent_is).number in
     let same = ap (λ (l : List ℕ). length l) kids in
     omega (arith, others, whole, one, count, number, same)
 
 -- ---- the cells
 
 -- From bins to bins the step was made.
-pub record PairDone (version : HiveVersion) (old new : List Bin) (root : ℕ) (t : Tree) (path : List (List ℕ)) : Type 0 where
+pub record PairDone (version : HiveVersion) (old new : List Bin) (root : ℕ) (t : Tree)
+    (path : List (List ℕ)) : Type 0 where
   pub step : after_step (delete_key path) t ≡ the_tree (without_key path t)
   pub made : IsDone (look_up version old) (look_up version new) root t (without_key path t) (delete_key path)
   pub long : bins_size old ≤ bins_size new
   pub room : bins_size new ≤ bins_size old + room_of (needed_sizes version t (delete_key path) (without_key path t))
 
-shortened_long : (version : HiveVersion) (above : Above) (y : ℕ) (old new : List Bin) (list : ℕ) → AreShortened version above y old new list
-    → (bins_size old ≤ bins_size new) × (bins_size new ≤ list_strain_of (bins_size old) (length (left_children version above y old)))
+shortened_long : (version : HiveVersion) (above : Above) (y : ℕ) (old new : List Bin) (list : ℕ)
+    → AreShortened version above y old new list
+    → (bins_size old ≤ bins_size new)
+    × (bins_size new ≤ list_strain_of (bins_size old) (length (left_children version above y old)))
 shortened_long version above y old new list (inl s) = (s.1.kept_long, s.1.long)
 shortened_long version above y old new list (inr s) =
     let l = s.1.long in
     (omega (arith, l), omega (arith, l))
 
 pub pair_done : (version : HiveVersion) (old new : List Bin) (root : ℕ) (t : Tree) (path : List (List ℕ)) (p : KeyPair)
-    → IsWellFormed (look_up version old) root t → pair_place (look_up version old) path root ≡ a_pair p → IsPairTaken version path p old new
+    → IsWellFormed (look_up version old) root t → pair_place (look_up version old) path root ≡ a_pair p
+    → IsPairTaken version path p old new
     → PairDone version old new root t path
 pair_done version old new root t path p well place g =
     let b = look_up version old in
@@ -122,20 +136,25 @@ pair_done version old new root t path p well place g =
     let says = g.says n h.parent_is.read in
     let s = split_here b root t path p h in
     let less = pair_lessens version b root t path p h in
-    let takes_it = takes version old new root t h.stored p.above h.there n g.above p.at left (tree_uses left b p.at) h.parent_is says s g.few refl
-    (λ v i. no_node b root t path p h p.above v i refl) g.removed (secure_cells b root t path p h) (λ o i. no_list b root t path p h o true i) in
+    let takes_it = takes version old new root t h.stored p.above h.there n g.above p.at left (tree_uses left b p.at)
+    h.parent_is says s g.few refl
+    (λ v i. no_node b root t path p h p.above v i refl) g.removed (secure_cells b root t path p h)
+    (λ o i. no_list b root t path p h o true i) in
     let step : after_step (delete_key (h.parent ++ h.name ∷ [])) t ≡ the_tree (without_key path t) =
     ap (λ (l : List (List ℕ)). after_step (delete_key l) t) (sym h.whole) ∙ less.step in
-    let made = key_taken_out b (look_up version g.removed.listed) (look_up version new) root t (without_key path t) h.parent h.name p.above p.at left g.removed.list
+    let made = key_taken_out b (look_up version g.removed.listed) (look_up version new) root t (without_key path t)
+    h.parent h.name p.above p.at left g.removed.list
     n s.front s.back well step h.place h.deep h.named takes_it in
     let lists = shortened_long version g.above p.at old g.removed.listed g.removed.list g.removed.lists in
     let fields = g.removed.fields.long in
     let dropped = g.removed.dropped.long in
     let room = less.room (bins_size old) in
-    let fewer = ap (λ (z : ℕ). list_strain_of (bins_size old) z) (left_length version old root t path p g.above h says) in
+    let fewer = ap (λ (z : ℕ). list_strain_of (bins_size old) z)
+    (left_length version old root t path p g.above h says) in
     record {
       step = less.step;
-      made = subst (λ (l : List (List ℕ)). IsDone b (look_up version new) root t (without_key path t) (delete_key l)) (sym h.whole) made;
+      made = subst (λ (l : List (List ℕ)). IsDone b (look_up version new) root t (without_key path t) (delete_key l))
+          (sym h.whole) made;
       long = omega (arith, lists.0, fields, dropped);
       room = omega (arith, lists.1, fields, dropped, room, fewer);
     }
@@ -143,14 +162,18 @@ pair_done version old new root t path p well place g =
 -- ---- the hive
 
 -- the bins and the bulk are those of a hive in which the key was deleted
-pub record IsPairGone (h : HiveCells) (new : List Bin) (root : ℕ) (version : HiveVersion) (bulk : ℕ) (path : List (List ℕ)) : Type 0 where
+pub record IsPairGone (h : HiveCells) (new : List Bin) (root : ℕ) (version : HiveVersion) (bulk : ℕ)
+    (path : List (List ℕ)) : Type 0 where
   pub hive : IsHive new root version bulk
   pub stepped : IsStepped h (delete_key path) (hive_of new root version)
   pub tree : tree_of (look_up version new) root ≡ without_key path h.tree
 
-pub pair_gone : (old new : List Bin) (root : ℕ) (version : HiveVersion) (bulk bulk_then : ℕ) (h : HiveCells) (path : List (List ℕ)) (p : KeyPair)
-    → IsHive old root version bulk → hive_of old root version ≡ h → pair_place (look_up version old) path root ≡ a_pair p
-    → IsPairTaken version path p old new → AreBytes (look_up version new) → bulk_then ≡ bulk_of version (without_key path (tree_of (look_up version old) root))
+pub pair_gone : (old new : List Bin) (root : ℕ) (version : HiveVersion) (bulk bulk_then : ℕ) (h : HiveCells)
+    (path : List (List ℕ)) (p : KeyPair)
+    → IsHive old root version bulk → hive_of old root version ≡ h
+    → pair_place (look_up version old) path root ≡ a_pair p
+    → IsPairTaken version path p old new → AreBytes (look_up version new)
+    → bulk_then ≡ bulk_of version (without_key path (tree_of (look_up version old) root))
     → IsPairGone h new root version bulk_then path
 pair_gone old new root version bulk bulk_then h path p is view place taken bytes counted =
     let b = look_up version old in
@@ -168,14 +191,17 @@ pair_gone old new root version bulk bulk_then h path p is view place taken bytes
         tree = d.step ∙ ap the_tree (sym tree);
         done = subst (λ (v : Tree). IsDone b c root t v (delete_key path)) (sym tree) d.made;
         long = d.long;
-        room = subst (λ (v : Tree). bins_size new ≤ bins_size old + room_of (needed_sizes version t (delete_key path) v)) (sym tree) d.room;
+        room = subst (λ (v : Tree). bins_size new ≤ bins_size old
+            + room_of (needed_sizes version t (delete_key path) v)) (sym tree) d.room;
       });
       tree = subst (λ (g : HiveCells). tree_of c root ≡ without_key path g.tree) view tree;
     }
 
 -- no room for the lists is no room for the step
-pub pair_kept : (old new : List Bin) (root : ℕ) (version : HiveVersion) (bulk : ℕ) (h : HiveCells) (path : List (List ℕ)) (p : KeyPair)
-    → IsHive old root version bulk → hive_of old root version ≡ h → pair_place (look_up version old) path root ≡ a_pair p
+pub pair_kept : (old new : List Bin) (root : ℕ) (version : HiveVersion) (bulk : ℕ) (h : HiveCells)
+    (path : List (List ℕ)) (p : KeyPair)
+    → IsHive old root version bulk → hive_of old root version ≡ h
+    → pair_place (look_up version old) path root ≡ a_pair p
     → IsPairKept version p old new → LacksStepRoom h (delete_key path)
 pair_kept old new root version bulk h path p is view place kept =
     let b = look_up version old in
@@ -183,23 +209,27 @@ pair_kept old new root version bulk h path p is view place kept =
     let here = pair_here b root t path p is.stands place in
     let says = kept.says here.node here.parent_is.read in
     let less = pair_lessens version b root t path p here in
-    let fewer = ap (λ (z : ℕ). list_strain_of (bins_size old) z) (left_length version old root t path p kept.above here says) in
+    let fewer = ap (λ (z : ℕ). list_strain_of (bins_size old) z)
+    (left_length version old root t path p kept.above here says) in
     let room = less.room (bins_size old) in
     let lacks = kept.lacks.0 in
     subst (λ (g : HiveCells). LacksStepRoom g (delete_key path)) view (λ u e.
-    subst (λ (v : Tree). 16777216 < bins_size old + room_of (needed_sizes version t (delete_key path) v)) (the_same (without_key path t) u (sym less.step ∙ e))
+    subst (λ (v : Tree). 16777216 < bins_size old + room_of (needed_sizes version t (delete_key path) v))
+    (the_same (without_key path t) u (sym less.step ∙ e))
     (omega (arith, fewer, room, lacks)))
   where
     the_same : (v u : Tree) → the_tree v ≡ the_tree u → v ≡ u
     the_same v u e = cc
 
 -- where there is no such key, the step is refused
-pub pair_refused : (version : HiveVersion) (bins : List Bin) (root : ℕ) (t : Tree) (path : List (List ℕ)) → IsWellFormed (look_up version bins) root t
+pub pair_refused : (version : HiveVersion) (bins : List Bin) (root : ℕ) (t : Tree) (path : List (List ℕ))
+    → IsWellFormed (look_up version bins) root t
     → pair_place (look_up version bins) path root ≡ no_pair → after_step (delete_key path) t ≡ Err no_key
 pair_refused version bins root t path well none =
     ⊎_elim (λ e. ap (λ (l : List (List ℕ)). key_deleted l t) e)
     (λ e. ap (λ (o : Option Tree). unless (((length path == 0) || is_none o, no_key) ∷ []) (without_key path t))
-    (Rattle.hive_edit.proofs.PlaceLemmas.no_place (look_up version bins) path root t well e) ∙ either (length path == 0))
+    (Rattle.hive_edit.proofs.PlaceLemmas.no_place (look_up version bins) path root t well e)
+    ∙ either (length path == 0))
     (pair_absent (look_up version bins) path root none)
   where
     either : (v : Bool) → unless ((v || true, no_key) ∷ []) (without_key path t) ≡ Err no_key
@@ -209,19 +239,23 @@ pair_refused version bins root t path well none =
 -- ---- from a step to an edit
 
 -- what is stepped is edited in place
-pub stepped_in_place : (old new : HiveCells) (step : Step) → IsStepped old step new → IsEditedInPlace old (step ∷ []) new
+pub stepped_in_place : (old new : HiveCells) (step : Step) → IsStepped old step new
+    → IsEditedInPlace old (step ∷ []) new
 stepped_in_place old new step s = record {
   kept = λ o p held outside. payload_held new.bins o p
       (s.done.leaves.rest o p (held_payload old.bins o p held)
-      (λ i. outside (Contains-append_left (step_cells (cells_in old) old.root old.tree step) (unless_refused [] (after_step step old.tree) (λ w. [])) o i)));
+      (λ i. outside (Contains-append_left (step_cells (cells_in old) old.root old.tree step)
+      (unless_refused [] (after_step step old.tree) (λ w. [])) o i)));
   root = s.root;
   long = s.long;
 }
 
 -- ---- what the key and those below it used
 
-pub drops_uses : (old new : List Bin) (root : ℕ) (version : HiveVersion) (bulk : ℕ) (h : HiveCells) (path : List (List ℕ)) (p : KeyPair)
-    → IsHive old root version bulk → hive_of old root version ≡ h → pair_place (look_up version old) path root ≡ a_pair p
+pub drops_uses : (old new : List Bin) (root : ℕ) (version : HiveVersion) (bulk : ℕ) (h : HiveCells)
+    (path : List (List ℕ)) (p : KeyPair)
+    → IsHive old root version bulk → hive_of old root version ≡ h
+    → pair_place (look_up version old) path root ≡ a_pair p
     → IsPairTaken version path p old new → DropsUses h path (hive_of new root version)
 drops_uses old new root version bulk h path p is view place g =
     subst (λ (z : HiveCells). DropsUses z path (hive_of new root version)) view (record {
@@ -234,110 +268,154 @@ drops_uses old new root version bulk h path p is view place g =
     here : PairHere (look_up version old) root (tree_of (look_up version old) root) path p
     here = pair_here (look_up version old) root (tree_of (look_up version old) root) path p is.stands place
 
-    noted : (o : ℕ) (q : List ℕ) → In (tree_uses (levels_left path) (look_up version old) p.at) (o, true) → held_at old o ≡ Some q → held_at g.removed.noted o ≡ Some q
+    noted : (o : ℕ) (q : List ℕ) → In (tree_uses (levels_left path) (look_up version old) p.at) (o, true)
+        → held_at old o ≡ Some q → held_at g.removed.noted o ≡ Some q
     noted o q i held =
-        g.removed.fields.others o (no_node (look_up version old) root (tree_of (look_up version old) root) path p here o true i)
+        g.removed.fields.others o
+        (no_node (look_up version old) root (tree_of (look_up version old) root) path p here o true i)
         ∙ shortened_keeps version g.above p.at old g.removed.listed g.removed.list g.removed.lists o q held
         (λ j. no_list (look_up version old) root (tree_of (look_up version old) root) path p here o true i
-        (in_lists version old root (tree_of (look_up version old) root) path p g.above here (g.says here.node here.parent_is.read) o j))
+        (in_lists version old root (tree_of (look_up version old) root) path p g.above here
+        (g.says here.node here.parent_is.read) o j))
 
 -- ---- the bulk
 
 -- a key takes as much under another descriptor, but for the cell of its own
 shared_size : (version : HiveVersion) (shared : List ℕ) (k : Tree)
-    → size version shared k + security_size [] (head k).security ≡ size version [] k + security_size shared (head k).security
+    → size version shared k + security_size [] (head k).security ≡ size version [] k
+    + security_size shared (head k).security
 shared_size version shared (key h ts) =
-    sum (node_size h) (class_size h.class) (security_size shared h.security) (security_size [] h.security) (items_size version h.values)
+    sum (node_size h) (class_size h.class) (security_size shared h.security) (security_size [] h.security)
+    (items_size version h.values)
     (list_size (count ts)) (size_of_all version h.security ts)
   where
     sum : (n c s z i l b : ℕ) → n + c + s + i + l + b + z ≡ n + c + z + i + l + b + s
     sum n c s z i l b = omega arith
 
-pub below_size : (version : HiveVersion) (shared : List ℕ) (k : Tree) (bulk more less : ℕ) → bulk ≡ bulk_of version k → bulk ≤ 1099511627776
+pub below_size : (version : HiveVersion) (shared : List ℕ) (k : Tree) (bulk more less : ℕ) → bulk ≡ bulk_of version k
+    → bulk ≤ 1099511627776
     → more ≡ security_size shared (head k).security → less ≡ 32 + security_size [] (head k).security
     → (less ≤ bulk + more) × (bulk + more - less ≡ size version shared k)
 below_size version shared k bulk more less b few m l =
-    sum (size version shared k) (size version [] k) (security_size [] (head k).security) (security_size shared (head k).security) bulk more less
+    sum (size version shared k) (size version [] k) (security_size [] (head k).security)
+    (security_size shared (head k).security) bulk more less
     (shared_size version shared k) b few m l
   where
-    sum : (s t z m bulk more less : ℕ) → s + z ≡ t + m → bulk ≡ min (32 + t) 18446744073709551615 → bulk ≤ 1099511627776 → more ≡ m → less ≡ 32 + z
+    sum : (s t z m bulk more less : ℕ) → s + z ≡ t + m → bulk ≡ min (32 + t) 18446744073709551615 → bulk ≤ 1099511627776
+        → more ≡ m → less ≡ 32 + z
         → (less ≤ bulk + more) × (bulk + more - less ≡ s)
     sum s t z m bulk more less e b few p q = (omega (arith, e, b, few, p, q), omega (arith, e, b, few, p, q))
 
-pub bulk_less : (version : HiveVersion) (b : Cells) (root : ℕ) (t : Tree) (path : List (List ℕ)) (p : KeyPair) (bulk fewer now below : ℕ)
-    → (h : PairHere b root t path p) → bulk ≡ bulk_of version t → bulk ≤ 1099511627776 → now ≡ list_size (length (children h.there))
-    → fewer ≡ list_size (length (children h.there) - 1) → fewer ≤ 100000000000 → below ≡ size version (head h.there).security h.kid
+pub bulk_less : (version : HiveVersion) (b : Cells) (root : ℕ) (t : Tree) (path : List (List ℕ)) (p : KeyPair)
+    (bulk fewer now below : ℕ)
+    → (h : PairHere b root t path p) → bulk ≡ bulk_of version t → bulk ≤ 1099511627776
+    → now ≡ list_size (length (children h.there))
+    → fewer ≡ list_size (length (children h.there) - 1) → fewer ≤ 100000000000
+    → below ≡ size version (head h.there).security h.kid
     → (now + below ≤ bulk + fewer) × (bulk + fewer - (now + below) ≡ bulk_of version (without_key path t))
 bulk_less version b root t path p bulk fewer now below h counted few n f small k =
-    sum (size version [] (without_key path t)) (size version [] t) (list_size (length (children h.there))) (list_size (length (children h.there) - 1))
-    (size version (head h.there).security h.kid) bulk fewer now below (pair_lessens version b root t path p h).sizes counted few n f small k
+    sum (size version [] (without_key path t)) (size version [] t) (list_size (length (children h.there)))
+    (list_size (length (children h.there) - 1))
+    (size version (head h.there).security h.kid) bulk fewer now below
+    (pair_lessens version b root t path p h).sizes counted few n f small k
   where
-    sum : (u t l m s bulk fewer now below : ℕ) → u + (l + s) ≡ t + m → bulk ≡ min (32 + t) 18446744073709551615 → bulk ≤ 1099511627776 → now ≡ l
-        → fewer ≡ m → fewer ≤ 100000000000 → below ≡ s → (now + below ≤ bulk + fewer) × (bulk + fewer - (now + below) ≡ min (32 + u) 18446744073709551615)
-    sum u t l m s bulk fewer now below e b few n f small k = (omega (arith, e, b, few, n, f, small, k), omega (arith, e, b, few, n, f, small, k))
+    sum : (u t l m s bulk fewer now below : ℕ) → u + (l + s) ≡ t + m → bulk ≡ min (32 + t) 18446744073709551615
+        → bulk ≤ 1099511627776 → now ≡ l
+        → fewer ≡ m → fewer ≤ 100000000000 → below ≡ s
+        → (now + below ≤ bulk + fewer) × (bulk + fewer - (now + below) ≡ min (32 + u) 18446744073709551615)
+    sum u t l m s bulk fewer now below e b few n f small k =
+        (omega (arith, e, b, few, n, f, small, k), omega (arith, e, b, few, n, f, small, k))
 
 -- ---- said of a hive as it is seen
 
-pub place_seen : (bins : List Bin) (root : ℕ) (version : HiveVersion) (h : HiveCells) (path : List (List ℕ)) (p : KeyPair)
-    → hive_of bins root version ≡ h → pair_place (cells_in h) path h.root ≡ a_pair p → pair_place (look_up version bins) path root ≡ a_pair p
-place_seen bins root version h path p view place = subst (λ (g : HiveCells). pair_place (cells_in g) path g.root ≡ a_pair p) (sym view) place
+pub place_seen : (bins : List Bin) (root : ℕ) (version : HiveVersion) (h : HiveCells) (path : List (List ℕ))
+    (p : KeyPair)
+    → hive_of bins root version ≡ h → pair_place (cells_in h) path h.root ≡ a_pair p
+    → pair_place (look_up version bins) path root ≡ a_pair p
+place_seen bins root version h path p view place =
+    subst (λ (g : HiveCells). pair_place (cells_in g) path g.root ≡ a_pair p) (sym view) place
 
-pub pair_seen : (bins : List Bin) (root : ℕ) (version : HiveVersion) (bulk : ℕ) (h : HiveCells) (path : List (List ℕ)) (p : KeyPair)
+pub pair_seen : (bins : List Bin) (root : ℕ) (version : HiveVersion) (bulk : ℕ) (h : HiveCells) (path : List (List ℕ))
+    (p : KeyPair)
     → IsHive bins root version bulk → hive_of bins root version ≡ h → pair_place (cells_in h) path h.root ≡ a_pair p
     → PairHere (look_up version bins) root (tree_of (look_up version bins) root) path p
 pair_seen bins root version bulk h path p is view place =
-    pair_here (look_up version bins) root (tree_of (look_up version bins) root) path p is.stands (place_seen bins root version h path p view place)
+    pair_here (look_up version bins) root (tree_of (look_up version bins) root) path p is.stands
+    (place_seen bins root version h path p view place)
 
-pub there_seen : (bins heap : List Bin) (root : ℕ) (version : HiveVersion) (bulk : ℕ) (h : HiveCells) (path : List (List ℕ)) (p : KeyPair)
-    → IsHive bins root version bulk → hive_of bins root version ≡ h → heap ≡ bins → pair_place (cells_in h) path h.root ≡ a_pair p
+pub there_seen : (bins heap : List Bin) (root : ℕ) (version : HiveVersion) (bulk : ℕ) (h : HiveCells)
+    (path : List (List ℕ)) (p : KeyPair)
+    → IsHive bins root version bulk → hive_of bins root version ≡ h → heap ≡ bins
+    → pair_place (cells_in h) path h.root ≡ a_pair p
     → IsPairThere version root path p heap
 there_seen bins heap root version bulk h path p is view same place =
     subst (λ (z : List Bin). IsPairThere version root path p z) (sym same)
-    (record { tree = tree_of (look_up version bins) root; well = is.stands; place = place_seen bins root version h path p view place })
+    (record {
+      tree = tree_of (look_up version bins) root;
+      well = is.stands;
+      place = place_seen bins root version h path p view place;
+    })
 
 -- the root stands in the cells without the key
-pub root_seen : (bins heap new : List Bin) (root : ℕ) (version : HiveVersion) (bulk : ℕ) (h : HiveCells) (path : List (List ℕ)) (p : KeyPair)
-    → IsHive bins root version bulk → hive_of bins root version ≡ h → heap ≡ bins → pair_place (cells_in h) path h.root ≡ a_pair p
-    → IsPairTaken version path p heap new → IsWellFormed (look_up version new) root (without_key path (tree_of (look_up version bins) root))
+pub root_seen : (bins heap new : List Bin) (root : ℕ) (version : HiveVersion) (bulk : ℕ) (h : HiveCells)
+    (path : List (List ℕ)) (p : KeyPair)
+    → IsHive bins root version bulk → hive_of bins root version ≡ h → heap ≡ bins
+    → pair_place (cells_in h) path h.root ≡ a_pair p
+    → IsPairTaken version path p heap new
+    → IsWellFormed (look_up version new) root (without_key path (tree_of (look_up version bins) root))
 root_seen bins heap new root version bulk h path p is view same place taken =
-    (pair_done version bins new root (tree_of (look_up version bins) root) path p is.stands (place_seen bins root version h path p view place)
+    (pair_done version bins new root (tree_of (look_up version bins) root) path p is.stands
+    (place_seen bins root version h path p view place)
     (subst (λ (z : List Bin). IsPairTaken version path p z new) same taken)).made.stands
 
-pub gone_seen : (bins heap new : List Bin) (root : ℕ) (version : HiveVersion) (bulk bulk_then : ℕ) (h : HiveCells) (path : List (List ℕ)) (p : KeyPair)
-    → IsHive bins root version bulk → hive_of bins root version ≡ h → heap ≡ bins → pair_place (cells_in h) path h.root ≡ a_pair p
-    → IsPairTaken version path p heap new → IsBytes (spelled 0 new) → bulk_then ≡ bulk_of h.version (without_key path h.tree)
+pub gone_seen : (bins heap new : List Bin) (root : ℕ) (version : HiveVersion) (bulk bulk_then : ℕ) (h : HiveCells)
+    (path : List (List ℕ)) (p : KeyPair)
+    → IsHive bins root version bulk → hive_of bins root version ≡ h → heap ≡ bins
+    → pair_place (cells_in h) path h.root ≡ a_pair p
+    → IsPairTaken version path p heap new → IsBytes (spelled 0 new)
+    → bulk_then ≡ bulk_of h.version (without_key path h.tree)
     → IsPairGone h new root version bulk_then path
 gone_seen bins heap new root version bulk bulk_then h path p is view same place taken bytes counted =
     pair_gone bins new root version bulk bulk_then h path p is view (place_seen bins root version h path p view place)
     (subst (λ (z : List Bin). IsPairTaken version path p z new) same taken) (cells-bytes version new bytes)
     (subst (λ (g : HiveCells). bulk_then ≡ bulk_of g.version (without_key path g.tree)) (sym view) counted)
 
-pub counted_seen : (bins heap new : List Bin) (root : ℕ) (version : HiveVersion) (bulk bulk_then : ℕ) (h : HiveCells) (path : List (List ℕ)) (p : KeyPair)
-    → IsHive bins root version bulk → hive_of bins root version ≡ h → heap ≡ bins → pair_place (cells_in h) path h.root ≡ a_pair p
-    → IsPairTaken version path p heap new → ((t : Tree) → IsWellFormed (look_up version new) root t → bulk_then ≡ bulk_of version t)
+pub counted_seen : (bins heap new : List Bin) (root : ℕ) (version : HiveVersion) (bulk bulk_then : ℕ) (h : HiveCells)
+    (path : List (List ℕ)) (p : KeyPair)
+    → IsHive bins root version bulk → hive_of bins root version ≡ h → heap ≡ bins
+    → pair_place (cells_in h) path h.root ≡ a_pair p
+    → IsPairTaken version path p heap new
+    → ((t : Tree) → IsWellFormed (look_up version new) root t → bulk_then ≡ bulk_of version t)
     → bulk_then ≡ bulk_of h.version (without_key path h.tree)
 counted_seen bins heap new root version bulk bulk_then h path p is view same place taken told =
     subst (λ (g : HiveCells). bulk_then ≡ bulk_of g.version (without_key path g.tree)) view
-    (told (without_key path (tree_of (look_up version bins) root)) (root_seen bins heap new root version bulk h path p is view same place taken))
+    (told (without_key path (tree_of (look_up version bins) root))
+    (root_seen bins heap new root version bulk h path p is view same place taken))
 
-pub drops_seen : (bins heap new : List Bin) (root : ℕ) (version : HiveVersion) (bulk : ℕ) (h : HiveCells) (path : List (List ℕ)) (p : KeyPair)
-    → IsHive bins root version bulk → hive_of bins root version ≡ h → heap ≡ bins → pair_place (cells_in h) path h.root ≡ a_pair p
+pub drops_seen : (bins heap new : List Bin) (root : ℕ) (version : HiveVersion) (bulk : ℕ) (h : HiveCells)
+    (path : List (List ℕ)) (p : KeyPair)
+    → IsHive bins root version bulk → hive_of bins root version ≡ h → heap ≡ bins
+    → pair_place (cells_in h) path h.root ≡ a_pair p
     → IsPairTaken version path p heap new → DropsUses h path (hive_of new root version)
 drops_seen bins heap new root version bulk h path p is view same place taken =
     drops_uses bins new root version bulk h path p is view (place_seen bins root version h path p view place)
     (subst (λ (z : List Bin). IsPairTaken version path p z new) same taken)
 
-pub kept_seen : (bins heap new : List Bin) (root : ℕ) (version : HiveVersion) (bulk : ℕ) (h : HiveCells) (path : List (List ℕ)) (p : KeyPair)
-    → IsHive bins root version bulk → hive_of bins root version ≡ h → heap ≡ bins → pair_place (cells_in h) path h.root ≡ a_pair p
+pub kept_seen : (bins heap new : List Bin) (root : ℕ) (version : HiveVersion) (bulk : ℕ) (h : HiveCells)
+    (path : List (List ℕ)) (p : KeyPair)
+    → IsHive bins root version bulk → hive_of bins root version ≡ h → heap ≡ bins
+    → pair_place (cells_in h) path h.root ≡ a_pair p
     → IsPairKept version p heap new → LacksStepRoom h (delete_key path)
 kept_seen bins heap new root version bulk h path p is view same place kept =
     pair_kept bins new root version bulk h path p is view (place_seen bins root version h path p view place)
     (subst (λ (z : List Bin). IsPairKept version p z new) same kept)
 
 -- what the search for the pair answers of the step
-pub step_seen : (bins : List Bin) (root : ℕ) (version : HiveVersion) (bulk : ℕ) (h : HiveCells) (path : List (List ℕ)) (o : Option KeyPair)
+pub step_seen : (bins : List Bin) (root : ℕ) (version : HiveVersion) (bulk : ℕ) (h : HiveCells) (path : List (List ℕ))
+    (o : Option KeyPair)
     → IsHive bins root version bulk → hive_of bins root version ≡ h → o ≡ pair_place (look_up version bins) path root
-    → MatchOption o (after_step (delete_key path) h.tree ≡ Err no_key) (λ p. after_step (delete_key path) h.tree ≡ the_tree (without_key path h.tree))
+    → MatchOption o (after_step (delete_key path) h.tree ≡ Err no_key)
+    (λ p. after_step (delete_key path) h.tree ≡ the_tree (without_key path h.tree))
 step_seen bins root version bulk h path None is view e =
     subst (λ (g : HiveCells). after_step (delete_key path) g.tree ≡ Err no_key) view
     (pair_refused version bins root (tree_of (look_up version bins) root) path is.stands (sym e))
@@ -347,37 +425,55 @@ step_seen bins root version bulk h path (Some p) is view e =
     (pair_here (look_up version bins) root (tree_of (look_up version bins) root) path p is.stands (sym e))).step
 
 -- the bulk is told by the child and the lists
-pub bulk_seen : (bins heap : List Bin) (root : ℕ) (version : HiveVersion) (bulk : ℕ) (h : HiveCells) (path : List (List ℕ)) (p : KeyPair) (above : Above)
-    (shared : List ℕ) (now fewer below : ℕ) → IsHive bins root version bulk → hive_of bins root version ≡ h → heap ≡ bins
-    → pair_place (cells_in h) path h.root ≡ a_pair p → ((n : KeyNode) → reading key_node_at (look_up version heap) p.above ≡ Ok n → AboveIs above n)
+pub bulk_seen : (bins heap : List Bin) (root : ℕ) (version : HiveVersion) (bulk : ℕ) (h : HiveCells)
+    (path : List (List ℕ)) (p : KeyPair) (above : Above)
+    (shared : List ℕ) (now fewer below : ℕ) → IsHive bins root version bulk → hive_of bins root version ≡ h
+    → heap ≡ bins
+    → pair_place (cells_in h) path h.root ≡ a_pair p
+    → ((n : KeyNode) → reading key_node_at (look_up version heap) p.above ≡ Ok n → AboveIs above n)
     → ((t : Tree) → IsWellFormed (look_up version heap) p.above t → shared ≡ (head t).security) → bulk ≤ 1099511627776
     → now ≡ list_size above.count → fewer ≡ list_size (above.count - 1) → fewer ≤ 100000000000
     → ((t : Tree) → IsWellFormed (look_up version heap) p.at t → below ≡ size version shared t)
     → (now + below ≤ bulk + fewer) × (bulk + fewer - (now + below) ≡ bulk_of h.version (without_key path h.tree))
-bulk_seen bins heap root version bulk h path p above shared now fewer below is view same place says shares few n f small told =
+bulk_seen bins heap root version bulk h path p above shared now fewer below is view same place says shares few n f small
+    told =
     let b = look_up version bins in
     let t = tree_of b root in
     let here = pair_seen bins root version bulk h path p is view place in
-    let read = subst (λ (z : List Bin). reading key_node_at (look_up version z) p.above ≡ Ok here.node) (sym same) here.parent_is.read in
-    let count = (says here.node read).count ∙ counted_children b root t here.stored p.above here.there here.node here.parent_is in
-    let security = shares here.there (subst (λ (z : List Bin). IsWellFormed (look_up version z) p.above here.there) (sym same) here.parent_is.below) in
-    let k = told here.kid (subst (λ (z : List Bin). IsWellFormed (look_up version z) p.at here.kid) (sym same) here.kid_well) in
-    let r = bulk_less version b root t path p bulk fewer now below here is.counted few (n ∙ ap list_size count) (f ∙ ap (λ (z : ℕ). list_size (z - 1)) count) small
-    (k ∙ ap (λ (s : List ℕ). size version s here.kid) security) in
-    (r.0, subst (λ (g : HiveCells). bulk + fewer - (now + below) ≡ bulk_of g.version (without_key path g.tree)) view r.1)
+    let read = subst (λ (z : List Bin). reading key_node_at (look_up version z) p.above ≡ Ok here.node) (sym same)
+    here.parent_is.read in
+    let count = (says here.node read).count
+    ∙ counted_children b root t here.stored p.above here.there here.node here.parent_is in
+    let security = shares here.there
+    (subst (λ (z : List Bin). IsWellFormed (look_up version z) p.above here.there) (sym same)
+    here.parent_is.below) in
+    let k = told here.kid (subst (λ (z : List Bin). IsWellFormed (look_up version z) p.at here.kid) (sym same)
+    here.kid_well) in
+    let r = bulk_less version b root t path p bulk fewer now below here is.counted few (n ∙ ap list_size count)
+    (f ∙ ap (λ (z : ℕ). list_size (z - 1)) count) small
+    (k ∙ ap (λ (s : List ℕ). size version s here.kid) security) in (
+      r.0,
+      subst (λ (g : HiveCells). bulk + fewer - (now + below) ≡ bulk_of g.version (without_key path g.tree))
+          view r.1,
+    )
 
-pub some_children : (bins heap : List Bin) (root : ℕ) (version : HiveVersion) (bulk : ℕ) (h : HiveCells) (path : List (List ℕ)) (p : KeyPair) (above : Above)
-    → IsHive bins root version bulk → hive_of bins root version ≡ h → heap ≡ bins → pair_place (cells_in h) path h.root ≡ a_pair p
+pub some_children : (bins heap : List Bin) (root : ℕ) (version : HiveVersion) (bulk : ℕ) (h : HiveCells)
+    (path : List (List ℕ)) (p : KeyPair) (above : Above)
+    → IsHive bins root version bulk → hive_of bins root version ≡ h → heap ≡ bins
+    → pair_place (cells_in h) path h.root ≡ a_pair p
     → ((n : KeyNode) → reading key_node_at (look_up version heap) p.above ≡ Ok n → AboveIs above n) → 1 ≤ above.count
 some_children bins heap root version bulk h path p above is view same place says =
     let b = look_up version bins in
     let here = pair_seen bins root version bulk h path p is view place in
-    let read = subst (λ (z : List Bin). reading key_node_at (look_up version z) p.above ≡ Ok here.node) (sym same) here.parent_is.read in
+    let read = subst (λ (z : List Bin). reading key_node_at (look_up version z) p.above ≡ Ok here.node) (sym same)
+    here.parent_is.read in
     (can_remove version bins root (tree_of b root) path p above here (says here.node read)).some
 
 -- what a key and all below it take under another key, by its bulk and its own descriptor
-pub below_seen : (version : HiveVersion) (shared own : List ℕ) (k : Tree) (bulk more less : ℕ) → bulk ≡ bulk_of version k → own ≡ (head k).security
+pub below_seen : (version : HiveVersion) (shared own : List ℕ) (k : Tree) (bulk more less : ℕ)
+    → bulk ≡ bulk_of version k → own ≡ (head k).security
     → bulk ≤ 1099511627776 → more ≡ security_size shared own → less ≡ 32 + security_size [] own
     → (less ≤ bulk + more) × (bulk + more - less ≡ size version shared k)
 below_seen version shared own k bulk more less b o few m l =
-    below_size version shared k bulk more less b few (m ∙ ap (security_size shared) o) (l ∙ ap (λ (s : List ℕ). 32 + security_size [] s) o)
+    below_size version shared k bulk more less b few (m ∙ ap (security_size shared) o)
+    (l ∙ ap (λ (s : List ℕ). 32 + security_size [] s) o)

@@ -35,7 +35,8 @@ use Rattle.hive_edit.proofs.GraftRuns.{IsFormed, KeepsRange, still_stands, still
 
 -- From cells b the run of a key is put into cells that were none (m), new lists name it (l), and the root's node and the security that
 -- the key shares say so (c).
-pub record Grafts (b m l c : Cells) (root : ℕ) (t : Tree) (n : KeyNode) (k : Tree) (y size sp list : ℕ) (s : List ℕ) (front back : List ℕ) : Type 0 where
+pub record Grafts (b m l c : Cells) (root : ℕ) (t : Tree) (n : KeyNode) (k : Tree) (y size sp list : ℕ) (s : List ℕ)
+    (front back : List ℕ) : Type 0 where
   pub parent : IsParent b root t [] root t n
   pub shares : SharesAt b root sp s
   pub formed : IsFormed m y size k sp
@@ -52,8 +53,10 @@ pub record Grafts (b m l c : Cells) (root : ℕ) (t : Tree) (n : KeyNode) (k : T
   pub small : list < 2 ^ 32
   pub few : n.child_count + 1 < 2 ^ 32
   pub volatile : ℕ
-  pub kept_c : (o : ℕ) (q : List ℕ) → l.payload o ≡ done q → (o ≡ root → ⊥) → ((sp ≡ nowhere → ⊥) → o ≡ sp → ⊥) → c.payload o ≡ done q
-  pub node_c : (q : List ℕ) → l.payload root ≡ done q → c.payload root ≡ done (with_part 20 (three_numbers (n.child_count + 1) volatile list) q)
+  pub kept_c : (o : ℕ) (q : List ℕ) → l.payload o ≡ done q → (o ≡ root → ⊥) → ((sp ≡ nowhere → ⊥) → o ≡ sp → ⊥)
+      → c.payload o ≡ done q
+  pub node_c : (q : List ℕ) → l.payload root ≡ done q
+      → c.payload root ≡ done (with_part 20 (three_numbers (n.child_count + 1) volatile list) q)
   pub secure_c : (q : List ℕ) → (sp ≡ nowhere → ⊥) → l.payload sp ≡ done q
       → (uses : ℕ) × (uses < 2 ^ 32) × (c.payload sp ≡ done (with_part 12 (to_le_bytes w32 uses) q))
   pub places : child_places b root ≡ front ++ back
@@ -63,10 +66,12 @@ length_more : (front : List ℕ) (y : ℕ) (back : List ℕ) → length (front +
 length_more [] y back = omega arith
 length_more (z ∷ front) y back = let l = length_more front y back in omega (arith, l)
 
-module _ (b m l c : Cells) (root : ℕ) (t : Tree) (n : KeyNode) (k : Tree) (y size sp list : ℕ) (s : List ℕ) (front back : List ℕ)
+module _ (b m l c : Cells) (root : ℕ) (t : Tree) (n : KeyNode) (k : Tree) (y size sp list : ℕ) (s : List ℕ)
+    (front back : List ℕ)
     (g : Grafts b m l c root t n k y size sp list s front back) where
   -- what is held and stays from m on
-  stays : (o : ℕ) (q : List ℕ) → m.payload o ≡ done q → (Contains g.gone o → ⊥) → (o ≡ root → ⊥) → ((sp ≡ nowhere → ⊥) → o ≡ sp → ⊥)
+  stays : (o : ℕ) (q : List ℕ) → m.payload o ≡ done q → (Contains g.gone o → ⊥) → (o ≡ root → ⊥)
+      → ((sp ≡ nowhere → ⊥) → o ≡ sp → ⊥)
       → c.payload o ≡ done q
   stays o q e ng nx ns = g.kept_c o q (g.kept_l o q e ng) nx ns
 
@@ -74,7 +79,8 @@ module _ (b m l c : Cells) (root : ℕ) (t : Tree) (n : KeyNode) (k : Tree) (y s
   secure_in o some e = subst (In (security_listed sp)) (sym e) (security_in_list sp some)
 
   -- a cell that was held, and is none of the step's
-  rest : (o : ℕ) (q : List ℕ) → b.payload o ≡ done q → (o ≡ root → ⊥) → (In (list_cells_at b root) o → ⊥) → (In (security_listed sp) o → ⊥)
+  rest : (o : ℕ) (q : List ℕ) → b.payload o ≡ done q → (o ≡ root → ⊥) → (In (list_cells_at b root) o → ⊥)
+      → (In (security_listed sp) o → ⊥)
       → c.payload o ≡ done q
   rest o q e nx nl ns = stays o q (g.kept_m.held o q e) (λ i. nl (g.gone_is o i)) nx (λ some z. ns (secure_in o some z))
 
@@ -82,14 +88,16 @@ module _ (b m l c : Cells) (root : ℕ) (t : Tree) (n : KeyNode) (k : Tree) (y s
   node_there = parent_held b root t [] root t n g.parent
 
   node_listed : l.payload root ≡ done node_there.0
-  node_listed = g.kept_l root node_there.0 (g.kept_m.held root node_there.0 node_there.1) (λ i. list_no_node b root t [] root t n g.parent (g.gone_is root i))
+  node_listed = g.kept_l root node_there.0 (g.kept_m.held root node_there.0 node_there.1)
+      (λ i. list_no_node b root t [] root t n g.parent (g.gone_is root i))
 
   -- ---- security
   secure_cell : (o : ℕ) → In (security_listed sp) o → IsSecurityCell b root o
   secure_cell o i = let e = security_some sp o i in subst (IsSecurityCell b root) e.0 (g.shares.used e.1)
 
   cell_held : (o : ℕ) → IsSecurityCell b root o → (q : List ℕ) × (b.payload o ≡ Ok q)
-  cell_held o z = (are_held b root t g.parent.well).held z.path security o (record { at = z.key; reached = z.reached; has = z.uses })
+  cell_held o z = (are_held b root t g.parent.well).held z.path security o
+      (record { at = z.key; reached = z.reached; has = z.uses })
 
   secure_held : (o : ℕ) → In (security_listed sp) o → (q : List ℕ) × (b.payload o ≡ Ok q)
   secure_held o i = cell_held o (secure_cell o i)
@@ -98,7 +106,8 @@ module _ (b m l c : Cells) (root : ℕ) (t : Tree) (n : KeyNode) (k : Tree) (y s
   secure_read some =
       let off : eqb sp nowhere ≡ false = ne_eqb sp nowhere some in
       let f : (reading security_at b sp >>= λ d. Ok d.descriptor) ≡ done s =
-      sym (ap (λ (v : Bool). cond v (Ok []) (reading security_at b sp >>= λ d. Ok d.descriptor)) off) ∙ g.shares.descriptor in
+      sym (ap (λ (v : Bool). cond v (Ok []) (reading security_at b sp >>= λ d. Ok d.descriptor)) off)
+      ∙ g.shares.descriptor in
       let z = then_so (reading security_at b sp) (λ d. Ok d.descriptor) s f in
       (z.0, z.1)
 
@@ -111,7 +120,8 @@ module _ (b m l c : Cells) (root : ℕ) (t : Tree) (n : KeyNode) (k : Tree) (y s
       (λ j. list_no_security b root t [] root t n u.path u.key sp g.parent u.reached u.uses (g.gone_is sp j)) in
       let w = g.secure_c q.0 some listed in
       let now = ap (λ (r : Result (List ℕ) HiveKind). r >>= security_at) w.2 ∙ security_counted q.0 z.0 w.0 q.2 w.1 in
-      ap (λ (r : Result SecurityCell HiveKind). r >>= λ d. Ok d.descriptor) now ∙ sym (ap (λ (r : Result SecurityCell HiveKind). r >>= λ d. Ok d.descriptor) z.1)
+      ap (λ (r : Result SecurityCell HiveKind). r >>= λ d. Ok d.descriptor) now
+      ∙ sym (ap (λ (r : Result SecurityCell HiveKind). r >>= λ d. Ok d.descriptor) z.1)
 
   descriptors : (o : ℕ) → IsSecurityCell b root o → descriptor_at c o ≡ descriptor_at b o
   descriptors o z = go (sp == nowhere) refl (eqb o sp) refl
@@ -119,7 +129,9 @@ module _ (b m l c : Cells) (root : ℕ) (t : Tree) (n : KeyNode) (k : Tree) (y s
       plain_one : (In (security_listed sp) o → ⊥) → descriptor_at c o ≡ descriptor_at b o
       plain_one none =
           let q = cell_held o z in
-          let same = rest o q.0 q.1 (λ e. node_no_security b root t [] root t n z.path z.key g.parent z.reached (subst (In (security_cell_at b z.key)) e z.uses))
+          let same = rest o q.0 q.1
+          (λ e. node_no_security b root t [] root t n z.path z.key g.parent z.reached
+          (subst (In (security_cell_at b z.key)) e z.uses))
           (λ i. list_no_security b root t [] root t n z.path z.key o g.parent z.reached z.uses i) none ∙ sym q.1 in
           ap (λ (r : Result (List ℕ) HiveKind). r >>= security_at >>= λ d. Ok d.descriptor) same
 
@@ -127,7 +139,8 @@ module _ (b m l c : Cells) (root : ℕ) (t : Tree) (n : KeyNode) (k : Tree) (y s
       go true e w f = plain_one (λ i. (security_some sp o i).1 (eqb-true sp nowhere e))
       go false e true f =
           let same : o ≡ sp = eqb-true o sp f in
-          subst (λ (x : ℕ). descriptor_at c x ≡ descriptor_at b x) (sym same) (raised (λ x. absurd (eqb-false sp nowhere e x)))
+          subst (λ (x : ℕ). descriptor_at c x ≡ descriptor_at b x) (sym same)
+          (raised (λ x. absurd (eqb-false sp nowhere e x)))
       go false e false f = plain_one (λ i. eqb-false o sp f (sym (security_some sp o i).0))
 
   -- ---- the range of the run
@@ -143,13 +156,15 @@ module _ (b m l c : Cells) (root : ℕ) (t : Tree) (n : KeyNode) (k : Tree) (y s
   kept_descriptor : (sp ≡ nowhere → ⊥) → descriptor_at m sp ≡ descriptor_at b sp
   kept_descriptor some =
       let h = secure_held sp (security_in_list sp some) in
-      ap (λ (r : Result (List ℕ) HiveKind). r >>= security_at >>= λ d. Ok d.descriptor) (g.kept_m.held sp h.0 h.1 ∙ sym h.1)
+      ap (λ (r : Result (List ℕ) HiveKind). r >>= security_at >>= λ d. Ok d.descriptor)
+      (g.kept_m.held sp h.0 h.1 ∙ sym h.1)
 
   range : KeepsRange m c y (y + size) sp
   range = record {
     version = g.version ∙ sym g.kept_m.version;
     held = in_run;
-    security = λ lt. let some : sp ≡ nowhere → ⊥ = λ e. omega (arith, e, lt) in raised some ∙ sym (kept_descriptor some);
+    security = λ lt. let some : sp ≡ nowhere → ⊥ = λ e. omega (arith, e, lt) in
+        raised some ∙ sym (kept_descriptor some);
   }
 
   pub stands_new : Stands c y k
@@ -162,7 +177,8 @@ module _ (b m l c : Cells) (root : ℕ) (t : Tree) (n : KeyNode) (k : Tree) (y s
   list_same : (o : ℕ) → In (used_in (entries_checks l list)) o → c.payload o ≡ l.payload o
   list_same o i =
       let q = entries_held l list (front ++ y ∷ back) o g.lists i in
-      g.kept_c o q.0 q.1 (λ e. g.unheld o i node_there.0 (ap m.payload e ∙ g.kept_m.held root node_there.0 node_there.1))
+      g.kept_c o q.0 q.1 (λ e. g.unheld o i node_there.0
+      (ap m.payload e ∙ g.kept_m.held root node_there.0 node_there.1))
       (λ some e. let r = secure_held o (secure_in o some e) in g.unheld o i r.0 (g.kept_m.held o r.0 r.1)) ∙ sym q.1
 
   list_first : In (used_in (entries_checks l list)) list
@@ -177,7 +193,8 @@ module _ (b m l c : Cells) (root : ℕ) (t : Tree) (n : KeyNode) (k : Tree) (y s
       → IsUnheld b u.0 ⊎ ((u.1 ≡ true) × In (security_listed sp) u.0)
   coming u i = ⊎_elim from_list from_key (in_cases (plain (used_in (entries_checks l list))) (tree_uses 511 m y) u i)
     where
-      from_list : In (plain (used_in (entries_checks l list))) u → IsUnheld b u.0 ⊎ ((u.1 ≡ true) × In (security_listed sp) u.0)
+      from_list : In (plain (used_in (entries_checks l list))) u
+          → IsUnheld b u.0 ⊎ ((u.1 ≡ true) × In (security_listed sp) u.0)
       from_list j =
           let w = in_map (λ (z : ℕ). (z, false)) (used_in (entries_checks l list)) u j in
           let at : w.0 ≡ u.0 = ap (λ (z : ℕ × Bool). z.0) w.2 in
@@ -186,7 +203,8 @@ module _ (b m l c : Cells) (root : ℕ) (t : Tree) (n : KeyNode) (k : Tree) (y s
       from_key : In (tree_uses 511 m y) u → IsUnheld b u.0 ⊎ ((u.1 ≡ true) × In (security_listed sp) u.0)
       from_key j = ⊎_elim
           (λ (r : (y ≤ u.0) × (u.0 < y + size)). inl (λ q e. g.fresh u.0 q r.0 r.1 e))
-          (λ (r : (u.1 ≡ true) × (u.0 ≡ sp) × (sp < nowhere)). let lt = r.2 in inr (r.0, secure_in u.0 (λ e. omega (arith, e, lt)) r.1))
+          (λ (r : (u.1 ≡ true) × (u.0 ≡ sp) × (sp < nowhere)). let lt = r.2 in
+          inr (r.0, secure_in u.0 (λ e. omega (arith, e, lt)) r.1))
           (g.formed.uses 511 u.0 u.1 g.low j)
 
   tree_held : (u : ℕ × Bool) → In (tree_uses 511 m y) u → (q : List ℕ) × (m.payload u.0 ≡ Ok q)
@@ -196,7 +214,8 @@ module _ (b m l c : Cells) (root : ℕ) (t : Tree) (n : KeyNode) (k : Tree) (y s
 
   each_once : Once (plain (used_in (entries_checks l list)) ++ tree_uses 511 m y)
   each_once = pairwise_join Agree (plain (used_in (entries_checks l list))) (tree_uses 511 m y) (record {
-    left = pairwise_map (λ u v. u ≡ v → ⊥) Agree (λ (o : ℕ). (o, false)) (used_in (entries_checks l list)) (λ u v i j differ e. absurd (differ e)) g.once;
+    left = pairwise_map (λ u v. u ≡ v → ⊥) Agree (λ (o : ℕ). (o, false)) (used_in (entries_checks l list))
+        (λ u v i j differ e. absurd (differ e)) g.once;
     right = g.formed.once 511 g.low;
     across = λ u v i j e.
         let w = in_map (λ (z : ℕ). (z, false)) (used_in (entries_checks l list)) u i in
@@ -205,18 +224,23 @@ module _ (b m l c : Cells) (root : ℕ) (t : Tree) (n : KeyNode) (k : Tree) (y s
   })
 
   -- ---- the child came
-  noted : HasNewChildren (with_part 20 (three_numbers (n.child_count + 1) g.volatile list) node_there.0) n (length (front ++ y ∷ back)) list
+  noted : HasNewChildren (with_part 20 (three_numbers (n.child_count + 1) g.volatile list) node_there.0) n
+      (length (front ++ y ∷ back)) list
   noted =
-      let count : n.child_count + 1 ≡ length (front ++ y ∷ back) = let e = g.count_is in let f = length_more front y back in omega (arith, e, f) in
-      subst (λ (z : ℕ). HasNewChildren (with_part 20 (three_numbers (n.child_count + 1) g.volatile list) node_there.0) n z list) count
+      let count : n.child_count + 1 ≡ length (front ++ y ∷ back) = let e = g.count_is in let f =
+      length_more front y back in omega (arith, e, f) in
+      subst (λ (z : ℕ). HasNewChildren (with_part 20 (three_numbers (n.child_count + 1) g.volatile list) node_there.0)
+      n z list) count
       (children_written node_there.0 n (n.child_count + 1) g.volatile list node_there.2 g.few g.small)
 
-  all_uses : plain (used_in (entries_checks c list)) ++ tree_uses 511 c y ≡ plain (used_in (entries_checks l list)) ++ tree_uses 511 m y
+  all_uses : plain (used_in (entries_checks c list)) ++ tree_uses 511 c y ≡ plain (used_in (entries_checks l list))
+      ++ tree_uses 511 m y
   all_uses =
       ap (λ (x : List ℕ). plain x ++ tree_uses 511 c y) uses_are
       ∙ ap (λ (z : List (ℕ × Bool)). plain (used_in (entries_checks l list)) ++ z) uses_new
 
-  inserted : InsertsChild b c root root 511 n front back y (with_part 20 (three_numbers (n.child_count + 1) g.volatile list) node_there.0) list (security_listed sp)
+  inserted : InsertsChild b c root root 511 n front back y
+      (with_part 20 (three_numbers (n.child_count + 1) g.volatile list) node_there.0) list (security_listed sp)
   inserted = record {
     version = g.version;
     there = g.node_c node_there.0 node_listed;
@@ -231,5 +255,6 @@ module _ (b m l c : Cells) (root : ℕ) (t : Tree) (n : KeyNode) (k : Tree) (y s
 
   pub changes : ChangesChildren b c root root 511 front [] (y ∷ []) back (security_listed sp)
   changes =
-      inserts_child b c root root 511 n front back y (with_part 20 (three_numbers (n.child_count + 1) g.volatile list) node_there.0) list (security_listed sp)
+      inserts_child b c root root 511 n front back y
+      (with_part 20 (three_numbers (n.child_count + 1) g.volatile list) node_there.0) list (security_listed sp)
       g.parent.read g.places inserted

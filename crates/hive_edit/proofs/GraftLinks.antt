@@ -11,10 +11,13 @@ use Rattle.hive_edit.specs.declared.making.Above.{Above}
 use Rattle.hive_edit.specs.Making.{above_children, LacksListRoom}
 use Rattle.hive_edit.specs.Grafted.{sharing, IsLinkedBy, IsRunPut, IsGrafted, LacksGraftLists}
 
-pub graft_linked : {E : Type 0} (r : Result Bool E) (version : HiveVersion) (parent : ℕ) (above : Above) (shared : List ℕ) (k : Tree) (at keys : ℕ) (old mid new : List Bin)
+pub graft_linked : {E : Type 0} (r : Result Bool E) (version : HiveVersion) (parent : ℕ) (above : Above)
+    (shared : List ℕ) (k : Tree) (at keys : ℕ) (old mid new : List Bin)
     → keys ≡ sharing shared k → HasNumbers k → IsRunPut version parent above shared k at old mid
-    → IfOk r (λ done. MatchBool done (IsLinkedBy version parent above at keys mid new) (LacksListRoom version above at mid new))
-    → IfOk r (λ done. MatchBool done (IsGrafted version parent above shared k at old new) (LacksGraftLists version parent above shared k at old new))
+    → IfOk r (λ done. MatchBool done (IsLinkedBy version parent above at keys mid new)
+    (LacksListRoom version above at mid new))
+    → IfOk r (λ done. MatchBool done (IsGrafted version parent above shared k at old new)
+    (LacksGraftLists version parent above shared k at old new))
 graft_linked (Ok true) version parent above shared k at keys old mid new count numbers put h = record {
   numbers = numbers;
   mid = mid;
@@ -24,14 +27,18 @@ graft_linked (Ok true) version parent above shared k at keys old mid new count n
 graft_linked (Ok false) version parent above shared k at keys old mid new count numbers put h = record {
   numbers = numbers;
   put = subst (λ (z : List Bin). IsRunPut version parent above shared k at old z) (sym h.1) put;
-  lacks = subst (λ (z : List Bin). 16777216 < list_strain_of (bins_size z) (length (above_children version above at z))) (sym h.1) h.0;
+  lacks = subst (λ (z : List Bin). 16777216 < list_strain_of (bins_size z) (length (above_children version above at z)))
+      (sym h.1) h.0;
 }
 graft_linked (Err e) version parent above shared k at keys old mid new count numbers put h = tt
 
-pub graft_refused : {E : Type 0} (r : Result Bool E) (version : HiveVersion) (parent : ℕ) (above : Above) (shared : List ℕ) (k : Tree) (at : ℕ) (old mid new : List Bin)
-    → IsRunPut version parent above shared k at old mid → OnErr r (new ≡ mid) → OnErr r ((new ≡ old) ⊎ IsRunPut version parent above shared k at old new)
+pub graft_refused : {E : Type 0} (r : Result Bool E) (version : HiveVersion) (parent : ℕ) (above : Above)
+    (shared : List ℕ) (k : Tree) (at : ℕ) (old mid new : List Bin)
+    → IsRunPut version parent above shared k at old mid → OnErr r (new ≡ mid)
+    → OnErr r ((new ≡ old) ⊎ IsRunPut version parent above shared k at old new)
 graft_refused (Ok d) version parent above shared k at old mid new put h = tt
-graft_refused (Err e) version parent above shared k at old mid new put h = inr (subst (λ (z : List Bin). IsRunPut version parent above shared k at old z) (sym h) put)
+graft_refused (Err e) version parent above shared k at old mid new put h =
+    inr (subst (λ (z : List Bin). IsRunPut version parent above shared k at old z) (sym h) put)
 
 -- ---- how many keys share the security
 

@@ -53,7 +53,8 @@ pub record IsGraftRun (version : HiveVersion) (up : Above) (at : ℕ) (k : Tree)
   pub sound : IsRun run
   pub cells : run_cells run ≡ map allocated_cell (cells_of version up at k)
 
-pub graft_run : (version : HiveVersion) (up : Above) (at : ℕ) (k : Tree) (run : List ℕ) → run ≡ text (cells_of version up at k)
+pub graft_run : (version : HiveVersion) (up : Above) (at : ℕ) (k : Tree) (run : List ℕ)
+    → run ≡ text (cells_of version up at k)
     → size version up.security k ≤ 16777216 → IsGraftRun version up at k run
 graft_run version up at k run e few =
     let ps = cells_of version up at k in
@@ -71,13 +72,20 @@ pub record IsRunThere (b m : Cells) (up : Above) (at : ℕ) (k : Tree) : Type 0 
   pub has : Has m at (cells_of m.version up at k)
   pub fresh : (o : ℕ) (q : List ℕ) → at ≤ o → o < at + size m.version up.security k → b.payload o ≡ done q → ⊥
 
-pub run_there : (version : HiveVersion) (up : Above) (at : ℕ) (k : Tree) (run : List ℕ) (old mid : List Bin) → run ≡ text (cells_of version up at k)
+pub run_there : (version : HiveVersion) (up : Above) (at : ℕ) (k : Tree) (run : List ℕ) (old mid : List Bin)
+    → run ≡ text (cells_of version up at k)
     → size version up.security k ≤ 16777216 → IsPutAt (length run) at (run_cells run) old mid
     → IsRunThere (look_up version old) (look_up version mid) up at k
 run_there version up at k run old mid e few put = record {
-  kept = record { version = refl; held = λ o q h. held_payload mid o q (stays o (held_among o at cells) refl (payload_held old o q h) ∙ payload_held old o q h) };
-  has = has_held (look_up version mid) at ps (λ o q h. held_payload mid o q (held o ∙ ap (λ (z : Option (List ℕ)). or_else z (held_at old o)) h));
-  fresh = λ o q low high h. no_some (held_at old o) q (put.fresh o low (omega (arith, high, long))) (payload_held old o q h);
+  kept = record {
+    version = refl;
+    held = λ o q h. held_payload mid o q
+        (stays o (held_among o at cells) refl (payload_held old o q h) ∙ payload_held old o q h);
+  };
+  has = has_held (look_up version mid) at ps
+      (λ o q h. held_payload mid o q (held o ∙ ap (λ (z : Option (List ℕ)). or_else z (held_at old o)) h));
+  fresh = λ o q low high h. no_some (held_at old o) q (put.fresh o low (omega (arith, high, long)))
+      (payload_held old o q h);
 }
   where
     ps : List (List ℕ)
@@ -100,7 +108,8 @@ run_there version up at k run old mid e few put = record {
         let a = among_from o at cells q h in
         put.fresh o a.0 (omega (arith, a.1, sizes_are ps, space_tree version up at k, long))
 
-    stays : (o : ℕ) (z : Option (List ℕ)) {q : List ℕ} → held_among o at cells ≡ z → held_at old o ≡ some q → held_at mid o ≡ held_at old o
+    stays : (o : ℕ) (z : Option (List ℕ)) {q : List ℕ} → held_among o at cells ≡ z → held_at old o ≡ some q
+        → held_at mid o ≡ held_at old o
     stays o None a h = held o ∙ ap (λ (z : Option (List ℕ)). or_else z (held_at old o)) a
     stays o (Some z) {q} a h = absurd (no_some (held_at old o) q (fresh_there o z a) h)
 
@@ -113,21 +122,32 @@ pub record IsFormed (m : Cells) (at size : ℕ) (k : Tree) (sp : ℕ) : Type 0 w
       → ((at ≤ o) × (o < at + size)) ⊎ ((s ≡ true) × (o ≡ sp) × (sp < nowhere))
   pub once : (left : ℕ) → levels k ≤ left → Once (tree_uses left m at)
 
-within_in : (most lo hi s : ℕ) (cs : List Check) → Within most lo hi s cs → (o : ℕ) (b : Bool) → In cs (uses o b) → WithinCheck most lo hi s (uses o b)
+within_in : (most lo hi s : ℕ) (cs : List Check) → Within most lo hi s cs → (o : ℕ) (b : Bool) → In cs (uses o b)
+    → WithinCheck most lo hi s (uses o b)
 within_in most lo hi s [] w o b i = absurd i
 within_in most lo hi s (c ∷ cs) w o b (inl e) = subst (WithinCheck most lo hi s) e w.0
 within_in most lo hi s (c ∷ cs) w o b (inr i) = within_in most lo hi s cs w.1 o b i
 
-pub formed : (m : Cells) (up : Above) (at : ℕ) (k : Tree) → at + size m.version up.security k ≤ 16777216 → AboveStands m up
-    → Outside up.security_place at (at + size m.version up.security k) → Has m at (cells_of m.version up at k) → HoldsKeys k → HasNumbers k
+pub formed : (m : Cells) (up : Above) (at : ℕ) (k : Tree) → at + size m.version up.security k ≤ 16777216
+    → AboveStands m up
+    → Outside up.security_place at (at + size m.version up.security k) → Has m at (cells_of m.version up at k)
+    → HoldsKeys k → HasNumbers k
     → levels k ≤ 512 → IsFormed m at (size m.version up.security k) k up.security_place
 unfolding all_checks
 formed m up at k le a o has holds numbers low = record {
-  well = record { stands = stands; levels = low; names = apart k holds; once = used_once (key_checks 512 m true [] at) ((good 512 low).once [] tt) };
-  uses = λ left o s enough i. within_in nowhere at hi up.security_place (key_checks left m true [] at) (good left enough).within o s
-      (mark_to (key_checks left m true [] at) (o, s) (subst (λ (l : List (ℕ × Bool)). In l (o, s)) (sym (walked left)) i));
+  well = record {
+    stands = stands;
+    levels = low;
+    names = apart k holds;
+    once = used_once (key_checks 512 m true [] at) ((good 512 low).once [] tt);
+  };
+  uses = λ left o s enough i. within_in nowhere at hi up.security_place (key_checks left m true [] at)
+      (good left enough).within o s
+      (mark_to (key_checks left m true [] at) (o, s)
+      (subst (λ (l : List (ℕ × Bool)). In l (o, s)) (sym (walked left)) i));
   once = λ left enough. subst Once (walked left)
-      (once_from (key_checks left m true [] at) (used_once (key_checks left m true [] at) ((good left enough).once [] tt)));
+      (once_from (key_checks left m true [] at)
+      (used_once (key_checks left m true [] at) ((good left enough).once [] tt)));
 }
   where
     hi : ℕ
@@ -152,12 +172,14 @@ pub record KeepsRange (m c : Cells) (lo hi sp : ℕ) : Type 0 where
   pub held : (o : ℕ) (q : List ℕ) → lo ≤ o → o < hi → m.payload o ≡ done q → c.payload o ≡ done q
   pub security : sp < nowhere → descriptor_at c sp ≡ descriptor_at m sp
 
-module _ (m c : Cells) (at size : ℕ) (k : Tree) (sp : ℕ) (f : IsFormed m at size k sp) (keeps : KeepsRange m c at (at + size) sp) where
+module _ (m c : Cells) (at size : ℕ) (k : Tree) (sp : ℕ) (f : IsFormed m at size k sp)
+    (keeps : KeepsRange m c at (at + size) sp) where
   in_range : (o : ℕ) (q : List ℕ) → (at ≤ o) × (o < at + size) → m.payload o ≡ done q → c.payload o ≡ m.payload o
   in_range o q r e = keeps.held o q r.0 r.1 e ∙ sym e
 
   -- what is used as security is owned as security
-  plain_range : (p : List (List ℕ)) (x o : ℕ) (r : Role) (s : Bool) → Owns m at p r o → (IsSecurity r → ⊥) → In (tree_uses 512 m at) (o, s)
+  plain_range : (p : List (List ℕ)) (x o : ℕ) (r : Role) (s : Bool) → Owns m at p r o → (IsSecurity r → ⊥)
+      → In (tree_uses 512 m at) (o, s)
       → (at ≤ o) × (o < at + size)
   plain_range p x o r s own not_secure i = go (f.uses 512 o s f.well.levels i)
     where
@@ -192,9 +214,11 @@ module _ (m c : Cells) (at size : ℕ) (k : Tree) (sp : ℕ) (f : IsFormed m at 
           let u = owned_used 512 m p at x o Role.security short h i in
           go q.0 q.1 (f.uses 512 o u.0 f.well.levels u.1)
         where
-          go : (q : List ℕ) {s : Bool} → m.payload o ≡ done q → ((at ≤ o) × (o < at + size)) ⊎ ((s ≡ true) × (o ≡ sp) × (sp < nowhere))
+          go : (q : List ℕ) {s : Bool} → m.payload o ≡ done q
+              → ((at ≤ o) × (o < at + size)) ⊎ ((s ≡ true) × (o ≡ sp) × (sp < nowhere))
               → descriptor_at c o ≡ descriptor_at m o
-          go q e (inl r) = ap (λ (z : Result (List ℕ) HiveKind). z >>= security_at >>= λ d. Ok d.descriptor) (in_range o q r e)
+          go q e (inl r) = ap (λ (z : Result (List ℕ) HiveKind). z >>= security_at >>= λ d. Ok d.descriptor)
+              (in_range o q r e)
           go q e (inr r) = subst (λ (z : ℕ). descriptor_at c z ≡ descriptor_at m z) (sym r.1) (keeps.security r.2)
 
   pub still_stands : Stands c at k

@@ -57,7 +57,8 @@ use Rattle.hive_edit.proofs.GraftLemmas.{Grafts}
 
 -- ---- what is known of the root, the key and its place
 
-pub record Ready (version : HiveVersion) (old : List Bin) (root : ℕ) (t : Tree) (n : KeyNode) (above : Above) (shared : List ℕ) (k : Tree) (at : ℕ) : Type 0 where
+pub record Ready (version : HiveVersion) (old : List Bin) (root : ℕ) (t : Tree) (n : KeyNode) (above : Above)
+    (shared : List ℕ) (k : Tree) (at : ℕ) : Type 0 where
   pub parent : IsParent (look_up version old) root t [] root t n
   pub says : ListsAs above n
   pub shares : SharesAt (look_up version old) root above.security shared
@@ -66,7 +67,8 @@ pub record Ready (version : HiveVersion) (old : List Bin) (root : ℕ) (t : Tree
   pub inside : at + size version shared k ≤ 16777216
   pub root_small : root < 2 ^ 32
 
-module _ (version : HiveVersion) (old mid : List Bin) (root : ℕ) (t : Tree) (n : KeyNode) (above : Above) (shared : List ℕ) (k : Tree) (at : ℕ)
+module _ (version : HiveVersion) (old mid : List Bin) (root : ℕ) (t : Tree) (n : KeyNode) (above : Above)
+    (shared : List ℕ) (k : Tree) (at : ℕ)
     (r : Ready version old root t n above shared k at) (numbers : HasNumbers k) (holds : HoldsKeys k)
     (put : IsRunPut version root above shared k at old mid) where
   up : PackedAbove
@@ -75,16 +77,20 @@ module _ (version : HiveVersion) (old mid : List Bin) (root : ℕ) (t : Tree) (n
   sp : ℕ
   sp = above.security
 
-  pub there : IsRunThere (look_up version old) (look_up version mid) (beside version root shared above.security at k) at k
+  pub there : IsRunThere (look_up version old) (look_up version mid) (beside version root shared above.security at k)
+      at k
   there =
       let inside = r.inside in
-      run_there version (beside version root shared above.security at k) at k put.run old mid put.is (omega (arith, inside)) put.put
+      run_there version (beside version root shared above.security at k) at k put.run old mid put.is
+      (omega (arith, inside)) put.put
 
   pub keeps : Keeps (look_up version old) (look_up version mid)
   keeps = there.kept
 
-  cell_held : (o : ℕ) → IsSecurityCell (look_up version old) root o → (q : List ℕ) × ((look_up version old).payload o ≡ Ok q)
-  cell_held o z = (are_held (look_up version old) root t r.parent.well).held z.path security o (record { at = z.key; reached = z.reached; has = z.uses })
+  cell_held : (o : ℕ) → IsSecurityCell (look_up version old) root o
+      → (q : List ℕ) × ((look_up version old).payload o ≡ Ok q)
+  cell_held o z = (are_held (look_up version old) root t r.parent.well).held z.path security o
+      (record { at = z.key; reached = z.reached; has = z.uses })
 
   descriptor_kept : descriptor_of (look_up version mid) above.security ≡ Ok shared
   descriptor_kept = go (eqb above.security nowhere) refl
@@ -92,12 +98,15 @@ module _ (version : HiveVersion) (old mid : List Bin) (root : ℕ) (t : Tree) (n
       go : (v : Bool) → eqb above.security nowhere ≡ v → descriptor_of (look_up version mid) above.security ≡ Ok shared
       go true e =
           ap (λ (v : Bool). cond v (Ok []) (descriptor_at (look_up version mid) above.security)) e
-          ∙ sym (ap (λ (v : Bool). cond v (Ok []) (descriptor_at (look_up version old) above.security)) e) ∙ r.shares.descriptor
+          ∙ sym (ap (λ (v : Bool). cond v (Ok []) (descriptor_at (look_up version old) above.security)) e)
+          ∙ r.shares.descriptor
       go false e =
           let h = cell_held above.security (r.shares.used (λ z. absurd (eqb-false above.security nowhere e z))) in
           ap (λ (v : Bool). cond v (Ok []) (descriptor_at (look_up version mid) above.security)) e
-          ∙ ap (λ (q : Result (List ℕ) HiveKind). q >>= security_at >>= λ d. Ok d.descriptor) (there.kept.held above.security h.0 h.1 ∙ sym h.1)
-          ∙ sym (ap (λ (v : Bool). cond v (Ok []) (descriptor_at (look_up version old) above.security)) e) ∙ r.shares.descriptor
+          ∙ ap (λ (q : Result (List ℕ) HiveKind). q >>= security_at >>= λ d. Ok d.descriptor)
+          (there.kept.held above.security h.0 h.1 ∙ sym h.1)
+          ∙ sym (ap (λ (v : Bool). cond v (Ok []) (descriptor_at (look_up version old) above.security)) e)
+          ∙ r.shares.descriptor
 
   stands_above : AboveStands (look_up version mid) (beside version root shared above.security at k)
   stands_above = record {
@@ -117,11 +126,13 @@ module _ (version : HiveVersion) (old mid : List Bin) (root : ℕ) (t : Tree) (n
           low (cases_lt above.security at) h.0 h.1
         where
           high : at ≤ above.security → (q : List ℕ) → (look_up version old).payload above.security ≡ Ok q
-              → (above.security < at + size version shared k) ⊎ (at + size version shared k ≤ above.security) → Outside above.security at (at + size version shared k)
+              → (above.security < at + size version shared k) ⊎ (at + size version shared k ≤ above.security)
+              → Outside above.security at (at + size version shared k)
           high l q h (inl u) = absurd (there.fresh above.security q l u h)
           high l q h (inr u) = inr u
 
-          low : (above.security < at) ⊎ (at ≤ above.security) → (q : List ℕ) → (look_up version old).payload above.security ≡ Ok q
+          low : (above.security < at) ⊎ (at ≤ above.security) → (q : List ℕ)
+              → (look_up version old).payload above.security ≡ Ok q
               → Outside above.security at (at + size version shared k)
           low (inl l) q h = inl l
           low (inr l) q h = high l q h (cases_lt above.security (at + size version shared k))
@@ -129,27 +140,34 @@ module _ (version : HiveVersion) (old mid : List Bin) (root : ℕ) (t : Tree) (n
   pub is_formed : IsFormed (look_up version mid) at (size version shared k) k above.security
   is_formed =
       let low = r.low in
-      formed (look_up version mid) (beside version root shared above.security at k) at k r.inside stands_above beside_run there.has holds numbers (omega (arith, low))
+      formed (look_up version mid) (beside version root shared above.security at k)
+      at k r.inside stands_above beside_run there.has holds numbers (omega (arith, low))
 
   parent_mid : IsParent (look_up version mid) root t [] root t n
   parent_mid = kept_parent (look_up version old) (look_up version mid) root t [] root t n r.parent there.kept
 
   pub lists_still : lists_at (look_up version mid) above.list above.count ≡ list_cells_at (look_up version old) root
   lists_still =
-      (λ i. lists_at (look_up version mid) (r.says.list i) (r.says.count i)) ∙ lists_are (look_up version mid) root t [] root t n parent_mid
-      ∙ lists_same (look_up version old) (look_up version mid) root (node_kept (look_up version old) (look_up version mid) root t [] root t n r.parent there.kept)
+      (λ i. lists_at (look_up version mid) (r.says.list i) (r.says.count i))
+      ∙ lists_are (look_up version mid) root t [] root t n parent_mid
+      ∙ lists_same (look_up version old) (look_up version mid) root
+      (node_kept (look_up version old) (look_up version mid) root t [] root t n r.parent there.kept)
       (list_kept (look_up version old) (look_up version mid) root t [] root t n r.parent there.kept)
 
-  pub children_still : children_at (look_up version mid) above.list above.count ≡ child_places (look_up version old) root
+  pub children_still : children_at (look_up version mid) above.list above.count
+      ≡ child_places (look_up version old) root
   children_still =
-      (λ i. children_at (look_up version mid) (r.says.list i) (r.says.count i)) ∙ children_are (look_up version mid) root t [] root t n parent_mid
-      ∙ places_same (look_up version old) (look_up version mid) root (node_kept (look_up version old) (look_up version mid) root t [] root t n r.parent there.kept)
+      (λ i. children_at (look_up version mid) (r.says.list i) (r.says.count i))
+      ∙ children_are (look_up version mid) root t [] root t n parent_mid
+      ∙ places_same (look_up version old) (look_up version mid) root
+      (node_kept (look_up version old) (look_up version mid) root t [] root t n r.parent there.kept)
       (list_kept (look_up version old) (look_up version mid) root t [] root t n r.parent there.kept)
 
   pub siblings_count : length (children_at (look_up version mid) above.list above.count) ≡ above.count
   siblings_count =
       subst (λ (z : ℕ). length (children_at (look_up version mid) z above.count) ≡ above.count) (sym r.says.list)
-      (subst (λ (z : ℕ). length (children_at (look_up version mid) n.child_list z) ≡ z) (sym r.says.count) (siblings_are (look_up version mid) root t [] root t n parent_mid).number)
+      (subst (λ (z : ℕ). length (children_at (look_up version mid) n.child_list z) ≡ z) (sym r.says.count)
+      (siblings_are (look_up version mid) root t [] root t n parent_mid).number)
 
   key_node : (m : KeyNode) × (p : List ℕ) × ((look_up version mid).payload at ≡ done p) × (key_node_at p ≡ done m)
   key_node =
@@ -161,14 +179,16 @@ module _ (version : HiveVersion) (old mid : List Bin) (root : ℕ) (t : Tree) (n
   unfolding payload_in
   key_there =
       let m = key_node in
-      subst (λ (q : Result (List ℕ) HiveKind). IsOk (key_node_at (of_read q (λ z. z)))) (sym m.2) (is_ok_of (key_node_at m.1) m.0 m.3)
+      subst (λ (q : Result (List ℕ) HiveKind). IsOk (key_node_at (of_read q (λ z. z)))) (sym m.2)
+      (is_ok_of (key_node_at m.1) m.0 m.3)
 
   secure_long : (above.security ≡ nowhere → ⊥) → IsSomeAnd (held_at mid above.security) (λ z. 20 ≤ length z)
   secure_long used =
       let h = cell_held above.security (r.shares.used used) in
       let off : eqb above.security nowhere ≡ false = Rattle.std.proofs.lemmas.Bool.ne_eqb above.security nowhere used in
       let f : (reading security_at (look_up version old) above.security >>= λ d. Ok d.descriptor) ≡ done shared =
-      sym (ap (λ (v : Bool). cond v (Ok []) (descriptor_at (look_up version old) above.security)) off) ∙ r.shares.descriptor in
+      sym (ap (λ (v : Bool). cond v (Ok []) (descriptor_at (look_up version old) above.security)) off)
+      ∙ r.shares.descriptor in
       let z = then_so (reading security_at (look_up version old) above.security) (λ d. Ok d.descriptor) shared f in
       let q = then_so ((look_up version old).payload above.security) security_at z.0 z.1 in
       let long = ltb-false (length q.0) 20 (security_text_is q.0 z.0 q.2).head in
@@ -182,17 +202,22 @@ module _ (version : HiveVersion) (old mid : List Bin) (root : ℕ) (t : Tree) (n
       let m = key_node in
       record {
         siblings = subst (λ (z : ℕ). ListsSiblings (look_up version mid) z above.count) (sym r.says.list)
-            (subst (λ (z : ℕ). ListsSiblings (look_up version mid) n.child_list z) (sym r.says.count) (siblings_are (look_up version mid) root t [] root t n parent_mid));
-        apart = subst AreApart (sym (λ i. lists_at (look_up version mid) (r.says.list i) (r.says.count i))) (parent_apart (look_up version mid) root t [] root t n parent_mid);
+            (subst (λ (z : ℕ). ListsSiblings (look_up version mid) n.child_list z) (sym r.says.count)
+            (siblings_are (look_up version mid) root t [] root t n parent_mid));
+        apart = subst AreApart (sym (λ i. lists_at (look_up version mid) (r.says.list i) (r.says.count i)))
+            (parent_apart (look_up version mid) root t [] root t n parent_mid);
         node = key_there;
         few = r.few;
-        parent_long = subst (λ (o : Option (List ℕ)). IsSomeAnd o (λ z. 76 ≤ length z)) (sym (payload_held mid root q.0 q.1)) (omega (arith, long));
+        parent_long = subst (λ (o : Option (List ℕ)). IsSomeAnd o (λ z. 76 ≤ length z))
+            (sym (payload_held mid root q.0 q.1)) (omega (arith, long));
         parent_apart = λ i. list_no_node (look_up version old) root t [] root t n r.parent
             (subst (λ (l : List ℕ). In l root) lists_still (in_from (above_lists version above mid) root i));
         security_long = secure_long;
         security_lists = λ used i. let u = r.shares.used used in
-            list_no_security (look_up version old) root t [] root t n u.path u.key above.security r.parent u.reached u.uses
-            (subst (λ (l : List ℕ). In l above.security) lists_still (in_from (above_lists version above mid) above.security i));
+            list_no_security (look_up version old)
+            root t [] root t n u.path u.key above.security r.parent u.reached u.uses
+            (subst (λ (l : List ℕ). In l above.security) lists_still
+            (in_from (above_lists version above mid) above.security i));
         security_parent = λ used z. let u = r.shares.used used in
             node_no_security (look_up version old) root t [] root t n u.path u.key r.parent u.reached
             (subst (λ (w : ℕ). In (security_cell_at (look_up version old) u.key) w) z u.uses);
@@ -204,28 +229,38 @@ module _ (version : HiveVersion) (old mid : List Bin) (root : ℕ) (t : Tree) (n
   key_name : name_in (look_up version mid) at ≡ (head k).name
   key_name =
       let m = node_read (look_up version mid) at k is_formed.well.stands in
-      name_read (look_up version mid) at m.0 m.1 ∙ sym (node_name_read (look_up version mid) at m.0 m.1) ∙ tree_name (look_up version mid) at k is_formed.well.stands
+      name_read (look_up version mid) at m.0 m.1 ∙ sym (node_name_read (look_up version mid) at m.0 m.1)
+      ∙ tree_name (look_up version mid) at k is_formed.well.stands
 
   abbrev pub front : List ℕ
-  front = take (position_or_len (is_behind (look_up version mid) (name_in (look_up version mid) at)) (children_at (look_up version mid) above.list above.count)) (children_at (look_up version mid) above.list above.count)
+  front = take (position_or_len (is_behind (look_up version mid) (name_in (look_up version mid) at))
+      (children_at (look_up version mid) above.list above.count))
+      (children_at (look_up version mid) above.list above.count)
 
   abbrev pub back : List ℕ
-  back = drop (position_or_len (is_behind (look_up version mid) (name_in (look_up version mid) at)) (children_at (look_up version mid) above.list above.count)) (children_at (look_up version mid) above.list above.count)
+  back = drop (position_or_len (is_behind (look_up version mid) (name_in (look_up version mid) at))
+      (children_at (look_up version mid) above.list above.count))
+      (children_at (look_up version mid) above.list above.count)
 
   pub placed : HasPlace (look_up version old) (head k).name front back
   placed =
-      has_place (look_up version old) (head k).name (is_behind (look_up version mid) (name_in (look_up version mid) at)) (children_at (look_up version mid) above.list above.count) same
+      has_place (look_up version old) (head k).name (is_behind (look_up version mid) (name_in (look_up version mid) at))
+      (children_at (look_up version mid) above.list above.count) same
     where
-      name_same : (o : ℕ) → In (child_places (look_up version old) root) o → name_in (look_up version mid) o ≡ node_name (look_up version old) o
+      name_same : (o : ℕ) → In (child_places (look_up version old) root) o
+          → name_in (look_up version mid) o ≡ node_name (look_up version old) o
       name_same o i =
-          let s = ((sound_hive (look_up version old) root t r.parent.well).all.each [] root r.parent.reached).child o i in
+          let s = ((sound_hive (look_up version old) root t r.parent.well).all.each [] root r.parent.reached).child o
+          i in
           let read = plain_node false (look_up version old) o s.node s.read in
           let q = then_so ((look_up version old).payload o) key_node_at s.node read in
-          name_read (look_up version mid) o s.node (ap (λ (z : Result (List ℕ) HiveKind). z >>= key_node_at) (there.kept.held o q.0 q.1) ∙ q.2)
+          name_read (look_up version mid) o s.node
+          (ap (λ (z : Result (List ℕ) HiveKind). z >>= key_node_at) (there.kept.held o q.0 q.1) ∙ q.2)
           ∙ sym (node_name_read (look_up version old) o s.node read)
 
       same : (o : ℕ) → In (children_at (look_up version mid) above.list above.count) o
-          → is_behind (look_up version mid) (name_in (look_up version mid) at) o ≡ is_gt (folded_order (node_name (look_up version old) o) (head k).name)
+          → is_behind (look_up version mid) (name_in (look_up version mid) at) o
+          ≡ is_gt (folded_order (node_name (look_up version old) o) (head k).name)
       same o i =
           let j = subst (λ (l : List ℕ). In l o) children_still i in
           λ v. is_gt (folded_order (name_same o j v) (key_name v))
@@ -238,11 +273,15 @@ count_small : (keys uses : ℕ) → counted_more keys uses < 2 ^ 32
 count_small keys uses = omega arith
 
 -- the changes of the bins, as those of cells
-pub grafts : (version : HiveVersion) (old new : List Bin) (root : ℕ) (t : Tree) (n : KeyNode) (above : Above) (shared : List ℕ) (k : Tree) (at : ℕ)
-    → (r : Ready version old root t n above shared k at) → (holds : HoldsKeys k) → (a : IsGrafted version root above shared k at old new)
-    → Grafts (look_up version old) (look_up version a.mid) (look_up version a.linked.listed) (look_up version new) root t n k at (size version shared k)
+pub grafts : (version : HiveVersion) (old new : List Bin) (root : ℕ) (t : Tree) (n : KeyNode) (above : Above)
+    (shared : List ℕ) (k : Tree) (at : ℕ)
+    → (r : Ready version old root t n above shared k at) → (holds : HoldsKeys k)
+    → (a : IsGrafted version root above shared k at old new)
+    → Grafts (look_up version old) (look_up version a.mid) (look_up version a.linked.listed) (look_up version new)
+    root t n k at (size version shared k)
     above.security a.linked.list shared
-    (front version old a.mid root t n above shared k at r a.numbers holds a.put) (back version old a.mid root t n above shared k at r a.numbers holds a.put)
+    (front version old a.mid root t n above shared k at r a.numbers holds a.put)
+    (back version old a.mid root t n above shared k at r a.numbers holds a.put)
 grafts version old new root t n above shared k at r holds a =
     let b = look_up version old in
     let m = look_up version a.mid in
@@ -257,23 +296,30 @@ grafts version old new root t n above shared k at r holds a =
       low = r.low;
       kept_m = keeps version old a.mid root t n above shared k at r a.numbers holds a.put;
       version = refl;
-      fresh = λ o q low high e. (there version old a.mid root t n above shared k at r a.numbers holds a.put).fresh o q low high e;
+      fresh = λ o q low high e.
+          (there version old a.mid root t n above shared k at r a.numbers holds a.put).fresh o q low high e;
       gone = above_lists version above a.mid;
       gone_is = λ o i. subst (λ (l : List ℕ). In l o) still (in_from (above_lists version above a.mid) o i);
       kept_l = λ o q e ng. held_payload a.linked.listed o q (a.linked.lists.kept o q (payload_held a.mid o q e) ng);
       lists = a.linked.lists.lists;
       unheld = λ o i q e. no_some (held_at a.mid o) q
-          (a.linked.lists.fresh o (contains_from (used_in (entries_checks (look_up version a.linked.listed) a.linked.list)) o i)) (payload_held a.mid o q e);
+          (a.linked.lists.fresh o (contains_from
+          (used_in (entries_checks (look_up version a.linked.listed) a.linked.list)) o i))
+          (payload_held a.mid o q e);
       once = pairwise_from (λ u v. u ≡ v → ⊥) (used_in (entries_checks (look_up version a.linked.listed) a.linked.list))
-          (subst AreApart (one_list (look_up version a.linked.listed) a.linked.list) (lists_apart (look_up version a.linked.listed) a.linked.list 1 a.linked.lists.once));
+          (subst AreApart (one_list (look_up version a.linked.listed) a.linked.list)
+          (lists_apart (look_up version a.linked.listed) a.linked.list 1 a.linked.lists.once));
       small = a.linked.small;
       few = omega (arith, few, count);
       volatile = above.volatile;
       kept_c = λ o q e nx ns. held_payload new o q
-          (a.linked.counted.others o (λ used z. ns used z) ∙ a.linked.fields.others o nx ∙ payload_held a.linked.listed o q e);
-      node_c = λ q e. held_payload new root (patched 20 (child_fields (n.child_count + 1) above.volatile a.linked.list) q)
+          (a.linked.counted.others o (λ used z. ns used z) ∙ a.linked.fields.others o nx
+          ∙ payload_held a.linked.listed o q e);
+      node_c = λ q e. held_payload new root
+          (patched 20 (child_fields (n.child_count + 1) above.volatile a.linked.list) q)
           (a.linked.counted.others root (λ used z. let u = r.shares.used used in
-          node_no_security b root t [] root t n u.path u.key r.parent u.reached (subst (In (security_cell_at b u.key)) (sym z) u.uses))
+          node_no_security b root t [] root t n u.path u.key r.parent u.reached
+          (subst (In (security_cell_at b u.key)) (sym z) u.uses))
           ∙ a.linked.fields.here q (payload_held a.linked.listed root q e)
           ∙ ap (λ (z : ℕ). some (patched 20 (child_fields (z + 1) above.volatile a.linked.list) q)) count);
       secure_c = λ q used e. (
@@ -282,11 +328,13 @@ grafts version old new root t n above shared k at r holds a =
         held_payload new above.security (patched 12 (to_le_bytes w32 (counted_more (sharing shared k) (u32_in q 12))) q)
             (a.linked.counted.here q used
             (a.linked.fields.others above.security (λ z. let u = r.shares.used used in
-            node_no_security b root t [] root t n u.path u.key r.parent u.reached (subst (In (security_cell_at b u.key)) z u.uses))
+            node_no_security b root t [] root t n u.path u.key r.parent u.reached
+            (subst (In (security_cell_at b u.key)) z u.uses))
             ∙ payload_held a.linked.listed above.security q e)),
       );
       places = sym (children_still version old a.mid root t n above shared k at r a.numbers holds a.put)
           ∙ sym (take-append-drop (position_or_len (is_behind m (name_in m at)) offs) offs);
       count_is = sym count ∙ sym (siblings_count version old a.mid root t n above shared k at r a.numbers holds a.put)
-          ∙ ap (λ (l : List ℕ). length l) (sym (take-append-drop (position_or_len (is_behind m (name_in m at)) offs) offs));
+          ∙ ap (λ (l : List ℕ). length l)
+          (sym (take-append-drop (position_or_len (is_behind m (name_in m at)) offs) offs));
     }

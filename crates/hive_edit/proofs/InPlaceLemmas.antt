@@ -45,24 +45,30 @@ pub record IsPatchedAt (b c : Cells) (at place : ℕ) (part : List ℕ) : Type 0
   pub here : (p : List ℕ) → b.payload at ≡ Ok p → c.payload at ≡ Ok (patched place part p)
   pub others : (o : ℕ) (q : List ℕ) → (o ≡ at → ⊥) → b.payload o ≡ Ok q → c.payload o ≡ Ok q
 
-pub patched_at : (version : HiveVersion) (old new : List Bin) (at place : ℕ) (part : List ℕ) → held_at new at ≡ option_map (patched place part) (held_at old at)
-    → ((o : ℕ) → (o ≡ at → ⊥) → held_at new o ≡ held_at old o) → IsPatchedAt (look_up version old) (look_up version new) at place part
+pub patched_at : (version : HiveVersion) (old new : List Bin) (at place : ℕ) (part : List ℕ)
+    → held_at new at ≡ option_map (patched place part) (held_at old at)
+    → ((o : ℕ) → (o ≡ at → ⊥) → held_at new o ≡ held_at old o)
+    → IsPatchedAt (look_up version old) (look_up version new) at place part
 patched_at version old new at place part here others = record {
   version = refl;
-  here = λ p e. held_payload new at (patched place part p) (here ∙ ap (option_map (patched place part)) (payload_held old at p e));
+  here = λ p e. held_payload new at (patched place part p)
+      (here ∙ ap (option_map (patched place part)) (payload_held old at p e));
   others = λ o q apart e. payload_kept old new o q (others o apart) e;
 }
 
 -- ---- forms read again
 
-read_payload : {F : Type 0} (form : List ℕ → Result F HiveKind) (cells : Cells) (at : ℕ) (x : F) → reading form cells at ≡ done x → (p : List ℕ) × (cells.payload at ≡ done p) × (form p ≡ done x)
+read_payload : {F : Type 0} (form : List ℕ → Result F HiveKind) (cells : Cells) (at : ℕ) (x : F)
+    → reading form cells at ≡ done x → (p : List ℕ) × (cells.payload at ≡ done p) × (form p ≡ done x)
 read_payload form cells at x r = then_so (cells.payload at) form x r
 
-reads_so : {F : Type 0} (form : List ℕ → Result F HiveKind) (cells : Cells) (at : ℕ) (p : List ℕ) (x : F) → cells.payload at ≡ done p → form p ≡ done x → reading form cells at ≡ done x
+reads_so : {F : Type 0} (form : List ℕ → Result F HiveKind) (cells : Cells) (at : ℕ) (p : List ℕ) (x : F)
+    → cells.payload at ≡ done p → form p ≡ done x → reading form cells at ≡ done x
 reads_so form cells at p x e f = ap (λ (r : Result (List ℕ) HiveKind). r >>= form) e ∙ f
 
 -- a form elsewhere is read as before
-read_still : {F : Type 0} (form : List ℕ → Result F HiveKind) (b c : Cells) (at place : ℕ) (part : List ℕ) (o : ℕ) (x : F) → IsPatchedAt b c at place part → (o ≡ at → ⊥)
+read_still : {F : Type 0} (form : List ℕ → Result F HiveKind) (b c : Cells) (at place : ℕ) (part : List ℕ) (o : ℕ)
+    (x : F) → IsPatchedAt b c at place part → (o ≡ at → ⊥)
     → reading form b o ≡ done x → reading form c o ≡ done x
 read_still form b c at place part o x h apart r =
     let p = read_payload form b o x r in
@@ -81,25 +87,31 @@ at_most a b c d f g h k (suc (suc (suc zero))) = k
 at_most a b c d f g h k (suc (suc (suc (suc i)))) = zero_small
 
 -- up to four bytes again, of the number that they are
-own_again : (bytes : List ℕ) → length bytes ≤ 4 → ((i : ℕ) → get_or bytes i 0 < 256) → take (length bytes) (to_le_bytes w32 (from_le_bytes w32 bytes)) ≡ bytes
+own_again : (bytes : List ℕ) → length bytes ≤ 4 → ((i : ℕ) → get_or bytes i 0 < 256)
+    → take (length bytes) (to_le_bytes w32 (from_le_bytes w32 bytes)) ≡ bytes
 own_again [] h small = refl
 own_again (a ∷ []) h small =
-    let four = le_bytes_4 (a ∷ 0 ∷ 0 ∷ 0 ∷ []) (from_le_bytes w32 (a ∷ [])) refl (at_most a 0 0 0 (small 0) zero_small zero_small zero_small) refl in
+    let four = le_bytes_4 (a ∷ 0 ∷ 0 ∷ 0 ∷ []) (from_le_bytes w32 (a ∷ [])) refl
+    (at_most a 0 0 0 (small 0) zero_small zero_small zero_small) refl in
     ap (take 1) four
 own_again (a ∷ b ∷ []) h small =
-    let four = le_bytes_4 (a ∷ b ∷ 0 ∷ 0 ∷ []) (from_le_bytes w32 (a ∷ b ∷ [])) refl (at_most a b 0 0 (small 0) (small 1) zero_small zero_small) refl in
+    let four = le_bytes_4 (a ∷ b ∷ 0 ∷ 0 ∷ []) (from_le_bytes w32 (a ∷ b ∷ [])) refl
+    (at_most a b 0 0 (small 0) (small 1) zero_small zero_small) refl in
     ap (take 2) four
 own_again (a ∷ b ∷ c ∷ []) h small =
-    let four = le_bytes_4 (a ∷ b ∷ c ∷ 0 ∷ []) (from_le_bytes w32 (a ∷ b ∷ c ∷ [])) refl (at_most a b c 0 (small 0) (small 1) (small 2) zero_small) refl in
+    let four = le_bytes_4 (a ∷ b ∷ c ∷ 0 ∷ []) (from_le_bytes w32 (a ∷ b ∷ c ∷ [])) refl
+    (at_most a b c 0 (small 0) (small 1) (small 2) zero_small) refl in
     ap (take 3) four
 own_again (a ∷ b ∷ c ∷ d ∷ []) h small =
-    let four = le_bytes_4 (a ∷ b ∷ c ∷ d ∷ []) (from_le_bytes w32 (a ∷ b ∷ c ∷ d ∷ [])) refl (at_most a b c d (small 0) (small 1) (small 2) (small 3)) refl in
+    let four = le_bytes_4 (a ∷ b ∷ c ∷ d ∷ []) (from_le_bytes w32 (a ∷ b ∷ c ∷ d ∷ [])) refl
+    (at_most a b c d (small 0) (small 1) (small 2) (small 3)) refl in
     ap (take 4) four
 own_again (a ∷ b ∷ c ∷ d ∷ e ∷ rest) h small = absurd (omega arith)
 
 -- a value that holds these bytes itself
 abbrev pub inside_value : KeyValue → ℕ → List ℕ → KeyValue
-inside_value value kind bytes = record value { size = 2147483648 + length bytes; offset = from_le_bytes w32 bytes; kind = kind }
+inside_value value kind bytes =
+    record value { size = 2147483648 + length bytes; offset = from_le_bytes w32 bytes; kind = kind }
 
 pub inside_size : (n : ℕ) → n ≤ 4 → (is_in_place (2147483648 + n) ≡ true) × (is_overfull (2147483648 + n) ≡ false)
 inside_size zero h = (refl, refl)
@@ -109,18 +121,25 @@ inside_size (suc (suc (suc zero))) h = (refl, refl)
 inside_size (suc (suc (suc (suc zero)))) h = (refl, refl)
 inside_size (suc (suc (suc (suc (suc n))))) h = absurd (omega arith)
 
-pub inside_again : (value : KeyValue) (kind : ℕ) (bytes : List ℕ) → length bytes ≤ 4 → ((i : ℕ) → get_or bytes i 0 < 256)
+pub inside_again : (value : KeyValue) (kind : ℕ) (bytes : List ℕ) → length bytes ≤ 4
+    → ((i : ℕ) → get_or bytes i 0 < 256)
     → data_inside (inside_value value kind bytes) ≡ some bytes
 inside_again value kind bytes short small =
     let n : 2147483648 + length bytes - 2147483648 ≡ length bytes = omega arith in
-    ap (λ (b : Bool). cond b (some (take (2147483648 + length bytes - 2147483648) (to_le_bytes w32 (from_le_bytes w32 bytes)))) (cond (2147483648 + length bytes == 0) (Some []) None))
+    ap (λ (b : Bool). cond b (some
+    (take (2147483648 + length bytes - 2147483648) (to_le_bytes w32 (from_le_bytes w32 bytes))))
+    (cond (2147483648 + length bytes == 0) (Some []) None))
     (inside_size (length bytes) short).0
-    ∙ ap (λ (m : ℕ). some (take m (to_le_bytes w32 (from_le_bytes w32 bytes)))) n ∙ ap some (own_again bytes short small)
+    ∙ ap (λ (m : ℕ). some (take m (to_le_bytes w32 (from_le_bytes w32 bytes)))) n
+    ∙ ap some (own_again bytes short small)
 
-pub inside_data : (cells : Cells) (value : KeyValue) (bytes : List ℕ) → data_inside value ≡ some bytes → data_of cells value ≡ done bytes
+pub inside_data : (cells : Cells) (value : KeyValue) (bytes : List ℕ) → data_inside value ≡ some bytes
+    → data_of cells value ≡ done bytes
 unfolding data_of
 inside_data cells value bytes e =
-    ap (λ (o : Option (List ℕ)). data_or o (cond (is_big cells.version value.size) (big_bytes_at cells value.size value.offset) (reading (bytes_in value.size) cells value.offset))) e
+    ap (λ (o : Option (List ℕ)). data_or o
+    (cond (is_big cells.version value.size) (big_bytes_at cells value.size value.offset)
+    (reading (bytes_in value.size) cells value.offset))) e
 
 -- ---- the values of the key
 
@@ -135,7 +154,8 @@ pub found_among : (test : ℕ → Bool) (xs : List ℕ) (x : ℕ) → find test 
 found_among test [] x e = absurd cc
 found_among test (y ∷ ys) x e = go (test y) refl e (λ d. found_among test ys x d)
   where
-    go : (b : Bool) → test y ≡ b → cond b (Some y) (find test ys) ≡ some x → (find test ys ≡ some x → FoundAmong test ys x) → FoundAmong test (y ∷ ys) x
+    go : (b : Bool) → test y ≡ b → cond b (Some y) (find test ys) ≡ some x
+        → (find test ys ≡ some x → FoundAmong test ys x) → FoundAmong test (y ∷ ys) x
     go true is e deep =
         let same : y ≡ x = some_same y x e in
         record { front = []; back = ys; whole = ap (λ (z : ℕ). z ∷ ys) same; passes = ap test (sym same) ∙ is }
@@ -152,26 +172,35 @@ pub value_first : (cells : Cells) (v : ℕ) → In (used_in (value_checks cells 
 unfolding value_checks
 value_first cells v = inl refl
 
-value_only : (cells : Cells) (v : ℕ) (value : KeyValue) → reading key_value_at cells v ≡ done value → is_some (data_inside value) ≡ true → used_in (value_checks cells [] v) ≡ v ∷ []
+value_only : (cells : Cells) (v : ℕ) (value : KeyValue) → reading key_value_at cells v ≡ done value
+    → is_some (data_inside value) ≡ true → used_in (value_checks cells [] v) ≡ v ∷ []
 unfolding value_checks data_checks
 value_only cells v value r s =
-    ap (λ (q : Result KeyValue HiveKind). v ∷ used_in (below_of q (λ u. name_check [] v u.name ∷ data_checks cells u))) r
-    ∙ ap (λ (b : Bool). v ∷ used_in (cond b [] (cond (is_big cells.version value.size) (big_checks cells value.size value.offset) (use_as false (bytes_in value.size) cells value.offset)))) s
+    ap (λ (q : Result KeyValue HiveKind). v ∷ used_in (below_of q (λ u. name_check [] v u.name ∷ data_checks cells u)))
+    r
+    ∙ ap (λ (b : Bool). v ∷ used_in
+    (cond b [] (cond (is_big cells.version value.size) (big_checks cells value.size value.offset)
+    (use_as false (bytes_in value.size) cells value.offset)))) s
 
 only_one : (y o : ℕ) → In (y ∷ []) o → y ≡ o
 only_one y o (inl e) = e
 only_one y o (inr h) = absurd h
 
 -- a list of values is where the node says
-list_at_node : (cells : Cells) (x : ℕ) (node : KeyNode) → reading key_node_at cells x ≡ done node → value_list_at cells x ≡ cond (eqb node.value_count 0) [] (node.value_list ∷ [])
+list_at_node : (cells : Cells) (x : ℕ) (node : KeyNode) → reading key_node_at cells x ≡ done node
+    → value_list_at cells x ≡ cond (eqb node.value_count 0) [] (node.value_list ∷ [])
 unfolding value_list_at
-list_at_node cells x node r = ap (λ (q : Result KeyNode HiveKind). of_read q (λ n. cond (eqb n.value_count 0) [] (n.value_list ∷ []))) r
+list_at_node cells x node r =
+    ap (λ (q : Result KeyNode HiveKind). of_read q (λ n. cond (eqb n.value_count 0) [] (n.value_list ∷ []))) r
 
 places_at_node : (cells : Cells) (x : ℕ) (node : KeyNode) → reading key_node_at cells x ≡ done node
-    → value_places cells x ≡ cond (eqb node.value_count 0) [] (of_read (reading (offsets_in node.value_count) cells node.value_list) (λ os. os))
+    → value_places cells x ≡ cond (eqb node.value_count 0) []
+    (of_read (reading (offsets_in node.value_count) cells node.value_list) (λ os. os))
 unfolding value_places
 places_at_node cells x node r =
-    ap (λ (q : Result KeyNode HiveKind). of_read q (λ n. cond (eqb n.value_count 0) [] (of_read (reading (offsets_in n.value_count) cells n.value_list) (λ os. os)))) r
+    ap (λ (q : Result KeyNode HiveKind). of_read q
+    (λ n. cond (eqb n.value_count 0) []
+    (of_read (reading (offsets_in n.value_count) cells n.value_list) (λ os. os)))) r
 
 no_cons : (xs : List ℕ) (x : ℕ) (ys : List ℕ) → xs ++ (x ∷ ys) ≡ [] → ⊥
 no_cons [] x ys e = absurd cc
@@ -183,7 +212,8 @@ pub record ListedValues (b : Cells) (x : ℕ) (node : KeyNode) (front back : Lis
   pub list : value_list_at b x ≡ node.value_list ∷ []
   pub offsets : reading (offsets_in node.value_count) b node.value_list ≡ done (front ++ (v ∷ back))
 
-pub listed_values : (b : Cells) (x : ℕ) (node : KeyNode) (front back : List ℕ) (v : ℕ) → reading key_node_at b x ≡ done node → value_places b x ≡ front ++ (v ∷ back)
+pub listed_values : (b : Cells) (x : ℕ) (node : KeyNode) (front back : List ℕ) (v : ℕ)
+    → reading key_node_at b x ≡ done node → value_places b x ≡ front ++ (v ∷ back)
     → ListedValues b x node front back v
 listed_values b x node front back v r e = go (eqb node.value_count 0) refl
   where
@@ -194,12 +224,15 @@ listed_values b x node front back v r e = go (eqb node.value_count 0) refl
     go : (t : Bool) → eqb node.value_count 0 ≡ t → ListedValues b x node front back v
     go true is =
         absurd (no_cons front v back (sym e ∙ places_at_node b x node r
-        ∙ ap (λ (t : Bool). cond t [] (of_read (reading (offsets_in node.value_count) b node.value_list) (λ os. os))) is))
+        ∙ ap (λ (t : Bool). cond t [] (of_read (reading (offsets_in node.value_count) b node.value_list) (λ os. os)))
+        is))
     go false is = record {
       some_values = is;
       list = list_at_node b x node r ∙ ap (λ (t : Bool). cond t [] (node.value_list ∷ [])) is;
       offsets = read (reading (offsets_in node.value_count) b node.value_list)
-          (sym (ap (λ (t : Bool). cond t [] (of_read (reading (offsets_in node.value_count) b node.value_list) (λ os. os))) is) ∙ sym (places_at_node b x node r) ∙ e);
+          (sym (ap (λ (t : Bool). cond t []
+          (of_read (reading (offsets_in node.value_count) b node.value_list) (λ os. os))) is)
+          ∙ sym (places_at_node b x node r) ∙ e);
     }
 
 in_places : (front back : List ℕ) (v : ℕ) → In (front ++ (v ∷ back)) v
@@ -213,17 +246,21 @@ record ValueApart (b : Cells) (x v : ℕ) (node : KeyNode) : Type 0 where
   node_apart : x ≡ v → ⊥
   list_apart : node.value_list ≡ v → ⊥
 
-value_apart : (b : Cells) (root : ℕ) (t : Tree) (p : List (List ℕ)) (x v : ℕ) (node : KeyNode) (front back : List ℕ) → IsWellFormed b root t → Reaches b root p x
+value_apart : (b : Cells) (root : ℕ) (t : Tree) (p : List (List ℕ)) (x v : ℕ) (node : KeyNode) (front back : List ℕ)
+    → IsWellFormed b root t → Reaches b root p x
     → value_places b x ≡ front ++ (v ∷ back) → ListedValues b x node front back v → ValueApart b x v node
 value_apart b root t p x v node front back well reaches places l =
     let apart = values_apart b root t p x well reaches in
     let among : In (cells_of_values b (owned_places b x)) v =
     subst (λ (os : List ℕ). In (cells_of_values b os) v) (sym (places_same b x ∙ places))
-    (in_flat_from (λ u. used_in (value_checks b [] u)) (front ++ (v ∷ back)) v v (in_places front back v) (value_first b v)) in
+    (in_flat_from (λ u. used_in (value_checks b [] u)) (front ++ (v ∷ back)) v v (in_places front back v)
+    (value_first b v)) in
     let parts = pairwise_parts Apart (value_list_at b x) (cells_of_values b (owned_places b x)) apart.once in
     record {
-      node_apart = λ e. apart.node v (in_right (value_list_at b x) (cells_of_values b (owned_places b x)) v among) (sym e);
-      list_apart = λ e. parts.across node.value_list v (subst (λ (os : List ℕ). In os node.value_list) (sym l.list) (inl refl)) among e;
+      node_apart = λ e. apart.node v (in_right (value_list_at b x) (cells_of_values b (owned_places b x)) v among)
+          (sym e);
+      list_apart = λ e. parts.across node.value_list v
+          (subst (λ (os : List ℕ). In os node.value_list) (sym l.list) (inl refl)) among e;
     }
 
 -- ---- the value after the patch
@@ -238,7 +275,8 @@ pub record IsRewritten (b c : Cells) (v kind : ℕ) (bytes : List ℕ) : Type 0 
 abbrev pub fields_for : ℕ → List ℕ → List ℕ
 fields_for kind bytes = value_fields (2147483648 + length bytes) (from_le_bytes w32 bytes) kind
 
-pub rewritten : (b c : Cells) (v kind : ℕ) (bytes : List ℕ) (value : KeyValue) → IsPatchedAt b c v 4 (fields_for kind bytes) → reading key_value_at b v ≡ done value
+pub rewritten : (b c : Cells) (v kind : ℕ) (bytes : List ℕ) (value : KeyValue)
+    → IsPatchedAt b c v 4 (fields_for kind bytes) → reading key_value_at b v ≡ done value
     → length bytes ≤ 4 → ((i : ℕ) → get_or bytes i 0 < 256) → kind < 2 ^ 32 → IsRewritten b c v kind bytes
 rewritten b c v kind bytes value h r short small k =
     let p = read_payload key_value_at b v value r in
@@ -246,59 +284,92 @@ rewritten b c v kind bytes value h r short small k =
     record {
       value = value;
       read = r;
-      read_new = reads_so key_value_at c v (patched 4 (fields_for kind bytes) p.0) (inside_value value kind bytes) (h.here p.0 p.1)
-          (value_written p.0 value (2147483648 + length bytes) (from_le_bytes w32 bytes) kind p.2 (omega arith) number k (inside_size (length bytes) short).1);
+      read_new = reads_so key_value_at c v (patched 4 (fields_for kind bytes) p.0) (inside_value value kind bytes)
+          (h.here p.0 p.1)
+          (value_written p.0 value (2147483648 + length bytes) (from_le_bytes w32 bytes) kind p.2 (omega arith) number k
+          (inside_size (length bytes) short).1);
       inside = inside_again value kind bytes short small;
     }
 
-name_there : (cells : Cells) (v : ℕ) (value : KeyValue) → reading key_value_at cells v ≡ done value → value_name cells v ≡ value.name
-name_there cells v value r = ap (λ (q : Result KeyValue HiveKind). first_or_empty (names_of (λ (n : KeyValue). n.name) q)) r
+name_there : (cells : Cells) (v : ℕ) (value : KeyValue) → reading key_value_at cells v ≡ done value
+    → value_name cells v ≡ value.name
+name_there cells v value r =
+    ap (λ (q : Result KeyValue HiveKind). first_or_empty (names_of (λ (n : KeyValue). n.name) q)) r
 
-item_there : (c : Cells) (v kind : ℕ) (bytes : List ℕ) (value : KeyValue) → reading key_value_at c v ≡ done (inside_value value kind bytes) → data_inside (inside_value value kind bytes) ≡ some bytes
+item_there : (c : Cells) (v kind : ℕ) (bytes : List ℕ) (value : KeyValue)
+    → reading key_value_at c v ≡ done (inside_value value kind bytes)
+    → data_inside (inside_value value kind bytes) ≡ some bytes
     → item_at c v ≡ done (record { name = value.name; kind = kind; bytes = bytes })
 unfolding item_at
 item_there c v kind bytes value r i =
-    ap (λ (q : Result KeyValue HiveKind). q >>= λ u. data_of c u >>= λ d. Ok (record { name = u.name; kind = u.kind; bytes = d })) r
-    ∙ ap (λ (q : Result (List ℕ) HiveKind). q >>= λ d. Ok (record { name = value.name; kind = kind; bytes = d })) (inside_data c (inside_value value kind bytes) bytes i)
+    ap (λ (q : Result KeyValue HiveKind). q >>= λ u. data_of c u >>= λ d. Ok
+    (record { name = u.name; kind = u.kind; bytes = d })) r
+    ∙ ap (λ (q : Result (List ℕ) HiveKind). q >>= λ d. Ok (record { name = value.name; kind = kind; bytes = d }))
+    (inside_data c (inside_value value kind bytes) bytes i)
 
 -- a value that was rewritten is one that its key got in place of itself
-pub changes_value : (b c : Cells) (root : ℕ) (t : Tree) (p : List (List ℕ)) (x v kind : ℕ) (bytes front back : List ℕ) (node : KeyNode) → IsWellFormed b root t → Reaches b root p x
-    → reading key_node_at b x ≡ done node → value_places b x ≡ front ++ (v ∷ back) → IsPatchedAt b c v 4 (fields_for kind bytes) → IsRewritten b c v kind bytes
-    → ChangesValues b c x front (v ∷ []) (v ∷ []) back (record { name = value_name b v; kind = kind; bytes = bytes } ∷ [])
+pub changes_value : (b c : Cells) (root : ℕ) (t : Tree) (p : List (List ℕ)) (x v kind : ℕ) (bytes front back : List ℕ)
+    (node : KeyNode) → IsWellFormed b root t → Reaches b root p x
+    → reading key_node_at b x ≡ done node → value_places b x ≡ front ++ (v ∷ back)
+    → IsPatchedAt b c v 4 (fields_for kind bytes) → IsRewritten b c v kind bytes
+    → ChangesValues b c x front (v ∷ []) (v ∷ []) back
+    (record { name = value_name b v; kind = kind; bytes = bytes } ∷ [])
 changes_value b c root t p x v kind bytes front back node well reaches r places h w =
     let l = listed_values b x node front back v r places in
     let a = value_apart b root t p x v node front back well reaches places l in
     let read_new = read_still key_node_at b c v 4 (fields_for kind bytes) x node h a.node_apart r in
-    let offsets = read_still (offsets_in node.value_count) b c v 4 (fields_for kind bytes) node.value_list (front ++ (v ∷ back)) h a.list_apart l.offsets in
-    let list_new : value_list_at c x ≡ node.value_list ∷ [] = list_at_node c x node read_new ∙ ap (λ (q : Bool). cond q [] (node.value_list ∷ [])) l.some_values in
+    let offsets = read_still (offsets_in node.value_count) b c v 4 (fields_for kind bytes) node.value_list
+    (front ++ (v ∷ back)) h a.list_apart l.offsets in
+    let list_new : value_list_at c x ≡ node.value_list ∷ [] =
+    list_at_node c x node read_new ∙ ap (λ (q : Bool). cond q [] (node.value_list ∷ [])) l.some_values in
     let item = item_there c v kind bytes w.value w.read_new w.inside in
     let named : items_at c (v ∷ []) ≡ done (record { name = value_name b v; kind = kind; bytes = bytes } ∷ []) =
     ap (λ (q : Result Item HiveKind). q >>= λ i. Ok (i ∷ [])) item
-    ∙ ap (λ (n : List ℕ). done (record { name = n; kind = kind; bytes = bytes } ∷ [])) (sym (name_there b v w.value w.read)) in
-    let own : cells_of_values c (v ∷ []) ≡ v ∷ [] = ap (λ (os : List ℕ). os ++ []) (value_only c v (inside_value w.value kind bytes) w.read_new (ap is_some w.inside)) in
-    let alone : (o : ℕ) → In (cells_of_values c (v ∷ [])) o → v ≡ o = λ o i. only_one v o (subst (λ (os : List ℕ). In os o) own i) in
+    ∙ ap (λ (n : List ℕ). done (record { name = n; kind = kind; bytes = bytes } ∷ []))
+    (sym (name_there b v w.value w.read)) in
+    let own : cells_of_values c (v ∷ []) ≡ v ∷ [] =
+    ap (λ (os : List ℕ). os ++ [])
+    (value_only c v (inside_value w.value kind bytes) w.read_new (ap is_some w.inside)) in
+    let alone : (o : ℕ) → In (cells_of_values c (v ∷ [])) o → v ≡ o =
+    λ o i. only_one v o (subst (λ (os : List ℕ). In os o) own i) in
     record {
       version = h.version;
       old = node;
       new = node;
       read = r;
       read_new = read_new;
-      same = record { name = refl; flags = refl; stamp = refl; child_count = refl; child_list = refl; security = refl; class = refl; class_length = refl };
+      same = record {
+        name = refl;
+        flags = refl;
+        stamp = refl;
+        child_count = refl;
+        child_list = refl;
+        security = refl;
+        class = refl;
+        class_length = refl;
+      };
       listed = places_same b x ∙ places;
-      listed_new = subst (λ (q : Bool). MatchBool q (front ++ (v ∷ back) ≡ []) (reading (offsets_in node.value_count) c node.value_list ≡ Ok (front ++ (v ∷ back)))) (sym l.some_values) offsets;
+      listed_new = subst (λ (q : Bool). MatchBool q (front ++ (v ∷ back) ≡ [])
+          (reading (offsets_in node.value_count) c node.value_list ≡ Ok (front ++ (v ∷ back)))) (sym l.some_values)
+          offsets;
       items = named;
       others = λ o q e node_other list_other value_other.
-          h.others o q (λ z. value_other (in_left (used_in (value_checks b [] v)) [] o (subst (λ (y : ℕ). In (used_in (value_checks b [] v)) y) (sym z) (value_first b v)))) e;
+          h.others o q (λ z. value_other
+          (in_left (used_in (value_checks b [] v)) [] o
+          (subst (λ (y : ℕ). In (used_in (value_checks b [] v)) y) (sym z) (value_first b v)))) e;
       used = λ o i. ⊎_elim
-          (λ j. inl (in_left (value_list_at b x) (cells_of_values b (v ∷ [])) o (subst (λ (os : List ℕ). In os o) (list_new ∙ sym l.list) j)))
+          (λ j. inl (in_left (value_list_at b x) (cells_of_values b (v ∷ [])) o
+          (subst (λ (os : List ℕ). In os o) (list_new ∙ sym l.list) j)))
           (λ j. inl (in_right (value_list_at b x) (cells_of_values b (v ∷ [])) o
-          (in_left (used_in (value_checks b [] v)) [] o (subst (λ (y : ℕ). In (used_in (value_checks b [] v)) y) (alone o j) (value_first b v)))))
+          (in_left (used_in (value_checks b [] v)) [] o
+          (subst (λ (y : ℕ). In (used_in (value_checks b [] v)) y) (alone o j) (value_first b v)))))
           (in_cases (value_list_at c x) (cells_of_values c (v ∷ [])) o i);
       once = pairwise_join Apart (value_list_at c x) (cells_of_values c (v ∷ []))
           (record {
             left = subst (Pairwise Apart) (sym list_new) ((λ y i. absurd i), tt);
             right = subst (Pairwise Apart) (sym own) ((λ y i. absurd i), tt);
-            across = λ o q i j e. a.list_apart (only_one node.value_list o (subst (λ (os : List ℕ). In os o) list_new i) ∙ e ∙ sym (alone q j));
+            across = λ o q i j e. a.list_apart
+                (only_one node.value_list o (subst (λ (os : List ℕ). In os o) list_new i) ∙ e ∙ sym (alone q j));
           });
     }
 
@@ -309,13 +380,18 @@ or_false true = refl
 or_false false = refl
 
 -- a value that is found by a name has one that folds to it
-pub named_folds : (cells : Cells) (n : List ℕ) (u : ℕ) (f : KeyValue) → reading key_value_at cells u ≡ done f → is_value_named cells n u ≡ true → folds_same n f.name ≡ true
+pub named_folds : (cells : Cells) (n : List ℕ) (u : ℕ) (f : KeyValue) → reading key_value_at cells u ≡ done f
+    → is_value_named cells n u ≡ true → folds_same n f.name ≡ true
 named_folds cells n u f read passes =
-    sym (or_false (folds_same n f.name)) ∙ sym (ap (λ (q : Result KeyValue HiveKind). list_any (folds_same n) (names_of (λ (z : KeyValue). z.name) q)) read) ∙ passes
+    sym (or_false (folds_same n f.name))
+    ∙ sym (ap (λ (q : Result KeyValue HiveKind). list_any (folds_same n) (names_of (λ (z : KeyValue). z.name) q))
+    read) ∙ passes
 
 -- the cells stand for the tree with the value set
-pub set_stands : (b c : Cells) (root : ℕ) (t : Tree) (path : List (List ℕ)) (name : List ℕ) (key v kind : ℕ) (bytes : List ℕ) (value : KeyValue) → IsWellFormed b root t
-    → key_place b path root ≡ some key → value_place b name key ≡ some v → IsPatchedAt b c v 4 (fields_for kind bytes) → reading key_value_at b v ≡ done value
+pub set_stands : (b c : Cells) (root : ℕ) (t : Tree) (path : List (List ℕ)) (name : List ℕ) (key v kind : ℕ)
+    (bytes : List ℕ) (value : KeyValue) → IsWellFormed b root t
+    → key_place b path root ≡ some key → value_place b name key ≡ some v → IsPatchedAt b c v 4 (fields_for kind bytes)
+    → reading key_value_at b v ≡ done value
     → length bytes ≤ 4 → ((i : ℕ) → get_or bytes i 0 < 256) → kind < 2 ^ 32
     → IsWellFormed c root (at_key path (of_items (with_item name kind bytes)) t)
 set_stands b c root t path name key v kind bytes value well k e h r short small fits =
@@ -323,9 +399,12 @@ set_stands b c root t path name key v kind bytes value well k e h r short small 
     let placed = placed_at b path root key k in
     let among = found_among (is_value_named b name) (value_places b key) v e in
     let node = node_read b key there.there there.well.stands in
-    let g = changes_value b c root t placed.stored key v kind bytes among.front among.back node.0 well placed.reached node.1 among.whole h (rewritten b c v kind bytes value h r short small fits) in
-    set_there b c root t there.there path placed.stored key v among.front (v ∷ []) among.back name kind bytes well placed.folds placed.reached there.found there.well.stands
+    let g = changes_value b c root t placed.stored key v kind bytes among.front among.back node.0 well placed.reached
+    node.1 among.whole h (rewritten b c v kind bytes value h r short small fits) in
+    set_there b c root t there.there path placed.stored key v among.front (v ∷ [])
+    among.back name kind bytes well placed.folds placed.reached there.found there.well.stands
     (ap (folds_same name) (name_there b v value r) ∙ named_folds b name v value r among.passes) g
   where
-    node_read : (cells : Cells) (at : ℕ) (u : Tree) → Stands cells at u → (n : KeyNode) × (reading key_node_at cells at ≡ done n)
+    node_read : (cells : Cells) (at : ℕ) (u : Tree) → Stands cells at u
+        → (n : KeyNode) × (reading key_node_at cells at ≡ done n)
     node_read cells at (tree_key g ts) s = (s.1.node, s.1.read)

@@ -40,11 +40,13 @@ pub record ValueFacts (p : List ℕ) (value : KeyValue) : Type 0 where
   pub named : value_name_at (is_narrow_value (u16_in p 16)) (slice_range p 20 (20 + u16_in p 2)) ≡ done value.name
   pub name : stored_name (is_narrow_value (u16_in p 16)) (slice_range p 20 (20 + u16_in p 2)) ≡ value.name
 
-stored_is : (narrow : Bool) (bytes name : List ℕ) → value_name_at narrow bytes ≡ done name → stored_name narrow bytes ≡ name
+stored_is : (narrow : Bool) (bytes name : List ℕ) → value_name_at narrow bytes ≡ done name
+    → stored_name narrow bytes ≡ name
 unfolding value_name_at
 stored_is narrow bytes name e =
     let stored = stored_name narrow bytes in
-    let one = unless (has_half_unit narrow bytes) FormLength (cond (is_bad_value_name stored) (Err FormName) (Ok stored)) name e in
+    let one = unless (has_half_unit narrow bytes) FormLength
+    (cond (is_bad_value_name stored) (Err FormName) (Ok stored)) name e in
     let two = unless (is_bad_value_name stored) FormName (Ok stored) name one.1 in
     ok_same stored name two.1
 
@@ -76,7 +78,8 @@ value_facts p value e =
 pub value_long : (p : List ℕ) → IsOk (key_value_at p) → 20 + u16_in p 2 ≤ length p
 value_long p h = let v = value_of (key_value_at p) h in (value_facts p v.0 v.1).long
 
-pub value_name_is : (p : List ℕ) → IsOk (key_value_at p) → value_name_of p ≡ stored_name (is_narrow_value (u16_in p 16)) (slice_range p 20 (20 + u16_in p 2))
+pub value_name_is : (p : List ℕ) → IsOk (key_value_at p)
+    → value_name_of p ≡ stored_name (is_narrow_value (u16_in p 16)) (slice_range p 20 (20 + u16_in p 2))
 unfolding value_name_of
 value_name_is p h =
     let v = value_of (key_value_at p) h in
@@ -102,7 +105,8 @@ pub item_facts : (cells : Cells) (at : ℕ) → IsItemHere cells at → ItemFact
 unfolding item_at
 item_facts cells at h =
     let v = value_of (item_at cells at) h in
-    let r = then_so (reading key_value_at cells at) (λ value. data_of cells value >>= λ bytes. Ok (item_with value bytes)) v.0 v.1 in
+    let r = then_so (reading key_value_at cells at)
+    (λ value. data_of cells value >>= λ bytes. Ok (item_with value bytes)) v.0 v.1 in
     let b = then_so (data_of cells r.0) (λ bytes. Ok (item_with r.0 bytes)) v.0 r.2 in
     let same : item_with r.0 b.0 ≡ v.0 = ok_same (item_with r.0 b.0) v.0 b.2 in
     let here = in_payload key_value_at cells at r.0 r.1 in
@@ -117,8 +121,10 @@ item_facts cells at h =
       kind = ap (λ (i : Item). i.kind) (sym same);
     }
 
-pub value_is_there : (cells : Cells) (at : ℕ) (p : List ℕ) → IsItemHere cells at → p ≡ payload_in cells at → IsOk (key_value_at p)
-value_is_there cells at p h e = let f = item_facts cells at h in is_ok_of (key_value_at p) f.value (ap key_value_at e ∙ f.here)
+pub value_is_there : (cells : Cells) (at : ℕ) (p : List ℕ) → IsItemHere cells at → p ≡ payload_in cells at
+    → IsOk (key_value_at p)
+value_is_there cells at p h e = let f = item_facts cells at h in
+    is_ok_of (key_value_at p) f.value (ap key_value_at e ∙ f.here)
 
 or_false : (b : Bool) → (b || false) ≡ b
 or_false true = refl
@@ -132,7 +138,8 @@ named_here cells name at p h e =
     let f = item_facts cells at h in
     ap (λ (r : Result KeyValue HiveKind). list_any (folds_same name) (names_of (λ value. value.name) r)) f.read
     ∙ or_false (folds_same name f.value.name)
-    ∙ sym (ap (λ (r : Result KeyValue HiveKind). folds_same name (of_read r (λ value. value.name))) (ap key_value_at e ∙ f.here))
+    ∙ sym (ap (λ (r : Result KeyValue HiveKind). folds_same name (of_read r (λ value. value.name)))
+    (ap key_value_at e ∙ f.here))
 
 -- ---- data of four bytes
 
@@ -145,7 +152,8 @@ bytes_there n p bytes e =
     let t = unless (nat_lt (length p) n) FormShort (Ok (take n p)) bytes e in
     (ltb-false (length p) n t.0, ok_same (take n p) bytes t.1)
 
-pub bytes_long : (cells : Cells) (n at : ℕ) (bytes : List ℕ) → reading (bytes_in n) cells at ≡ done bytes → length bytes ≡ n
+pub bytes_long : (cells : Cells) (n at : ℕ) (bytes : List ℕ) → reading (bytes_in n) cells at ≡ done bytes
+    → length bytes ≡ n
 bytes_long cells n at bytes e =
     let b = bytes_there n (payload_in cells at) bytes (in_payload (bytes_in n) cells at bytes e) in
     ap length (sym b.1) ∙ take_all n (payload_in cells at) b.0
@@ -157,21 +165,26 @@ numbers_long step (Rattle.std.proofs.Common.suc n) p = omega (arith, numbers_lon
 pub offsets_long : (n : ℕ) (p offsets : List ℕ) → offsets_in n p ≡ done offsets → length offsets ≡ n
 unfolding offsets_in
 offsets_long n p offsets e =
-    let t = (unless (nat_lt (length p) (Rattle.std.proofs.Common.◌*◌ 4 n)) FormShort (Ok (numbers_in 4 n p)) offsets e).1 in
+    let t = (unless (nat_lt (length p) (Rattle.std.proofs.Common.◌*◌ 4 n)) FormShort (Ok (numbers_in 4 n p))
+    offsets e).1 in
     sym (ap length (ok_same (numbers_in 4 n p) offsets t)) ∙ numbers_long 4 n p
 
-segments_many : (cells : Cells) (n : ℕ) (offsets bytes : List ℕ) → joined_segments cells n offsets ≡ done bytes → 0 < length offsets → 4 < n → 4 < length bytes
+segments_many : (cells : Cells) (n : ℕ) (offsets bytes : List ℕ) → joined_segments cells n offsets ≡ done bytes
+    → 0 < length offsets → 4 < n → 4 < length bytes
 segments_many cells n [] bytes e some big = absurd (omega arith)
 segments_many cells n (at ∷ rest) bytes e some big =
-    let part = then_so (reading (bytes_in (segment_part n)) cells at) (λ xs. joined_segments cells (n - segment_bytes) rest >>= λ ys. Ok (xs ++ ys)) bytes e in
+    let part = then_so (reading (bytes_in (segment_part n)) cells at)
+    (λ xs. joined_segments cells (n - segment_bytes) rest >>= λ ys. Ok (xs ++ ys)) bytes e in
     let others = then_so (joined_segments cells (n - segment_bytes) rest) (λ ys. Ok (part.0 ++ ys)) bytes part.2 in
     let first : length part.0 ≡ min 16344 n = bytes_long cells (segment_part n) at part.0 part.1 in
-    subst (λ (xs : List ℕ). 4 < length xs) (ok_same (part.0 ++ others.0) bytes others.2) (omega (arith, first, length-append part.0 others.0))
+    subst (λ (xs : List ℕ). 4 < length xs) (ok_same (part.0 ++ others.0) bytes others.2)
+    (omega (arith, first, length-append part.0 others.0))
 
 pub big_form : (n : ℕ) (p : List ℕ) (big : BigData) → big_data_of n p ≡ done big → big.segments ≡ segment_count n
 unfolding big_data_of
 big_form n p big e =
-    let r = then_so (big_data_at p) (λ (b : BigData). cond (b.segments == segment_count n) (Ok b) (Err FormLength)) big e in
+    let r = then_so (big_data_at p) (λ (b : BigData). cond (b.segments == segment_count n) (Ok b) (Err FormLength))
+    big e in
     let t = only_if (r.0.segments == segment_count n) FormLength (Ok r.0) big r.2 in
     let same : r.0 ≡ big = ok_same r.0 big t.1 in
     sym (ap (λ (b : BigData). b.segments) same) ∙ eqb-true r.0.segments (segment_count n) t.0
@@ -179,14 +192,20 @@ big_form n p big e =
 big_many : (cells : Cells) (n at : ℕ) (bytes : List ℕ) → big_bytes_at cells n at ≡ done bytes → 4 < n → 4 < length bytes
 unfolding big_bytes_at
 big_many cells n at bytes e big =
-    let form = then_so (reading (big_data_of n) cells at) (λ b. reading (offsets_in b.segments) cells b.list >>= joined_segments cells n) bytes e in
-    let list = then_so (reading (offsets_in form.0.segments) cells form.0.list) (joined_segments cells n) bytes form.2 in
-    let count : form.0.segments ≡ segment_count n = big_form n (payload_in cells at) form.0 (in_payload (big_data_of n) cells at form.0 form.1) in
-    let long : length list.0 ≡ form.0.segments = offsets_long form.0.segments (payload_in cells form.0.list) list.0 (in_payload (offsets_in form.0.segments) cells form.0.list list.0 list.1) in
+    let form = then_so (reading (big_data_of n) cells at)
+    (λ b. reading (offsets_in b.segments) cells b.list >>= joined_segments cells n) bytes e in
+    let list = then_so (reading (offsets_in form.0.segments) cells form.0.list) (joined_segments cells n)
+    bytes form.2 in
+    let count : form.0.segments ≡ segment_count n =
+    big_form n (payload_in cells at) form.0 (in_payload (big_data_of n) cells at form.0 form.1) in
+    let long : length list.0 ≡ form.0.segments =
+    offsets_long form.0.segments (payload_in cells form.0.list) list.0
+    (in_payload (offsets_in form.0.segments) cells form.0.list list.0 list.1) in
     segments_many cells n list.0 bytes list.2 (omega (arith, count, long)) big
 
 -- data in a cell, big or not, of so many bytes
-celled_four : (cells : Cells) (n at : ℕ) (bytes : List ℕ) → cond (is_big cells.version n) (big_bytes_at cells n at) (reading (bytes_in n) cells at) ≡ done bytes
+celled_four : (cells : Cells) (n at : ℕ) (bytes : List ℕ)
+    → cond (is_big cells.version n) (big_bytes_at cells n at) (reading (bytes_in n) cells at) ≡ done bytes
     → length bytes ≡ 4 → n ≡ 4
 celled_four cells n at bytes e four = go (is_big cells.version n) refl e
   where
@@ -194,46 +213,56 @@ celled_four cells n at bytes e four = go (is_big cells.version n) refl e
     big V3 h = absurd cc
     big V5 h = let l : 16344 < n = Rattle.std.proofs.lemmas.Bool.ltb-true 16344 n h in omega arith
 
-    go : (b : Bool) → is_big cells.version n ≡ b → cond b (big_bytes_at cells n at) (reading (bytes_in n) cells at) ≡ done bytes → n ≡ 4
+    go : (b : Bool) → is_big cells.version n ≡ b
+        → cond b (big_bytes_at cells n at) (reading (bytes_in n) cells at) ≡ done bytes → n ≡ 4
     go true h e = absurd (omega (arith, big_many cells n at bytes e (big cells.version h), four))
     go false h e = sym (bytes_long cells n at bytes e) ∙ four
 
 -- data that the value holds
-held_four : (value : KeyValue) (d : List ℕ) → data_inside value ≡ some d → is_overfull value.size ≡ false → length d ≡ 4 → value.size ≡ 2147483652
+held_four : (value : KeyValue) (d : List ℕ) → data_inside value ≡ some d → is_overfull value.size ≡ false → length d ≡ 4
+    → value.size ≡ 2147483652
 held_four value d e fits four = go (is_in_place value.size) (value.size == 0) refl e
   where
     within : value.size ≤ 2147483652
     within = ltb-false 2147483652 value.size fits
 
-    go : (a b : Bool) → is_in_place value.size ≡ a → cond a (Some (take (value.size - 2147483648) (to_le_bytes w32 value.offset))) (cond b (Some []) None) ≡ some d
+    go : (a b : Bool) → is_in_place value.size ≡ a
+        → cond a (Some (take (value.size - 2147483648) (to_le_bytes w32 value.offset))) (cond b (Some []) None) ≡ some d
         → value.size ≡ 2147483652
     go true b s e =
         let same : take (value.size - 2147483648) (to_le_bytes w32 value.offset) ≡ d = some_same _ d e in
-        let long : length d ≡ min (value.size - 2147483648) 4 = ap length (sym same) ∙ length-take (value.size - 2147483648) (to_le_bytes w32 value.offset) in
+        let long : length d ≡ min (value.size - 2147483648) 4 =
+        ap length (sym same) ∙ length-take (value.size - 2147483648) (to_le_bytes w32 value.offset) in
         omega (arith, long, within)
     go false true s e = let same : [] ≡ d = some_same [] d e in absurd (omega (arith, ap length same))
     go false false s e = absurd cc
 
 -- data are four bytes only where the size says so
-size_of_four : (cells : Cells) (value : KeyValue) (bytes : List ℕ) → data_of cells value ≡ done bytes → is_overfull value.size ≡ false → length bytes ≡ 4
+size_of_four : (cells : Cells) (value : KeyValue) (bytes : List ℕ) → data_of cells value ≡ done bytes
+    → is_overfull value.size ≡ false → length bytes ≡ 4
     → (value.size ≡ 2147483652 → ⊥) → value.size ≡ 4
 unfolding data_of
 size_of_four cells value bytes e fits four other = go (data_inside value) refl e
   where
     go : (o : Option (List ℕ)) → data_inside value ≡ o
-        → data_or o (cond (is_big cells.version value.size) (big_bytes_at cells value.size value.offset) (reading (bytes_in value.size) cells value.offset)) ≡ done bytes
+        → data_or o (cond (is_big cells.version value.size) (big_bytes_at cells value.size value.offset)
+        (reading (bytes_in value.size) cells value.offset)) ≡ done bytes
         → value.size ≡ 4
     go (Some d) i e = absurd (other (held_four value d i fits (ap length (ok_same d bytes e) ∙ four)))
     go None i e = celled_four cells value.size value.offset bytes e four
 
 -- four bytes in place are those of the offset field
-inside_four : (cells : Cells) (value : KeyValue) (bytes : List ℕ) → data_of cells value ≡ done bytes → value.size ≡ 2147483652 → bytes ≡ to_le_bytes w32 value.offset
+inside_four : (cells : Cells) (value : KeyValue) (bytes : List ℕ) → data_of cells value ≡ done bytes
+    → value.size ≡ 2147483652 → bytes ≡ to_le_bytes w32 value.offset
 unfolding data_of
 inside_four cells value bytes e s =
     let inside : data_inside value ≡ some (take 4 (to_le_bytes w32 value.offset)) =
-    ap (λ (n : ℕ). cond (is_in_place n) (some (take (n - 2147483648) (to_le_bytes w32 value.offset))) (cond (n == 0) (Some []) None)) s in
+    ap (λ (n : ℕ). cond (is_in_place n) (some (take (n - 2147483648) (to_le_bytes w32 value.offset)))
+    (cond (n == 0) (Some []) None)) s in
     sym (ok_same (take 4 (to_le_bytes w32 value.offset)) bytes
-    (sym (ap (λ (o : Option (List ℕ)). data_or o (cond (is_big cells.version value.size) (big_bytes_at cells value.size value.offset) (reading (bytes_in value.size) cells value.offset))) inside) ∙ e))
+    (sym (ap (λ (o : Option (List ℕ)). data_or o
+    (cond (is_big cells.version value.size) (big_bytes_at cells value.size value.offset)
+    (reading (bytes_in value.size) cells value.offset))) inside) ∙ e))
 
 not_big : (v : HiveVersion) → is_big v 4 ≡ false
 not_big V3 = refl
@@ -245,25 +274,33 @@ outside_four : (cells : Cells) (value : KeyValue) (bytes : List ℕ) → data_of
 unfolding data_of
 outside_four cells value bytes e s =
     let plain : reading (bytes_in 4) cells value.offset ≡ done bytes =
-    sym (ap (λ (n : ℕ). data_or (cond (is_in_place n) (some (take (n - 2147483648) (to_le_bytes w32 value.offset))) (cond (n == 0) (Some []) None))
+    sym (ap (λ (n : ℕ). data_or
+    (cond (is_in_place n) (some (take (n - 2147483648) (to_le_bytes w32 value.offset)))
+    (cond (n == 0) (Some []) None))
     (cond (is_big cells.version n) (big_bytes_at cells n value.offset) (reading (bytes_in n) cells value.offset))) s
-    ∙ ap (λ (b : Bool). cond b (big_bytes_at cells 4 value.offset) (reading (bytes_in 4) cells value.offset)) (not_big cells.version)) ∙ e in
+    ∙ ap (λ (b : Bool). cond b (big_bytes_at cells 4 value.offset) (reading (bytes_in 4) cells value.offset))
+    (not_big cells.version)) ∙ e in
     bytes_there 4 (payload_in cells value.offset) bytes (in_payload (bytes_in 4) cells value.offset bytes plain)
 
 -- ---- the number
 
 -- the number of a value that stands
-dword_is : (cells : Cells) (at : ℕ) (f : ItemFacts cells at) → dword_at cells at ≡ cond (eqb f.value.kind 4 && eqb (length f.item.bytes) 4) (Some (from_le_bytes w32 f.item.bytes)) None
+dword_is : (cells : Cells) (at : ℕ) (f : ItemFacts cells at)
+    → dword_at cells at ≡ cond (eqb f.value.kind 4 && eqb (length f.item.bytes) 4)
+    (Some (from_le_bytes w32 f.item.bytes)) None
 dword_is cells at f =
     ap (λ (r : Result Item HiveKind). option_and_then dword_in (item_read r)) f.stands
     ∙ ap (λ (k : ℕ). cond (eqb k 4 && eqb (length f.item.bytes) 4) (Some (from_le_bytes w32 f.item.bytes)) None) f.kind
 
 -- a value of another type is none
-pub no_number_kind : (cells : Cells) (at : ℕ) (p : List ℕ) (kind : ℕ) → IsItemHere cells at → p ≡ payload_in cells at → kind ≡ u32_in p 12 → (kind ≡ 4 → ⊥) → dword_at cells at ≡ None
+pub no_number_kind : (cells : Cells) (at : ℕ) (p : List ℕ) (kind : ℕ) → IsItemHere cells at → p ≡ payload_in cells at
+    → kind ≡ u32_in p 12 → (kind ≡ 4 → ⊥) → dword_at cells at ≡ None
 no_number_kind cells at p kind h e k other =
     let f = item_facts cells at h in
-    let same : f.value.kind ≡ kind = ap (λ (v : KeyValue). v.kind) f.facts.is ∙ ap (λ (q : List ℕ). u32_in q 12) (sym e) ∙ sym k in
-    dword_is cells at f ∙ ap (λ (b : Bool). cond (b && eqb (length f.item.bytes) 4) (Some (from_le_bytes w32 f.item.bytes)) None) (ne_eqb f.value.kind 4 (λ z. other (sym same ∙ z)))
+    let same : f.value.kind ≡ kind =
+    ap (λ (v : KeyValue). v.kind) f.facts.is ∙ ap (λ (q : List ℕ). u32_in q 12) (sym e) ∙ sym k in
+    dword_is cells at f ∙ ap (λ (b : Bool). cond (b && eqb (length f.item.bytes) 4)
+    (Some (from_le_bytes w32 f.item.bytes)) None) (ne_eqb f.value.kind 4 (λ z. other (sym same ∙ z)))
 
 -- the fields that were read from the payload
 record Fields (cells : Cells) (at kind size : ℕ) (p : List ℕ) : Type 0 where
@@ -272,7 +309,8 @@ record Fields (cells : Cells) (at kind size : ℕ) (p : List ℕ) : Type 0 where
   size_is : facts.value.size ≡ size
   place : facts.value.offset ≡ u32_in p 8
 
-fields : (cells : Cells) (at kind size : ℕ) (p : List ℕ) → IsItemHere cells at → p ≡ payload_in cells at → kind ≡ u32_in p 12 → kind ≡ 4 → size ≡ u32_in p 4 → Fields cells at kind size p
+fields : (cells : Cells) (at kind size : ℕ) (p : List ℕ) → IsItemHere cells at → p ≡ payload_in cells at
+    → kind ≡ u32_in p 12 → kind ≡ 4 → size ≡ u32_in p 4 → Fields cells at kind size p
 fields cells at kind size p h e k four s =
     let f = item_facts cells at h in
     record {
@@ -283,27 +321,33 @@ fields cells at kind size p h e k four s =
     }
 
 -- of four bytes, it is their number
-four_bytes : (cells : Cells) (at : ℕ) (f : ItemFacts cells at) (n : ℕ) → f.value.kind ≡ 4 → length f.item.bytes ≡ 4 → from_le_bytes w32 f.item.bytes ≡ n → dword_at cells at ≡ Some n
+four_bytes : (cells : Cells) (at : ℕ) (f : ItemFacts cells at) (n : ℕ) → f.value.kind ≡ 4 → length f.item.bytes ≡ 4
+    → from_le_bytes w32 f.item.bytes ≡ n → dword_at cells at ≡ Some n
 four_bytes cells at f n k l is =
     dword_is cells at f
     ∙ (λ i. cond (eqb (k i) 4 && eqb (l i) 4) (Some (is i)) None)
 
-pub number_inside : (cells : Cells) (at kind size n : ℕ) (p : List ℕ) → IsItemHere cells at → p ≡ payload_in cells at → kind ≡ u32_in p 12 → kind ≡ 4 → size ≡ u32_in p 4
+pub number_inside : (cells : Cells) (at kind size n : ℕ) (p : List ℕ) → IsItemHere cells at → p ≡ payload_in cells at
+    → kind ≡ u32_in p 12 → kind ≡ 4 → size ≡ u32_in p 4
     → size ≡ 2147483652 → n ≡ u32_in p 8 → n < 2 ^ 32 → dword_at cells at ≡ Some n
 number_inside cells at kind size n p h e k four s inside is small =
     let g = fields cells at kind size p h e k four s in
     let f = g.facts in
-    let bytes : f.item.bytes ≡ to_le_bytes w32 n = inside_four cells f.value f.item.bytes f.bytes (g.size_is ∙ inside) ∙ ap (to_le_bytes w32) (g.place ∙ sym is) in
-    four_bytes cells at f n g.kind_is (ap length bytes) (ap (from_le_bytes w32) bytes ∙ from_le_bytes-to_le_bytes_4 n small)
+    let bytes : f.item.bytes ≡ to_le_bytes w32 n =
+    inside_four cells f.value f.item.bytes f.bytes (g.size_is ∙ inside) ∙ ap (to_le_bytes w32) (g.place ∙ sym is) in
+    four_bytes cells at f n g.kind_is (ap length bytes)
+    (ap (from_le_bytes w32) bytes ∙ from_le_bytes-to_le_bytes_4 n small)
 
-pub number_long : (cells : Cells) (at kind size place : ℕ) (p q : List ℕ) → IsItemHere cells at → p ≡ payload_in cells at → kind ≡ u32_in p 12 → kind ≡ 4 → size ≡ u32_in p 4
+pub number_long : (cells : Cells) (at kind size place : ℕ) (p q : List ℕ) → IsItemHere cells at
+    → p ≡ payload_in cells at → kind ≡ u32_in p 12 → kind ≡ 4 → size ≡ u32_in p 4
     → size ≡ 4 → place ≡ u32_in p 8 → q ≡ payload_in cells place → 4 ≤ length q
 number_long cells at kind size place p q h e k four s outside pl is =
     let g = fields cells at kind size p h e k four s in
     let o = outside_four cells g.facts.value g.facts.item.bytes g.facts.bytes (g.size_is ∙ outside) in
     subst (λ (r : List ℕ). 4 ≤ length r) (ap (payload_in cells) (g.place ∙ sym pl) ∙ sym is) o.0
 
-pub number_outside : (cells : Cells) (at kind size place n : ℕ) (p q : List ℕ) → IsItemHere cells at → p ≡ payload_in cells at → kind ≡ u32_in p 12 → kind ≡ 4 → size ≡ u32_in p 4
+pub number_outside : (cells : Cells) (at kind size place n : ℕ) (p q : List ℕ) → IsItemHere cells at
+    → p ≡ payload_in cells at → kind ≡ u32_in p 12 → kind ≡ 4 → size ≡ u32_in p 4
     → size ≡ 4 → place ≡ u32_in p 8 → q ≡ payload_in cells place → n ≡ u32_in q 0 → dword_at cells at ≡ Some n
 number_outside cells at kind size place n p q h e k four s outside pl is number =
     let g = fields cells at kind size p h e k four s in
@@ -314,12 +358,15 @@ number_outside cells at kind size place n p q h e k four s outside pl is number 
     let long : 4 ≤ length q = subst (λ (r : List ℕ). 4 ≤ length r) there o.0 in
     four_bytes cells at f n g.kind_is (ap length bytes ∙ take_all 4 q long) (ap (from_le_bytes w32) bytes ∙ sym number)
 
-pub no_number_size : (cells : Cells) (at kind size : ℕ) (p : List ℕ) → IsItemHere cells at → p ≡ payload_in cells at → kind ≡ u32_in p 12 → kind ≡ 4 → size ≡ u32_in p 4
+pub no_number_size : (cells : Cells) (at kind size : ℕ) (p : List ℕ) → IsItemHere cells at → p ≡ payload_in cells at
+    → kind ≡ u32_in p 12 → kind ≡ 4 → size ≡ u32_in p 4
     → (size ≡ 2147483652 → ⊥) → (size ≡ 4 → ⊥) → dword_at cells at ≡ None
 no_number_size cells at kind size p h e k four s inside outside =
     let g = fields cells at kind size p h e k four s in
     let f = g.facts in
     let other : length f.item.bytes ≡ 4 → ⊥ =
-    λ l. outside (sym g.size_is ∙ size_of_four cells f.value f.item.bytes f.bytes f.facts.fits l (λ z. inside (sym g.size_is ∙ z))) in
+    λ l. outside (sym g.size_is
+    ∙ size_of_four cells f.value f.item.bytes f.bytes f.facts.fits l (λ z. inside (sym g.size_is ∙ z))) in
     dword_is cells at f
-    ∙ (λ i. cond (eqb (g.kind_is i) 4 && ne_eqb (length f.item.bytes) 4 other i) (Some (from_le_bytes w32 f.item.bytes)) None)
+    ∙ (λ i. cond (eqb (g.kind_is i) 4 && ne_eqb (length f.item.bytes) 4 other i) (Some (from_le_bytes w32 f.item.bytes))
+    None)

@@ -49,3 +49,4 @@ pub mod ChildLemmas
 pub mod AddStepLemmas
 pub mod GraftLinks
 pub mod CopyStepLemmas
+pub mod StrainedLemmas

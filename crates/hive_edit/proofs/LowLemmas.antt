@@ -37,7 +37,8 @@ use Rattle.hive_edit.proofs.StandingLemmas.{children_stand}
 -- ---- values
 
 -- as many as their offsets
-pub items_length : (cells : Cells) (offsets : List ℕ) (vs : List Item) → items_at cells offsets ≡ done vs → length offsets ≡ length vs
+pub items_length : (cells : Cells) (offsets : List ℕ) (vs : List Item) → items_at cells offsets ≡ done vs
+    → length offsets ≡ length vs
 items_length cells [] vs e = ap length (ok_same [] vs e)
 items_length cells (at ∷ offsets) vs e =
     let one = then_so (item_at cells at) (λ v. items_at cells offsets >>= λ ws. Ok (v ∷ ws)) vs e in
@@ -69,7 +70,8 @@ data_low version n small = go (is_big version n) (nat_lt 4 n)
     s : cells_sum (segment_sizes (segment_count n) n) ≤ n + 11 * segment_count n
     s = segments_low (segment_count n) n
 
-    go : (a b : Bool) → cells_sum (cond a (8 ∷ 4 * segment_count n ∷ segment_sizes (segment_count n) n) (cond b (n ∷ []) [])) ≤ 8000000000
+    go : (a b : Bool) → cells_sum
+        (cond a (8 ∷ 4 * segment_count n ∷ segment_sizes (segment_count n) n) (cond b (n ∷ []) [])) ≤ 8000000000
     go true b = omega (arith, s, small)
     go false true = omega (arith, small)
     go false false = omega arith
@@ -91,10 +93,12 @@ item_low version v is =
     sum : (x n d : ℕ) → x ≤ 2 * n → n ≤ 16383 → d ≤ 8000000000 → cell (20 + x) + d ≤ 8100000000
     sum x n d a b c = omega (arith, a, b, c)
 
-items_sum_low : (version : HiveVersion) (vs : List Item) → Each IsItem vs → items_sum version vs ≤ 8100000000 * length vs
+items_sum_low : (version : HiveVersion) (vs : List Item) → Each IsItem vs
+    → items_sum version vs ≤ 8100000000 * length vs
 items_sum_low version [] each = omega arith
 items_sum_low version (v ∷ vs) each =
-    sum (item_size version v) (items_sum version vs) (length vs) (item_low version v each.0) (items_sum_low version vs each.1)
+    sum (item_size version v) (items_sum version vs) (length vs) (item_low version v each.0)
+    (items_sum_low version vs each.1)
   where
     sum : (x y n : ℕ) → x ≤ 8100000000 → y ≤ 8100000000 * n → x + y ≤ 8100000000 * suc n
     sum x y n a b = omega (arith, a, b)
@@ -122,34 +126,44 @@ list_low : (n : ℕ) → list_size n ≤ 64 * n
 list_low n = go (eqb n 0) refl (nat_lt n 501) (eqb (n % 500) 0)
   where
     go : (a : Bool) → eqb n 0 ≡ a → (b d : Bool)
-        → (cond a 0 (cond b (cell (4 + 8 * n)) (cell (4 + 4 * part_count n) + n / 500 * cell 4004 + cond d 0 (cell (4 + 8 * (n % 500)))))) ≤ 64 * n
+        → (cond a 0 (cond b (cell (4 + 8 * n))
+        (cell (4 + 4 * part_count n) + n / 500 * cell 4004 + cond d 0 (cell (4 + 8 * (n % 500)))))) ≤ 64 * n
     go true e b d = omega arith
     go false e b d = some b d (eqb-false n 0 e)
       where
-        some : (b d : Bool) → (n ≡ 0 → ⊥) → cond b (cell (4 + 8 * n)) (cell (4 + 4 * part_count n) + n / 500 * cell 4004 + cond d 0 (cell (4 + 8 * (n % 500)))) ≤ 64 * n
+        some : (b d : Bool) → (n ≡ 0 → ⊥)
+            → cond b (cell (4 + 8 * n))
+            (cell (4 + 4 * part_count n) + n / 500 * cell 4004 + cond d 0 (cell (4 + 8 * (n % 500)))) ≤ 64 * n
         some true d f = omega (arith, f)
         some false true f = omega (arith, f)
         some false false f = omega (arith, f)
 
 mutual
-  tree_low : (version : HiveVersion) (shared : List ℕ) (t : Tree) → HoldsKeys t → size version shared t + 64 ≤ 17179869184 * units t
+  tree_low : (version : HiveVersion) (shared : List ℕ) (t : Tree) → HoldsKeys t
+      → size version shared t + 64 ≤ 17179869184 * units t
   tree_low version shared (key h ts) holds =
       let own = holds.0 in
-      sum (name_bytes h.name) (length h.name) (class_size h.class) (security_size shared h.security) (items_size version h.values) (length h.values)
+      sum (name_bytes h.name) (length h.name) (class_size h.class) (security_size shared h.security)
+      (items_size version h.values) (length h.values)
       (list_size (count ts)) (count ts) (size_of_all version h.security ts) (units_of ts)
       (name_low h.name) own.name (class_low h.class own.class) (security_low shared h.security own.security)
-      (items_low version h.values (each_from IsItem h.values own.items)) (list_low (count ts)) (trees_low version h.security ts holds.1)
+      (items_low version h.values (each_from IsItem h.values own.items)) (list_low (count ts))
+      (trees_low version h.security ts holds.1)
     where
-      sum : (x n c s i m l k b u : ℕ) → x ≤ 2 * n → n ≤ 255 → c ≤ 70000 → s ≤ 4300000000 → i ≤ 8200000000 * m → l ≤ 64 * k → b + 64 * k ≤ 17179869184 * u
+      sum : (x n c s i m l k b u : ℕ) → x ≤ 2 * n → n ≤ 255 → c ≤ 70000 → s ≤ 4300000000 → i ≤ 8200000000 * m
+          → l ≤ 64 * k → b + 64 * k ≤ 17179869184 * u
           → cell (76 + x) + c + s + i + l + b + 64 ≤ 17179869184 * (1 + m + u)
       sum x n c s i m l k b u e1 e2 e3 e4 e5 e6 e7 = omega (arith, e1, e2, e3, e4, e5, e6, e7)
 
-  trees_low : (version : HiveVersion) (shared : List ℕ) (ts : Trees) → AllHoldKeys ts → size_of_all version shared ts + 64 * count ts ≤ 17179869184 * units_of ts
+  trees_low : (version : HiveVersion) (shared : List ℕ) (ts : Trees) → AllHoldKeys ts
+      → size_of_all version shared ts + 64 * count ts ≤ 17179869184 * units_of ts
   trees_low version shared none holds = omega arith
   trees_low version shared (more t ts) holds =
-      sum (size version shared t) (size_of_all version shared ts) (count ts) (units t) (units_of ts) (tree_low version shared t holds.0) (trees_low version shared ts holds.1)
+      sum (size version shared t) (size_of_all version shared ts) (count ts) (units t) (units_of ts)
+      (tree_low version shared t holds.0) (trees_low version shared ts holds.1)
     where
-      sum : (x y n u w : ℕ) → x + 64 ≤ 17179869184 * u → y + 64 * n ≤ 17179869184 * w → x + y + 64 * suc n ≤ 17179869184 * (u + w)
+      sum : (x y n u w : ℕ) → x + 64 ≤ 17179869184 * u → y + 64 * n ≤ 17179869184 * w
+          → x + y + 64 * suc n ≤ 17179869184 * (u + w)
       sum x y n u w a b = omega (arith, a, b)
 
 -- ---- the cells that they use
@@ -167,7 +181,8 @@ many_append [] vs = omega arith
 many_append (u ∷ us) vs = go u.1 (many_append us vs)
   where
     go : (b : Bool) → many (us ++ vs) ≡ many us + many vs
-        → length (cond b (plains (us ++ vs)) (u.0 ∷ plains (us ++ vs))) ≡ length (cond b (plains us) (u.0 ∷ plains us)) + many vs
+        → length (cond b (plains (us ++ vs)) (u.0 ∷ plains (us ++ vs))) ≡ length (cond b (plains us) (u.0 ∷ plains us))
+        + many vs
     go true e = e
     go false e = omega (arith, e)
 
@@ -200,36 +215,43 @@ own_many cells at n e =
     let d = many_plain values in
     let l = length-append (value_list_at cells at) (cells_of_values cells (value_places cells at)) in
     let v = values_many cells (value_places cells at) in
-    sum (many (p ++ (q ++ (r ++ s)))) (many p) (many (q ++ (r ++ s))) (many q) (many (r ++ s)) (many r) (many s) (length values) (length (value_list_at cells at))
+    sum (many (p ++ (q ++ (r ++ s)))) (many p) (many (q ++ (r ++ s))) (many q) (many (r ++ s)) (many r) (many s)
+    (length values) (length (value_list_at cells at))
     (length (cells_of_values cells (value_places cells at))) (length (value_places cells at)) n a b c d l v e
   where
-    sum : (w p x q y r s k l c v n : ℕ) → w ≡ p + x → x ≡ q + y → y ≡ r + s → r ≡ k → k ≡ l + c → v ≤ c → v ≡ n → 1 + n ≤ suc w
+    sum : (w p x q y r s k l c v n : ℕ) → w ≡ p + x → x ≡ q + y → y ≡ r + s → r ≡ k → k ≡ l + c → v ≤ c → v ≡ n
+        → 1 + n ≤ suc w
     sum w p x q y r s k l c v n e1 e2 e3 e4 e5 e6 e7 = omega (arith, e1, e2, e3, e4, e5, e6, e7)
 
 mutual
-  units_used : (left : ℕ) (cells : Cells) (at : ℕ) (t : Tree) → IsWellFormed cells at t → levels t ≤ left → units t ≤ many (tree_uses left cells at)
+  units_used : (left : ℕ) (cells : Cells) (at : ℕ) (t : Tree) → IsWellFormed cells at t → levels t ≤ left
+      → units t ≤ many (tree_uses left cells at)
   units_used zero cells at (key h ts) w l = absurd (omega arith)
   units_used (suc left) cells at (key h ts) w l =
       let places = children_stand cells at h w.stands.0 w.stands.1 in
       let own = own_many cells at (length h.values)
       (items_length cells (value_places cells at) h.values
-      (subst (λ (os : List ℕ). items_at cells os ≡ done h.values) (sym (places_same cells at)) (items_stand cells at (key h ts) w))) in
+      (subst (λ (os : List ℕ). items_at cells os ≡ done h.values) (sym (places_same cells at))
+      (items_stand cells at (key h ts) w))) in
       let below = subst (λ (os : List ℕ). units_of ts ≤ many (flat_map (tree_uses left cells) os)) (sym places)
       (all_used left cells w.stands.0 ts (children_well_formed cells at h ts w) (omega arith)) in
       let both = many_append (own_uses cells at) (flat_map (tree_uses left cells) (child_places cells at)) in
-      sum (length h.values) (units_of ts) (many (own_uses cells at)) (many (flat_map (tree_uses left cells) (child_places cells at)))
+      sum (length h.values) (units_of ts) (many (own_uses cells at))
+      (many (flat_map (tree_uses left cells) (child_places cells at)))
       (many (tree_uses (suc left) cells at)) own below both
     where
       sum : (n u o b w : ℕ) → 1 + n ≤ o → u ≤ b → w ≡ o + b → 1 + n + u ≤ w
       sum n u o b w e1 e2 e3 = omega (arith, e1, e2, e3)
 
-  all_used : (left : ℕ) (cells : Cells) (offsets : List ℕ) (ts : Trees) → AllWellFormed cells offsets ts → most_levels ts ≤ left
+  all_used : (left : ℕ) (cells : Cells) (offsets : List ℕ) (ts : Trees) → AllWellFormed cells offsets ts
+      → most_levels ts ≤ left
       → units_of ts ≤ many (flat_map (tree_uses left cells) offsets)
   all_used left cells offsets none s l = omega arith
   all_used left cells offsets (more t ts) s l =
       subst (λ (os : List ℕ). units t + units_of ts ≤ many (flat_map (tree_uses left cells) os)) (sym s.2)
       (sum (units t) (units_of ts) (many (tree_uses left cells s.0)) (many (flat_map (tree_uses left cells) s.1))
-      (many (flat_map (tree_uses left cells) (s.0 ∷ s.1))) (units_used left cells s.0 t s.3 (omega arith)) (all_used left cells s.1 ts s.4 (omega arith))
+      (many (flat_map (tree_uses left cells) (s.0 ∷ s.1))) (units_used left cells s.0 t s.3 (omega arith))
+      (all_used left cells s.1 ts s.4 (omega arith))
       (many_append (tree_uses left cells s.0) (flat_map (tree_uses left cells) s.1)))
     where
       sum : (u v a b w : ℕ) → u ≤ a → v ≤ b → w ≡ a + b → u + v ≤ w
@@ -241,7 +263,8 @@ plains_in : (us : List (ℕ × Bool)) (y : ℕ) → In (plains us) y → In us (
 plains_in [] y i = absurd i
 plains_in (u ∷ us) y i = go u.1 refl i (λ j. plains_in us y j)
   where
-    go : (b : Bool) → u.1 ≡ b → In (cond b (plains us) (u.0 ∷ plains us)) y → (In (plains us) y → In us (y, false)) → In (u ∷ us) (y, false)
+    go : (b : Bool) → u.1 ≡ b → In (cond b (plains us) (u.0 ∷ plains us)) y → (In (plains us) y → In us (y, false))
+        → In (u ∷ us) (y, false)
     go true e i deep = inr (deep i)
     go false e (inl f) deep = inl (λ k. (f k, e k))
     go false e (inr j) deep = inr (deep j)
@@ -250,16 +273,22 @@ plains_apart : (us : List (ℕ × Bool)) → Pairwise Agree us → Pairwise (λ 
 plains_apart [] h = tt
 plains_apart (u ∷ us) h = go u.1 refl (plains_apart us h.1)
   where
-    go : (b : Bool) → u.1 ≡ b → Pairwise (λ p q. p ≡ q → ⊥) (plains us) → Pairwise (λ p q. p ≡ q → ⊥) (cond b (plains us) (u.0 ∷ plains us))
+    go : (b : Bool) → u.1 ≡ b → Pairwise (λ p q. p ≡ q → ⊥) (plains us)
+        → Pairwise (λ p q. p ≡ q → ⊥) (cond b (plains us) (u.0 ∷ plains us))
     go true e rest = rest
-    go false e rest = ((λ y i f. absurd (let both = h.0 (y, false) (plains_in us y i) f in let no = sym e ∙ both.0 in cc)), rest)
+    go false e rest = (
+      (λ y i f. absurd
+          (let both = h.0 (y, false) (plains_in us y i) f in let no = sym e ∙ both.0 in cc)),
+      rest,
+    )
 
 cells_below : (cs : List Cell) (o at : ℕ) (c : Cell) → in_cells o at cs ≡ Some c → o < at + cells_size cs
 cells_below [] o at c e = absurd cc
 cells_below (d ∷ cs) o at c e = go (eqb at o) refl e (λ f. cells_below cs o (at + cell_size d) c f)
   where
     go : (b : Bool) → eqb at o ≡ b → cond b (Some d) (in_cells o (at + cell_size d) cs) ≡ Some c
-        → (in_cells o (at + cell_size d) cs ≡ Some c → o < at + cell_size d + cells_size cs) → o < at + (cell_size d + cells_size cs)
+        → (in_cells o (at + cell_size d) cs ≡ Some c → o < at + cell_size d + cells_size cs)
+        → o < at + (cell_size d + cells_size cs)
     go true t f deep = let same = eqb-true at o t in omega (arith, same)
     go false t f deep = let l = deep f in omega (arith, l)
 
@@ -268,7 +297,8 @@ bins_below [] o at c e = absurd cc
 bins_below (b ∷ bs) o at c e = go (in_cells o (at + 32) b.cells) refl e (λ f. bins_below bs o (at + bin_size b) c f)
   where
     go : (r : Option Cell) → in_cells o (at + 32) b.cells ≡ r → or_else r (in_bins o (at + bin_size b) bs) ≡ Some c
-        → (in_bins o (at + bin_size b) bs ≡ Some c → o < at + bin_size b + bins_size bs) → o < at + (bin_size b + bins_size bs)
+        → (in_bins o (at + bin_size b) bs ≡ Some c → o < at + bin_size b + bins_size bs)
+        → o < at + (bin_size b + bins_size bs)
     go None f g deep = let l = deep g in omega (arith, l)
     go (Some d) f g deep = let l = cells_below b.cells o (at + 32) d f in omega (arith, l)
 
@@ -282,13 +312,15 @@ held_below bins o p e = go (cell_at bins o) refl e
 -- numbers below a bound, no two one, are no more than it
 few_below : (xs : List ℕ) (n : ℕ) → Pairwise (λ p q. p ≡ q → ⊥) xs → ((x : ℕ) → In xs x → x < n) → length xs ≤ n
 few_below xs n apart below =
-    length-le_from_distinct_below xs n (IsDistinct-from_AllPairs Decides-eqb xs (pairwise_to (λ p q. p ≡ q → ⊥) xs apart))
+    length-le_from_distinct_below xs n
+    (IsDistinct-from_AllPairs Decides-eqb xs (pairwise_to (λ p q. p ≡ q → ⊥) xs apart))
     (λ q e. below q (in_from xs q (Contains-from_any eqb-true q xs e)))
 
 -- ---- the hive
 
 -- the size of the tree of a hive whose bins have at most 16 MiB
-pub hive_low : (bins : List Bin) (root : ℕ) (version : HiveVersion) (bulk : ℕ) → IsHive bins root version bulk → bins_size bins ≤ 16777216
+pub hive_low : (bins : List Bin) (root : ℕ) (version : HiveVersion) (bulk : ℕ) → IsHive bins root version bulk
+    → bins_size bins ≤ 16777216
     → size version [] (tree_of (look_up version bins) root) ≤ 288230376151711744
 hive_low bins root version bulk is fit =
     let b = look_up version bins in
@@ -296,7 +328,8 @@ hive_low bins root version bulk is fit =
     let us = tree_uses 512 b root in
     let once = hive_once b root t is.stands.stands is.stands.names is.stands.once in
     let few = few_below (plains us) (bins_size bins) (plains_apart us once)
-    (λ x i. let q = used_held b root t is.stands (x, false) (plains_in us x i) in held_below bins x q.0 (payload_held bins x q.0 q.1)) in
+    (λ x i. let q = used_held b root t is.stands (x, false) (plains_in us x i) in
+    held_below bins x q.0 (payload_held bins x q.0 q.1)) in
     let used = units_used 512 b root t is.stands is.stands.levels in
     let low = tree_low version [] t is.valid.keys in
     sum (size version [] t) (units t) (many us) (bins_size bins) low used few fit
@@ -309,7 +342,8 @@ pub record BulkIs (version : HiveVersion) (t : Tree) (bulk : ℕ) : Type 0 where
   pub exact : bulk ≡ 32 + size version [] t
   pub low : bulk ≤ 576460752303423488
 
-pub bulk_is : (bins : List Bin) (root : ℕ) (version : HiveVersion) (bulk : ℕ) → IsHive bins root version bulk → bins_size bins ≤ 16777216
+pub bulk_is : (bins : List Bin) (root : ℕ) (version : HiveVersion) (bulk : ℕ) → IsHive bins root version bulk
+    → bins_size bins ≤ 16777216
     → BulkIs version (tree_of (look_up version bins) root) bulk
 bulk_is bins root version bulk is fit =
     let s = size version [] (tree_of (look_up version bins) root) in
@@ -322,11 +356,13 @@ bulk_is bins root version bulk is fit =
     two : (n s : ℕ) → n ≡ min (32 + s) 18446744073709551615 → s ≤ 288230376151711744 → n ≤ 576460752303423488
     two n s e l = omega (arith, e, l)
 
-pub bulk_low : (bins : List Bin) (root : ℕ) (version : HiveVersion) (bulk : ℕ) → IsHive bins root version bulk → bins_size bins ≤ 16777216 → bulk ≤ 576460752303423488
+pub bulk_low : (bins : List Bin) (root : ℕ) (version : HiveVersion) (bulk : ℕ) → IsHive bins root version bulk
+    → bins_size bins ≤ 16777216 → bulk ≤ 576460752303423488
 bulk_low bins root version bulk is fit = (bulk_is bins root version bulk is fit).low
 
 -- the bulk of a tree that is a little greater or smaller
-pub bulk_then : (version : HiveVersion) (t u : Tree) (bulk grown less : ℕ) → BulkIs version t bulk → size version [] u + less ≡ size version [] t + grown
+pub bulk_then : (version : HiveVersion) (t u : Tree) (bulk grown less : ℕ) → BulkIs version t bulk
+    → size version [] u + less ≡ size version [] t + grown
     → grown ≤ 68719476736 → (less ≤ bulk + grown) × (bulk + grown - less ≡ bulk_of version u)
 bulk_then version t u bulk grown less b e few =
     sum bulk (size version [] t) (size version [] u) grown less b.exact b.low e few

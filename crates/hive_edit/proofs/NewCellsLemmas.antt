@@ -59,7 +59,8 @@ form_by at v apart = record {
   name = v.name;
 }
 
-data_used : (c : Cells) (at : ℕ) (v : Item) → length v.bytes ≤ 1048576 → data_place at v + data_size c.version v.bytes ≤ 16777216
+data_used : (c : Cells) (at : ℕ) (v : Item) → length v.bytes ≤ 1048576
+    → data_place at v + data_size c.version v.bytes ≤ 16777216
     → Has c (data_place at v) (data_cells c.version (data_place at v) v.bytes) → DataUsed c at v
 data_used c at v few room has = go (nat_lt 4 (length v.bytes)) refl
   where
@@ -69,7 +70,8 @@ data_used c at v few room has = go (nat_lt 4 (length v.bytes)) refl
     go : (b : Bool) → nat_lt 4 (length v.bytes) ≡ b → DataUsed c at v
     go true e =
         let run = data_run_stands c (data_place at v) v.bytes (ltb-true 4 n e) few room has in
-        let form : with_fields (form_by at v true) n (data_place at v) v.kind ≡ item_form at v = ap (form_by at v) (sym e) in
+        let form : with_fields (form_by at v true) n (data_place at v) v.kind ≡ item_form at v =
+        ap (form_by at v) (sym e) in
         record {
           cells = run.cells;
           used = ap (λ (k : KeyValue). used_in (data_checks c k)) (sym form) ∙ run.used (form_by at v true) v.kind;
@@ -82,7 +84,8 @@ data_used c at v few room has = go (nat_lt 4 (length v.bytes)) refl
         let form : form_by at v false ≡ item_form at v = ap (form_by at v) (sym e) in
         let none : used_in (data_checks c (form_by at v false)) ≡ [] =
         (data_held_inside c (form_by at v false) (take (2147483648 + n - 2147483648) (to_le_bytes w32 own))
-        (ap (λ (b : Bool). cond b (some (take (2147483648 + n - 2147483648) (to_le_bytes w32 own))) (cond (2147483648 + n == 0) (some []) None)) in_place)).0 in
+        (ap (λ (b : Bool). cond b (some (take (2147483648 + n - 2147483648) (to_le_bytes w32 own)))
+        (cond (2147483648 + n == 0) (some []) None)) in_place)).0 in
         record {
           cells = [];
           used = ap (λ (k : KeyValue). used_in (data_checks c k)) (sym form) ∙ none;
@@ -95,14 +98,17 @@ record ValueUsed (c : Cells) (place w : ℕ) (v : Item) (high : ℕ) : Type 0 wh
   within : (o : ℕ) → In (place ∷ used_in (value_checks c [] w)) o → (place ≤ o) × (o < high)
   once : Pairwise (λ p q. p ≡ q → ⊥) (place ∷ used_in (value_checks c [] w))
 
-value_used : (c : Cells) (place w : ℕ) (v : Item) (high : ℕ) → place + 8 ≤ w → w + item_size c.version v ≡ high → high ≤ 16777216 → length v.bytes ≤ 1048576
+value_used : (c : Cells) (place w : ℕ) (v : Item) (high : ℕ) → place + 8 ≤ w → w + item_size c.version v ≡ high
+    → high ≤ 16777216 → length v.bytes ≤ 1048576
     → Has c w (item_cells c.version w v) → IsItem v → ItemNumbers v → ValueUsed c place w v high
 value_used c place w v high behind whole fits few has is numbers =
     let room : data_place w v + data_size c.version v.bytes ≤ 16777216 = omega (arith, whole, fits) in
     let d = data_used c w v few room (data_has c w v has) in
     let uses : used_in (value_checks c [] w) ≡ w ∷ d.cells =
-    value_uses c w (item_form w v) (item_read c w v has is numbers (omega (arith, whole, fits))) ∙ ap (λ (l : List ℕ). w ∷ l) d.used in
-    subst (λ (l : List ℕ). ((o : ℕ) → In (place ∷ l) o → (place ≤ o) × (o < high)) → Pairwise (λ p q. p ≡ q → ⊥) (place ∷ l) → ValueUsed c place w v high) uses
+    value_uses c w (item_form w v) (item_read c w v has is numbers (omega (arith, whole, fits)))
+    ∙ ap (λ (l : List ℕ). w ∷ l) d.used in
+    subst (λ (l : List ℕ). ((o : ℕ) → In (place ∷ l) o → (place ≤ o) × (o < high))
+    → Pairwise (λ p q. p ≡ q → ⊥) (place ∷ l) → ValueUsed c place w v high) uses
     (λ a b. record { within = a; once = b })
     (λ o i. inside d o i)
     ((λ y i e. before d y i e), ((λ y i e. absurd (let r = d.within y i in omega (arith, r.0, e))), d.once))
@@ -119,19 +125,23 @@ value_used c place w v high behind whole fits few has is numbers =
 -- ---- the list
 
 -- the list names the value behind the others
-list_reads : (c : Cells) (place w : ℕ) (os : List ℕ) → c.payload place ≡ Ok (Rattle.hive_model.specs.Packed.filled (offsets_text (os ++ w ∷ []))) → AreOffsets os → w < 2 ^ 32
+list_reads : (c : Cells) (place w : ℕ) (os : List ℕ)
+    → c.payload place ≡ Ok (Rattle.hive_model.specs.Packed.filled (offsets_text (os ++ w ∷ []))) → AreOffsets os
+    → w < 2 ^ 32
     → reading (offsets_in (suc (length os))) c place ≡ done (os ++ w ∷ [])
 list_reads c place w os there fit small =
     let qs = os ++ w ∷ [] in
     reads_in (offsets_in (suc (length os))) c place (offsets_text qs) qs there
-    (λ slack. subst (λ (k : ℕ). offsets_in k (offsets_text qs ++ slack) ≡ Ok qs) (more_long os w) (offsets_again qs slack (more_fit os w fit small)))
+    (λ slack. subst (λ (k : ℕ). offsets_in k (offsets_text qs ++ slack) ≡ Ok qs) (more_long os w)
+    (offsets_again qs slack (more_fit os w fit small)))
 
 -- what stands in the run
 record RunStands (c : Cells) (place w : ℕ) (os : List ℕ) (v : Item) : Type 0 where
   list : c.payload place ≡ Ok (Rattle.hive_model.specs.Packed.filled (offsets_text (os ++ w ∷ [])))
   value : Has c w (item_cells c.version w v)
 
-run_stands : (c : Cells) (place : ℕ) (os : List ℕ) (v : Item) → Has c place (added_cells c.version place os v) → RunStands c place (behind_list place (length os)) os v
+run_stands : (c : Cells) (place : ℕ) (os : List ℕ) (v : Item) → Has c place (added_cells c.version place os v)
+    → RunStands c place (behind_list place (length os)) os v
 unfolding added_cells
 run_stands c place os v has =
     let w = behind_list place (length os) in
@@ -143,9 +153,11 @@ run_stands c place os v has =
 
 -- ---- what was put
 
-pub adds_value : (version : HiveVersion) (old new : List Bin) (x place count list : ℕ) (v : Item) (run : List ℕ) (can : CanAdd (look_up version old) old x)
+pub adds_value : (version : HiveVersion) (old new : List Bin) (x place count list : ℕ) (v : Item) (run : List ℕ)
+    (can : CanAdd (look_up version old) old x)
     → count ≡ can.node.value_count → list ≡ can.node.value_list → run ≡ text (added_cells version place can.offsets v)
-    → place + added_size version count v ≤ 16777216 → AreOffsets can.offsets → IsItem v → ItemNumbers v → count ≤ 4194304 → length v.bytes ≤ 1048576
+    → place + added_size version count v ≤ 16777216 → AreOffsets can.offsets → IsItem v → ItemNumbers v
+    → count ≤ 4194304 → length v.bytes ≤ 1048576
     → IsRelistedAt x list count place run old new → PutsValue version old new x v
 adds_value version old new x place count list v run can c_is l_is e room fit is numbers many few r = record {
   node = can.node;
@@ -164,13 +176,15 @@ adds_value version old new x place count list v run can c_is l_is e room fit is 
     lists = list_reads c place w os stands.list fit small;
     reads = item_stands c w v stands.value is numbers within;
     others = λ o q held no_node no_list. held_payload new o q
-        (r.others o no_node (λ n s. no_list (subst (In (value_list_at b x)) (sym (s ∙ l_is)) (can.list (λ z. n (c_is ∙ z)))))
+        (r.others o no_node (λ n s. no_list
+        (subst (In (value_list_at b x)) (sym (s ∙ l_is)) (can.list (λ z. n (c_is ∙ z)))))
         ∙ stays o (is_held (held_at old o) q (payload_held old o q held)) ∙ payload_held old o q held);
     fresh = λ o i. unheld o (let u = used.within o i in r.put.fresh o u.0 (omega (arith, u.1, long)));
     once = used.once;
   };
   least = omega (arith, r.long, r.put.least);
-  long = subst (λ (m : ℕ). bins_size new ≤ bins_size old + new_bin_size m) (long ∙ ap (λ (k : ℕ). added_size version k v) c_is) (omega (arith, r.long, r.put.long));
+  long = subst (λ (m : ℕ). bins_size new ≤ bins_size old + new_bin_size m)
+      (long ∙ ap (λ (k : ℕ). added_size version k v) c_is) (omega (arith, r.long, r.put.long));
 }
   where
     b : Cells
@@ -225,7 +239,8 @@ adds_value version old new x place count list v run can c_is l_is e room fit is 
     x_some = is_held (held_at old x) p.0 x_held
 
     fresh_there : (o : ℕ) (q : List ℕ) → held_among o place (map allocated_cell ps) ≡ Some q → held_at old o ≡ None
-    fresh_there o q h = let a = among_from o place (map allocated_cell ps) q h in r.put.fresh o a.0 (omega (arith, a.1, sizes_are ps, size, long))
+    fresh_there o q h = let a = among_from o place (map allocated_cell ps) q h in
+        r.put.fresh o a.0 (omega (arith, a.1, sizes_are ps, size, long))
 
     put_held : (o : ℕ) → held_at r.mid o ≡ or_else (held_among o place (map allocated_cell ps)) (held_at old o)
     put_held o = r.put.held o ∙ ap (λ (cs : List Cell). or_else (held_among o place cs) (held_at old o)) cells
@@ -233,12 +248,15 @@ adds_value version old new x place count list v run can c_is l_is e room fit is 
     stays : (o : ℕ) → IsSome (held_at old o) → held_at r.mid o ≡ held_at old o
     stays o s = put_held o ∙ go (held_among o place (map allocated_cell ps)) refl
       where
-        go : (z : Option (List ℕ)) → held_among o place (map allocated_cell ps) ≡ z → or_else z (held_at old o) ≡ held_at old o
+        go : (z : Option (List ℕ)) → held_among o place (map allocated_cell ps) ≡ z
+            → or_else z (held_at old o) ≡ held_at old o
         go None h = refl
         go (Some q) h = absurd (none_some (held_at old o) (fresh_there o q h) s)
 
-    not_here : (o y : ℕ) (q : List ℕ) → held_among o place (map allocated_cell ps) ≡ Some q → IsSome (held_at old y) → o ≡ y → ⊥
-    not_here o y q h s z = none_some (held_at old o) (fresh_there o q h) (subst (λ (k : ℕ). IsSome (held_at old k)) (sym z) s)
+    not_here : (o y : ℕ) (q : List ℕ) → held_among o place (map allocated_cell ps) ≡ Some q → IsSome (held_at old y)
+        → o ≡ y → ⊥
+    not_here o y q h s z = none_some (held_at old o) (fresh_there o q h)
+        (subst (λ (k : ℕ). IsSome (held_at old k)) (sym z) s)
 
     list_some : (count ≡ 0 → ⊥) → IsSome (held_at old list)
     list_some n =
@@ -261,7 +279,8 @@ adds_value version old new x place count list v run can c_is l_is e room fit is 
     unheld o n q h = absurd (let s = sym n ∙ payload_held old o q h in cc)
 
 -- the key's node, and its room for two numbers when the run was put
-pub node_held : (version : HiveVersion) (old : List Bin) (x : ℕ) (n : KeyNode) → reading key_node_at (look_up version old) x ≡ done n
+pub node_held : (version : HiveVersion) (old : List Bin) (x : ℕ) (n : KeyNode)
+    → reading key_node_at (look_up version old) x ≡ done n
     → IsSomeAnd (held_at old x) (λ p. 76 ≤ length p)
 node_held version old x n read =
     let p = then_so ((look_up version old).payload x) key_node_at n read in
@@ -269,23 +288,27 @@ node_held version old x n read =
     and_some (held_at old x) (λ p. 76 ≤ length p) p.0 (payload_held old x p.0 p.1) (omega (arith, long))
 
 -- what was held is held behind a run that was put
-pub kept_behind : (at : ℕ) (run : List ℕ) (old mid : List Bin) → IsRun run → IsPutAt (length run) at (run_cells run) old mid
+pub kept_behind : (at : ℕ) (run : List ℕ) (old mid : List Bin) → IsRun run
+    → IsPutAt (length run) at (run_cells run) old mid
     → (o : ℕ) → IsSome (held_at old o) → held_at mid o ≡ held_at old o
 kept_behind at run old mid sound put o s = put.held o ∙ go (held_among o at (run_cells run)) refl
   where
     go : (z : Option (List ℕ)) → held_among o at (run_cells run) ≡ z → or_else z (held_at old o) ≡ held_at old o
     go None h = refl
-    go (Some q) h = absurd (let a = among_from o at (run_cells run) q h in none_some (held_at old o) (put.fresh o a.0 (omega (arith, a.1, run_long run sound))) s)
+    go (Some q) h = absurd (let a = among_from o at (run_cells run) q h in
+        none_some (held_at old o) (put.fresh o a.0 (omega (arith, a.1, run_long run sound))) s)
 
 some_of_node : (o : Option (List ℕ)) → IsSomeAnd o (λ p. 76 ≤ length p) → IsSome o
 some_of_node None h = absurd h
 some_of_node (Some p) h = refl
 
 -- the key's node has room for two numbers, and its list is still held, behind the run
-pub node_room : (at x n : ℕ) (run : List ℕ) (old mid : List Bin) → IsRun run → IsPutAt (length run) at (run_cells run) old mid
+pub node_room : (at x n : ℕ) (run : List ℕ) (old mid : List Bin) → IsRun run
+    → IsPutAt (length run) at (run_cells run) old mid
     → IsSomeAnd (held_at old x) (λ p. 76 ≤ length p) → n ≡ 8 → IsSomeAnd (held_at mid x) (λ p. 36 + n ≤ length p)
 node_room at x n run old mid sound put h s =
-    subst (λ (o : Option (List ℕ)). IsSomeAnd o (λ p. 36 + n ≤ length p)) (sym (kept_behind at run old mid sound put x (some_of_node (held_at old x) h))) (go (held_at old x) h)
+    subst (λ (o : Option (List ℕ)). IsSomeAnd o (λ p. 36 + n ≤ length p))
+    (sym (kept_behind at run old mid sound put x (some_of_node (held_at old x) h))) (go (held_at old x) h)
   where
     go : (o : Option (List ℕ)) → IsSomeAnd o (λ p. 76 ≤ length p) → IsSomeAnd o (λ p. 36 + n ≤ length p)
     go None h = absurd h
@@ -293,12 +316,15 @@ node_room at x n run old mid sound put h s =
 
 -- ---- where the key's list is
 
-pub listed_here : (version : HiveVersion) (bins : List Bin) (x count list : ℕ) (can : CanAdd (look_up version bins) bins x) → count ≡ can.node.value_count → list ≡ can.node.value_list
+pub listed_here : (version : HiveVersion) (bins : List Bin) (x count list : ℕ)
+    (can : CanAdd (look_up version bins) bins x) → count ≡ can.node.value_count → list ≡ can.node.value_list
     → ListsThese bins list count can.offsets
 listed_here version bins x count list can c l =
-    subst (λ (k : ℕ). ListsThese bins k count can.offsets) (sym l) (subst (λ (k : ℕ). ListsThese bins can.node.value_list k can.offsets) (sym c) can.listed)
+    subst (λ (k : ℕ). ListsThese bins k count can.offsets) (sym l)
+    (subst (λ (k : ℕ). ListsThese bins can.node.value_list k can.offsets) (sym c) can.listed)
 
-pub apart_here : (version : HiveVersion) (bins : List Bin) (x count list : ℕ) (can : CanAdd (look_up version bins) bins x) → count ≡ can.node.value_count → list ≡ can.node.value_list
+pub apart_here : (version : HiveVersion) (bins : List Bin) (x count list : ℕ)
+    (can : CanAdd (look_up version bins) bins x) → count ≡ can.node.value_count → list ≡ can.node.value_list
     → (count ≡ 0 → ⊥) → list ≡ x → ⊥
 apart_here version bins x count list can c l n e = can.apart (λ z. n (c ∙ z)) (sym l ∙ e)
 
@@ -307,10 +333,13 @@ apart_here version bins x count list can c l n e = can.apart (λ z. n (c ∙ z))
 pub far_over : (bytes size : ℕ) → 16777216 < size → 16777216 < bytes + new_bin_size size
 far_over bytes size h = omega (arith, h)
 
-pub lacks_room : (version : HiveVersion) (bins : List Bin) (x count size : ℕ) (v : Item) (can : CanAdd (look_up version bins) bins x) → count ≡ can.node.value_count
-    → size ≡ added_size version count v → 16777216 < bins_size bins + new_bin_size size → LacksRoomForValue version bins x v
+pub lacks_room : (version : HiveVersion) (bins : List Bin) (x count size : ℕ) (v : Item)
+    (can : CanAdd (look_up version bins) bins x) → count ≡ can.node.value_count
+    → size ≡ added_size version count v → 16777216 < bins_size bins + new_bin_size size
+    → LacksRoomForValue version bins x v
 lacks_room version bins x count size v can c e over = record {
   node = can.node;
   read = can.read;
-  full = subst (λ (m : ℕ). 16777216 < bins_size bins + new_bin_size m) (e ∙ ap (λ (k : ℕ). added_size version k v) c) over;
+  full = subst (λ (m : ℕ). 16777216 < bins_size bins + new_bin_size m) (e ∙ ap (λ (k : ℕ). added_size version k v) c)
+      over;
 }

@@ -1,5 +1,5 @@
 -- The run of a value of a new name: the old list's bytes, the fields of the value's cell, and the cells in a row.
-use Rattle.std.proofs.Common.{◌≡◌, ◌≤◌, ◌<◌, ◌^◌, ℕ, zero, suc, ◌+◌, ◌-◌, ◌*◌, List, [], ◌∷◌, ◌++◌, length, get_or, take, Some, refl, sym, ap, subst, ◌∙◌, append_assoc, arith}
+use Rattle.std.proofs.Common.{◌≡◌, ◌≤◌, ◌<◌, ◌^◌, ℕ, zero, suc, ◌+◌, ◌*◌, List, [], ◌∷◌, ◌++◌, length, get_or, take, Some, refl, sym, ap, subst, ◌∙◌, append_assoc, arith}
 use Rattle.std.specs.Option.{IsSome}
 use Rattle.std.specs.Int.{w32, from_le_bytes, to_le_bytes}
 use Rattle.std.proofs.lemmas.Nat.{le_bytes_4}
@@ -55,7 +55,8 @@ numbers_spelled (suc n) (a ∷ b ∷ c ∷ d ∷ p) small long =
 pub more_spelled : (os : List ℕ) (o : ℕ) → offsets_text os ++ to_le_bytes w32 o ≡ offsets_text (os ++ o ∷ [])
 more_spelled [] o = sym (append-nil (to_le_bytes w32 o))
 more_spelled (x ∷ os) o =
-    append_assoc (to_le_bytes w32 x) (offsets_text os) (to_le_bytes w32 o) ∙ ap (λ (xs : List ℕ). to_le_bytes w32 x ++ xs) (more_spelled os o)
+    append_assoc (to_le_bytes w32 x) (offsets_text os) (to_le_bytes w32 o)
+    ∙ ap (λ (xs : List ℕ). to_le_bytes w32 x ++ xs) (more_spelled os o)
 
 pub more_fit : (os : List ℕ) (o : ℕ) → AreOffsets os → o < 2 ^ 32 → AreOffsets (os ++ o ∷ [])
 more_fit [] o h lt = (lt, tt)
@@ -73,11 +74,13 @@ nothing_listed zero (o ∷ os) z e = absurd (omega (arith, e))
 nothing_listed (suc n) os z e = absurd (omega (arith, z))
 
 -- a key of no values has no list
-pub none_listed : (bins : List Bin) (list count : ℕ) (os : List ℕ) → count ≡ 0 → ListsThese bins list count os → numbers_in 4 count [] ≡ os
+pub none_listed : (bins : List Bin) (list count : ℕ) (os : List ℕ) → count ≡ 0 → ListsThese bins list count os
+    → numbers_in 4 count [] ≡ os
 none_listed bins list count os z l = nothing_listed count os z l.number
 
 -- its list is read where it is held
-pub some_listed : (bins : List Bin) (list count : ℕ) (p os : List ℕ) → (count ≡ 0 → ⊥) → held_at bins list ≡ Some p → ListsThese bins list count os
+pub some_listed : (bins : List Bin) (list count : ℕ) (p os : List ℕ) → (count ≡ 0 → ⊥) → held_at bins list ≡ Some p
+    → ListsThese bins list count os
     → (4 * count ≤ length p) × (numbers_in 4 count p ≡ os)
 some_listed bins list count p os n e l =
     let h = l.there n in
@@ -85,20 +88,24 @@ some_listed bins list count p os n e l =
     let same : h.text ≡ p = some_same h.text p (sym h.there ∙ e) in
     subst (λ (t : List ℕ). (4 * count ≤ length t) × (numbers_in 4 count t ≡ os)) same (f.long, sym f.are)
 
-pub list_held : (bins : List Bin) (list count : ℕ) (os : List ℕ) → ListsThese bins list count os → (count ≡ 0 → ⊥) → IsSome (held_at bins list)
+pub list_held : (bins : List Bin) (list count : ℕ) (os : List ℕ) → ListsThese bins list count os → (count ≡ 0 → ⊥)
+    → IsSome (held_at bins list)
 list_held bins list count os l n = is_held (held_at bins list) (l.there n).text (l.there n).there
 
-pub listed_few : (bins : List Bin) (list count : ℕ) (os : List ℕ) → ListsThese bins list count os → bins_size bins ≤ 16777216 → count ≤ 4194304
+pub listed_few : (bins : List Bin) (list count : ℕ) (os : List ℕ) → ListsThese bins list count os
+    → bins_size bins ≤ 16777216 → count ≤ 4194304
 listed_few bins list zero os l fits = omega arith
 listed_few bins list (suc n) os l fits = offsets_few bins list (suc n) os (l.there (λ e. omega (arith, e))) fits
 
 -- ---- the run
 
-pub added_space : (version : HiveVersion) (place : ℕ) (os : List ℕ) (v : Item) → space (added_cells version place os v) ≡ added_size version (length os) v
+pub added_space : (version : HiveVersion) (place : ℕ) (os : List ℕ) (v : Item)
+    → space (added_cells version place os v) ≡ added_size version (length os) v
 unfolding added_cells
 added_space version place os v =
     let w = behind_list place (length os) in
-    let n : length (offsets_text (os ++ w ∷ [])) ≡ 4 * suc (length os) = length_offsets (os ++ w ∷ []) ∙ ap (λ (k : ℕ). 4 * k) (more_long os w) in
+    let n : length (offsets_text (os ++ w ∷ [])) ≡ 4 * suc (length os) =
+    length_offsets (os ++ w ∷ []) ∙ ap (λ (k : ℕ). 4 * k) (more_long os w) in
     let c : cell (length (offsets_text (os ++ w ∷ []))) ≡ cell (4 * suc (length os)) = ap cell n in
     omega (arith, c, space_value version w v)
 
@@ -107,30 +114,42 @@ pub record IsAddedRun (version : HiveVersion) (place count : ℕ) (os : List ℕ
   pub long : length run ≡ added_size version count v
   pub sound : IsRun run
 
-pub added_run : (version : HiveVersion) (place count : ℕ) (os : List ℕ) (v : Item) (run : List ℕ) → length os ≡ count → run ≡ text (added_cells version place os v)
+pub added_run : (version : HiveVersion) (place count : ℕ) (os : List ℕ) (v : Item) (run : List ℕ) → length os ≡ count
+    → run ≡ text (added_cells version place os v)
     → place + added_size version count v ≤ 16777216 → IsAddedRun version place count os v run
 added_run version place count os v run n e room =
     let ps = added_cells version place os v in
-    let long : space ps ≡ added_size version count v = added_space version place os v ∙ ap (λ (k : ℕ). added_size version k v) n in
-    record { long = ap length e ∙ length_text ps ∙ long; sound = (run_is run ps e (omega (arith, long, room)) (omega (arith, long))).0 }
+    let long : space ps ≡ added_size version count v =
+    added_space version place os v ∙ ap (λ (k : ℕ). added_size version k v) n in
+    record {
+      long = ap length e ∙ length_text ps ∙ long;
+      sound = (run_is run ps e (omega (arith, long, room)) (omega (arith, long))).0;
+    }
 
 -- written cell by cell
-pub run_written : (version : HiveVersion) (place at : ℕ) (os : List ℕ) (v : Item) (one two list : List ℕ) → at ≡ behind_list place (length os)
-    → list ≡ offsets_text (os ++ at ∷ []) → one ≡ cell_text list → two ≡ one ++ text (item_cells version at v) → two ≡ text (added_cells version place os v)
+pub run_written : (version : HiveVersion) (place at : ℕ) (os : List ℕ) (v : Item) (one two list : List ℕ)
+    → at ≡ behind_list place (length os)
+    → list ≡ offsets_text (os ++ at ∷ []) → one ≡ cell_text list → two ≡ one ++ text (item_cells version at v)
+    → two ≡ text (added_cells version place os v)
 unfolding added_cells
 run_written version place at os v one two list a l f g =
     g ∙ ap (λ (xs : List ℕ). xs ++ text (item_cells version at v)) (f ∙ ap cell_text l)
     ∙ ap (λ (w : ℕ). cell_text (offsets_text (os ++ w ∷ [])) ++ text (item_cells version w v)) a
 
-pub value_written : (version : HiveVersion) (at behind : ℕ) (v : Item) (out one two p : List ℕ) → p ≡ key_value_text (item_form at v) → one ≡ out ++ cell_text p
-    → behind ≡ data_place at v → two ≡ one ++ text (data_cells version behind v.bytes) → two ≡ out ++ text (item_cells version at v)
+pub value_written : (version : HiveVersion) (at behind : ℕ) (v : Item) (out one two p : List ℕ)
+    → p ≡ key_value_text (item_form at v) → one ≡ out ++ cell_text p
+    → behind ≡ data_place at v → two ≡ one ++ text (data_cells version behind v.bytes)
+    → two ≡ out ++ text (item_cells version at v)
 unfolding item_cells
 value_written version at behind v out one two p e f d g =
     g ∙ ap (λ (n : ℕ). one ++ text (data_cells version n v.bytes)) d
-    ∙ ap (λ (xs : List ℕ). xs ++ text (data_cells version (data_place at v) v.bytes)) (f ∙ ap (λ (q : List ℕ). out ++ cell_text q) e)
-    ∙ append_assoc out (cell_text (key_value_text (item_form at v))) (text (data_cells version (data_place at v) v.bytes))
+    ∙ ap (λ (xs : List ℕ). xs ++ text (data_cells version (data_place at v) v.bytes))
+    (f ∙ ap (λ (q : List ℕ). out ++ cell_text q) e)
+    ∙ append_assoc out (cell_text (key_value_text (item_form at v)))
+    (text (data_cells version (data_place at v) v.bytes))
 
 -- how long the longer list is
-pub list_long : (os p : List ℕ) (at count : ℕ) → p ≡ offsets_text (os ++ at ∷ []) → length os ≡ count → length p ≡ 4 * suc count
+pub list_long : (os p : List ℕ) (at count : ℕ) → p ≡ offsets_text (os ++ at ∷ []) → length os ≡ count
+    → length p ≡ 4 * suc count
 list_long os p at count e n =
     ap length e ∙ length_offsets (os ++ at ∷ []) ∙ ap (λ (k : ℕ). 4 * k) (more_long os at ∙ ap suc n)

@@ -1,5 +1,5 @@
 -- The node of a new key is read as it was spelled, and a cell of security that counts one key more keeps its descriptor.
-use Rattle.std.proofs.Common.{◌≡◌, ◌≤◌, ◌<◌, ◌+◌, ◌^◌, ℕ, zero, suc, Bool, true, false, cond, List, [], ◌∷◌, ◌++◌, length, take, drop, get_or, Result, Ok, Err, refl, sym, ap, subst, ◌∙◌, inl, inr, arith}
+use Rattle.std.proofs.Common.{◌≡◌, ◌≤◌, ◌<◌, ◌+◌, ◌^◌, ℕ, zero, suc, Bool, true, false, List, [], ◌∷◌, ◌++◌, length, Result, Ok, Err, refl, ap, ◌∙◌, arith}
 use Rattle.std.specs.Prelude.{nat_lt, ◌==◌, slice_range, slice_index, if◌then◌else◌}
 use Rattle.std.specs.List.{list_any, list_all}
 use Rattle.std.specs.Int.{w32, to_le_bytes, from_le_bytes}
@@ -8,8 +8,7 @@ use Rattle.nt_bytes.specs.declared.fault.HiveKind.{HiveKind}
 use Rattle.nt_bytes.specs.declared.fault.HiveKind.TheVariants.{FormShort, FormSign}
 use Rattle.hive_model.specs.Valid.{is_backslash}
 use Rattle.hive_model.specs.Size.{is_narrow}
-use Rattle.hive_model.specs.StoredNames.{UnitsFit}
-use Rattle.hive_model.specs.KeyNode.{KeyNode, IsKeyNode, key_node_at, key_node_text, is_narrow_key}
+use Rattle.hive_model.specs.KeyNode.{IsKeyNode, key_node_at, key_node_text}
 use Rattle.hive_model.specs.Security.{SecurityCell, security_in, security_at}
 use Rattle.hive_model.specs.Stands.{tree_flags}
 use Rattle.hive_model.proofs.Spelling.{key_node_again}
@@ -39,7 +38,8 @@ pub record MayBeNode (parent stamp security : ℕ) (name : List ℕ) : Type 0 wh
   pub no_backslash : list_any is_backslash name ≡ false
   pub units : (k : ℕ) → slice_index name k < 65536
 
-pub is_key_node : (parent stamp security : ℕ) (name : List ℕ) → MayBeNode parent stamp security name → IsKeyNode (new_node parent stamp security name)
+pub is_key_node : (parent stamp security : ℕ) (name : List ℕ) → MayBeNode parent stamp security name
+    → IsKeyNode (new_node parent stamp security name)
 is_key_node parent stamp security name m = go (is_narrow name) refl
   where
     go : (b : Bool) → is_narrow name ≡ b → IsKeyNode (new_node parent stamp security name)
@@ -87,8 +87,10 @@ is_key_node parent stamp security name m = go (is_narrow name) refl
     })
 
 pub node_again : (parent stamp security : ℕ) (name slack : List ℕ) → MayBeNode parent stamp security name
-    → key_node_at (key_node_text (new_node parent stamp security name) ++ slack) ≡ done (new_node parent stamp security name)
-node_again parent stamp security name slack m = key_node_again (new_node parent stamp security name) slack (is_key_node parent stamp security name m)
+    → key_node_at (key_node_text (new_node parent stamp security name) ++ slack)
+    ≡ done (new_node parent stamp security name)
+node_again parent stamp security name slack m =
+    key_node_again (new_node parent stamp security name) slack (is_key_node parent stamp security name m)
 
 pub no_flags : (parent stamp security : ℕ) (name : List ℕ) → tree_flags (new_node parent stamp security name).flags ≡ 0
 no_flags parent stamp security name = go (is_narrow name) refl
@@ -140,11 +142,14 @@ security_counted p s uses e fits =
     let backward : u32_in q 8 ≡ u32_in p 8 = ap (from_le_bytes w32) (patch.before 8 4 (omega arith)) in
     let bytes : slice_range q 20 (20 + u32_in q 16) ≡ slice_range p 20 (20 + u32_in p 16) =
     patch.behind 20 (u32_in q 16) (omega arith) ∙ ap (λ (k : ℕ). slice_range p 20 (20 + k)) size in
-    let count : u32_in q 12 ≡ uses = ap (from_le_bytes w32) (in_part 12 (to_le_bytes w32 uses) p 0 4 (omega (arith, long)) (omega arith)) ∙ number_again uses fits in
+    let count : u32_in q 12 ≡ uses =
+    ap (from_le_bytes w32) (in_part 12 (to_le_bytes w32 uses) p 0 4 (omega (arith, long)) (omega arith))
+    ∙ number_again uses fits in
     let was : security_in p ≡ s = t.fields in
     let now : security_in q ≡ record s { uses = uses } =
     (λ i. record { forward = forward i; backward = backward i; uses = count i; descriptor = bytes i })
-    ∙ ap (λ (z : SecurityCell). record { forward = z.forward; backward = z.backward; uses = uses; descriptor = z.descriptor }) was in
+    ∙ ap (λ (z : SecurityCell). record
+    { forward = z.forward; backward = z.backward; uses = uses; descriptor = z.descriptor }) was in
     security_from q (record s { uses = uses }) (record {
       two = ap (λ (n : ℕ). nat_lt n 2) patch.length_same ∙ t.two;
       sign = ap (λ (n : ℕ). n == 0x6b73) sign ∙ t.sign;

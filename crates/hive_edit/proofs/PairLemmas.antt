@@ -1,5 +1,5 @@
 -- A key below another one: where a path leads, and which cells the two use.
-use Rattle.std.proofs.Common.{◌≡◌, ◌≤◌, ◌<◌, ℕ, suc, ◌+◌, ◌-◌, Bool, true, false, cond, List, [], ◌∷◌, ◌++◌, length, Option, Some, None, Result, Ok, ◌⊎◌, inl, inr, refl, sym, ap, subst, ◌∙◌, arith}
+use Rattle.std.proofs.Common.{◌≡◌, ◌≤◌, ◌<◌, ℕ, suc, ◌+◌, Bool, true, false, cond, List, [], ◌∷◌, ◌++◌, length, Option, Some, None, Result, Ok, ◌⊎◌, inl, inr, refl, sym, ap, subst, ◌∙◌, arith}
 use Rattle.std.proofs.lemmas.Bool.{ltb-false, ne_eqb, eq-eqb}
 use Rattle.std.specs.Prelude.{slice_range, ◌==◌, find, flat_map, option_and_then, Contains}
 use Rattle.nt_bytes.specs.Folding.{folds_same}
@@ -10,7 +10,7 @@ use Rattle.nt_bytes.specs.declared.fault.HiveKind.{HiveKind}
 use Rattle.nt_bytes.specs.Fields.{u16_in, u32_in}
 use Rattle.hive_model.specs.Forms.{◌>>=◌}
 use Rattle.hive_model.specs.Security.{SecurityCell, security_at}
-use Rattle.hive_model.specs.Tree.{Tree, key, head, children, is_named, find_key}
+use Rattle.hive_model.specs.Tree.{Tree, head, children, is_named, find_key}
 use Rattle.hive_model.specs.Walk.{reading, nowhere}
 use Rattle.hive_model.specs.Footprint.{child_places, is_node_named, key_place, list_cells_at, security_cell_at}
 use Rattle.hive_model.specs.Stands.{security_of, IsWellFormed}
@@ -56,15 +56,18 @@ a_pair p = Some p
 abbrev pub no_pair : Option KeyPair
 no_pair = None
 
-pub pair_end : (cells : Cells) (rest : List (List ℕ)) (above at : ℕ) → length rest < 1 → a_pair (pair above at) ≡ pair_from cells rest above at
+pub pair_end : (cells : Cells) (rest : List (List ℕ)) (above at : ℕ) → length rest < 1
+    → a_pair (pair above at) ≡ pair_from cells rest above at
 pair_end cells [] above at l = refl
 pair_end cells (name ∷ rest) above at l = absurd (omega (arith, l))
 
-pub pair_begin : (cells : Cells) (path : List (List ℕ)) (root : ℕ) → (length path ≡ 0 → ⊥) → pair_from cells path root root ≡ pair_place cells path root
+pub pair_begin : (cells : Cells) (path : List (List ℕ)) (root : ℕ) → (length path ≡ 0 → ⊥)
+    → pair_from cells path root root ≡ pair_place cells path root
 pair_begin cells [] root some = absurd (some refl)
 pair_begin cells (name ∷ path) root some = refl
 
-pub pair_none : (cells : Cells) (path : List (List ℕ)) (root : ℕ) → length path ≡ 0 → no_pair ≡ pair_place cells path root
+pub pair_none : (cells : Cells) (path : List (List ℕ)) (root : ℕ) → length path ≡ 0
+    → no_pair ≡ pair_place cells path root
 pair_none cells [] root e = refl
 pair_none cells (name ∷ path) root e = absurd (omega (arith, e))
 
@@ -81,11 +84,14 @@ parted name (next ∷ path) =
     let p = parted next path in
     record { parent = name ∷ p.parent; name = p.name; whole = ap (λ (l : List (List ℕ)). name ∷ l) p.whole }
 
-parts_of : (cells : Cells) (parent : List (List ℕ)) (name : List ℕ) (above at : ℕ) (p : KeyPair) → pair_from cells (parent ++ name ∷ []) above at ≡ a_pair p
-    → (key_place cells parent at ≡ some p.above) × (find (is_node_named cells name) (child_places cells p.above) ≡ some p.at)
+parts_of : (cells : Cells) (parent : List (List ℕ)) (name : List ℕ) (above at : ℕ) (p : KeyPair)
+    → pair_from cells (parent ++ name ∷ []) above at ≡ a_pair p
+    → (key_place cells parent at ≡ some p.above)
+    × (find (is_node_named cells name) (child_places cells p.above) ≡ some p.at)
 parts_of cells [] name above at p e = go (find (is_node_named cells name) (child_places cells at)) refl e
   where
-    go : (o : Option ℕ) → find (is_node_named cells name) (child_places cells at) ≡ o → option_and_then (pair_from cells [] at) o ≡ a_pair p
+    go : (o : Option ℕ) → find (is_node_named cells name) (child_places cells at) ≡ o
+        → option_and_then (pair_from cells [] at) o ≡ a_pair p
         → (Some at ≡ some p.above) × (find (is_node_named cells name) (child_places cells p.above) ≡ some p.at)
     go None f e = absurd cc
     go (Some y) f e =
@@ -98,26 +104,31 @@ parts_of cells (m ∷ parent) name above at p e =
   where
     go : (o : Option ℕ) → option_and_then (pair_from cells (parent ++ name ∷ []) at) o ≡ a_pair p
         → ((y : ℕ) → pair_from cells (parent ++ name ∷ []) at y ≡ a_pair p
-        → (key_place cells parent y ≡ some p.above) × (find (is_node_named cells name) (child_places cells p.above) ≡ some p.at))
-        → (option_and_then (key_place cells parent) o ≡ some p.above) × (find (is_node_named cells name) (child_places cells p.above) ≡ some p.at)
+        → (key_place cells parent y ≡ some p.above)
+        × (find (is_node_named cells name) (child_places cells p.above) ≡ some p.at))
+        → (option_and_then (key_place cells parent) o ≡ some p.above)
+        × (find (is_node_named cells name) (child_places cells p.above) ≡ some p.at)
     go None e deep = absurd cc
     go (Some y) e deep = deep y e
 
 abbrev no_place_there : Option ℕ
 no_place_there = None
 
-none_from : (cells : Cells) (path : List (List ℕ)) (above at : ℕ) → pair_from cells path above at ≡ no_pair → key_place cells path at ≡ no_place_there
+none_from : (cells : Cells) (path : List (List ℕ)) (above at : ℕ) → pair_from cells path above at ≡ no_pair
+    → key_place cells path at ≡ no_place_there
 none_from cells [] above at e = absurd cc
 none_from cells (name ∷ path) above at e =
     go (find (is_node_named cells name) (child_places cells at)) e (λ y f. none_from cells path at y f)
   where
     go : (o : Option ℕ) → option_and_then (pair_from cells path at) o ≡ no_pair
-        → ((y : ℕ) → pair_from cells path at y ≡ no_pair → key_place cells path y ≡ no_place_there) → option_and_then (key_place cells path) o ≡ no_place_there
+        → ((y : ℕ) → pair_from cells path at y ≡ no_pair → key_place cells path y ≡ no_place_there)
+        → option_and_then (key_place cells path) o ≡ no_place_there
     go None e deep = refl
     go (Some y) e deep = deep y e
 
 -- where no pair is, the path is the root's own, or leads to no key
-pub pair_absent : (cells : Cells) (path : List (List ℕ)) (root : ℕ) → pair_place cells path root ≡ no_pair → (path ≡ []) ⊎ (key_place cells path root ≡ no_place_there)
+pub pair_absent : (cells : Cells) (path : List (List ℕ)) (root : ℕ) → pair_place cells path root ≡ no_pair
+    → (path ≡ []) ⊎ (key_place cells path root ≡ no_place_there)
 pair_absent cells [] root e = inl refl
 pair_absent cells (name ∷ path) root e = inr (none_from cells (name ∷ path) root root e)
 
@@ -153,28 +164,34 @@ record KidThere (b : Cells) (name : List ℕ) (at : ℕ) (there : Tree) : Type 0
   found : find (is_named name) (children there) ≡ Some kid
   well : IsWellFormed b at kid
 
-kid_there : (b : Cells) (name : List ℕ) (x y : ℕ) (there : Tree) → IsWellFormed b x there → find (is_node_named b name) (child_places b x) ≡ some y
+kid_there : (b : Cells) (name : List ℕ) (x y : ℕ) (there : Tree) → IsWellFormed b x there
+    → find (is_node_named b name) (child_places b x) ≡ some y
     → KidThere b name y there
 kid_there b name x y there well e =
     go (find (is_named name) (children there)) refl
-    (subst (λ (o : Option ℕ). IsPlaceOf b o (find (is_named name) (children there))) e (child_place b name x there well))
+    (subst (λ (o : Option ℕ). IsPlaceOf b o (find (is_named name) (children there))) e
+    (child_place b name x there well))
   where
-    go : (o : Option Tree) → find (is_named name) (children there) ≡ o → IsPlaceOf b (Some y) o → KidThere b name y there
+    go : (o : Option Tree) → find (is_named name) (children there) ≡ o → IsPlaceOf b (Some y) o
+        → KidThere b name y there
     go None f p = absurd p
     go (Some k) f p = record { kid = k; found = f; well = p }
 
-pub pair_here : (b : Cells) (root : ℕ) (t : Tree) (path : List (List ℕ)) (p : KeyPair) → IsWellFormed b root t → pair_place b path root ≡ a_pair p
+pub pair_here : (b : Cells) (root : ℕ) (t : Tree) (path : List (List ℕ)) (p : KeyPair) → IsWellFormed b root t
+    → pair_place b path root ≡ a_pair p
     → PairHere b root t path p
 pair_here b root t [] p well e = absurd cc
 pair_here b root t (first ∷ path) p well e =
     let parts = parted first path in
-    let two = parts_of b parts.parent parts.name root root p (ap (λ (l : List (List ℕ)). pair_from b l root root) (sym parts.whole) ∙ e) in
+    let two = parts_of b parts.parent parts.name root root p
+    (ap (λ (l : List (List ℕ)). pair_from b l root root) (sym parts.whole) ∙ e) in
     let there = key_there b parts.parent root t p.above well two.0 in
     let placed = placed_at b parts.parent root p.above two.0 in
     let read = node_read b p.above there.there there.well.stands in
     let kid = kid_there b parts.name p.above p.at there.there there.well two.1 in
     let one = found_in (is_node_named b parts.name) (child_places b p.above) p.at two.1 in
-    let on = reach_on b placed.stored (node_name b p.at ∷ []) root p.above p.at placed.reached (p.at, one.0, refl, refl) in
+    let on = reach_on b placed.stored (node_name b p.at ∷ []) root p.above p.at placed.reached
+    (p.at, one.0, refl, refl) in
     let shallow = (sound_hive b root t well).shallow (placed.stored ++ node_name b p.at ∷ []) p.at on in
     let one_more = length_last placed.stored (node_name b p.at) in
     let one_name = length_last parts.parent parts.name in
@@ -206,23 +223,28 @@ pair_here b root t (first ∷ path) p well e =
 -- ---- which cells they use
 
 -- what a key and those below it use, it uses once
-pub below_once : (b : Cells) (root : ℕ) (t : Tree) (p : List (List ℕ)) (x left : ℕ) → IsWellFormed b root t → Reaches b root p x
+pub below_once : (b : Cells) (root : ℕ) (t : Tree) (p : List (List ℕ)) (x left : ℕ) → IsWellFormed b root t
+    → Reaches b root p x
     → length p + left ≡ 512 → Once (tree_uses left b x)
 below_once b root t p x left well h deep =
-    let s = subst (λ (n : ℕ). IsSwapped (tree_uses n b root) (tree_uses n b root) (tree_uses left b x) (tree_uses left b x)) (above_is p left ∙ deep)
+    let s = subst (λ (n : ℕ). IsSwapped (tree_uses n b root) (tree_uses n b root) (tree_uses left b x)
+    (tree_uses left b x)) (above_is p left ∙ deep)
     (around b b p p left root x t well.stands well.names (path_itself p) h (λ q z r out. same_itself b z)) in
     let whole = subst Once s.was (hive_once b root t well.stands well.names well.once) in
-    (pairwise_parts Agree (tree_uses left b x) s.behind (pairwise_parts Agree s.before (tree_uses left b x ++ s.behind) whole).right).left
+    (pairwise_parts Agree (tree_uses left b x) s.behind
+    (pairwise_parts Agree s.before (tree_uses left b x ++ s.behind) whole).right).left
 
 one_of : (f : ℕ → List (ℕ × Bool)) (xs : List ℕ) (x : ℕ) → In xs x → Once (flat_map f xs) → Once (f x)
 one_of f xs x i once =
     let a = among xs x i in
     let whole : Once (flat_map f a.before ++ (f x ++ flat_map f a.behind)) =
     subst Once (ap (flat_map f) a.whole ∙ flat_append f a.before (x ∷ a.behind)) once in
-    (pairwise_parts Agree (f x) (flat_map f a.behind) (pairwise_parts Agree (flat_map f a.before) (f x ++ flat_map f a.behind) whole).right).left
+    (pairwise_parts Agree (f x) (flat_map f a.behind)
+    (pairwise_parts Agree (flat_map f a.before) (f x ++ flat_map f a.behind) whole).right).left
 
 -- what owns it as the walk uses it, owns it as security
-role_security : (cells : Cells) (at o : ℕ) (r : Role) → HasRole cells at r o → IsSecurity r → In (security_cell_at cells at) o
+role_security : (cells : Cells) (at o : ℕ) (r : Role) → HasRole cells at r o → IsSecurity r
+    → In (security_cell_at cells at) o
 role_security cells at o node h s = absurd s
 role_security cells at o class h s = absurd s
 role_security cells at o security h s = h
@@ -233,8 +255,11 @@ role_security cells at o lists h s = absurd s
 -- a key uses its lists
 list_used : (cells : Cells) (at o : ℕ) → In (list_cells_at cells at) o → In (own_uses cells at) (o, false)
 list_used cells at o i =
-    inr (in_right (plain (class_cell_at cells at)) (secure (security_cell_at cells at) ++ (plain (all_value_cells cells at) ++ plain (list_cells_at cells at))) (o, false)
-    (in_right (secure (security_cell_at cells at)) (plain (all_value_cells cells at) ++ plain (list_cells_at cells at)) (o, false)
+    inr (in_right (plain (class_cell_at cells at))
+    (secure (security_cell_at cells at) ++ (plain (all_value_cells cells at) ++ plain (list_cells_at cells at)))
+    (o, false)
+    (in_right (secure (security_cell_at cells at)) (plain (all_value_cells cells at) ++ plain (list_cells_at cells at))
+    (o, false)
     (in_right (plain (all_value_cells cells at)) (plain (list_cells_at cells at)) (o, false)
     (in_map_from (λ (z : ℕ). (z, false)) (list_cells_at cells at) o i))))
 
@@ -247,7 +272,8 @@ module _ (b : Cells) (root : ℕ) (t : Tree) (path : List (List ℕ)) (p : KeyPa
       pairwise_parts Agree (own_uses b p.above) (flat_map (tree_uses left b) (child_places b p.above))
       (below_once b root t h.stored p.above (suc left) h.parent_is.well h.reached h.stored_deep)
 
-  in_flat_here : (u : ℕ × Bool) → In (tree_uses left b p.at) u → In (flat_map (tree_uses left b) (child_places b p.above)) u
+  in_flat_here : (u : ℕ × Bool) → In (tree_uses left b p.at) u
+      → In (flat_map (tree_uses left b) (child_places b p.above)) u
   in_flat_here u i = in_flat_from (tree_uses left b) (child_places b p.above) u p.at h.listed i
 
   pub in_hive : (u : ℕ × Bool) → In (tree_uses left b p.at) u → In (hive_uses b root) u
@@ -260,7 +286,8 @@ module _ (b : Cells) (root : ℕ) (t : Tree) (path : List (List ℕ)) (p : KeyPa
 
   -- no cell of the key above, but its security, is used by the child or below it
   apart_own : (o : ℕ) (s : Bool) → In (own_uses b p.above) (o, false) → In (tree_uses left b p.at) (o, s) → ⊥
-  apart_own o s i j = let both = parts.across (o, false) (o, s) i (in_flat_here (o, s) j) refl in let d : false ≡ true = both.0 in cc
+  apart_own o s i j = let both = parts.across (o, false) (o, s) i (in_flat_here (o, s) j) refl in let d : false ≡ true =
+      both.0 in cc
 
   pub no_node : (o : ℕ) (s : Bool) → In (tree_uses left b p.at) (o, s) → o ≡ p.above → ⊥
   no_node o s i e = apart_own o s (inl (λ j. (sym e j, false))) i
@@ -274,28 +301,36 @@ module _ (b : Cells) (root : ℕ) (t : Tree) (path : List (List ℕ)) (p : KeyPa
       record {
         path = h.stored ++ node_name b p.at ∷ w.path;
         key = w.owns.at;
-        reached = reach_on b h.stored (node_name b p.at ∷ w.path) root p.above w.owns.at h.reached (p.at, h.listed, refl, w.owns.reached);
+        reached = reach_on b h.stored (node_name b p.at ∷ w.path) root p.above w.owns.at h.reached
+            (p.at, h.listed, refl, w.owns.reached);
         uses = role_security b w.owns.at o w.role w.owns.has (w.security refl);
       }
 
 -- ---- the key can be taken out
 
 -- the lists of the key above are those that its node says
-pub in_lists : (version : HiveVersion) (bins : List Bin) (root : ℕ) (t : Tree) (path : List (List ℕ)) (p : KeyPair) (above : Above)
+pub in_lists : (version : HiveVersion) (bins : List Bin) (root : ℕ) (t : Tree) (path : List (List ℕ)) (p : KeyPair)
+    (above : Above)
     → (h : PairHere (look_up version bins) root t path p) → AboveIs above h.node
-    → (o : ℕ) → Contains (lists_at (look_up version bins) above.list above.count) o → In (list_cells_at (look_up version bins) p.above) o
+    → (o : ℕ) → Contains (lists_at (look_up version bins) above.list above.count) o
+    → In (list_cells_at (look_up version bins) p.above) o
 in_lists version bins root t path p above h says o i =
     let b = look_up version bins in
-    subst (λ (l : List ℕ). In l o) ((λ j. lists_at b (says.list j) (says.count j)) ∙ lists_are b root t h.stored p.above h.there h.node h.parent_is)
+    subst (λ (l : List ℕ). In l o)
+    ((λ j. lists_at b (says.list j) (says.count j))
+    ∙ lists_are b root t h.stored p.above h.there h.node h.parent_is)
     (in_from (lists_at b above.list above.count) o i)
 
-pub can_remove : (version : HiveVersion) (bins : List Bin) (root : ℕ) (t : Tree) (path : List (List ℕ)) (p : KeyPair) (above : Above)
+pub can_remove : (version : HiveVersion) (bins : List Bin) (root : ℕ) (t : Tree) (path : List (List ℕ)) (p : KeyPair)
+    (above : Above)
     → (h : PairHere (look_up version bins) root t path p) → AboveIs above h.node
     → CanRemove version p.above above (tree_uses (levels_left path) (look_up version bins) p.at) bins
 can_remove version bins root t path p above h says = record {
   siblings = subst (λ (z : ℕ). ListsSiblings b z above.count) (sym says.list)
-      (subst (λ (z : ℕ). ListsSiblings b h.node.child_list z) (sym says.count) (siblings_are b root t h.stored p.above h.there h.node h.parent_is));
-  apart = subst AreApart (sym (λ i. lists_at b (says.list i) (says.count i))) (lists_apart b root t h.stored p.above h.there h.node h.parent_is);
+      (subst (λ (z : ℕ). ListsSiblings b h.node.child_list z) (sym says.count)
+      (siblings_are b root t h.stored p.above h.there h.node h.parent_is));
+  apart = subst AreApart (sym (λ i. lists_at b (says.list i) (says.count i)))
+      (lists_apart b root t h.stored p.above h.there h.node h.parent_is);
   some =
       let count = says.count in
       let number = (siblings_are b root t h.stored p.above h.there h.node h.parent_is).number in
@@ -303,12 +338,15 @@ can_remove version bins root t path p above h says = record {
       let kids = some_length (child_places b p.above) p.at h.listed in
       omega (arith, count, number, same, kids);
   parent_long = and_some (held_at bins p.above) (λ z. 76 ≤ length z) q.0 (payload_held bins p.above q.0 q.1) long;
-  parent_apart = λ i. list_no_node b root t h.stored p.above h.there h.node h.parent_is (in_lists version bins root t path p above h says p.above i);
+  parent_apart = λ i. list_no_node b root t h.stored p.above h.there h.node h.parent_is
+      (in_lists version bins root t path p above h says p.above i);
   can = record {
     once = uses_once b root t path p h;
-    held = λ o i. let r = used_held b root t h.parent_is.well (o, false) (in_hive b root t path p h (o, false) i) in is_held (held_at bins o) r.0 (payload_held bins o r.0 r.1);
+    held = λ o i. let r = used_held b root t h.parent_is.well (o, false) (in_hive b root t path p h (o, false) i) in
+        is_held (held_at bins o) r.0 (payload_held bins o r.0 r.1);
     secure = λ o i.
-        let z = security_reads b root t h.stored p.above h.there h.node h.parent_is o (secure_cells b root t path p h o i) in
+        let z = security_reads b root t h.stored p.above h.there h.node h.parent_is o
+        (secure_cells b root t path p h o i) in
         let r = then_so (b.payload o) security_at z.0 z.1 in
         let size = ltb-false (length r.0) 20 (security_text_is r.0 z.0 r.2).head in
         and_some (held_at bins o) (λ w. 20 ≤ length w) r.0 (payload_held bins o r.0 r.1) size;
@@ -335,16 +373,19 @@ can_remove version bins root t path p above h says = record {
 
 -- ---- what the search asks and finds
 
-pub above_stands : (b : Cells) (root : ℕ) (t : Tree) (path : List (List ℕ)) (p : KeyPair) → PairHere b root t path p → IsKeyAt b p.above
+pub above_stands : (b : Cells) (root : ℕ) (t : Tree) (path : List (List ℕ)) (p : KeyPair) → PairHere b root t path p
+    → IsKeyAt b p.above
 above_stands b root t path p h = (h.there, h.parent_is.below)
 
-pub kid_stands : (b : Cells) (root : ℕ) (t : Tree) (path : List (List ℕ)) (p : KeyPair) → PairHere b root t path p → IsKeyAt b p.at
+pub kid_stands : (b : Cells) (root : ℕ) (t : Tree) (path : List (List ℕ)) (p : KeyPair) → PairHere b root t path p
+    → IsKeyAt b p.at
 kid_stands b root t path p h = (h.kid, h.kid_well)
 
 -- ---- the descriptor of a key
 
 -- a key that names no cell of security has none
-pub no_descriptor : (cells : Cells) (at : ℕ) (p : List ℕ) (place : ℕ) → IsKeyAt cells at → p ≡ payload_in cells at → place ≡ u32_in p 44 → place ≡ nowhere
+pub no_descriptor : (cells : Cells) (at : ℕ) (p : List ℕ) (place : ℕ) → IsKeyAt cells at → p ≡ payload_in cells at
+    → place ≡ u32_in p 44 → place ≡ nowhere
     → (t : Tree) → IsWellFormed cells at t → [] ≡ (head t).security
 unfolding security_of
 no_descriptor cells at p place k e pl none t well =
@@ -352,7 +393,8 @@ no_descriptor cells at p place k e pl none t well =
     let says : n.node.security ≡ nowhere = ap (λ (m : KeyNode). m.security) n.is ∙ sym pl ∙ none in
     let d = (node_stands cells at t n.node well.stands n.read).security in
     ok_same [] (head t).security
-    (sym (ap (λ (b : Bool). cond b (Ok []) (reading security_at cells n.node.security >>= λ s. Ok s.descriptor)) (eq-eqb n.node.security nowhere says)) ∙ d)
+    (sym (ap (λ (b : Bool). cond b (Ok []) (reading security_at cells n.node.security >>= λ s. Ok s.descriptor))
+    (eq-eqb n.node.security nowhere says)) ∙ d)
 
 -- a cell of security that a key names, and what it has
 pub record DescriptorHere (cells : Cells) (at : ℕ) (q : List ℕ) : Type 0 where
@@ -360,7 +402,8 @@ pub record DescriptorHere (cells : Cells) (at : ℕ) (q : List ℕ) : Type 0 whe
   pub whole : 20 + u32_in q 16 ≤ length q
   pub is : (t : Tree) → IsWellFormed cells at t → slice_range q 20 (20 + u32_in q 16) ≡ (head t).security
 
-pub descriptor_here : (cells : Cells) (at : ℕ) (p q : List ℕ) (place : ℕ) → IsKeyAt cells at → p ≡ payload_in cells at → place ≡ u32_in p 44
+pub descriptor_here : (cells : Cells) (at : ℕ) (p q : List ℕ) (place : ℕ) → IsKeyAt cells at → p ≡ payload_in cells at
+    → place ≡ u32_in p 44
     → (place ≡ nowhere → ⊥) → q ≡ payload_in cells place → DescriptorHere cells at q
 unfolding security_of
 descriptor_here cells at p q place k e pl some f =
@@ -369,7 +412,8 @@ descriptor_here cells at p q place k e pl some f =
     let there = λ (none : n.node.security ≡ nowhere). some (sym says ∙ none) in
     let first = (node_stands cells at k.0 n.node k.1.stands n.read).security in
     let s = security_read cells n.node (head k.0).security first there in
-    let read : security_at q ≡ done s.0 = ap security_at (f ∙ ap (payload_in cells) (sym says)) ∙ in_payload security_at cells n.node.security s.0 s.1 in
+    let read : security_at q ≡ done s.0 =
+    ap security_at (f ∙ ap (payload_in cells) (sym says)) ∙ in_payload security_at cells n.node.security s.0 s.1 in
     let text = security_text_is q s.0 read in
     record {
       long = ltb-false (length q) 20 text.head;
@@ -380,5 +424,6 @@ descriptor_here cells at p q place k e pl some f =
           ap (λ (z : SecurityCell). z.descriptor) text.fields
           ∙ ok_same s.0.descriptor (head t).security
           (sym (ap (λ (r : Result SecurityCell HiveKind). r >>= λ z. Ok z.descriptor) s.1)
-          ∙ sym (ap (λ (b : Bool). cond b (Ok []) (reading security_at cells n.node.security >>= λ z. Ok z.descriptor)) off) ∙ d);
+          ∙ sym (ap (λ (b : Bool). cond b (Ok []) (reading security_at cells n.node.security >>= λ z. Ok z.descriptor))
+          off) ∙ d);
     }

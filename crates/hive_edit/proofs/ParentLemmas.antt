@@ -1,27 +1,25 @@
 -- A key that is to get a child: its lists and its security are cells of their own, and all that is held stays where cells are kept.
-use Rattle.std.proofs.Common.{◌≡◌, ◌≤◌, ◌<◌, ℕ, suc, ◌+◌, ◌-◌, Bool, true, false, eqb, cond, List, [], ◌∷◌, ◌++◌, length, Option, Some, Result, Ok, Err, refl, sym, ap, subst, ◌∙◌, inl, inr, ⊎_elim, arith}
-use Rattle.std.specs.Prelude.{◌==◌, ◌⊎◌, flat_map, Contains, if◌then◌else◌}
-use Rattle.std.specs.Option.{IsSomeAnd}
+use Rattle.std.proofs.Common.{◌≡◌, ℕ, Bool, true, false, cond, List, [], ◌∷◌, ◌++◌, Result, Ok, refl, sym, ap, subst, ◌∙◌, inl, inr}
+use Rattle.std.specs.Prelude.{◌==◌, if◌then◌else◌}
 use Rattle.nt_bytes.specs.declared.fault.HiveKind.{HiveKind}
 use Rattle.hive_model.specs.Bins.{Cells}
 use Rattle.hive_model.specs.Forms.{◌>>=◌}
 use Rattle.hive_model.specs.KeyNode.{KeyNode, key_node_at}
 use Rattle.hive_model.specs.Security.{SecurityCell, security_at}
-use Rattle.hive_model.specs.Tree.{Tree, Trees, key, head}
+use Rattle.hive_model.specs.Tree.{Tree, key, head}
 use Rattle.hive_model.specs.Walk.{reading, nowhere, entries_at, entries_checks, security_checks, use_as}
-use Rattle.hive_model.specs.Footprint.{of_read, of_node, used_in, child_places, security_cell_at, list_cells_at}
-use Rattle.hive_model.specs.Stands.{Stands, KeyStands, security_of, IsWellFormed}
-use Rattle.edit_laws.specs.Owned.{Role, node, class, security, value_list, value, lists, In, node_name, Reaches, Owns, HasRole, IsSecurity, class_cell_at}
+use Rattle.hive_model.specs.Footprint.{of_read, used_in, child_places, security_cell_at, list_cells_at}
+use Rattle.hive_model.specs.Stands.{Stands, security_of, IsWellFormed}
+use Rattle.edit_laws.specs.Owned.{Role, node, class, security, value_list, value, lists, In, node_name, Reaches, HasRole, IsSecurity, class_cell_at}
 use Rattle.edit_laws.specs.Pairs.{Pairwise}
 use Rattle.edit_laws.specs.Revalues.{all_value_cells}
-use Rattle.edit_laws.specs.Uses.{Agree, Once, plain, secure, own_uses, tree_uses}
-use Rattle.edit_laws.proofs.Ins.{in_from, contains_from}
+use Rattle.edit_laws.specs.Uses.{Agree, Once, plain, secure, own_uses}
 use Rattle.edit_laws.proofs.Pairs.{InParts, pairwise_parts, pairwise_to, in_map_from}
 use Rattle.edit_laws.proofs.Out.{of_node_is}
 use Rattle.edit_laws.proofs.Untouched.{are_once}
 use Rattle.edit_laws.proofs.Apart.{IsOne}
 use Rattle.edit_laws.proofs.Held.{are_held}
-use Rattle.edit_laws.proofs.Same.{IsSame, same_name, same_reading, lists_same, places_same}
+use Rattle.edit_laws.proofs.Same.{same_name}
 use Rattle.edit_laws.proofs.SameTree.{IsSameKey, tree_same, uses_same, places_kept}
 use Rattle.edit_laws.proofs.Around.{hive_once, once_hive}
 use Rattle.edit_laws.proofs.ChangedValues.{own_once}
@@ -37,10 +35,12 @@ pub record Keeps (b c : Cells) : Type 0 where
   pub version : c.version ≡ b.version
   pub held : (o : ℕ) (q : List ℕ) → b.payload o ≡ done q → c.payload o ≡ done q
 
-pub kept_key : (b c : Cells) (root : ℕ) (t : Tree) (p : List (List ℕ)) (x : ℕ) → IsWellFormed b root t → Keeps b c → Reaches b root p x → IsSameKey b c x
+pub kept_key : (b c : Cells) (root : ℕ) (t : Tree) (p : List (List ℕ)) (x : ℕ) → IsWellFormed b root t → Keeps b c
+    → Reaches b root p x → IsSameKey b c x
 kept_key b c root t p x w k h = record {
   same = record { version = k.version; each = λ r o not_secure has. same r o has };
-  security = λ o i. ap (λ (r : Result (List ℕ) HiveKind). r >>= security_at >>= λ s. Ok s.descriptor) (same security o i);
+  security = λ o i. ap (λ (r : Result (List ℕ) HiveKind). r >>= security_at >>= λ s. Ok s.descriptor)
+      (same security o i);
 }
   where
     same : (r : Role) (o : ℕ) → HasRole b x r o → c.payload o ≡ b.payload o
@@ -54,7 +54,8 @@ kept_well b c root t w k = record {
   stands = stands;
   levels = w.levels;
   names = w.names;
-  once = once_hive c root t stands w.names (subst Once (sym (uses_same 512 b c root each)) (hive_once b root t w.stands w.names w.once));
+  once = once_hive c root t stands w.names
+      (subst Once (sym (uses_same 512 b c root each)) (hive_once b root t w.stands w.names w.once));
 }
   where
     each : (p : List (List ℕ)) (x : ℕ) → Reaches b root p x → IsSameKey b c x
@@ -63,7 +64,8 @@ kept_well b c root t w k = record {
     stands : Stands c root t
     stands = tree_same b c root t w.stands each
 
-reach_kept : (b c : Cells) (at : ℕ) (p : List (List ℕ)) (x : ℕ) → ((q : List (List ℕ)) (z : ℕ) → Reaches b at q z → IsSameKey b c z) → Reaches b at p x → Reaches c at p x
+reach_kept : (b c : Cells) (at : ℕ) (p : List (List ℕ)) (x : ℕ)
+    → ((q : List (List ℕ)) (z : ℕ) → Reaches b at q z → IsSameKey b c z) → Reaches b at p x → Reaches c at p x
 reach_kept b c at [] x each h = h
 reach_kept b c at (m ∷ p) x each h = (
   h.0,
@@ -75,13 +77,15 @@ reach_kept b c at (m ∷ p) x each h = (
 -- ---- a parent
 
 -- a key of a well-formed tree, with its node
-pub record IsParent (b : Cells) (root : ℕ) (t : Tree) (p : List (List ℕ)) (x : ℕ) (k : Tree) (n : KeyNode) : Type 0 where
+pub record IsParent (b : Cells) (root : ℕ) (t : Tree) (p : List (List ℕ)) (x : ℕ) (k : Tree)
+    (n : KeyNode) : Type 0 where
   pub well : IsWellFormed b root t
   pub reached : Reaches b root p x
   pub below : IsWellFormed b x k
   pub read : reading key_node_at b x ≡ done n
 
-pub kept_parent : (b c : Cells) (root : ℕ) (t : Tree) (p : List (List ℕ)) (x : ℕ) (k : Tree) (n : KeyNode) → IsParent b root t p x k n → Keeps b c → IsParent c root t p x k n
+pub kept_parent : (b c : Cells) (root : ℕ) (t : Tree) (p : List (List ℕ)) (x : ℕ) (k : Tree) (n : KeyNode)
+    → IsParent b root t p x k n → Keeps b c → IsParent c root t p x k n
 kept_parent b c root t p x k n h keeps = record {
   well = kept_well b c root t h.well keeps;
   reached = reach_kept b c root p x (λ q z r. kept_key b c root t q z h.well keeps r) h.reached;
@@ -91,31 +95,42 @@ kept_parent b c root t p x k n h keeps = record {
       ap (λ (q : Result (List ℕ) HiveKind). q >>= key_node_at) (keeps.held x r.0 r.1) ∙ r.2;
 }
 
-pub parent_held : (b : Cells) (root : ℕ) (t : Tree) (p : List (List ℕ)) (x : ℕ) (k : Tree) (n : KeyNode) → IsParent b root t p x k n → (q : List ℕ) × (b.payload x ≡ done q) × (key_node_at q ≡ done n)
+pub parent_held : (b : Cells) (root : ℕ) (t : Tree) (p : List (List ℕ)) (x : ℕ) (k : Tree) (n : KeyNode)
+    → IsParent b root t p x k n → (q : List ℕ) × (b.payload x ≡ done q) × (key_node_at q ≡ done n)
 parent_held b root t p x k n h = then_so (b.payload x) key_node_at n h.read
 
 -- ---- its lists
 
-pub lists_are : (b : Cells) (root : ℕ) (t : Tree) (p : List (List ℕ)) (x : ℕ) (k : Tree) (n : KeyNode) → IsParent b root t p x k n
+pub lists_are : (b : Cells) (root : ℕ) (t : Tree) (p : List (List ℕ)) (x : ℕ) (k : Tree) (n : KeyNode)
+    → IsParent b root t p x k n
     → lists_at b n.child_list n.child_count ≡ list_cells_at b x
 unfolding lists_at list_cells_at
-lists_are b root t p x k n h = sym (of_node_is b x n (λ m. if m.child_count == 0 then [] else used_in (entries_checks b m.child_list)) h.read)
+lists_are b root t p x k n h =
+    sym (of_node_is b x n (λ m. if m.child_count == 0 then [] else used_in (entries_checks b m.child_list)) h.read)
 
-pub children_are : (b : Cells) (root : ℕ) (t : Tree) (p : List (List ℕ)) (x : ℕ) (k : Tree) (n : KeyNode) → IsParent b root t p x k n
+pub children_are : (b : Cells) (root : ℕ) (t : Tree) (p : List (List ℕ)) (x : ℕ) (k : Tree) (n : KeyNode)
+    → IsParent b root t p x k n
     → children_at b n.child_list n.child_count ≡ child_places b x
 unfolding child_places
-children_are b root t p x k n h = sym (of_node_is b x n (λ m. if m.child_count == 0 then [] else of_read (entries_at b m.child_list) (λ os. os)) h.read)
+children_are b root t p x k n h =
+    sym (of_node_is b x n (λ m. if m.child_count == 0 then [] else of_read (entries_at b m.child_list) (λ os. os))
+    h.read)
 
-pub siblings_are : (b : Cells) (root : ℕ) (t : Tree) (p : List (List ℕ)) (x : ℕ) (k : Tree) (n : KeyNode) → IsParent b root t p x k n
+pub siblings_are : (b : Cells) (root : ℕ) (t : Tree) (p : List (List ℕ)) (x : ℕ) (k : Tree) (n : KeyNode)
+    → IsParent b root t p x k n
     → ListsSiblings b n.child_list n.child_count
 siblings_are b root t p x k n h = siblings_stand b x k n h.below.stands h.below.names h.read
 
 plain_differ : (xs : List ℕ) → Once (plain xs) → Pairwise (λ p q. p ≡ q → ⊥) xs
 plain_differ [] h = tt
-plain_differ (x ∷ xs) h =
-    (λ y i e. let both = h.0 (y, false) (in_map_from (λ (o : ℕ). (o, false)) xs y i) e in absurd (let d = both.0 in cc), plain_differ xs h.1)
+plain_differ (x ∷ xs) h = (
+  λ y i e. let both = h.0 (y, false) (in_map_from (λ (o : ℕ). (o, false)) xs y i) e in
+      absurd (let d = both.0 in cc),
+  plain_differ xs h.1,
+)
 
-pub lists_apart : (b : Cells) (root : ℕ) (t : Tree) (p : List (List ℕ)) (x : ℕ) (k : Tree) (n : KeyNode) → IsParent b root t p x k n
+pub lists_apart : (b : Cells) (root : ℕ) (t : Tree) (p : List (List ℕ)) (x : ℕ) (k : Tree) (n : KeyNode)
+    → IsParent b root t p x k n
     → AreApart (lists_at b n.child_list n.child_count)
 lists_apart b root t p x k n h = subst AreApart (sym (lists_are b root t p x k n h))
     (pairwise_to (λ a c. a ≡ c → ⊥) (list_cells_at b x) (plain_differ (list_cells_at b x) three.right))
@@ -123,11 +138,14 @@ lists_apart b root t p x k n h = subst AreApart (sym (lists_are b root t p x k n
     whole : Once (own_uses b x)
     whole = own_once b root t p x h.well h.reached
 
-    one : InParts Agree (plain (class_cell_at b x)) (secure (security_cell_at b x) ++ (plain (all_value_cells b x) ++ plain (list_cells_at b x)))
-    one = pairwise_parts Agree (plain (class_cell_at b x)) (secure (security_cell_at b x) ++ (plain (all_value_cells b x) ++ plain (list_cells_at b x))) whole.1
+    one : InParts Agree (plain (class_cell_at b x))
+        (secure (security_cell_at b x) ++ (plain (all_value_cells b x) ++ plain (list_cells_at b x)))
+    one = pairwise_parts Agree (plain (class_cell_at b x))
+        (secure (security_cell_at b x) ++ (plain (all_value_cells b x) ++ plain (list_cells_at b x))) whole.1
 
     two : InParts Agree (secure (security_cell_at b x)) (plain (all_value_cells b x) ++ plain (list_cells_at b x))
-    two = pairwise_parts Agree (secure (security_cell_at b x)) (plain (all_value_cells b x) ++ plain (list_cells_at b x)) one.right
+    two = pairwise_parts Agree (secure (security_cell_at b x))
+        (plain (all_value_cells b x) ++ plain (list_cells_at b x)) one.right
 
     three : InParts Agree (plain (all_value_cells b x)) (plain (list_cells_at b x))
     three = pairwise_parts Agree (plain (all_value_cells b x)) (plain (list_cells_at b x)) two.right
@@ -147,27 +165,35 @@ role_code (value m) = 4
 role_code lists = 5
 
 -- a list of the parent is no node, and no cell of security of any key
-pub list_no_node : (b : Cells) (root : ℕ) (t : Tree) (p : List (List ℕ)) (x : ℕ) (k : Tree) (n : KeyNode) → IsParent b root t p x k n
+pub list_no_node : (b : Cells) (root : ℕ) (t : Tree) (p : List (List ℕ)) (x : ℕ) (k : Tree) (n : KeyNode)
+    → IsParent b root t p x k n
     → In (list_cells_at b x) x → ⊥
 list_no_node b root t p x k n h i =
     not_one p p lists node (λ e. let d : 5 ≡ 0 = ap role_code e in cc) (λ a c. a)
-    ((are_once b root t h.well).one p p lists node x (record { at = x; reached = h.reached; has = i }) (record { at = x; reached = h.reached; has = refl }))
+    ((are_once b root t h.well).one p p lists node x (record { at = x; reached = h.reached; has = i })
+    (record { at = x; reached = h.reached; has = refl }))
 
-pub list_no_security : (b : Cells) (root : ℕ) (t : Tree) (p : List (List ℕ)) (x : ℕ) (k : Tree) (n : KeyNode) (q : List (List ℕ)) (z o : ℕ) → IsParent b root t p x k n
+pub list_no_security : (b : Cells) (root : ℕ) (t : Tree) (p : List (List ℕ)) (x : ℕ) (k : Tree) (n : KeyNode)
+    (q : List (List ℕ)) (z o : ℕ) → IsParent b root t p x k n
     → Reaches b root q z → In (security_cell_at b z) o → In (list_cells_at b x) o → ⊥
 list_no_security b root t p x k n q z o h r s i =
     not_one p q lists security (λ e. let d : 5 ≡ 2 = ap role_code e in cc) (λ a c. a)
-    ((are_once b root t h.well).one p q lists security o (record { at = x; reached = h.reached; has = i }) (record { at = z; reached = r; has = s }))
+    ((are_once b root t h.well).one p q lists security o (record { at = x; reached = h.reached; has = i })
+    (record { at = z; reached = r; has = s }))
 
-pub node_no_security : (b : Cells) (root : ℕ) (t : Tree) (p : List (List ℕ)) (x : ℕ) (k : Tree) (n : KeyNode) (q : List (List ℕ)) (z : ℕ) → IsParent b root t p x k n
+pub node_no_security : (b : Cells) (root : ℕ) (t : Tree) (p : List (List ℕ)) (x : ℕ) (k : Tree) (n : KeyNode)
+    (q : List (List ℕ)) (z : ℕ) → IsParent b root t p x k n
     → Reaches b root q z → In (security_cell_at b z) x → ⊥
 node_no_security b root t p x k n q z h r s =
     not_one p q node security (λ e. let d : 0 ≡ 2 = ap role_code e in cc) (λ a c. a)
-    ((are_once b root t h.well).one p q node security x (record { at = x; reached = h.reached; has = refl }) (record { at = z; reached = r; has = s }))
+    ((are_once b root t h.well).one p q node security x (record { at = x; reached = h.reached; has = refl })
+    (record { at = z; reached = r; has = s }))
 
-pub list_held : (b : Cells) (root : ℕ) (t : Tree) (p : List (List ℕ)) (x : ℕ) (k : Tree) (n : KeyNode) (o : ℕ) → IsParent b root t p x k n
+pub list_held : (b : Cells) (root : ℕ) (t : Tree) (p : List (List ℕ)) (x : ℕ) (k : Tree) (n : KeyNode) (o : ℕ)
+    → IsParent b root t p x k n
     → In (list_cells_at b x) o → (q : List ℕ) × (b.payload o ≡ Ok q)
-list_held b root t p x k n o h i = (are_held b root t h.well).held p lists o (record { at = x; reached = h.reached; has = i })
+list_held b root t p x k n o h i =
+    (are_held b root t h.well).held p lists o (record { at = x; reached = h.reached; has = i })
 
 -- ---- its security
 
@@ -175,7 +201,8 @@ list_held b root t p x k n o h i = (are_held b root t h.well).held p lists o (re
 abbrev pub security_listed : ℕ → List ℕ
 security_listed at = if at == nowhere then [] else at ∷ []
 
-pub security_at_node : (b : Cells) (x : ℕ) (n : KeyNode) → reading key_node_at b x ≡ done n → security_cell_at b x ≡ security_listed n.security
+pub security_at_node : (b : Cells) (x : ℕ) (n : KeyNode) → reading key_node_at b x ≡ done n
+    → security_cell_at b x ≡ security_listed n.security
 unfolding security_cell_at security_checks
 security_at_node b x n read = of_node_is b x n (λ m. used_in (security_checks b m)) read ∙ go (n.security == nowhere)
   where
@@ -198,15 +225,18 @@ security_in_list at some = go (at == nowhere) refl
     go true e = absurd (some (Rattle.std.proofs.lemmas.Bool.eqb-true at nowhere e))
     go false e = inl refl
 
-pub security_there : (b : Cells) (x : ℕ) (n : KeyNode) → reading key_node_at b x ≡ done n → (n.security ≡ nowhere → ⊥) → In (security_cell_at b x) n.security
-security_there b x n read some = subst (λ (l : List ℕ). In l n.security) (sym (security_at_node b x n read)) (security_in_list n.security some)
+pub security_there : (b : Cells) (x : ℕ) (n : KeyNode) → reading key_node_at b x ≡ done n → (n.security ≡ nowhere → ⊥)
+    → In (security_cell_at b x) n.security
+security_there b x n read some =
+    subst (λ (l : List ℕ). In l n.security) (sym (security_at_node b x n read)) (security_in_list n.security some)
 
 -- what a key's node says, and what it stands for
 pub record NodeStands (b : Cells) (x : ℕ) (k : Tree) (n : KeyNode) : Type 0 where
   pub stamp : (head k).stamp ≡ n.stamp
   pub security : security_of b n ≡ done (head k).security
 
-pub node_stands : (b : Cells) (x : ℕ) (k : Tree) (n : KeyNode) → Stands b x k → reading key_node_at b x ≡ done n → NodeStands b x k n
+pub node_stands : (b : Cells) (x : ℕ) (k : Tree) (n : KeyNode) → Stands b x k → reading key_node_at b x ≡ done n
+    → NodeStands b x k n
 node_stands b x (key h ts) n s read =
     let same : s.1.node ≡ n = ok_same s.1.node n (sym s.1.read ∙ read) in
     record {

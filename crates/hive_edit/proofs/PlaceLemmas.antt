@@ -37,21 +37,26 @@ IsPlaceOf cells (Some at) None = ⊥
 IsPlaceOf cells (Some at) (Some t) = IsWellFormed cells at t
 
 -- a key node tells its name
-node_named : (cells : Cells) (at : ℕ) (t : Tree) (name : List ℕ) → Stands cells at t → is_node_named cells name at ≡ is_named name t
+node_named : (cells : Cells) (at : ℕ) (t : Tree) (name : List ℕ) → Stands cells at t
+    → is_node_named cells name at ≡ is_named name t
 node_named cells at (key h ts) name s =
     ap (λ (r : Result KeyNode HiveKind). list_any (folds_same name) (names_of (λ node. node.name) r)) s.1.read
     ∙ or_false (folds_same name s.1.node.name) ∙ ap (folds_same name) (sym s.1.name)
 
 child_found : (cells : Cells) (name offsets : List ℕ) (ts : Trees) → AllWellFormed cells offsets ts
     → IsPlaceOf cells (find (is_node_named cells name) offsets) (find (is_named name) (listed ts))
-child_found cells name offsets none w = subst (λ (os : List ℕ). IsPlaceOf cells (find (is_node_named cells name) os) None) (sym w) tt
+child_found cells name offsets none w =
+    subst (λ (os : List ℕ). IsPlaceOf cells (find (is_node_named cells name) os) None) (sym w) tt
 child_found cells name offsets (more t ts) w =
-    subst (λ (os : List ℕ). IsPlaceOf cells (find (is_node_named cells name) os) (find (is_named name) (t ∷ listed ts))) (sym w.2)
-    (subst (λ (b : Bool). IsPlaceOf cells (cond b (Some w.0) (find (is_node_named cells name) w.1)) (find (is_named name) (t ∷ listed ts)))
+    subst (λ (os : List ℕ). IsPlaceOf cells (find (is_node_named cells name) os) (find (is_named name) (t ∷ listed ts)))
+    (sym w.2)
+    (subst (λ (b : Bool). IsPlaceOf cells (cond b (Some w.0) (find (is_node_named cells name) w.1))
+    (find (is_named name) (t ∷ listed ts)))
     (sym (node_named cells w.0 t name w.3.stands)) (go (is_named name t) (child_found cells name w.1 ts w.4)))
   where
     go : (b : Bool) → IsPlaceOf cells (find (is_node_named cells name) w.1) (find (is_named name) (listed ts))
-        → IsPlaceOf cells (cond b (Some w.0) (find (is_node_named cells name) w.1)) (cond b (Some t) (find (is_named name) (listed ts)))
+        → IsPlaceOf cells (cond b (Some w.0) (find (is_node_named cells name) w.1))
+        (cond b (Some t) (find (is_named name) (listed ts)))
     go true later = w.3
     go false later = later
 
@@ -60,13 +65,16 @@ pub child_place : (cells : Cells) (name : List ℕ) (at : ℕ) (t : Tree) → Is
     → IsPlaceOf cells (find (is_node_named cells name) (child_places cells at)) (find (is_named name) (children t))
 child_place cells name at (key h ts) w =
     subst (λ (os : List ℕ). IsPlaceOf cells (find (is_node_named cells name) os) (find (is_named name) (listed ts)))
-    (sym (children_stand cells at h w.stands.0 w.stands.1)) (child_found cells name w.stands.0 ts (children_well_formed cells at h ts w))
+    (sym (children_stand cells at h w.stands.0 w.stands.1))
+    (child_found cells name w.stands.0 ts (children_well_formed cells at h ts w))
 
 -- the key at a path is in the cells where it is in the tree
-pub place_of_key : (cells : Cells) (path : List (List ℕ)) (at : ℕ) (t : Tree) → IsWellFormed cells at t → IsPlaceOf cells (key_place cells path at) (find_key path t)
+pub place_of_key : (cells : Cells) (path : List (List ℕ)) (at : ℕ) (t : Tree) → IsWellFormed cells at t
+    → IsPlaceOf cells (key_place cells path at) (find_key path t)
 place_of_key cells [] at t w = w
 place_of_key cells (name ∷ path) at t w =
-    go (find (is_node_named cells name) (child_places cells at)) (find (is_named name) (children t)) (child_place cells name at t w)
+    go (find (is_node_named cells name) (child_places cells at)) (find (is_named name) (children t))
+    (child_place cells name at t w)
     (λ b u v. place_of_key cells path b u v)
   where
     go : (o : Option ℕ) (u : Option Tree) → IsPlaceOf cells o u
@@ -78,9 +86,13 @@ place_of_key cells (name ∷ path) at t w =
     go (Some b) (Some v) p deep = deep b v p
 
 -- a child that is found stands in well-formed cells
-pub found_stands : (cells : Cells) (name : List ℕ) (at : ℕ) (r : Option ℕ) → IsKeyAt cells at → r ≡ find (is_node_named cells name) (child_places cells at)
+pub found_stands : (cells : Cells) (name : List ℕ) (at : ℕ) (r : Option ℕ) → IsKeyAt cells at
+    → r ≡ find (is_node_named cells name) (child_places cells at)
     → IfSome r (IsKeyAt cells)
-found_stands cells name at r k e = go r (find (is_named name) (children k.0)) (subst (λ (o : Option ℕ). IsPlaceOf cells o (find (is_named name) (children k.0))) (sym e) (child_place cells name at k.0 k.1))
+found_stands cells name at r k e =
+    go r (find (is_named name) (children k.0))
+    (subst (λ (o : Option ℕ). IsPlaceOf cells o (find (is_named name) (children k.0))) (sym e)
+    (child_place cells name at k.0 k.1))
   where
     go : (o : Option ℕ) (u : Option Tree) → IsPlaceOf cells o u → IfSome o (IsKeyAt cells)
     go None u p = tt
@@ -88,7 +100,8 @@ found_stands cells name at r k e = go r (find (is_named name) (children k.0)) (s
     go (Some b) (Some v) p = (v, p)
 
 -- whether a key is there
-pub place_tells : (cells : Cells) (path : List (List ℕ)) (root : ℕ) (t : Tree) → IsWellFormed cells root t → is_some (key_place cells path root) ≡ is_some (find_key path t)
+pub place_tells : (cells : Cells) (path : List (List ℕ)) (root : ℕ) (t : Tree) → IsWellFormed cells root t
+    → is_some (key_place cells path root) ≡ is_some (find_key path t)
 place_tells cells path root t w = go (key_place cells path root) (find_key path t) (place_of_key cells path root t w)
   where
     go : (o : Option ℕ) (u : Option Tree) → IsPlaceOf cells o u → is_some o ≡ is_some u
@@ -98,8 +111,11 @@ place_tells cells path root t w = go (key_place cells path root) (find_key path 
     go (Some b) (Some v) p = refl
 
 -- where no key is in the cells, none is in the tree
-pub no_place : (cells : Cells) (path : List (List ℕ)) (root : ℕ) (t : Tree) → IsWellFormed cells root t → key_place cells path root ≡ None → find_key path t ≡ None
-no_place cells path root t w e = go (find_key path t) (subst (λ (o : Option ℕ). IsPlaceOf cells o (find_key path t)) e (place_of_key cells path root t w))
+pub no_place : (cells : Cells) (path : List (List ℕ)) (root : ℕ) (t : Tree) → IsWellFormed cells root t
+    → key_place cells path root ≡ None → find_key path t ≡ None
+no_place cells path root t w e =
+    go (find_key path t) (subst (λ (o : Option ℕ). IsPlaceOf cells o (find_key path t)) e
+    (place_of_key cells path root t w))
   where
     go : (u : Option Tree) → IsPlaceOf cells None u → u ≡ None
     go None p = refl
@@ -111,8 +127,11 @@ pub record KeyThere (cells : Cells) (path : List (List ℕ)) (t : Tree) (at : �
   pub found : find_key path t ≡ Some there
   pub well : IsWellFormed cells at there
 
-pub key_there : (cells : Cells) (path : List (List ℕ)) (root : ℕ) (t : Tree) (at : ℕ) → IsWellFormed cells root t → key_place cells path root ≡ some at → KeyThere cells path t at
-key_there cells path root t at w e = go (find_key path t) refl (subst (λ (o : Option ℕ). IsPlaceOf cells o (find_key path t)) e (place_of_key cells path root t w))
+pub key_there : (cells : Cells) (path : List (List ℕ)) (root : ℕ) (t : Tree) (at : ℕ) → IsWellFormed cells root t
+    → key_place cells path root ≡ some at → KeyThere cells path t at
+key_there cells path root t at w e =
+    go (find_key path t) refl
+    (subst (λ (o : Option ℕ). IsPlaceOf cells o (find_key path t)) e (place_of_key cells path root t w))
   where
     go : (u : Option Tree) → find_key path t ≡ u → IsPlaceOf cells (Some at) u → KeyThere cells path t at
     go None f p = absurd p
@@ -120,7 +139,8 @@ key_there cells path root t at w e = go (find_key path t) refl (subst (λ (o : O
 
 -- ---- names of children
 
-names_stand : (cells : Cells) (name_at : ℕ → List ℕ) (offsets : List ℕ) (ts : Trees) → ((at : ℕ) (t : Tree) → Stands cells at t → name_at at ≡ (head t).name)
+names_stand : (cells : Cells) (name_at : ℕ → List ℕ) (offsets : List ℕ) (ts : Trees)
+    → ((at : ℕ) (t : Tree) → Stands cells at t → name_at at ≡ (head t).name)
     → AllStand cells offsets ts → map name_at offsets ≡ map (λ t. (head t).name) (listed ts)
 names_stand cells name_at offsets none n s = ap (map name_at) s
 names_stand cells name_at offsets (more t ts) n s =
@@ -129,30 +149,39 @@ names_stand cells name_at offsets (more t ts) n s =
     ap (map name_at) s.2 ∙ (λ i. first i ∷ rest i)
 
 -- the names at the children of a key are those of its children
-pub child_names_stand : (cells : Cells) (name_at : ℕ → List ℕ) (at : ℕ) (t : Tree) → ((b : ℕ) (u : Tree) → Stands cells b u → name_at b ≡ (head u).name)
+pub child_names_stand : (cells : Cells) (name_at : ℕ → List ℕ) (at : ℕ) (t : Tree)
+    → ((b : ℕ) (u : Tree) → Stands cells b u → name_at b ≡ (head u).name)
     → IsWellFormed cells at t → map name_at (child_places cells at) ≡ map (λ u. (head u).name) (children t)
 child_names_stand cells name_at at (key h ts) n w =
-    ap (map name_at) (children_stand cells at h w.stands.0 w.stands.1) ∙ names_stand cells name_at w.stands.0 ts n w.stands.2
+    ap (map name_at) (children_stand cells at h w.stands.0 w.stands.1)
+    ∙ names_stand cells name_at w.stands.0 ts n w.stands.2
 
 -- ---- values
 
 -- the values of a key stand at the places that its node names
-values_stand : (cells : Cells) (at : ℕ) (h : Head) (offsets : List ℕ) → KeyStands cells at h offsets → items_at cells (value_places cells at) ≡ done h.values
+values_stand : (cells : Cells) (at : ℕ) (h : Head) (offsets : List ℕ) → KeyStands cells at h offsets
+    → items_at cells (value_places cells at) ≡ done h.values
 unfolding value_places values_of
 values_stand cells at h offsets s =
-    ap (λ (r : Result KeyNode HiveKind). items_at cells (of_read r (λ node. cond (eqb node.value_count 0) [] (of_read (reading (offsets_in node.value_count) cells node.value_list) (λ os. os))))) s.read
+    ap (λ (r : Result KeyNode HiveKind). items_at cells
+    (of_read r (λ node. cond (eqb node.value_count 0) []
+    (of_read (reading (offsets_in node.value_count) cells node.value_list) (λ os. os))))) s.read
     ∙ go (eqb s.node.value_count 0) s.values
   where
-    listed_values : (r : Result (List ℕ) HiveKind) → (r >>= items_at cells) ≡ done h.values → items_at cells (of_read r (λ os. os)) ≡ done h.values
+    listed_values : (r : Result (List ℕ) HiveKind) → (r >>= items_at cells) ≡ done h.values
+        → items_at cells (of_read r (λ os. os)) ≡ done h.values
     listed_values (Ok os) e = e
     listed_values (Err k) e = absurd cc
 
-    go : (b : Bool) → cond b (Ok []) (reading (offsets_in s.node.value_count) cells s.node.value_list >>= items_at cells) ≡ done h.values
-        → items_at cells (cond b [] (of_read (reading (offsets_in s.node.value_count) cells s.node.value_list) (λ os. os))) ≡ done h.values
+    go : (b : Bool) → cond b (Ok [])
+        (reading (offsets_in s.node.value_count) cells s.node.value_list >>= items_at cells) ≡ done h.values
+        → items_at cells (cond b []
+        (of_read (reading (offsets_in s.node.value_count) cells s.node.value_list) (λ os. os))) ≡ done h.values
     go true e = e
     go false e = listed_values (reading (offsets_in s.node.value_count) cells s.node.value_list) e
 
-pub items_stand : (cells : Cells) (at : ℕ) (t : Tree) → IsWellFormed cells at t → items_at cells (value_places cells at) ≡ done (head t).values
+pub items_stand : (cells : Cells) (at : ℕ) (t : Tree) → IsWellFormed cells at t
+    → items_at cells (value_places cells at) ≡ done (head t).values
 items_stand cells at (key h ts) w = values_stand cells at h w.stands.0 w.stands.1
 
 -- a value is there where the list has one
@@ -166,10 +195,12 @@ abbrev item_with : KeyValue → List ℕ → Item
 item_with value bytes = record { name = value.name; kind = value.kind; bytes = bytes }
 
 -- a value tells its name
-value_named : (cells : Cells) (at : ℕ) (v : Item) (name : List ℕ) → item_at cells at ≡ done v → is_value_named cells name at ≡ is_item name v
+value_named : (cells : Cells) (at : ℕ) (v : Item) (name : List ℕ) → item_at cells at ≡ done v
+    → is_value_named cells name at ≡ is_item name v
 unfolding item_at
 value_named cells at v name e =
-    let read = then_so (reading key_value_at cells at) (λ value. data_of cells value >>= λ bytes. Ok (item_with value bytes)) v e in
+    let read = then_so (reading key_value_at cells at)
+    (λ value. data_of cells value >>= λ bytes. Ok (item_with value bytes)) v e in
     let bytes = then_so (data_of cells read.0) (λ bytes. Ok (item_with read.0 bytes)) v read.2 in
     let same : read.0.name ≡ v.name = ap (λ (i : Item). i.name) (ok_same (item_with read.0 bytes.0) v bytes.2) in
     ap (λ (r : Result KeyValue HiveKind). list_any (folds_same name) (names_of (λ value. value.name) r)) read.1
@@ -177,40 +208,54 @@ value_named cells at v name e =
 
 item_found : (cells : Cells) (name offsets : List ℕ) (items : List Item) → items_at cells offsets ≡ done items
     → IsItemAt cells (find (is_value_named cells name) offsets) (find (is_item name) items)
-item_found cells name [] items e = subst (λ (vs : List Item). IsItemAt cells None (find (is_item name) vs)) (ok_same [] items e) tt
+item_found cells name [] items e =
+    subst (λ (vs : List Item). IsItemAt cells None (find (is_item name) vs)) (ok_same [] items e) tt
 item_found cells name (at ∷ offsets) items e =
     let one = then_so (item_at cells at) (λ v. items_at cells offsets >>= λ vs. Ok (v ∷ vs)) items e in
     let others = then_so (items_at cells offsets) (λ vs. Ok (one.0 ∷ vs)) items one.2 in
-    subst (λ (vs : List Item). IsItemAt cells (find (is_value_named cells name) (at ∷ offsets)) (find (is_item name) vs)) (ok_same (one.0 ∷ others.0) items others.2)
-    (subst (λ (b : Bool). IsItemAt cells (cond b (Some at) (find (is_value_named cells name) offsets)) (find (is_item name) (one.0 ∷ others.0)))
-    (sym (value_named cells at one.0 name one.1)) (go one.0 others.0 (is_item name one.0) one.1 (item_found cells name offsets others.0 others.1)))
+    subst (λ (vs : List Item). IsItemAt cells (find (is_value_named cells name) (at ∷ offsets))
+    (find (is_item name) vs)) (ok_same (one.0 ∷ others.0) items others.2)
+    (subst (λ (b : Bool). IsItemAt cells (cond b (Some at) (find (is_value_named cells name) offsets))
+    (find (is_item name) (one.0 ∷ others.0)))
+    (sym (value_named cells at one.0 name one.1))
+    (go one.0 others.0 (is_item name one.0) one.1 (item_found cells name offsets others.0 others.1)))
   where
-    go : (v : Item) (vs : List Item) (b : Bool) → item_at cells at ≡ done v → IsItemAt cells (find (is_value_named cells name) offsets) (find (is_item name) vs)
-        → IsItemAt cells (cond b (Some at) (find (is_value_named cells name) offsets)) (cond b (Some v) (find (is_item name) vs))
+    go : (v : Item) (vs : List Item) (b : Bool) → item_at cells at ≡ done v
+        → IsItemAt cells (find (is_value_named cells name) offsets) (find (is_item name) vs)
+        → IsItemAt cells (cond b (Some at) (find (is_value_named cells name) offsets))
+        (cond b (Some v) (find (is_item name) vs))
     go v vs true here later = here
     go v vs false here later = later
 
 -- a value of a key with a name is in the cells where it is in the tree
-pub place_of_item : (cells : Cells) (name : List ℕ) (at : ℕ) (t : Tree) → IsWellFormed cells at t → IsItemAt cells (value_place cells name at) (find_item name t)
-place_of_item cells name at t w = item_found cells name (value_places cells at) (head t).values (items_stand cells at t w)
+pub place_of_item : (cells : Cells) (name : List ℕ) (at : ℕ) (t : Tree) → IsWellFormed cells at t
+    → IsItemAt cells (value_place cells name at) (find_item name t)
+place_of_item cells name at t w =
+    item_found cells name (value_places cells at) (head t).values (items_stand cells at t w)
 
 -- the number of the value that is found is the one that the tree has
-dword_there : (cells : Cells) (name : List ℕ) (at : ℕ) (t : Tree) → IsWellFormed cells at t → option_and_then (dword_at cells) (value_place cells name at) ≡ find_dword name t
+dword_there : (cells : Cells) (name : List ℕ) (at : ℕ) (t : Tree) → IsWellFormed cells at t
+    → option_and_then (dword_at cells) (value_place cells name at) ≡ find_dword name t
 dword_there cells name at t w = go (value_place cells name at) (find_item name t) (place_of_item cells name at t w)
   where
-    go : (o : Option ℕ) (v : Option Item) → IsItemAt cells o v → option_and_then (dword_at cells) o ≡ option_and_then dword_in v
+    go : (o : Option ℕ) (v : Option Item) → IsItemAt cells o v
+        → option_and_then (dword_at cells) o ≡ option_and_then dword_in v
     go None None p = refl
     go None (Some v) p = absurd p
     go (Some b) None p = absurd p
     go (Some b) (Some v) p = ap (λ (r : Result Item HiveKind). option_and_then dword_in (item_read r)) p
 
 -- the number under a name in the key at a path
-pub dword_found : (cells : Cells) (path : List (List ℕ)) (name : List ℕ) (root : ℕ) (t : Tree) → IsWellFormed cells root t
-    → option_and_then (λ at. option_and_then (dword_at cells) (value_place cells name at)) (key_place cells path root) ≡ found_dword path name t
-dword_found cells path name root t w = go (key_place cells path root) (find_key path t) (place_of_key cells path root t w)
+pub dword_found : (cells : Cells) (path : List (List ℕ)) (name : List ℕ) (root : ℕ) (t : Tree)
+    → IsWellFormed cells root t
+    → option_and_then (λ at. option_and_then (dword_at cells) (value_place cells name at)) (key_place cells path root)
+    ≡ found_dword path name t
+dword_found cells path name root t w =
+    go (key_place cells path root) (find_key path t) (place_of_key cells path root t w)
   where
     go : (o : Option ℕ) (u : Option Tree) → IsPlaceOf cells o u
-        → option_and_then (λ at. option_and_then (dword_at cells) (value_place cells name at)) o ≡ option_and_then (find_dword name) u
+        → option_and_then (λ at. option_and_then (dword_at cells) (value_place cells name at)) o
+        ≡ option_and_then (find_dword name) u
     go None None p = refl
     go None (Some v) p = absurd p
     go (Some b) None p = absurd p
@@ -220,7 +265,8 @@ dword_found cells path name root t w = go (key_place cells path root) (find_key 
 
 -- past a name whose child is found, the rest of the path leads from the child where the whole leads from the key
 pub place_on : (cells : Cells) (rest later : List (List ℕ)) (name : List ℕ) (at child : ℕ) → rest ≡ name ∷ later
-    → some child ≡ find (is_node_named cells name) (child_places cells at) → key_place cells later child ≡ key_place cells rest at
+    → some child ≡ find (is_node_named cells name) (child_places cells at)
+    → key_place cells later child ≡ key_place cells rest at
 place_on cells rest later name at child r e =
     ap (option_and_then (key_place cells later)) e ∙ ap (λ (path : List (List ℕ)). key_place cells path at) (sym r)
 

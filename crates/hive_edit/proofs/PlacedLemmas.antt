@@ -1,5 +1,5 @@
 -- Where a new child stands among the others, by the names of their nodes, and that lists that are read are held.
-use Rattle.std.proofs.Common.{◌≡◌, ◌<◌, ℕ, suc, ◌+◌, Bool, true, false, not, cond, List, [], ◌∷◌, ◌++◌, length, take, drop, map, Result, Ok, Err, refl, sym, ap, subst, ◌∙◌, inl, inr, ⊎_elim, arith}
+use Rattle.std.proofs.Common.{◌≡◌, ℕ, suc, ◌+◌, Bool, true, false, not, cond, List, [], ◌∷◌, ◌++◌, take, drop, Result, Ok, refl, sym, ap, subst, ◌∙◌, inl, inr, ⊎_elim, arith}
 use Rattle.std.specs.Prelude.{if◌then◌else◌}
 use Rattle.std.specs.List.{position_or_len}
 use Rattle.std.specs.Ordering.{is_gt}
@@ -12,22 +12,25 @@ use Rattle.hive_model.specs.Lists.{SubkeyList, list_at}
 use Rattle.hive_model.specs.Walk.{reading, leaf_at, joined_at, entries_of, entries_at, is_list_of_lists, leaves_checks, entries_checks, below_of, names_of}
 use Rattle.hive_model.specs.Footprint.{used_in, of_read}
 use Rattle.edit_laws.specs.Owned.{In, first_or_empty, node_name}
-use Rattle.edit_laws.specs.Relists.{StandsBefore, HasPlace}
+use Rattle.edit_laws.specs.Relists.{HasPlace}
 use Rattle.key_index.specs.Lists.{name_in, name_of, payload_in}
 use Rattle.hive_edit.proofs.ResultLemmas.{done, then_so}
 
 -- ---- names
 
 -- the name that is read of a node, said in two ways
-pub name_read : (cells : Cells) (at : ℕ) (n : KeyNode) → reading key_node_at cells at ≡ done n → name_in cells at ≡ n.name
+pub name_read : (cells : Cells) (at : ℕ) (n : KeyNode) → reading key_node_at cells at ≡ done n
+    → name_in cells at ≡ n.name
 unfolding payload_in name_of
 name_read cells at n r =
     let p = then_so (cells.payload at) key_node_at n r in
     ap (λ (q : Result (List ℕ) HiveKind). of_read (key_node_at (of_read q (λ z. z))) (λ m. m.name)) p.1
     ∙ ap (λ (q : Result KeyNode HiveKind). of_read q (λ m. m.name)) p.2
 
-pub node_name_read : (cells : Cells) (at : ℕ) (n : KeyNode) → reading key_node_at cells at ≡ done n → node_name cells at ≡ n.name
-node_name_read cells at n r = ap (λ (q : Result KeyNode HiveKind). first_or_empty (names_of (λ (m : KeyNode). m.name) q)) r
+pub node_name_read : (cells : Cells) (at : ℕ) (n : KeyNode) → reading key_node_at cells at ≡ done n
+    → node_name cells at ≡ n.name
+node_name_read cells at n r =
+    ap (λ (q : Result KeyNode HiveKind). first_or_empty (names_of (λ (m : KeyNode). m.name) q)) r
 
 -- ---- the place
 
@@ -48,10 +51,12 @@ has_place b name f (o ∷ os) same = go (f o) refl (has_place b name f os (λ z 
         rw is (record { small = λ m i. absurd i; great = sym (same o (inl refl)) ∙ e })
     go false e rest =
         let one : 1 + position_or_len f os ≡ suc (position_or_len f os) = omega arith in
-        let is : position_or_len f (o ∷ os) ≡ suc (position_or_len f os) = ap (λ (w : Bool). cond (not w) (1 + position_or_len f os) 0) e ∙ one in
+        let is : position_or_len f (o ∷ os) ≡ suc (position_or_len f os) =
+        ap (λ (w : Bool). cond (not w) (1 + position_or_len f os) 0) e ∙ one in
         rw is (record {
           small = λ m i. ⊎_elim
-              (λ (z : node_name b o ≡ m). subst (λ (x : List ℕ). is_gt (folded_order x name) ≡ false) z (sym (same o (inl refl)) ∙ e))
+              (λ (z : node_name b o ≡ m). subst (λ (x : List ℕ). is_gt (folded_order x name) ≡ false) z
+              (sym (same o (inl refl)) ∙ e))
               (λ j. rest.small m j) i;
           great = rest.great;
         })
@@ -61,26 +66,31 @@ has_place b name f (o ∷ os) same = go (f o) refl (has_place b name f os (λ z 
 abbrev pub Held : Cells → ℕ → Type 0
 Held cells o = (q : List ℕ) × (cells.payload o ≡ done q)
 
-held_by : {F : Type 0} (form : List ℕ → Result F HiveKind) (cells : Cells) (at o : ℕ) (x : F) → reading form cells at ≡ done x → at ≡ o → Held cells o
+held_by : {F : Type 0} (form : List ℕ → Result F HiveKind) (cells : Cells) (at o : ℕ) (x : F)
+    → reading form cells at ≡ done x → at ≡ o → Held cells o
 held_by form cells at o x r e =
     let p = then_so (cells.payload at) form x r in
     (p.0, ap cells.payload (sym e) ∙ p.1)
 
-leaf_held : (cells : Cells) (lists offsets : List ℕ) (o : ℕ) → joined_at cells lists ≡ done offsets → In (used_in (leaves_checks cells lists)) o → Held cells o
+leaf_held : (cells : Cells) (lists offsets : List ℕ) (o : ℕ) → joined_at cells lists ≡ done offsets
+    → In (used_in (leaves_checks cells lists)) o → Held cells o
 leaf_held cells [] offsets o r h = absurd h
 leaf_held cells (at ∷ rest) offsets o r h =
     let leaf = then_so (reading leaf_at cells at) (λ xs. joined_at cells rest >>= λ ys. Ok (xs ++ ys)) offsets r in
     let others = then_so (joined_at cells rest) (λ ys. Ok (leaf.0 ++ ys)) offsets leaf.2 in
     ⊎_elim (λ e. held_by leaf_at cells at o leaf.0 leaf.1 e) (λ i. leaf_held cells rest others.0 o others.1 i) h
 
-pub entries_held : (cells : Cells) (at : ℕ) (offsets : List ℕ) (o : ℕ) → entries_at cells at ≡ done offsets → In (used_in (entries_checks cells at)) o → Held cells o
+pub entries_held : (cells : Cells) (at : ℕ) (offsets : List ℕ) (o : ℕ) → entries_at cells at ≡ done offsets
+    → In (used_in (entries_checks cells at)) o → Held cells o
 unfolding entries_at entries_checks
 entries_held cells at offsets o r (inl e) =
     let p = then_so (reading list_at cells at) (entries_of cells) offsets r in held_by list_at cells at o p.0 p.1 e
 entries_held cells at offsets o r (inr h) =
     let p = then_so (reading list_at cells at) (entries_of cells) offsets r in
     go p.0 (is_list_of_lists p.0.kind) p.2
-    (subst (λ (q : Result SubkeyList HiveKind). In (used_in (below_of q (λ list. if is_list_of_lists list.kind then leaves_checks cells list.offsets else []))) o) p.1 h)
+    (subst (λ (q : Result SubkeyList HiveKind). In
+    (used_in (below_of q (λ list. if is_list_of_lists list.kind then leaves_checks cells list.offsets else []))) o)
+    p.1 h)
   where
     go : (list : SubkeyList) (t : Bool) → cond t (joined_at cells list.offsets) (Ok list.offsets) ≡ done offsets
         → In (used_in (cond t (leaves_checks cells list.offsets) [])) o → Held cells o

@@ -1,20 +1,20 @@
 -- A child that was taken out of its parent's cells: what the steps show is what the law of a deleted key asks.
-use Rattle.std.proofs.Common.{◌≡◌, ◌≤◌, ◌<◌, ◌^◌, ℕ, suc, ◌+◌, ◌-◌, Bool, true, false, not, eqb, cond, List, [], ◌∷◌, ◌++◌, length, Option, Some, None, Result, Ok, ◌⊎◌, inl, inr, ⊎_elim, refl, sym, ap, subst, ◌∙◌, arith}
-use Rattle.std.specs.Prelude.{◌==◌, Contains}
+use Rattle.std.proofs.Common.{◌≡◌, ◌<◌, ◌^◌, ℕ, suc, ◌-◌, Bool, true, false, not, cond, List, [], ◌∷◌, ◌++◌, length, Some, Result, Ok, inl, inr, ⊎_elim, refl, sym, ap, subst, ◌∙◌, arith}
+use Rattle.std.specs.Prelude.{Contains}
 use Rattle.std.proofs.lemmas.Bool.{ne_eqb, eq-eqb}
 use Rattle.nt_bytes.specs.declared.fault.HiveKind.{HiveKind}
 use Rattle.nt_bytes.specs.declared.version.HiveVersion.{HiveVersion}
 use Rattle.nt_bytes.specs.Folding.{folds_same}
 use Rattle.hive_model.specs.Bins.{Bin, Cells, look_up}
 use Rattle.hive_model.specs.Forms.{◌>>=◌}
-use Rattle.hive_model.specs.KeyNode.{KeyNode, key_node_at}
+use Rattle.hive_model.specs.KeyNode.{KeyNode}
 use Rattle.hive_model.specs.Security.{SecurityCell, security_at}
 use Rattle.hive_model.specs.Tree.{Tree, head}
-use Rattle.hive_model.specs.Walk.{reading, nowhere, entries_at, entries_checks}
-use Rattle.hive_model.specs.Footprint.{used_in, child_places, security_cell_at, list_cells_at}
+use Rattle.hive_model.specs.Walk.{reading, entries_checks}
+use Rattle.hive_model.specs.Footprint.{used_in, child_places, list_cells_at}
 use Rattle.hive_cells.specs.Held.{held_at, patched}
 use Rattle.hive_cells.proofs.HeldLemmas.{held_payload, payload_held}
-use Rattle.edit_laws.specs.Owned.{In, Reaches, node_name}
+use Rattle.edit_laws.specs.Owned.{In}
 use Rattle.edit_laws.specs.Pairs.{Pairwise}
 use Rattle.edit_laws.specs.Uses.{tree_uses}
 use Rattle.edit_laws.specs.Relists.{descriptor_at, IsSecurityCell}
@@ -27,9 +27,9 @@ use Rattle.key_index.specs.Lists.{children_at, lists_at, name_in, without_child,
 use Rattle.key_index.specs.Relists.{AreApart}
 use Rattle.hive_edit.specs.declared.making.Above.{Above}
 use Rattle.hive_edit.specs.Making.{AboveIs, child_fields}
-use Rattle.hive_edit.specs.Dropped.{AreShortened, IsRecounted, IsRemoved, left_children}
-use Rattle.hive_edit.proofs.ResultLemmas.{done, some, then_so, ok_same}
-use Rattle.hive_edit.proofs.ParentLemmas.{IsParent, lists_are, children_are, siblings_are, lists_apart, security_at_node, security_some, node_stands, security_read}
+use Rattle.hive_edit.specs.Dropped.{IsRemoved, left_children}
+use Rattle.hive_edit.proofs.ResultLemmas.{done, some, then_so}
+use Rattle.hive_edit.proofs.ParentLemmas.{IsParent, lists_are, children_are, siblings_are, security_at_node, security_some, security_read}
 use Rattle.hive_edit.proofs.AddedLemmas.{no_some}
 use Rattle.hive_edit.proofs.DroppedLemmas.{shortened_keeps}
 
@@ -67,34 +67,41 @@ split_one (z ∷ zs) y d (inr i) =
           ∙ ap (λ (l : List ℕ). z ∷ l) s.others;
     }
 
-names_apart : (cells : Cells) (os : List ℕ) → Pairwise (λ a b. folds_same (name_in cells b) (name_in cells a) ≡ false) os → Pairwise (λ a b. a ≡ b → ⊥) os
+names_apart : (cells : Cells) (os : List ℕ)
+    → Pairwise (λ a b. folds_same (name_in cells b) (name_in cells a) ≡ false) os → Pairwise (λ a b. a ≡ b → ⊥) os
 names_apart cells [] d = tt
 names_apart cells (o ∷ os) d = (
-  (λ w i e. let f : true ≡ false = sym (folds_itself (name_in cells o)) ∙ ap (λ (z : ℕ). folds_same (name_in cells z) (name_in cells o)) e ∙ d.0 w i in absurd cc),
+  (λ w i e. let f : true ≡ false = sym (folds_itself (name_in cells o))
+      ∙ ap (λ (z : ℕ). folds_same (name_in cells z) (name_in cells o)) e ∙ d.0 w i in absurd cc),
   names_apart cells os d.1,
 )
 
 -- the children of a parent are apart
-pub kids_apart : (b : Cells) (root : ℕ) (t : Tree) (p : List (List ℕ)) (x : ℕ) (k : Tree) (n : KeyNode) → IsParent b root t p x k n
+pub kids_apart : (b : Cells) (root : ℕ) (t : Tree) (p : List (List ℕ)) (x : ℕ) (k : Tree) (n : KeyNode)
+    → IsParent b root t p x k n
     → Pairwise (λ a b. a ≡ b → ⊥) (child_places b x)
 kids_apart b root t p x k n h =
     names_apart b (child_places b x)
     (pairwise_from (λ a c. folds_same (name_in b c) (name_in b a) ≡ false) (child_places b x)
-    (subst (λ (os : List ℕ). Rattle.key_index.specs.Lists.NamesDiffer b os) (children_are b root t p x k n h) (siblings_are b root t p x k n h).apart))
+    (subst (λ (os : List ℕ). Rattle.key_index.specs.Lists.NamesDiffer b os) (children_are b root t p x k n h)
+    (siblings_are b root t p x k n h).apart))
 
 -- ---- security
 
 -- a cell of security that a key of the tree uses is read
-pub security_reads : (b : Cells) (root : ℕ) (t : Tree) (p : List (List ℕ)) (x : ℕ) (k : Tree) (n : KeyNode) → IsParent b root t p x k n
+pub security_reads : (b : Cells) (root : ℕ) (t : Tree) (p : List (List ℕ)) (x : ℕ) (k : Tree) (n : KeyNode)
+    → IsParent b root t p x k n
     → (o : ℕ) → IsSecurityCell b root o → (s : SecurityCell) × (reading security_at b o ≡ done s)
 security_reads b root t p x k n h o u =
     let there = standing b u.path root u.key t h.well.stands h.well.names u.reached in
     go there.tree there.stands
   where
-    go : (w : Tree) → Rattle.hive_model.specs.Stands.Stands b u.key w → (s : SecurityCell) × (reading security_at b o ≡ done s)
+    go : (w : Tree) → Rattle.hive_model.specs.Stands.Stands b u.key w
+        → (s : SecurityCell) × (reading security_at b o ≡ done s)
     go (Rattle.hive_model.specs.Tree.key hd ts) stands =
         let m = stands.1.node in
-        let listed = security_some m.security o (subst (λ (l : List ℕ). In l o) (security_at_node b u.key m stands.1.read) u.uses) in
+        let listed = security_some m.security o
+        (subst (λ (l : List ℕ). In l o) (security_at_node b u.key m stands.1.read) u.uses) in
         let s = security_read b m hd.security stands.1.security listed.1 in
         (s.0, ap (reading security_at b) (sym listed.0) ∙ s.1)
 
@@ -104,9 +111,12 @@ one_list cells at = refl
 
 -- ---- the child is taken out
 
-module _ (version : HiveVersion) (old new : List Bin) (root : ℕ) (t : Tree) (p : List (List ℕ)) (x : ℕ) (k : Tree) (n : KeyNode) (above : Above) (y left : ℕ)
-    (uses : List (ℕ × Bool)) (h : IsParent (look_up version old) root t p x k n) (says : AboveIs above n) (s : SplitsAt (child_places (look_up version old) x) y)
-    (few : above.count < 2 ^ 32) (all : uses ≡ tree_uses left (look_up version old) y) (apart : (v : Bool) → In uses (x, v) → ⊥)
+module _ (version : HiveVersion) (old new : List Bin) (root : ℕ) (t : Tree) (p : List (List ℕ)) (x : ℕ) (k : Tree)
+    (n : KeyNode) (above : Above) (y left : ℕ)
+    (uses : List (ℕ × Bool)) (h : IsParent (look_up version old) root t p x k n) (says : AboveIs above n)
+    (s : SplitsAt (child_places (look_up version old) x) y)
+    (few : above.count < 2 ^ 32) (all : uses ≡ tree_uses left (look_up version old) y)
+    (apart : (v : Bool) → In uses (x, v) → ⊥)
     (r : IsRemoved version x above y uses old new) where
   abbrev cells_old : Cells
   cells_old = look_up version old
@@ -138,27 +148,35 @@ module _ (version : HiveVersion) (old new : List Bin) (root : ℕ) (t : Tree) (p
   used_there : (o : ℕ) (v : Bool) → In (tree_uses left cells_old y) (o, v) → In uses (o, v)
   used_there o v i = subst (λ (l : List (ℕ × Bool)). In l (o, v)) (sym all) i
 
-  no_list : (o : ℕ) → (In (list_cells_at cells_old x) o → ⊥) → Contains (lists_at cells_old above.list above.count) o → ⊥
-  no_list o out i = out (subst (λ (l : List ℕ). In l o) lists_is (in_from (lists_at cells_old above.list above.count) o i))
+  no_list : (o : ℕ) → (In (list_cells_at cells_old x) o → ⊥) → Contains (lists_at cells_old above.list above.count) o
+      → ⊥
+  no_list o out i = out (subst (λ (l : List ℕ). In l o) lists_is
+      (in_from (lists_at cells_old above.list above.count) o i))
 
   -- the new lists, where a child is left
   written : (w : ℕ) (os : List ℕ) → s.front ++ s.back ≡ w ∷ os
-      → Rattle.key_index.specs.Relists.AreRelisted version (lists_at cells_old above.list above.count) (left_children version above y old)
+      → Rattle.key_index.specs.Relists.AreRelisted version (lists_at cells_old above.list above.count)
+      (left_children version above y old)
       (Rattle.key_index.specs.Lists.hints_in cells_old (left_children version above y old)) old r.listed r.list
   written w os e = ⊎_elim (λ a. a.1) (λ a. absurd (let d : [] ≡ w ∷ os = sym a.0 ∙ left_is ∙ e in cc)) r.lists
 
-  pub takes : ((o : ℕ) → In (tree_uses left cells_old y) (o, true) → IsSecurityCell cells_old root o) → ((o : ℕ) → In (tree_uses left cells_old y) (o, true) → In (list_cells_at cells_old x) o → ⊥)
+  pub takes : ((o : ℕ) → In (tree_uses left cells_old y) (o, true) → IsSecurityCell cells_old root o)
+      → ((o : ℕ) → In (tree_uses left cells_old y) (o, true) → In (list_cells_at cells_old x) o → ⊥)
       → TakesChild cells_old (look_up version r.listed) (look_up version new) x left n s.front s.back y r.list
   takes secure_there no_secure_list = record {
     version = refl;
     read = h.read;
     places = s.whole;
-    relisted = λ o q e out. held_payload r.listed o q (shortened_keeps version above y old r.listed r.list r.lists o q (payload_held old o q e) (no_list o out));
+    relisted = λ o q e out. held_payload r.listed o q
+        (shortened_keeps version above y old r.listed r.list r.lists o q (payload_held old o q e) (no_list o out));
     lists = λ w os e. (written w os e).lists ∙ ap done left_is;
     fresh = λ w os e o i q f.
-        no_some (held_at old o) q ((written w os e).fresh o (contains_from (used_in (entries_checks (look_up version r.listed) r.list)) o i)) (payload_held old o q f);
+        no_some (held_at old o) q
+        ((written w os e).fresh o (contains_from (used_in (entries_checks (look_up version r.listed) r.list)) o i))
+        (payload_held old o q f);
     once = λ w os e. pairwise_from (λ u v. u ≡ v → ⊥) (used_in (entries_checks (look_up version r.listed) r.list))
-        (subst AreApart (one_list (look_up version r.listed) r.list) (Rattle.key_index.proofs.Meeting.lists_apart (look_up version r.listed) r.list 1 (written w os e).once));
+        (subst AreApart (one_list (look_up version r.listed) r.list)
+        (Rattle.key_index.proofs.Meeting.lists_apart (look_up version r.listed) r.list 1 (written w os e).once));
     volatile = above.volatile;
     few = let e = counted in omega (arith, few, e);
     small = r.small;
@@ -170,7 +188,8 @@ module _ (version : HiveVersion) (old new : List Bin) (root : ℕ) (t : Tree) (p
     counted = λ o i. descriptor o i;
   }
     where
-      descriptor : (o : ℕ) → In (tree_uses left cells_old y) (o, true) → descriptor_at (look_up version new) o ≡ descriptor_at cells_old o
+      descriptor : (o : ℕ) → In (tree_uses left cells_old y) (o, true)
+          → descriptor_at (look_up version new) o ≡ descriptor_at cells_old o
       descriptor o i =
           let z = security_reads cells_old root t p x k n h o (secure_there o i) in
           let q = then_so (cells_old.payload o) security_at z.0 z.1 in
@@ -180,6 +199,7 @@ module _ (version : HiveVersion) (old new : List Bin) (root : ℕ) (t : Tree) (p
           ∙ shortened_keeps version above y old r.listed r.list r.lists o q.0 held (no_list o (no_secure_list o i)) in
           let now = r.dropped.counted o q.0 (used_there o true i) noted in
           let says = now.2.says z.0 q.2 in
-          ap (λ (w : Result (List ℕ) HiveKind). w >>= security_at >>= λ c. Ok c.descriptor) (held_payload new o now.0 now.1)
+          ap (λ (w : Result (List ℕ) HiveKind). w >>= security_at >>= λ c. Ok c.descriptor)
+          (held_payload new o now.0 now.1)
           ∙ ap (λ (w : Result SecurityCell HiveKind). w >>= λ c. Ok c.descriptor) says
           ∙ sym (ap (λ (w : Result SecurityCell HiveKind). w >>= λ c. Ok c.descriptor) z.1)

@@ -19,15 +19,18 @@ pub is_ok_of : {A : Type 0} (r : Result A HiveKind) (x : A) → r ≡ done x →
 is_ok_of (Ok y) x e = refl
 is_ok_of (Err k) x e = absurd cc
 
-pub unless : {A : Type 0} (b : Bool) (k : HiveKind) (r : Result A HiveKind) (x : A) → cond b (Err k) r ≡ done x → (b ≡ false) × (r ≡ done x)
+pub unless : {A : Type 0} (b : Bool) (k : HiveKind) (r : Result A HiveKind) (x : A) → cond b (Err k) r ≡ done x
+    → (b ≡ false) × (r ≡ done x)
 unless true k r x e = absurd cc
 unless false k r x e = (refl, e)
 
-pub only_if : {A : Type 0} (b : Bool) (k : HiveKind) (r : Result A HiveKind) (x : A) → cond b r (Err k) ≡ done x → (b ≡ true) × (r ≡ done x)
+pub only_if : {A : Type 0} (b : Bool) (k : HiveKind) (r : Result A HiveKind) (x : A) → cond b r (Err k) ≡ done x
+    → (b ≡ true) × (r ≡ done x)
 only_if true k r x e = (refl, e)
 only_if false k r x e = absurd cc
 
-pub then_so : {A B : Type 0} (r : Result A HiveKind) (f : A → Result B HiveKind) (y : B) → (r >>= f) ≡ done y → (x : A) × (r ≡ done x) × (f x ≡ done y)
+pub then_so : {A B : Type 0} (r : Result A HiveKind) (f : A → Result B HiveKind) (y : B) → (r >>= f) ≡ done y
+    → (x : A) × (r ≡ done x) × (f x ≡ done y)
 then_so (Ok x) f y e = (x, refl, e)
 then_so (Err k) f y e = absurd cc
 

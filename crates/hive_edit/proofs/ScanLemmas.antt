@@ -9,14 +9,16 @@ use Rattle.hive_edit.proofs.ResultLemmas.{some}
 abbrev nothing : Option ℕ
 nothing = None
 
-numbers_more : (step left : ℕ) (rest : List ℕ) → 0 < left → numbers_in step left rest ≡ u32_in rest 0 ∷ numbers_in step (left - 1) (drop step rest)
+numbers_more : (step left : ℕ) (rest : List ℕ) → 0 < left
+    → numbers_in step left rest ≡ u32_in rest 0 ∷ numbers_in step (left - 1) (drop step rest)
 numbers_more step zero rest lt = absurd (omega (arith, lt))
 numbers_more step (suc left) rest lt =
     let e : suc left - 1 ≡ left = omega arith in
     rw e refl
 
 -- the first passes, so it is the one that is found
-pub scan_here : (test : ℕ → Bool) (left at : ℕ) (rest : List ℕ) (whole : Option ℕ) → 0 < left → at ≡ u32_in rest 0 → find test (numbers_in 4 left rest) ≡ whole
+pub scan_here : (test : ℕ → Bool) (left at : ℕ) (rest : List ℕ) (whole : Option ℕ) → 0 < left → at ≡ u32_in rest 0
+    → find test (numbers_in 4 left rest) ≡ whole
     → test at ≡ true → some at ≡ whole
 scan_here test left at rest whole lt is so_far passes =
     ap (λ (b : Bool). cond b (some at) (find test (numbers_in 4 (left - 1) (drop 4 rest)))) (sym passes)
@@ -24,7 +26,8 @@ scan_here test left at rest whole lt is so_far passes =
     ∙ ap (find test) (sym (numbers_more 4 left rest lt)) ∙ so_far
 
 -- the first fails, so the one that is found is among the others
-pub scan_on : (test : ℕ → Bool) (left at : ℕ) (rest : List ℕ) (whole : Option ℕ) → 0 < left → at ≡ u32_in rest 0 → find test (numbers_in 4 left rest) ≡ whole
+pub scan_on : (test : ℕ → Bool) (left at : ℕ) (rest : List ℕ) (whole : Option ℕ) → 0 < left → at ≡ u32_in rest 0
+    → find test (numbers_in 4 left rest) ≡ whole
     → test at ≡ false → find test (numbers_in 4 (left - 1) (drop 4 rest)) ≡ whole
 scan_on test left at rest whole lt is so_far fails =
     ap (λ (b : Bool). cond b (some at) (find test (numbers_in 4 (left - 1) (drop 4 rest)))) (sym fails)
@@ -32,16 +35,20 @@ scan_on test left at rest whole lt is so_far fails =
     ∙ ap (find test) (sym (numbers_more 4 left rest lt)) ∙ so_far
 
 -- none is left
-pub scan_end : (test : ℕ → Bool) (left : ℕ) (rest : List ℕ) (whole : Option ℕ) → left ≤ 0 → find test (numbers_in 4 left rest) ≡ whole → nothing ≡ whole
+pub scan_end : (test : ℕ → Bool) (left : ℕ) (rest : List ℕ) (whole : Option ℕ) → left ≤ 0
+    → find test (numbers_in 4 left rest) ≡ whole → nothing ≡ whole
 scan_end test zero rest whole le so_far = so_far
 scan_end test (suc left) rest whole le so_far = absurd (omega arith)
 
 -- what holds of all holds of the first, and of the others
-pub scan_first : (P : ℕ → Type 0) (left at : ℕ) (rest : List ℕ) → 0 < left → at ≡ u32_in rest 0 → All P (numbers_in 4 left rest) → P at
+pub scan_first : (P : ℕ → Type 0) (left at : ℕ) (rest : List ℕ) → 0 < left → at ≡ u32_in rest 0
+    → All P (numbers_in 4 left rest) → P at
 scan_first P left at rest lt is h = subst P (sym is) (subst (All P) (numbers_more 4 left rest lt) h 0 0 (omega arith))
 
-pub scan_rest : (P : ℕ → Type 0) (left : ℕ) (rest : List ℕ) → 0 < left → All P (numbers_in 4 left rest) → All P (numbers_in 4 (left - 1) (drop 4 rest))
-scan_rest P left rest lt h = let g = subst (All P) (numbers_more 4 left rest lt) h in λ k d within. g (suc k) d (omega arith)
+pub scan_rest : (P : ℕ → Type 0) (left : ℕ) (rest : List ℕ) → 0 < left → All P (numbers_in 4 left rest)
+    → All P (numbers_in 4 (left - 1) (drop 4 rest))
+scan_rest P left rest lt h = let g = subst (All P) (numbers_more 4 left rest lt) h in
+    λ k d within. g (suc k) d (omega arith)
 
 -- the list is long enough for what is left
 pub scan_room : (left : ℕ) (rest : List ℕ) → 0 < left → 4 * left ≤ length rest → 4 * (left - 1) ≤ length (drop 4 rest)

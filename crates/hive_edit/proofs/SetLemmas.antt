@@ -52,25 +52,38 @@ pub record InsideThere (b : Cells) (path : List (List ℕ)) (name : List ℕ) (r
   pub read : reading key_value_at b v ≡ done value
   pub inside : is_some (data_inside value) ≡ true
 
-pub inside_there : (b : Cells) (path : List (List ℕ)) (name : List ℕ) (root v : ℕ) → inside_place b path name root ≡ some v → InsideThere b path name root v
+pub inside_there : (b : Cells) (path : List (List ℕ)) (name : List ℕ) (root v : ℕ)
+    → inside_place b path name root ≡ some v → InsideThere b path name root v
 inside_there b path name root v e = at_key (key_place b path root) refl e
   where
-    at_value : (key w : ℕ) → key_place b path root ≡ some key → value_place b name key ≡ some w → (r : Result KeyValue HiveKind) → reading key_value_at b w ≡ r
+    at_value : (key w : ℕ) → key_place b path root ≡ some key → value_place b name key ≡ some w
+        → (r : Result KeyValue HiveKind) → reading key_value_at b w ≡ r
         → cond (held_itself r) (Some w) None ≡ some v → InsideThere b path name root v
     at_value key w k n (Ok value) r e = by_test (is_some (data_inside value)) refl e
       where
-        by_test : (t : Bool) → is_some (data_inside value) ≡ t → cond t (Some w) None ≡ some v → InsideThere b path name root v
+        by_test : (t : Bool) → is_some (data_inside value) ≡ t → cond t (Some w) None ≡ some v
+            → InsideThere b path name root v
         by_test true t e =
             let same : w ≡ v = some_same w v e in
-            record { key = key; place = k; named = n ∙ ap some same; value = value; read = ap (reading key_value_at b) (sym same) ∙ r; inside = t }
+            record {
+              key = key;
+              place = k;
+              named = n ∙ ap some same;
+              value = value;
+              read = ap (reading key_value_at b) (sym same) ∙ r;
+              inside = t;
+            }
         by_test false t e = absurd cc
     at_value key w k n (Err kind) r e = absurd cc
 
-    named_value : (key : ℕ) → key_place b path root ≡ some key → (o : Option ℕ) → value_place b name key ≡ o → option_and_then (if_inside b) o ≡ some v → InsideThere b path name root v
+    named_value : (key : ℕ) → key_place b path root ≡ some key → (o : Option ℕ) → value_place b name key ≡ o
+        → option_and_then (if_inside b) o ≡ some v → InsideThere b path name root v
     named_value key k None n e = absurd cc
     named_value key k (Some w) n e = at_value key w k n (reading key_value_at b w) refl e
 
-    at_key : (o : Option ℕ) → key_place b path root ≡ o → option_and_then (λ key. option_and_then (if_inside b) (value_place b name key)) o ≡ some v → InsideThere b path name root v
+    at_key : (o : Option ℕ) → key_place b path root ≡ o
+        → option_and_then (λ key. option_and_then (if_inside b) (value_place b name key)) o ≡ some v
+        → InsideThere b path name root v
     at_key None k e = absurd cc
     at_key (Some key) k e = named_value key k (value_place b name key) refl e
 
@@ -84,33 +97,42 @@ no_list = None
 abbrev is_held_size : ℕ → Bool
 is_held_size size = is_some (cond (is_in_place size) (a_list []) (cond (eqb size 0) (a_list []) no_list))
 
-any_held : (xs : List ℕ) (a b : Bool) → is_some (cond a (a_list xs) (cond b (a_list []) no_list)) ≡ is_some (cond a (a_list []) (cond b (a_list []) no_list))
+any_held : (xs : List ℕ) (a b : Bool)
+    → is_some (cond a (a_list xs) (cond b (a_list []) no_list))
+    ≡ is_some (cond a (a_list []) (cond b (a_list []) no_list))
 any_held xs true b = refl
 any_held xs false true = refl
 any_held xs false false = refl
 
 -- by the size in its payload
-inside_by : (cells : Cells) (at : ℕ) (p : List ℕ) (size : ℕ) → IsItemHere cells at → p ≡ payload_in cells at → size ≡ u32_in p 4 → holds_itself cells at ≡ is_held_size size
+inside_by : (cells : Cells) (at : ℕ) (p : List ℕ) (size : ℕ) → IsItemHere cells at → p ≡ payload_in cells at
+    → size ≡ u32_in p 4 → holds_itself cells at ≡ is_held_size size
 inside_by cells at p size h e s =
     let f = item_facts cells at h in
-    let same : f.value.size ≡ size = ap (λ (v : KeyValue). v.size) f.facts.is ∙ ap (λ (q : List ℕ). u32_in q 4) (sym e) ∙ sym s in
+    let same : f.value.size ≡ size =
+    ap (λ (v : KeyValue). v.size) f.facts.is ∙ ap (λ (q : List ℕ). u32_in q 4) (sym e) ∙ sym s in
     let held : held_itself (done f.value) ≡ is_held_size f.value.size =
-    any_held (take (f.value.size - 2147483648) (to_le_bytes w32 f.value.offset)) (is_in_place f.value.size) (eqb f.value.size 0) in
+    any_held (take (f.value.size - 2147483648) (to_le_bytes w32 f.value.offset)) (is_in_place f.value.size)
+    (eqb f.value.size 0) in
     ap held_itself f.read ∙ held ∙ ap is_held_size same
 
 abbrev place_if : ℕ → Bool → Option ℕ
 place_if at b = cond b (Some at) None
 
-pub in_place_inside : (cells : Cells) (at : ℕ) (p : List ℕ) (size : ℕ) → IsItemHere cells at → p ≡ payload_in cells at → size ≡ u32_in p 4 → 2147483648 ≤ size → some at ≡ if_inside cells at
+pub in_place_inside : (cells : Cells) (at : ℕ) (p : List ℕ) (size : ℕ) → IsItemHere cells at → p ≡ payload_in cells at
+    → size ≡ u32_in p 4 → 2147483648 ≤ size → some at ≡ if_inside cells at
 in_place_inside cells at p size h e s big =
     let t : is_in_place size ≡ true = grind (arith, nat_tests) in
-    let held : is_held_size size ≡ true = ap (λ (b : Bool). is_some (cond b (a_list []) (cond (eqb size 0) (a_list []) no_list))) t in
+    let held : is_held_size size ≡ true =
+    ap (λ (b : Bool). is_some (cond b (a_list []) (cond (eqb size 0) (a_list []) no_list))) t in
     sym (ap (place_if at) (inside_by cells at p size h e s ∙ held))
 
-pub none_inside : (cells : Cells) (at : ℕ) (p : List ℕ) (size : ℕ) → IsItemHere cells at → p ≡ payload_in cells at → size ≡ u32_in p 4 → size ≡ 0 → some at ≡ if_inside cells at
+pub none_inside : (cells : Cells) (at : ℕ) (p : List ℕ) (size : ℕ) → IsItemHere cells at → p ≡ payload_in cells at
+    → size ≡ u32_in p 4 → size ≡ 0 → some at ≡ if_inside cells at
 none_inside cells at p size h e s z = sym (ap (place_if at) (inside_by cells at p size h e s ∙ ap is_held_size z))
 
-pub not_inside : (cells : Cells) (at : ℕ) (p : List ℕ) (size : ℕ) → IsItemHere cells at → p ≡ payload_in cells at → size ≡ u32_in p 4 → size < 2147483648 → (size ≡ 0 → ⊥) → nowhere ≡ if_inside cells at
+pub not_inside : (cells : Cells) (at : ℕ) (p : List ℕ) (size : ℕ) → IsItemHere cells at → p ≡ payload_in cells at
+    → size ≡ u32_in p 4 → size < 2147483648 → (size ≡ 0 → ⊥) → nowhere ≡ if_inside cells at
 not_inside cells at p size h e s small some_bytes =
     let t : is_in_place size ≡ false = grind (arith, nat_tests) in
     let u : eqb size 0 ≡ false = ne_eqb size 0 some_bytes in
@@ -125,21 +147,33 @@ record ShortItem (b : Cells) (name : List ℕ) (k : Tree) : Type 0 where
   found : find_item name k ≡ some item
   short : length item.bytes ≤ 4
 
-short_item : (b : Cells) (name : List ℕ) (key v : ℕ) (k : Tree) (value : KeyValue) → IsWellFormed b key k → value_place b name key ≡ some v → reading key_value_at b v ≡ done value
+short_item : (b : Cells) (name : List ℕ) (key v : ℕ) (k : Tree) (value : KeyValue) → IsWellFormed b key k
+    → value_place b name key ≡ some v → reading key_value_at b v ≡ done value
     → is_some (data_inside value) ≡ true → ShortItem b name k
 unfolding item_at data_of
 short_item b name key v k value well e r inside =
-    go (find_item name k) refl (subst (λ (o : Option ℕ). IsItemAt b o (find_item name k)) e (place_of_item b name key k well))
+    go (find_item name k) refl
+    (subst (λ (o : Option ℕ). IsItemAt b o (find_item name k)) e (place_of_item b name key k well))
   where
-    with_data : (item : Item) → find_item name k ≡ some item → item_at b v ≡ done item → (o : Option (List ℕ)) → data_inside value ≡ o → is_some o ≡ true → ShortItem b name k
+    with_data : (item : Item) → find_item name k ≡ some item → item_at b v ≡ done item → (o : Option (List ℕ))
+        → data_inside value ≡ o → is_some o ≡ true → ShortItem b name k
     with_data item f i (Some d) h t =
-        let read = then_so (reading key_value_at b v) (λ u. data_of b u >>= λ bytes. Ok (record { name = u.name; kind = u.kind; bytes = bytes })) item i in
+        let read = then_so (reading key_value_at b v)
+        (λ u. data_of b u >>= λ bytes. Ok (record { name = u.name; kind = u.kind; bytes = bytes })) item i in
         let same : read.0 ≡ value = ok_same read.0 value (sym read.1 ∙ r) in
-        let bytes = then_so (data_of b read.0) (λ bytes. Ok (record { name = read.0.name; kind = read.0.kind; bytes = bytes })) item read.2 in
-        let read_data : data_of b value ≡ done bytes.0 = subst (λ (u : KeyValue). data_of b u ≡ done bytes.0) same bytes.1 in
+        let bytes = then_so (data_of b read.0)
+        (λ bytes. Ok (record { name = read.0.name; kind = read.0.kind; bytes = bytes })) item read.2 in
+        let read_data : data_of b value ≡ done bytes.0 =
+        subst (λ (u : KeyValue). data_of b u ≡ done bytes.0) same bytes.1 in
         let is : d ≡ bytes.0 = ok_same d bytes.0 (sym (inside_data b value d h) ∙ read_data) in
-        let held : bytes.0 ≡ item.bytes = ap (λ (z : Item). z.bytes) (ok_same (record { name = read.0.name; kind = read.0.kind; bytes = bytes.0 }) item bytes.2) in
-        record { item = item; found = f; short = subst (λ (x : List ℕ). length x ≤ 4) (is ∙ held) (held-short value d h) }
+        let held : bytes.0 ≡ item.bytes =
+        ap (λ (z : Item). z.bytes)
+        (ok_same (record { name = read.0.name; kind = read.0.kind; bytes = bytes.0 }) item bytes.2) in
+        record {
+          item = item;
+          found = f;
+          short = subst (λ (x : List ℕ). length x ≤ 4) (is ∙ held) (held-short value d h);
+        }
     with_data item f i None h t = absurd cc
 
     go : (o : Option Item) → find_item name k ≡ o → IsItemAt b (Some v) o → ShortItem b name k
@@ -147,11 +181,14 @@ short_item b name key v k value well e r inside =
     go (Some item) f p = with_data item f p (data_inside value) refl inside
 
 -- the edit, where the value is there and holds its data itself: it is refused for the bulk alone, which stays
-record EditThere (version : HiveVersion) (t : Tree) (path : List (List ℕ)) (name : List ℕ) (kind : ℕ) (bytes : List ℕ) : Type 0 where
-  edit : edited version t (set_value path name kind bytes ∷ []) ≡ cond (nat_lt most_bulk (bulk_of version t)) (Err full) (Ok (set_tree path name kind bytes t))
+record EditThere (version : HiveVersion) (t : Tree) (path : List (List ℕ)) (name : List ℕ) (kind : ℕ)
+    (bytes : List ℕ) : Type 0 where
+  edit : edited version t (set_value path name kind bytes ∷ [])
+      ≡ cond (nat_lt most_bulk (bulk_of version t)) (Err full) (Ok (set_tree path name kind bytes t))
   bulk : bulk_of version (set_tree path name kind bytes t) ≡ bulk_of version t
 
-pub name_short : (b : Cells) (name : List ℕ) (key v : ℕ) (value : KeyValue) → value_place b name key ≡ some v → reading key_value_at b v ≡ done value → length name ≤ 16383
+pub name_short : (b : Cells) (name : List ℕ) (key v : ℕ) (value : KeyValue) → value_place b name key ≡ some v
+    → reading key_value_at b v ≡ done value → length name ≤ 16383
 name_short b name key v value e r =
     let p = then_so (b.payload v) key_value_at value r in
     let long = value-facts p.0 value p.2 in
@@ -159,14 +196,16 @@ name_short b name key v value e r =
     let same = folds_length name value.name (named_folds b name v value r among.passes) in
     omega (arith, long, same)
 
-edit_there : (b : Cells) (version : HiveVersion) (root : ℕ) (t : Tree) (path : List (List ℕ)) (name : List ℕ) (kind : ℕ) (bytes : List ℕ) (v : ℕ) → IsWellFormed b root t
+edit_there : (b : Cells) (version : HiveVersion) (root : ℕ) (t : Tree) (path : List (List ℕ)) (name : List ℕ) (kind : ℕ)
+    (bytes : List ℕ) (v : ℕ) → IsWellFormed b root t
     → InsideThere b path name root v → length bytes ≤ 4 → EditThere version t path name kind bytes
 edit_there b version root t path name kind bytes v well i short =
     let there = key_there b path root t i.key well i.place in
     let item = short_item b name i.key v there.there i.value there.well i.named i.read i.inside in
     let bulk = same_bulk version t there.there path name kind bytes item.item there.found item.found item.short short in
     record {
-      edit = set_edited version t there.there path name kind bytes there.found (name_short b name i.key v i.value i.named i.read) (omega arith)
+      edit = set_edited version t there.there path name kind bytes there.found
+          (name_short b name i.key v i.value i.named i.read) (omega arith)
           ∙ ap (λ (n : ℕ). cond (nat_lt most_bulk n) (Err full) (Ok (set_tree path name kind bytes t))) bulk;
       bulk = bulk;
     }
@@ -175,86 +214,115 @@ abbrev refused : Refusal → Result Tree Refusal
 refused why = Err why
 
 -- over the greatest bulk the edit is refused
-pub set_full : (old heap : List Bin) (root : ℕ) (version : HiveVersion) (bulk : ℕ) (h : HiveCells) (path : List (List ℕ)) (name : List ℕ) (kind : ℕ) (bytes : List ℕ) (v : ℕ)
-    → IsHive old root version bulk → hive_of old root version ≡ h → inside_place (cells_in h) path name h.root ≡ some v → length bytes ≤ 4 → 16773120 < bulk
+pub set_full : (old heap : List Bin) (root : ℕ) (version : HiveVersion) (bulk : ℕ) (h : HiveCells)
+    (path : List (List ℕ)) (name : List ℕ) (kind : ℕ) (bytes : List ℕ) (v : ℕ)
+    → IsHive old root version bulk → hive_of old root version ≡ h → inside_place (cells_in h) path name h.root ≡ some v
+    → length bytes ≤ 4 → 16773120 < bulk
     → edited h.version h.tree (set_value path name kind bytes ∷ []) ≡ refused full
 set_full old heap root version bulk h path name kind bytes v is view e short big =
     subst (λ (g : HiveCells). edited g.version g.tree (set_value path name kind bytes ∷ []) ≡ refused full) view
     (let b = look_up version old in
     let t = tree_of b root in
-    let i = inside_there b path name root v (subst (λ (g : HiveCells). inside_place (cells_in g) path name g.root ≡ some v) (sym view) e) in
+    let i = inside_there b path name root v
+    (subst (λ (g : HiveCells). inside_place (cells_in g) path name g.root ≡ some v) (sym view) e) in
     let d = edit_there b version root t path name kind bytes v is.stands i short in
-    let over : nat_lt most_bulk (bulk_of version t) ≡ true = lt-ltb most_bulk (bulk_of version t) (subst (λ (n : ℕ). 16773120 < n) is.counted big) in
+    let over : nat_lt most_bulk (bulk_of version t) ≡ true =
+    lt-ltb most_bulk (bulk_of version t) (subst (λ (n : ℕ). 16773120 < n) is.counted big) in
     d.edit ∙ ap (λ (q : Bool). cond q (Err full) (Ok (set_tree path name kind bytes t))) over)
 
 -- where the value was written in place
-pub record IsSet (h : HiveCells) (new : List Bin) (root : ℕ) (version : HiveVersion) (bulk : ℕ) (path : List (List ℕ)) (name : List ℕ) (kind : ℕ) (bytes : List ℕ) : Type 0 where
+pub record IsSet (h : HiveCells) (new : List Bin) (root : ℕ) (version : HiveVersion) (bulk : ℕ) (path : List (List ℕ))
+    (name : List ℕ) (kind : ℕ) (bytes : List ℕ) : Type 0 where
   pub hive : IsHive new root version bulk
   pub edit : edited h.version h.tree (set_value path name kind bytes ∷ []) ≡ Ok (tree_of (look_up version new) root)
   pub kept : IsEditedInPlace h (set_value path name kind bytes ∷ []) (hive_of new root version)
 
-pub is_set : (old new : List Bin) (root : ℕ) (version : HiveVersion) (bulk : ℕ) (h : HiveCells) (path : List (List ℕ)) (name : List ℕ) (kind : ℕ) (bytes : List ℕ) (v : ℕ)
-    → IsHive old root version bulk → hive_of old root version ≡ h → inside_place (cells_in h) path name h.root ≡ some v → length bytes ≤ 4
+pub is_set : (old new : List Bin) (root : ℕ) (version : HiveVersion) (bulk : ℕ) (h : HiveCells) (path : List (List ℕ))
+    (name : List ℕ) (kind : ℕ) (bytes : List ℕ) (v : ℕ)
+    → IsHive old root version bulk → hive_of old root version ≡ h → inside_place (cells_in h) path name h.root ≡ some v
+    → length bytes ≤ 4
     → ((i : ℕ) → get_or bytes i 0 < 256) → kind < 2 ^ 32 → bulk ≤ 16773120
-    → held_at new v ≡ option_map (patched 4 (fields_for kind bytes)) (held_at old v) → ((o : ℕ) → (o ≡ v → ⊥) → held_at new o ≡ held_at old o) → bins_size new ≡ bins_size old
+    → held_at new v ≡ option_map (patched 4 (fields_for kind bytes)) (held_at old v)
+    → ((o : ℕ) → (o ≡ v → ⊥) → held_at new o ≡ held_at old o) → bins_size new ≡ bins_size old
     → IsSet h new root version bulk path name kind bytes
 is_set old new root version bulk h path name kind bytes v is view e short small fits room here others long =
     let b = look_up version old in
     let c = look_up version new in
     let t = tree_of b root in
     let u = set_tree path name kind bytes t in
-    let i = inside_there b path name root v (subst (λ (g : HiveCells). inside_place (cells_in g) path name g.root ≡ some v) (sym view) e) in
+    let i = inside_there b path name root v
+    (subst (λ (g : HiveCells). inside_place (cells_in g) path name g.root ≡ some v) (sym view) e) in
     let d = edit_there b version root t path name kind bytes v is.stands i short in
     let patch = patched_at version old new v 4 (fields_for kind bytes) here others in
-    let stands = set_stands b c root t path name i.key v kind bytes i.value is.stands i.place i.named patch i.read short small fits in
-    let within : nat_lt most_bulk (bulk_of version t) ≡ false = le-ltb most_bulk (bulk_of version t) (subst (λ (n : ℕ). n ≤ 16773120) is.counted room) in
-    let edit : edited version t (set_value path name kind bytes ∷ []) ≡ Ok u = d.edit ∙ ap (λ (q : Bool). cond q (Err full) (Ok u)) within in
+    let stands = set_stands b c root t path name i.key v kind bytes i.value is.stands i.place i.named patch i.read short
+    small fits in
+    let within : nat_lt most_bulk (bulk_of version t) ≡ false =
+    le-ltb most_bulk (bulk_of version t) (subst (λ (n : ℕ). n ≤ 16773120) is.counted room) in
+    let edit : edited version t (set_value path name kind bytes ∷ []) ≡ Ok u =
+    d.edit ∙ ap (λ (q : Bool). cond q (Err full) (Ok u)) within in
     let tree : tree_of c root ≡ u = tree_is c root u stands in
     let there = key_there b path root t i.key is.stands i.place in
     let node = node_read b i.key there.there there.well.stands in
-    let valid = edited_valid version t u (set_value path name kind bytes ∷ []) is.valid (All-cons Fits (set_value path name kind bytes) [] tt (All-nil Fits)) edit in
+    let valid = edited_valid version t u (set_value path name kind bytes ∷ []) is.valid
+    (All-cons Fits (set_value path name kind bytes) [] tt (All-nil Fits)) edit in
     record {
       hive = hive_opened new new root version bulk u refl stands valid (is.counted ∙ sym d.bulk);
-      edit = subst (λ (g : HiveCells). edited g.version g.tree (set_value path name kind bytes ∷ []) ≡ the_tree (tree_of c root)) view (edit ∙ sym (ap the_tree tree));
-      kept = subst (λ (g : HiveCells). IsEditedInPlace g (set_value path name kind bytes ∷ []) (hive_of new root version)) view
+      edit = subst (λ (g : HiveCells). edited g.version g.tree (set_value path name kind bytes ∷ [])
+          ≡ the_tree (tree_of c root)) view (edit ∙ sym (ap the_tree tree));
+      kept = subst (λ (g : HiveCells). IsEditedInPlace g (set_value path name kind bytes ∷ [])
+          (hive_of new root version)) view
           (kept_in_place (hive_of old root version) (hive_of new root version) (set_value path name kind bytes) v
-          (in_footprint b root t path name kind bytes i.key v node.0 node.1 i.place i.named) others refl (omega (arith, long)));
+          (in_footprint b root t path name kind bytes i.key v node.0 node.1 i.place i.named) others refl
+          (omega (arith, long)));
     }
   where
-    node_read : (cells : Cells) (at : ℕ) (k : Tree) → Stands cells at k → (n : KeyNode) × (reading key_node_at cells at ≡ done n)
+    node_read : (cells : Cells) (at : ℕ) (k : Tree) → Stands cells at k
+        → (n : KeyNode) × (reading key_node_at cells at ≡ done n)
     node_read cells at (tree_key g ts) s = (s.1.node, s.1.read)
 
 -- ---- where the search for it ends
 
-pub inside_on : (cells : Cells) (path : List (List ℕ)) (name : List ℕ) (root key value : ℕ) → some key ≡ key_place cells path root → some value ≡ value_place cells name key
+pub inside_on : (cells : Cells) (path : List (List ℕ)) (name : List ℕ) (root key value : ℕ)
+    → some key ≡ key_place cells path root → some value ≡ value_place cells name key
     → if_inside cells value ≡ inside_place cells path name root
 inside_on cells path name root key value e f =
-    ap (option_and_then (if_inside cells)) f ∙ ap (option_and_then (λ (k : ℕ). option_and_then (if_inside cells) (value_place cells name k))) e
+    ap (option_and_then (if_inside cells)) f
+    ∙ ap (option_and_then (λ (k : ℕ). option_and_then (if_inside cells) (value_place cells name k))) e
 
-pub inside_off_value : (cells : Cells) (path : List (List ℕ)) (name : List ℕ) (root key : ℕ) → some key ≡ key_place cells path root → nowhere ≡ value_place cells name key
+pub inside_off_value : (cells : Cells) (path : List (List ℕ)) (name : List ℕ) (root key : ℕ)
+    → some key ≡ key_place cells path root → nowhere ≡ value_place cells name key
     → nowhere ≡ inside_place cells path name root
 inside_off_value cells path name root key e f =
-    ap (option_and_then (if_inside cells)) f ∙ ap (option_and_then (λ (k : ℕ). option_and_then (if_inside cells) (value_place cells name k))) e
+    ap (option_and_then (if_inside cells)) f
+    ∙ ap (option_and_then (λ (k : ℕ). option_and_then (if_inside cells) (value_place cells name k))) e
 
-pub inside_off_key : (cells : Cells) (path : List (List ℕ)) (name : List ℕ) (root : ℕ) → nowhere ≡ key_place cells path root → nowhere ≡ inside_place cells path name root
-inside_off_key cells path name root e = ap (option_and_then (λ (k : ℕ). option_and_then (if_inside cells) (value_place cells name k))) e
+pub inside_off_key : (cells : Cells) (path : List (List ℕ)) (name : List ℕ) (root : ℕ)
+    → nowhere ≡ key_place cells path root → nowhere ≡ inside_place cells path name root
+inside_off_key cells path name root e =
+    ap (option_and_then (λ (k : ℕ). option_and_then (if_inside cells) (value_place cells name k))) e
 
 -- it is the hive's
-pub inside_seen : (bins heap : List Bin) (root : ℕ) (version : HiveVersion) (h : HiveCells) (path : List (List ℕ)) (name : List ℕ) → heap ≡ bins → hive_of bins root version ≡ h
+pub inside_seen : (bins heap : List Bin) (root : ℕ) (version : HiveVersion) (h : HiveCells) (path : List (List ℕ))
+    (name : List ℕ) → heap ≡ bins → hive_of bins root version ≡ h
     → inside_place (look_up version heap) path name root ≡ inside_place (cells_in h) path name h.root
 inside_seen bins heap root version h path name e view =
-    ap (λ (b : List Bin). inside_place (look_up version b) path name root) e ∙ ap (λ (g : HiveCells). inside_place (cells_in g) path name g.root) view
+    ap (λ (b : List Bin). inside_place (look_up version b) path name root) e
+    ∙ ap (λ (g : HiveCells). inside_place (cells_in g) path name g.root) view
 
 -- the value's cell has room for its fields
-pub patch_room : (old : List Bin) (root : ℕ) (version : HiveVersion) (bulk : ℕ) (h : HiveCells) (path : List (List ℕ)) (name : List ℕ) (v : ℕ) (part : List ℕ) → IsHive old root version bulk
-    → hive_of old root version ≡ h → inside_place (cells_in h) path name h.root ≡ some v → length part ≡ 12 → IsSomeAnd (held_at old v) (λ p. 4 + length part ≤ length p)
+pub patch_room : (old : List Bin) (root : ℕ) (version : HiveVersion) (bulk : ℕ) (h : HiveCells) (path : List (List ℕ))
+    (name : List ℕ) (v : ℕ) (part : List ℕ) → IsHive old root version bulk
+    → hive_of old root version ≡ h → inside_place (cells_in h) path name h.root ≡ some v → length part ≡ 12
+    → IsSomeAnd (held_at old v) (λ p. 4 + length part ≤ length p)
 patch_room old root version bulk h path name v part is view e long =
     let b = look_up version old in
-    let i = inside_there b path name root v (subst (λ (g : HiveCells). inside_place (cells_in g) path name g.root ≡ some v) (sym view) e) in
+    let i = inside_there b path name root v
+    (subst (λ (g : HiveCells). inside_place (cells_in g) path name g.root ≡ some v) (sym view) e) in
     let p = then_so (b.payload v) key_value_at i.value i.read in
     let f = value_facts p.0 i.value p.2 in
     let room : 4 + length part ≤ length p.0 = omega (arith, long, f.long) in
-    subst (λ (o : Option (List ℕ)). IsSomeAnd o (λ q. 4 + length part ≤ length q)) (sym (payload_held old v p.0 p.1)) room
+    subst (λ (o : Option (List ℕ)). IsSomeAnd o (λ q. 4 + length part ≤ length q)) (sym (payload_held old v p.0 p.1))
+    room
 
 pub fields_long : (size offset kind : ℕ) → length (value_fields size offset kind) ≡ 12
 fields_long size offset kind = refl

@@ -12,19 +12,23 @@ use Rattle.hive_model.specs.Stands.{KeyStands, Stands, AllStand, IsWellFormed}
 use Rattle.hive_edit.specs.Standing.{list_read, head_of, tree_at, tree_of}
 
 -- the children of a key that stands are at the places that its node names
-pub children_stand : (cells : Cells) (at : ℕ) (h : Head) (offsets : List ℕ) → KeyStands cells at h offsets → child_places cells at ≡ offsets
+pub children_stand : (cells : Cells) (at : ℕ) (h : Head) (offsets : List ℕ) → KeyStands cells at h offsets
+    → child_places cells at ≡ offsets
 unfolding child_places
 children_stand cells at h offsets s =
-    ap (λ (r : Result KeyNode HiveKind). of_read r (λ node. cond (eqb node.child_count 0) [] (of_read (entries_at cells node.child_list) (λ os. os)))) s.read
+    ap (λ (r : Result KeyNode HiveKind). of_read r
+    (λ node. cond (eqb node.child_count 0) [] (of_read (entries_at cells node.child_list) (λ os. os)))) s.read
     ∙ go (eqb s.node.child_count 0) s.children
   where
-    go : (b : Bool) → MatchBool b (offsets ≡ []) ((entries_at cells s.node.child_list ≡ Ok offsets) × (length offsets ≡ s.node.child_count))
+    go : (b : Bool) → MatchBool b (offsets ≡ [])
+        ((entries_at cells s.node.child_list ≡ Ok offsets) × (length offsets ≡ s.node.child_count))
         → cond b [] (of_read (entries_at cells s.node.child_list) (λ os. os)) ≡ offsets
     go true e = sym e
     go false e = ap (λ (r : Result (List ℕ) HiveKind). of_read r (λ os. os)) e.0
 
 -- what a key that stands says of itself
-pub head_stands : (cells : Cells) (at : ℕ) (h : Head) (offsets : List ℕ) → KeyStands cells at h offsets → head_of cells (reading key_node_at cells at) ≡ h
+pub head_stands : (cells : Cells) (at : ℕ) (h : Head) (offsets : List ℕ) → KeyStands cells at h offsets
+    → head_of cells (reading key_node_at cells at) ≡ h
 head_stands cells at h offsets s =
     ap (head_of cells) s.read
     ∙ (λ i. record {
@@ -39,15 +43,18 @@ head_stands cells at h offsets s =
 mutual
   unfolding tree_at
 
-  pub tree_at_is : (left : ℕ) (cells : Cells) (at : ℕ) (t : Tree) → Stands cells at t → levels t ≤ left → tree_at left cells at ≡ t
+  pub tree_at_is : (left : ℕ) (cells : Cells) (at : ℕ) (t : Tree) → Stands cells at t → levels t ≤ left
+      → tree_at left cells at ≡ t
   tree_at_is zero cells at (key h ts) s l = absurd (omega arith)
   tree_at_is (suc left) cells at (key h ts) s l =
       let heads : head_of cells (reading key_node_at cells at) ≡ h = head_stands cells at h s.0 s.1 in
       let below : trees (map (tree_at left cells) (child_places cells at)) ≡ ts =
-      ap (λ (os : List ℕ). trees (map (tree_at left cells) os)) (children_stand cells at h s.0 s.1) ∙ trees_at_are left cells s.0 ts s.2 (omega arith) in
+      ap (λ (os : List ℕ). trees (map (tree_at left cells) os)) (children_stand cells at h s.0 s.1)
+      ∙ trees_at_are left cells s.0 ts s.2 (omega arith) in
       λ i. key (heads i) (below i)
 
-  trees_at_are : (left : ℕ) (cells : Cells) (offsets : List ℕ) (ts : Trees) → AllStand cells offsets ts → most_levels ts ≤ left → trees (map (tree_at left cells) offsets) ≡ ts
+  trees_at_are : (left : ℕ) (cells : Cells) (offsets : List ℕ) (ts : Trees) → AllStand cells offsets ts
+      → most_levels ts ≤ left → trees (map (tree_at left cells) offsets) ≡ ts
   trees_at_are left cells offsets none s l = ap (λ (os : List ℕ). trees (map (tree_at left cells) os)) s
   trees_at_are left cells offsets (more t ts) s l =
       let first : tree_at left cells s.0 ≡ t = tree_at_is left cells s.0 t s.3 (omega arith) in

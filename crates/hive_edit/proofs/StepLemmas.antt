@@ -1,29 +1,27 @@
 -- A step that is done on the cells of a hive leaves a hive of the edited tree, edited in place.
-use Rattle.std.proofs.Common.{◌≡◌, ◌≤◌, ℕ, ◌+◌, Bool, List, [], ◌∷◌, ◌++◌, Option, Some, None, Result, Ok, Err, inl, inr, refl, sym, ap, subst, ◌∙◌}
-use Rattle.std.specs.Option.{IsSome, option_and_then}
+use Rattle.std.proofs.Common.{◌≡◌, ◌≤◌, ℕ, List, [], ◌∷◌, ◌++◌, Result, Ok, inl, inr, refl, sym, ap, subst, ◌∙◌}
+use Rattle.std.specs.Option.{IsSome}
 use Rattle.std.specs.List.{All}
 use Rattle.std.proofs.lemmas.List.Elements.{All-cons, All-nil, Contains-append_left}
 use Rattle.nt_bytes.specs.declared.fault.HiveKind.{HiveKind}
 use Rattle.nt_bytes.specs.declared.version.HiveVersion.{HiveVersion}
 use Rattle.hive_model.specs.Bins.{Bin, Cells, bins_size, look_up}
-use Rattle.hive_model.specs.KeyNode.{KeyNode, key_node_at}
 use Rattle.hive_model.specs.KeyValue.{KeyValue, key_value_at}
 use Rattle.hive_model.specs.Size.{bulk_of}
 use Rattle.hive_model.specs.Tree.{Tree}
-use Rattle.hive_model.specs.Tree.{key as tree_key}
 use Rattle.hive_model.specs.Edit.{Step, edited, after_step}
 use Rattle.hive_model.specs.Walk.{reading, value_checks, data_checks}
-use Rattle.hive_model.specs.Footprint.{of_read, used_in, key_place, is_value_named, step_cells, footprint_of, unless_refused}
-use Rattle.hive_model.specs.Stands.{Stands, IsWellFormed}
+use Rattle.hive_model.specs.Footprint.{of_read, used_in, key_place, is_value_named, step_cells, unless_refused}
+use Rattle.hive_model.specs.Stands.{IsWellFormed}
 use Rattle.hive_cells.specs.Held.{held_at}
 use Rattle.hive_cells.proofs.HeldLemmas.{payload_held, held_payload}
 use Rattle.reg_tree.specs.Fitting.{Fits}
 use Rattle.reg_tree.proofs.Edited.{edited_valid}
 use Rattle.key_index.specs.Relists.{AreApart}
-use Rattle.edit_laws.specs.Owned.{In, Reaches}
+use Rattle.edit_laws.specs.Owned.{In}
 use Rattle.edit_laws.specs.Owned.{value_places as owned_places}
 use Rattle.edit_laws.specs.Pairs.{Pairwise}
-use Rattle.edit_laws.specs.Revalues.{cells_of_values, all_value_cells}
+use Rattle.edit_laws.specs.Revalues.{cells_of_values}
 use Rattle.edit_laws.specs.Owned.{value_list_at}
 use Rattle.edit_laws.specs.Done.{IsDone}
 use Rattle.edit_laws.proofs.Ins.{in_right, in_flat_from}
@@ -32,27 +30,30 @@ use Rattle.edit_laws.proofs.Out.{placed_at}
 use Rattle.edit_laws.proofs.ChangedValues.{values_apart, values_held}
 use Rattle.edit_laws.proofs.FromCells.{value_uses}
 use Rattle.hive_edit.specs.Edits.{IsEditedInPlace}
-use Rattle.hive_edit.specs.Hive.{HiveCells, cells_in, hive_of, IsHive}
-use Rattle.hive_edit.specs.Places.{value_places, value_place, data_places, IsItemHere}
+use Rattle.hive_edit.specs.Hive.{HiveCells, hive_of, IsHive}
+use Rattle.hive_edit.specs.Places.{value_places, value_place, data_places}
 use Rattle.hive_edit.specs.Standing.{tree_of}
-use Rattle.hive_edit.proofs.ResultLemmas.{done, some, then_so}
+use Rattle.hive_edit.proofs.ResultLemmas.{done, some}
 use Rattle.hive_edit.proofs.EditLemmas.{the_tree}
 use Rattle.hive_edit.proofs.HiveLemmas.{hive_opened}
 use Rattle.hive_edit.proofs.InPlaceLemmas.{found_among}
-use Rattle.hive_edit.proofs.PlaceLemmas.{key_there}
 use Rattle.hive_edit.proofs.StandingLemmas.{tree_is}
 
 -- ---- a step that is done
 
 -- the bins and the bulk are those of a hive in which the step was made in place
-pub record IsStepDone (h : HiveCells) (new : List Bin) (root : ℕ) (version : HiveVersion) (bulk : ℕ) (step : Step) : Type 0 where
+pub record IsStepDone (h : HiveCells) (new : List Bin) (root : ℕ) (version : HiveVersion) (bulk : ℕ)
+    (step : Step) : Type 0 where
   pub hive : IsHive new root version bulk
   pub edit : edited h.version h.tree (step ∷ []) ≡ Ok (tree_of (look_up version new) root)
   pub kept : IsEditedInPlace h (step ∷ []) (hive_of new root version)
 
-pub step_done : (old new : List Bin) (root : ℕ) (version : HiveVersion) (bulk bulk_then : ℕ) (h : HiveCells) (u : Tree) (step : Step) → IsHive old root version bulk
-    → hive_of old root version ≡ h → edited version (tree_of (look_up version old) root) (step ∷ []) ≡ the_tree u → Fits step
-    → IsDone (look_up version old) (look_up version new) root (tree_of (look_up version old) root) u step → bulk_then ≡ bulk_of version u
+pub step_done : (old new : List Bin) (root : ℕ) (version : HiveVersion) (bulk bulk_then : ℕ) (h : HiveCells) (u : Tree)
+    (step : Step) → IsHive old root version bulk
+    → hive_of old root version ≡ h → edited version (tree_of (look_up version old) root) (step ∷ []) ≡ the_tree u
+    → Fits step
+    → IsDone (look_up version old) (look_up version new) root (tree_of (look_up version old) root) u step
+    → bulk_then ≡ bulk_of version u
     → bins_size old ≤ bins_size new → IsStepDone h new root version bulk_then step
 step_done old new root version bulk bulk_then h u step is view edit fits made counted long =
     let b = look_up version old in
@@ -62,12 +63,14 @@ step_done old new root version bulk bulk_then h u step is view edit fits made co
     let valid = edited_valid version t u (step ∷ []) is.valid (All-cons Fits step [] fits (All-nil Fits)) edit in
     record {
       hive = hive_opened new new root version bulk_then u refl made.stands valid counted;
-      edit = subst (λ (g : HiveCells). edited g.version g.tree (step ∷ []) ≡ the_tree (tree_of c root)) view (edit ∙ sym (ap the_tree tree));
+      edit = subst (λ (g : HiveCells). edited g.version g.tree (step ∷ []) ≡ the_tree (tree_of c root)) view
+          (edit ∙ sym (ap the_tree tree));
       kept = subst (λ (g : HiveCells). IsEditedInPlace g (step ∷ []) (hive_of new root version)) view
           (record {
             kept = λ o p held outside. payload_held new o p
                 (made.leaves.rest o p (held_payload old o p held)
-                (λ i. outside (Contains-append_left (step_cells b root t step) (unless_refused [] (after_step step t) (λ w. [])) o i)));
+                (λ i. outside (Contains-append_left (step_cells b root t step)
+                (unless_refused [] (after_step step t) (λ w. [])) o i)));
             root = refl;
             long = long;
           });
@@ -83,27 +86,35 @@ pub record ValueOwn (b : Cells) (v : ℕ) : Type 0 where
   pub once : Pairwise (λ p q. p ≡ q → ⊥) (v ∷ data_places b v)
   pub held : (o : ℕ) → In (v ∷ data_places b v) o → (q : List ℕ) × (b.payload o ≡ Ok q)
 
-one_of_them : (b : Cells) (front back : List ℕ) (v : ℕ) → Pairwise (λ p q. p ≡ q → ⊥) (cells_of_values b (front ++ (v ∷ back)))
+one_of_them : (b : Cells) (front back : List ℕ) (v : ℕ)
+    → Pairwise (λ p q. p ≡ q → ⊥) (cells_of_values b (front ++ (v ∷ back)))
     → Pairwise (λ p q. p ≡ q → ⊥) (used_in (value_checks b [] v))
-one_of_them b [] back v h = (pairwise_parts (λ p q. p ≡ q → ⊥) (used_in (value_checks b [] v)) (cells_of_values b back) h).left
+one_of_them b [] back v h =
+    (pairwise_parts (λ p q. p ≡ q → ⊥) (used_in (value_checks b [] v)) (cells_of_values b back) h).left
 one_of_them b (w ∷ front) back v h =
-    one_of_them b front back v (pairwise_parts (λ p q. p ≡ q → ⊥) (used_in (value_checks b [] w)) (cells_of_values b (front ++ (v ∷ back))) h).right
+    one_of_them b front back v
+    (pairwise_parts (λ p q. p ≡ q → ⊥) (used_in (value_checks b [] w)) (cells_of_values b (front ++ (v ∷ back)))
+    h).right
 
 pub places_same : (cells : Cells) (at : ℕ) → owned_places cells at ≡ value_places cells at
 unfolding owned_places value_places
 places_same cells at = refl
 
-pub value_own : (b : Cells) (root : ℕ) (t : Tree) (path : List (List ℕ)) (name : List ℕ) (key v : ℕ) (value : KeyValue) → IsWellFormed b root t → key_place b path root ≡ some key
+pub value_own : (b : Cells) (root : ℕ) (t : Tree) (path : List (List ℕ)) (name : List ℕ) (key v : ℕ) (value : KeyValue)
+    → IsWellFormed b root t → key_place b path root ≡ some key
     → value_place b name key ≡ some v → reading key_value_at b v ≡ done value → ValueOwn b v
 value_own b root t path name key v value well k e r =
     let placed = placed_at b path root key k in
     let among = found_among (is_value_named b name) (value_places b key) v e in
     let whole : owned_places b key ≡ among.front ++ (v ∷ among.back) = places_same b key ∙ among.whole in
     let apart = values_apart b root t placed.stored key well placed.reached in
-    let of_values = (pairwise_parts (λ p q. p ≡ q → ⊥) (value_list_at b key) (cells_of_values b (owned_places b key)) apart.once).right in
-    let mine = one_of_them b among.front among.back v (subst (λ (os : List ℕ). Pairwise (λ p q. p ≡ q → ⊥) (cells_of_values b os)) whole of_values) in
+    let of_values = (pairwise_parts (λ p q. p ≡ q → ⊥) (value_list_at b key) (cells_of_values b (owned_places b key))
+    apart.once).right in
+    let mine = one_of_them b among.front among.back v
+    (subst (λ (os : List ℕ). Pairwise (λ p q. p ≡ q → ⊥) (cells_of_values b os)) whole of_values) in
     let uses : used_in (value_checks b [] v) ≡ v ∷ data_places b v =
-    value_uses b v value r ∙ ap (λ (q : Result KeyValue HiveKind). v ∷ of_read q (λ u. used_in (data_checks b u))) (sym r) in
+    value_uses b v value r ∙ ap (λ (q : Result KeyValue HiveKind). v ∷ of_read q (λ u. used_in (data_checks b u)))
+    (sym r) in
     record {
       value = value;
       read = r;
@@ -117,7 +128,8 @@ value_own b root t path name key v value well k e r =
     }
 
 -- said of bins
-pub data_held : (version : HiveVersion) (bins : List Bin) (v : ℕ) → ValueOwn (look_up version bins) v → All (λ o. IsSome (held_at bins o)) (data_places (look_up version bins) v)
+pub data_held : (version : HiveVersion) (bins : List Bin) (v : ℕ) → ValueOwn (look_up version bins) v
+    → All (λ o. IsSome (held_at bins o)) (data_places (look_up version bins) v)
 data_held version bins v own =
     all_from (λ o. IsSome (held_at bins o)) (data_places (look_up version bins) v)
     (λ o i. let q = own.held o (inr i) in subst IsSome (sym (payload_held bins o q.0 q.1)) refl)

@@ -1,5 +1,5 @@
 -- A step that is made on the cells of a hive, whatever the bulk of the tree then: what it tells of the edit of one step, and of steps in order.
-use Rattle.std.proofs.Common.{◌≡◌, ◌≤◌, ◌<◌, ◌⊎◌, ℕ, zero, suc, ◌+◌, Bool, true, false, cond, List, [], ◌∷◌, ◌++◌, length, map, take, drop, get_or, Option, Some, None, Result, Ok, Err, inl, inr, refl, sym, ap, subst, ◌∙◌, arith}
+use Rattle.std.proofs.Common.{◌≡◌, ◌≤◌, ◌<◌, ◌⊎◌, ℕ, zero, suc, ◌+◌, Bool, true, false, cond, List, [], ◌∷◌, ◌++◌, length, map, take, drop, get_or, Option, Some, None, Result, Ok, Err, inr, refl, sym, ap, subst, ◌∙◌, arith}
 use Rattle.std.specs.Prelude.{nat_lt, MatchBool, OnOk}
 use Rattle.std.specs.Option.{IfSome}
 use Rattle.std.specs.List.{All}
@@ -17,18 +17,16 @@ use Rattle.hive_read.proofs.FormFacts.{IsBytes}
 use Rattle.hive_read.proofs.ValidTrees.{well-formed-valid, cells-bytes}
 use Rattle.reg_tree.specs.declared.stop.EditStop.{EditStop}
 use Rattle.reg_tree.specs.Makes.{IsRefused, Makes, refusal_of}
-use Rattle.edit_laws.specs.Owned.{In}
 use Rattle.edit_laws.specs.Done.{IsDone, AreDone}
 use Rattle.edit_laws.specs.Sizes.{AreGrown}
 use Rattle.edit_laws.proofs.Grown.{strain_behind}
 use Rattle.edit_laws.proofs.InOrder.{tree_done, left_outside}
-use Rattle.edit_laws.proofs.Pairs.{all_in}
 use Rattle.edit_laws.proofs.RoomLemmas.{some_all, strain_one, strain_least}
 use Rattle.hive_edit.specs.Edits.{IsEditedInPlace, IsPackedAnew, IsPackedForRoom}
 use Rattle.hive_edit.specs.Hive.{HiveCells, cells_in, hive_of, IsHive}
 use Rattle.hive_edit.specs.Standing.{tree_of}
 use Rattle.hive_edit.specs.Stepped.{IsStepped, LacksStepRoom}
-use Rattle.hive_edit.specs.Steps.{IsInPlace, AreStepped, StopsAtOne}
+use Rattle.hive_edit.specs.Steps.{AreStepped, AreStrained}
 use Rattle.hive_edit.proofs.EditLemmas.{the_tree}
 use Rattle.hive_edit.proofs.HiveLemmas.{hive_opened}
 use Rattle.hive_edit.proofs.StandingLemmas.{tree_is}
@@ -36,7 +34,8 @@ use Rattle.hive_edit.proofs.StandingLemmas.{tree_is}
 -- ---- one step
 
 -- the bins and the bulk are those of a hive in which the step was made
-pub record IsStepMade (h : HiveCells) (new : List Bin) (root : ℕ) (version : HiveVersion) (bulk : ℕ) (step : Step) : Type 0 where
+pub record IsStepMade (h : HiveCells) (new : List Bin) (root : ℕ) (version : HiveVersion) (bulk : ℕ)
+    (step : Step) : Type 0 where
   pub hive : IsHive new root version bulk
   pub stepped : IsStepped h step (hive_of new root version)
 
@@ -45,10 +44,13 @@ abbrev pub IsWithinRoom : HiveVersion → List Bin → List Bin → ℕ → Step
 IsWithinRoom version old new root step u =
     bins_size new ≤ bins_size old + room_of (needed_sizes version (tree_of (look_up version old) root) step u)
 
-pub stepped : (old new : List Bin) (root : ℕ) (version : HiveVersion) (bulk bulk_then : ℕ) (h : HiveCells) (u : Tree) (step : Step) → IsHive old root version bulk
+pub stepped : (old new : List Bin) (root : ℕ) (version : HiveVersion) (bulk bulk_then : ℕ) (h : HiveCells) (u : Tree)
+    (step : Step) → IsHive old root version bulk
     → hive_of old root version ≡ h → after_step step (tree_of (look_up version old) root) ≡ the_tree u
-    → IsDone (look_up version old) (look_up version new) root (tree_of (look_up version old) root) u step → IsBytes (spelled 0 new) → bulk_then ≡ bulk_of version u
-    → bins_size old ≤ bins_size new → IsWithinRoom version old new root step u → IsStepMade h new root version bulk_then step
+    → IsDone (look_up version old) (look_up version new) root (tree_of (look_up version old) root) u step
+    → IsBytes (spelled 0 new) → bulk_then ≡ bulk_of version u
+    → bins_size old ≤ bins_size new → IsWithinRoom version old new root step u
+    → IsStepMade h new root version bulk_then step
 stepped old new root version bulk bulk_then h u step is view ok made bytes counted long room =
     let b = look_up version old in
     let c = look_up version new in
@@ -68,16 +70,22 @@ stepped old new root version bulk bulk_then h u step is view ok made bytes count
     }
 
 -- the bulk is that of its tree
-pub stepped_bulk : (h : HiveCells) (new : List Bin) (root : ℕ) (version : HiveVersion) (bulk : ℕ) (step : Step) → IsStepMade h new root version bulk step
+pub stepped_bulk : (h : HiveCells) (new : List Bin) (root : ℕ) (version : HiveVersion) (bulk : ℕ) (step : Step)
+    → IsStepMade h new root version bulk step
     → bulk ≡ bulk_of h.version (tree_of (look_up version new) root)
-stepped_bulk h new root version bulk step m = m.hive.counted ∙ ap (λ (v : HiveVersion). bulk_of v (tree_of (look_up version new) root)) m.stepped.version
+stepped_bulk h new root version bulk step m =
+    m.hive.counted ∙ ap (λ (v : HiveVersion). bulk_of v (tree_of (look_up version new) root)) m.stepped.version
 
 -- where room for cells that the step needs is over the limit
-pub lacks_room : (bins : List Bin) (root : ℕ) (version : HiveVersion) (h : HiveCells) (u : Tree) (step : Step) → hive_of bins root version ≡ h
+pub lacks_room : (bins : List Bin) (root : ℕ) (version : HiveVersion) (h : HiveCells) (u : Tree) (step : Step)
+    → hive_of bins root version ≡ h
     → after_step step (tree_of (look_up version bins) root) ≡ the_tree u
-    → 16777216 < bins_size bins + room_of (needed_sizes version (tree_of (look_up version bins) root) step u) → LacksStepRoom h step
+    → 16777216 < bins_size bins + room_of (needed_sizes version (tree_of (look_up version bins) root) step u)
+    → LacksStepRoom h step
 lacks_room bins root version h u step view ok over =
-    subst (λ (g : HiveCells). LacksStepRoom g step) view (λ w e. subst (λ (z : Tree). 16777216 < bins_size bins + room_of (needed_sizes version t step z)) (same u w (sym ok ∙ e)) over)
+    subst (λ (g : HiveCells). LacksStepRoom g step) view
+    (λ w e. subst (λ (z : Tree). 16777216 < bins_size bins + room_of (needed_sizes version t step z))
+    (same u w (sym ok ∙ e)) over)
   where
     t : Tree
     t = tree_of (look_up version bins) root
@@ -90,7 +98,8 @@ lacks_room bins root version h u step view ok over =
 abbrev judged : HiveVersion → Result Tree Refusal → Result Tree Refusal
 judged version r = then_edit r (λ u. cond (nat_lt most_bulk (bulk_of version u)) (Err full) (Ok u))
 
-pub all_edit : (version : HiveVersion) (t : Tree) (steps : List Step) → edited version t steps ≡ judged version (after_steps t steps)
+pub all_edit : (version : HiveVersion) (t : Tree) (steps : List Step)
+    → edited version t steps ≡ judged version (after_steps t steps)
 unfolding edited
 all_edit version t steps = refl
 
@@ -101,62 +110,77 @@ one_step t step = go (after_step step t)
     go (Ok u) = refl
     go (Err e) = refl
 
-pub steps_within : (version : HiveVersion) (t u : Tree) (steps : List Step) → after_steps t steps ≡ the_tree u → bulk_of version u ≤ 16773120
+pub steps_within : (version : HiveVersion) (t u : Tree) (steps : List Step) → after_steps t steps ≡ the_tree u
+    → bulk_of version u ≤ 16773120
     → edited version t steps ≡ the_tree u
 steps_within version t u steps ok room =
-    all_edit version t steps ∙ ap (judged version) ok ∙ ap (λ (b : Bool). cond b (Err full) (Ok u)) (le-ltb most_bulk (bulk_of version u) room)
+    all_edit version t steps ∙ ap (judged version) ok
+    ∙ ap (λ (b : Bool). cond b (Err full) (Ok u)) (le-ltb most_bulk (bulk_of version u) room)
 
-pub steps_full : (version : HiveVersion) (t u : Tree) (steps : List Step) → after_steps t steps ≡ the_tree u → 16773120 < bulk_of version u
+pub steps_full : (version : HiveVersion) (t u : Tree) (steps : List Step) → after_steps t steps ≡ the_tree u
+    → 16773120 < bulk_of version u
     → edited version t steps ≡ Err full
 steps_full version t u steps ok over =
-    all_edit version t steps ∙ ap (judged version) ok ∙ ap (λ (b : Bool). cond b (Err full) (Ok u)) (lt-ltb most_bulk (bulk_of version u) over)
+    all_edit version t steps ∙ ap (judged version) ok
+    ∙ ap (λ (b : Bool). cond b (Err full) (Ok u)) (lt-ltb most_bulk (bulk_of version u) over)
 
 -- a refusal of a result is one of what is made of it
-refused_then : (r : Result Tree Refusal) (f : Tree → Result Tree Refusal) (stop : EditStop) → IsRefused r stop → IsRefused (then_edit r f) stop
+refused_then : (r : Result Tree Refusal) (f : Tree → Result Tree Refusal) (stop : EditStop) → IsRefused r stop
+    → IsRefused (then_edit r f) stop
 refused_then r f stop h = go (refusal_of stop) h
   where
     go : (o : Option Refusal) → IfSome o (λ why. r ≡ Err why) → IfSome o (λ why. then_edit r f ≡ Err why)
     go None h = tt
     go (Some why) h = ap (λ (q : Result Tree Refusal). then_edit q f) h
 
-pub steps_refused : (version : HiveVersion) (t : Tree) (steps : List Step) (stop : EditStop) → IsRefused (after_steps t steps) stop
+pub steps_refused : (version : HiveVersion) (t : Tree) (steps : List Step) (stop : EditStop)
+    → IsRefused (after_steps t steps) stop
     → IsRefused (edited version t steps) stop
 steps_refused version t steps stop h =
     subst (λ (r : Result Tree Refusal). IsRefused r stop) (sym (all_edit version t steps))
     (refused_then (after_steps t steps) (λ u. cond (nat_lt most_bulk (bulk_of version u)) (Err full) (Ok u)) stop h)
 
-pub step_within : (version : HiveVersion) (t u : Tree) (step : Step) → after_step step t ≡ the_tree u → bulk_of version u ≤ 16773120
+pub step_within : (version : HiveVersion) (t u : Tree) (step : Step) → after_step step t ≡ the_tree u
+    → bulk_of version u ≤ 16773120
     → edited version t (step ∷ []) ≡ the_tree u
 step_within version t u step ok room = steps_within version t u (step ∷ []) (one_step t step ∙ ok) room
 
-pub step_full : (version : HiveVersion) (t u : Tree) (step : Step) → after_step step t ≡ the_tree u → 16773120 < bulk_of version u
+pub step_full : (version : HiveVersion) (t u : Tree) (step : Step) → after_step step t ≡ the_tree u
+    → 16773120 < bulk_of version u
     → edited version t (step ∷ []) ≡ Err full
 step_full version t u step ok over = steps_full version t u (step ∷ []) (one_step t step ∙ ok) over
 
-pub step_refused : (version : HiveVersion) (t : Tree) (step : Step) (stop : EditStop) → IsRefused (after_step step t) stop
+pub step_refused : (version : HiveVersion) (t : Tree) (step : Step) (stop : EditStop)
+    → IsRefused (after_step step t) stop
     → IsRefused (edited version t (step ∷ [])) stop
 step_refused version t step stop h =
-    steps_refused version t (step ∷ []) stop (subst (λ (r : Result Tree Refusal). IsRefused r stop) (sym (one_step t step)) h)
+    steps_refused version t (step ∷ []) stop
+    (subst (λ (r : Result Tree Refusal). IsRefused r stop) (sym (one_step t step)) h)
 
 -- an edit that is made
-then_ok : (r : Result Tree Refusal) (f : Tree → Result Tree Refusal) (u : Tree) → then_edit r f ≡ the_tree u → (v : Tree) × (r ≡ the_tree v) × (f v ≡ the_tree u)
+then_ok : (r : Result Tree Refusal) (f : Tree → Result Tree Refusal) (u : Tree) → then_edit r f ≡ the_tree u
+    → (v : Tree) × (r ≡ the_tree v) × (f v ≡ the_tree u)
 then_ok (Ok v) f u e = (v, refl, e)
 then_ok (Err why) f u e = absurd cc
 
-pub steps_made : (version : HiveVersion) (t u : Tree) (steps : List Step) → edited version t steps ≡ the_tree u → (v : Tree) × (after_steps t steps ≡ the_tree v)
+pub steps_made : (version : HiveVersion) (t u : Tree) (steps : List Step) → edited version t steps ≡ the_tree u
+    → (v : Tree) × (after_steps t steps ≡ the_tree v)
 steps_made version t u steps e =
-    let v = then_ok (after_steps t steps) (λ w. cond (nat_lt most_bulk (bulk_of version w)) (Err full) (Ok w)) u (sym (all_edit version t steps) ∙ e) in
+    let v = then_ok (after_steps t steps) (λ w. cond (nat_lt most_bulk (bulk_of version w)) (Err full) (Ok w)) u
+    (sym (all_edit version t steps) ∙ e) in
     (v.0, v.1)
 
 -- ---- one step of a hive
 
-pub stepped_edit : (h g : HiveCells) (step : Step) → IsStepped h step g → bulk_of h.version g.tree ≤ 16773120 → edited h.version h.tree (step ∷ []) ≡ the_tree g.tree
+pub stepped_edit : (h g : HiveCells) (step : Step) → IsStepped h step g → bulk_of h.version g.tree ≤ 16773120
+    → edited h.version h.tree (step ∷ []) ≡ the_tree g.tree
 stepped_edit h g step s room = step_within h.version h.tree g.tree step s.tree room
 
 pub stepped_kept : (h g : HiveCells) (step : Step) → IsStepped h step g → IsEditedInPlace h (step ∷ []) g
 stepped_kept h g step s = record {
   kept = λ o p held outside. payload_held g.bins o p (s.done.leaves.rest o p (held_payload h.bins o p held)
-      (λ i. outside (Contains-append_left (step_cells (cells_in h) h.root h.tree step) (unless_refused [] (after_step step h.tree) (λ w. [])) o i)));
+      (λ i. outside (Contains-append_left (step_cells (cells_in h) h.root h.tree step)
+      (unless_refused [] (after_step step h.tree) (λ w. [])) o i)));
   root = s.root;
   long = s.long;
 }
@@ -168,10 +192,12 @@ lacks_over h u step lacks ok =
     let s = strain_one h.version (bins_size h.bins) h.tree u step [] ok in
     omega (arith, l, s)
 
-pub lacks_strained : (h : HiveCells) (u : Tree) (step : Step) → LacksStepRoom h step → edited h.version h.tree (step ∷ []) ≡ the_tree u
+pub lacks_strained : (h : HiveCells) (u : Tree) (step : Step) → LacksStepRoom h step
+    → edited h.version h.tree (step ∷ []) ≡ the_tree u
     → 16777216 < strain_of h.version (bins_size h.bins) h.tree (step ∷ [])
 lacks_strained h u step lacks e =
-    let v = steps_made h.version h.tree u (step ∷ []) e in lacks_over h v.0 step lacks (sym (one_step h.tree step) ∙ v.1)
+    let v = steps_made h.version h.tree u (step ∷ []) e in
+    lacks_over h v.0 step lacks (sym (one_step h.tree step) ∙ v.1)
 
 -- by whether it was made
 pub if_done : (A B : Type 0) (d : Bool) → d ≡ true → MatchBool d A B → A
@@ -183,23 +209,27 @@ if_undone A B true e h = absurd cc
 if_undone A B false e h = h
 
 -- the hive, where the bins are as they were
-pub same_hive : (old new : List Bin) (root : ℕ) (version : HiveVersion) (h : HiveCells) → hive_of old root version ≡ h → new ≡ old → hive_of new root version ≡ h
+pub same_hive : (old new : List Bin) (root : ℕ) (version : HiveVersion) (h : HiveCells) → hive_of old root version ≡ h
+    → new ≡ old → hive_of new root version ≡ h
 same_hive old new root version h view e = ap (λ (bs : List Bin). hive_of bs root version) e ∙ view
 
 -- ---- steps in order
 
-pub stepped_more : (front : List Step) (a b c : HiveCells) (step : Step) → AreStepped a front b → IsStepped b step c → AreStepped a (front ++ step ∷ []) c
+pub stepped_more : (front : List Step) (a b c : HiveCells) (step : Step) → AreStepped a front b → IsStepped b step c
+    → AreStepped a (front ++ step ∷ []) c
 stepped_more [] a b c step e s = (c, subst (λ (g : HiveCells). IsStepped g step c) (sym e) s, refl)
 stepped_more (first ∷ front) a b c step m s = (m.0, m.1, stepped_more front m.0 b c step m.2 s)
 
-pub done_in_order : (steps : List Step) (a b : HiveCells) → AreStepped a steps b → AreDone a.root (cells_in a) a.tree steps (cells_in b) b.tree
+pub done_in_order : (steps : List Step) (a b : HiveCells) → AreStepped a steps b
+    → AreDone a.root (cells_in a) a.tree steps (cells_in b) b.tree
 done_in_order [] a b e = (ap (λ (g : HiveCells). cells_in g) e, ap (λ (g : HiveCells). g.tree) e)
 done_in_order (step ∷ steps) a b m = (
   m.0.tree,
   cells_in m.0,
   m.1.tree,
   m.1.done,
-  subst (λ (root : ℕ). AreDone root (cells_in m.0) m.0.tree steps (cells_in b) b.tree) m.1.root (done_in_order steps m.0 b m.2),
+  subst (λ (root : ℕ). AreDone root (cells_in m.0) m.0.tree steps (cells_in b) b.tree) m.1.root
+      (done_in_order steps m.0 b m.2),
 )
 
 pub same_version : (steps : List Step) (a b : HiveCells) → AreStepped a steps b → b.version ≡ a.version
@@ -211,10 +241,12 @@ same_root [] a b e = ap (λ (g : HiveCells). g.root) (sym e)
 same_root (step ∷ steps) a b m = same_root steps m.0 b m.2 ∙ m.1.root
 
 longer : (steps : List Step) (a b : HiveCells) → AreStepped a steps b → bins_size a.bins ≤ bins_size b.bins
-longer [] a b e = let s : bins_size a.bins ≡ bins_size b.bins = ap (λ (g : HiveCells). bins_size g.bins) e in omega (arith, s)
+longer [] a b e = let s : bins_size a.bins ≡ bins_size b.bins = ap (λ (g : HiveCells). bins_size g.bins) e in
+    omega (arith, s)
 longer (step ∷ steps) a b m = let d = longer steps m.0 b m.2 in let l = m.1.long in omega (arith, d, l)
 
-grown_in_order : (steps : List Step) (a b : HiveCells) → AreStepped a steps b → AreGrown a.version (bins_size a.bins) a.tree steps (bins_size b.bins) b.tree
+grown_in_order : (steps : List Step) (a b : HiveCells) → AreStepped a steps b
+    → AreGrown a.version (bins_size a.bins) a.tree steps (bins_size b.bins) b.tree
 grown_in_order [] a b e =
     let s : bins_size a.bins ≡ bins_size b.bins = ap (λ (g : HiveCells). bins_size g.bins) e in
     (omega (arith, s), ap (λ (g : HiveCells). g.tree) e)
@@ -225,91 +257,112 @@ grown_in_order (step ∷ steps) a b m = (
   m.1.tree,
   some_all (needed_sizes a.version a.tree step m.0.tree),
   m.1.room,
-  subst (λ (v : HiveVersion). AreGrown v (bins_size m.0.bins) m.0.tree steps (bins_size b.bins) b.tree) m.1.version (grown_in_order steps m.0 b m.2),
+  subst (λ (v : HiveVersion). AreGrown v (bins_size m.0.bins) m.0.tree steps (bins_size b.bins) b.tree) m.1.version
+      (grown_in_order steps m.0 b m.2),
 )
 
-pub ordered_tree : (steps : List Step) (a b : HiveCells) → AreStepped a steps b → after_steps a.tree steps ≡ the_tree b.tree
+pub ordered_tree : (steps : List Step) (a b : HiveCells) → AreStepped a steps b
+    → after_steps a.tree steps ≡ the_tree b.tree
 ordered_tree steps a b m = tree_done a.root steps (cells_in a) (cells_in b) a.tree b.tree (done_in_order steps a b m)
 
 -- the hive is edited in place
-pub ordered_kept : (steps : List Step) (a b : HiveCells) → IsWellFormed (cells_in a) a.root a.tree → AreStepped a steps b → IsEditedInPlace a steps b
+pub ordered_kept : (steps : List Step) (a b : HiveCells) → IsWellFormed (cells_in a) a.root a.tree
+    → AreStepped a steps b → IsEditedInPlace a steps b
 ordered_kept steps a b well m = record {
   kept = λ o p held outside. payload_held b.bins o p
-      (left_outside (cells_in a) (cells_in b) a.root a.tree b.tree steps well (done_in_order steps a b m) o p (held_payload a.bins o p held) outside);
+      (left_outside (cells_in a) (cells_in b) a.root a.tree b.tree steps well (done_in_order steps a b m) o p
+      (held_payload a.bins o p held) outside);
   root = same_root steps a b m;
   long = longer steps a b m;
 }
 
 -- ---- their edit, by the bulk at the end
 
-bulk_seen : (steps : List Step) (h g : HiveCells) (n : ℕ) → AreStepped h steps g → n ≡ bulk_of g.version g.tree → n ≡ bulk_of h.version g.tree
+bulk_seen : (steps : List Step) (h g : HiveCells) (n : ℕ) → AreStepped h steps g → n ≡ bulk_of g.version g.tree
+    → n ≡ bulk_of h.version g.tree
 bulk_seen steps h g n m e = e ∙ ap (λ (v : HiveVersion). bulk_of v g.tree) (same_version steps h g m)
 
-pub ordered_made : (steps : List Step) (h g : HiveCells) (n : ℕ) → AreStepped h steps g → n ≡ bulk_of g.version g.tree → n ≤ 16773120
+pub ordered_made : (steps : List Step) (h g : HiveCells) (n : ℕ) → AreStepped h steps g → n ≡ bulk_of g.version g.tree
+    → n ≤ 16773120
     → edited h.version h.tree steps ≡ the_tree g.tree
-ordered_made steps h g n m e room = steps_within h.version h.tree g.tree steps (ordered_tree steps h g m) (subst (λ (b : ℕ). b ≤ 16773120) (bulk_seen steps h g n m e) room)
+ordered_made steps h g n m e room =
+    steps_within h.version h.tree g.tree steps (ordered_tree steps h g m)
+    (subst (λ (b : ℕ). b ≤ 16773120) (bulk_seen steps h g n m e) room)
 
-pub ordered_full : (steps : List Step) (h g : HiveCells) (n : ℕ) → AreStepped h steps g → n ≡ bulk_of g.version g.tree → 16773120 < n
+pub ordered_full : (steps : List Step) (h g : HiveCells) (n : ℕ) → AreStepped h steps g → n ≡ bulk_of g.version g.tree
+    → 16773120 < n
     → edited h.version h.tree steps ≡ Err full
-ordered_full steps h g n m e over = steps_full h.version h.tree g.tree steps (ordered_tree steps h g m) (subst (λ (b : ℕ). 16773120 < b) (bulk_seen steps h g n m e) over)
+ordered_full steps h g n m e over =
+    steps_full h.version h.tree g.tree steps (ordered_tree steps h g m)
+    (subst (λ (b : ℕ). 16773120 < b) (bulk_seen steps h g n m e) over)
 
 -- ---- a step behind others
 
-after_both : (front back : List Step) (t u : Tree) → after_steps t front ≡ the_tree u → after_steps t (front ++ back) ≡ after_steps u back
+after_both : (front back : List Step) (t u : Tree) → after_steps t front ≡ the_tree u
+    → after_steps t (front ++ back) ≡ after_steps u back
 after_both [] back t u e = ap (λ (w : Tree). after_steps w back) (same t u e)
   where
     same : (a b : Tree) → the_tree a ≡ the_tree b → a ≡ b
     same a b e = cc
 after_both (step ∷ front) back t u e =
     let v = then_ok (after_step step t) (λ w. after_steps w front) u e in
-    ap (λ (r : Result Tree Refusal). then_edit r (λ w. after_steps w (front ++ back))) v.1 ∙ after_both front back v.0 u v.2
+    ap (λ (r : Result Tree Refusal). then_edit r (λ w. after_steps w (front ++ back))) v.1
+    ∙ after_both front back v.0 u v.2
 
 -- it is refused, and so are all
-pub refused_behind : (front back : List Step) (step : Step) (a b : HiveCells) (stop : EditStop) → AreStepped a front b → IsRefused (after_step step b.tree) stop
+pub refused_behind : (front back : List Step) (step : Step) (a b : HiveCells) (stop : EditStop) → AreStepped a front b
+    → IsRefused (after_step step b.tree) stop
     → IsRefused (after_steps a.tree (front ++ step ∷ back)) stop
 refused_behind front back step a b stop m h =
-    subst (λ (r : Result Tree Refusal). IsRefused r stop) (sym (after_both front (step ∷ back) a.tree b.tree (ordered_tree front a b m)))
+    subst (λ (r : Result Tree Refusal). IsRefused r stop)
+    (sym (after_both front (step ∷ back) a.tree b.tree (ordered_tree front a b m)))
     (refused_then (after_step step b.tree) (λ w. after_steps w back) stop h)
 
-last_of : (front back : List Step) (step : Step) → In (front ++ step ∷ back) step
-last_of [] back step = inl refl
-last_of (first ∷ front) back step = inr (last_of front back step)
-
 -- it has no room, and so the strain of all is over the limit
-strained_behind : (front back : List Step) (step : Step) (a b : HiveCells) (u : Tree) → AreStepped a front b → LacksStepRoom b step
-    → after_steps a.tree (front ++ step ∷ back) ≡ the_tree u → 16777216 < strain_of a.version (bins_size a.bins) a.tree (front ++ step ∷ back)
+strained_behind : (front back : List Step) (step : Step) (a b : HiveCells) (u : Tree) → AreStepped a front b
+    → LacksStepRoom b step
+    → after_steps a.tree (front ++ step ∷ back) ≡ the_tree u
+    → 16777216 < strain_of a.version (bins_size a.bins) a.tree (front ++ step ∷ back)
 strained_behind front back step a b u m lacks e =
     let both = after_both front (step ∷ back) a.tree b.tree (ordered_tree front a b m) in
     let v = then_ok (after_step step b.tree) (λ w. after_steps w back) u (sym both ∙ e) in
     let over : 16777216 < bins_size b.bins + room_of (needed_sizes a.version b.tree step v.0) =
-    subst (λ (n : HiveVersion). 16777216 < bins_size b.bins + room_of (needed_sizes n b.tree step v.0)) (same_version front a b m) (lacks v.0 v.1) in
-    let s = strain_behind a.version (bins_size a.bins) (bins_size b.bins) a.tree b.tree front (step ∷ back) (grown_in_order front a b m) in
+    subst (λ (n : HiveVersion). 16777216 < bins_size b.bins + room_of (needed_sizes n b.tree step v.0))
+    (same_version front a b m) (lacks v.0 v.1) in
+    let s = strain_behind a.version (bins_size a.bins) (bins_size b.bins) a.tree b.tree front (step ∷ back)
+    (grown_in_order front a b m) in
     let o = strain_one a.version (bins_size b.bins) b.tree v.0 step back v.1 in
     let l = strain_least a.version (bins_size b.bins + room_of (needed_sizes a.version b.tree step v.0)) v.0 back in
     omega (arith, over, s, o, l)
 
-pub stopped_strained : (h : HiveCells) (u : Tree) (steps : List Step) → StopsAtOne h steps → All IsInPlace steps → edited h.version h.tree steps ≡ the_tree u
-    → 16777216 < strain_of h.version (bins_size h.bins) h.tree steps
-stopped_strained h u steps s kinds e =
-    let kind : IsInPlace s.step = all_in IsInPlace (s.front ++ s.step ∷ s.back) s.step (subst (All IsInPlace) s.whole kinds) (last_of s.front s.back s.step) in
-    let v = steps_made h.version h.tree u steps e in
-    subst (λ (l : List Step). 16777216 < strain_of h.version (bins_size h.bins) h.tree l) (sym s.whole)
-    (strained_behind s.front s.back s.step h s.mid v.0 s.made (s.cannot kind) (subst (λ (l : List Step). after_steps h.tree l ≡ the_tree v.0) s.whole v.1))
+-- it has no room, and so all are strained
+pub stopped_strained : (front back : List Step) (step : Step) (h mid : HiveCells) → AreStepped h front mid
+    → LacksStepRoom mid step
+    → AreStrained h (front ++ step ∷ back)
+stopped_strained front back step h mid made lacks = λ u e.
+    let v = steps_made h.version h.tree u (front ++ step ∷ back) e in
+    strained_behind front back step h mid v.0 made lacks v.1
 
 -- an edit that packs the tree anew does so for want of room, where the strain of each edit that is made is over the limit
-pub packed_for_room : (h new : HiveCells) (steps : List Step) (r : Result (Unit {0}) EditStop) (P : Type 0) → Makes h.tree new.tree r (edited h.version h.tree steps)
-    → OnOk r (IsPackedAnew new) → ((u : Tree) → edited h.version h.tree steps ≡ the_tree u → 16777216 < strain_of h.version (bins_size h.bins) h.tree steps)
+pub packed_for_room : (h new : HiveCells) (steps : List Step) (r : Result (Unit {0}) EditStop) (P : Type 0)
+    → Makes h.tree new.tree r (edited h.version h.tree steps)
+    → OnOk r (IsPackedAnew new)
+    → ((u : Tree) → edited h.version h.tree steps ≡ the_tree u
+    → 16777216 < strain_of h.version (bins_size h.bins) h.tree steps)
     → OnOk r (P ⊎ IsPackedForRoom h steps new)
-packed_for_room h new steps (Ok x) P made anew strained = inr (record { packed = anew; strained = strained new.tree made })
+packed_for_room h new steps (Ok x) P made anew strained =
+    inr (record { packed = anew; strained = strained new.tree made })
 packed_for_room h new steps (Err stop) P made anew strained = tt
 
 -- ---- the steps so far
 
 -- each step fits
-pub fits_here : {X Y : Type 0} (P : Y → Type 0) (f : X → Y) (xs : List X) (k : ℕ) (x : X) → All P (map f xs) → k < length xs → x ≡ get_or xs k x → P (f x)
+pub fits_here : {X Y : Type 0} (P : Y → Type 0) (f : X → Y) (xs : List X) (k : ℕ) (x : X) → All P (map f xs)
+    → k < length xs → x ≡ get_or xs k x → P (f x)
 fits_here P f [] k x all lt e = absurd (omega (arith, lt))
 fits_here P f (y ∷ xs) zero x all lt e = subst (λ z. P (f z)) (sym e) (all 0 (f y) (omega arith))
-fits_here P f (y ∷ xs) (suc k) x all lt e = fits_here P f xs k x (λ j d within. all (suc j) d (omega (arith, within))) (omega (arith, lt)) e
+fits_here P f (y ∷ xs) (suc k) x all lt e =
+    fits_here P f xs k x (λ j d within. all (suc j) d (omega (arith, within))) (omega (arith, lt)) e
 
 pub map_more : {X Y : Type 0} (f : X → Y) (xs : List X) (k : ℕ) (x : X) → k < length xs → x ≡ get_or xs k x
     → map f (take (suc k) xs) ≡ map f (take k xs) ++ f x ∷ []

@@ -34,97 +34,133 @@ abbrev become : ℕ → List ℕ → Item → Item
 become kind bytes v = record v { kind = kind; bytes = bytes }
 
 -- the value is found with its data
-first_found : (name : List ℕ) (kind : ℕ) (bytes : List ℕ) (vs : List Item) (one : Item) → find (is_item name) vs ≡ some one
+first_found : (name : List ℕ) (kind : ℕ) (bytes : List ℕ) (vs : List Item) (one : Item)
+    → find (is_item name) vs ≡ some one
     → find (is_item name) (at_first (is_item name) (become kind bytes) vs) ≡ some (become kind bytes one)
 first_found name kind bytes [] one e = absurd cc
 first_found name kind bytes (v ∷ vs) one e = go (is_item name v) refl e (λ f. first_found name kind bytes vs one f)
   where
     go : (t : Bool) → is_item name v ≡ t → cond t (Some v) (find (is_item name) vs) ≡ some one
-        → (find (is_item name) vs ≡ some one → find (is_item name) (at_first (is_item name) (become kind bytes) vs) ≡ some (become kind bytes one))
-        → find (is_item name) (cond t (become kind bytes v ∷ vs) (v ∷ at_first (is_item name) (become kind bytes) vs)) ≡ some (become kind bytes one)
+        → (find (is_item name) vs ≡ some one
+        → find (is_item name) (at_first (is_item name) (become kind bytes) vs) ≡ some (become kind bytes one))
+        → find (is_item name) (cond t (become kind bytes v ∷ vs) (v ∷ at_first (is_item name) (become kind bytes) vs))
+        ≡ some (become kind bytes one)
     go true is f deep =
-        ap (λ (t : Bool). cond t (Some (become kind bytes v)) (find (is_item name) vs)) is ∙ ap (λ (i : Item). some (become kind bytes i)) (some_same v one f)
+        ap (λ (t : Bool). cond t (Some (become kind bytes v)) (find (is_item name) vs)) is
+        ∙ ap (λ (i : Item). some (become kind bytes i)) (some_same v one f)
     go false is f deep =
-        ap (λ (t : Bool). cond t (Some v) (find (is_item name) (at_first (is_item name) (become kind bytes) vs))) is ∙ deep f
+        ap (λ (t : Bool). cond t (Some v) (find (is_item name) (at_first (is_item name) (become kind bytes) vs))) is
+        ∙ deep f
 
 item_then : (name : List ℕ) (kind : ℕ) (bytes : List ℕ) (k : Tree) (one : Item) → find_item name k ≡ some one
     → find_item name (of_items (with_item name kind bytes) k) ≡ some (become kind bytes one)
 item_then name kind bytes (tree_key h ts) one e =
-    ap (λ (o : Option Item). find (is_item name) (cond (is_some o) (at_first (is_item name) (become kind bytes) h.values) (h.values ++ record { name = name; kind = kind; bytes = bytes } ∷ []))) e
+    ap (λ (o : Option Item). find (is_item name)
+    (cond (is_some o) (at_first (is_item name) (become kind bytes) h.values)
+    (h.values ++ record { name = name; kind = kind; bytes = bytes } ∷ []))) e
     ∙ first_found name kind bytes h.values one e
 
-kept_name : (name : List ℕ) (kind : ℕ) (bytes : List ℕ) (w : Tree) → (head (of_items (with_item name kind bytes) w)).name ≡ (head w).name
+kept_name : (name : List ℕ) (kind : ℕ) (bytes : List ℕ) (w : Tree)
+    → (head (of_items (with_item name kind bytes) w)).name ≡ (head w).name
 kept_name name kind bytes (tree_key h ts) = refl
 
-data_total : (version : HiveVersion) (v : Item) → total (map cell (data_sizes version (length v.bytes))) ≡ data_size version v.bytes
-data_total version v = cancel (cell (20 + name_bytes v.name)) (total (map cell (data_sizes version (length v.bytes)))) (data_size version v.bytes) (item_total version v)
+data_total : (version : HiveVersion) (v : Item)
+    → total (map cell (data_sizes version (length v.bytes))) ≡ data_size version v.bytes
+data_total version v = cancel (cell (20 + name_bytes v.name)) (total (map cell (data_sizes version (length v.bytes))))
+    (data_size version v.bytes) (item_total version v)
   where
     cancel : (a b c : ℕ) → a + b ≡ a + c → b ≡ c
     cancel a b c e = omega (arith, e)
 
 -- a new bin for the data is within the room for the cells that the step may need
-data_within : (version : HiveVersion) (b : Cells) (root : ℕ) (t : Tree) (path : List (List ℕ)) (name : List ℕ) (kind : ℕ) (bytes : List ℕ) (v : ℕ) → ThereIs b t root path name v
+data_within : (version : HiveVersion) (b : Cells) (root : ℕ) (t : Tree) (path : List (List ℕ)) (name : List ℕ)
+    (kind : ℕ) (bytes : List ℕ) (v : ℕ) → ThereIs b t root path name v
     → length bytes ≤ 1048576 → 4 < length bytes
-    → rounded (data_size version bytes + 32) ≤ room_of (needed_sizes version t (set_value path name kind bytes) (set_tree path name kind bytes t))
+    → rounded (data_size version bytes + 32) ≤ room_of
+    (needed_sizes version t (set_value path name kind bytes) (set_tree path name kind bytes t))
 data_within version b root t path name kind bytes v i few long =
-    let some_data : 0 < data_size version bytes = omega (arith, some_size version 0 bytes long, space_data version 0 bytes) in
+    let some_data : 0 < data_size version bytes =
+    omega (arith, some_size version 0 bytes long, space_data version 0 bytes) in
     let u = set_tree path name kind bytes t in
     let k = of_items (with_item name kind bytes) i.tree in
     let one = become kind bytes i.one in
-    let found : find_key path u ≡ Some k = found_changed (of_items (with_item name kind bytes)) path t i.tree (kept_name name kind bytes) i.found in
-    let needs = set_needs version t u k path name kind bytes one found (item_then name kind bytes i.tree i.one i.there) in
+    let found : find_key path u ≡ Some k =
+    found_changed (of_items (with_item name kind bytes)) path t i.tree (kept_name name kind bytes) i.found in
+    let needs = set_needs version t u k path name kind bytes one found
+    (item_then name kind bytes i.tree i.one i.there) in
     let asked = map cell (data_sizes version (length bytes)) in
     let lists = value_list_sizes (length (head k).values) in
     let among : AreSome asked (lists ++ item_sizes version one) =
-    some_right asked lists (item_sizes version one) (some_right asked (cell (20 + name_bytes one.name) ∷ []) asked (some_all asked)) in
+    some_right asked lists (item_sizes version one)
+    (some_right asked (cell (20 + name_bytes one.name) ∷ []) asked (some_all asked)) in
     let all : total asked ≡ data_size version bytes = data_total version one in
     let all_some : 0 < total asked = subst (λ (n : ℕ). 0 < n) (sym all) some_data in
     let r = room_for asked all_some in
-    let s = room_some asked (needed_sizes version t (set_value path name kind bytes) u) (subst (AreSome asked) (sym needs) among) in
-    let e : rounded (total asked + 32) ≡ rounded (data_size version bytes + 32) = ap (λ (n : ℕ). rounded (n + 32)) all in
+    let s = room_some asked (needed_sizes version t (set_value path name kind bytes) u)
+    (subst (AreSome asked) (sym needs) among) in
+    let e : rounded (total asked + 32) ≡ rounded (data_size version bytes + 32) =
+    ap (λ (n : ℕ). rounded (n + 32)) all in
     omega (arith, r, s, e)
 
 -- where a new bin for the data is not to be had
-pub there_lacks : (bins : List Bin) (root : ℕ) (version : HiveVersion) (bulk : ℕ) (h : HiveCells) (path : List (List ℕ)) (name : List ℕ) (kind : ℕ) (bytes : List ℕ) (v : ℕ)
-    → IsHive bins root version bulk → hive_of bins root version ≡ h → place_in (cells_in h) path name h.root ≡ some v → length bytes ≤ 1048576
-    → 4 < length bytes → 16777216 < bins_size bins + rounded (data_size version bytes + 32) → LacksStepRoom h (set_value path name kind bytes)
+pub there_lacks : (bins : List Bin) (root : ℕ) (version : HiveVersion) (bulk : ℕ) (h : HiveCells) (path : List (List ℕ))
+    (name : List ℕ) (kind : ℕ) (bytes : List ℕ) (v : ℕ)
+    → IsHive bins root version bulk → hive_of bins root version ≡ h → place_in (cells_in h) path name h.root ≡ some v
+    → length bytes ≤ 1048576
+    → 4 < length bytes → 16777216 < bins_size bins + rounded (data_size version bytes + 32)
+    → LacksStepRoom h (set_value path name kind bytes)
 there_lacks bins root version bulk h path name kind bytes v is view e few long over =
     let b = look_up version bins in
     let t = tree_of b root in
     let i = there_in bins root version bulk h path name v is view e in
     let d = data_within version b root t path name kind bytes v i few long in
-    lacks_room bins root version h (set_tree path name kind bytes t) (set_value path name kind bytes) view (edit_there b root t path name kind bytes v i few) (omega (arith, over, d))
+    lacks_room bins root version h (set_tree path name kind bytes t) (set_value path name kind bytes) view
+    (edit_there b root t path name kind bytes v i few) (omega (arith, over, d))
 
 -- the value was given them
-pub there_set : (old new : List Bin) (root : ℕ) (version : HiveVersion) (bulk after : ℕ) (h : HiveCells) (path : List (List ℕ)) (name : List ℕ) (kind : ℕ) (bytes : List ℕ) (v : ℕ)
-    → IsHive old root version bulk → hive_of old root version ≡ h → place_in (cells_in h) path name h.root ≡ some v → length bytes ≤ 1048576 → kind < 2 ^ 32
+pub there_set : (old new : List Bin) (root : ℕ) (version : HiveVersion) (bulk after : ℕ) (h : HiveCells)
+    (path : List (List ℕ)) (name : List ℕ) (kind : ℕ) (bytes : List ℕ) (v : ℕ)
+    → IsHive old root version bulk → hive_of old root version ≡ h → place_in (cells_in h) path name h.root ≡ some v
+    → length bytes ≤ 1048576 → kind < 2 ^ 32
     → after ≡ bulk_of h.version (set_tree path name kind bytes h.tree) → IsBytes (spelled 0 new)
-    → IsGiven version v kind bytes (data_places (look_up version old) v) old new → IsStepMade h new root version after (set_value path name kind bytes)
+    → IsGiven version v kind bytes (data_places (look_up version old) v) old new
+    → IsStepMade h new root version after (set_value path name kind bytes)
 there_set old new root version bulk after h path name kind bytes v is view e few kind_fits counted small g =
     let b = look_up version old in
     let t = tree_of b root in
     let u = set_tree path name kind bytes t in
     let i = there_in old root version bulk h path name v is view e in
-    let told : after ≡ bulk_of version u = subst (λ (z : HiveCells). after ≡ bulk_of z.version (set_tree path name kind bytes z.tree)) (sym view) counted in
-    stepped old new root version bulk after h u (set_value path name kind bytes) is view (edit_there b root t path name kind bytes v i few)
+    let told : after ≡ bulk_of version u =
+    subst (λ (z : HiveCells). after ≡ bulk_of z.version (set_tree path name kind bytes z.tree)) (sym view)
+    counted in
+    stepped old new root version bulk after h u (set_value path name kind bytes) is view
+    (edit_there b root t path name kind bytes v i few)
     (there_done old new root version bulk h path name kind bytes v is view e few kind_fits g) small told g.least
-    (by_length (nat_lt 4 (length bytes)) refl g.long (λ long. data_within version b root t path name kind bytes v i few long))
+    (by_length (nat_lt 4 (length bytes)) refl g.long
+    (λ long. data_within version b root t path name kind bytes v i few long))
   where
-    by_length : (q : Bool) → nat_lt 4 (length bytes) ≡ q → bins_size new ≤ bins_size old + cond q (new_bin_size (data_size version bytes)) 0
+    by_length : (q : Bool) → nat_lt 4 (length bytes) ≡ q
+        → bins_size new ≤ bins_size old + cond q (new_bin_size (data_size version bytes)) 0
         → (4 < length bytes → rounded (data_size version bytes + 32)
-        ≤ room_of (needed_sizes version (tree_of (look_up version old) root) (set_value path name kind bytes) (set_tree path name kind bytes (tree_of (look_up version old) root))))
-        → IsWithinRoom version old new root (set_value path name kind bytes) (set_tree path name kind bytes (tree_of (look_up version old) root))
+        ≤ room_of (needed_sizes version (tree_of (look_up version old) root) (set_value path name kind bytes)
+        (set_tree path name kind bytes (tree_of (look_up version old) root))))
+        → IsWithinRoom version old new root (set_value path name kind bytes)
+        (set_tree path name kind bytes (tree_of (look_up version old) root))
     by_length true q l within = let w = within (ltb-true 4 (length bytes) q) in omega (arith, l, w)
     by_length false q l within = omega (arith, l)
 
 -- data that are set are not too long
-pub few_made : (version : HiveVersion) (t u : Tree) (path : List (List ℕ)) (name : List ℕ) (kind : ℕ) (bytes : List ℕ) → edited version t (set_value path name kind bytes ∷ []) ≡ the_tree u
+pub few_made : (version : HiveVersion) (t u : Tree) (path : List (List ℕ)) (name : List ℕ) (kind : ℕ) (bytes : List ℕ)
+    → edited version t (set_value path name kind bytes ∷ []) ≡ the_tree u
     → length bytes ≤ 1048576
 unfolding edited
-few_made version t u path name kind bytes e = go (is_none (find_key path t)) (nat_lt 16383 (length name)) (nat_lt 1048576 (length bytes)) refl e
+few_made version t u path name kind bytes e =
+    go (is_none (find_key path t)) (nat_lt 16383 (length name)) (nat_lt 1048576 (length bytes)) refl e
   where
     go : (a b c : Bool) → nat_lt 1048576 (length bytes) ≡ c
-        → then_edit (then_edit (unless ((a, no_key) ∷ (b, name_too_long) ∷ (c, data_too_long) ∷ []) (set_tree path name kind bytes t)) (λ w. after_steps w [])) (λ w. cond (nat_lt most_bulk (bulk_of version w)) (Err full) (Ok w)) ≡ the_tree u
+        → then_edit (then_edit (unless ((a, no_key) ∷ (b, name_too_long) ∷ (c, data_too_long) ∷ [])
+        (set_tree path name kind bytes t)) (λ w. after_steps w []))
+        (λ w. cond (nat_lt most_bulk (bulk_of version w)) (Err full) (Ok w)) ≡ the_tree u
         → length bytes ≤ 1048576
     go true b c q f = absurd cc
     go false true c q f = absurd cc
@@ -132,7 +168,9 @@ few_made version t u path name kind bytes e = go (is_none (find_key path t)) (na
     go false false false q f = ltb-false 1048576 (length bytes) q
 
 -- and an edit that brings too many is not made
-pub too_long : (version : HiveVersion) (t u : Tree) (path : List (List ℕ)) (name : List ℕ) (kind : ℕ) (bytes : List ℕ) (r : Result (Unit {0}) EditStop) (P : Type 0)
+pub too_long : (version : HiveVersion) (t u : Tree) (path : List (List ℕ)) (name : List ℕ) (kind : ℕ) (bytes : List ℕ)
+    (r : Result (Unit {0}) EditStop) (P : Type 0)
     → Makes t u r (edited version t (set_value path name kind bytes ∷ [])) → 1048576 < length bytes → OnOk r P
-too_long version t u path name kind bytes (Ok x) P made long = absurd (let few = few_made version t u path name kind bytes made in omega (arith, few, long))
+too_long version t u path name kind bytes (Ok x) P made long =
+    absurd (let few = few_made version t u path name kind bytes made in omega (arith, few, long))
 too_long version t u path name kind bytes (Err stop) P made long = tt

@@ -61,17 +61,32 @@ pub record ThereIs (b : Cells) (t : Tree) (root : ℕ) (path : List (List ℕ)) 
   pub value : KeyValue
   pub read : reading key_value_at b v ≡ done value
 
-pub there_is : (b : Cells) (t : Tree) (root : ℕ) (path : List (List ℕ)) (name : List ℕ) (v : ℕ) → IsWellFormed b root t → place_in b path name root ≡ some v → ThereIs b t root path name v
+pub there_is : (b : Cells) (t : Tree) (root : ℕ) (path : List (List ℕ)) (name : List ℕ) (v : ℕ) → IsWellFormed b root t
+    → place_in b path name root ≡ some v → ThereIs b t root path name v
 there_is b t root path name v well e = go (key_place b path root) refl e
   where
-    with_item_there : (key : ℕ) → key_place b path root ≡ some key → value_place b name key ≡ some v → (k : Tree) → find_key path t ≡ some k → IsWellFormed b key k
+    with_item_there : (key : ℕ) → key_place b path root ≡ some key → value_place b name key ≡ some v → (k : Tree)
+        → find_key path t ≡ some k → IsWellFormed b key k
         → (o : Option Item) → find_item name k ≡ o → IsItemAt b (some v) o → ThereIs b t root path name v
     with_item_there key p n k f w None i h = absurd h
     with_item_there key p n k f w (Some one) i h =
         let facts = item_facts b v (is_ok_of (item_at b v) one h) in
-        record { key = key; place = p; named = n; tree = k; found = f; well = w; one = one; there = i; stands = h; value = facts.value; read = facts.read }
+        record {
+          key = key;
+          place = p;
+          named = n;
+          tree = k;
+          found = f;
+          well = w;
+          one = one;
+          there = i;
+          stands = h;
+          value = facts.value;
+          read = facts.read;
+        }
 
-    go : (o : Option ℕ) → key_place b path root ≡ o → option_and_then (value_place b name) o ≡ some v → ThereIs b t root path name v
+    go : (o : Option ℕ) → key_place b path root ≡ o → option_and_then (value_place b name) o ≡ some v
+        → ThereIs b t root path name v
     go None p n = absurd cc
     go (Some key) p n =
         let k = key_there b path root t key well p in
@@ -80,12 +95,16 @@ there_is b t root path name v well e = go (key_place b path root) refl e
 
 -- ---- the bulk
 
-resized : (version : HiveVersion) (t k : Tree) (path : List (List ℕ)) (name : List ℕ) (kind : ℕ) (bytes : List ℕ) (one : Item) → find_key path t ≡ some k → find_item name k ≡ some one
-    → size version [] (set_tree path name kind bytes t) + data_size version one.bytes ≡ size version [] t + data_size version bytes
+resized : (version : HiveVersion) (t k : Tree) (path : List (List ℕ)) (name : List ℕ) (kind : ℕ) (bytes : List ℕ)
+    (one : Item) → find_key path t ≡ some k → find_item name k ≡ some one
+    → size version [] (set_tree path name kind bytes t) + data_size version one.bytes ≡ size version [] t
+    + data_size version bytes
 resized version t k path name kind bytes one found there =
-    sum (size version [] (set_tree path name kind bytes t)) (size version [] t) (items_size version (head k).values) (items_size version (with_item name kind bytes (head k).values))
+    sum (size version [] (set_tree path name kind bytes t)) (size version [] t) (items_size version (head k).values)
+    (items_size version (with_item name kind bytes (head k).values))
     (cell (20 + name_bytes one.name)) (data_size version one.bytes) (data_size version bytes)
-    (revalued_size version [] path t k (with_item name kind bytes) found) (set_size version name kind bytes (head k).values one there)
+    (revalued_size version [] path t k (with_item name kind bytes) found)
+    (set_size version name kind bytes (head k).values one there)
   where
     sum : (x y i j c d e : ℕ) → x + i ≡ y + j → j + (c + d) ≡ i + (c + e) → x + d ≡ y + e
     sum x y i j c d e p q = omega (arith, p, q)
@@ -93,36 +112,50 @@ resized version t k path name kind bytes one found there =
 -- ---- the edit
 
 -- it is made
-pub edit_there : (b : Cells) (root : ℕ) (t : Tree) (path : List (List ℕ)) (name : List ℕ) (kind : ℕ) (bytes : List ℕ) (v : ℕ) → ThereIs b t root path name v
-    → length bytes ≤ 1048576 → after_step (set_value path name kind bytes) t ≡ the_tree (set_tree path name kind bytes t)
+pub edit_there : (b : Cells) (root : ℕ) (t : Tree) (path : List (List ℕ)) (name : List ℕ) (kind : ℕ) (bytes : List ℕ)
+    (v : ℕ) → ThereIs b t root path name v
+    → length bytes ≤ 1048576 → after_step (set_value path name kind bytes) t
+    ≡ the_tree (set_tree path name kind bytes t)
 edit_there b root t path name kind bytes v i few =
-    made path name kind bytes t (ap is_none i.found) (le-ltb 16383 (length name) (name_short b name i.key v i.value i.named i.read)) (le-ltb 1048576 (length bytes) few)
+    made path name kind bytes t (ap is_none i.found)
+    (le-ltb 16383 (length name) (name_short b name i.key v i.value i.named i.read))
+    (le-ltb 1048576 (length bytes) few)
 
 -- the value is found in the hive
-pub value_seen : (bins heap : List Bin) (root : ℕ) (version : HiveVersion) (h : HiveCells) (path : List (List ℕ)) (name : List ℕ) → heap ≡ bins → hive_of bins root version ≡ h
+pub value_seen : (bins heap : List Bin) (root : ℕ) (version : HiveVersion) (h : HiveCells) (path : List (List ℕ))
+    (name : List ℕ) → heap ≡ bins → hive_of bins root version ≡ h
     → place_in (look_up version heap) path name root ≡ place_in (cells_in h) path name h.root
 value_seen bins heap root version h path name e view =
-    ap (λ (b : List Bin). place_in (look_up version b) path name root) e ∙ ap (λ (g : HiveCells). place_in (cells_in g) path name g.root) view
+    ap (λ (b : List Bin). place_in (look_up version b) path name root) e
+    ∙ ap (λ (g : HiveCells). place_in (cells_in g) path name g.root) view
 
-pub there_in : (bins : List Bin) (root : ℕ) (version : HiveVersion) (bulk : ℕ) (h : HiveCells) (path : List (List ℕ)) (name : List ℕ) (v : ℕ) → IsHive bins root version bulk
-    → hive_of bins root version ≡ h → place_in (cells_in h) path name h.root ≡ some v → ThereIs (look_up version bins) (tree_of (look_up version bins) root) root path name v
+pub there_in : (bins : List Bin) (root : ℕ) (version : HiveVersion) (bulk : ℕ) (h : HiveCells) (path : List (List ℕ))
+    (name : List ℕ) (v : ℕ) → IsHive bins root version bulk
+    → hive_of bins root version ≡ h → place_in (cells_in h) path name h.root ≡ some v
+    → ThereIs (look_up version bins) (tree_of (look_up version bins) root) root path name v
 there_in bins root version bulk h path name v is view e =
     there_is (look_up version bins) (tree_of (look_up version bins) root) root path name v is.stands
     (subst (λ (g : HiveCells). place_in (cells_in g) path name g.root ≡ some v) (sym view) e)
 
-pub there_step : (bins : List Bin) (root : ℕ) (version : HiveVersion) (bulk : ℕ) (h : HiveCells) (path : List (List ℕ)) (name : List ℕ) (kind : ℕ) (bytes : List ℕ) (v : ℕ)
-    → IsHive bins root version bulk → hive_of bins root version ≡ h → place_in (cells_in h) path name h.root ≡ some v → length bytes ≤ 1048576
+pub there_step : (bins : List Bin) (root : ℕ) (version : HiveVersion) (bulk : ℕ) (h : HiveCells) (path : List (List ℕ))
+    (name : List ℕ) (kind : ℕ) (bytes : List ℕ) (v : ℕ)
+    → IsHive bins root version bulk → hive_of bins root version ≡ h → place_in (cells_in h) path name h.root ≡ some v
+    → length bytes ≤ 1048576
     → after_step (set_value path name kind bytes) h.tree ≡ the_tree (set_tree path name kind bytes h.tree)
 there_step bins root version bulk h path name kind bytes v is view e few =
-    subst (λ (g : HiveCells). after_step (set_value path name kind bytes) g.tree ≡ the_tree (set_tree path name kind bytes g.tree)) view
-    (edit_there (look_up version bins) root (tree_of (look_up version bins) root) path name kind bytes v (there_in bins root version bulk h path name v is view e) few)
+    subst (λ (g : HiveCells). after_step (set_value path name kind bytes) g.tree
+    ≡ the_tree (set_tree path name kind bytes g.tree)) view
+    (edit_there (look_up version bins) root (tree_of (look_up version bins) root) path name kind bytes v
+    (there_in bins root version bulk h path name v is view e) few)
 
 room_is : (b : Cells) (v : ℕ) (one : Item) → item_at b v ≡ done one → data_room b v ≡ data_size b.version one.bytes
 room_is b v one e = ap (room_for_item b.version) e
 
 -- the bulk after the step
-pub there_bulk : (bins : List Bin) (root : ℕ) (version : HiveVersion) (bulk : ℕ) (h : HiveCells) (path : List (List ℕ)) (name : List ℕ) (kind : ℕ) (bytes : List ℕ) (v has had : ℕ)
-    → IsHive bins root version bulk → hive_of bins root version ≡ h → place_in (cells_in h) path name h.root ≡ some v → bins_size bins ≤ 16777216
+pub there_bulk : (bins : List Bin) (root : ℕ) (version : HiveVersion) (bulk : ℕ) (h : HiveCells) (path : List (List ℕ))
+    (name : List ℕ) (kind : ℕ) (bytes : List ℕ) (v has had : ℕ)
+    → IsHive bins root version bulk → hive_of bins root version ≡ h → place_in (cells_in h) path name h.root ≡ some v
+    → bins_size bins ≤ 16777216
     → has ≡ data_size version bytes → has ≤ 4294967296 → had ≡ data_room (look_up version bins) v
     → (had ≤ bulk + has) × (bulk + has - had ≡ bulk_of h.version (set_tree path name kind bytes h.tree))
 there_bulk bins root version bulk h path name kind bytes v has had is view e fit new few old =
@@ -132,22 +165,32 @@ there_bulk bins root version bulk h path name kind bytes v has had is view e fit
     let room = old ∙ room_is b v i.one i.stands in
     let s : size version [] (set_tree path name kind bytes t) + had ≡ size version [] t + has =
     ap (λ (n : ℕ). size version [] (set_tree path name kind bytes t) + n) room
-    ∙ resized version t i.tree path name kind bytes i.one i.found i.there ∙ ap (λ (n : ℕ). size version [] t + n) (sym new) in
-    let d = bulk_then version t (set_tree path name kind bytes t) bulk has had (bulk_is bins root version bulk is fit) s (omega (arith, few)) in
-    (d.0, subst (λ (g : HiveCells). bulk + has - had ≡ bulk_of g.version (set_tree path name kind bytes g.tree)) view d.1)
+    ∙ resized version t i.tree path name kind bytes i.one i.found i.there
+    ∙ ap (λ (n : ℕ). size version [] t + n) (sym new) in
+    let d = bulk_then version t (set_tree path name kind bytes t) bulk has had (bulk_is bins root version bulk is fit) s
+    (omega (arith, few)) in (
+      d.0,
+      subst (λ (g : HiveCells). bulk + has - had ≡ bulk_of g.version (set_tree path name kind bytes g.tree))
+          view d.1,
+    )
 
 -- ---- the cells
 
-given_gets : (version : HiveVersion) (v kind : ℕ) (bytes : List ℕ) (old new : List Bin) → ValueOwn (look_up version old) v
-    → IsGiven version v kind bytes (data_places (look_up version old) v) old new → kind < 2 ^ 32 → GetsData (look_up version old) (look_up version new) v kind bytes
+given_gets : (version : HiveVersion) (v kind : ℕ) (bytes : List ℕ) (old new : List Bin)
+    → ValueOwn (look_up version old) v
+    → IsGiven version v kind bytes (data_places (look_up version old) v) old new → kind < 2 ^ 32
+    → GetsData (look_up version old) (look_up version new) v kind bytes
 given_gets version v kind bytes old new own g kind_fits = record {
   version = refl;
-  reads = item_is c v after bytes read_new (g.reads own.value) ∙ ap (λ (n : List ℕ). done (item n kind bytes)) (sym (name_of_value b v own.value own.read));
+  reads = item_is c v after bytes read_new (g.reads own.value)
+      ∙ ap (λ (n : List ℕ). done (item n kind bytes)) (sym (name_of_value b v own.value own.read));
   others = λ o q e outside. held_payload new o q
       (g.kept o q (λ s. outside (subst (λ (l : List ℕ). In l o) (sym own.uses) (inl (sym s))))
-      (λ k. outside (subst (λ (l : List ℕ). In l o) (sym own.uses) (inr (in_from (data_places b v) o k)))) (payload_held old o q e));
+      (λ k. outside (subst (λ (l : List ℕ). In l o) (sym own.uses) (inr (in_from (data_places b v) o k))))
+      (payload_held old o q e));
   used = λ o i. of_used o (subst (λ (l : List ℕ). In l o) uses_new i);
-  once = subst (Pairwise (λ p q. p ≡ q → ⊥)) (sym uses_new) ((λ y i e. unheld y i (p.0) (subst (λ (z : ℕ). b.payload z ≡ done p.0) e p.1)), g.once own.value);
+  once = subst (Pairwise (λ p q. p ≡ q → ⊥)) (sym uses_new)
+      ((λ y i e. unheld y i (p.0) (subst (λ (z : ℕ). b.payload z ≡ done p.0) e p.1)), g.once own.value);
 }
   where
     b : Cells
@@ -165,7 +208,8 @@ given_gets version v kind bytes old new own g kind_fits = record {
     read_new : reading key_value_at c v ≡ done after
     read_new =
         ap (λ (r : Result (List ℕ) HiveKind). r >>= key_value_at)
-        (held_payload new v (patched 4 (value_fields g.size g.offset kind) p.0) (g.here ∙ ap (option_map (patched 4 (value_fields g.size g.offset kind))) (payload_held old v p.0 p.1)))
+        (held_payload new v (patched 4 (value_fields g.size g.offset kind) p.0)
+        (g.here ∙ ap (option_map (patched 4 (value_fields g.size g.offset kind))) (payload_held old v p.0 p.1)))
         ∙ value_written p.0 own.value g.size g.offset kind p.2 g.size_fits g.offset_fits kind_fits g.not_over
 
     uses_new : used_in (value_checks c [] v) ≡ v ∷ used_in (data_checks c after)
@@ -181,17 +225,22 @@ given_gets version v kind bytes old new own g kind_fits = record {
     of_used o (inl e) = inl (subst (λ (l : List ℕ). In l o) (sym own.uses) (inl e))
     of_used o (inr i) = inr (unheld o i)
 
-pub own_there : (b : Cells) (root : ℕ) (t : Tree) (path : List (List ℕ)) (name : List ℕ) (v : ℕ) → IsWellFormed b root t → ThereIs b t root path name v → ValueOwn b v
+pub own_there : (b : Cells) (root : ℕ) (t : Tree) (path : List (List ℕ)) (name : List ℕ) (v : ℕ) → IsWellFormed b root t
+    → ThereIs b t root path name v → ValueOwn b v
 own_there b root t path name v well i = value_own b root t path name i.key v i.value well i.place i.named i.read
 
-node_read : (cells : Cells) (at : ℕ) (k : Tree) → Stands cells at k → (n : KeyNode) × (reading key_node_at cells at ≡ done n)
+node_read : (cells : Cells) (at : ℕ) (k : Tree) → Stands cells at k
+    → (n : KeyNode) × (reading key_node_at cells at ≡ done n)
 node_read cells at (tree_key g ts) s = (s.1.node, s.1.read)
 
 -- the step is done
-pub there_done : (old new : List Bin) (root : ℕ) (version : HiveVersion) (bulk : ℕ) (h : HiveCells) (path : List (List ℕ)) (name : List ℕ) (kind : ℕ) (bytes : List ℕ) (v : ℕ)
-    → IsHive old root version bulk → hive_of old root version ≡ h → place_in (cells_in h) path name h.root ≡ some v → length bytes ≤ 1048576 → kind < 2 ^ 32
+pub there_done : (old new : List Bin) (root : ℕ) (version : HiveVersion) (bulk : ℕ) (h : HiveCells)
+    (path : List (List ℕ)) (name : List ℕ) (kind : ℕ) (bytes : List ℕ) (v : ℕ)
+    → IsHive old root version bulk → hive_of old root version ≡ h → place_in (cells_in h) path name h.root ≡ some v
+    → length bytes ≤ 1048576 → kind < 2 ^ 32
     → IsGiven version v kind bytes (data_places (look_up version old) v) old new
-    → IsDone (look_up version old) (look_up version new) root (tree_of (look_up version old) root) (set_tree path name kind bytes (tree_of (look_up version old) root)) (set_value path name kind bytes)
+    → IsDone (look_up version old) (look_up version new) root (tree_of (look_up version old) root)
+    (set_tree path name kind bytes (tree_of (look_up version old) root)) (set_value path name kind bytes)
 there_done old new root version bulk h path name kind bytes v is view e few kind_fits g =
     let b = look_up version old in
     let c = look_up version new in
@@ -208,14 +257,19 @@ there_done old new root version bulk h path name kind bytes v is view e few kind
 
 -- ---- what is asked on the way
 
-pub there_here : (bins heap : List Bin) (root : ℕ) (version : HiveVersion) (bulk : ℕ) (h : HiveCells) (path : List (List ℕ)) (name : List ℕ) (v : ℕ) → IsHive bins root version bulk
-    → heap ≡ bins → hive_of bins root version ≡ h → place_in (cells_in h) path name h.root ≡ some v → IsItemHere (look_up version heap) v
+pub there_here : (bins heap : List Bin) (root : ℕ) (version : HiveVersion) (bulk : ℕ) (h : HiveCells)
+    (path : List (List ℕ)) (name : List ℕ) (v : ℕ) → IsHive bins root version bulk
+    → heap ≡ bins → hive_of bins root version ≡ h → place_in (cells_in h) path name h.root ≡ some v
+    → IsItemHere (look_up version heap) v
 there_here bins heap root version bulk h path name v is e view there =
     let i = there_in bins root version bulk h path name v is view there in
-    subst (λ (b : List Bin). IsItemHere (look_up version b) v) (sym e) (is_ok_of (item_at (look_up version bins) v) i.one i.stands)
+    subst (λ (b : List Bin). IsItemHere (look_up version b) v) (sym e)
+    (is_ok_of (item_at (look_up version bins) v) i.one i.stands)
 
-pub there_room : (bins : List Bin) (root : ℕ) (version : HiveVersion) (bulk : ℕ) (h : HiveCells) (path : List (List ℕ)) (name : List ℕ) (v : ℕ) → IsHive bins root version bulk
-    → hive_of bins root version ≡ h → place_in (cells_in h) path name h.root ≡ some v → IsSomeAnd (held_at bins v) (λ p. 16 ≤ length p)
+pub there_room : (bins : List Bin) (root : ℕ) (version : HiveVersion) (bulk : ℕ) (h : HiveCells) (path : List (List ℕ))
+    (name : List ℕ) (v : ℕ) → IsHive bins root version bulk
+    → hive_of bins root version ≡ h → place_in (cells_in h) path name h.root ≡ some v
+    → IsSomeAnd (held_at bins v) (λ p. 16 ≤ length p)
 there_room bins root version bulk h path name v is view there =
     let i = there_in bins root version bulk h path name v is view there in
     let p = then_so ((look_up version bins).payload v) key_value_at i.value i.read in
@@ -223,30 +277,41 @@ there_room bins root version bulk h path name v is view there =
     let room : 16 ≤ length p.0 = omega (arith, f.long) in
     subst (λ (o : Option (List ℕ)). IsSomeAnd o (λ q. 16 ≤ length q)) (sym (payload_held bins v p.0 p.1)) room
 
-pub there_own : (bins : List Bin) (root : ℕ) (version : HiveVersion) (bulk : ℕ) (h : HiveCells) (path : List (List ℕ)) (name : List ℕ) (v : ℕ) → IsHive bins root version bulk
-    → hive_of bins root version ≡ h → place_in (cells_in h) path name h.root ≡ some v → ValueOwn (look_up version bins) v
+pub there_own : (bins : List Bin) (root : ℕ) (version : HiveVersion) (bulk : ℕ) (h : HiveCells) (path : List (List ℕ))
+    (name : List ℕ) (v : ℕ) → IsHive bins root version bulk
+    → hive_of bins root version ≡ h → place_in (cells_in h) path name h.root ≡ some v
+    → ValueOwn (look_up version bins) v
 there_own bins root version bulk h path name v is view there =
-    own_there (look_up version bins) root (tree_of (look_up version bins) root) path name v is.stands (there_in bins root version bulk h path name v is view there)
+    own_there (look_up version bins) root (tree_of (look_up version bins) root) path name v is.stands
+    (there_in bins root version bulk h path name v is view there)
 
 -- the cells that go, as they were read
-pub gone_same : (bins heap : List Bin) (version : HiveVersion) (v : ℕ) (gone : List ℕ) → heap ≡ bins → gone ≡ data_places (look_up version heap) v → gone ≡ data_places (look_up version bins) v
+pub gone_same : (bins heap : List Bin) (version : HiveVersion) (v : ℕ) (gone : List ℕ) → heap ≡ bins
+    → gone ≡ data_places (look_up version heap) v → gone ≡ data_places (look_up version bins) v
 gone_same bins heap version v gone e g = g ∙ ap (λ (b : List Bin). data_places (look_up version b) v) e
 
-pub room_same : (bins heap : List Bin) (version : HiveVersion) (v n : ℕ) → heap ≡ bins → n ≡ data_room (look_up version heap) v → n ≡ data_room (look_up version bins) v
+pub room_same : (bins heap : List Bin) (version : HiveVersion) (v n : ℕ) → heap ≡ bins
+    → n ≡ data_room (look_up version heap) v → n ≡ data_room (look_up version bins) v
 room_same bins heap version v n e g = g ∙ ap (λ (b : List Bin). data_room (look_up version b) v) e
 
-pub gone_held : (bins : List Bin) (version : HiveVersion) (v : ℕ) (gone : List ℕ) → ValueOwn (look_up version bins) v → gone ≡ data_places (look_up version bins) v
+pub gone_held : (bins : List Bin) (version : HiveVersion) (v : ℕ) (gone : List ℕ) → ValueOwn (look_up version bins) v
+    → gone ≡ data_places (look_up version bins) v
     → All (λ o. IsSome (held_at bins o)) gone
 gone_held bins version v gone own e = subst (All (λ o. IsSome (held_at bins o))) (sym e) (data_held version bins v own)
 
-pub gone_apart : (bins : List Bin) (version : HiveVersion) (v : ℕ) (gone : List ℕ) → ValueOwn (look_up version bins) v → gone ≡ data_places (look_up version bins) v → AreApart gone
+pub gone_apart : (bins : List Bin) (version : HiveVersion) (v : ℕ) (gone : List ℕ) → ValueOwn (look_up version bins) v
+    → gone ≡ data_places (look_up version bins) v → AreApart gone
 gone_apart bins version v gone own e = subst AreApart (sym e) (data_apart (look_up version bins) v own)
 
-pub gone_outside : (bins : List Bin) (version : HiveVersion) (v : ℕ) (gone : List ℕ) → ValueOwn (look_up version bins) v → gone ≡ data_places (look_up version bins) v → Contains gone v → ⊥
+pub gone_outside : (bins : List Bin) (version : HiveVersion) (v : ℕ) (gone : List ℕ) → ValueOwn (look_up version bins) v
+    → gone ≡ data_places (look_up version bins) v → Contains gone v → ⊥
 gone_outside bins version v gone own e k =
     own.once.0 v (in_from (data_places (look_up version bins) v) v (subst (λ (l : List ℕ). Contains l v) e k)) refl
 
 -- what was given, with the cells that went as they were read
-pub given_same : (bins heap new : List Bin) (version : HiveVersion) (v kind : ℕ) (bytes gone : List ℕ) → gone ≡ data_places (look_up version bins) v
-    → IsGiven version v kind bytes gone bins new → IsGiven version v kind bytes (data_places (look_up version bins) v) bins new
-given_same bins heap new version v kind bytes gone e g = subst (λ (l : List ℕ). IsGiven version v kind bytes l bins new) e g
+pub given_same : (bins heap new : List Bin) (version : HiveVersion) (v kind : ℕ) (bytes gone : List ℕ)
+    → gone ≡ data_places (look_up version bins) v
+    → IsGiven version v kind bytes gone bins new
+    → IsGiven version v kind bytes (data_places (look_up version bins) v) bins new
+given_same bins heap new version v kind bytes gone e g =
+    subst (λ (l : List ℕ). IsGiven version v kind bytes l bins new) e g

@@ -1,5 +1,5 @@
 -- What goes out of cells where a key is deleted. (This project's own; the field: regf format 1.3 and 1.5, key security.)
-use Rattle.std.specs.Prelude.{◌≡◌, ◌≤◌, ◌<◌, ◌⊎◌, ◌^◌, ◌-◌, ◌==◌, ℕ, suc, Bool, true, false, if◌then◌else◌, Contains, List, [], ◌∷◌, ◌++◌, length, find, Option, Some, None, Ok}
+use Rattle.std.specs.Prelude.{◌≡◌, ◌≤◌, ◌<◌, ◌⊎◌, ◌^◌, ◌-◌, ◌==◌, ℕ, suc, Bool, true, false, if◌then◌else◌, Contains, List, [], ◌∷◌, length, Some, None, Ok}
 use Rattle.std.specs.Option.{IsSome, IsSomeAnd}
 use Rattle.std.specs.Int.{w32, to_le_bytes}
 use Rattle.nt_bytes.specs.Fields.{u32_in}
@@ -59,7 +59,8 @@ left_children version above child bins = without_child child (children_at (look_
 abbrev pub AreShortened : HiveVersion → Above → ℕ → List Bin → List Bin → ℕ → Type 0
 AreShortened version above child old new list =
     ((0 < length (left_children version above child old))
-    × AreRelisted version (lists_at (look_up version old) above.list above.count) (left_children version above child old) (hints_in (look_up version old) (left_children version above child old)) old new list)
+    × AreRelisted version (lists_at (look_up version old) above.list above.count) (left_children version above child old)
+    (hints_in (look_up version old) (left_children version above child old)) old new list)
     ⊎ ((left_children version above child old ≡ []) × AreFreed (lists_at (look_up version old) above.list above.count) old new)
 
 -- there is no room for lists without the child, and the cells are as they were

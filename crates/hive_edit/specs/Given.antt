@@ -1,5 +1,5 @@
 -- A value that is there has other data. (This project's own.)
-use Rattle.std.specs.Prelude.{◌≡◌, ◌≤◌, ◌<◌, ◌+◌, ◌^◌, ℕ, false, true, Bool, nat_lt, if◌then◌else◌, List, length, Contains, Option, Some, None, Ok, MatchBool}
+use Rattle.std.specs.Prelude.{◌≡◌, ◌≤◌, ◌<◌, ◌+◌, ◌^◌, ℕ, false, Bool, nat_lt, if◌then◌else◌, List, length, Contains, Option, Some, None, Ok, MatchBool}
 use Rattle.std.specs.Option.{option_and_then, option_map}
 use Rattle.nt_bytes.specs.declared.version.HiveVersion.{HiveVersion}
 use Rattle.hive_model.specs.Bins.{Bin, Cells, bins_size, look_up}

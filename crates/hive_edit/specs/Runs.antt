@@ -1,5 +1,5 @@
 -- Where is a run of new cells put, and what does that leave? (This project's own.)
-use Rattle.std.specs.Prelude.{◌≡◌, ◌⊎◌, ℕ, ◌+◌, ◌<◌, ◌≤◌, List, Option, None}
+use Rattle.std.specs.Prelude.{◌≡◌, ◌⊎◌, ℕ, ◌+◌, ◌<◌, ◌≤◌, List, None}
 use Rattle.hive_model.specs.Bins.{Cell, Bin, bins_size, or_else}
 use Rattle.hive_cells.specs.Held.{held_at, held_among}
 use Rattle.hive_cells.specs.Holes.{new_bin_size, IsLowestHole, NoneFits}

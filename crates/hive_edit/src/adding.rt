@@ -3,7 +3,7 @@
 ghost use Rattle.std.specs.Prelude.{◌≡◌, ◌≤◌, ◌+◌, ◌-◌, length, Ok, IfOk, MatchBool, MatchResult};
 ghost use Rattle.std.specs.Option.{MatchOption};
 ghost use Rattle.hive_model.specs.Edit.{make_key, is_bad_name, after_step};
-ghost use Rattle.hive_model.specs.Size.{cell, list_size, name_bytes, part_count};
+ghost use Rattle.hive_model.specs.Size.{cell, list_size, name_bytes};
 ghost use Rattle.reg_tree.specs.Makes.{IsRefused};
 ghost use Rattle.hive_model.specs.KeyNode.{KeyNode, key_node_at};
 ghost use Rattle.hive_model.specs.Walk.{reading};
@@ -19,6 +19,7 @@ use crate::making::{Above, add_node, name_len, new_node, node_fits};
 use crate::path::{child_at, key_at};
 use crate::source::{Source, payload};
 use crate::unset::bins_fit;
+use hive_pack::{cell_size, list_len};
 use nt_bytes::{Names, u32_at, u64_at};
 use reg_tree::EditStop;
 use std::alloc::{AllocError, Global};
@@ -28,39 +29,6 @@ use std::alloc::{AllocError, Global};
 pub(crate) struct NewPlace {
     pub(crate) at: u32,
     pub(crate) bulk: u64,
-}
-
-fn cell_size(payload: usize) -> usize
-    requires { payload ≤ 16777216 }
-    ensures { result ≡ cell payload }
-{
-    (payload + 11) / 8 * 8
-}
-
-fn part_count(n: usize) -> usize
-    requires { n ≤ 16777216 }
-    ensures { result ≡ part_count n }
-{
-    (n + 499) / 500
-}
-
-/// How many bytes the lists of so many children take.
-fn list_len(n: usize) -> usize
-    requires { n ≤ 2097152 }
-    ensures { result ≡ list_size n }
-{
-    if n == 0 {
-        return 0;
-    }
-    if n < 501 {
-        return cell_size(4 + 8 * n);
-    }
-    let lists = cell_size(4 + 4 * part_count(n)) + n / 500 * 4008;
-    if n % 500 == 0 {
-        lists
-    } else {
-        lists + cell_size(4 + 8 * (n % 500))
-    }
 }
 
 fn is_bad_name(name: &[u16]) -> bool

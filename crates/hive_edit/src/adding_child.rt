@@ -1,6 +1,6 @@
 //! A child of the root added with all below it.
 
-ghost use Rattle.std.specs.Prelude.{◌≡◌, ◌≤◌, ◌<◌, ◌^◌, ℕ, ◌+◌, ◌-◌, [], ◌∷◌, length, min, nat_lt, Ok, IfOk, MatchBool, MatchResult, slice_index};
+ghost use Rattle.std.specs.Prelude.{◌≡◌, ◌≤◌, ◌<◌, ◌^◌, ℕ, ◌+◌, ◌-◌, [], min, nat_lt, Ok, IfOk, MatchBool, MatchResult, slice_index};
 ghost use Rattle.std.specs.Option.{IfSome, MatchOption};
 ghost use Rattle.std.specs.Result.{IsOk};
 ghost use Rattle.hive_model.specs.Bins.{spelled};

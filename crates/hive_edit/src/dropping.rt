@@ -1,7 +1,7 @@
 //! The cells of a key that goes: its parent's lists without it, its own cells freed, and the counts of its security lowered.
 
-ghost use Rattle.std.specs.Prelude.{◌≡◌, ◌≤◌, ◌<◌, ◌^◌, length, IfOk, MatchBool, OnErr};
-ghost use Rattle.std.specs.Option.{IsSome, IsSomeAnd, MatchOption};
+ghost use Rattle.std.specs.Prelude.{◌≡◌, ◌≤◌, ◌<◌, length, IfOk, MatchBool, OnErr};
+ghost use Rattle.std.specs.Option.{IsSomeAnd, MatchOption};
 ghost use Rattle.hive_model.specs.Bins.{look_up};
 ghost use Rattle.hive_cells.specs.Held.{held_at};
 ghost use Rattle.key_index.specs.Lists.{lists_at, ListsSiblings};

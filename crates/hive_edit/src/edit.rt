@@ -14,7 +14,6 @@ ghost use Rattle.hive_model.specs.Stands.{IsWellFormed};
 ghost use Rattle.reg_tree.specs.Makes.{IsRefused, Makes, step_of};
 ghost use Rattle.reg_tree.specs.declared.stop.EditStop.TheVariants.{Full, Memory};
 ghost use Rattle.hive_edit.specs.Hive.{cells_in};
-ghost use Rattle.hive_edit.specs.Steps.{IsInPlace};
 ghost use Rattle.hive_edit.specs.Edits.{inside_place, value_fields, IsEditedInPlace, IsPackedAnew, IsPackedForRoom, WritesFields};
 
 use crate::give::inside_fields;
@@ -136,9 +135,7 @@ impl HiveBytes {
         ensures made { Makes self.old.tree self.new.tree result (edited self.old.version self.old.tree (map step_of steps)) }
         ensures refused { OnErr result (self.new ≡ self.old) }
         ensures version { self.new.version ≡ self.old.version }
-        ensures cells { OnOk result (IsEditedInPlace self.old (map step_of steps) self.new ⊎ IsPackedAnew self.new) }
-        ensures room { All IsInPlace (map step_of steps)
-            → OnOk result (IsEditedInPlace self.old (map step_of steps) self.new ⊎ IsPackedForRoom self.old (map step_of steps) self.new) }
+        ensures cells { OnOk result (IsEditedInPlace self.old (map step_of steps) self.new ⊎ IsPackedForRoom self.old (map step_of steps) self.new) }
     {
         self.stands();
         let mut draft = self.copy(alloc)?;
@@ -153,17 +150,15 @@ impl HiveBytes {
     }
 
     /// Makes the steps in order, all or none. A hive can hold each key that a step brings along. One value that is set
-    /// or deleted changes few cells, as `set_value` and `delete_value` say; other steps do so in a copy of the cells, one
-    /// behind another, where each has room and is of a kind that is made in place, and else pack the tree anew. After an
+    /// or deleted and one key that is deleted change few cells, as `set_value`, `delete_value` and `delete_key` say; other
+    /// steps do so in a copy of the cells, one behind another, where there is room, and else pack the tree anew. After an
     /// `Err` the hive is as before.
     pub fn apply(&mut self, alloc: Global, steps: Steps) -> Result<(), EditStop>
         requires fits { All Fits (map step_of steps) }
         ensures made { Makes self.old.tree self.new.tree result (edited self.old.version self.old.tree (map step_of steps)) }
         ensures refused { OnErr result (self.new ≡ self.old) }
         ensures version { self.new.version ≡ self.old.version }
-        ensures cells { OnOk result (IsEditedInPlace self.old (map step_of steps) self.new ⊎ IsPackedAnew self.new) }
-        ensures room { All IsInPlace (map step_of steps)
-            → OnOk result (IsEditedInPlace self.old (map step_of steps) self.new ⊎ IsPackedForRoom self.old (map step_of steps) self.new) }
+        ensures cells { OnOk result (IsEditedInPlace self.old (map step_of steps) self.new ⊎ IsPackedForRoom self.old (map step_of steps) self.new) }
     {
         match steps.as_slice() {
             [
@@ -175,6 +170,7 @@ impl HiveBytes {
                 },
             ] => self.set_value(alloc, path, name.as_slice(), *kind, bytes.as_slice()),
             [TreeStep::DeleteValue { path, name }] => self.delete_value(path, name.as_slice()),
+            [TreeStep::DeleteKey { path }] => self.delete_key(alloc, path),
             _ => self.apply_in_order(alloc, steps),
         }
     }

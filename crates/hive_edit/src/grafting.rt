@@ -2,7 +2,7 @@
 //! that it shares.
 
 ghost use Rattle.std.specs.Prelude.{◌≡◌, ◌≤◌, ◌<◌, ◌⊎◌, length, IfOk, MatchBool, OnErr};
-ghost use Rattle.std.specs.Option.{IsSomeAnd, MatchOption};
+ghost use Rattle.std.specs.Option.{IsSomeAnd};
 ghost use Rattle.hive_model.specs.Packed.{sharers};
 ghost use Rattle.hive_model.specs.Walk.{nowhere};
 ghost use Rattle.hive_cells.specs.Held.{held_at};

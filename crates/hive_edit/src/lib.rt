@@ -27,6 +27,7 @@ mod runs;
 mod set;
 mod source;
 mod steps;
+mod strain;
 mod unset;
 mod uses;
 mod values;

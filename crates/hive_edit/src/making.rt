@@ -1,6 +1,6 @@
 //! The cells of a key that is made in place: its node, the lists of its parent, and the count of its security.
 
-ghost use Rattle.std.specs.Prelude.{◌≡◌, ◌≤◌, ◌<◌, ◌+◌, ◌^◌, ℕ, true, false, if◌then◌else◌, ◌++◌, length, Ok, IfOk, MatchBool, OnErr, OnOk, slice_index};
+ghost use Rattle.std.specs.Prelude.{◌≡◌, ◌≤◌, ◌<◌, ◌+◌, ◌^◌, ℕ, true, false, if◌then◌else◌, length, Ok, IfOk, MatchBool, OnErr, slice_index};
 ghost use Rattle.std.specs.Option.{IsSome, IsSomeAnd, MatchOption};
 ghost use Rattle.nt_bytes.specs.Fields.{u32_in};
 ghost use Rattle.hive_model.specs.Bins.{bins_size};
@@ -14,6 +14,7 @@ ghost use Rattle.hive_edit.specs.Making.{child_fields, new_node, above_children,
 
 use cell_forms::{NkForm, nk_bytes};
 use hive_cells::OpenHeap;
+use hive_pack::put_cell;
 use key_index::insert_child;
 use nt_bytes::{Bytes, HiveVersion, Units, put_u32, u32_at};
 use std::alloc::{AllocError, Global};
@@ -95,25 +96,6 @@ pub(crate) fn new_node(
         name: Units::from_slice(alloc, name)?,
     };
     nk_bytes(alloc, &form)
-}
-
-fn cell_size(payload: usize) -> usize
-    requires { payload ≤ 16777216 }
-    ensures { result ≡ cell payload }
-{
-    (payload + 11) / 8 * 8
-}
-
-/// Writes a cell with this payload, filled with zeros.
-#[tactic(auto, unfolding(hive_model::specs::Packed::filled), using(hive_pack::proofs::Rows::cell_text_is))]
-fn put_cell(out: &mut Bytes, payload: &[u8]) -> Result<(), AllocError>
-    requires { length payload.now ≤ 16777216 }
-    ensures { OnOk result (out.new ≡ out.old ++ cell_text payload.now) }
-{
-    let size = cell_size(payload.len());
-    out.put_u32((4294967296 - size as u64) as u32)?;
-    out.append(payload)?;
-    out.append_zeros(size - 4 - payload.len())
 }
 
 /// The bytes of an allocated cell with this payload.

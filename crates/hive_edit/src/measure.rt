@@ -1,6 +1,6 @@
 //! How many bytes a value takes in packed form, by the cells that it stands in.
 
-ghost use Rattle.std.specs.Prelude.{◌≡◌, ◌<◌, ◌≤◌, ◌%◌, ℕ, length, false, Ok};
+ghost use Rattle.std.specs.Prelude.{◌≡◌, ◌<◌, ◌≤◌, ◌%◌, length, false, Ok};
 ghost use Rattle.std.specs.Result.{IsOk};
 ghost use Rattle.nt_bytes.specs.Text.{wide_of};
 ghost use Rattle.hive_model.specs.StoredNames.{stored_name};

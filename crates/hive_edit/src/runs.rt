@@ -3,10 +3,11 @@
 ghost use Rattle.std.specs.Prelude.{◌≡◌, ◌≤◌, ◌<◌, ◌+◌, ◌*◌, ◌++◌, length, OnOk, IfOk};
 ghost use Rattle.hive_model.specs.Size.{cell, is_big, segment_count, data_sizes, cells_sum, data_size};
 ghost use Rattle.hive_model.specs.Lists.{offsets_text};
-ghost use Rattle.hive_model.specs.Packed.{text, cell_text, segment_places, segments, big_cells, data_cells};
+ghost use Rattle.hive_model.specs.Packed.{text, segment_places, segments, big_cells, data_cells};
 ghost use Rattle.hive_pack.specs.Writes.{big_size};
 
 use cell_forms::{DbForm, db_bytes};
+use hive_pack::put_cell;
 use nt_bytes::{Bytes, HiveVersion};
 use std::alloc::{AllocError, Global};
 
@@ -66,18 +67,6 @@ pub(crate) fn data_len(version: HiveVersion, n: usize) -> usize
         return 0;
     }
     cell_size(n)
-}
-
-/// Writes a cell with this payload, filled with zeros.
-#[tactic(auto, unfolding(hive_model::specs::Packed::filled), using(hive_pack::proofs::Rows::cell_text_is))]
-pub(crate) fn put_cell(out: &mut Bytes, payload: &[u8]) -> Result<(), AllocError>
-    requires { length payload.now ≤ 16777216 }
-    ensures { OnOk result (out.new ≡ out.old ++ cell_text payload.now) }
-{
-    let size = cell_size(payload.len());
-    out.put_u32((4294967296 - size as u64) as u32)?;
-    out.append(payload)?;
-    out.append_zeros(size - 4 - payload.len())
 }
 
 /// The list of so many full segments that stand one behind another from here on.

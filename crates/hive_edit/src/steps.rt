@@ -5,19 +5,22 @@ ghost use Rattle.std.specs.List.{All};
 ghost use Rattle.hive_model.specs.Edit.{after_step, after_steps};
 ghost use Rattle.reg_tree.specs.Fitting.{Fits};
 ghost use Rattle.reg_tree.specs.Makes.{IsRefused, step_of};
-ghost use Rattle.hive_edit.specs.Stepped.{IsStepped};
-ghost use Rattle.hive_edit.specs.Steps.{AreStepped, CannotStep, StopsAtOne};
+ghost use Rattle.hive_edit.specs.Stepped.{IsStepped, LacksStepRoom};
+ghost use Rattle.hive_edit.specs.Steps.{AreStepped, AreStrained};
 
 use crate::hive::HiveBytes;
 use reg_tree::{EditStop, TreeStep};
 use std::alloc::Global;
 
+/// The greatest size of bins data, in bytes.
+const MOST_BINS: u64 = 16_777_216;
+
 impl HiveBytes {
-    /// Makes one step, whatever the bulk of the tree then. `false` where there is no room for it, and for a step of a kind
-    /// that isn't made in place. The hive is a draft, to be dropped then, and after an `Err`.
+    /// Makes one step, whatever the bulk of the tree then. `false` where there is no room for it. The hive is a draft, to be
+    /// dropped then, and after an `Err`.
     fn make_step(&mut self, alloc: Global, step: &TreeStep) -> Result<bool, EditStop>
         requires fits { Fits (step_of step.now) }
-        ensures made { MatchResult result (λ done. MatchBool done (IsStepped self.old (step_of step.now) self.new) (CannotStep self.old (step_of step.now)))
+        ensures made { MatchResult result (λ done. MatchBool done (IsStepped self.old (step_of step.now) self.new) (LacksStepRoom self.old (step_of step.now)))
             (IsRefused (after_step (step_of step.now) self.old.tree)) }
     {
         match step {
@@ -31,21 +34,32 @@ impl HiveBytes {
             TreeStep::MakeKey { parent, name } => {
                 self.make_key_step(alloc, parent, name.as_slice())
             }
-            TreeStep::DeleteKey { path: _ } => Ok(false),
-            TreeStep::CopyChild { from: _, to: _ } => Ok(false),
-            TreeStep::AddChild { name: _, key: _ } => Ok(false),
+            TreeStep::DeleteKey { path } => self.delete_key_step(alloc, path),
+            TreeStep::CopyChild { from, to } => {
+                self.copy_child_step(alloc, from.as_slice(), to.as_slice())
+            }
+            TreeStep::AddChild { name, key } => self.add_child_step(alloc, name.as_slice(), key),
         }
     }
 
-    /// Makes the steps in order, whatever the bulk of the tree then. `false` where one of them is not made; the hive is a
-    /// draft, to be dropped then, and after an `Err`.
+    /// Makes the steps in order, whatever the bulk of the tree then. `false` where one of them has no room, and where the lists
+    /// that were written anew say that the strain is over the greatest size of bins data: long lists that are written for
+    /// each of many steps take longer than the whole tree packed once. The hive is a draft, to be dropped then, and after
+    /// an `Err`.
     pub(crate) fn make_steps(&mut self, alloc: Global, steps: &[TreeStep]) -> Result<bool, EditStop>
         requires fits { All Fits (map step_of steps.now) }
-        ensures made { MatchResult result (λ done. MatchBool done (AreStepped self.old (map step_of steps.now) self.new) (StopsAtOne self.old (map step_of steps.now)))
+        ensures made { MatchResult result (λ done. MatchBool done (AreStepped self.old (map step_of steps.now) self.new) (AreStrained self.old (map step_of steps.now)))
             (IsRefused (after_steps self.old.tree (map step_of steps.now))) }
     {
+        let mut room: u64 = 0;
         for step in steps {
+            let before = self.bulk();
             if !self.make_step(alloc, step)? {
+                return Ok(false);
+            }
+            let more = self.least_room(step, before);
+            room = room.saturating_add(more);
+            if room > MOST_BINS {
                 return Ok(false);
             }
         }

@@ -1,7 +1,7 @@
 //! A value taken out of the cells of its key. Nothing here wants memory or room.
 
-ghost use Rattle.std.specs.Prelude.{◌≡◌, ◌≤◌, ◌<◌, ◌+◌, ◌-◌, ◌*◌, ◌++◌, ◌∷◌, [], ℕ, List, length, Some, Ok, IfOk, IfErr, OnOk, OnErr, Err, MatchBool, MatchResult};
-ghost use Rattle.std.specs.Option.{IsSome, IsSomeAnd};
+ghost use Rattle.std.specs.Prelude.{◌≡◌, ◌≤◌, ◌<◌, ◌+◌, ◌-◌, ◌*◌, ◌∷◌, [], ℕ, List, length, Some, Ok, IfOk, IfErr, OnOk, OnErr, Err, MatchBool, MatchResult};
+ghost use Rattle.std.specs.Option.{IsSomeAnd};
 ghost use Rattle.std.specs.Result.{IsOk};
 ghost use Rattle.nt_bytes.specs.Fields.{u32_in};
 ghost use Rattle.hive_model.specs.Bins.{bins_size, look_up};
@@ -10,7 +10,7 @@ ghost use Rattle.hive_model.specs.Size.{bulk_of};
 ghost use Rattle.hive_model.specs.KeyNode.{KeyNode, key_node_at};
 ghost use Rattle.hive_model.specs.Walk.{reading, value_checks};
 ghost use Rattle.hive_model.specs.Footprint.{key_place, used_in};
-ghost use Rattle.hive_cells.specs.Held.{held_at, patched};
+ghost use Rattle.hive_cells.specs.Held.{held_at};
 ghost use Rattle.edit_laws.specs.Owned.{In};
 ghost use Rattle.edit_laws.specs.Written.{two_numbers};
 ghost use Rattle.reg_tree.specs.Makes.{IsRefused, Makes};
@@ -18,7 +18,7 @@ ghost use Rattle.reg_tree.specs.declared.stop.EditStop.TheVariants.{Full, Memory
 ghost use Rattle.hive_edit.specs.Edits.{IsEditedInPlace};
 ghost use Rattle.hive_edit.specs.Gone.{AreGone, CanGo, CanTake, ClosesGap, HasData, HasOffsets, HasSegments, TakesOut, Unlists, data_cells, list_room, unset_tree};
 ghost use Rattle.hive_edit.specs.Hive.{cells_in};
-ghost use Rattle.hive_edit.specs.Places.{IsItemHere, IsKeyAt, value_place};
+ghost use Rattle.hive_edit.specs.Places.{IsItemHere, value_place};
 ghost use Rattle.hive_edit.specs.Stepped.{IsStepped, LacksStepRoom};
 
 use crate::cells::are_bytes;

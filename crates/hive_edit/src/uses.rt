@@ -1,6 +1,6 @@
 //! The cells that a key and the keys below it use, in the order of the book's walk.
 
-ghost use Rattle.std.specs.Prelude.{◌≡◌, ◌≤◌, ◌*◌, ◌++◌, ◌∷◌, [], false, length, flat_map, OnOk};
+ghost use Rattle.std.specs.Prelude.{◌≡◌, ◌≤◌, ◌*◌, ◌++◌, [], false, length, flat_map, OnOk};
 ghost use Rattle.std.specs.List.{All};
 ghost use Rattle.hive_model.specs.Lists.{numbers_in};
 ghost use Rattle.hive_model.specs.Walk.{value_checks};

@@ -6,7 +6,7 @@ ghost use Rattle.hive_model.specs.Base.{version_of};
 ghost use Rattle.hive_model.specs.Edit.{edited};
 ghost use Rattle.reg_tree.specs.Fitting.{Fits};
 ghost use Rattle.reg_tree.specs.Makes.{Makes, step_of};
-ghost use Rattle.hive_edit.specs.Edits.{IsEditedInPlace, IsPackedAnew};
+ghost use Rattle.hive_edit.specs.Edits.{IsEditedInPlace, IsPackedForRoom};
 
 use crate::Hive;
 use crate::same::keeps;
@@ -25,8 +25,9 @@ impl Hive {
         ensures refused { OnErr result (self.new ≡ self.old) }
         ensures base { self.new.base ≡ self.old.base }
         ensures bins { self.new.bins ≡ self.old.bins }
-        // The cells are edited in place, or packed anew.
-        ensures cells { OnOk result (IsEditedInPlace self.old.cells (map step_of steps) self.new.cells ⊎ IsPackedAnew self.new.cells) }
+        // The cells are edited in place, or packed anew where the strain of the steps is over the greatest size of bins data.
+        ensures cells { OnOk result (IsEditedInPlace self.old.cells (map step_of steps) self.new.cells
+            ⊎ IsPackedForRoom self.old.cells (map step_of steps) self.new.cells) }
         // It is changed where it was before, or where the tree is another.
         ensures changed { OnOk result (self.new.changed ≡ true
             ↔ (self.old.changed ≡ true) ⊎ (self.new.tree ≡ self.old.tree → ⊥)) }

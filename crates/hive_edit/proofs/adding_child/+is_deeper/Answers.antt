@@ -14,4 +14,5 @@ is_deeper-are_deeper-requires t c = (omega (arith, weight_parted c.args.key.now,
 
 pub is_deeper-returns : goal.is_deeper-returns
 is_deeper-returns t c =
-    deeper c.args.most c.args.key.now c.subkeys.result.now c.are_deeper.result (omega (arith, c.if-most-eq0.false)) c.subkeys.ensures c.are_deeper.ensures
+    deeper c.args.most c.args.key.now c.subkeys.result.now c.are_deeper.result (omega (arith, c.if-most-eq0.false))
+    c.subkeys.ensures c.are_deeper.ensures

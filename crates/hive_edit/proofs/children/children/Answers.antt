@@ -7,21 +7,31 @@ use Rattle.hive_edit.proofs.NodeLemmas.{node_long, siblings_here, children_here,
 use Rattle.hive_edit.proofs.children.children.Goals as goal
 
 pub u32_at-list-requires : goal.u32_at-list-requires
-u32_at-list-requires c = omega (arith, node_long (cells_of c.args.cells.now) c.args.at c.payload-node.result.now c.requires c.payload-node.ensures)
+u32_at-list-requires c = omega
+    (arith, node_long (cells_of c.args.cells.now) c.args.at c.payload-node.result.now c.requires c.payload-node.ensures)
 
 pub u32_at-count-requires : goal.u32_at-count-requires
-u32_at-count-requires c = omega (arith, node_long (cells_of c.args.cells.now) c.args.at c.payload-node.result.now c.requires c.payload-node.ensures)
+u32_at-count-requires c =
+    omega (
+      arith,
+      node_long (cells_of c.args.cells.now)
+          c.args.at c.payload-node.result.now c.requires c.payload-node.ensures,
+    )
 
 pub listed-requires : goal.listed-requires
 listed-requires c =
-    siblings_here (cells_of c.args.cells.now) c.args.at c.payload-node.result.now c.u32_at-list.result c.u32_at-count.result
+    siblings_here (cells_of c.args.cells.now)
+    c.args.at c.payload-node.result.now c.u32_at-list.result c.u32_at-count.result
     c.requires c.payload-node.ensures c.u32_at-list.ensures c.u32_at-count.ensures
 
 pub returns : goal.returns
 returns c =
     let cells = cells_of c.args.cells.now in
-    let same = children_here cells c.args.at c.payload-node.result.now c.u32_at-list.result c.u32_at-count.result c.requires c.payload-node.ensures c.u32_at-list.ensures c.u32_at-count.ensures in
+    let same = children_here cells c.args.at c.payload-node.result.now c.u32_at-list.result c.u32_at-count.result
+    c.requires c.payload-node.ensures c.u32_at-list.ensures c.u32_at-count.ensures in
     record {
       places = if_ok c.listed.result _ _ (λ v e. e ∙ same) c.listed.ensures;
-      nodes = if_ok c.listed.result _ _ (λ v e. subst (All (IsNode cells)) (sym (e ∙ same)) (kids_are_nodes cells c.args.at c.requires)) c.listed.ensures;
+      nodes = if_ok c.listed.result _ _
+          (λ v e. subst (All (IsNode cells)) (sym (e ∙ same)) (kids_are_nodes cells c.args.at c.requires))
+          c.listed.ensures;
     }

@@ -6,16 +6,20 @@ use Rattle.hive_edit.specs.Sources.{cells_of}
 use Rattle.hive_edit.proofs.children.listed.Goals as goal
 
 pub entries_in-requires : goal.entries_in-requires
-entries_in-requires c = rw c.payload-bytes.ensures (child_lists (cells_of c.args.cells.now) c.args.list c.args.count c.requires (omega arith)).read
+entries_in-requires c = rw c.payload-bytes.ensures
+    (child_lists (cells_of c.args.cells.now) c.args.list c.args.count c.requires (omega arith)).read
 
 pub is_list_of_lists-requires : goal.is_list_of_lists-requires
-is_list_of_lists-requires c = rw c.payload-bytes.ensures (child_lists (cells_of c.args.cells.now) c.args.list c.args.count c.requires (omega arith)).read
+is_list_of_lists-requires c =
+    rw c.payload-bytes.ensures
+    (child_lists (cells_of c.args.cells.now) c.args.list c.args.count c.requires (omega arith)).read
 
 pub joined-requires : goal.joined-requires
 joined-requires c =
     let cells = cells_of c.args.cells.now in
     let is = sym c.is_list_of_lists.ensures ∙ c.if-is_list_of_lists.true in
-    let many = (child_lists cells c.args.list c.args.count c.requires (omega arith)).many (rw c.payload-bytes.ensures at is) in
+    let many = (child_lists cells c.args.list c.args.count c.requires (omega arith)).many
+    (rw c.payload-bytes.ensures at is) in
     let same = c.as_slice.ensures ∙ c.in_ok-offsets.ensures ∙ ap offsets_of c.payload-bytes.ensures in
     subst (AreRead cells) (sym same) many.0
 
@@ -23,7 +27,8 @@ pub returns-then-is_list_of_lists : goal.returns-then-is_list_of_lists
 returns-then-is_list_of_lists c =
     let cells = cells_of c.args.cells.now in
     let is = sym c.is_list_of_lists.ensures ∙ c.if-is_list_of_lists.true in
-    let many = (child_lists cells c.args.list c.args.count c.requires (omega arith)).many (rw c.payload-bytes.ensures at is) in
+    let many = (child_lists cells c.args.list c.args.count c.requires (omega arith)).many
+    (rw c.payload-bytes.ensures at is) in
     let same = c.as_slice.ensures ∙ c.in_ok-offsets.ensures ∙ ap offsets_of c.payload-bytes.ensures in
     if_ok c.joined.result _ _ (λ v e. e ∙ ap (offsets_in_lists cells) same ∙ sym many.1) c.joined.ensures
 
@@ -31,5 +36,6 @@ pub returns-else-is_list_of_lists : goal.returns-else-is_list_of_lists
 returns-else-is_list_of_lists c =
     let cells = cells_of c.args.cells.now in
     let is = sym c.is_list_of_lists.ensures ∙ c.if-is_list_of_lists.false in
-    let single = (child_lists cells c.args.list c.args.count c.requires (omega arith)).single (rw c.payload-bytes.ensures at is) in
+    let single = (child_lists cells c.args.list c.args.count c.requires (omega arith)).single
+    (rw c.payload-bytes.ensures at is) in
     c.in_ok-offsets.ensures ∙ ap offsets_of c.payload-bytes.ensures ∙ sym single

@@ -6,14 +6,19 @@ use Rattle.hive_edit.proofs.DataLemmas.{db_here, list_here, used_here}
 use Rattle.hive_edit.proofs.data.big_places.Goals as goal
 
 pub db_in-requires : goal.db_in-requires
-db_in-requires c = db_here (cells_of c.args.cells.now) c.args.size c.args.at c.payload.result.now c.requires c.payload.ensures
+db_in-requires c = db_here (cells_of c.args.cells.now)
+    c.args.size c.args.at c.payload.result.now c.requires c.payload.ensures
 
 pub segments_in-requires : goal.segments_in-requires
 segments_in-requires c =
-    list_here (cells_of c.args.cells.now) c.args.size c.args.at c.payload.result.now c.payload-2.result.now (big_data_of c.in_ok-db.db) c.requires c.payload.ensures c.in_ok-db.ensures c.payload-2.ensures
+    list_here (cells_of c.args.cells.now) c.args.size c.args.at c.payload.result.now c.payload-2.result.now
+    (big_data_of c.in_ok-db.db) c.requires c.payload.ensures c.in_ok-db.ensures c.payload-2.ensures
 
 pub returns : goal.returns
 returns c =
-    let same = used_here (cells_of c.args.cells.now) c.args.size c.args.at c.payload.result.now c.payload-2.result.now c.in_ok-segments.segments (big_data_of c.in_ok-db.db)
+    let same = used_here (cells_of c.args.cells.now)
+    c.args.size c.args.at c.payload.result.now c.payload-2.result.now c.in_ok-segments.segments
+    (big_data_of c.in_ok-db.db)
     c.requires c.payload.ensures c.in_ok-db.ensures c.payload-2.ensures c.in_ok-segments.ensures in
-    if_ok c.two_and.result _ _ (λ v e. e ∙ ap (λ (l : List ℕ). c.args.at ∷ c.in_ok-db.db.list ∷ l) c.as_slice.ensures ∙ same) c.two_and.ensures
+    if_ok c.two_and.result _ _
+    (λ v e. e ∙ ap (λ (l : List ℕ). c.args.at ∷ c.in_ok-db.db.list ∷ l) c.as_slice.ensures ∙ same) c.two_and.ensures

@@ -8,19 +8,30 @@ use Rattle.hive_edit.proofs.data.data_places.Goals as goal
 pub u32_at-size-requires : goal.u32_at-size-requires
 u32_at-size-requires c =
     let p = c.payload-value.result.now in
-    omega (arith, value_long p (value_is_there (cells_of c.args.cells.now) c.args.at p c.requires c.payload-value.ensures))
+    omega (
+      arith,
+      value_long p
+          (value_is_there (cells_of c.args.cells.now) c.args.at p c.requires c.payload-value.ensures),
+    )
 
 pub u32_at-place-requires : goal.u32_at-place-requires
 u32_at-place-requires c =
     let p = c.payload-value.result.now in
-    omega (arith, value_long p (value_is_there (cells_of c.args.cells.now) c.args.at p c.requires c.payload-value.ensures))
+    omega (
+      arith,
+      value_long p
+          (value_is_there (cells_of c.args.cells.now) c.args.at p c.requires c.payload-value.ensures),
+    )
 
 pub places_of-requires : goal.places_of-requires
 places_of-requires c =
-    big_at (cells_of c.args.cells.now) c.args.at c.payload-value.result.now c.u32_at-size.result c.u32_at-place.result c.requires c.payload-value.ensures c.u32_at-size.ensures c.u32_at-place.ensures
+    big_at (cells_of c.args.cells.now)
+    c.args.at c.payload-value.result.now c.u32_at-size.result c.u32_at-place.result c.requires
+    c.payload-value.ensures c.u32_at-size.ensures c.u32_at-place.ensures
 
 pub returns : goal.returns
 returns c =
-    let same = places_by (cells_of c.args.cells.now) c.args.at c.payload-value.result.now c.u32_at-size.result c.u32_at-place.result
+    let same = places_by (cells_of c.args.cells.now)
+    c.args.at c.payload-value.result.now c.u32_at-size.result c.u32_at-place.result
     c.requires c.payload-value.ensures c.u32_at-size.ensures c.u32_at-place.ensures in
     if_ok c.places_of.result _ _ (λ v e. e ∙ sym same) c.places_of.ensures

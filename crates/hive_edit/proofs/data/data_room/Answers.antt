@@ -7,8 +7,13 @@ use Rattle.hive_edit.proofs.data.data_room.Goals as goal
 pub u32_at-requires : goal.u32_at-requires
 u32_at-requires c =
     let p = c.payload-value.result.now in
-    omega (arith, value_long p (value_is_there (cells_of c.args.cells.now) c.args.at p c.requires c.payload-value.ensures))
+    omega (
+      arith,
+      value_long p
+          (value_is_there (cells_of c.args.cells.now) c.args.at p c.requires c.payload-value.ensures),
+    )
 
 pub returns-clause-room : goal.returns-clause-room
 returns-clause-room c =
-    c.room_by.ensures.room ∙ room_at (cells_of c.args.cells.now) c.args.at c.payload-value.result.now c.u32_at.result c.requires c.payload-value.ensures c.u32_at.ensures
+    c.room_by.ensures.room ∙ room_at (cells_of c.args.cells.now)
+    c.args.at c.payload-value.result.now c.u32_at.result c.requires c.payload-value.ensures c.u32_at.ensures

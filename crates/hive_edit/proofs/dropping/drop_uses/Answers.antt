@@ -13,7 +13,8 @@ lower-requires c =
     let us = c.args.uses.now in
     let k = c.loop-used.used-index in
     let lt : k < length us = c.loop-used-test.true in
-    can_lower us c.args.heap.now c.loop-used.heap k (slice_index_or us k (use_of 0 false)) c.requires c.loop-used.invariant lt (at_item us k (use_of 0 false) lt) c.if-security.true
+    can_lower us c.args.heap.now c.loop-used.heap k (slice_index_or us k (use_of 0 false))
+    c.requires c.loop-used.invariant lt (at_item us k (use_of 0 false) lt) c.if-security.true
 
 pub loop-used-preserved-then-security : goal.loop-used-preserved-then-security
 loop-used-preserved-then-security c =
@@ -22,7 +23,8 @@ loop-used-preserved-then-security c =
     let lt : k < length us = c.loop-used-test.true in
     let e : suc k ≡ k + 1 = omega arith in
     subst (λ (n : ℕ). AreDropped us (take n us) c.args.heap.now c.lower.new.heap) e
-    (one_lowered us c.args.heap.now c.loop-used.heap k (slice_index_or us k (use_of 0 false)) c.requires c.loop-used.invariant lt (at_item us k (use_of 0 false) lt) c.lower.new.heap
+    (one_lowered us c.args.heap.now c.loop-used.heap k (slice_index_or us k (use_of 0 false))
+    c.requires c.loop-used.invariant lt (at_item us k (use_of 0 false) lt) c.lower.new.heap
     c.if-security.true c.lower.ensures)
 
 pub free-requires : goal.free-requires
@@ -30,7 +32,8 @@ free-requires c =
     let us = c.args.uses.now in
     let k = c.loop-used.used-index in
     let lt : k < length us = c.loop-used-test.true in
-    can_free us c.args.heap.now c.loop-used.heap k (slice_index_or us k (use_of 0 false)) c.requires c.loop-used.invariant lt (at_item us k (use_of 0 false) lt) c.if-security.false
+    can_free us c.args.heap.now c.loop-used.heap k (slice_index_or us k (use_of 0 false))
+    c.requires c.loop-used.invariant lt (at_item us k (use_of 0 false) lt) c.if-security.false
 
 pub loop-used-preserved : goal.loop-used-preserved
 loop-used-preserved c =
@@ -39,5 +42,6 @@ loop-used-preserved c =
     let lt : k < length us = c.loop-used-test.true in
     let e : suc k ≡ k + 1 = omega arith in
     subst (λ (n : ℕ). AreDropped us (take n us) c.args.heap.now c.free.new.self) e
-    (one_freed us c.args.heap.now c.loop-used.heap k (slice_index_or us k (use_of 0 false)) c.requires c.loop-used.invariant lt (at_item us k (use_of 0 false) lt) c.free.new.self
+    (one_freed us c.args.heap.now c.loop-used.heap k (slice_index_or us k (use_of 0 false))
+    c.requires c.loop-used.invariant lt (at_item us k (use_of 0 false) lt) c.free.new.self
     c.if-security.false c.free.ensures.gone c.free.ensures.others c.free.ensures.long)

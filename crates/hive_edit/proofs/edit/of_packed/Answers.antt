@@ -5,21 +5,25 @@ use Rattle.hive_edit.proofs.edit.of_packed.Goals as goal
 pub unreachable-requires : goal.unreachable-requires
 unreachable-requires c =
     let is = c.in_ok-packed.ensures.bins in
-    not_both c.in_ok-packed.packed _ c.in-Err-Fault.field-0-0 is.0 is.1 (rw c.in-Err-Fault.field-0-is at c.in-Err-Fault.ensures)
+    not_both c.in_ok-packed.packed _ c.in-Err-Fault.field-0-0 is.0 is.1
+    (rw c.in-Err-Fault.field-0-is at c.in-Err-Fault.ensures)
 
 pub invariant_of-result : goal.invariant_of-result
 invariant_of-result c =
     let is = c.in_ok-packed.ensures in
     packed_hive c.args.version c.in_ok-heap.heap c.bulk-bulk.result c.args.tree.now
-    (packed_here c.args.version c.in_ok-packed.packed c.in-Ok.cells c.in_ok-heap.heap c.args.tree.now is.bins c.in-Ok.ensures is.well_formed c.in_ok-heap.ensures)
+    (packed_here c.args.version c.in_ok-packed.packed c.in-Ok.cells c.in_ok-heap.heap c.args.tree.now is.bins
+    c.in-Ok.ensures is.well_formed c.in_ok-heap.ensures)
     c.requires.valid c.bulk-bulk.ensures
 
 pub returns-clause-tree : goal.returns-clause-tree
 returns-clause-tree c =
     let is = c.in_ok-packed.ensures in
-    (packed_here c.args.version c.in_ok-packed.packed c.in-Ok.cells c.in_ok-heap.heap c.args.tree.now is.bins c.in-Ok.ensures is.well_formed c.in_ok-heap.ensures).tree
+    (packed_here c.args.version c.in_ok-packed.packed c.in-Ok.cells c.in_ok-heap.heap c.args.tree.now is.bins
+    c.in-Ok.ensures is.well_formed c.in_ok-heap.ensures).tree
 
 pub returns-clause-anew : goal.returns-clause-anew
 returns-clause-anew c =
     let is = c.in_ok-packed.ensures in
-    (packed_here c.args.version c.in_ok-packed.packed c.in-Ok.cells c.in_ok-heap.heap c.args.tree.now is.bins c.in-Ok.ensures is.well_formed c.in_ok-heap.ensures).anew
+    (packed_here c.args.version c.in_ok-packed.packed c.in-Ok.cells c.in_ok-heap.heap c.args.tree.now is.bins
+    c.in-Ok.ensures is.well_formed c.in_ok-heap.ensures).anew

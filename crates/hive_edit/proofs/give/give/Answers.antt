@@ -5,11 +5,15 @@ use Rattle.hive_edit.proofs.give.give.Goals as goal
 
 pub returns-then-bytes-le4-clause-given : goal.returns-then-bytes-le4-clause-given
 returns-then-bytes-le4-clause-given c =
-    given_inside c.args.version c.args.at c.args.kind c.args.bytes.now c.args.gone.now c.args.heap.now c.refer.new.heap (omega arith) (λ k. omega (arith, c.type_inv.bytes k))
-    (rw c.inside_fields-fields.ensures at c.refer.ensures.here) c.refer.ensures.freed c.refer.ensures.others c.refer.ensures.long
+    given_inside c.args.version c.args.at c.args.kind c.args.bytes.now c.args.gone.now c.args.heap.now c.refer.new.heap
+    (omega arith) (λ k. omega (arith, c.type_inv.bytes k))
+    (rw c.inside_fields-fields.ensures at c.refer.ensures.here)
+    c.refer.ensures.freed c.refer.ensures.others c.refer.ensures.long
 
 pub overflow_cast-data_len : goal.overflow_cast-data_len
-overflow_cast-data_len c = omega (arith, c.data_len.ensures.len, data_small c.args.version (length c.args.bytes.now) c.requires.few)
+overflow_cast-data_len c =
+    omega (arith, c.data_len.ensures.len, data_small c.args.version (length c.args.bytes.now) c.requires.few)
 
 pub place_for-requires-clause-few : goal.place_for-requires-clause-few
-place_for-requires-clause-few c = omega (arith, c.data_len.ensures.len, data_small c.args.version (length c.args.bytes.now) c.requires.few)
+place_for-requires-clause-few c =
+    omega (arith, c.data_len.ensures.len, data_small c.args.version (length c.args.bytes.now) c.requires.few)

@@ -12,10 +12,13 @@ raise_by-requires c = λ used.
     let gone = above_lists c.args.version c.args.above old in
     let children = above_children c.args.version c.args.above c.args.child old in
     let hints = hints_in (look_up c.args.version old) children in
-    let a : AreRelisted c.args.version gone children hints old c.insert_child.new.cells c.in-Some.list = rw c.in-Some.is at c.in_ok-insert_child.ensures.exact in
-    written_and c.args.parent 20 _ c.insert_child.new.cells c.note.new.heap c.args.above.security (λ (p : List ℕ). 20 ≤ length p) c.note.ensures.written
+    let a : AreRelisted c.args.version gone children hints old c.insert_child.new.cells c.in-Some.list =
+    rw c.in-Some.is at c.in_ok-insert_child.ensures.exact in
+    written_and c.args.parent 20 _ c.insert_child.new.cells c.note.new.heap c.args.above.security
+    (λ (p : List ℕ). 20 ≤ length p) c.note.ensures.written
     (c.requires.linkable.security_parent used)
-    (kept_and c.args.version gone children hints old c.insert_child.new.cells c.in-Some.list c.args.above.security (λ (p : List ℕ). 20 ≤ length p) a
+    (kept_and c.args.version gone children hints old c.insert_child.new.cells c.in-Some.list c.args.above.security
+    (λ (p : List ℕ). 20 ≤ length p) a
     (c.requires.linkable.security_long used) (c.requires.linkable.security_lists used))
 
 pub returns-in-Some-clause-linked : goal.returns-in-Some-clause-linked
@@ -24,7 +27,8 @@ returns-in-Some-clause-linked c =
     let gone = above_lists c.args.version c.args.above old in
     let children = above_children c.args.version c.args.above c.args.child old in
     let hints = hints_in (look_up c.args.version old) children in
-    let a : AreRelisted c.args.version gone children hints old c.insert_child.new.cells c.in-Some.list = rw c.in-Some.is at c.in_ok-insert_child.ensures.exact in
+    let a : AreRelisted c.args.version gone children hints old c.insert_child.new.cells c.in-Some.list =
+    rw c.in-Some.is at c.in_ok-insert_child.ensures.exact in
     record {
       listed = c.insert_child.new.cells;
       noted = c.note.new.heap;

@@ -7,9 +7,11 @@ use Rattle.hive_edit.proofs.key_size.bulk_at.Goals as goal
 
 pub unreachable-requires : goal.unreachable-requires
 unreachable-requires c =
-    no_fault_there (cells_of c.args.cells.now) c.args.at c.in-Err-Fault.field-0-0 c.requires (rw c.in-Err-Fault.field-0-is at c.in-Err-Fault.ensures.exact)
+    no_fault_there (cells_of c.args.cells.now) c.args.at c.in-Err-Fault.field-0-0 c.requires
+    (rw c.in-Err-Fault.field-0-is at c.in-Err-Fault.ensures.exact)
 
 pub returns-in-Ok : goal.returns-in-Ok
 returns-in-Ok c = λ t well.
     let j = c.in-Ok.ensures.exact in
-    j.bulk ∙ ap (bulk_of c.args.cells.now.version) (one_stands (cells_of c.args.cells.now) c.args.at j.tree t j.stands.stands well.stands)
+    j.bulk ∙ ap (bulk_of c.args.cells.now.version)
+    (one_stands (cells_of c.args.cells.now) c.args.at j.tree t j.stands.stands well.stands)

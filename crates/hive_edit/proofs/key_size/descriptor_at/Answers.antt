@@ -6,22 +6,31 @@ use Rattle.hive_edit.proofs.PairLemmas.{no_descriptor, descriptor_here}
 use Rattle.hive_edit.proofs.key_size.descriptor_at.Goals as goal
 
 pub u32_at-place-requires : goal.u32_at-place-requires
-u32_at-place-requires c = omega (arith, node_long (cells_of c.args.cells.now) c.args.at c.payload-node.result.now c.requires c.payload-node.ensures)
+u32_at-place-requires c =
+    omega (
+      arith,
+      node_long (cells_of c.args.cells.now)
+          c.args.at c.payload-node.result.now c.requires c.payload-node.ensures,
+    )
 
 pub returns-then-place : goal.returns-then-place
 returns-then-place c = λ t well.
-    no_descriptor (cells_of c.args.cells.now) c.args.at c.payload-node.result.now c.u32_at-place.result c.requires c.payload-node.ensures c.u32_at-place.ensures
+    no_descriptor (cells_of c.args.cells.now)
+    c.args.at c.payload-node.result.now c.u32_at-place.result c.requires c.payload-node.ensures
+    c.u32_at-place.ensures
     c.if-place.true t well
 
 pub u32_at-requires : goal.u32_at-requires
 u32_at-requires c =
-    let d = descriptor_here (cells_of c.args.cells.now) c.args.at c.payload-node.result.now c.payload-security.result.now c.u32_at-place.result
+    let d = descriptor_here (cells_of c.args.cells.now)
+    c.args.at c.payload-node.result.now c.payload-security.result.now c.u32_at-place.result
     c.requires c.payload-node.ensures c.u32_at-place.ensures c.if-place.false c.payload-security.ensures in
     omega (arith, d.long)
 
 pub slice_bounds-result-end-2 : goal.slice_bounds-result-end-2
 slice_bounds-result-end-2 c =
-    let d = descriptor_here (cells_of c.args.cells.now) c.args.at c.payload-node.result.now c.payload-security.result.now c.u32_at-place.result
+    let d = descriptor_here (cells_of c.args.cells.now)
+    c.args.at c.payload-node.result.now c.payload-security.result.now c.u32_at-place.result
     c.requires c.payload-node.ensures c.u32_at-place.ensures c.if-place.false c.payload-security.ensures in
     let whole = d.whole in
     let size = c.u32_at.ensures in

@@ -5,20 +5,32 @@ use Rattle.hive_edit.proofs.MeasureLemmas.{measures, item_inside, item_celled}
 use Rattle.hive_edit.proofs.measure.value_len.Goals as goal
 
 pub name_len-requires : goal.name_len-requires
-name_len-requires c = value_is_there (cells_of c.args.cells.now) c.args.at c.payload-value.result.now c.requires c.payload-value.ensures
+name_len-requires c = value_is_there (cells_of c.args.cells.now)
+    c.args.at c.payload-value.result.now c.requires c.payload-value.ensures
 
 pub u32_at-size-requires : goal.u32_at-size-requires
 u32_at-size-requires c =
-    omega (arith, value_long c.payload-value.result.now (value_is_there (cells_of c.args.cells.now) c.args.at c.payload-value.result.now c.requires c.payload-value.ensures))
+    omega (
+      arith,
+      value_long c.payload-value.result.now
+          (value_is_there (cells_of c.args.cells.now)
+          c.args.at c.payload-value.result.now c.requires c.payload-value.ensures),
+    )
 
 pub returns-then-size-ge2147483648-clause-exact : goal.returns-then-size-ge2147483648-clause-exact
 returns-then-size-ge2147483648-clause-exact c = λ v i.
-    item_inside c.args.cells.now.version c.payload-value.result.now c.u32_at-size.result c.cell_len-own.result c.name_len.result v
-    (measures (cells_of c.args.cells.now) c.args.at c.payload-value.result.now c.u32_at-size.result v c.requires i c.payload-value.ensures c.u32_at-size.ensures)
+    item_inside c.args.cells.now.version c.payload-value.result.now c.u32_at-size.result c.cell_len-own.result
+    c.name_len.result v
+    (measures (cells_of c.args.cells.now)
+    c.args.at c.payload-value.result.now c.u32_at-size.result v c.requires i c.payload-value.ensures
+    c.u32_at-size.ensures)
     c.if-size-ge2147483648.true c.cell_len-own.ensures c.name_len.ensures.exact
 
 pub returns-clause-exact : goal.returns-clause-exact
 returns-clause-exact c = λ v i.
-    item_celled c.args.cells.now.version c.payload-value.result.now c.u32_at-size.result c.cell_len-own.result c.name_len.result c.data_len.result v
-    (measures (cells_of c.args.cells.now) c.args.at c.payload-value.result.now c.u32_at-size.result v c.requires i c.payload-value.ensures c.u32_at-size.ensures)
+    item_celled c.args.cells.now.version c.payload-value.result.now c.u32_at-size.result c.cell_len-own.result
+    c.name_len.result c.data_len.result v
+    (measures (cells_of c.args.cells.now)
+    c.args.at c.payload-value.result.now c.u32_at-size.result v c.requires i c.payload-value.ensures
+    c.u32_at-size.ensures)
     c.if-size-ge2147483648.false c.cell_len-own.ensures c.name_len.ensures.exact c.data_len.ensures.exact

@@ -14,20 +14,26 @@ use Rattle.hive_edit.proofs.ResultLemmas.{is_ok_of}
 use Rattle.hive_edit.proofs.new_value.add_at.Goals as goal
 
 pub values_of-count-requires : goal.values_of-count-requires
-values_of-count-requires c = is_ok_of (reading key_node_at (look_up c.args.version c.args.heap.now) c.args.key) c.requires.can.node c.requires.can.read
+values_of-count-requires c =
+    is_ok_of (reading key_node_at (look_up c.args.version c.args.heap.now) c.args.key)
+    c.requires.can.node c.requires.can.read
 
 pub list_bytes-old-requires : goal.list_bytes-old-requires
 list_bytes-old-requires c =
     let can = c.requires.can in
-    let n = c.values_of-count.ensures can.node can.read in
-    (can.offsets, listed_here c.args.version c.args.heap.now c.args.key c.values_of-count.result.0 c.values_of-count.result.1 can n.0 n.1)
+    let n = c.values_of-count.ensures can.node can.read in (
+      can.offsets,
+      listed_here c.args.version c.args.heap.now c.args.key c.values_of-count.result.0
+          c.values_of-count.result.1 can n.0 n.1,
+    )
 
 pub added_run-requires-clause-room : goal.added_run-requires-clause-room
 added_run-requires-clause-room c =
     let can = c.requires.can in
     let v = item c.args.name.now c.args.kind c.args.bytes.now in
     let n = c.values_of-count.ensures can.node can.read in
-    subst (λ (k : ℕ). c.args.place + added_size c.args.version k v ≤ 16777216) (sym n.0) (c.requires.place can.node can.read).inside
+    subst (λ (k : ℕ). c.args.place + added_size c.args.version k v ≤ 16777216) (sym n.0)
+    (c.requires.place can.node can.read).inside
 
 pub relist-requires-clause-few : goal.relist-requires-clause-few
 relist-requires-clause-few c =
@@ -35,7 +41,8 @@ relist-requires-clause-few c =
     let n = c.values_of-count.ensures can.node can.read in
     let count = c.values_of-count.result.0 in
     let list = c.values_of-count.result.1 in
-    listed_few c.args.heap.now list count can.offsets (listed_here c.args.version c.args.heap.now c.args.key count list can n.0 n.1) c.bins_fit.ensures
+    listed_few c.args.heap.now list count can.offsets
+    (listed_here c.args.version c.args.heap.now c.args.key count list can n.0 n.1) c.bins_fit.ensures
 
 pub relist-requires-clause-place : goal.relist-requires-clause-place
 relist-requires-clause-place c =
@@ -45,11 +52,14 @@ relist-requires-clause-place c =
     let count = c.values_of-count.result.0 in
     let listed = listed_here c.args.version c.args.heap.now c.args.key count c.values_of-count.result.1 can n.0 n.1 in
     let room : c.args.place + added_size c.args.version count v ≤ 16777216 =
-    subst (λ (k : ℕ). c.args.place + added_size c.args.version k v ≤ 16777216) (sym n.0) (c.requires.place can.node can.read).inside in
+    subst (λ (k : ℕ). c.args.place + added_size c.args.version k v ≤ 16777216) (sym n.0)
+    (c.requires.place can.node can.read).inside in
     let is = c.as_slice.ensures ∙ c.in_ok-run.ensures
-    ∙ ap (λ (os : List ℕ). text (added_cells c.args.version c.args.place os v)) (c.list_bytes-old.ensures.offsets can.offsets listed) in
+    ∙ ap (λ (os : List ℕ). text (added_cells c.args.version c.args.place os v))
+    (c.list_bytes-old.ensures.offsets can.offsets listed) in
     let r = added_run c.args.version c.args.place count can.offsets v c.as_slice.result.now listed.number is room in
-    subst (λ (m : ℕ). IsPlace m c.args.heap.now c.args.place) (sym (r.long ∙ ap (λ (k : ℕ). added_size c.args.version k v) n.0)) (c.requires.place can.node can.read)
+    subst (λ (m : ℕ). IsPlace m c.args.heap.now c.args.place)
+    (sym (r.long ∙ ap (λ (k : ℕ). added_size c.args.version k v) n.0)) (c.requires.place can.node can.read)
 
 pub relist-requires-clause-run : goal.relist-requires-clause-run
 relist-requires-clause-run c =
@@ -59,13 +69,16 @@ relist-requires-clause-run c =
     let count = c.values_of-count.result.0 in
     let listed = listed_here c.args.version c.args.heap.now c.args.key count c.values_of-count.result.1 can n.0 n.1 in
     let room : c.args.place + added_size c.args.version count v ≤ 16777216 =
-    subst (λ (k : ℕ). c.args.place + added_size c.args.version k v ≤ 16777216) (sym n.0) (c.requires.place can.node can.read).inside in
+    subst (λ (k : ℕ). c.args.place + added_size c.args.version k v ≤ 16777216) (sym n.0)
+    (c.requires.place can.node can.read).inside in
     let is = c.as_slice.ensures ∙ c.in_ok-run.ensures
-    ∙ ap (λ (os : List ℕ). text (added_cells c.args.version c.args.place os v)) (c.list_bytes-old.ensures.offsets can.offsets listed) in
+    ∙ ap (λ (os : List ℕ). text (added_cells c.args.version c.args.place os v))
+    (c.list_bytes-old.ensures.offsets can.offsets listed) in
     (added_run c.args.version c.args.place count can.offsets v c.as_slice.result.now listed.number is room).sound
 
 pub relist-requires-clause-node : goal.relist-requires-clause-node
-relist-requires-clause-node c = node_held c.args.version c.args.heap.now c.args.key c.requires.can.node c.requires.can.read
+relist-requires-clause-node c =
+    node_held c.args.version c.args.heap.now c.args.key c.requires.can.node c.requires.can.read
 
 pub relist-requires-clause-list : goal.relist-requires-clause-list
 relist-requires-clause-list c = λ some_values.
@@ -73,13 +86,15 @@ relist-requires-clause-list c = λ some_values.
     let n = c.values_of-count.ensures can.node can.read in
     let count = c.values_of-count.result.0 in
     let list = c.values_of-count.result.1 in
-    list_held c.args.heap.now list count can.offsets (listed_here c.args.version c.args.heap.now c.args.key count list can n.0 n.1) some_values
+    list_held c.args.heap.now list count can.offsets
+    (listed_here c.args.version c.args.heap.now c.args.key count list can n.0 n.1) some_values
 
 pub relist-requires-clause-apart : goal.relist-requires-clause-apart
 relist-requires-clause-apart c = λ some_values.
     let can = c.requires.can in
     let n = c.values_of-count.ensures can.node can.read in
-    apart_here c.args.version c.args.heap.now c.args.key c.values_of-count.result.0 c.values_of-count.result.1 can n.0 n.1 some_values
+    apart_here c.args.version c.args.heap.now c.args.key c.values_of-count.result.0 c.values_of-count.result.1 can n.0
+    n.1 some_values
 
 pub returns-clause-put : goal.returns-clause-put
 returns-clause-put c =
@@ -90,13 +105,20 @@ returns-clause-put c =
     let list = c.values_of-count.result.1 in
     let listed = listed_here c.args.version c.args.heap.now c.args.key count list can n.0 n.1 in
     let room : c.args.place + added_size c.args.version count v ≤ 16777216 =
-    subst (λ (k : ℕ). c.args.place + added_size c.args.version k v ≤ 16777216) (sym n.0) (c.requires.place can.node can.read).inside in
+    subst (λ (k : ℕ). c.args.place + added_size c.args.version k v ≤ 16777216) (sym n.0)
+    (c.requires.place can.node can.read).inside in
     let same = c.list_bytes-old.ensures.offsets can.offsets listed in
-    let is = c.as_slice.ensures ∙ c.in_ok-run.ensures ∙ ap (λ (os : List ℕ). text (added_cells c.args.version c.args.place os v)) same in
+    let is = c.as_slice.ensures ∙ c.in_ok-run.ensures
+    ∙ ap (λ (os : List ℕ). text (added_cells c.args.version c.args.place os v)) same in
     on_ok c.relist.result _ _
-    (λ r. adds_value c.args.version c.args.heap.now c.relist.new.heap c.args.key c.args.place count list v c.as_slice.result.now can n.0 n.1 is room
+    (λ r. adds_value c.args.version c.args.heap.now c.relist.new.heap c.args.key c.args.place count list v
+    c.as_slice.result.now can n.0 n.1 is room
     (subst AreOffsets same c.offsets_fit.ensures)
     (record { name = c.requires.short; bytes = omega (arith, c.requires.few) })
-    (record { units = λ k. omega (arith, c.type_inv.name k); kind = omega arith; bytes = λ k. omega (arith, c.type_inv.bytes k) })
+    (record {
+      units = λ k. omega (arith, c.type_inv.name k);
+      kind = omega arith;
+      bytes = λ k. omega (arith, c.type_inv.bytes k);
+    })
     (listed_few c.args.heap.now list count can.offsets listed c.bins_fit.ensures) c.requires.few r)
     c.relist.ensures.put

@@ -11,7 +11,8 @@ cell_bytes-requires c =
     let os = numbers_in 4 c.args.count c.args.old.now in
     omega (
       arith,
-      list_long os c.as_slice.result.now (c.args.place + c.cell_size.result) c.args.count (c.as_slice.ensures ∙ c.in_ok-offsets.ensures) (numbers_length c.args.count c.args.old.now),
+      list_long os c.as_slice.result.now (c.args.place + c.cell_size.result) c.args.count
+          (c.as_slice.ensures ∙ c.in_ok-offsets.ensures) (numbers_length c.args.count c.args.old.now),
       c.requires.room,
     )
 
@@ -21,5 +22,6 @@ returns c =
     let v = item c.args.name.now c.args.kind c.args.bytes.now in
     let more : c.args.count + 1 ≡ suc (length os) = omega (arith, numbers_length c.args.count c.args.old.now) in
     let at = ap (λ (n : ℕ). c.args.place + n) (c.cell_size.ensures ∙ ap (λ (k : ℕ). cell (4 * k)) more) in
-    run_written c.args.version c.args.place (c.args.place + c.cell_size.result) os v _ c.write_value.new.out c.as_slice.result.now at
+    run_written c.args.version c.args.place (c.args.place + c.cell_size.result)
+    os v _ c.write_value.new.out c.as_slice.result.now at
     (c.as_slice.ensures ∙ c.in_ok-offsets.ensures) c.in_ok-run.ensures c.in_ok-write_value.ensures

@@ -8,5 +8,6 @@ pub returns : goal.returns
 returns c =
     let s = numbers_spelled c.args.count c.args.list.now (λ k. omega (arith, c.type_inv.list k)) c.requires.long in
     c.in_ok-put_u32.ensures.ok
-    ∙ ap (λ (xs : List ℕ). xs ++ to_le_bytes w32 c.args.more) (c.in_ok-offsets.ensures ∙ c.first_bytes-first.ensures ∙ s.1)
+    ∙ ap (λ (xs : List ℕ). xs ++ to_le_bytes w32 c.args.more)
+    (c.in_ok-offsets.ensures ∙ c.first_bytes-first.ensures ∙ s.1)
     ∙ more_spelled (numbers_in 4 c.args.count c.args.list.now) c.args.more

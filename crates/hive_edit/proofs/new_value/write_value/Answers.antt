@@ -14,8 +14,10 @@ put_cell-requires c =
 pub returns : goal.returns
 returns c =
     let v = item c.args.name.now c.args.kind c.args.bytes.now in
-    let behind = ap (λ (n : ℕ). c.args.at + n) (c.cell_size.ensures ∙ ap (λ (n : ℕ). cell (20 + n)) c.name_len.ensures) in
+    let behind = ap (λ (n : ℕ). c.args.at + n)
+    (c.cell_size.ensures ∙ ap (λ (n : ℕ). cell (20 + n)) c.name_len.ensures) in
     on_ok c.write_data.result _ _
-    (λ e. value_written c.args.version c.args.at (c.args.at + c.cell_size.result) v c.args.out.now c.put_cell.new.out c.write_data.new.out c.as_slice.result.now
+    (λ e. value_written c.args.version c.args.at (c.args.at + c.cell_size.result)
+    v c.args.out.now c.put_cell.new.out c.write_data.new.out c.as_slice.result.now
     (c.as_slice.ensures ∙ c.in_ok-value.ensures) c.in_ok-put_cell.ensures behind e)
     c.write_data.ensures

@@ -5,6 +5,7 @@ use Rattle.hive_edit.proofs.path.key_at.Goals as goal
 
 pub returns-in_default : goal.returns-in_default
 returns-in_default c = record {
-  place = place_end (cells_of c.args.cells.now) c.path.rest.now c.path.at c.in_default.len_below ∙ c.path.invariant.place;
+  place = place_end (cells_of c.args.cells.now) c.path.rest.now c.path.at c.in_default.len_below
+      ∙ c.path.invariant.place;
   stands = c.path.invariant.here;
 }

@@ -1,4 +1,4 @@
-use Rattle.std.proofs.Common.{◌-◌, ◌+◌, ◌++◌, List, ◌∷◌, [], ℕ, sym, ap, ◌∙◌, append_assoc, arith}
+use Rattle.std.proofs.Common.{◌-◌, ◌+◌, ◌++◌, List, ℕ, sym, ap, ◌∙◌, append_assoc, arith}
 use Rattle.std.specs.Int.{w32, to_le_bytes}
 use Rattle.hive_model.specs.Lists.{offsets_text}
 use Rattle.hive_model.specs.Packed.{segment_places}

@@ -1,9 +1,7 @@
-use Rattle.std.proofs.Common.{◌≡◌, ◌+◌, ◌*◌, ◌++◌, List, ℕ, length, refl, ap, ◌∙◌, arith}
-use Rattle.std.proofs.lemmas.List.{length-append}
-use Rattle.hive_model.specs.Size.{cell, segment_count}
-use Rattle.hive_model.specs.BigData.{BigData, big_data_text}
-use Rattle.hive_model.specs.Lists.{offsets_text}
-use Rattle.hive_model.specs.Packed.{cell_text, segment_places}
+use Rattle.std.proofs.Common.{◌+◌, ◌++◌, List, ℕ, length, refl, ap, ◌∙◌, arith}
+use Rattle.hive_model.specs.Size.{segment_count}
+use Rattle.hive_model.specs.BigData.{BigData}
+use Rattle.hive_model.specs.Packed.{cell_text}
 use Rattle.hive_model.proofs.Spelling.{length_big_data}
 use Rattle.hive_pack.proofs.Rows.{length_segment_list}
 use Rattle.reg_tree.proofs.Outcomes.{on_ok}
@@ -35,7 +33,8 @@ returns c =
     let two = c.put_cell-2.new.out in
     let k = c.segment_count-count.result in
     on_ok c.write_segments.result _ _
-    (λ e. big_put bytes old one two c.write_segments.new.out c.args.at k (segment_count (length bytes)) (c.args.at + 16) (c.args.at + 16 + c.cell_size.result)
+    (λ e. big_put bytes old one two c.write_segments.new.out c.args.at k (segment_count (length bytes)) (c.args.at + 16)
+    (c.args.at + 16 + c.cell_size.result)
     (omega (arith, c.segment_count-count.ensures)) refl (omega (arith, c.cell_size.ensures))
     (c.in_ok-put_cell.ensures ∙ ap (λ (x : List ℕ). old ++ cell_text x) (c.as_slice.ensures ∙ c.in_ok-cell.ensures))
     (c.in_ok-put_cell-2.ensures ∙ ap (λ (x : List ℕ). one ++ cell_text x) (c.as_slice-2.ensures ∙ c.in_ok-list.ensures))

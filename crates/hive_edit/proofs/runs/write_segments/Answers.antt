@@ -6,7 +6,12 @@ use Rattle.hive_edit.proofs.runs.write_segments.Goals as goal
 
 pub put_cell-requires : goal.put_cell-requires
 put_cell-requires c =
-    omega (arith, ap (λ (x : List ℕ). length x) c.split_at.ensures.front, length-take c.min-n.result c.segments.rest.now, c.min-n.ensures)
+    omega (
+      arith,
+      ap (λ (x : List ℕ). length x) c.split_at.ensures.front,
+      length-take c.min-n.result c.segments.rest.now,
+      c.min-n.ensures,
+    )
 
 pub segments-preserved : goal.segments-preserved
 segments-preserved c =

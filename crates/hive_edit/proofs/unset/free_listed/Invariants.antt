@@ -4,4 +4,5 @@ use Rattle.hive_edit.proofs.unset.free_listed.Given as goal
 
 abbrev pub invariant-loop-place : goal.invariant-loop-place
 invariant-loop-place l =
-    (offsets : List ℕ) → HasOffsets l.fn.heap l.list l.count offsets → CanGo l.fn.heap (l.list ∷ offsets) → AreGone (take l.place offsets) l.fn.heap l.heap
+    (offsets : List ℕ) → HasOffsets l.fn.heap l.list l.count offsets → CanGo l.fn.heap (l.list ∷ offsets)
+    → AreGone (take l.place offsets) l.fn.heap l.heap

@@ -1,4 +1,4 @@
-use Rattle.std.proofs.Common.{ℕ, sym, subst, ap, length, ◌∙◌, arith}
+use Rattle.std.proofs.Common.{ℕ, sym, subst, ap, length, arith}
 use Rattle.hive_edit.specs.Gone.{HasOffsets, Unlists}
 use Rattle.hive_edit.proofs.ResultLemmas.{is_ok_of}
 use Rattle.hive_edit.proofs.UnsetLemmas.{can_count, list_after, node_room, takes_out}
@@ -8,13 +8,15 @@ use Rattle.hive_model.specs.Walk.{reading}
 use Rattle.hive_edit.proofs.unset.take_out.Goals as goal
 
 pub values_of-count-requires : goal.values_of-count-requires
-values_of-count-requires c = is_ok_of (reading key_node_at (look_up c.args.version c.args.heap.now) c.args.key) c.requires.node c.requires.read
+values_of-count-requires c =
+    is_ok_of (reading key_node_at (look_up c.args.version c.args.heap.now) c.args.key) c.requires.node c.requires.read
 
 pub unlist-now-requires : goal.unlist-now-requires
 unlist-now-requires c =
     let t = c.requires in
     let n = c.values_of-count.ensures t.node t.read in
-    let l = list_after (look_up c.args.version c.args.heap.now) c.args.heap.now c.free_value.new.heap c.args.key c.args.value t c.free_value.ensures in (
+    let l = list_after (look_up c.args.version c.args.heap.now)
+    c.args.heap.now c.free_value.new.heap c.args.key c.args.value t c.free_value.ensures in (
       t.offsets,
       subst (λ (k : ℕ). HasOffsets c.free_value.new.heap k c.values_of-count.result.0 t.offsets) (sym n.1)
           (subst (λ (k : ℕ). HasOffsets c.free_value.new.heap t.node.value_list k t.offsets) (sym n.0) l),
@@ -24,26 +26,39 @@ unlist-now-requires c =
 pub overflow_sub-count : goal.overflow_sub-count
 overflow_sub-count c =
     let t = c.requires in
-    omega (arith, (c.values_of-count.ensures t.node t.read).0, can_count (look_up c.args.version c.args.heap.now) c.args.heap.now c.args.key c.args.value t)
+    omega (
+      arith,
+      (c.values_of-count.ensures t.node t.read).0,
+      can_count (look_up c.args.version c.args.heap.now) c.args.heap.now c.args.key c.args.value t,
+    )
 
 pub patch-requires : goal.patch-requires
 patch-requires c =
     let t = c.requires in
     let n = c.values_of-count.ensures t.node t.read in
-    let l = list_after (look_up c.args.version c.args.heap.now) c.args.heap.now c.free_value.new.heap c.args.key c.args.value t c.free_value.ensures in
-    let u = c.unlist-now.ensures t.offsets (subst (λ (k : ℕ). HasOffsets c.free_value.new.heap k c.values_of-count.result.0 t.offsets) (sym n.1)
+    let l = list_after (look_up c.args.version c.args.heap.now)
+    c.args.heap.now c.free_value.new.heap c.args.key c.args.value t c.free_value.ensures in
+    let u = c.unlist-now.ensures t.offsets
+    (subst (λ (k : ℕ). HasOffsets c.free_value.new.heap k c.values_of-count.result.0 t.offsets) (sym n.1)
     (subst (λ (k : ℕ). HasOffsets c.free_value.new.heap t.node.value_list k t.offsets) (sym n.0) l)) in
-    node_room c.args.version c.args.heap.now c.free_value.new.heap c.unlist-now.new.heap c.args.key c.args.value c.unlist-now.result (length c.two_fields-fields.result) t
-    c.free_value.ensures (subst (λ (k : ℕ). Unlists c.free_value.new.heap c.unlist-now.new.heap k c.unlist-now.result t.offsets c.args.value) n.1 u) (ap length c.two_fields-fields.ensures)
+    node_room c.args.version c.args.heap.now c.free_value.new.heap c.unlist-now.new.heap c.args.key c.args.value
+    c.unlist-now.result (length c.two_fields-fields.result) t
+    c.free_value.ensures (subst
+    (λ (k : ℕ). Unlists c.free_value.new.heap c.unlist-now.new.heap k c.unlist-now.result t.offsets c.args.value)
+    n.1 u) (ap length c.two_fields-fields.ensures)
 
 pub returns : goal.returns
 returns c =
     let t = c.requires in
     let n = c.values_of-count.ensures t.node t.read in
-    let l = list_after (look_up c.args.version c.args.heap.now) c.args.heap.now c.free_value.new.heap c.args.key c.args.value t c.free_value.ensures in
-    let u = c.unlist-now.ensures t.offsets (subst (λ (k : ℕ). HasOffsets c.free_value.new.heap k c.values_of-count.result.0 t.offsets) (sym n.1)
+    let l = list_after (look_up c.args.version c.args.heap.now)
+    c.args.heap.now c.free_value.new.heap c.args.key c.args.value t c.free_value.ensures in
+    let u = c.unlist-now.ensures t.offsets
+    (subst (λ (k : ℕ). HasOffsets c.free_value.new.heap k c.values_of-count.result.0 t.offsets) (sym n.1)
     (subst (λ (k : ℕ). HasOffsets c.free_value.new.heap t.node.value_list k t.offsets) (sym n.0) l)) in
-    takes_out c.args.version c.args.heap.now c.free_value.new.heap c.unlist-now.new.heap c.patch.new.self c.args.key c.args.value c.values_of-count.result.0 c.unlist-now.result
+    takes_out c.args.version c.args.heap.now c.free_value.new.heap c.unlist-now.new.heap c.patch.new.self c.args.key
+    c.args.value c.values_of-count.result.0 c.unlist-now.result
     c.two_fields-fields.result t c.free_value.ensures
-    (subst (λ (k : ℕ). Unlists c.free_value.new.heap c.unlist-now.new.heap k c.unlist-now.result t.offsets c.args.value) n.1 u) n.0 (omega arith) (omega arith)
+    (subst (λ (k : ℕ). Unlists c.free_value.new.heap c.unlist-now.new.heap k c.unlist-now.result t.offsets c.args.value)
+    n.1 u) n.0 (omega arith) (omega arith)
     c.two_fields-fields.ensures c.patch.ensures.here c.patch.ensures.others c.patch.ensures.long

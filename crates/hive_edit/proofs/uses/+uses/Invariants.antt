@@ -11,4 +11,5 @@ abbrev pub decreases-push_keys : goal.decreases-push_keys
 decreases-push_keys l = 2 * l.left + 1
 
 abbrev pub invariant-push_keys-loop-at : goal.invariant-push_keys-loop-at
-invariant-push_keys-loop-at l = l.uses.items ≡ l.fn.uses.items ++ flat_map (tree_uses l.left (cells_of l.cells)) (take l.at-index l.offsets)
+invariant-push_keys-loop-at l =
+    l.uses.items ≡ l.fn.uses.items ++ flat_map (tree_uses l.left (cells_of l.cells)) (take l.at-index l.offsets)

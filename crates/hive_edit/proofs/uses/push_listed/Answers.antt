@@ -13,8 +13,12 @@ loop-left-preserved c =
     let cells = cells_of c.args.cells.now in
     let at = c.u32_at-at.result in
     record {
-      so_far = rw take_rest (values_on cells c.loop-left.left at c.loop-left.rest.now (plain (cells_of_values cells (numbers_in 4 c.args.count c.args.list.now))) c.args.uses.now.items
-          c.loop-left.uses.items c.push_value.new.uses.items c.loop-left-test.true c.u32_at-at.ensures c.in_ok-push_value.ensures c.loop-left.invariant.so_far);
-      inside = rw take_rest (scan_room c.loop-left.left c.loop-left.rest.now c.loop-left-test.true c.loop-left.invariant.inside);
-      values = rw take_rest (scan_rest (IsItemHere cells) c.loop-left.left c.loop-left.rest.now c.loop-left-test.true c.loop-left.invariant.values);
+      so_far = rw take_rest (values_on cells c.loop-left.left at c.loop-left.rest.now
+          (plain (cells_of_values cells (numbers_in 4 c.args.count c.args.list.now))) c.args.uses.now.items
+          c.loop-left.uses.items c.push_value.new.uses.items c.loop-left-test.true c.u32_at-at.ensures
+          c.in_ok-push_value.ensures c.loop-left.invariant.so_far);
+      inside = rw take_rest (scan_room c.loop-left.left c.loop-left.rest.now c.loop-left-test.true
+          c.loop-left.invariant.inside);
+      values = rw take_rest (scan_rest (IsItemHere cells)
+          c.loop-left.left c.loop-left.rest.now c.loop-left-test.true c.loop-left.invariant.values);
     }

@@ -9,7 +9,8 @@ use Rattle.hive_edit.proofs.uses.push_listed.Given as goal
 
 abbrev pub invariant-loop-left : goal.invariant-loop-left
 invariant-loop-left l = record {
-  so_far : l.uses.items ++ plain (cells_of_values (cells_of l.cells) (numbers_in 4 l.left l.rest)) ≡ l.fn.uses.items ++ plain (cells_of_values (cells_of l.cells) (numbers_in 4 l.count l.list));
+  so_far : l.uses.items ++ plain (cells_of_values (cells_of l.cells) (numbers_in 4 l.left l.rest)) ≡ l.fn.uses.items
+      ++ plain (cells_of_values (cells_of l.cells) (numbers_in 4 l.count l.list));
   inside : 4 * l.left ≤ length l.rest;
   values : All (IsItemHere (cells_of l.cells)) (numbers_in 4 l.left l.rest);
 }

@@ -12,37 +12,50 @@ pub returns-then-count-eq0 : goal.returns-then-count-eq0
 returns-then-count-eq0 c =
     let cells = cells_of c.args.cells.now in
     nothing_more c.args.uses.now.items (plain (list_cells_at cells c.args.at))
-    (no_lists cells c.args.at c.node_at-node.result.now c.u32_at-count.result c.requires c.node_at-node.ensures.value c.u32_at-count.ensures c.if-count-eq0.true)
+    (no_lists cells c.args.at c.node_at-node.result.now c.u32_at-count.result c.requires c.node_at-node.ensures.value
+    c.u32_at-count.ensures c.if-count-eq0.true)
 
 pub is_list_of_lists-requires : goal.is_list_of_lists-requires
 is_list_of_lists-requires c =
     let cells = cells_of c.args.cells.now in
-    let s = siblings_here cells c.args.at c.node_at-node.result.now c.u32_at-list.result c.u32_at-count.result c.requires c.node_at-node.ensures.value c.u32_at-list.ensures c.u32_at-count.ensures in
-    rw c.payload-bytes.ensures (child_lists cells c.u32_at-list.result c.u32_at-count.result s (omega (arith, c.if-count-eq0.false))).read
+    let s = siblings_here cells c.args.at c.node_at-node.result.now c.u32_at-list.result c.u32_at-count.result
+    c.requires c.node_at-node.ensures.value c.u32_at-list.ensures c.u32_at-count.ensures in
+    rw c.payload-bytes.ensures
+    (child_lists cells c.u32_at-list.result c.u32_at-count.result s (omega (arith, c.if-count-eq0.false))).read
 
 pub entries_in-requires : goal.entries_in-requires
 entries_in-requires c =
     let cells = cells_of c.args.cells.now in
-    let s = siblings_here cells c.args.at c.node_at-node.result.now c.u32_at-list.result c.u32_at-count.result c.requires c.node_at-node.ensures.value c.u32_at-list.ensures c.u32_at-count.ensures in
-    rw c.payload-bytes.ensures (child_lists cells c.u32_at-list.result c.u32_at-count.result s (omega (arith, c.if-count-eq0.false))).read
+    let s = siblings_here cells c.args.at c.node_at-node.result.now c.u32_at-list.result c.u32_at-count.result
+    c.requires c.node_at-node.ensures.value c.u32_at-list.ensures c.u32_at-count.ensures in
+    rw c.payload-bytes.ensures
+    (child_lists cells c.u32_at-list.result c.u32_at-count.result s (omega (arith, c.if-count-eq0.false))).read
 
 pub returns-then-not-is_list_of_lists : goal.returns-then-not-is_list_of_lists
 returns-then-not-is_list_of_lists c =
     let cells = cells_of c.args.cells.now in
-    let s = siblings_here cells c.args.at c.node_at-node.result.now c.u32_at-list.result c.u32_at-count.result c.requires c.node_at-node.ensures.value c.u32_at-list.ensures c.u32_at-count.ensures in
+    let s = siblings_here cells c.args.at c.node_at-node.result.now c.u32_at-list.result c.u32_at-count.result
+    c.requires c.node_at-node.ensures.value c.u32_at-list.ensures c.u32_at-count.ensures in
     let is = sym c.is_list_of_lists.ensures ∙ c.if-not-is_list_of_lists.true in
-    let used = (used_lists cells c.u32_at-list.result c.u32_at-count.result s (omega (arith, c.if-count-eq0.false))).single (rw c.payload-bytes.ensures at is) in
-    let mine = lists_by cells c.args.at c.node_at-node.result.now c.u32_at-list.result c.u32_at-count.result c.requires c.node_at-node.ensures.value c.u32_at-list.ensures c.u32_at-count.ensures in
+    let used = (used_lists cells c.u32_at-list.result c.u32_at-count.result s
+    (omega (arith, c.if-count-eq0.false))).single (rw c.payload-bytes.ensures at is) in
+    let mine = lists_by cells c.args.at c.node_at-node.result.now c.u32_at-list.result c.u32_at-count.result c.requires
+    c.node_at-node.ensures.value c.u32_at-list.ensures c.u32_at-count.ensures in
     c.in_ok-push.ensures.items ∙ ap (λ (l : List ℕ). c.args.uses.now.items ++ plain l) (sym used ∙ mine)
 
 pub returns : goal.returns
 returns c =
     let cells = cells_of c.args.cells.now in
-    let s = siblings_here cells c.args.at c.node_at-node.result.now c.u32_at-list.result c.u32_at-count.result c.requires c.node_at-node.ensures.value c.u32_at-list.ensures c.u32_at-count.ensures in
+    let s = siblings_here cells c.args.at c.node_at-node.result.now c.u32_at-list.result c.u32_at-count.result
+    c.requires c.node_at-node.ensures.value c.u32_at-list.ensures c.u32_at-count.ensures in
     let is = sym c.is_list_of_lists.ensures ∙ c.if-not-is_list_of_lists.false in
-    let used = (used_lists cells c.u32_at-list.result c.u32_at-count.result s (omega (arith, c.if-count-eq0.false))).many (rw c.payload-bytes.ensures at is) in
-    let mine = lists_by cells c.args.at c.node_at-node.result.now c.u32_at-list.result c.u32_at-count.result c.requires c.node_at-node.ensures.value c.u32_at-list.ensures c.u32_at-count.ensures in
+    let used = (used_lists cells c.u32_at-list.result c.u32_at-count.result s
+    (omega (arith, c.if-count-eq0.false))).many (rw c.payload-bytes.ensures at is) in
+    let mine = lists_by cells c.args.at c.node_at-node.result.now c.u32_at-list.result c.u32_at-count.result c.requires
+    c.node_at-node.ensures.value c.u32_at-list.ensures c.u32_at-count.ensures in
     let lists = c.as_slice.ensures ∙ c.in_ok-lists.ensures ∙ ap offsets_of c.payload-bytes.ensures in
-    joined_uses c.args.uses.now.items c.push.new.self.items c.push_plain.new.uses.items (use_of c.u32_at-list.result false ∷ []) (plain c.as_slice.result.now) c.in_ok-push.ensures.items c.in_ok-push_plain.ensures
+    joined_uses c.args.uses.now.items c.push.new.self.items c.push_plain.new.uses.items
+    (use_of c.u32_at-list.result false ∷ []) (plain c.as_slice.result.now)
+    c.in_ok-push.ensures.items c.in_ok-push_plain.ensures
     ∙ ap (λ (l : List ℕ). c.args.uses.now.items ++ plain (c.u32_at-list.result ∷ l)) lists
     ∙ ap (λ (l : List ℕ). c.args.uses.now.items ++ plain l) (sym used ∙ mine)

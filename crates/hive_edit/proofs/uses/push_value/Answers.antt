@@ -9,6 +9,7 @@ returns c =
     let cells = cells_of c.args.cells.now in
     let at = c.args.at in
     let same = c.as_slice.ensures ∙ c.in_ok-data.ensures in
-    joined_uses c.args.uses.now.items c.push.new.self.items c.push_plain.new.uses.items (use_of at false ∷ []) (plain c.as_slice.result.now) c.in_ok-push.ensures.items c.in_ok-push_plain.ensures
+    joined_uses c.args.uses.now.items c.push.new.self.items c.push_plain.new.uses.items (use_of at false ∷ [])
+    (plain c.as_slice.result.now) c.in_ok-push.ensures.items c.in_ok-push_plain.ensures
     ∙ ap (λ (l : List ℕ). c.args.uses.now.items ++ plain (at ∷ l)) same
     ∙ ap (λ (l : List ℕ). c.args.uses.now.items ++ plain l) (sym (value_with_data cells at c.requires))

@@ -11,23 +11,31 @@ pub returns-then-count-eq0 : goal.returns-then-count-eq0
 returns-then-count-eq0 c =
     let cells = cells_of c.args.cells.now in
     nothing_more c.args.uses.now.items (plain (all_value_cells cells c.args.at))
-    (no_values cells c.args.at c.node_at-node.result.now c.u32_at-count.result c.requires c.node_at-node.ensures.value c.u32_at-count.ensures c.if-count-eq0.true)
+    (no_values cells c.args.at c.node_at-node.result.now c.u32_at-count.result c.requires c.node_at-node.ensures.value
+    c.u32_at-count.ensures c.if-count-eq0.true)
 
 pub push_listed-requires-clause-long : goal.push_listed-requires-clause-long
 push_listed-requires-clause-long c =
-    (values_here (cells_of c.args.cells.now) c.args.at c.node_at-node.result.now c.payload-list.result.now c.u32_at-count.result c.u32_at-place.result c.requires c.node_at-node.ensures.value
+    (values_here (cells_of c.args.cells.now)
+    c.args.at c.node_at-node.result.now c.payload-list.result.now c.u32_at-count.result c.u32_at-place.result
+    c.requires c.node_at-node.ensures.value
     c.u32_at-count.ensures c.if-count-eq0.false c.u32_at-place.ensures c.payload-list.ensures).long
 
 pub push_listed-requires-clause-values : goal.push_listed-requires-clause-values
 push_listed-requires-clause-values c =
-    (values_here (cells_of c.args.cells.now) c.args.at c.node_at-node.result.now c.payload-list.result.now c.u32_at-count.result c.u32_at-place.result c.requires c.node_at-node.ensures.value
+    (values_here (cells_of c.args.cells.now)
+    c.args.at c.node_at-node.result.now c.payload-list.result.now c.u32_at-count.result c.u32_at-place.result
+    c.requires c.node_at-node.ensures.value
     c.u32_at-count.ensures c.if-count-eq0.false c.u32_at-place.ensures c.payload-list.ensures).values
 
 pub returns : goal.returns
 returns c =
     let cells = cells_of c.args.cells.now in
-    joined_uses c.args.uses.now.items c.push.new.self.items c.push_listed.new.uses.items (use_of c.u32_at-place.result false ∷ [])
-    (plain (cells_of_values cells (numbers_in 4 c.u32_at-count.result c.payload-list.result.now))) c.in_ok-push.ensures.items c.in_ok-push_listed.ensures
+    joined_uses c.args.uses.now.items c.push.new.self.items c.push_listed.new.uses.items
+    (use_of c.u32_at-place.result false ∷ [])
+    (plain (cells_of_values cells (numbers_in 4 c.u32_at-count.result c.payload-list.result.now)))
+    c.in_ok-push.ensures.items c.in_ok-push_listed.ensures
     ∙ ap (λ (l : List (ℕ × Bool)). c.args.uses.now.items ++ l)
-    (some_values cells c.args.at c.node_at-node.result.now c.payload-list.result.now c.u32_at-count.result c.u32_at-place.result c.requires c.node_at-node.ensures.value
+    (some_values cells c.args.at c.node_at-node.result.now c.payload-list.result.now c.u32_at-count.result
+    c.u32_at-place.result c.requires c.node_at-node.ensures.value
     c.u32_at-count.ensures c.if-count-eq0.false c.u32_at-place.ensures c.payload-list.ensures)

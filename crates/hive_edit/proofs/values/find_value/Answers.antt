@@ -10,17 +10,24 @@ use Rattle.hive_edit.proofs.values.find_value.Goals as goal
 pub is_named-requires : goal.is_named-requires
 is_named-requires c =
     let cells = cells_of c.args.cells.now in
-    let here = scan_first (IsItemHere cells) c.loop-left.left c.u32_at-at.result c.loop-left.rest.now c.loop-left-test.true c.u32_at-at.ensures c.loop-left.invariant.values in
+    let here = scan_first (IsItemHere cells)
+    c.loop-left.left c.u32_at-at.result c.loop-left.rest.now c.loop-left-test.true c.u32_at-at.ensures
+    c.loop-left.invariant.values in
     value_is_there cells c.u32_at-at.result c.payload-value.result.now here c.payload-value.ensures
 
 pub returns-then-is_named : goal.returns-then-is_named
 returns-then-is_named c =
     let cells = cells_of c.args.cells.now in
     let at = c.u32_at-at.result in
-    let here = scan_first (IsItemHere cells) c.loop-left.left at c.loop-left.rest.now c.loop-left-test.true c.u32_at-at.ensures c.loop-left.invariant.values in
-    let passes = named_here cells c.args.name.now at c.payload-value.result.now here c.payload-value.ensures ∙ sym c.is_named.ensures ∙ c.if-is_named.true in
+    let here = scan_first (IsItemHere cells)
+    c.loop-left.left at c.loop-left.rest.now c.loop-left-test.true c.u32_at-at.ensures
+    c.loop-left.invariant.values in
+    let passes = named_here cells c.args.name.now at c.payload-value.result.now here c.payload-value.ensures
+    ∙ sym c.is_named.ensures ∙ c.if-is_named.true in
     record {
-      place = scan_here (is_value_named cells c.args.name.now) c.loop-left.left at c.loop-left.rest.now _ c.loop-left-test.true c.u32_at-at.ensures c.loop-left.invariant.place passes;
+      place = scan_here (is_value_named cells c.args.name.now)
+          c.loop-left.left at c.loop-left.rest.now _ c.loop-left-test.true c.u32_at-at.ensures
+          c.loop-left.invariant.place passes;
       stands = here;
     }
 
@@ -28,18 +35,26 @@ pub loop-left-preserved : goal.loop-left-preserved
 loop-left-preserved c =
     let cells = cells_of c.args.cells.now in
     let at = c.u32_at-at.result in
-    let here = scan_first (IsItemHere cells) c.loop-left.left at c.loop-left.rest.now c.loop-left-test.true c.u32_at-at.ensures c.loop-left.invariant.values in
-    let fails = named_here cells c.args.name.now at c.payload-value.result.now here c.payload-value.ensures ∙ sym c.is_named.ensures ∙ c.if-is_named.false in
+    let here = scan_first (IsItemHere cells)
+    c.loop-left.left at c.loop-left.rest.now c.loop-left-test.true c.u32_at-at.ensures
+    c.loop-left.invariant.values in
+    let fails = named_here cells c.args.name.now at c.payload-value.result.now here c.payload-value.ensures
+    ∙ sym c.is_named.ensures ∙ c.if-is_named.false in
     record {
-      place = rw take_rest (scan_on (is_value_named cells c.args.name.now) c.loop-left.left at c.loop-left.rest.now _ c.loop-left-test.true c.u32_at-at.ensures c.loop-left.invariant.place fails);
-      inside = rw take_rest (scan_room c.loop-left.left c.loop-left.rest.now c.loop-left-test.true c.loop-left.invariant.inside);
-      values = rw take_rest (scan_rest (IsItemHere cells) c.loop-left.left c.loop-left.rest.now c.loop-left-test.true c.loop-left.invariant.values);
+      place = rw take_rest (scan_on (is_value_named cells c.args.name.now)
+          c.loop-left.left at c.loop-left.rest.now _ c.loop-left-test.true c.u32_at-at.ensures
+          c.loop-left.invariant.place fails);
+      inside = rw take_rest (scan_room c.loop-left.left c.loop-left.rest.now c.loop-left-test.true
+          c.loop-left.invariant.inside);
+      values = rw take_rest (scan_rest (IsItemHere cells)
+          c.loop-left.left c.loop-left.rest.now c.loop-left-test.true c.loop-left.invariant.values);
     }
 
 pub returns : goal.returns
 returns c =
     let cells = cells_of c.args.cells.now in
     record {
-      place = scan_end (is_value_named cells c.args.name.now) c.loop-left.left c.loop-left.rest.now _ c.loop-left-test.false c.loop-left.invariant.place;
+      place = scan_end (is_value_named cells c.args.name.now)
+          c.loop-left.left c.loop-left.rest.now _ c.loop-left-test.false c.loop-left.invariant.place;
       stands = tt;
     }

@@ -9,7 +9,8 @@ use Rattle.hive_edit.proofs.values.find_value.Given as goal
 
 abbrev pub invariant-loop-left : goal.invariant-loop-left
 invariant-loop-left l = record {
-  place : find (is_value_named (cells_of l.cells) l.name) (numbers_in 4 l.left l.rest) ≡ find (is_value_named (cells_of l.cells) l.name) (numbers_in 4 l.count l.list);
+  place : find (is_value_named (cells_of l.cells) l.name) (numbers_in 4 l.left l.rest)
+      ≡ find (is_value_named (cells_of l.cells) l.name) (numbers_in 4 l.count l.list);
   inside : 4 * l.left ≤ length l.rest;
   values : All (IsItemHere (cells_of l.cells)) (numbers_in 4 l.left l.rest);
 }

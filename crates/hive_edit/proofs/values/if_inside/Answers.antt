@@ -7,16 +7,26 @@ use Rattle.hive_edit.proofs.values.if_inside.Goals as goal
 pub u32_at-size-requires : goal.u32_at-size-requires
 u32_at-size-requires c =
     let p = c.payload-value.result.now in
-    omega (arith, value_long p (value_is_there (cells_of c.args.cells.now) c.args.at p c.requires c.payload-value.ensures))
+    omega (
+      arith,
+      value_long p
+          (value_is_there (cells_of c.args.cells.now) c.args.at p c.requires c.payload-value.ensures),
+    )
 
 pub returns-then-size-ge2147483648 : goal.returns-then-size-ge2147483648
 returns-then-size-ge2147483648 c =
-    in_place_inside (cells_of c.args.cells.now) c.args.at c.payload-value.result.now c.u32_at-size.result c.requires c.payload-value.ensures c.u32_at-size.ensures c.if-size-ge2147483648.true
+    in_place_inside (cells_of c.args.cells.now)
+    c.args.at c.payload-value.result.now c.u32_at-size.result c.requires c.payload-value.ensures
+    c.u32_at-size.ensures c.if-size-ge2147483648.true
 
 pub returns-then-size-eq0 : goal.returns-then-size-eq0
 returns-then-size-eq0 c =
-    none_inside (cells_of c.args.cells.now) c.args.at c.payload-value.result.now c.u32_at-size.result c.requires c.payload-value.ensures c.u32_at-size.ensures c.if-size-eq0.true
+    none_inside (cells_of c.args.cells.now)
+    c.args.at c.payload-value.result.now c.u32_at-size.result c.requires c.payload-value.ensures
+    c.u32_at-size.ensures c.if-size-eq0.true
 
 pub returns : goal.returns
 returns c =
-    not_inside (cells_of c.args.cells.now) c.args.at c.payload-value.result.now c.u32_at-size.result c.requires c.payload-value.ensures c.u32_at-size.ensures c.if-size-ge2147483648.false c.if-size-eq0.false
+    not_inside (cells_of c.args.cells.now)
+    c.args.at c.payload-value.result.now c.u32_at-size.result c.requires c.payload-value.ensures
+    c.u32_at-size.ensures c.if-size-ge2147483648.false c.if-size-eq0.false

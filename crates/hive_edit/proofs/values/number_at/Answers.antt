@@ -6,39 +6,63 @@ use Rattle.hive_edit.proofs.values.number_at.Goals as goal
 pub u32_at-kind-requires : goal.u32_at-kind-requires
 u32_at-kind-requires c =
     let p = c.payload-value.result.now in
-    omega (arith, value_long p (value_is_there (cells_of c.args.cells.now) c.args.at p c.requires c.payload-value.ensures))
+    omega (
+      arith,
+      value_long p
+          (value_is_there (cells_of c.args.cells.now) c.args.at p c.requires c.payload-value.ensures),
+    )
 
 pub u32_at-size-requires : goal.u32_at-size-requires
 u32_at-size-requires c =
     let p = c.payload-value.result.now in
-    omega (arith, value_long p (value_is_there (cells_of c.args.cells.now) c.args.at p c.requires c.payload-value.ensures))
+    omega (
+      arith,
+      value_long p
+          (value_is_there (cells_of c.args.cells.now) c.args.at p c.requires c.payload-value.ensures),
+    )
 
 pub u32_at-place-requires : goal.u32_at-place-requires
 u32_at-place-requires c =
     let p = c.payload-value.result.now in
-    omega (arith, value_long p (value_is_there (cells_of c.args.cells.now) c.args.at p c.requires c.payload-value.ensures))
+    omega (
+      arith,
+      value_long p
+          (value_is_there (cells_of c.args.cells.now) c.args.at p c.requires c.payload-value.ensures),
+    )
 
 pub returns-then-kind-ne4 : goal.returns-then-kind-ne4
 returns-then-kind-ne4 c =
-    sym (no_number_kind (cells_of c.args.cells.now) c.args.at c.payload-value.result.now c.u32_at-kind.result c.requires c.payload-value.ensures c.u32_at-kind.ensures c.if-kind-ne4.true)
+    sym (no_number_kind (cells_of c.args.cells.now)
+    c.args.at c.payload-value.result.now c.u32_at-kind.result c.requires c.payload-value.ensures
+    c.u32_at-kind.ensures c.if-kind-ne4.true)
 
 pub returns-then-size : goal.returns-then-size
 returns-then-size c =
-    sym (number_inside (cells_of c.args.cells.now) c.args.at c.u32_at-kind.result c.u32_at-size.result c.u32_at-place.result c.payload-value.result.now
-    c.requires c.payload-value.ensures c.u32_at-kind.ensures c.if-kind-ne4.false c.u32_at-size.ensures c.if-size.true c.u32_at-place.ensures (omega arith))
+    sym (number_inside (cells_of c.args.cells.now)
+    c.args.at c.u32_at-kind.result c.u32_at-size.result c.u32_at-place.result c.payload-value.result.now
+    c.requires c.payload-value.ensures c.u32_at-kind.ensures c.if-kind-ne4.false c.u32_at-size.ensures c.if-size.true
+    c.u32_at-place.ensures (omega arith))
 
 pub returns-then-size-ne4 : goal.returns-then-size-ne4
 returns-then-size-ne4 c =
-    sym (no_number_size (cells_of c.args.cells.now) c.args.at c.u32_at-kind.result c.u32_at-size.result c.payload-value.result.now
-    c.requires c.payload-value.ensures c.u32_at-kind.ensures c.if-kind-ne4.false c.u32_at-size.ensures c.if-size.false c.if-size-ne4.true)
+    sym (no_number_size (cells_of c.args.cells.now)
+    c.args.at c.u32_at-kind.result c.u32_at-size.result c.payload-value.result.now
+    c.requires c.payload-value.ensures c.u32_at-kind.ensures c.if-kind-ne4.false c.u32_at-size.ensures c.if-size.false
+    c.if-size-ne4.true)
 
 pub u32_at-requires : goal.u32_at-requires
 u32_at-requires c =
-    let long = number_long (cells_of c.args.cells.now) c.args.at c.u32_at-kind.result c.u32_at-size.result c.u32_at-place.result c.payload-value.result.now c.payload-data.result.now
-    c.requires c.payload-value.ensures c.u32_at-kind.ensures c.if-kind-ne4.false c.u32_at-size.ensures c.if-size-ne4.false c.u32_at-place.ensures c.payload-data.ensures in
+    let long = number_long (cells_of c.args.cells.now)
+    c.args.at c.u32_at-kind.result c.u32_at-size.result c.u32_at-place.result c.payload-value.result.now
+    c.payload-data.result.now
+    c.requires c.payload-value.ensures c.u32_at-kind.ensures c.if-kind-ne4.false c.u32_at-size.ensures
+    c.if-size-ne4.false c.u32_at-place.ensures c.payload-data.ensures in
     omega (arith, long)
 
 pub returns : goal.returns
 returns c =
-    sym (number_outside (cells_of c.args.cells.now) c.args.at c.u32_at-kind.result c.u32_at-size.result c.u32_at-place.result c.u32_at.result c.payload-value.result.now c.payload-data.result.now
-    c.requires c.payload-value.ensures c.u32_at-kind.ensures c.if-kind-ne4.false c.u32_at-size.ensures c.if-size-ne4.false c.u32_at-place.ensures c.payload-data.ensures c.u32_at.ensures)
+    sym (number_outside (cells_of c.args.cells.now)
+    c.args.at c.u32_at-kind.result c.u32_at-size.result c.u32_at-place.result c.u32_at.result
+    c.payload-value.result.now c.payload-data.result.now
+    c.requires c.payload-value.ensures c.u32_at-kind.ensures c.if-kind-ne4.false c.u32_at-size.ensures
+    c.if-size-ne4.false c.u32_at-place.ensures c.payload-data.ensures c.u32_at.ensures)

@@ -16,4 +16,5 @@ empty_same (x ∷ xs) = ne_eqb (length (x ∷ xs)) 0 (λ e. omega arith)
 
 pub returns-in_default : goal.returns-in_default
 returns-in_default c =
-    c.is_empty.ensures ∙ empty_same c.units.xs.now ∙ ap (folds_same c.units.xs.now) (sym (short_wide c.units.ys.now c.in_default.len_below)) ∙ c.units.invariant
+    c.is_empty.ensures ∙ empty_same c.units.xs.now
+    ∙ ap (folds_same c.units.xs.now) (sym (short_wide c.units.ys.now c.in_default.len_below)) ∙ c.units.invariant

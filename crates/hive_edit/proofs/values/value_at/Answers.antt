@@ -6,26 +6,44 @@ use Rattle.hive_edit.proofs.NodeLemmas.{node_long, values_here, no_values_here}
 use Rattle.hive_edit.proofs.values.value_at.Goals as goal
 
 pub u32_at-count-requires : goal.u32_at-count-requires
-u32_at-count-requires c = omega (arith, node_long (cells_of c.args.cells.now) c.args.at c.payload-node.result.now c.requires c.payload-node.ensures)
+u32_at-count-requires c =
+    omega (
+      arith,
+      node_long (cells_of c.args.cells.now)
+          c.args.at c.payload-node.result.now c.requires c.payload-node.ensures,
+    )
 
 pub u32_at-place-requires : goal.u32_at-place-requires
-u32_at-place-requires c = omega (arith, node_long (cells_of c.args.cells.now) c.args.at c.payload-node.result.now c.requires c.payload-node.ensures)
+u32_at-place-requires c =
+    omega (
+      arith,
+      node_long (cells_of c.args.cells.now)
+          c.args.at c.payload-node.result.now c.requires c.payload-node.ensures,
+    )
 
 pub returns-then-count-eq0 : goal.returns-then-count-eq0
 returns-then-count-eq0 c =
     let cells = cells_of c.args.cells.now in
-    let empty = no_values_here cells c.args.at c.payload-node.result.now c.u32_at-count.result c.requires c.payload-node.ensures c.u32_at-count.ensures c.if-count-eq0.true in
+    let empty = no_values_here cells c.args.at c.payload-node.result.now c.u32_at-count.result c.requires
+    c.payload-node.ensures c.u32_at-count.ensures c.if-count-eq0.true in
     record { place = ap (find (is_value_named cells c.args.name.now)) (sym empty); stands = tt }
 
 pub find_value-requires : goal.find_value-requires
 find_value-requires c =
-    let h = values_here (cells_of c.args.cells.now) c.args.at c.payload-node.result.now c.payload-list.result.now c.u32_at-count.result c.u32_at-place.result
-    c.requires c.payload-node.ensures c.u32_at-count.ensures c.if-count-eq0.false c.u32_at-place.ensures c.payload-list.ensures in
+    let h = values_here (cells_of c.args.cells.now)
+    c.args.at c.payload-node.result.now c.payload-list.result.now c.u32_at-count.result c.u32_at-place.result
+    c.requires c.payload-node.ensures c.u32_at-count.ensures c.if-count-eq0.false c.u32_at-place.ensures
+    c.payload-list.ensures in
     record { long = h.long; values = h.values }
 
 pub returns : goal.returns
 returns c =
     let cells = cells_of c.args.cells.now in
-    let h = values_here cells c.args.at c.payload-node.result.now c.payload-list.result.now c.u32_at-count.result c.u32_at-place.result
-    c.requires c.payload-node.ensures c.u32_at-count.ensures c.if-count-eq0.false c.u32_at-place.ensures c.payload-list.ensures in
-    record { place = c.find_value.ensures.place ∙ ap (find (is_value_named cells c.args.name.now)) (sym h.places); stands = c.find_value.ensures.stands }
+    let h = values_here cells c.args.at c.payload-node.result.now c.payload-list.result.now c.u32_at-count.result
+    c.u32_at-place.result
+    c.requires c.payload-node.ensures c.u32_at-count.ensures c.if-count-eq0.false c.u32_at-place.ensures
+    c.payload-list.ensures in
+    record {
+      place = c.find_value.ensures.place ∙ ap (find (is_value_named cells c.args.name.now)) (sym h.places);
+      stands = c.find_value.ensures.stands;
+    }

@@ -4,8 +4,8 @@ use Rattle.hive_model.specs.Edit.{after_steps}
 use Rattle.reg_tree.specs.declared.steps.TreeStep.{TreeStep}
 use Rattle.reg_tree.specs.Makes.{IsRefused, step_of}
 use Rattle.hive_edit.specs.Hive.{HiveCells}
-use Rattle.hive_edit.specs.Steps.{AreStepped, StopsAtOne}
-use Rattle.hive_edit.proofs.SteppedLemmas.{if_done, if_undone, steps_refused, ordered_full, ordered_made, ordered_kept, same_version, stopped_strained, packed_for_room}
+use Rattle.hive_edit.specs.Steps.{AreStepped, AreStrained}
+use Rattle.hive_edit.proofs.SteppedLemmas.{if_done, if_undone, steps_refused, ordered_full, ordered_made, ordered_kept, same_version, packed_for_room}
 use Rattle.hive_edit.proofs.hive.HiveBytes.apply_in_order.Goals as goal
 
 pub returns-in_err-make_steps-clause-made : goal.returns-in_err-make_steps-clause-made
@@ -16,7 +16,8 @@ returns-in_err-make_steps-clause-made c =
     let p = err_from_is_err_and c.from_residual-in_err-make_steps.result c.from_residual-in_err-make_steps.ensures.1 in
     let here : IsRefused (after_steps h.tree (map step_of c.args.steps)) stop =
     subst (λ (l : List TreeStep). IsRefused (after_steps h.tree (map step_of l)) stop) seen
-    (subst (λ (g : HiveCells). IsRefused (after_steps g.tree (map step_of c.as_slice.result.now)) stop) c.in_ok-draft.ensures c.in_err-make_steps.ensures.made) in
+    (subst (λ (g : HiveCells). IsRefused (after_steps g.tree (map step_of c.as_slice.result.now)) stop)
+    c.in_ok-draft.ensures c.in_err-make_steps.ensures.made) in
     rw (p.1, p.2) (steps_refused h.version h.tree (map step_of c.args.steps) stop here, refl)
 
 pub returns-then-bulk-gt-MOST_BULK-clause-made : goal.returns-then-bulk-gt-MOST_BULK-clause-made
@@ -63,23 +64,13 @@ returns-then-branch-clause-cells c =
     (if_done _ _ _ c.if-branch.true c.in_ok-make_steps.ensures.made)) in
     inl (ordered_kept steps h new c.stands.ensures there)
 
-pub returns-then-branch-clause-room : goal.returns-then-branch-clause-room
-returns-then-branch-clause-room c = λ kinds.
+pub returns-clause-cells : goal.returns-clause-cells
+returns-clause-cells c =
     let h = c.args.self.now in
     let steps = map step_of c.args.steps in
     let seen : c.as_slice.result.now ≡ c.args.steps = c.as_slice.ensures in
-    let new = c.make_steps.new.self in
-    let there : AreStepped h steps new = subst (λ (l : List TreeStep). AreStepped h (map step_of l) new) seen
-    (subst (λ (g : HiveCells). AreStepped g (map step_of c.as_slice.result.now) new) c.in_ok-draft.ensures
-    (if_done _ _ _ c.if-branch.true c.in_ok-make_steps.ensures.made)) in
-    inl (ordered_kept steps h new c.stands.ensures there)
-
-pub returns-clause-room : goal.returns-clause-room
-returns-clause-room c = λ kinds.
-    let h = c.args.self.now in
-    let steps = map step_of c.args.steps in
-    let seen : c.as_slice.result.now ≡ c.args.steps = c.as_slice.ensures in
-    let stops : StopsAtOne h steps = subst (λ (l : List TreeStep). StopsAtOne h (map step_of l)) seen
-    (subst (λ (g : HiveCells). StopsAtOne g (map step_of c.as_slice.result.now)) c.in_ok-draft.ensures
+    let strained : AreStrained h steps = subst (λ (l : List TreeStep). AreStrained h (map step_of l)) seen
+    (subst (λ (g : HiveCells). AreStrained g (map step_of c.as_slice.result.now)) c.in_ok-draft.ensures
     (if_undone _ _ _ c.if-branch.false c.in_ok-make_steps.ensures.made)) in
-    packed_for_room h c.apply_anew.new.self steps c.apply_anew.result _ c.apply_anew.ensures.made c.apply_anew.ensures.anew (λ u e. stopped_strained h u steps stops kinds e)
+    packed_for_room h c.apply_anew.new.self steps c.apply_anew.result _ c.apply_anew.ensures.made
+    c.apply_anew.ensures.anew strained

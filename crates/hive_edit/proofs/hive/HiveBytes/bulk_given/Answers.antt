@@ -6,7 +6,8 @@ use Rattle.hive_edit.proofs.hive.HiveBytes.bulk_given.Goals as goal
 pub data_room-had-requires : goal.data_room-had-requires
 data_room-had-requires c =
     let i = c.self.inside in
-    there_here i.cells c.cells.result.now i.root i.version i.bulk c.args.self.now c.args.path.now c.args.name.now c.args.at
+    there_here i.cells c.cells.result.now i.root i.version i.bulk c.args.self.now c.args.path.now c.args.name.now
+    c.args.at
     c.self.invariant c.cells.ensures c.self.view_is c.requires.there
 
 pub overflow_add-result : goal.overflow_add-result
@@ -18,18 +19,25 @@ overflow_add-result c =
 pub overflow_sub-result : goal.overflow_sub-result
 overflow_sub-result c =
     let i = c.self.inside in
-    let had = room_same i.cells c.cells.result.now i.version c.args.at c.data_room-had.result c.cells.ensures c.data_room-had.ensures.room in
-    (there_bulk i.cells i.root i.version i.bulk c.args.self.now c.args.path.now c.args.name.now c.args.kind c.args.bytes.now c.args.at c.data_len-has.result c.data_room-had.result
-    c.self.invariant c.self.view_is c.requires.there c.bins_fit.ensures c.data_len-has.ensures.len (omega (arith, c.data_len-has.ensures.len)) had).0
+    let had = room_same i.cells c.cells.result.now i.version c.args.at c.data_room-had.result c.cells.ensures
+    c.data_room-had.ensures.room in
+    (there_bulk i.cells i.root i.version i.bulk c.args.self.now c.args.path.now c.args.name.now c.args.kind
+    c.args.bytes.now c.args.at c.data_len-has.result c.data_room-had.result
+    c.self.invariant c.self.view_is c.requires.there c.bins_fit.ensures c.data_len-has.ensures.len
+    (omega (arith, c.data_len-has.ensures.len)) had).0
 
 pub returns-clause-bulk : goal.returns-clause-bulk
 returns-clause-bulk c =
     let i = c.self.inside in
-    let had = room_same i.cells c.cells.result.now i.version c.args.at c.data_room-had.result c.cells.ensures c.data_room-had.ensures.room in
-    (there_bulk i.cells i.root i.version i.bulk c.args.self.now c.args.path.now c.args.name.now c.args.kind c.args.bytes.now c.args.at c.data_len-has.result c.data_room-had.result
-    c.self.invariant c.self.view_is c.requires.there c.bins_fit.ensures c.data_len-has.ensures.len (omega (arith, c.data_len-has.ensures.len)) had).1
+    let had = room_same i.cells c.cells.result.now i.version c.args.at c.data_room-had.result c.cells.ensures
+    c.data_room-had.ensures.room in
+    (there_bulk i.cells i.root i.version i.bulk c.args.self.now c.args.path.now c.args.name.now c.args.kind
+    c.args.bytes.now c.args.at c.data_len-has.result c.data_room-had.result
+    c.self.invariant c.self.view_is c.requires.there c.bins_fit.ensures c.data_len-has.ensures.len
+    (omega (arith, c.data_len-has.ensures.len)) had).1
 
 pub returns-clause-step : goal.returns-clause-step
 returns-clause-step c =
     let i = c.self.inside in
-    there_step i.cells i.root i.version i.bulk c.args.self.now c.args.path.now c.args.name.now c.args.kind c.args.bytes.now c.args.at c.self.invariant c.self.view_is c.requires.there c.requires.few
+    there_step i.cells i.root i.version i.bulk c.args.self.now c.args.path.now c.args.name.now c.args.kind
+    c.args.bytes.now c.args.at c.self.invariant c.self.view_is c.requires.there c.requires.few

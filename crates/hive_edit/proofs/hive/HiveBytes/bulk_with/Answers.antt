@@ -10,7 +10,8 @@ use Rattle.hive_edit.proofs.hive.HiveBytes.bulk_with.Goals as goal
 pub values_of-count-requires : goal.values_of-count-requires
 values_of-count-requires c =
     let i = c.self.inside in
-    let can = hive_can_add i.cells i.root i.version i.bulk c.args.self.now c.args.path.now c.args.name.now c.args.key c.self.invariant c.self.view_is c.requires.new in
+    let can = hive_can_add i.cells i.root i.version i.bulk c.args.self.now c.args.path.now c.args.name.now c.args.key
+    c.self.invariant c.self.view_is c.requires.new in
     is_ok_of (reading key_node_at (look_up i.version i.cells) c.args.key) can.node can.read
 
 pub overflow_add-result : goal.overflow_add-result
@@ -22,16 +23,21 @@ overflow_add-result c =
 pub overflow_sub-result : goal.overflow_sub-result
 overflow_sub-result c =
     let i = c.self.inside in
-    (new_bulk i.cells i.root i.version i.bulk c.args.self.now c.args.path.now c.args.name.now c.args.key c.args.kind c.args.bytes.now c.values_of-count.result.0 c.added_len-more.result c.list_len.result
-    c.self.invariant c.self.view_is c.requires.new c.bins_fit.ensures (λ n r. (c.values_of-count.ensures n r).0) c.added_len-more.ensures.exact c.added_len-more.ensures.few c.list_len.ensures).0
+    (new_bulk i.cells i.root i.version i.bulk c.args.self.now c.args.path.now c.args.name.now c.args.key c.args.kind
+    c.args.bytes.now c.values_of-count.result.0 c.added_len-more.result c.list_len.result
+    c.self.invariant c.self.view_is c.requires.new c.bins_fit.ensures (λ n r. (c.values_of-count.ensures n r).0)
+    c.added_len-more.ensures.exact c.added_len-more.ensures.few c.list_len.ensures).0
 
 pub returns-clause-bulk : goal.returns-clause-bulk
 returns-clause-bulk c =
     let i = c.self.inside in
-    (new_bulk i.cells i.root i.version i.bulk c.args.self.now c.args.path.now c.args.name.now c.args.key c.args.kind c.args.bytes.now c.values_of-count.result.0 c.added_len-more.result c.list_len.result
-    c.self.invariant c.self.view_is c.requires.new c.bins_fit.ensures (λ n r. (c.values_of-count.ensures n r).0) c.added_len-more.ensures.exact c.added_len-more.ensures.few c.list_len.ensures).1
+    (new_bulk i.cells i.root i.version i.bulk c.args.self.now c.args.path.now c.args.name.now c.args.key c.args.kind
+    c.args.bytes.now c.values_of-count.result.0 c.added_len-more.result c.list_len.result
+    c.self.invariant c.self.view_is c.requires.new c.bins_fit.ensures (λ n r. (c.values_of-count.ensures n r).0)
+    c.added_len-more.ensures.exact c.added_len-more.ensures.few c.list_len.ensures).1
 
 pub returns-clause-step : goal.returns-clause-step
 returns-clause-step c =
     let i = c.self.inside in
-    new_step i.cells i.root i.version i.bulk c.args.self.now c.args.path.now c.args.name.now c.args.key c.args.kind c.args.bytes.now c.self.invariant c.self.view_is c.requires.new c.requires.few
+    new_step i.cells i.root i.version i.bulk c.args.self.now c.args.path.now c.args.name.now c.args.key c.args.kind
+    c.args.bytes.now c.self.invariant c.self.view_is c.requires.new c.requires.few

@@ -9,42 +9,55 @@ use Rattle.hive_edit.proofs.hive.HiveBytes.bulk_without_key.Goals as goal
 pub above_at-count-requires : goal.above_at-count-requires
 above_at-count-requires c =
     let i = c.self.inside in
-    let h = pair_seen i.cells i.root i.version i.bulk c.args.self.now c.args.path.now c.args.pair c.self.invariant c.self.view_is c.requires.place in
+    let h = pair_seen i.cells i.root i.version i.bulk c.args.self.now c.args.path.now c.args.pair c.self.invariant
+    c.self.view_is c.requires.place in
     subst (λ (z : List Bin). IsKeyAt (look_up i.version z) c.args.pair.above) (sym c.cells.ensures)
-    (above_stands (look_up i.version i.cells) i.root (tree_of (look_up i.version i.cells) i.root) c.args.path.now c.args.pair h)
+    (above_stands (look_up i.version i.cells) i.root (tree_of (look_up i.version i.cells) i.root)
+    c.args.path.now c.args.pair h)
 
 pub descriptor_at-shared-requires : goal.descriptor_at-shared-requires
 descriptor_at-shared-requires c =
     let i = c.self.inside in
-    let h = pair_seen i.cells i.root i.version i.bulk c.args.self.now c.args.path.now c.args.pair c.self.invariant c.self.view_is c.requires.place in
+    let h = pair_seen i.cells i.root i.version i.bulk c.args.self.now c.args.path.now c.args.pair c.self.invariant
+    c.self.view_is c.requires.place in
     subst (λ (z : List Bin). IsKeyAt (look_up i.version z) c.args.pair.above) (sym c.cells.ensures)
-    (above_stands (look_up i.version i.cells) i.root (tree_of (look_up i.version i.cells) i.root) c.args.path.now c.args.pair h)
+    (above_stands (look_up i.version i.cells) i.root (tree_of (look_up i.version i.cells) i.root)
+    c.args.path.now c.args.pair h)
 
 pub below_len-requires : goal.below_len-requires
 below_len-requires c =
     let i = c.self.inside in
-    let h = pair_seen i.cells i.root i.version i.bulk c.args.self.now c.args.path.now c.args.pair c.self.invariant c.self.view_is c.requires.place in
+    let h = pair_seen i.cells i.root i.version i.bulk c.args.self.now c.args.path.now c.args.pair c.self.invariant
+    c.self.view_is c.requires.place in
     subst (λ (z : List Bin). IsKeyAt (look_up i.version z) c.args.pair.at) (sym c.cells.ensures)
-    (kid_stands (look_up i.version i.cells) i.root (tree_of (look_up i.version i.cells) i.root) c.args.path.now c.args.pair h)
+    (kid_stands (look_up i.version i.cells) i.root (tree_of (look_up i.version i.cells) i.root)
+    c.args.path.now c.args.pair h)
 
 pub overflow_sub-count : goal.overflow_sub-count
 overflow_sub-count c =
     let i = c.self.inside in
-    some_children i.cells c.cells.result.now i.root i.version i.bulk c.args.self.now c.args.path.now c.args.pair c.above_at-count.result c.self.invariant c.self.view_is
+    some_children i.cells c.cells.result.now i.root i.version i.bulk c.args.self.now c.args.path.now c.args.pair
+    c.above_at-count.result c.self.invariant c.self.view_is
     c.cells.ensures c.requires.place c.above_at-count.ensures
 
 pub overflow_sub-result : goal.overflow_sub-result
 overflow_sub-result c =
     let i = c.self.inside in
-    (bulk_seen i.cells c.cells.result.now i.root i.version i.bulk c.args.self.now c.args.path.now c.args.pair c.above_at-count.result c.descriptor_at-shared.result.now
-    c.list_len.result c.list_len-in-Some.result c.in-Some.below c.self.invariant c.self.view_is c.cells.ensures c.requires.place
-    c.above_at-count.ensures c.descriptor_at-shared.ensures c.if-bulk-gt-MANY.false c.list_len.ensures.exact c.list_len-in-Some.ensures.exact
+    (bulk_seen i.cells c.cells.result.now i.root i.version i.bulk c.args.self.now c.args.path.now c.args.pair
+    c.above_at-count.result c.descriptor_at-shared.result.now
+    c.list_len.result c.list_len-in-Some.result c.in-Some.below c.self.invariant c.self.view_is c.cells.ensures
+    c.requires.place
+    c.above_at-count.ensures c.descriptor_at-shared.ensures c.if-bulk-gt-MANY.false c.list_len.ensures.exact
+    c.list_len-in-Some.ensures.exact
     c.list_len-in-Some.ensures.few (rw c.in-Some.is at c.in_ok-own.ensures.exact)).0
 
 pub returns-in-Some : goal.returns-in-Some
 returns-in-Some c =
     let i = c.self.inside in
-    (bulk_seen i.cells c.cells.result.now i.root i.version i.bulk c.args.self.now c.args.path.now c.args.pair c.above_at-count.result c.descriptor_at-shared.result.now
-    c.list_len.result c.list_len-in-Some.result c.in-Some.below c.self.invariant c.self.view_is c.cells.ensures c.requires.place
-    c.above_at-count.ensures c.descriptor_at-shared.ensures c.if-bulk-gt-MANY.false c.list_len.ensures.exact c.list_len-in-Some.ensures.exact
+    (bulk_seen i.cells c.cells.result.now i.root i.version i.bulk c.args.self.now c.args.path.now c.args.pair
+    c.above_at-count.result c.descriptor_at-shared.result.now
+    c.list_len.result c.list_len-in-Some.result c.in-Some.below c.self.invariant c.self.view_is c.cells.ensures
+    c.requires.place
+    c.above_at-count.ensures c.descriptor_at-shared.ensures c.if-bulk-gt-MANY.false c.list_len.ensures.exact
+    c.list_len-in-Some.ensures.exact
     c.list_len-in-Some.ensures.few (rw c.in-Some.is at c.in_ok-own.ensures.exact)).1

@@ -7,6 +7,7 @@ pub returns-in-Err : goal.returns-in-Err
 returns-in-Err c = record {
   made = refuses_copy c.args.self.now c.args.from.now c.args.to.now c.in-Some.key c.in-Err.stop
       (key_found c.args.self.now c.args.from.now c.in-Some.key
-      (ap (λ (p : List (List ℕ)). find_key p c.args.self.now.tree) (sym c.in_ok-path.ensures) ∙ sym c.in_ok-subtree.ensures.found ∙ c.in-Some.is))
+      (ap (λ (p : List (List ℕ)). find_key p c.args.self.now.tree) (sym c.in_ok-path.ensures)
+      ∙ sym c.in_ok-subtree.ensures.found ∙ c.in-Some.is))
       c.in-Err.ensures;
 }

@@ -5,5 +5,8 @@ use Rattle.hive_edit.proofs.hive.HiveBytes.delete_value.Goals as goal
 
 pub returns-in-Err-clause-made : goal.returns-in-Err-clause-made
 returns-in-Err-clause-made c =
-    let h = c.args.self.now in
-    (step_refused h.version h.tree (delete_value c.args.path.now c.args.name.now) c.in-Err.stop c.in-Err.ensures.refused, refl)
+    let h = c.args.self.now in (
+      step_refused h.version h.tree (delete_value c.args.path.now c.args.name.now)
+          c.in-Err.stop c.in-Err.ensures.refused,
+      refl,
+    )

@@ -11,7 +11,8 @@ pub returns-in-Some : goal.returns-in-Some
 returns-in-Some c =
     let i = c.self.inside in
     c.dword_under.ensures
-    ∙ dword_there i.cells c.cells.result.now i.root i.version i.bulk c.args.self.now c.args.path.now c.args.name.now c.in-Some.at
+    ∙ dword_there i.cells c.cells.result.now i.root i.version i.bulk c.args.self.now c.args.path.now c.args.name.now
+    c.in-Some.at
     c.self.invariant c.cells.ensures c.self.view_is c.in-Some.ensures.place
 
 pub returns-in-None : goal.returns-in-None

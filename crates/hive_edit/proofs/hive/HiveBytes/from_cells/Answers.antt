@@ -4,7 +4,8 @@ use Rattle.hive_edit.proofs.hive.HiveBytes.from_cells.Goals as goal
 pub invariant_of-result : goal.invariant_of-result
 invariant_of-result c =
     let j = c.in_ok-bulk.ensures.exact in
-    hive_opened c.args.cells c.in_ok-heap.heap c.args.root c.args.version c.in_ok-bulk.bulk j.tree c.in_ok-heap.ensures j.stands j.valid j.bulk
+    hive_opened c.args.cells c.in_ok-heap.heap c.args.root c.args.version c.in_ok-bulk.bulk j.tree c.in_ok-heap.ensures
+    j.stands j.valid j.bulk
 
 pub returns-clause-exact : goal.returns-clause-exact
 returns-clause-exact c =

@@ -12,4 +12,5 @@ pub returns : goal.returns
 returns c =
     let i = c.self.inside in
     c.is_some.ensures ∙ ap is_some c.key_at.ensures.place
-    ∙ has_there i.cells c.cells.result.now i.root i.version i.bulk c.args.self.now c.args.path.now c.self.invariant c.cells.ensures c.self.view_is
+    ∙ has_there i.cells c.cells.result.now i.root i.version i.bulk c.args.self.now c.args.path.now c.self.invariant
+    c.cells.ensures c.self.view_is

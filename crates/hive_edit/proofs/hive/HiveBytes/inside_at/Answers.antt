@@ -13,17 +13,23 @@ pub returns-in-None : goal.returns-in-None
 returns-in-None c =
     let i = c.self.inside in
     inside_off_key (look_up i.version c.cells.result.now) c.args.path.now c.args.name.now i.root c.in-None.ensures.place
-    ∙ inside_seen i.cells c.cells.result.now i.root i.version c.args.self.now c.args.path.now c.args.name.now c.cells.ensures c.self.view_is
+    ∙ inside_seen i.cells c.cells.result.now i.root i.version c.args.self.now c.args.path.now c.args.name.now
+    c.cells.ensures c.self.view_is
 
 pub returns-in-None-value_at : goal.returns-in-None-value_at
 returns-in-None-value_at c =
     let i = c.self.inside in
-    inside_off_value (look_up i.version c.cells.result.now) c.args.path.now c.args.name.now i.root c.in-Some.key c.in-Some.ensures.place c.in-None-value_at.ensures.place
-    ∙ inside_seen i.cells c.cells.result.now i.root i.version c.args.self.now c.args.path.now c.args.name.now c.cells.ensures c.self.view_is
+    inside_off_value (look_up i.version c.cells.result.now)
+    c.args.path.now c.args.name.now i.root c.in-Some.key c.in-Some.ensures.place c.in-None-value_at.ensures.place
+    ∙ inside_seen i.cells c.cells.result.now i.root i.version c.args.self.now c.args.path.now c.args.name.now
+    c.cells.ensures c.self.view_is
 
 pub returns-in-Some-value_at : goal.returns-in-Some-value_at
 returns-in-Some-value_at c =
     let i = c.self.inside in
     c.if_inside.ensures
-    ∙ inside_on (look_up i.version c.cells.result.now) c.args.path.now c.args.name.now i.root c.in-Some.key c.in-Some-value_at.value c.in-Some.ensures.place c.in-Some-value_at.ensures.place
-    ∙ inside_seen i.cells c.cells.result.now i.root i.version c.args.self.now c.args.path.now c.args.name.now c.cells.ensures c.self.view_is
+    ∙ inside_on (look_up i.version c.cells.result.now)
+    c.args.path.now c.args.name.now i.root c.in-Some.key c.in-Some-value_at.value c.in-Some.ensures.place
+    c.in-Some-value_at.ensures.place
+    ∙ inside_seen i.cells c.cells.result.now i.root i.version c.args.self.now c.args.path.now c.args.name.now
+    c.cells.ensures c.self.view_is

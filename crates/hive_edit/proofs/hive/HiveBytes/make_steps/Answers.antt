@@ -1,10 +1,14 @@
 use Rattle.std.proofs.Common.{◌≡◌, ◌<◌, ℕ, suc, ◌+◌, List, [], ◌∷◌, ◌++◌, length, map, take, drop, sym, ap, subst, ◌∙◌, arith}
 use Rattle.std.proofs.lemmas.Result.{err_from_is_err_and}
+use Rattle.hive_model.specs.Bins.{bins_size}
 use Rattle.hive_model.specs.Edit.{Step, after_steps}
 use Rattle.reg_tree.specs.Fitting.{Fits}
 use Rattle.reg_tree.specs.Makes.{IsRefused, step_of}
-use Rattle.hive_edit.specs.Steps.{AreStepped}
-use Rattle.hive_edit.proofs.SteppedLemmas.{if_done, if_undone, stepped_more, refused_behind, fits_here, map_more, map_parts}
+use Rattle.edit_laws.specs.Sizes.{AreGrown}
+use Rattle.hive_edit.specs.Stepped.{IsStepped}
+use Rattle.hive_edit.specs.Steps.{AreStepped, AreStrained}
+use Rattle.hive_edit.proofs.SteppedLemmas.{if_done, if_undone, stepped_more, refused_behind, stopped_strained, fits_here, map_more, map_parts}
+use Rattle.hive_edit.proofs.StrainedLemmas.{step_grown, all_taken}
 use Rattle.hive_edit.proofs.hive.HiveBytes.make_steps.Goals as goal
 
 pub make_step-requires : goal.make_step-requires
@@ -25,8 +29,10 @@ returns-in_err-make_step c =
     let h = c.args.self.now in
     let p = err_from_is_err_and c.from_residual.result c.from_residual.ensures.1 in
     rw (p.1, p.2) (record {
-      made = subst (λ (l : List Step). IsRefused (after_steps h.tree l) stop) (sym (map_parts step_of xs k item lt c.step-item.is))
-          (refused_behind (map step_of (take k xs)) (map step_of (drop (suc k) xs)) (step_of item) h c.loop-step.self stop c.loop-step.invariant c.in_err-make_step.ensures.made);
+      made = subst (λ (l : List Step). IsRefused (after_steps h.tree l) stop)
+          (sym (map_parts step_of xs k item lt c.step-item.is))
+          (refused_behind (map step_of (take k xs)) (map step_of (drop (suc k) xs)) (step_of item)
+          h c.loop-step.self stop c.loop-step.invariant.0 c.in_err-make_step.ensures.made);
     })
 
 pub returns-then-not-branch : goal.returns-then-not-branch
@@ -35,16 +41,29 @@ returns-then-not-branch c =
     let k = c.loop-step.step-index in
     let item = c.step-item.result in
     let lt : k < length xs = c.loop-step-test.true in
+    let lacks = if_undone _ _ _ c.if-not-branch.true c.in_ok-make_step.ensures.made in
     record {
-      made = record {
-        front = map step_of (take k xs);
-        step = step_of item;
-        back = map step_of (drop (suc k) xs);
-        mid = c.loop-step.self;
-        whole = map_parts step_of xs k item lt c.step-item.is;
-        made = c.loop-step.invariant;
-        cannot = if_undone _ _ _ c.if-not-branch.true c.in_ok-make_step.ensures.made;
-      };
+      made = subst (AreStrained c.args.self.now) (sym (map_parts step_of xs k item lt c.step-item.is))
+          (stopped_strained (map step_of (take k xs)) (map step_of (drop (suc k) xs)) (step_of item)
+          c.args.self.now c.loop-step.self c.loop-step.invariant.0 lacks);
+    }
+
+pub returns-then-room-gt-MOST_BINS : goal.returns-then-room-gt-MOST_BINS
+returns-then-room-gt-MOST_BINS c =
+    let xs = c.args.steps.now in
+    let k = c.loop-step.step-index in
+    let item = c.step-item.result in
+    let lt : k < length xs = c.loop-step-test.true in
+    let h = c.args.self.now in
+    let made : IsStepped c.loop-step.self (step_of item) c.make_step.new.self =
+    if_done _ _ _ c.if-not-branch.false c.in_ok-make_step.ensures.made in
+    record {
+      made = subst (AreStrained h) (sym (map_parts step_of xs k item lt c.step-item.is))
+          (all_taken h c.loop-step.self c.make_step.new.self (map step_of (take k xs)) (map step_of (drop (suc k) xs))
+          (step_of item) c.loop-step.room c.least_room-more.result c.saturating_add-room.result
+          c.loop-step.invariant.0 c.loop-step.invariant.1 made
+          (c.least_room-more.ensures c.loop-step.self made c.bulk-before.ensures)
+          c.saturating_add-room.ensures c.if-room-gt-MOST_BINS.true);
     }
 
 pub loop-step-preserved : goal.loop-step-preserved
@@ -53,9 +72,19 @@ loop-step-preserved c =
     let k = c.loop-step.step-index in
     let item = c.step-item.result in
     let lt : k < length xs = c.loop-step-test.true in
+    let h = c.args.self.now in
     let next : suc k ≡ k + 1 = omega arith in
     let more : map step_of (take (k + 1) xs) ≡ map step_of (take k xs) ++ step_of item ∷ [] =
     ap (λ (n : ℕ). map step_of (take n xs)) (sym next) ∙ map_more step_of xs k item lt c.step-item.is in
-    subst (λ (l : List Step). AreStepped c.args.self.now l c.make_step.new.self) (sym more)
-    (stepped_more (map step_of (take k xs)) c.args.self.now c.loop-step.self c.make_step.new.self (step_of item) c.loop-step.invariant
-    (if_done _ _ _ c.if-not-branch.false c.in_ok-make_step.ensures.made))
+    let made : IsStepped c.loop-step.self (step_of item) c.make_step.new.self =
+    if_done _ _ _ c.if-not-branch.false c.in_ok-make_step.ensures.made in (
+      subst (λ (l : List Step). AreStepped h l c.make_step.new.self) (sym more)
+          (stepped_more (map step_of (take k xs)) h c.loop-step.self c.make_step.new.self (step_of item)
+          c.loop-step.invariant.0 made),
+      subst (λ (l : List Step). AreGrown h.version (bins_size h.bins) h.tree l
+          (bins_size h.bins + c.saturating_add-room.result) c.make_step.new.self.tree) (sym more)
+          (step_grown h c.loop-step.self c.make_step.new.self (map step_of (take k xs)) (step_of item)
+          c.loop-step.room c.least_room-more.result c.saturating_add-room.result
+          c.loop-step.invariant.0 c.loop-step.invariant.1 made
+          (c.least_room-more.ensures c.loop-step.self made c.bulk-before.ensures) c.saturating_add-room.ensures),
+    )

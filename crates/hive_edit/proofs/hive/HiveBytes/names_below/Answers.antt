@@ -11,7 +11,8 @@ key_at-requires c =
 pub returns-in-Some : goal.returns-in-Some
 returns-in-Some c =
     let i = c.self.inside in
-    let same = names_there i.cells c.cells.result.now i.root i.version i.bulk c.args.self.now c.args.path.now c.in-Some.at
+    let same = names_there i.cells c.cells.result.now i.root i.version i.bulk c.args.self.now c.args.path.now
+    c.in-Some.at
     c.self.invariant c.cells.ensures c.self.view_is c.in-Some.ensures.place in
     if_ok c.child_names.result _ _ (λ names e. e ∙ same) c.child_names.ensures
 
@@ -19,4 +20,5 @@ pub returns-in-None : goal.returns-in-None
 returns-in-None c =
     let i = c.self.inside in
     c.new.ensures
-    ∙ names_nowhere i.cells c.cells.result.now i.root i.version i.bulk c.args.self.now c.args.path.now c.self.invariant c.cells.ensures c.self.view_is c.in-None.ensures.place
+    ∙ names_nowhere i.cells c.cells.result.now i.root i.version i.bulk c.args.self.now c.args.path.now c.self.invariant
+    c.cells.ensures c.self.view_is c.in-None.ensures.place

@@ -4,34 +4,44 @@ use Rattle.hive_edit.proofs.hive.HiveBytes.open_place.Goals as goal
 
 pub returns-in-None : goal.returns-in-None
 returns-in-None c = record {
-  judged = asks_no_key c.self.inside.cells c.cells.result.now c.self.inside.root c.self.inside.version c.self.inside.bulk c.args.self.now c.args.parent.now c.args.name.now
+  judged = asks_no_key c.self.inside.cells c.cells.result.now c.self.inside.root c.self.inside.version
+      c.self.inside.bulk c.args.self.now c.args.parent.now c.args.name.now
       (record { is = c.self.invariant; same = c.cells.ensures; view = c.self.view_is }) c.in-None.ensures.place;
 }
 
 pub returns-then-is_bad_name : goal.returns-then-is_bad_name
 returns-then-is_bad_name c = record {
-  judged = asks_bad_name c.self.inside.cells c.cells.result.now c.self.inside.root c.self.inside.version c.self.inside.bulk c.args.self.now c.args.parent.now c.args.name.now c.in-Some.at
-      (record { is = c.self.invariant; same = c.cells.ensures; view = c.self.view_is }) c.in-Some.ensures.place (sym c.is_bad_name.ensures ∙ c.if-is_bad_name.true);
+  judged = asks_bad_name c.self.inside.cells c.cells.result.now c.self.inside.root c.self.inside.version
+      c.self.inside.bulk c.args.self.now c.args.parent.now c.args.name.now c.in-Some.at
+      (record { is = c.self.invariant; same = c.cells.ensures; view = c.self.view_is }) c.in-Some.ensures.place
+      (sym c.is_bad_name.ensures ∙ c.if-is_bad_name.true);
 }
 
 pub returns-then-name-gt255 : goal.returns-then-name-gt255
 returns-then-name-gt255 c = record {
-  judged = asks_long c.self.inside.cells c.cells.result.now c.self.inside.root c.self.inside.version c.self.inside.bulk c.args.self.now c.args.parent.now c.args.name.now c.in-Some.at
-      (record { is = c.self.invariant; same = c.cells.ensures; view = c.self.view_is }) c.in-Some.ensures.place (sym c.is_bad_name.ensures ∙ c.if-is_bad_name.false)
+  judged = asks_long c.self.inside.cells c.cells.result.now c.self.inside.root c.self.inside.version c.self.inside.bulk
+      c.args.self.now c.args.parent.now c.args.name.now c.in-Some.at
+      (record { is = c.self.invariant; same = c.cells.ensures; view = c.self.view_is }) c.in-Some.ensures.place
+      (sym c.is_bad_name.ensures ∙ c.if-is_bad_name.false)
       (omega (arith, c.if-name-gt255.true));
 }
 
 pub returns-then-as_slice-gt510 : goal.returns-then-as_slice-gt510
 returns-then-as_slice-gt510 c = record {
-  judged = asks_deep c.self.inside.cells c.cells.result.now c.self.inside.root c.self.inside.version c.self.inside.bulk c.args.self.now c.args.parent.now c.args.name.now c.in-Some.at
-      (record { is = c.self.invariant; same = c.cells.ensures; view = c.self.view_is }) c.in-Some.ensures.place (sym c.is_bad_name.ensures ∙ c.if-is_bad_name.false)
-      (omega (arith, c.if-name-gt255.false)) (omega (arith, c.if-as_slice-gt510.true, ap (λ (l : List (List ℕ)). length l) c.as_slice.ensures));
+  judged = asks_deep c.self.inside.cells c.cells.result.now c.self.inside.root c.self.inside.version c.self.inside.bulk
+      c.args.self.now c.args.parent.now c.args.name.now c.in-Some.at
+      (record { is = c.self.invariant; same = c.cells.ensures; view = c.self.view_is }) c.in-Some.ensures.place
+      (sym c.is_bad_name.ensures ∙ c.if-is_bad_name.false)
+      (omega (arith, c.if-name-gt255.false))
+      (omega (arith, c.if-as_slice-gt510.true, ap (λ (l : List (List ℕ)). length l) c.as_slice.ensures));
 }
 
 pub returns-then-is_some : goal.returns-then-is_some
 returns-then-is_some c = record {
-  judged = already_stepped c.self.inside.cells c.self.inside.root c.self.inside.version c.self.inside.bulk c.args.self.now c.args.parent.now c.args.name.now c.self.invariant c.self.view_is
-      (asks_there c.self.inside.cells c.cells.result.now c.self.inside.root c.self.inside.version c.self.inside.bulk c.args.self.now c.args.parent.now c.args.name.now c.in-Some.at
+  judged = already_stepped c.self.inside.cells c.self.inside.root c.self.inside.version c.self.inside.bulk
+      c.args.self.now c.args.parent.now c.args.name.now c.self.invariant c.self.view_is
+      (asks_there c.self.inside.cells c.cells.result.now c.self.inside.root c.self.inside.version c.self.inside.bulk
+      c.args.self.now c.args.parent.now c.args.name.now c.in-Some.at
       (record {
         lent = record { is = c.self.invariant; same = c.cells.ensures; view = c.self.view_is };
         place = c.in-Some.ensures.place;
@@ -44,7 +54,8 @@ returns-then-is_some c = record {
 
 pub returns : goal.returns
 returns c = record {
-  judged = asks_open c.self.inside.cells c.cells.result.now c.self.inside.root c.self.inside.version c.self.inside.bulk c.args.self.now c.args.parent.now c.args.name.now c.in-Some.at
+  judged = asks_open c.self.inside.cells c.cells.result.now c.self.inside.root c.self.inside.version c.self.inside.bulk
+      c.args.self.now c.args.parent.now c.args.name.now c.in-Some.at
       (record {
         lent = record { is = c.self.invariant; same = c.cells.ensures; view = c.self.view_is };
         place = c.in-Some.ensures.place;

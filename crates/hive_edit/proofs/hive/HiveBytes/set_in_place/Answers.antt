@@ -1,4 +1,4 @@
-use Rattle.std.proofs.Common.{◌≡◌, ◌<◌, ℕ, Bool, [], ◌∷◌, Ok, sym, ap, subst}
+use Rattle.std.proofs.Common.{◌≡◌, ◌<◌, Bool, [], ◌∷◌, Ok, sym, ap, subst}
 use Rattle.hive_model.specs.Bins.{bins_size}
 use Rattle.hive_model.specs.Edit.{edited, set_value}
 use Rattle.hive_model.specs.Footprint.{strain_of}
@@ -14,9 +14,12 @@ returns-clause-no_room c = λ no u e.
     let path = c.args.path.now in
     let name = c.args.name.now in
     let step = set_value path name c.args.kind c.args.bytes.now in
-    let same : c.set_there.new.self ≡ h = c.in_ok-set_there.ensures.unmade (ap (λ (b : Bool). Ok b) c.if-branch.false) in
-    by_place (place_in (cells_in h) path name h.root) (16777216 < strain_of h.version (bins_size h.bins) h.tree (step ∷ []))
+    let same : c.set_there.new.self ≡ h =
+    c.in_ok-set_there.ensures.unmade (ap (λ (b : Bool). Ok b) c.if-branch.false) in
+    by_place (place_in (cells_in h) path name h.root)
+    (16777216 < strain_of h.version (bins_size h.bins) h.tree (step ∷ []))
     (λ at there. c.in_ok-set_there.ensures.no_room (ap (λ (b : Bool). Ok b) c.if-branch.false) at there)
     (λ none. subst (λ (g : HiveCells). 16777216 < strain_of g.version (bins_size g.bins) g.tree (step ∷ [])) same
-    (c.set_new.ensures.no_room no (subst (λ (g : HiveCells). place_in (cells_in g) path name g.root ≡ nowhere) (sym same) none) u
+    (c.set_new.ensures.no_room no
+    (subst (λ (g : HiveCells). place_in (cells_in g) path name g.root ≡ nowhere) (sym same) none) u
     (subst (λ (g : HiveCells). edited g.version g.tree (step ∷ []) ≡ the_tree u) (sym same) e)))

@@ -9,13 +9,17 @@ use Rattle.hive_edit.proofs.hive.HiveBytes.set_or_pack.Goals as goal
 pub returns-then-bytes-gt-MOST_DATA-clause-room : goal.returns-then-bytes-gt-MOST_DATA-clause-room
 returns-then-bytes-gt-MOST_DATA-clause-room c =
     let h = c.args.self.now in
-    too_long h.version h.tree c.set_anew.new.self.tree c.args.path.now c.args.name.now c.args.kind c.args.bytes.now c.set_anew.result _ c.set_anew.ensures.made c.if-bytes-gt-MOST_DATA.true
+    too_long h.version h.tree c.set_anew.new.self.tree c.args.path.now c.args.name.now c.args.kind c.args.bytes.now
+    c.set_anew.result _ c.set_anew.ensures.made c.if-bytes-gt-MOST_DATA.true
 
 pub returns-clause-room : goal.returns-clause-room
 returns-clause-room c =
     let h = c.args.self.now in
     let step = set_value c.args.path.now c.args.name.now c.args.kind c.args.bytes.now in
-    let same : c.set_in_place.new.self ≡ h = c.in_ok-set_in_place.ensures.unmade (ap (λ (b : Bool). Ok b) c.if-branch.false) in
+    let same : c.set_in_place.new.self ≡ h =
+    c.in_ok-set_in_place.ensures.unmade (ap (λ (b : Bool). Ok b) c.if-branch.false) in
     packed_for_room h c.set_anew-2.new.self (step ∷ []) c.set_anew-2.result _
-    (subst (λ (g : HiveCells). Makes g.tree c.set_anew-2.new.self.tree c.set_anew-2.result (edited g.version g.tree (step ∷ []))) same c.set_anew-2.ensures.made)
-    c.set_anew-2.ensures.anew (λ u e. c.in_ok-set_in_place.ensures.no_room (ap (λ (b : Bool). Ok b) c.if-branch.false) u e)
+    (subst (λ (g : HiveCells). Makes g.tree c.set_anew-2.new.self.tree c.set_anew-2.result
+    (edited g.version g.tree (step ∷ []))) same c.set_anew-2.ensures.made)
+    c.set_anew-2.ensures.anew
+    (λ u e. c.in_ok-set_in_place.ensures.no_room (ap (λ (b : Bool). Ok b) c.if-branch.false) u e)

@@ -4,19 +4,24 @@ use Rattle.hive_edit.proofs.hive.HiveBytes.settable.Goals as goal
 pub returns-in-None-clause-refused : goal.returns-in-None-clause-refused
 returns-in-None-clause-refused c = λ kind.
     let i = c.self.inside in
-    sets_nowhere i.cells c.cells.result.now i.root i.version i.bulk c.args.self.now c.args.path.now c.args.name.now kind c.args.bytes.now
+    sets_nowhere i.cells c.cells.result.now i.root i.version i.bulk c.args.self.now c.args.path.now c.args.name.now kind
+    c.args.bytes.now
     c.self.invariant c.cells.ensures c.self.view_is c.in-None.ensures.place
 
 pub returns-then-name-gt16383-clause-refused : goal.returns-then-name-gt16383-clause-refused
 returns-then-name-gt16383-clause-refused c = λ kind.
     let i = c.self.inside in
-    sets_long_name i.cells i.root i.version i.bulk c.args.self.now c.args.path.now c.args.name.now c.in-Some.key kind c.args.bytes.now c.self.invariant c.self.view_is
-    (key_seen i.cells c.cells.result.now i.root i.version c.args.self.now c.args.path.now c.in-Some.key c.cells.ensures c.self.view_is c.in-Some.ensures.place)
+    sets_long_name i.cells i.root i.version i.bulk c.args.self.now c.args.path.now c.args.name.now c.in-Some.key kind
+    c.args.bytes.now c.self.invariant c.self.view_is
+    (key_seen i.cells c.cells.result.now i.root i.version c.args.self.now c.args.path.now c.in-Some.key c.cells.ensures
+    c.self.view_is c.in-Some.ensures.place)
     c.if-name-gt16383.true
 
 pub returns-then-bytes-gt-MOST_DATA-clause-refused : goal.returns-then-bytes-gt-MOST_DATA-clause-refused
 returns-then-bytes-gt-MOST_DATA-clause-refused c = λ kind.
     let i = c.self.inside in
-    sets_long_data i.cells i.root i.version i.bulk c.args.self.now c.args.path.now c.args.name.now c.in-Some.key kind c.args.bytes.now c.self.invariant c.self.view_is
-    (key_seen i.cells c.cells.result.now i.root i.version c.args.self.now c.args.path.now c.in-Some.key c.cells.ensures c.self.view_is c.in-Some.ensures.place)
+    sets_long_data i.cells i.root i.version i.bulk c.args.self.now c.args.path.now c.args.name.now c.in-Some.key kind
+    c.args.bytes.now c.self.invariant c.self.view_is
+    (key_seen i.cells c.cells.result.now i.root i.version c.args.self.now c.args.path.now c.in-Some.key c.cells.ensures
+    c.self.view_is c.in-Some.ensures.place)
     c.if-name-gt16383.false c.if-bytes-gt-MOST_DATA.true

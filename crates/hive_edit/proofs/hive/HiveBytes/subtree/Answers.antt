@@ -9,13 +9,15 @@ key_at-requires c =
 
 pub unreachable-requires : goal.unreachable-requires
 unreachable-requires c =
-    no_fault_there (look_up c.self.inside.version c.cells.result.now) c.in-Some.at c.in-Err-Fault.field-0-0 c.in-Some.ensures.stands
+    no_fault_there (look_up c.self.inside.version c.cells.result.now)
+    c.in-Some.at c.in-Err-Fault.field-0-0 c.in-Some.ensures.stands
     (rw c.in-Err-Fault.field-0-is at c.in-Err-Fault.ensures.exact)
 
 pub returns-in-Ok-clause-found : goal.returns-in-Ok-clause-found
 returns-in-Ok-clause-found c =
     let i = c.self.inside in
-    subtree_there i.cells c.cells.result.now i.root i.version i.bulk c.args.self.now c.args.path.now c.in-Some.at c.in-Ok.key
+    subtree_there i.cells c.cells.result.now i.root i.version i.bulk c.args.self.now c.args.path.now c.in-Some.at
+    c.in-Ok.key
     c.self.invariant c.cells.ensures c.self.view_is c.in-Some.ensures.place c.in-Ok.ensures.exact.0
 
 pub returns-in-Ok-clause-fits : goal.returns-in-Ok-clause-fits
@@ -31,7 +33,8 @@ returns-in-Err-Memory-clause-fits c = λ t found.
 pub returns-in-None-clause-found : goal.returns-in-None-clause-found
 returns-in-None-clause-found c =
     let i = c.self.inside in
-    subtree_nowhere i.cells c.cells.result.now i.root i.version i.bulk c.args.self.now c.args.path.now c.self.invariant c.cells.ensures c.self.view_is c.in-None.ensures.place
+    subtree_nowhere i.cells c.cells.result.now i.root i.version i.bulk c.args.self.now c.args.path.now c.self.invariant
+    c.cells.ensures c.self.view_is c.in-None.ensures.place
 
 pub returns-in-None-clause-fits : goal.returns-in-None-clause-fits
 returns-in-None-clause-fits c = λ t found.

@@ -5,24 +5,31 @@ use Rattle.hive_edit.proofs.hive.HiveBytes.take_named.Goals as goal
 pub take_out-requires : goal.take_out-requires
 take_out-requires c =
     let i = c.self.inside in
-    hive_can_take i.cells i.root i.version i.bulk c.args.self.now c.args.path.now c.args.name.now c.args.key c.args.value c.self.invariant c.self.view_is
+    hive_can_take i.cells i.root i.version i.bulk c.args.self.now c.args.path.now c.args.name.now c.args.key
+    c.args.value c.self.invariant c.self.view_is
     c.requires.key c.requires.value
 
 pub invariant_of-self : goal.invariant_of-self
 invariant_of-self c =
     let i = c.self.inside in
-    (is_unset i.cells c.take_out.new.heap i.root i.version i.bulk c.args.bulk c.args.self.now c.args.path.now c.args.name.now c.args.key c.args.value
-    c.self.invariant c.self.view_is c.requires.key c.requires.value c.take_out.ensures c.are_bytes.ensures c.requires.bulk).hive
+    (is_unset i.cells c.take_out.new.heap i.root i.version i.bulk c.args.bulk c.args.self.now c.args.path.now
+    c.args.name.now c.args.key c.args.value
+    c.self.invariant c.self.view_is c.requires.key c.requires.value c.take_out.ensures c.are_bytes.ensures
+    c.requires.bulk).hive
 
 pub returns-clause-stepped : goal.returns-clause-stepped
 returns-clause-stepped c =
     let i = c.self.inside in
-    (is_unset i.cells c.take_out.new.heap i.root i.version i.bulk c.args.bulk c.args.self.now c.args.path.now c.args.name.now c.args.key c.args.value
-    c.self.invariant c.self.view_is c.requires.key c.requires.value c.take_out.ensures c.are_bytes.ensures c.requires.bulk).stepped
+    (is_unset i.cells c.take_out.new.heap i.root i.version i.bulk c.args.bulk c.args.self.now c.args.path.now
+    c.args.name.now c.args.key c.args.value
+    c.self.invariant c.self.view_is c.requires.key c.requires.value c.take_out.ensures c.are_bytes.ensures
+    c.requires.bulk).stepped
 
 pub returns-clause-bulk : goal.returns-clause-bulk
 returns-clause-bulk c =
     let i = c.self.inside in
     stepped_bulk c.args.self.now c.take_out.new.heap i.root i.version c.args.bulk _
-    (is_unset i.cells c.take_out.new.heap i.root i.version i.bulk c.args.bulk c.args.self.now c.args.path.now c.args.name.now c.args.key c.args.value
-    c.self.invariant c.self.view_is c.requires.key c.requires.value c.take_out.ensures c.are_bytes.ensures c.requires.bulk)
+    (is_unset i.cells c.take_out.new.heap i.root i.version i.bulk c.args.bulk c.args.self.now c.args.path.now
+    c.args.name.now c.args.key c.args.value
+    c.self.invariant c.self.view_is c.requires.key c.requires.value c.take_out.ensures c.are_bytes.ensures
+    c.requires.bulk)

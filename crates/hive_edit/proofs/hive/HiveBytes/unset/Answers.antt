@@ -13,9 +13,11 @@ returns-then-bulk-gt-MOST_BULK-clause-made c =
 
 pub returns-clause-made : goal.returns-clause-made
 returns-clause-made c =
-    stepped_edit c.args.self.now c.take_named.new.self (delete_value c.args.path.now c.args.name.now) c.take_named.ensures.stepped
+    stepped_edit c.args.self.now c.take_named.new.self (delete_value c.args.path.now c.args.name.now)
+    c.take_named.ensures.stepped
     (omega (arith, c.take_named.ensures.bulk, c.if-bulk-gt-MOST_BULK.false))
 
 pub returns-clause-done : goal.returns-clause-done
 returns-clause-done c =
-    stepped_kept c.args.self.now c.take_named.new.self (delete_value c.args.path.now c.args.name.now) c.take_named.ensures.stepped
+    stepped_kept c.args.self.now c.take_named.new.self (delete_value c.args.path.now c.args.name.now)
+    c.take_named.ensures.stepped

@@ -1,4 +1,4 @@
-use Rattle.std.proofs.Common.{sym, ap, ◌∙◌}
+use Rattle.std.proofs.Common.{ap, ◌∙◌}
 use Rattle.std.specs.Option.{option_and_then}
 use Rattle.hive_model.specs.Bins.{look_up}
 use Rattle.hive_edit.specs.Places.{value_place}
@@ -15,11 +15,13 @@ pub returns-in-None : goal.returns-in-None
 returns-in-None c =
     let i = c.self.inside in
     ap (option_and_then (value_place (look_up i.version c.cells.result.now) c.args.name.now)) c.in-None.ensures.place
-    ∙ value_seen i.cells c.cells.result.now i.root i.version c.args.self.now c.args.path.now c.args.name.now c.cells.ensures c.self.view_is
+    ∙ value_seen i.cells c.cells.result.now i.root i.version c.args.self.now c.args.path.now c.args.name.now
+    c.cells.ensures c.self.view_is
 
 pub returns-in-Some : goal.returns-in-Some
 returns-in-Some c =
     let i = c.self.inside in
     c.value_at.ensures.place
     ∙ ap (option_and_then (value_place (look_up i.version c.cells.result.now) c.args.name.now)) c.in-Some.ensures.place
-    ∙ value_seen i.cells c.cells.result.now i.root i.version c.args.self.now c.args.path.now c.args.name.now c.cells.ensures c.self.view_is
+    ∙ value_seen i.cells c.cells.result.now i.root i.version c.args.self.now c.args.path.now c.args.name.now
+    c.cells.ensures c.self.view_is

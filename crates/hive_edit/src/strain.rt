@@ -1,0 +1,106 @@
+//! How much of the strain a step takes at the least, once it is made.
+
+ghost use Rattle.std.specs.Prelude.{◌≡◌, ◌≤◌, ◌*◌, ◌/◌, Ok};
+ghost use Rattle.hive_model.specs.KeyNode.{KeyNode, key_node_at};
+ghost use Rattle.hive_model.specs.Size.{bulk_of};
+ghost use Rattle.hive_model.specs.Walk.{reading};
+ghost use Rattle.reg_tree.specs.Makes.{step_of};
+ghost use Rattle.hive_edit.specs.Places.{IsKeyAt};
+ghost use Rattle.hive_edit.specs.Sources.{cells_of};
+ghost use Rattle.hive_edit.specs.Stepped.{IsStepped};
+ghost use Rattle.hive_edit.specs.Steps.{IsLeastRoom, children_in, values_in};
+ghost use Rattle.hive_edit.specs.Hive.{HiveCells};
+
+use crate::adding::above_at;
+use crate::hive::HiveBytes;
+use crate::path::key_at;
+use crate::source::{Source, payload};
+use nt_bytes::{Names, u32_at};
+use reg_tree::TreeStep;
+
+/// How many values the key at an offset has.
+fn values_at(cells: &Source, at: u32) -> u32
+    requires { IsKeyAt (cells_of cells.now) at }
+    ensures { (n : KeyNode) → reading key_node_at (cells_of cells.now) at ≡ Ok n → result ≡ n.value_count }
+{
+    let node = payload(cells, at);
+    u32_at(node, 36)
+}
+
+impl HiveBytes {
+    /// How many values the key at a path has; none where no key is.
+    fn value_count(&self, path: &Names) -> u32
+        ensures { result ≡ values_in path.now self.now.tree }
+    {
+        let source = Source {
+            heap: self.cells.cells(),
+            version: self.version,
+        };
+        match key_at(&source, self.root, path) {
+            Some(at) => values_at(&source, at),
+            None => 0,
+        }
+    }
+
+    /// How many children the key at a path has; none where no key is.
+    fn child_count(&self, path: &Names) -> u32
+        ensures { result ≡ children_in path.now self.now.tree }
+    {
+        let source = Source {
+            heap: self.cells.cells(),
+            version: self.version,
+        };
+        match key_at(&source, self.root, path) {
+            Some(at) => above_at(&source, at).count,
+            None => 0,
+        }
+    }
+
+    /// The room that the value list of the key at a path needs at the least.
+    fn value_room(&self, path: &Names) -> u64
+        ensures { result ≡ 4 * values_in path.now self.now.tree }
+    {
+        let count = self.value_count(path);
+        4 * u64::from(count)
+    }
+
+    /// The room that the lists of the key at a path need at the least.
+    fn list_room(&self, path: &Names) -> u64
+        ensures { result ≡ children_in path.now self.now.tree / 500 * 4096 }
+    {
+        let count = self.child_count(path);
+        u64::from(count) / 500 * 4096
+    }
+
+    /// The room that making a key below this one took at the least, where the bulk before it is given: none where the key
+    /// was there.
+    fn made_room(&self, parent: &Names, before: u64) -> u64
+        ensures none { before ≡ bulk_of self.now.version self.now.tree → result ≡ 0 }
+        ensures some { result ≤ children_in parent.now self.now.tree / 500 * 4096 }
+    {
+        if self.bulk() == before {
+            return 0;
+        }
+        self.list_room(parent)
+    }
+
+    /// The room that a step took which was made, at the least: of the list that it wrote anew. The bulk before it is given.
+    pub(crate) fn least_room(&self, step: &TreeStep, before: u64) -> u64
+        ensures { (old : HiveCells) → IsStepped old (step_of step.now) self.now → before ≡ bulk_of old.version old.tree
+            → IsLeastRoom old (step_of step.now) self.now result }
+    {
+        match step {
+            TreeStep::SetValue {
+                path,
+                name: _,
+                kind: _,
+                bytes: _,
+            } => self.value_room(path),
+            TreeStep::DeleteValue { path, name: _ } => self.value_room(path),
+            TreeStep::MakeKey { parent, name: _ } => self.made_room(parent, before),
+            TreeStep::DeleteKey { path: _ } => 0,
+            TreeStep::CopyChild { from: _, to: _ } => 0,
+            TreeStep::AddChild { name: _, key: _ } => 0,
+        }
+    }
+}
