@@ -2,10 +2,10 @@
 use Rattle.std.proofs.Common.{◌≡◌, ◌≤◌, ◌<◌, ℕ, ◌+◌, ◌*◌, ◌/◌, ◌%◌, Bool, true, false, cond, List, [], ◌∷◌, ◌++◌, length, replicate, Option, Some, None, Ok, Err, inl, inr, refl, sym, ap, subst, ◌∙◌, arith}
 use Rattle.std.specs.Prelude.{◌==◌, nat_lt, min}
 use Rattle.std.specs.Option.{is_none, option_map_or}
-use Rattle.std.proofs.lemmas.Bool.{cases_Bool, cases_lt, both_ways, eqb-true, le-ltb, lt-ltb, ne_eqb}
+use Rattle.std.proofs.lemmas.Bool.{cases_Bool, cases_lt, both_ways, le-ltb, lt-ltb, ne_eqb}
 use Rattle.nt_bytes.specs.declared.version.HiveVersion.{HiveVersion}
 use Rattle.hive_model.specs.Bins.{Bin, bins_size, look_up}
-use Rattle.hive_model.specs.Edit.{Step, Refusal, no_key, too_deep, name_tests, has_child, unless, set_value, delete_value, make_key, after_step}
+use Rattle.hive_model.specs.Edit.{Step, Refusal, no_key, too_deep, name_tests, has_child, unless, set_value, make_key, after_step}
 use Rattle.hive_model.specs.Valid.{deepest_level}
 use Rattle.hive_model.specs.Footprint.{has_key, key_place, value_list_sizes, value_list_sizes_in, named_value_sizes_in, list_sizes, list_sizes_in, key_sizes_in, added_sizes_in, needed_sizes, room_of, strain_of}
 use Rattle.hive_model.specs.KeyNode.{KeyNode, key_node_at}
@@ -89,12 +89,21 @@ children_seen bins root version bulk h path x n is view e read =
 room_front : (xs ys : List ℕ) → room_of xs ≤ room_of (xs ++ ys)
 room_front xs ys = room_some xs (xs ++ ys) (some_left xs ys)
 
-values_least : (n : ℕ) → 4 * n ≤ room_of (value_list_sizes n)
-values_least n = elim (cases_Bool (n == 0)) [
-  | inl none ↦ let z : n ≡ 0 = eqb-true n 0 none in omega (arith, z)
-  | inr some_values ↦ subst (λ (l : List ℕ). 4 * n ≤ room_of l) (sym (one_list some_values))
-      (let one = room_next (cell (4 * n)) [] in long (room_of (cell (4 * n) ∷ [])) one)
-]
+-- a cell has a page of room at the least
+page : (size : ℕ) → 4096 ≤ rounded (cell size + 32)
+page size = omega arith
+
+-- the room of a list is at least a page, and at least so much
+pub record HasRoom (size room : ℕ) : Type 0 where
+  pub page : 4096 ≤ room
+  pub least : size ≤ room
+
+values_least : (n : ℕ) → (n ≡ 0 → ⊥) → HasRoom (4 * n) (room_of (value_list_sizes n))
+values_least n some_values =
+    subst (λ (l : List ℕ). HasRoom (4 * n) (room_of l)) (sym (one_list (ne_eqb n 0 some_values)))
+    (let one = room_next (cell (4 * n)) [] in
+    let p = page (4 * n) in
+    record { page = omega (arith, one, p); least = long (room_of (cell (4 * n) ∷ [])) one })
   where
     one_list : (n == 0) ≡ false → value_list_sizes n ≡ cell (4 * n) ∷ []
     one_list a = λ i. cond (a i) [] (cell (4 * n) ∷ [])
@@ -102,23 +111,26 @@ values_least n = elim (cases_Bool (n == 0)) [
     long : (w : ℕ) → w ≡ rounded (cell (4 * n) + 32) + 0 → 4 * n ≤ w
     long w e = omega (arith, e)
 
-lists_least : (n : ℕ) → n / 500 * 4096 ≤ room_of (list_sizes n)
+lists_least : (n : ℕ) → (n ≡ 0 → ⊥) → HasRoom (n / 500 * 4096) (room_of (list_sizes n))
 unfolding list_sizes
-lists_least n = elim (cases_lt n 501) [
-  | inl few ↦ elim (cases_Bool (n == 0)) [
-    | inl none ↦ let z : n ≡ 0 = eqb-true n 0 none in omega (arith, z)
-    | inr some_children ↦ subst (λ (l : List ℕ). n / 500 * 4096 ≤ room_of l)
-        (sym (one_list some_children (lt-ltb n 501 few)))
-        (let one = room_next (cell (4 + 8 * n)) [] in short (room_of (cell (4 + 8 * n) ∷ [])) one few)
-  ]
-  | inr many ↦ subst (λ (l : List ℕ). n / 500 * 4096 ≤ room_of l)
-      (sym (lists (ne_eqb n 0 (λ e. omega (arith, e, many))) (le-ltb n 501 many)))
+lists_least n some_children = elim (cases_lt n 501) [
+  | inl few ↦ subst (λ (l : List ℕ). HasRoom (n / 500 * 4096) (room_of l))
+      (sym (one_list (ne_eqb n 0 some_children) (lt-ltb n 501 few)))
+      (let one = room_next (cell (4 + 8 * n)) [] in
+      let p = page (4 + 8 * n) in
+      record { page = omega (arith, one, p); least = short (room_of (cell (4 + 8 * n) ∷ [])) one few })
+  | inr many ↦ subst (λ (l : List ℕ). HasRoom (n / 500 * 4096) (room_of l))
+      (sym (lists (ne_eqb n 0 some_children) (le-ltb n 501 many)))
       (let one = room_next (cell (4 + 4 * part_count n)) (full ++ rest) in
       let two = room_both full rest in
       let three = room_alike (n / 500) in
-      long (room_of (cell (4 + 4 * part_count n) ∷ (full ++ rest))) (rounded (cell (4 + 4 * part_count n) + 32))
-      (room_of (full ++ rest))
-      (room_of full) (room_of rest) one two three)
+      let p = page (4 + 4 * part_count n) in
+      record {
+        page = omega (arith, one, p);
+        least = long (room_of (cell (4 + 4 * part_count n) ∷ (full ++ rest)))
+            (rounded (cell (4 + 4 * part_count n) + 32))
+            (room_of (full ++ rest)) (room_of full) (room_of rest) one two three;
+      })
 ]
   where
     full : List ℕ
@@ -142,31 +154,34 @@ lists_least n = elim (cases_lt n 501) [
 
 -- ---- what a step needs at the least
 
-pub values_found : (path : List (List ℕ)) (t : Tree) → 4 * values_in path t ≤ room_of (value_list_sizes_in path t)
-values_found path t = go (find_key path t)
-  where
-    go : (o : Option Tree) → 4 * option_map_or (λ (k : Tree). length (head k).values) o 0 ≤ room_of
-        (option_map_or (λ (k : Tree). value_list_sizes (length (head k).values)) o [])
-    go None = omega arith
-    go (Some k) = values_least (length (head k).values)
+some_count : (a b : ℕ) → a ≡ b → (a ≡ 0 → ⊥) → b ≡ 0 → ⊥
+some_count a b e none z = none (e ∙ z)
 
-lists_found : (path : List (List ℕ)) (t : Tree) → children_in path t / 500 * 4096 ≤ room_of (list_sizes_in path t)
-lists_found path t = go (find_key path t)
+pub values_found : (path : List (List ℕ)) (t : Tree) (n : ℕ) → n ≡ values_in path t → (n ≡ 0 → ⊥)
+    → HasRoom (4 * n) (room_of (value_list_sizes_in path t))
+values_found path t n e none = go (find_key path t) e
   where
-    go : (o : Option Tree) → option_map_or (λ (k : Tree). length (children k)) o 0 / 500 * 4096 ≤ room_of
-        (option_map_or (λ (k : Tree). list_sizes (length (children k))) o [])
-    go None = omega arith
-    go (Some k) = lists_least (length (children k))
+    go : (o : Option Tree) → n ≡ option_map_or (λ (k : Tree). length (head k).values) o 0
+        → HasRoom (4 * n) (room_of (option_map_or (λ (k : Tree). value_list_sizes (length (head k).values)) o []))
+    go None h = absurd (none h)
+    go (Some k) h = subst (λ (m : ℕ). HasRoom (4 * m) (room_of (value_list_sizes (length (head k).values)))) (sym h)
+        (values_least (length (head k).values) (some_count n (length (head k).values) h none))
 
-pub set_least : (h g : HiveCells) (path : List (List ℕ)) (name : List ℕ) (kind : ℕ) (bytes : List ℕ)
-    → IsLeastRoom h (set_value path name kind bytes) g (4 * values_in path g.tree)
-set_least h g path name kind bytes =
+pub lists_found : (path : List (List ℕ)) (t : Tree) (n : ℕ) → n ≡ children_in path t → (n ≡ 0 → ⊥)
+    → HasRoom (n / 500 * 4096) (room_of (list_sizes_in path t))
+lists_found path t n e none = go (find_key path t) e
+  where
+    go : (o : Option Tree) → n ≡ option_map_or (λ (k : Tree). length (children k)) o 0
+        → HasRoom (n / 500 * 4096) (room_of (option_map_or (λ (k : Tree). list_sizes (length (children k))) o []))
+    go None h = absurd (none h)
+    go (Some k) h = subst (λ (m : ℕ). HasRoom (m / 500 * 4096) (room_of (list_sizes (length (children k))))) (sym h)
+        (lists_least (length (children k)) (some_count n (length (children k)) h none))
+
+pub set_least : (h g : HiveCells) (path : List (List ℕ)) (name : List ℕ) (kind : ℕ) (bytes : List ℕ) (room : ℕ)
+    → room ≤ room_of (value_list_sizes_in path g.tree) → IsLeastRoom h (set_value path name kind bytes) g room
+set_least h g path name kind bytes room least =
     let front = room_front (value_list_sizes_in path g.tree) (named_value_sizes_in h.version path name g.tree) in
-    let least = values_found path g.tree in omega (arith, front, least)
-
-pub delete_least : (h g : HiveCells) (path : List (List ℕ)) (name : List ℕ)
-    → IsLeastRoom h (delete_value path name) g (4 * values_in path g.tree)
-delete_least h g path name = values_found path g.tree
+    omega (arith, front, least)
 
 -- where the tests pass, the result is the tree that they guard
 made_is : (tests : List (Bool × Refusal)) (x u : Tree) → unless tests x ≡ the_tree u → x ≡ u
@@ -196,7 +211,7 @@ made_again parent name t u has e =
 pub made_least : (h g : HiveCells) (parent : List (List ℕ)) (name : List ℕ) (before room : ℕ)
     → IsStepped h (make_key parent name) g
     → before ≡ bulk_of h.version h.tree → (before ≡ bulk_of g.version g.tree → room ≡ 0)
-    → room ≤ children_in parent g.tree / 500 * 4096
+    → room ≤ room_of (list_sizes_in parent g.tree)
     → IsLeastRoom h (make_key parent name) g room
 made_least h g parent name before room s bulk none most = elim (cases_Bool (has_key parent name h.tree)) [
   | inl has ↦
@@ -208,14 +223,12 @@ made_least h g parent name before room s bulk none most = elim (cases_Bool (has_
       let needs : needed_sizes h.version h.tree (make_key parent name) g.tree ≡ all =
       ap (λ (b : Bool). cond b [] all) new in
       let front = room_front (list_sizes_in parent g.tree) (key_sizes_in h.version parent name g.tree) in
-      let least = lists_found parent g.tree in
       subst (λ (l : List ℕ). room ≤ room_of l) (sym needs)
-      (below room (children_in parent g.tree / 500 * 4096) (room_of (list_sizes_in parent g.tree)) (room_of all)
-      most least front)
+      (below room (room_of (list_sizes_in parent g.tree)) (room_of all) most front)
 ]
   where
-    below : (a b c d : ℕ) → a ≤ b → b ≤ c → c ≤ d → a ≤ d
-    below a b c d x y z = omega (arith, x, y, z)
+    below : (a b c : ℕ) → a ≤ b → b ≤ c → a ≤ c
+    below a b c x y = omega (arith, x, y)
 
 -- ---- the strain of all
 

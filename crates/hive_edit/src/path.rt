@@ -8,7 +8,7 @@ ghost use Rattle.hive_edit.specs.Sources.{cells_of};
 
 use crate::source::{Source, payload};
 use key_index::find_child;
-use nt_bytes::{Names, u32_at};
+use nt_bytes::{Names, Units, u32_at};
 
 /// The offset of the child that has a name, of the key at an offset.
 pub(crate) fn child_at(cells: &Source, at: u32, name: &[u16]) -> Option<u32>
@@ -28,8 +28,17 @@ pub(crate) fn key_at(cells: &Source, root: u32, path: &Names) -> Option<u32>
     ensures place { result ≡ key_place (cells_of cells.now) path.now root }
     ensures stands { IfSome result (IsKeyAt (cells_of cells.now)) }
 {
+    key_along(cells, root, path.as_slice())
+}
+
+/// The same, along these names.
+pub(crate) fn key_along(cells: &Source, root: u32, path: &[Units]) -> Option<u32>
+    requires { IsKeyAt (cells_of cells.now) root }
+    ensures place { result ≡ key_place (cells_of cells.now) path.now root }
+    ensures stands { IfSome result (IsKeyAt (cells_of cells.now)) }
+{
     let mut at = root;
-    let mut rest = path.as_slice();
+    let mut rest = path;
     'path: loop {
         let [name, more @ ..] = rest else {
             return Some(at);

@@ -1,6 +1,7 @@
 //! How much of the strain a step takes at the least, once it is made.
 
-ghost use Rattle.std.specs.Prelude.{◌≡◌, ◌≤◌, ◌*◌, ◌/◌, Ok};
+ghost use Rattle.std.specs.Prelude.{◌≡◌, ◌≤◌, Ok};
+ghost use Rattle.hive_model.specs.Footprint.{list_sizes_in, parent_of, room_of, value_list_sizes_in};
 ghost use Rattle.hive_model.specs.KeyNode.{KeyNode, key_node_at};
 ghost use Rattle.hive_model.specs.Size.{bulk_of};
 ghost use Rattle.hive_model.specs.Walk.{reading};
@@ -13,10 +14,13 @@ ghost use Rattle.hive_edit.specs.Hive.{HiveCells};
 
 use crate::adding::above_at;
 use crate::hive::HiveBytes;
-use crate::path::key_at;
+use crate::path::{key_along, key_at};
 use crate::source::{Source, payload};
-use nt_bytes::{Names, u32_at};
+use nt_bytes::{Names, Units, u32_at};
 use reg_tree::TreeStep;
+
+/// A page of bins data, in bytes: no cell has less room by itself.
+const PAGE: u64 = 4096;
 
 /// How many values the key at an offset has.
 fn values_at(cells: &Source, at: u32) -> u32
@@ -42,46 +46,63 @@ impl HiveBytes {
         }
     }
 
-    /// How many children the key at a path has; none where no key is.
-    fn child_count(&self, path: &Names) -> u32
+    /// How many children the key along these names has; none where no key is.
+    fn child_count(&self, path: &[Units]) -> u32
         ensures { result ≡ children_in path.now self.now.tree }
     {
         let source = Source {
             heap: self.cells.cells(),
             version: self.version,
         };
-        match key_at(&source, self.root, path) {
+        match key_along(&source, self.root, path) {
             Some(at) => above_at(&source, at).count,
             None => 0,
         }
     }
 
-    /// The room that the value list of the key at a path needs at the least.
+    /// The room that the value list of the key at a path needs at the least: a page, and what it has.
     fn value_room(&self, path: &Names) -> u64
-        ensures { result ≡ 4 * values_in path.now self.now.tree }
+        ensures { result ≤ room_of (value_list_sizes_in path.now self.now.tree) }
     {
         let count = self.value_count(path);
-        4 * u64::from(count)
+        if count == 0 {
+            return 0;
+        }
+        let size = 4 * u64::from(count);
+        if size < PAGE { PAGE } else { size }
     }
 
-    /// The room that the lists of the key at a path need at the least.
-    fn list_room(&self, path: &Names) -> u64
-        ensures { result ≡ children_in path.now self.now.tree / 500 * 4096 }
+    /// The room that the lists of the key along these names need at the least: a page, and one for each full list.
+    fn list_room(&self, path: &[Units]) -> u64
+        ensures { result ≤ room_of (list_sizes_in path.now self.now.tree) }
     {
         let count = self.child_count(path);
-        u64::from(count) / 500 * 4096
+        if count == 0 {
+            return 0;
+        }
+        let size = u64::from(count) / 500 * PAGE;
+        if size < PAGE { PAGE } else { size }
+    }
+
+    /// The room that the lists of the key above a path need at the least.
+    fn list_room_above(&self, path: &Names) -> u64
+        ensures { result ≤ room_of (list_sizes_in (parent_of path.now) self.now.tree) }
+    {
+        let names = path.as_slice();
+        let above = names.len().saturating_sub(1);
+        self.list_room(&names[..above])
     }
 
     /// The room that making a key below this one took at the least, where the bulk before it is given: none where the key
     /// was there.
     fn made_room(&self, parent: &Names, before: u64) -> u64
         ensures none { before ≡ bulk_of self.now.version self.now.tree → result ≡ 0 }
-        ensures some { result ≤ children_in parent.now self.now.tree / 500 * 4096 }
+        ensures some { result ≤ room_of (list_sizes_in parent.now self.now.tree) }
     {
         if self.bulk() == before {
             return 0;
         }
-        self.list_room(parent)
+        self.list_room(parent.as_slice())
     }
 
     /// The room that a step took which was made, at the least: of the list that it wrote anew. The bulk before it is given.
@@ -98,7 +119,7 @@ impl HiveBytes {
             } => self.value_room(path),
             TreeStep::DeleteValue { path, name: _ } => self.value_room(path),
             TreeStep::MakeKey { parent, name: _ } => self.made_room(parent, before),
-            TreeStep::DeleteKey { path: _ } => 0,
+            TreeStep::DeleteKey { path } => self.list_room_above(path),
             TreeStep::CopyChild { from: _, to: _ } => 0,
             TreeStep::AddChild { name: _, key: _ } => 0,
         }

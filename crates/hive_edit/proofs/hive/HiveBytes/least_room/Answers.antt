@@ -1,5 +1,10 @@
-use Rattle.hive_edit.proofs.StrainedLemmas.{made_least}
+use Rattle.hive_edit.proofs.StrainedLemmas.{made_least, set_least}
 use Rattle.hive_edit.proofs.hive.HiveBytes.least_room.Goals as goal
+
+pub returns-in-SetValue : goal.returns-in-SetValue
+returns-in-SetValue c = rw c.in-SetValue.is (λ old made bulk.
+    set_least old c.args.self.now c.in-SetValue.path c.in-SetValue.name c.in-SetValue.kind c.in-SetValue.bytes
+    c.value_room.result c.value_room.ensures)
 
 pub returns-in-MakeKey : goal.returns-in-MakeKey
 returns-in-MakeKey c = rw c.in-MakeKey.is (λ old made bulk.

@@ -1,7 +1,7 @@
 use Rattle.std.proofs.Common.{◌∙◌}
 use Rattle.hive_edit.specs.Sources.{cells_of}
 use Rattle.hive_edit.proofs.PlaceLemmas.{place_end}
-use Rattle.hive_edit.proofs.path.key_at.Goals as goal
+use Rattle.hive_edit.proofs.path.key_along.Goals as goal
 
 pub returns-in_default : goal.returns-in_default
 returns-in_default c = record {
