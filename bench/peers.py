@@ -255,11 +255,26 @@ TOOLS = {
 # ---- hives that runs begin with
 
 
+def listed(bins, at):
+    """The offsets of the keys in the list at an offset, and in the lists that it lists."""
+    sign, count = struct.unpack_from("<2sH", bins, at + 4)
+    step = 8 if sign in (b"lf", b"lh") else 4
+    offsets = [struct.unpack_from("<I", bins, at + 8 + step * i)[0] for i in range(count)]
+    return [key for part in offsets for key in listed(bins, part)] if sign == b"ri" else offsets
+
+
 def as_read_by_tools(hive, minor):
-    """The hive in a version, its root marked as one, without which reglookup finds none."""
+    """The hive in a version, its root marked as one, without which reglookup finds none, and each node naming the one above it, which
+    hivexsh and hivexregedit ask for. Edits in place leave other nodes as they are."""
     root, size = struct.unpack_from("<II", hive, 36)
     bins = bytearray(hive[4096:])
     bins[root + 6] |= 0x0C
+    above = [root]
+    for key in above:
+        if struct.unpack_from("<I", bins, key + 24)[0]:
+            for child in listed(bins, struct.unpack_from("<I", bins, key + 32)[0]):
+                struct.pack_into("<I", bins, child + 20, key)
+                above.append(child)
     return hives.base_block(size, root, minor=minor) + bytes(bins)
 
 
