@@ -12,6 +12,7 @@ import tempfile
 
 sys.path.insert(0, os.path.dirname(os.path.abspath(__file__)))
 import hives
+from peers import as_read_by_tools
 from timing import used
 
 TRIES = 3
@@ -99,10 +100,9 @@ def export_times(program, room):
     write(room, "half", half)
     other, _ = least([program, "export", "--hive", "half", "--reg", "half.reg"], room)
     print(f"export of {len(half)} bytes: {other:.2f} s")
-    # hivexregedit wants each key's parent in its node, which packing writes: so a key with a value is imported first.
-    write(room, "one.reg", text_of([f"[{PREFIX}\\One]", '"Start"=dword:00000001', ""]))
-    least([program, "import", "--hive", "large", "--reg", "one.reg", "--save-hive", "packed"], room)
-    for words in (["reged", "-x", "packed", PREFIX, "\\", "reged.reg"], ["hivexregedit", "--export", "--prefix", PREFIX, "packed", "\\"]):
+    # hivexregedit wants each key's parent in its node.
+    write(room, "linked", as_read_by_tools(hives.with_services(40_000), 3))
+    for words in (["reged", "-x", "linked", PREFIX, "\\", "reged.reg"], ["hivexregedit", "--export", "--prefix", PREFIX, "linked", "\\"]):
         if shutil.which(words[0]):
             print(f"{words[0]}: {by_peer(words, room)}; export: {took:.2f} s")
 
