@@ -35,7 +35,8 @@ pub no_some : (o : Option (List ℕ)) (q : List ℕ) → o ≡ None → o ≡ so
 no_some None q e f = absurd cc
 no_some (Some x) q e f = absurd cc
 
--- From cells b a node is put into a cell that was none (m), new lists name it (l), and the parent's node and its security say so (c).
+-- From cells b a node is put into a cell that was none (m), new lists name it (l), and the parent's node and its
+-- security say so (c).
 pub record Adds (b m l c : Cells) (root : ℕ) (t : Tree) (p : List (List ℕ)) (x : ℕ) (k : Tree) (n : KeyNode)
     (name : List ℕ) (y list : ℕ) (front back : List ℕ) : Type 0 where
   pub parent : IsParent b root t p x k n

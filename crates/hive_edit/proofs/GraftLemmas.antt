@@ -33,8 +33,8 @@ use Rattle.hive_edit.proofs.ParentLemmas.{Keeps, IsParent, parent_held, list_no_
 use Rattle.hive_edit.proofs.PlacedLemmas.{entries_held}
 use Rattle.hive_edit.proofs.GraftRuns.{IsFormed, KeepsRange, still_stands, still_uses}
 
--- From cells b the run of a key is put into cells that were none (m), new lists name it (l), and the root's node and the security that
--- the key shares say so (c).
+-- From cells b the run of a key is put into cells that were none (m), new lists name it (l), and the root's node and
+-- the security that the key shares say so (c).
 pub record Grafts (b m l c : Cells) (root : ℕ) (t : Tree) (n : KeyNode) (k : Tree) (y size sp list : ℕ) (s : List ℕ)
     (front back : List ℕ) : Type 0 where
   pub parent : IsParent b root t [] root t n

@@ -49,13 +49,3 @@ none_share (b ∷ s) k e = absurd (omega (arith, e))
 pub some_share : (s : List ℕ) (k : Tree) → 0 < length s → sharers s k ≡ sharing s k
 some_share [] k lt = absurd (omega (arith, lt))
 some_share (b ∷ s) k lt = refl
-
--- ---- by a flag
-
-pub where_done : (A B : Type 0) (d : Bool) → d ≡ true → MatchBool d A B → A
-where_done A B true e h = h
-where_done A B false e h = absurd cc
-
-pub where_undone : (A B : Type 0) (d : Bool) → d ≡ false → MatchBool d A B → B
-where_undone A B true e h = absurd cc
-where_undone A B false e h = h

@@ -1,4 +1,5 @@
--- The run of a key and of all below it, put into cells: it stands there, and what it uses is in the run, or the security that it shares.
+-- The run of a key and of all below it, put into cells: it stands there, and what it uses is in the run, or the
+-- security that it shares.
 use Rattle.std.proofs.Common.{◌≡◌, ◌≤◌, ◌<◌, ◌⊎◌, inl, inr, ⊎_elim, ℕ, ◌+◌, Bool, true, List, [], ◌∷◌, length, map, Option, Some, None, Result, Ok, refl, sym, ap, subst, ◌∙◌, arith}
 use Rattle.nt_bytes.specs.declared.fault.HiveKind.{HiveKind}
 use Rattle.nt_bytes.specs.declared.version.HiveVersion.{HiveVersion}
@@ -115,7 +116,8 @@ run_there version up at k run old mid e few put = record {
 
 -- ---- the key stands there
 
--- A key and all below it are well-formed cells in a range, where they use each once; but for a cell of security beside it.
+-- A key and all below it are well-formed cells in a range, where they use each once; but for a cell of security
+-- beside it.
 pub record IsFormed (m : Cells) (at size : ℕ) (k : Tree) (sp : ℕ) : Type 0 where
   pub well : IsWellFormed m at k
   pub uses : (left o : ℕ) (s : Bool) → levels k ≤ left → In (tree_uses left m at) (o, s)

@@ -1,4 +1,5 @@
--- The node of a new key is read as it was spelled, and a cell of security that counts one key more keeps its descriptor.
+-- The node of a new key is read as it was spelled, and a cell of security that counts one key more keeps its
+-- descriptor.
 use Rattle.std.proofs.Common.{◌≡◌, ◌≤◌, ◌<◌, ◌+◌, ◌^◌, ℕ, zero, suc, Bool, true, false, List, [], ◌∷◌, ◌++◌, length, Result, Ok, Err, refl, ap, ◌∙◌, arith}
 use Rattle.std.specs.Prelude.{nat_lt, ◌==◌, slice_range, slice_index, if◌then◌else◌}
 use Rattle.std.specs.List.{list_any, list_all}

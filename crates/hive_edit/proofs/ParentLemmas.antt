@@ -1,4 +1,5 @@
--- A key that is to get a child: its lists and its security are cells of their own, and all that is held stays where cells are kept.
+-- A key that is to get a child: its lists and its security are cells of their own, and all that is held stays where
+-- cells are kept.
 use Rattle.std.proofs.Common.{◌≡◌, ℕ, Bool, true, false, cond, List, [], ◌∷◌, ◌++◌, Result, Ok, refl, sym, ap, subst, ◌∙◌, inl, inr}
 use Rattle.std.specs.Prelude.{◌==◌, if◌then◌else◌}
 use Rattle.nt_bytes.specs.declared.fault.HiveKind.{HiveKind}

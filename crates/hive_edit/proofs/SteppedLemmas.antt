@@ -1,4 +1,5 @@
--- A step that is made on the cells of a hive, whatever the bulk of the tree then: what it tells of the edit of one step, and of steps in order.
+-- A step that is made on the cells of a hive, whatever the bulk of the tree then: what it tells of the edit of one
+-- step, and of steps in order.
 use Rattle.std.proofs.Common.{◌≡◌, ◌≤◌, ◌<◌, ◌⊎◌, ℕ, zero, suc, ◌+◌, Bool, true, false, cond, List, [], ◌∷◌, ◌++◌, length, map, take, drop, get_or, Option, Some, None, Result, Ok, Err, inr, refl, sym, ap, subst, ◌∙◌, arith}
 use Rattle.std.specs.Prelude.{nat_lt, MatchBool, OnOk}
 use Rattle.std.specs.Option.{IfSome}
@@ -343,7 +344,8 @@ stopped_strained front back step h mid made lacks = λ u e.
     let v = steps_made h.version h.tree u (front ++ step ∷ back) e in
     strained_behind front back step h mid v.0 made lacks v.1
 
--- an edit that packs the tree anew does so for want of room, where the strain of each edit that is made is over the limit
+-- an edit that packs the tree anew does so for want of room, where the strain of each edit that is made is over the
+-- limit
 pub packed_for_room : (h new : HiveCells) (steps : List Step) (r : Result (Unit {0}) EditStop) (P : Type 0)
     → Makes h.tree new.tree r (edited h.version h.tree steps)
     → OnOk r (IsPackedAnew new)

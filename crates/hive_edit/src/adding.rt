@@ -21,7 +21,7 @@ use crate::source::{Source, payload};
 use crate::unset::bins_fit;
 use hive_pack::{cell_size, list_len};
 use nt_bytes::{Names, u32_at, u64_at};
-use reg_tree::EditStop;
+use reg_tree::{EditStop, is_bad_name};
 use std::alloc::{AllocError, Global};
 
 /// Where a key may be made, and the bulk of the tree with it.
@@ -29,12 +29,6 @@ use std::alloc::{AllocError, Global};
 pub(crate) struct NewPlace {
     pub(crate) at: u32,
     pub(crate) bulk: u64,
-}
-
-fn is_bad_name(name: &[u16]) -> bool
-    ensures { result ≡ is_bad_name name.now }
-{
-    name.len() == 0 || name.contains(&0x5c)
 }
 
 /// The bulk of a tree in which a key of so many children gets one of this name.
@@ -76,7 +70,8 @@ fn stamp_at(cells: &Source, at: u32) -> u64
 impl HiveBytes {
     /// Where a key may be made, in the order of the book. `None` where it is there.
     fn open_place(&self, parent: &Names, name: &[u16]) -> Result<Option<u32>, EditStop>
-        ensures judged { MatchResult result (λ r. MatchOption r (IsStepped self.now (make_key parent.now name.now) self.now) (IsOpen self.now parent.now name.now))
+        ensures judged { MatchResult result
+            (λ r. MatchOption r (IsStepped self.now (make_key parent.now name.now) self.now) (IsOpen self.now parent.now name.now))
             (IsRefused (after_step (make_key parent.now name.now) self.now.tree)) }
     {
         let source = Source {

@@ -17,7 +17,7 @@ ghost use Rattle.hive_edit.specs.Sources.{cells_of};
 ghost use Rattle.hive_edit.specs.Stepped.{IsStepped, LacksStepRoom};
 
 use crate::adding::above_at;
-use crate::cells::place_for;
+use crate::cells::{are_bytes, place_for};
 use crate::grafting::graft_cells;
 use crate::hive::HiveBytes;
 use crate::making::Above;
@@ -27,39 +27,11 @@ use cell_forms::read_sk;
 use hive_cells::OpenHeap;
 use hive_pack::list_len;
 use nt_bytes::{Bytes, HiveVersion, ReadStop, Units};
-use reg_tree::{EditStop, Key};
+use reg_tree::{EditStop, Key, is_bad_name};
 use std::alloc::{AllocError, Global};
 
 /// An offset that names nothing.
 const NOWHERE: u32 = 0xffff_ffff;
-
-/// Whether a tree has more levels than this.
-#[cycle(is_deeper)]
-fn is_deeper(key: &Key, most: u32) -> bool
-    ensures { result ≡ nat_lt most (levels key.now) }
-{
-    if most == 0 {
-        return true;
-    }
-    are_deeper(key.subkeys(), most - 1)
-}
-
-/// Whether some of these trees has more levels than this.
-#[cycle(is_deeper)]
-fn are_deeper(keys: &[Key], most: u32) -> bool
-    ensures { result ≡ nat_lt most (most_levels (trees keys.now)) }
-{
-    let mut rest = keys;
-    'keys: loop {
-        let [key, more @ ..] = rest else {
-            return false;
-        };
-        if is_deeper(key, most) {
-            return true;
-        }
-        rest = more;
-    }
-}
 
 /// How many bytes a key takes less that shares its descriptor, than it takes with a cell of its own for it.
 fn spared(shared: &[u8], security: &[u8]) -> u64
@@ -129,27 +101,6 @@ pub(crate) fn offset_fits(at: u32)
     ensures { at < 2 ^ 32 }
 {}
 
-/// A new name may not be empty or have a backslash.
-fn is_bad_name(name: &[u16]) -> bool
-    ensures { result ≡ is_bad_name name.now }
-{
-    name.len() == 0 || name.contains(&0x5c)
-}
-
-/// What the bins data have are bytes.
-fn heap_bytes(heap: &OpenHeap)
-    ensures { (i : ℕ) → slice_index (spelled 0 heap.now) i < 256 }
-{
-    bytes_small(heap.bytes());
-}
-
-/// Bytes are small numbers.
-fn bytes_small(bytes: &[u8])
-    ensures { (i : ℕ) → slice_index bytes.now i < 256 }
-{
-    let _whole = bytes;
-}
-
 impl HiveBytes {
     /// Judges a name for a child of the root, in the order of the book.
     pub(crate) fn judge_name(&self, name: &[u16]) -> Result<(), EditStop>
@@ -209,7 +160,7 @@ impl HiveBytes {
         if !done {
             return Ok(false);
         }
-        heap_bytes(&self.cells);
+        are_bytes(&self.cells);
         self.bulk = bulk;
         Ok(true)
     }
@@ -270,7 +221,7 @@ impl HiveBytes {
             (IsRefused (after_step (add_child name.now key.now) self.old.tree)) }
     {
         let _cells = &self.cells;
-        if is_deeper(key, 511) {
+        if key.is_deeper(511) {
             return Err(EditStop::TooDeep);
         }
         let child = renamed(alloc, key, name)?;

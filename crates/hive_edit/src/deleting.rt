@@ -25,11 +25,8 @@ use crate::source::Source;
 use crate::uses::push_key;
 use hive_cells::OpenHeap;
 use nt_bytes::{HiveVersion, Names, Row};
-use reg_tree::{EditStop, Steps, TreeStep};
+use reg_tree::{EditStop, MOST_BULK, Steps, TreeStep};
 use std::alloc::{AllocError, Global};
-
-/// The greatest bulk of an edited tree, in bytes.
-const MOST_BULK: u64 = 16_773_120;
 
 /// Where a key is, and the key above it.
 #[derive(Clone, Copy)]
@@ -245,7 +242,8 @@ impl HiveBytes {
     /// Deletes the key that a path leads to, with all below it, whatever the bulk. `false` where there is no room for the
     /// lists of the key above without it; the hive is as before then, and after an `Err`.
     pub(crate) fn delete_key_step(&mut self, alloc: Global, path: &Names) -> Result<bool, EditStop>
-        ensures made { MatchResult result (λ done. MatchBool done (IsStepped self.old (delete_key path.now) self.new) (LacksStepRoom self.old (delete_key path.now)))
+        ensures made { MatchResult result
+            (λ done. MatchBool done (IsStepped self.old (delete_key path.now) self.new) (LacksStepRoom self.old (delete_key path.now)))
             (IsRefused (after_step (delete_key path.now) self.old.tree)) }
         ensures drops { result ≡ Ok true → DropsUses self.old path.now self.new }
         ensures kept { result ≡ Ok false → self.new ≡ self.old }
@@ -343,7 +341,8 @@ impl HiveBytes {
         ensures made { Makes self.old.tree self.new.tree result (edited self.old.version self.old.tree (delete_key path.now ∷ [])) }
         ensures refused { OnErr result (self.new ≡ self.old) }
         ensures version { self.new.version ≡ self.old.version }
-        ensures cells { OnOk result (IsEditedInPlace self.old (delete_key path.now ∷ []) self.new ⊎ IsPackedForRoom self.old (delete_key path.now ∷ []) self.new) }
+        ensures cells { OnOk result (IsEditedInPlace self.old (delete_key path.now ∷ []) self.new
+            ⊎ IsPackedForRoom self.old (delete_key path.now ∷ []) self.new) }
         ensures drops { OnOk result (DropsUses self.old path.now self.new ⊎ IsPackedForRoom self.old (delete_key path.now ∷ []) self.new) }
     {
         if self.delete_in_place(alloc, path)? {

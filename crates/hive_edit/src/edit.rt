@@ -25,11 +25,9 @@ use hive_cells::read_cells;
 use hive_pack::pack;
 use hive_read::read_tree;
 use nt_bytes::{Bytes, HiveVersion, Names, ReadStop, Row, Units};
-use reg_tree::{EditStop, Key, Steps, TreeStep};
+use reg_tree::{EditStop, Key, MOST_BULK, Steps, TreeStep};
 use std::alloc::{AllocError, Global};
-
-/// The greatest bulk of an edited tree, in bytes.
-const MOST_BULK: u64 = 16_773_120;
+use tree_draft::apply;
 
 /// The greatest number of bytes that a value's data have.
 const MOST_DATA: usize = 1_048_576;
@@ -111,7 +109,7 @@ impl HiveBytes {
             Err(ReadStop::Memory) => return Err(EditStop::Memory),
             Err(ReadStop::Fault(_)) => unreachable!(),
         };
-        tree.apply(alloc, steps, version)?;
+        apply(&mut tree, alloc, steps, version)?;
         of_packed(alloc, &tree, version)
     }
 

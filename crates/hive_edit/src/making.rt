@@ -6,7 +6,7 @@ ghost use Rattle.nt_bytes.specs.Fields.{u32_in};
 ghost use Rattle.hive_model.specs.Bins.{bins_size};
 ghost use Rattle.hive_model.specs.Footprint.{list_strain_of};
 ghost use Rattle.hive_model.specs.Packed.{cell_text};
-ghost use Rattle.hive_model.specs.Size.{cell, is_narrow, name_bytes};
+ghost use Rattle.hive_model.specs.Size.{is_narrow, name_bytes};
 ghost use Rattle.hive_model.specs.KeyNode.{key_node_text};
 ghost use Rattle.hive_model.specs.Walk.{nowhere};
 ghost use Rattle.hive_cells.specs.Held.{held_at};

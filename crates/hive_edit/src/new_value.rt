@@ -40,11 +40,8 @@ use cell_forms::{VkForm, vk_bytes};
 use hive_cells::OpenHeap;
 use hive_pack::put_cell;
 use nt_bytes::{Bytes, HiveVersion, Names, Units};
-use reg_tree::EditStop;
+use reg_tree::{EditStop, MOST_BULK};
 use std::alloc::{AllocError, Global};
-
-/// The greatest bulk of an edited tree, in bytes.
-const MOST_BULK: u64 = 16_773_120;
 
 /// The greatest number of bytes that a value's data have.
 const MOST_DATA: usize = 1_048_576;
@@ -511,7 +508,8 @@ impl HiveBytes {
         bytes: &[u8],
     ) -> Result<bool, EditStop>
         ensures made { MatchResult result
-            (λ done. MatchBool done (IsStepped self.old (set_value path.now name.now kind bytes.now) self.new) (LacksStepRoom self.old (set_value path.now name.now kind bytes.now)))
+            (λ done. MatchBool done (IsStepped self.old (set_value path.now name.now kind bytes.now) self.new)
+            (LacksStepRoom self.old (set_value path.now name.now kind bytes.now)))
             (IsRefused (after_step (set_value path.now name.now kind bytes.now) self.old.tree)) }
     {
         match self.settable(path, name, bytes) {

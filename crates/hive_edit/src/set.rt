@@ -22,11 +22,8 @@ use crate::source::Source;
 use crate::unset::bins_fit;
 use crate::values::value_at;
 use nt_bytes::Names;
-use reg_tree::EditStop;
+use reg_tree::{EditStop, MOST_BULK};
 use std::alloc::{AllocError, Global};
-
-/// The greatest bulk of an edited tree, in bytes.
-const MOST_BULK: u64 = 16_773_120;
 
 impl HiveBytes {
     /// The offset of the value of a name in the key that a path leads to.

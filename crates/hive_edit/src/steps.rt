@@ -48,7 +48,8 @@ impl HiveBytes {
     /// an `Err`.
     pub(crate) fn make_steps(&mut self, alloc: Global, steps: &[TreeStep]) -> Result<bool, EditStop>
         requires fits { All Fits (map step_of steps.now) }
-        ensures made { MatchResult result (λ done. MatchBool done (AreStepped self.old (map step_of steps.now) self.new) (AreStrained self.old (map step_of steps.now)))
+        ensures made { MatchResult result
+            (λ done. MatchBool done (AreStepped self.old (map step_of steps.now) self.new) (AreStrained self.old (map step_of steps.now)))
             (IsRefused (after_steps self.old.tree (map step_of steps.now))) }
     {
         let mut room: u64 = 0;

@@ -29,10 +29,7 @@ use crate::source::{Source, payload};
 use crate::values::value_at;
 use hive_cells::OpenHeap;
 use nt_bytes::{HiveVersion, Names, put_u32, u16_at, u32_at};
-use reg_tree::EditStop;
-
-/// The greatest bulk of an edited tree, in bytes.
-const MOST_BULK: u64 = 16_773_120;
+use reg_tree::{EditStop, MOST_BULK};
 
 /// The offset that names nothing.
 const NOWHERE: u32 = 0xffff_ffff;

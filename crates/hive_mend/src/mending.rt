@@ -1,6 +1,6 @@
 //! A loaded hive packed where that makes it shorter.
 
-ghost use Rattle.std.specs.Prelude.{◌≡◌, Bool, true, false, [], Some, None, IfOk, IfSome, OnOk, IsOk, IsErrOf};
+ghost use Rattle.std.specs.Prelude.{◌≡◌, Bool, true, false, [], Some, None, IfOk, IfSome, OnOk, IsErrOf};
 ghost use Rattle.hive_model.specs.Base.{version_of};
 ghost use Rattle.hive_model.specs.Carries.{Carries};
 ghost use Rattle.hive_model.specs.State.{HiveState};
@@ -20,10 +20,8 @@ use hive_commit::{CommitStop, commit};
 use hive_pack::pack;
 use nt_bytes::Bytes;
 use nt_edge::Disk;
+use reg_tree::MOST_BULK;
 use std::alloc::{AllocError, Global};
-
-/// The greatest bulk of a tree that is packed, 4096 bytes below the greatest size of bins data.
-const MOST_BULK: u64 = 16_773_120;
 
 impl LoadedHive {
     /// The packed form of the tree, where it is small enough to be packed and this is shorter than the bins data.

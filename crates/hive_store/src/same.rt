@@ -7,11 +7,9 @@ ghost use Rattle.hive_store.specs.Same.{Keep, HasValue};
 
 use hive_edit::HiveBytes;
 use nt_bytes::{Names, Row};
-use reg_tree::{EditStop, Key, Steps, TreeStep, Value};
+use reg_tree::{EditStop, Key, MOST_BULK, Steps, TreeStep, Value};
 use std::alloc::{AllocError, Global};
-
-/// The greatest bulk of an edited tree, in bytes.
-const MOST_BULK: u64 = 16_773_120;
+use tree_draft::apply;
 
 /// The longest name of a value, in units.
 const LONGEST_NAME: usize = 16_383;
@@ -88,7 +86,7 @@ fn keeps_whole(alloc: Global, cells: &HiveBytes, steps: &Steps) -> Result<bool, 
     let tree = whole(alloc, cells)?;
     let mut work = tree.copy(alloc)?;
     let again = steps_copied(alloc, steps.as_slice())?;
-    work.apply(alloc, again, cells.version())?;
+    apply(&mut work, alloc, again, cells.version())?;
     Ok(work.same(&tree))
 }
 

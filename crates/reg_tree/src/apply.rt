@@ -1,6 +1,6 @@
 //! Edits in steps, all or none.
 
-ghost use Rattle.std.specs.Prelude.{◌≡◌, length, map, Ok};
+ghost use Rattle.std.specs.Prelude.{◌≡◌, map, Ok};
 ghost use Rattle.std.specs.List.{All};
 ghost use Rattle.hive_model.specs.Edit.{value_set, value_deleted, key_made, key_deleted, child_copied, child_added, after_step, edited, has_item, is_bad_name, with_child};
 ghost use Rattle.hive_model.specs.Valid.{IsValid};
@@ -15,9 +15,10 @@ use nt_bytes::{Bytes, HiveVersion, Names, Units};
 use std::alloc::Global;
 
 /// The greatest bulk of an edited tree, in bytes.
-const MOST_BULK: u64 = 16773120;
+pub const MOST_BULK: u64 = 16_773_120;
 
-fn is_bad_name(name: &[u16]) -> bool
+/// Whether no new key may have this name: it is empty, or has a backslash.
+pub fn is_bad_name(name: &[u16]) -> bool
     ensures { result ≡ is_bad_name name.now }
 {
     name.len() == 0 || name.contains(&0x5c)

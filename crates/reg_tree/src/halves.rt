@@ -1,6 +1,6 @@
 //! Places of keys among siblings: found by halves where the names rise, else by a scan.
 
-ghost use Rattle.std.specs.Prelude.{◌≡◌, ◌≤◌, [], ◌∷◌, ◌++◌, IsTrue, find, not, length, position};
+ghost use Rattle.std.specs.Prelude.{◌≡◌, [], ◌∷◌, ◌++◌, IsTrue, find, not, position};
 ghost use Rattle.std.specs.Option.{option_copied};
 ghost use Rattle.std.specs.List.{position_or_len};
 ghost use Rattle.std.specs.Ordering.{is_lt};

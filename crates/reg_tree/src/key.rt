@@ -98,6 +98,13 @@ impl Keys {
         self.items.as_slice()
     }
 
+    /// The keys by themselves. Nothing is copied.
+    pub fn into_vec(self) -> Vec<Key>
+        ensures { result.items ≡ self }
+    {
+        self.items
+    }
+
     pub fn len(&self) -> usize
         ensures { result ≡ length self.now }
     {

@@ -9,7 +9,7 @@ use crate::key::{Key, Keys};
 impl Key {
     /// Whether the tree has more levels than this.
     #[cycle(is_deeper)]
-    pub(crate) fn is_deeper(&self, most: u32) -> bool
+    pub fn is_deeper(&self, most: u32) -> bool
         ensures { result ≡ nat_lt most (levels self.now) }
     {
         if most == 0 {

@@ -21,6 +21,7 @@ mod stop;
 mod value;
 mod value_places;
 
+pub use apply::{MOST_BULK, is_bad_name};
 pub use key::{Key, Keys};
 pub use laws::an_edited_tree_is_valid;
 pub use steps::{Steps, TreeStep};

@@ -1,6 +1,6 @@
 //! How many bytes packed cells take. Sums stay at the greatest number.
 
-ghost use Rattle.std.specs.Prelude.{◌≡◌, ◌+◌, ◌*◌, ◌∷◌, length};
+ghost use Rattle.std.specs.Prelude.{◌≡◌, ◌+◌, ◌*◌, ◌∷◌};
 ghost use Rattle.hive_model.specs.Size.{capped, cell, cells_sum, class_size, data_sizes, is_big, is_narrow, list_size, name_bytes, security_size, segment_count, segment_sizes};
 
 use nt_bytes::HiveVersion;

@@ -74,6 +74,13 @@ impl Values {
         self.items.as_slice()
     }
 
+    /// The values by themselves. Nothing is copied.
+    pub fn into_vec(self) -> Vec<Value>
+        ensures { result.items ≡ self }
+    {
+        self.items
+    }
+
     pub fn len(&self) -> usize
         ensures { result ≡ length self.now }
     {

@@ -2,7 +2,7 @@ use Rattle.std.proofs.Common.{◌≤◌, subst, sym}
 use Rattle.hive_model.specs.Tree.{Tree, head}
 use Rattle.hive_model.specs.Valid.{levels}
 use Rattle.hive_edit.specs.Children.{IsNewChild, IsAddedIn, LacksGraftRoom}
-use Rattle.hive_edit.proofs.GraftLinks.{where_done, where_undone}
+use Rattle.hive_edit.proofs.SteppedLemmas.{if_done, if_undone}
 use Rattle.hive_edit.proofs.AddStepLemmas.{new_child, add_stepped, add_lacks, well_in, low_by}
 use Rattle.hive_edit.proofs.hive.HiveBytes.add_named.Goals as goal
 
@@ -25,7 +25,7 @@ returns-in-Ok-true c =
       made = add_stepped c.args.self.now c.add_below_root.new.self c.args.name.now c.args.key.now well c.requires.free
           c.requires.fits low
           (subst (λ (k : Tree). IsAddedIn c.args.self.now k c.add_below_root.new.self) c.in_ok-child.ensures
-          (where_done _ _ _ c.in-Ok-true.field-0-test c.in-Ok-true.ensures.added));
+          (if_done _ _ _ c.in-Ok-true.field-0-test c.in-Ok-true.ensures.added));
     }
 
 pub returns-in-Ok-false : goal.returns-in-Ok-false
@@ -36,5 +36,5 @@ returns-in-Ok-false c =
       made = add_lacks c.args.self.now c.args.name.now c.args.key.now c.requires.free low
           (subst (λ (k : Tree). LacksGraftRoom c.args.self.now (head c.args.self.now.tree).security k)
           c.in_ok-child.ensures
-          (where_undone _ _ _ c.in-Ok-false.field-0-test c.in-Ok-false.ensures.added));
+          (if_undone _ _ _ c.in-Ok-false.field-0-test c.in-Ok-false.ensures.added));
     }

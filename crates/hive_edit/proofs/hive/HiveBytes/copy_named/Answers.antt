@@ -2,7 +2,7 @@ use Rattle.std.proofs.Common.{subst}
 use Rattle.hive_model.specs.Tree.{Tree, head}
 use Rattle.hive_edit.specs.Children.{LacksGraftRoom}
 use Rattle.hive_edit.specs.Copying.{IsCopiedIn}
-use Rattle.hive_edit.proofs.GraftLinks.{where_done, where_undone}
+use Rattle.hive_edit.proofs.SteppedLemmas.{if_done, if_undone}
 use Rattle.hive_edit.proofs.AddStepLemmas.{well_in}
 use Rattle.hive_edit.proofs.CopyStepLemmas.{copy_stepped, copy_lacks}
 use Rattle.hive_edit.proofs.hive.HiveBytes.copy_named.Goals as goal
@@ -17,7 +17,7 @@ returns-in-Ok-true c =
           c.requires.low
           (subst (λ (k : Tree). IsCopiedIn c.args.self.now c.args.from.now k c.copy_below_root.new.self)
           c.in_ok-child.ensures
-          (where_done _ _ _ c.in-Ok-true.field-0-test c.in-Ok-true.ensures.copied));
+          (if_done _ _ _ c.in-Ok-true.field-0-test c.in-Ok-true.ensures.copied));
     }
 
 pub returns-in-Ok-false : goal.returns-in-Ok-false
@@ -26,5 +26,5 @@ returns-in-Ok-false c =
       made = copy_lacks c.args.self.now c.args.from.now c.args.to.now c.args.key.now c.requires.found c.requires.free
           (subst (λ (k : Tree). LacksGraftRoom c.args.self.now (head c.args.self.now.tree).security k)
           c.in_ok-child.ensures
-          (where_undone _ _ _ c.in-Ok-false.field-0-test c.in-Ok-false.ensures.copied));
+          (if_undone _ _ _ c.in-Ok-false.field-0-test c.in-Ok-false.ensures.copied));
     }

@@ -1,5 +1,5 @@
 use Rattle.hive_edit.specs.Grafted.{IsGrafted, LacksGraftLists}
-use Rattle.hive_edit.proofs.GraftLinks.{where_done, where_undone}
+use Rattle.hive_edit.proofs.SteppedLemmas.{if_done, if_undone}
 use Rattle.hive_edit.proofs.ChildLemmas.{Asked, ready_at, can_graft, graft_made, still_hive, still_or, lacks_lists}
 use Rattle.hive_edit.proofs.hive.HiveBytes.graft_at.Goals as goal
 
@@ -53,7 +53,7 @@ invariant_of-self-then-not-done c =
     c.args.bytes c.args.at c.self.invariant c.self.view_is asked c.offset_fits.ensures in
     let lacks : LacksGraftLists c.self.inside.version c.self.inside.root c.args.above c.args.shared.now c.args.key.now
     c.args.at c.self.inside.cells c.graft_cells.new.heap =
-    where_undone _ _ _ c.if-not-done.true c.in_ok-done.ensures.grafted in
+    if_undone _ _ _ c.if-not-done.true c.in_ok-done.ensures.grafted in
     still_hive c.self.inside.cells c.graft_cells.new.heap c.self.inside.root c.self.inside.version c.self.inside.bulk
     c.args.above c.args.shared.now c.args.key.now c.args.at
     c.self.invariant r.ready lacks.put
@@ -73,7 +73,7 @@ returns-then-not-done c =
     c.args.bytes c.args.at c.self.invariant c.self.view_is asked c.offset_fits.ensures in
     let lacks : LacksGraftLists c.self.inside.version c.self.inside.root c.args.above c.args.shared.now c.args.key.now
     c.args.at c.self.inside.cells c.graft_cells.new.heap =
-    where_undone _ _ _ c.if-not-done.true c.in_ok-done.ensures.grafted in
+    if_undone _ _ _ c.if-not-done.true c.in_ok-done.ensures.grafted in
     record {
       grafted = lacks_lists c.self.inside.cells c.graft_cells.new.heap c.self.inside.root c.self.inside.version
           c.args.self.now c.args.above c.args.shared.now c.args.key.now c.args.at
@@ -95,11 +95,11 @@ invariant_of-self-2 c =
     c.args.bytes c.args.at c.self.invariant c.self.view_is asked c.offset_fits.ensures in
     let made : IsGrafted c.self.inside.version c.self.inside.root c.args.above c.args.shared.now c.args.key.now
     c.args.at c.self.inside.cells c.graft_cells.new.heap =
-    where_done _ _ _ c.if-not-done.false c.in_ok-done.ensures.grafted in
+    if_done _ _ _ c.if-not-done.false c.in_ok-done.ensures.grafted in
     (graft_made c.self.inside.cells c.graft_cells.new.heap c.self.inside.root c.self.inside.version c.self.inside.bulk
     c.args.above.count c.args.own c.grafted_bulk-bulk.result
     c.args.self.now c.args.above c.args.shared.now c.args.key.now c.args.at c.self.invariant c.self.view_is r.ready made
-    c.heap_bytes.ensures r.own_is
+    c.are_bytes.ensures r.own_is
     c.grafted_bulk-bulk.ensures).hive
 
 pub returns : goal.returns
@@ -117,11 +117,11 @@ returns c =
     c.args.bytes c.args.at c.self.invariant c.self.view_is asked c.offset_fits.ensures in
     let made : IsGrafted c.self.inside.version c.self.inside.root c.args.above c.args.shared.now c.args.key.now
     c.args.at c.self.inside.cells c.graft_cells.new.heap =
-    where_done _ _ _ c.if-not-done.false c.in_ok-done.ensures.grafted in
+    if_done _ _ _ c.if-not-done.false c.in_ok-done.ensures.grafted in
     record {
       grafted = (graft_made c.self.inside.cells c.graft_cells.new.heap c.self.inside.root c.self.inside.version
           c.self.inside.bulk c.args.above.count c.args.own c.grafted_bulk-bulk.result
           c.args.self.now c.args.above c.args.shared.now c.args.key.now c.args.at c.self.invariant c.self.view_is
-          r.ready made c.heap_bytes.ensures r.own_is
+          r.ready made c.are_bytes.ensures r.own_is
           c.grafted_bulk-bulk.ensures).made;
     }

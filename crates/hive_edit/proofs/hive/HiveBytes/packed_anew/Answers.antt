@@ -28,7 +28,7 @@ returns-in_err-apply-clause-made c =
 
 pub of_packed-requires-clause-room : goal.of_packed-requires-clause-room
 of_packed-requires-clause-room c =
-    edited_fits c.self.inside.version c.in-Ok.tree c.apply.new.self (map step_of c.args.steps)
+    edited_fits c.self.inside.version c.in-Ok.tree c.apply.new.tree (map step_of c.args.steps)
     c.in_ok-apply.ensures.made
 
 pub returns-clause-made : goal.returns-clause-made

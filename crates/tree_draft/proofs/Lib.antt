@@ -1,0 +1,4 @@
+pub mod ChangeLemmas
+pub mod HereLemmas
+pub mod NamedLemmas
+pub mod SlotLemmas

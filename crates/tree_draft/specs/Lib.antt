@@ -1,0 +1,5 @@
+pub mod Slots
+pub mod Values
+pub mod Children
+pub mod Change
+pub mod Stops
