@@ -1,11 +1,11 @@
 //! The attempts that are to fail.
 
-ghost use Rattle.std.specs.Prelude.{◌≡◌, ◌==◌, ◌<◌, ◌-◌, ◌∷◌, ◌++◌, not, [], length, position, IfSome, IfOk, OnOk, OnErr};
+ghost use Rattle.std.specs.Prelude.{◌≡◌, ◌==◌, ◌<◌, ◌-◌, ◌∷◌, ◌++◌, not, [], length, position, IfSome, OnOk, OnErr};
 ghost use Rattle.nt_bytes.specs.Folding.{folded, folds_same};
 ghost use Rattle.start_model.specs.Machine.{failures_of, one_failure_less, with_failures};
 
+use name_places::folded;
 use nt_bytes::{Units, same_folded};
-use service_entries::folded;
 use std::alloc::{AllocError, Global};
 use std::marker::Model;
 
@@ -37,13 +37,6 @@ impl Model for Failures {
     ghost Value = { List (List ℕ × ℕ) };
 
     ghost view = { λ a. a.items.items };
-}
-
-/// The units, folded.
-pub(crate) fn folded_units(alloc: Global, units: &[u16]) -> Result<Units, AllocError>
-    ensures { IfOk result (λ u. u ≡ folded units.now) }
-{
-    Ok(Units::from_vec(folded(alloc, units)?))
 }
 
 impl Failures {
@@ -84,7 +77,7 @@ impl Failures {
         ensures ok { OnOk result (self.new ≡ self.old ++ (folded name.now, count) ∷ []) }
         ensures kept { OnErr result (self.new ≡ self.old) }
     {
-        let name = folded_units(alloc, name)?;
+        let name = folded(alloc, name)?;
         self.items.push(Failure { name, count })?;
         Ok(())
     }

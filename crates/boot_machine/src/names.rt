@@ -3,7 +3,7 @@
 ghost use Rattle.std.specs.Prelude.{◌≡◌, ◌<◌, ◌++◌, ◌∷◌, [], vec_len, vec_capacity, OnOk, OnErr};
 ghost use Rattle.nt_bytes.specs.Folding.{folded};
 
-use crate::failures::folded_units;
+use name_places::folded;
 use nt_bytes::Units;
 use service_entries::Entry;
 use std::alloc::{AllocError, Global};
@@ -24,7 +24,7 @@ pub(crate) fn note(alloc: Global, tried: &mut Vec<Units>, entry: &Entry) -> Resu
     ensures tried { OnOk result (tried.new.items ≡ tried.old.items ++ folded entry.now.name ∷ []) }
     ensures kept { OnErr result (tried.new.items ≡ tried.old.items) }
 {
-    let name = folded_units(alloc, entry.name.as_slice())?;
+    let name = folded(alloc, entry.name.as_slice())?;
     tried.reserve(1)?;
     put(tried, name);
     Ok(())

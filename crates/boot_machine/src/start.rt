@@ -45,7 +45,17 @@ impl Model for Start {
 
     ghost coded = { coded_start };
 
-    ghost view = { λ a. record { number = a.number; on_good = a.on_good; phase = phase_in a.phase; waiting = a.queue.waiting; tried = a.tried.items; started = a.queue.started; logged_on = a.logged_on; saved = a.saved; clone = a.clone } };
+    ghost view = { λ a. record {
+      number = a.number;
+      on_good = a.on_good;
+      phase = phase_in a.phase;
+      waiting = a.queue.waiting;
+      tried = a.tried.items;
+      started = a.queue.started;
+      logged_on = a.logged_on;
+      saved = a.saved;
+      clone = a.clone;
+    } };
 }
 
 impl Start {

@@ -1,6 +1,6 @@
 //! The beginning of a start: which set is taken, and what its beginning changes.
 
-ghost use Rattle.std.specs.Prelude.{◌≡◌, ◌∷◌, [], true, false, map, Option, None, Some, Ok, IfOk, IfSome, OnOk};
+ghost use Rattle.std.specs.Prelude.{◌≡◌, [], true, Option, None, Some, Ok, IfOk, IfSome, OnOk};
 ghost use Rattle.std.specs.Option.{unwrap_or};
 ghost use Rattle.std.specs.List.{All};
 ghost use Rattle.hive_model.specs.Tree.{Tree};
@@ -8,8 +8,7 @@ ghost use Rattle.hive_model.specs.Valid.{HoldsKeys};
 ghost use Rattle.hive_store.specs.Session.{Session};
 ghost use Rattle.nt_edge.specs.Disk.{DiskState};
 ghost use Rattle.reg_tree.specs.Fitting.{Fits};
-ghost use Rattle.reg_tree.specs.Makes.{step_of};
-ghost use Rattle.start_model.specs.Sets.{SetPlan as Plan, select_numbers_of, usable_numbers_of, taken_number as taken_of, set_of, begin_plan_of, stepped};
+ghost use Rattle.start_model.specs.Sets.{SetPlan as Plan, select_numbers_of, usable_numbers_of, set_of, begin_plan_of, stepped};
 ghost use Rattle.start_model.specs.Lines.{BeginCommit};
 ghost use Rattle.start_model.specs.Machine.{with_start, begun_with};
 ghost use Rattle.start_model.specs.Act.{RunState, Act};
@@ -125,7 +124,8 @@ fn begin_committed<H: Host, B: Bench>(
     requires taken { IsTaken hive.tree number }
     ensures sound { IfOk result (IsSound runner.new (B.state bench.new)) }
     ensures plays { (m : RunState) → (H.state host.old).tells ≡ true → Counts m runner.old → IsStored m hive (B.state bench.old)
-        → RunsTo (commit_book.commit BeginCommit hive.tree m (boot_book.begin_start number on_good numbers)) (moment (H.state host.old) runner.old (B.state bench.old))
+        → RunsTo (commit_book.commit BeginCommit hive.tree m (boot_book.begin_start number on_good numbers))
+        (moment (H.state host.old) runner.old (B.state bench.old))
         (moment (H.state host.new) runner.new (B.state bench.new)) result (TurnLeft runner.new (B.state bench.new)) }
     ensures host { LeavesHost result (H.state host.old) (H.state host.new) }
 {

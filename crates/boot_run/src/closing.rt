@@ -7,7 +7,7 @@ ghost use Rattle.boot_report.specs.Report.{verdict_of};
 ghost use Rattle.start_model.specs.Act.{RunState, Act, done};
 ghost use Rattle.start_model.specs.EventActs.{flush_act, off_act};
 ghost use Rattle.start_model.specs.Act as book;
-ghost use Rattle.boot_run.specs.Agrees.{IsUp, IsLive, IsSound, Counts, CommitLeft, IsEnding, OffLeft, TurnLeft};
+ghost use Rattle.boot_run.specs.Agrees.{IsLive, IsSound, Counts, CommitLeft, IsEnding, OffLeft, TurnLeft};
 ghost use Rattle.boot_run.specs.Hosts.{LeavesHost};
 ghost use Rattle.boot_run.specs.Views.{moment, RunsTo};
 

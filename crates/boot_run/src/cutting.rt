@@ -1,6 +1,6 @@
 //! Cuts of the power, and orders for stops.
 
-ghost use Rattle.std.specs.Prelude.{◌≡◌, ◌≤◌, true, None, IfOk, OnOk};
+ghost use Rattle.std.specs.Prelude.{◌≡◌, ◌≤◌, true, None, OnOk};
 ghost use Rattle.hive_model.specs.Image.{ArmedCut, ArmedFault};
 ghost use Rattle.nt_edge.specs.Bench.{armed};
 ghost use Rattle.nt_edge.specs.Book.{call_of, keep_of};

@@ -11,7 +11,7 @@ ghost use Rattle.boot_report.specs.Report.{line_of};
 ghost use Rattle.boot_machine.specs.Steps.{on_start};
 ghost use Rattle.start_model.specs.Lines.{SaveCommit};
 ghost use Rattle.start_model.specs.Machine.{Start};
-ghost use Rattle.start_model.specs.Sets.{SetPlan as Plan, planned, save_of, save_plan_of, select_numbers_of, usable_numbers_of};
+ghost use Rattle.start_model.specs.Sets.{planned, save_of, save_plan_of, select_numbers_of, usable_numbers_of};
 ghost use Rattle.start_model.specs.Act.{RunState, Act, done};
 ghost use Rattle.start_model.specs.Commit.{saved_by};
 ghost use Rattle.start_model.specs.EventActs.{logon_act};

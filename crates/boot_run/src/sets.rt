@@ -1,6 +1,6 @@
 //! The control sets of a session, which lends no tree.
 
-ghost use Rattle.std.specs.Prelude.{◌≡◌, ◌∷◌, [], codes, true, length, Some, IfOk};
+ghost use Rattle.std.specs.Prelude.{◌≡◌, true, length, Some, IfOk};
 ghost use Rattle.std.specs.Option.{unwrap_or};
 ghost use Rattle.hive_model.specs.Valid.{HoldsKeys};
 ghost use Rattle.hive_store.specs.Found.{found_dword};

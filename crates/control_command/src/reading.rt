@@ -1,10 +1,10 @@
 //! The commands of a text.
 
-ghost use Rattle.std.specs.Prelude.{◌≡◌, ◌∷◌, ◌≤◌, length, IfErr, OnOk, Some};
+ghost use Rattle.std.specs.Prelude.{◌≡◌, ◌≤◌, length, IfErr, OnOk, Some};
 ghost use Rattle.std.specs.Str.Lines.{lines};
 ghost use Rattle.boot_script.specs.declared.stop.ScriptStop.TheVariants as stops;
 ghost use Rattle.boot_script.specs.Words.{Gives};
-ghost use Rattle.control_command.specs.Commands.{command_of, trimmed_command, line_command, commands_from, commands_of, GivesCommands, TakesLine, RefusesLine};
+ghost use Rattle.control_command.specs.Commands.{trimmed_command, line_command, commands_from, commands_of, GivesCommands, TakesLine, RefusesLine};
 
 use crate::command::{Command, Commands};
 use crate::commands::command;

@@ -20,4 +20,4 @@ pub use next::{all_met, both_ways_try_the_same, groups_met, next_ready, ready, s
 pub use started::Started;
 pub use table::NeedTable;
 pub use test_count::TestCount;
-pub use waiting::Waiting;
+pub use waiting::{Waiting, folded_group};

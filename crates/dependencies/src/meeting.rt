@@ -1,6 +1,6 @@
 //! What a start meets: the wants of its name and of its group, and the entries that are ready then.
 
-ghost use Rattle.std.specs.Prelude.{◌≡◌, ◌<◌, ◌-◌, ◌+◌, ℕ, true, false, not, ◌||◌, All, length, count_by, nat_eq, slice_get, slice_set, slice_index_or, [], Option};
+ghost use Rattle.std.specs.Prelude.{◌≡◌, ◌<◌, ◌-◌, ℕ, true, false, not, ◌||◌, All, length, count_by, nat_eq, slice_get, slice_set, slice_index_or, [], Option};
 ghost use Rattle.std.specs.List.{list_any};
 ghost use Rattle.std.specs.Option.{option_map_or};
 ghost use Rattle.nt_bytes.specs.Folding.{folds_same};

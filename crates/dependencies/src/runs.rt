@@ -1,6 +1,6 @@
 //! Names in runs, each of them in order: a new name and the last runs become one, as bits carry.
 
-ghost use Rattle.std.specs.Prelude.{◌≡◌, ◌<◌, ◌≤◌, ◌++◌, ◌∷◌, ◌||◌, [], Some, IfOk, OnOk, vec_len, vec_capacity, length, take, List, ℕ};
+ghost use Rattle.std.specs.Prelude.{◌≡◌, ◌<◌, ◌≤◌, ◌++◌, ◌∷◌, ◌||◌, [], Some, IfOk, OnOk, vec_len, vec_capacity, take, List, ℕ};
 ghost use Rattle.std.specs.List.{flat_map};
 ghost use Rattle.std.specs.Option.{option_to_list};
 ghost use Rattle.dependencies.specs.Index.{AddsAlike, AreCarried, is_among, is_that, stands_in};

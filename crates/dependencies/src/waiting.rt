@@ -14,8 +14,8 @@ use crate::place_set::PlaceSet;
 use crate::started::{Started, copied_labels};
 use crate::test_count::TestCount;
 use crate::wants::{Kind, Wants, test_all, wanted};
-use name_places::NamePlaces;
-use nt_bytes::{Units, fold};
+use name_places::{NamePlaces, folded};
+use nt_bytes::Units;
 use std::alloc::{AllocError, Global};
 use std::marker::Model;
 
@@ -273,19 +273,12 @@ fn label(alloc: Global, need: &Need) -> Result<(Units, Option<Units>), AllocErro
     Ok((name, group))
 }
 
-fn folded_group(alloc: Global, group: &Option<Units>) -> Result<Option<Units>, AllocError>
+/// The name of a group, each unit folded, where there is one.
+pub fn folded_group(alloc: Global, group: &Option<Units>) -> Result<Option<Units>, AllocError>
     ensures { IfOk result (λ g. g ≡ option_map folded group.now) }
 {
     match group {
         Some(name) => Ok(Some(folded(alloc, name.as_slice())?)),
         None => Ok(None),
     }
-}
-
-/// A name with each unit folded.
-fn folded(alloc: Global, name: &[u16]) -> Result<Units, AllocError>
-    ensures { IfOk result (λ u. u ≡ folded name.now) }
-{
-    let units: Vec<u16> = name.iter().map(|u| fold(*u)).collect(alloc)?;
-    Ok(Units::from_vec(units))
 }

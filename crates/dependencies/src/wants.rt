@@ -1,6 +1,6 @@
 //! The names of one kind that entries depend on, and which of them are met.
 
-ghost use Rattle.std.specs.Prelude.{◌≡◌, ◌<◌, ◌==◌, ◌++◌, ℕ, ◌+◌, true, false, not, All, length, map, count_by, replicate, slice_index, slice_set, vec_len, IfOk, OnOk};
+ghost use Rattle.std.specs.Prelude.{◌≡◌, ◌<◌, ◌==◌, ◌++◌, ℕ, ◌+◌, true, false, All, length, map, count_by, replicate, slice_index, slice_set, IfOk, OnOk};
 ghost use Rattle.start_model.specs.Demand.{member};
 ghost use Rattle.dependencies.specs.Wants.{given, meets, names_given, owners_from, is_free};
 ghost use Rattle.dependencies.specs.Waiting.{raised};

@@ -1,4 +1,5 @@
--- Where the cells of one key and those below it differ, the walk before and behind it is the same; so cells are still used once.
+-- Where the cells of one key and those below it differ, the walk before and behind it is the same; so cells are still
+-- used once.
 use Rattle.std.proofs.Common.{◌≡◌, ℕ, suc, ◌+◌, Bool, true, false, List, [], ◌∷◌, ◌++◌, length, refl, sym, ◌∙◌, ap, subst, inl, inr, ⊎_elim, Ok, arith, append_assoc}
 use Rattle.std.specs.Prelude.{◌⊎◌, flat_map}
 use Rattle.nt_bytes.specs.Folding.{folds_same}
@@ -184,7 +185,8 @@ once_two (w ∷ us) u v h (inl i) (inr j) e = inr (agree_same w u v i (h.0 v j) 
 once_two (w ∷ us) u v h (inr i) (inl j) e = inr (let both = agree_same w v u j (h.0 u i) (sym e) in (both.1, both.0))
 once_two (w ∷ us) u v h (inr i) (inr j) e = once_two us u v h.1 i j e
 
--- A use may come in a part's place: it was in the part, or its cell is none that was used, or it is of security and was used so.
+-- A use may come in a part's place: it was in the part, or its cell is none that was used, or it is of security and
+-- was used so.
 abbrev pub MayCome : List (ℕ × Bool) → List (ℕ × Bool) → ℕ × Bool → Type 0
 MayCome old us u = In old u ⊎ (((v : ℕ × Bool) → In us v → v.0 ≡ u.0 → ⊥) ⊎ ((u.1 ≡ true) × In us u))
 

@@ -221,7 +221,8 @@ nothing_in : (cells : Cells) (us : List Tree) → AllStand cells [] (trees us) �
 nothing_in cells [] a = refl
 nothing_in cells (w ∷ us) a = absurd (let d : [] ≡ a.0 ∷ a.1 = a.2 in cc)
 
--- A key gets a child: the cells are well-formed with the tree that has it before the first whose name folds greater, else last.
+-- A key gets a child: the cells are well-formed with the tree that has it before the first whose name folds greater,
+-- else last.
 pub child_come : (b c : Cells) (root : ℕ) (t u : Tree) (path p : List (List ℕ)) (x y left : ℕ)
     (front back counted : List ℕ) (hd : Head) (ts : Trees) → IsWellFormed b root t → Folds path p → Reaches b root p x
     → length p + suc left ≡ 512 → find_key path t ≡ Some (key hd ts) → Stands b x (key hd ts)

@@ -9,15 +9,16 @@ use Rattle.hive_model.specs.Footprint.{step_cells, footprint_of, unless_refused,
 use Rattle.edit_laws.specs.Owned.{Role, Owns, IsMatched}
 use Rattle.edit_laws.specs.Framed.{IsUnheld, IsFramed, Edits, Frames}
 
--- the bridge: a step's cells are those of the entries that it names; the first needs only that the step isn't refused, the second that
--- the cells are well-formed with any tree
+-- the bridge: a step's cells are those of the entries that it names; the first needs only that the step isn't
+-- refused, the second that the cells are well-formed with any tree
 pub record Bridges (a : Cells) (root : ℕ) : Type 0 where
   pub out : (b : Cells) (t u : Tree) (step : Step) (o : ℕ) → after_step step t ≡ Ok u
       → Contains (step_cells b root t step) o → IsMatched b root t step o
   pub back : (t u : Tree) (step : Step) (o : ℕ) → after_step step t ≡ Ok u → IsMatched a root t step o
       → Contains (step_cells a root t step) o
 
--- a cell of the step in the present cells, held of old and outside the footprint so far, is one of the step in the old cells
+-- a cell of the step in the present cells, held of old and outside the footprint so far, is one of the step in the
+-- old cells
 carried : (a b : Cells) (root : ℕ) (F : ℕ → Type 0) (t u : Tree) (step : Step) → Bridges a root → Frames a b root F
     → after_step step t ≡ Ok u → (o : ℕ) (q : List ℕ) → a.payload o ≡ Ok q → (F o → ⊥)
     → Contains (step_cells b root t step) o → Contains (step_cells a root t step) o

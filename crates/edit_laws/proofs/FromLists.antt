@@ -33,7 +33,8 @@ use Rattle.edit_laws.proofs.FromCells.{counted_some}
 
 -- ---- the node
 
--- where the part is that of the count and the list of children, or of the greatest of their names, the node says the same of all else
+-- where the part is that of the count and the list of children, or of the greatest of their names, the node says the
+-- same of all else
 pub part_says_rest : (from to : ℕ) (p q : List ℕ) (n : KeyNode) → key_node_at p ≡ Ok n → IsPatchOf from to p q
     → (20 ≤ from) × (to ≤ 36) ⊎ (52 ≤ from) × (to ≤ 72) → SaysTheRest n (key_node_in q n.name)
 part_says_rest from to p q n e patch within = record {

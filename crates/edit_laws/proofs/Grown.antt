@@ -1,4 +1,5 @@
--- Steps that grow the data in order stay within their strain, and one that finds no room behind them has a strain over the limit.
+-- Steps that grow the data in order stay within their strain, and one that finds no room behind them has a strain
+-- over the limit.
 use Rattle.std.proofs.Common.{◌≡◌, ℕ, ◌+◌, ◌<◌, ◌≤◌, List, [], ◌∷◌, ◌++◌, subst, Ok, arith}
 use Rattle.nt_bytes.specs.declared.version.HiveVersion.{HiveVersion}
 use Rattle.hive_model.specs.Tree.{Tree}
@@ -35,7 +36,8 @@ grown_within version bytes now t u steps further g =
     let l = strain_least version now u further in let b = strain_behind version bytes now t u steps further g in
     omega (arith, l, b)
 
--- Where a step behind others finds no room below a limit for cells that it may need, the strain of all is over the limit.
+-- Where a step behind others finds no room below a limit for cells that it may need, the strain of all is over the
+-- limit.
 pub no_room_behind : (version : HiveVersion) (bytes now limit : ℕ) (t u v : Tree) (steps further : List Step)
     (step : Step) (asked : List ℕ) → AreGrown version bytes t steps now u → after_step step u ≡ Ok v
     → AreSome asked (needed_sizes version u step v) → 0 < total asked → limit < now + rounded (total asked + 32)

@@ -146,7 +146,8 @@ deleted_sum version p (w ∷ vs) v e = go (p w) e (λ d. deleted_sum version p v
 
 -- ---- the bulk
 
--- Below the greatest number of 64 bits the bulk of a tree grows by the size of the values that a key gets, less that of those it had.
+-- Below the greatest number of 64 bits the bulk of a tree grows by the size of the values that a key gets, less that
+-- of those it had.
 pub revalued_bulk : (version : HiveVersion) (path : List (List ℕ)) (t k : Tree) (f : List Item → List Item)
     → find_key path t ≡ Some k → 32 + size version [] t ≤ 18446744073709551615
     → 32 + size version [] (at_key path (of_items f) t) ≤ 18446744073709551615

@@ -1,5 +1,5 @@
--- One step whole: a value that is there gets other data. Its vk is patched where it stands, its old data cell may go, its new
--- one lies where no cell was.
+-- One step whole: a value that is there gets other data. Its vk is patched where it stands, its old data cell may go,
+-- its new one lies where no cell was.
 use Rattle.std.proofs.Common.{◌≡◌, ℕ, Bool, true, false, eqb, List, [], ◌∷◌, ◌++◌, refl, sym, ◌∙◌, ap, subst, inl, inr, ⊎_elim, Ok}
 use Rattle.std.specs.Prelude.{◌⊎◌, Contains, ◌==◌}
 use Rattle.std.proofs.lemmas.Bool.{eqb-true, eq-eqb}

@@ -177,7 +177,8 @@ node_patched from to p q n e patch low high =
     (ap (λ (f : ℕ). key_name_at (is_narrow_key f) (slice_range q 76 (76 + u16_in q 72))) flags
     ∙ ap (key_name_at (is_narrow_key (u16_in p 2))) bytes ∙ t.name)
 
--- where the part is that of the count and the list of values, or of the greatest of names and sizes, the node says the same of all else
+-- where the part is that of the count and the list of values, or of the greatest of names and sizes, the node says
+-- the same of all else
 pub part_says : (from to : ℕ) (p q : List ℕ) (n : KeyNode) → key_node_at p ≡ Ok n → IsPatchOf from to p q
     → (36 ≤ from) × (to ≤ 44) ⊎ (52 ≤ from) × (to ≤ 68) → SaysTheSame n (key_node_in q n.name)
 part_says from to p q n e patch within = record {

@@ -1,4 +1,5 @@
--- Children of a key go and others come in their place: the cells are well-formed again, and the tree with those children stands in them.
+-- Children of a key go and others come in their place: the cells are well-formed again, and the tree with those
+-- children stands in them.
 use Rattle.std.proofs.Common.{◌≡◌, ℕ, zero, suc, ◌<◌, Bool, true, false, cond, List, [], ◌∷◌, ◌++◌, length, refl, sym, ◌∙◌, ap, subst, inl, inr, ⊎_elim, Result, Ok, arith}
 use Rattle.std.specs.Prelude.{MatchBool, ◌==◌, if◌then◌else◌, flat_map}
 use Rattle.nt_bytes.specs.Folding.{folds_same}
@@ -124,7 +125,8 @@ longer_no p m q e =
     let l = longer p m q in let s : length p ≡ length (p ++ m ∷ q) = ap (λ (z : List (List ℕ)). length z) e in
     absurd (omega (arith, l, s))
 
--- a cell of a key that does not go, neither its node where that is the key that changes nor of its lists, and not of security, is the same
+-- a cell of a key that does not go, neither its node where that is the key that changes nor of its lists, and not of
+-- security, is the same
 pub still_same : (b c : Cells) (root : ℕ) (t : Tree) (p q : List (List ℕ)) (x left z : ℕ)
     (front gone put back counted : List ℕ) (r : Role) (o : ℕ) → IsWellFormed b root t → Reaches b root p x
     → ChangesChildren b c root x left front gone put back counted → Reaches b root q z → HasRole b z r o

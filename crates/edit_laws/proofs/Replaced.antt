@@ -85,8 +85,8 @@ first_changed b c name f offsets (more t ts) a n d hit miss =
 
 -- ---- the tree
 
--- Each key that is not at or below a path is the same, and where the key at the path stood the changed one stands: so the tree
--- stands with that key changed.
+-- Each key that is not at or below a path is the same, and where the key at the path stood the changed one stands: so
+-- the tree stands with that key changed.
 pub replaced_stands : (b c : Cells) (change : Tree → Tree) (path p : List (List ℕ)) (at x : ℕ) (t : Tree)
     → Stands b at t → HasApartNames t → Folds path p → Reaches b at p x
     → ((q : List (List ℕ)) (z : ℕ) → Reaches b at q z → (Extends path q → ⊥) → IsSameKey b c z)

@@ -1,4 +1,5 @@
--- The room for the cells that a step writes is within its strain: a step that finds no room has a strain over the limit.
+-- The room for the cells that a step writes is within its strain: a step that finds no room has a strain over the
+-- limit.
 use Rattle.std.proofs.Common.{◌≡◌, ℕ, ◌+◌, ◌<◌, ◌≤◌, Bool, true, false, cond, List, [], ◌∷◌, ◌++◌, length, refl, sym, ◌∙◌, ap, inl, inr, Option, Some, None, Result, Ok, Err, arith}
 use Rattle.std.specs.Prelude.{find, map, option_and_then}
 use Rattle.std.specs.Option.{option_map_or}
@@ -103,7 +104,8 @@ strain_least version bytes t (step ∷ steps) =
     go (Ok u) deep = let d = deep u in omega (arith, d)
     go (Err e) deep = omega arith
 
--- Where the data grow by no more than the room for cells that the step may need, the steps behind it have no more strain than with it.
+-- Where the data grow by no more than the room for cells that the step may need, the steps behind it have no more
+-- strain than with it.
 pub strain_step : (version : HiveVersion) (bytes now : ℕ) (t u : Tree) (step : Step) (steps : List Step)
     (asked : List ℕ) → after_step step t ≡ Ok u → AreSome asked (needed_sizes version t step u)
     → now ≤ bytes + room_of asked → strain_of version now u steps ≤ strain_of version bytes t (step ∷ steps)
@@ -113,7 +115,8 @@ strain_step version bytes now t u step steps asked ok part grown =
     (omega (arith, r, grown)) in
     let e = strain_one version bytes t u step steps ok in omega (arith, m, e)
 
--- Where a bin for cells that a step may need, one behind another, is not to be had below a limit, its strain is over the limit.
+-- Where a bin for cells that a step may need, one behind another, is not to be had below a limit, its strain is over
+-- the limit.
 pub no_room : (version : HiveVersion) (bytes limit : ℕ) (t u : Tree) (step : Step) (steps : List Step)
     (asked : List ℕ) → after_step step t ≡ Ok u → AreSome asked (needed_sizes version t step u) → 0 < total asked
     → limit < bytes + rounded (total asked + 32) → limit < strain_of version bytes t (step ∷ steps)
@@ -200,7 +203,8 @@ item_total version v =
 
 -- ---- what a key may need
 
--- the sizes where a key gets a child, as one that is made, copied or added: of its lists, and of the child and all below it
+-- the sizes where a key gets a child, as one that is made, copied or added: of its lists, and of the child and all
+-- below it
 pub added_needs : (version : HiveVersion) (u k w : Tree) (parent : List (List ℕ)) (name : List ℕ)
     → find_key parent u ≡ Some k → find (is_named name) (children k) ≡ Some w
     → added_sizes_in version parent name u ≡ list_sizes (length (children k)) ++ sizes version (head k).security w

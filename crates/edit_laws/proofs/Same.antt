@@ -305,7 +305,8 @@ same_role b c at s lists o h =
 
 -- ---- what is owned after a step, key by key
 
--- a key's children after the step were its children, or are new with all below them; and its cells were its own, or are new
+-- a key's children after the step were its children, or are new with all below them; and its cells were its own, or
+-- are new
 pub record IsKept (b c : Cells) (New : ℕ → Type 0) (x : ℕ) : Type 0 where
   pub child : (y : ℕ) → In (child_places c x) y
       → (In (child_places b x) y × (node_name c y ≡ node_name b y))

@@ -1,4 +1,5 @@
--- A key whose cells are the same says the same, and a tree whose keys are the same stands where it stood and uses what it used.
+-- A key whose cells are the same says the same, and a tree whose keys are the same stands where it stood and uses
+-- what it used.
 use Rattle.std.proofs.Common.{◌≡◌, ℕ, zero, suc, Bool, true, false, cond, List, [], ◌∷◌, ◌++◌, length, refl, sym, ◌∙◌, ap, subst, inl, inr, Option, Some, None, Result, Ok, Err}
 use Rattle.std.specs.Prelude.{◌-◌, MatchBool, ◌==◌, if◌then◌else◌, is_some, flat_map}
 use Rattle.nt_bytes.specs.declared.fault.HiveKind.{HiveKind}

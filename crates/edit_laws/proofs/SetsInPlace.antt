@@ -1,4 +1,5 @@
--- A value that is there is set where it stands: its size, place and type are written over, and its data are in it or in one cell.
+-- A value that is there is set where it stands: its size, place and type are written over, and its data are in it or
+-- in one cell.
 use Rattle.std.proofs.Common.{◌≡◌, ℕ, ◌<◌, ◌^◌, true, false, List, [], ◌∷◌, ◌++◌, sym, ◌∙◌, ap, subst, inl, inr, ⊎_elim, Some, None, Result, Ok}
 use Rattle.std.specs.Prelude.{◌⊎◌, find}
 use Rattle.nt_bytes.specs.Folding.{folds_same}
@@ -84,7 +85,8 @@ is_found b root t path name x v p well at found held = record {
     node_of : (k : Tree) → Stands b x k → (n : KeyNode) × (reading key_node_at b x ≡ Ok n)
     node_of (key hd ts) s = (s.1.node, s.1.read)
 
--- A value is set whose data it then holds itself: of all cells that are allocated its own alone changes, in twelve bytes.
+-- A value is set whose data it then holds itself: of all cells that are allocated its own alone changes, in twelve
+-- bytes.
 pub set_inside : (b c : Cells) (root : ℕ) (t u : Tree) (path : List (List ℕ)) (name : List ℕ) (kind : ℕ)
     (bytes : List ℕ) (x v size offset : ℕ) (p : List ℕ) → IsWellFormed b root t
     → after_step (set_value path name kind bytes) t ≡ Ok u → key_place b path root ≡ Some x
@@ -127,7 +129,8 @@ set_inside b c root t u path name kind bytes x v size offset p well ok at found 
       once = subst (Pairwise (λ y z. y ≡ z → ⊥)) (sym uses_new) (single v);
     }
 
--- A value is set whose data one cell holds, which was one of its own or none: of all cells that are allocated only its own change.
+-- A value is set whose data one cell holds, which was one of its own or none: of all cells that are allocated only
+-- its own change.
 pub set_in_cell : (b c : Cells) (root : ℕ) (t u : Tree) (path : List (List ℕ)) (name : List ℕ) (kind : ℕ)
     (bytes : List ℕ) (x v y size : ℕ) (p d : List ℕ) → IsWellFormed b root t
     → after_step (set_value path name kind bytes) t ≡ Ok u → key_place b path root ≡ Some x

@@ -1,4 +1,5 @@
--- An owned entry that a step names lies in the step's cells, where the cells are well-formed and the step isn't refused.
+-- An owned entry that a step names lies in the step's cells, where the cells are well-formed and the step isn't
+-- refused.
 use Rattle.std.proofs.Common.{◌≡◌, ℕ, ◌-◌, Bool, true, false, cond, List, [], ◌∷◌, ◌++◌, length, refl, sym, ◌∙◌, ap, subst, inl, inr, ⊎_elim, Option, Some, Result, Ok, Err, arith}
 use Rattle.std.specs.Prelude.{Contains, find, ◌==◌, if◌then◌else◌}
 use Rattle.std.specs.Option.{option_map_or}

@@ -1,4 +1,5 @@
--- The sizes of all cells of a key together are its size; and what of sizes and names comes of a child that is put among others.
+-- The sizes of all cells of a key together are its size; and what of sizes and names comes of a child that is put
+-- among others.
 use Rattle.std.proofs.Common.{◌≡◌, ◌≤◌, ◌<◌, ℕ, zero, suc, ◌+◌, ◌*◌, ◌/◌, ◌%◌, Bool, true, false, eqb, cond, List, [], ◌∷◌, ◌++◌, length, Option, Some, None, refl, sym, ap, ◌∙◌, ◌⊎◌, inl, inr, arith}
 use Rattle.std.specs.Prelude.{◌==◌, nat_lt, find, flat_map, is_some, min}
 use Rattle.std.specs.Ordering.{is_gt}

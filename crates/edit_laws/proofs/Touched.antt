@@ -108,8 +108,8 @@ touched_or step p =
 
 -- ---- the frame of a step
 
--- A step is framed where held cells outside its own are the same, a node that is still a child of its key has its name, and each
--- touched key that is still at its path is kept.
+-- A step is framed where held cells outside its own are the same, a node that is still a child of its key has its
+-- name, and each touched key that is still at its path is kept.
 pub step_framed : (b c : Cells) (root : ℕ) (tb t : Tree) (step : Step) → IsWellFormed b root tb
     → LeavesOthers b c root t step → KeepsNames b c root
     → ((p : List (List ℕ)) (x : ℕ) → IsTouched step p → Reaches b root p x → Reaches c root p x

@@ -1,4 +1,5 @@
--- A value that is there gets other data, a new one comes, one goes: the cells are well-formed with the tree after the step.
+-- A value that is there gets other data, a new one comes, one goes: the cells are well-formed with the tree after the
+-- step.
 use Rattle.std.proofs.Common.{◌≡◌, ℕ, Bool, true, false, cond, List, [], ◌∷◌, ◌++◌, refl, sym, ◌∙◌, ap, subst, inl, inr, Some, Result, Ok}
 use Rattle.std.specs.Prelude.{find, is_some}
 use Rattle.nt_bytes.specs.Folding.{folds_same}

@@ -24,7 +24,8 @@ pub outside_same : (a c : Cells) (root : ℕ) (t : Tree) (steps : List Step) →
     → c.payload o ≡ Ok q
 outside_same a c root t steps sound edits = unchanged_outside a c root t steps (bridges a root sound) edits
 
--- Steps in order, each framed by the cells that it is made on, change no held cell of well-formed cells outside the footprint.
+-- Steps in order, each framed by the cells that it is made on, change no held cell of well-formed cells outside the
+-- footprint.
 pub edited_outside : (a c : Cells) (root : ℕ) (t : Tree) (steps : List Step) → IsWellFormed a root t
     → Edits root a t steps c → (o : ℕ) (q : List ℕ) → a.payload o ≡ Ok q → (IsInFootprint a root t steps o → ⊥)
     → c.payload o ≡ Ok q

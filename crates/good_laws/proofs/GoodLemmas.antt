@@ -41,8 +41,8 @@ pub record HasHeld (h : List Note) : Type 0 where
 
 -- ---- a tree
 
--- LastKnownGood names a good set in the tree, by the trees that were held and the clones that were saved; or it names none,
--- and named none in an earlier tree
+-- LastKnownGood names a good set in the tree, by the trees that were held and the clones that were saved; or it names
+-- none, and named none in an earlier tree
 pub data IsFine (h : List Note) (t : Tree) : Type 0 where
   names_good_set : NamesGood (held_in h ++ t ∷ []) (saved_in h) t → IsFine h t
   never_named : named h ≡ false → good_is_usable t ≡ false → IsFine h t

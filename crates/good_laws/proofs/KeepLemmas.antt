@@ -1,5 +1,5 @@
--- What an event loads and commits: trees in which LastKnownGood names a good set, or none as long as it never did; and what a
--- start that runs keeps for its save.
+-- What an event loads and commits: trees in which LastKnownGood names a good set, or none as long as it never did;
+-- and what a start that runs keeps for its save.
 use Rattle.std.proofs.Common.{◌≡◌, ◌⊎◌, inl, inr, ℕ, zero, suc, Bool, true, false, not, ◌||◌, ◌==◌, cond, List, [], ◌∷◌, length, map, Option, Some, None, Result, Ok, Err, refl, sym, ap, subst, ◌∙◌, eqb-true}
 use Rattle.std.specs.Prelude.{IfSome, option_and_then, slice_get, unwrap_or}
 use Rattle.std.specs.Option.{is_some, option_map}

@@ -1,5 +1,5 @@
--- Over a run LastKnownGood names a good set in each tree that is held, from the first good one on, and in each that the disk may
--- load as in the end.
+-- Over a run LastKnownGood names a good set in each tree that is held, from the first good one on, and in each that
+-- the disk may load as in the end.
 use Rattle.std.proofs.Common.{◌≡◌, ℕ, List, [], ◌∷◌, ◌++◌, Option, Some, None, refl, sym, ap, subst, ◌∙◌, append-nil, append_assoc}
 use Rattle.std.specs.Prelude.{IfSome}
 use Rattle.hive_model.specs.Tree.{Tree}

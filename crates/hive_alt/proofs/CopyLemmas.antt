@@ -107,8 +107,8 @@ either false = inr refl
 module _ (file : File) (h0 : Image) (opened closed : Base) (bits : ℕ → Bool) (new : List ℕ)
     (stays : (i : ℕ) → 512 * i < length new → bits i ≡ false → h0 (copy_at file (8 + i)) ≡ Some (Bytes (sector new i)))
   where
-    all_same : (c : Image) → AgreeOutside (is_block file) h0 c → c (copy_at file 0) ≡ h0 (copy_at file 0) → (a : Address)
-        → c a ≡ h0 a
+    all_same : (c : Image) → AgreeOutside (is_block file) h0 c → c (copy_at file 0) ≡ h0 (copy_at file 0)
+        → (a : Address) → c a ≡ h0 a
     all_same c agree same a =
         let here : (b : Bool) → is_block file a ≡ b → c a ≡ h0 a =
         elim [
@@ -130,7 +130,8 @@ module _ (file : File) (h0 : Image) (opened closed : Base) (bits : ℕ → Bool)
           → IsRewriting file h0 opened closed new c
       bins_cut c agree = inr (inl (inl (agree (copy_at file 0) (no_bin file (length new) bits) ∙ block1)))
 
-      pub bins_other : (c : Image) → AgreeOutside (is_bin file (length new) bits) h1 c → AgreeOutside (in_copy file) h0 c
+      pub bins_other : (c : Image) → AgreeOutside (is_bin file (length new) bits) h1 c
+          → AgreeOutside (in_copy file) h0 c
       bins_other c agree a not =
           outside_bin file (length new) bits h1 c agree a not ∙ outside_block file h0 h1 agree1 a not
 

@@ -1,6 +1,6 @@
 //! Reading the bins sectors of a copy. Nothing is written.
 
-ghost use Rattle.std.specs.Prelude.{◌≡◌, ◌<◌, ◌≤◌, ◌+◌, ◌*◌, ℕ, true, Ok, [], ◌∷◌, length, IfOk};
+ghost use Rattle.std.specs.Prelude.{◌≡◌, ◌<◌, ◌+◌, ◌*◌, ℕ, true, Ok, [], ◌∷◌, length, IfOk};
 ghost use Rattle.hive_model.specs.Recovery.{bytes_or, gathered, sector};
 ghost use Rattle.nt_edge.specs.Book.{file_of};
 ghost use Rattle.nt_edge.specs.Calls.{Makes, ReadAt};

@@ -1,7 +1,5 @@
 //! The scheme of a log.
 
-ghost use Rattle.std.specs.Prelude.{◌≡◌};
-
 use crate::Scheme;
 use hive_commit::{CommitStop, LoadStop, Recovered};
 use nt_bytes::ReadStop;

@@ -9,7 +9,6 @@ ghost use Rattle.hive_log.specs.Found.{IsUnfinished};
 ghost use Rattle.hive_log.specs.Stops.{HasItsFault, IsLookAt};
 ghost use Rattle.hive_alt.specs.Copies.{StandsBy};
 ghost use Rattle.hive_alt.specs.Schemes.{OnlyReads};
-ghost use Rattle.hive_alt.specs.Shown.{seen_of};
 ghost use Rattle.hive_alt.specs.Twin.{twin_of};
 
 use crate::blocks::{read_first_block, read_second_block, second_is};

@@ -1,7 +1,5 @@
 //! The scheme of a second whole copy.
 
-ghost use Rattle.std.specs.Prelude.{◌≡◌};
-
 use crate::Scheme;
 use crate::committing::change_pair;
 use crate::files::kept_pair;

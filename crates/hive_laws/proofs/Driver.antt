@@ -260,7 +260,8 @@ names = (
     ),
     (
       (
-        items_differ (head select_key).values ((refl, (refl, (refl, tt))), ((refl, (refl, tt)), ((refl, tt), (tt, tt)))),
+        items_differ (head select_key).values
+            ((refl, (refl, (refl, tt))), ((refl, (refl, tt)), ((refl, tt), (tt, tt)))),
         named [] tt,
         keys_differ [] tt,
         tt,

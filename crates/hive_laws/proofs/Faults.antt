@@ -1,4 +1,5 @@
--- What the hive of one driver loads as, and its faults where bytes are changed: the parts that compute are premises here.
+-- What the hive of one driver loads as, and its faults where bytes are changed: the parts that compute are premises
+-- here.
 use Rattle.std.specs.Prelude.{drop, replicate}
 use Rattle.std.specs.List.{list_all}
 use Rattle.std.proofs.Common.{◌≡◌, ◌<◌, ◌++◌, ℕ, true, false, List, [], length, Some, Ok, Err, refl, sym, subst, inl, inr, lit<}

@@ -3,7 +3,6 @@
 ghost use Rattle.std.specs.Prelude.{◌≡◌, ◌<◌, ℕ, List, [], ◌∷◌, ◌++◌, codes, replicate, length, Ok, Err};
 ghost use Rattle.nt_bytes.specs.declared.version.HiveVersion.{HiveVersion as Version};
 ghost use Rattle.nt_bytes.specs.declared.version.HiveVersion.TheVariants.{V3, V5};
-ghost use Rattle.hive_model.specs.Tree.{Item};
 ghost use Rattle.hive_model.specs.Size.{bulk_of};
 ghost use Rattle.hive_model.specs.Edit.{edited, set_value, delete_value, make_key, delete_key, copy_child, add_child};
 ghost use Rattle.hive_model.specs.Edit.{no_key, no_value, bad_name, exists, name_too_long, too_deep, data_too_long, full};

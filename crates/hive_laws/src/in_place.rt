@@ -1,6 +1,6 @@
 //! What an edit in place keeps of the cells of security.
 
-ghost use Rattle.std.specs.Prelude.{◌≡◌, ◌+◌, ℕ, List, [], ◌∷◌, length, true, false, None};
+ghost use Rattle.std.specs.Prelude.{◌≡◌, ℕ, [], ◌∷◌, true, false, None};
 ghost use Rattle.nt_bytes.specs.declared.version.HiveVersion.{HiveVersion as Version};
 ghost use Rattle.hive_model.specs.Bins.{Cells, look_up};
 ghost use Rattle.hive_model.specs.Walk.{first_fault};

@@ -6,13 +6,12 @@ ghost use Rattle.nt_bytes.specs.declared.version.HiveVersion.{HiveVersion as Ver
 ghost use Rattle.nt_bytes.specs.declared.version.HiveVersion.TheVariants.{V3, V5};
 ghost use Rattle.hive_model.specs.Base.{fault_at};
 ghost use Rattle.hive_model.specs.Bins.{look_up};
-ghost use Rattle.hive_model.specs.Tree.{key, trees};
 ghost use Rattle.hive_model.specs.Walk.{data_checks, first_fault};
 ghost use Rattle.hive_model.specs.Stands.{data_of, Stands};
 ghost use Rattle.hive_model.specs.Footprint.{used_in};
 ghost use Rattle.hive_laws.specs.Both.{FaultIs};
 ghost use Rattle.hive_laws.specs.SmallCells.{family, kin, endless, long_value, segmented, data_fault};
-ghost use Rattle.hive_laws.specs.Trees.{bare, folder};
+ghost use Rattle.hive_laws.specs.Trees.{folder};
 
 /// The children are at 144 and 232, as the list says.
 pub fn a_family_stands()

@@ -102,8 +102,8 @@ goes_alone (Some base) logged is =
 pub one_number : (opened : Option Base) (logged : Base) → goes_with opened logged ≡ true → logged.first ≡ logged.second
 one_number opened logged is = eqb-true logged.first logged.second (goes_alone opened logged is)
 
--- What was found stays found in an image that has the same log and the same sectors whose bit is off; its base block is the
--- same, or can't be read.
+-- What was found stays found in an image that has the same log and the same sectors whose bit is off; its base block
+-- is the same, or can't be read.
 module _ (x y : Image) (closed : Base) (bitmap bins : List ℕ) (f : Found x closed bitmap bins)
     (logs : (n : ℕ) → log_in y n ≡ log_in x n)
     (rest : (i : ℕ) → bit bitmap i ≡ false → primary_in y (8 + i) ≡ primary_in x (8 + i)) where

@@ -86,7 +86,10 @@ signature_bytes = record {
               elim k as (λ k. slice_index (codes "regf") (suc (suc k)) < 256) [
                 | zero ↦ omega arith
                 | suc k ↦
-                    elim k as (λ k. slice_index (codes "regf") (suc (suc (suc k))) < 256) [ zero ↦ omega arith | suc k ↦ omega arith ]
+                    elim k as (λ k. slice_index (codes "regf") (suc (suc (suc k))) < 256) [
+                      | zero ↦ omega arith
+                      | suc k ↦ omega arith
+                    ]
               ]
         ]
   ];

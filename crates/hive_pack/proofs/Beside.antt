@@ -1,4 +1,5 @@
--- In packed cells each cell is used once: uses come in rising order, but for the descriptor of the key above, which stands beside.
+-- In packed cells each cell is used once: uses come in rising order, but for the descriptor of the key above, which
+-- stands beside.
 use Rattle.std.proofs.Common.{◌≡◌, ◌≤◌, ◌<◌, ◌⊎◌, inl, inr, ℕ, Bool, true, false, eqb, List, [], ◌∷◌, ◌++◌, Result, Ok, refl, sym, subst, append_assoc, arith}
 use Rattle.std.specs.Prelude.{not, ◌&&◌}
 use Rattle.std.specs.List.{list_any, AllByRecursion}
@@ -148,7 +149,8 @@ once_append before (uses at k ∷ cs) b p q = (
 
 -- ---- a stretch of checks
 
--- Checks whose uses lie in a range, or are of the descriptor beside it, which is before a bound, and which clash with nothing outside.
+-- Checks whose uses lie in a range, or are of the descriptor beside it, which is before a bound, and which clash with
+-- nothing outside.
 pub record Good (most lo hi s : ℕ) (cs : List Check) : Type 0 where
   pub within : Within most lo hi s cs
   pub once : (before : List Check) → Clean most lo hi s before → OnceBehind before cs

@@ -1,7 +1,6 @@
 //! The cells of a key that is to stand below another one, in bins data that are there.
 
-ghost use Rattle.std.specs.Prelude.{◌≡◌, ◌≤◌, ◌+◌, ◌++◌, length, IfOk};
-ghost use Rattle.hive_model.specs.Tree.{head, children};
+ghost use Rattle.std.specs.Prelude.{◌≡◌, ◌≤◌, ◌+◌, IfOk};
 ghost use Rattle.hive_model.specs.Valid.{HoldsKeys};
 ghost use Rattle.hive_model.specs.Size.{size};
 ghost use Rattle.hive_model.specs.Packed.{text, cells_of, sharers};

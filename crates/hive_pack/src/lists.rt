@@ -1,6 +1,6 @@
 //! The subkey lists.
 
-ghost use Rattle.std.specs.Prelude.{◌≡◌, ◌≤◌, ◌<◌, ◌+◌, ◌*◌, ◌++◌, length, map, List, ℕ, OnOk, IfOk};
+ghost use Rattle.std.specs.Prelude.{◌≡◌, ◌≤◌, ◌<◌, ◌+◌, ◌*◌, ◌++◌, length, map, OnOk, IfOk};
 ghost use Rattle.std.specs.Prelude.{slice_index, true};
 ghost use Rattle.nt_bytes.specs.declared.version.HiveVersion.{HiveVersion};
 ghost use Rattle.hive_model.specs.Tree.{Tree, head};

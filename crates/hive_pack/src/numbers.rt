@@ -1,6 +1,6 @@
 //! That the numbers of a key fit their fields, which their types say.
 
-ghost use Rattle.std.specs.Prelude.{◌<◌, ◌≤◌, ℕ, slice_index};
+ghost use Rattle.std.specs.Prelude.{◌<◌, ℕ, slice_index};
 ghost use Rattle.std.specs.List.{AllByRecursion};
 ghost use Rattle.hive_model.specs.Tree.{head, trees};
 ghost use Rattle.hive_pack.specs.Numbers.{ItemNumbers, HeadNumbers, HasNumbers, AllHaveNumbers};

@@ -3,7 +3,7 @@
 ghost use Rattle.std.specs.Prelude.{◌≡◌, ◌≤◌, ◌+◌, ◌++◌, length, OnOk};
 ghost use Rattle.hive_model.specs.Tree.{head, trees};
 ghost use Rattle.hive_model.specs.Size.{node_size, class_size, security_size};
-ghost use Rattle.hive_model.specs.Packed.{below, descriptor_place, security_place_of, security_cells, sharers, sharers_of_all, text, forward, backward};
+ghost use Rattle.hive_model.specs.Packed.{below, security_place_of, security_cells, sharers, sharers_of_all, text, forward, backward};
 ghost use Rattle.hive_pack.specs.Writes.{above, IsRising};
 
 use crate::forms::NOWHERE;

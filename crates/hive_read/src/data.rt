@@ -1,11 +1,10 @@
 //! The data of a value.
 
 ghost use Rattle.std.specs.Prelude.{◌≡◌, Ok};
-ghost use Rattle.hive_model.specs.Forms.{Gives};
-ghost use Rattle.hive_model.specs.Size.{is_big as is_big_data, segment_count as segments_of};
-ghost use Rattle.hive_model.specs.Walk.{big_data_of, big_checks, data_checks, segments_checks};
+ghost use Rattle.hive_model.specs.Size.{is_big as is_big_data};
+ghost use Rattle.hive_model.specs.Walk.{big_checks, data_checks, segments_checks};
 ghost use Rattle.hive_model.specs.Stands.{big_bytes_at, data_of, joined_segments};
-ghost use Rattle.cell_forms.specs.Views.{big_data_of as form_of, key_value_of};
+ghost use Rattle.cell_forms.specs.Views.{key_value_of};
 ghost use Rattle.hive_read.specs.Celled.{celled_bytes, celled_checks};
 ghost use Rattle.hive_read.specs.Sources.{cells_of};
 ghost use Rattle.hive_read.specs.Walked.{walk, Steps};

@@ -64,7 +64,8 @@ fn judge_below(
     ensures { Steps (Counts (λ t. (reading key_node_at (cells_of cells.now) at ≡ Ok (key_node_of node.now) → Stands (cells_of cells.now) at t)
         × ((head t).name ≡ node.now.name))
         (size cells.now.version shared.now))
-        (walk (cells_of cells.now) used.old (below_node (key_checks left (cells_of cells.now) false) (cells_of cells.now) (key_node_of node.now) at)) used.new result }
+        (walk (cells_of cells.now) used.old
+        (below_node (key_checks left (cells_of cells.now) false) (cells_of cells.now) (key_node_of node.now) at)) used.new result }
 {
     let class = judge_class(cells, used, node)?;
     let security = judge_security(cells, used, node)?;
@@ -93,7 +94,9 @@ fn judge_children(
 ) -> Result<u64, ReadStop>
     ensures { Steps (Counts (ChildrenRead (cells_of cells.now) (key_node_of node.now))
         (λ ts. list_size (length ts) + sum_by (size cells.now.version shared.now) ts))
-        (walk (cells_of cells.now) used.old (children_checks (key_checks left (cells_of cells.now) false) (cells_of cells.now) (key_node_of node.now) at)) used.new result }
+        (walk (cells_of cells.now) used.old
+        (children_checks (key_checks left (cells_of cells.now) false) (cells_of cells.now) (key_node_of node.now) at))
+        used.new result }
 {
     if node.child_count == 0 {
         return Ok(0);

@@ -103,7 +103,8 @@ fn read_below(
     at: u32,
 ) -> Result<Key, ReadStop>
     ensures walked { Steps (λ t. reading key_node_at (cells_of cells.now) at ≡ Ok (key_node_of node) → Stands (cells_of cells.now) at t)
-        (walk (cells_of cells.now) used.old (below_node (key_checks left (cells_of cells.now) false) (cells_of cells.now) (key_node_of node) at)) used.new result }
+        (walk (cells_of cells.now) used.old
+        (below_node (key_checks left (cells_of cells.now) false) (cells_of cells.now) (key_node_of node) at)) used.new result }
     ensures named { IfOk result (λ t. (head t).name ≡ node.name) }
 {
     let class = read_class(alloc, cells, used, &node)?;
@@ -132,7 +133,9 @@ fn read_children(
     at: u32,
 ) -> Result<Keys, ReadStop>
     ensures { Steps (ChildrenRead (cells_of cells.now) (key_node_of node.now))
-        (walk (cells_of cells.now) used.old (children_checks (key_checks left (cells_of cells.now) false) (cells_of cells.now) (key_node_of node.now) at)) used.new result }
+        (walk (cells_of cells.now) used.old
+        (children_checks (key_checks left (cells_of cells.now) false) (cells_of cells.now) (key_node_of node.now) at))
+        used.new result }
 {
     if node.child_count == 0 {
         return Ok(Keys::new(alloc));

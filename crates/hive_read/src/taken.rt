@@ -2,9 +2,9 @@
 
 ghost use Rattle.std.specs.Prelude.{◌≡◌, ℕ, Bool, List, [], ◌++◌, map, not, ◌||◌, IfOk, OnOk};
 ghost use Rattle.std.specs.List.{list_any};
-ghost use Rattle.nt_bytes.specs.Folding.{folded, folds_same};
+ghost use Rattle.nt_bytes.specs.Folding.{folds_same};
 ghost use Rattle.cell_forms.specs.Views.{name_of};
-ghost use Rattle.hive_read.specs.Taken.{folded_name, folds_to, has_name};
+ghost use Rattle.hive_read.specs.Taken.{folded_name, has_name};
 
 use crate::few::Few;
 use cell_forms::StoredName;

@@ -10,7 +10,7 @@ ghost use Rattle.nt_bytes.specs.Folding.{folds_same};
 ghost use Rattle.hive_model.specs.Bins.{Cells};
 ghost use Rattle.hive_read.specs.Sources.{cells_of};
 ghost use Rattle.hive_model.specs.Size.{segment_count as segments_of};
-ghost use Rattle.hive_model.specs.Walk.{uses, use_as, reading, node_at, big_data_of, leaf_at, name_check};
+ghost use Rattle.hive_model.specs.Walk.{uses, node_at, big_data_of, leaf_at, name_check};
 ghost use Rattle.cell_forms.specs.Views.{big_data_of as form_of, name_of, security_of, subkey_list_of, value_seen};
 ghost use Rattle.hive_read.specs.Taken.{has_name, Knows};
 ghost use Rattle.hive_read.specs.Walked.{Seen, check, walk, Steps, Uses};

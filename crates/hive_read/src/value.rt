@@ -5,7 +5,7 @@ ghost use Rattle.nt_bytes.specs.Folding.{folds_same};
 ghost use Rattle.hive_read.specs.Sources.{cells_of};
 ghost use Rattle.hive_model.specs.Walk.{value_checks, values_in_turn, values_checks};
 ghost use Rattle.hive_model.specs.Stands.{item_at, items_at, values_of};
-ghost use Rattle.cell_forms.specs.Views.{key_node_of, key_value_of};
+ghost use Rattle.cell_forms.specs.Views.{key_node_of};
 ghost use Rattle.hive_read.specs.Taken.{has_name, Knows};
 ghost use Rattle.hive_read.specs.Walked.{walk, Steps};
 

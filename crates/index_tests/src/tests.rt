@@ -1,7 +1,5 @@
 //! Lists of 1, 500, 501, 1000 and 1001 children, come to from both sides, in both versions.
 
-ghost use Rattle.std.specs.Prelude.{◌≡◌, ◌≤◌};
-
 use super::*;
 use hive_cells::OpenHeap;
 use nt_bytes::{HiveVersion, u16_at, u32_at};

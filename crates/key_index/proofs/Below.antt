@@ -94,7 +94,8 @@ unfolding offsets_of
 lists_of cells list l offsets e f =
     let p = payload_in cells list in
     let facts = list_facts p l e in
-    let same : offsets_of p ≡ l.offsets = ap (λ (r : Result SubkeyList HiveKind). of_read r (λ list. list.offsets)) e in (
+    let same : offsets_of p ≡ l.offsets =
+    ap (λ (r : Result SubkeyList HiveKind). of_read r (λ list. list.offsets)) e in (
       λ plain.
           let g : done l.offsets ≡ done offsets =
           subst (λ (b : Bool). cond b (joined_at cells l.offsets) (done l.offsets) ≡ done offsets)

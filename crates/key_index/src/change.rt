@@ -5,7 +5,7 @@ ghost use Rattle.std.specs.Option.{IsSome};
 ghost use Rattle.std.specs.List.{All};
 ghost use Rattle.hive_model.specs.Bins.{bins_size, look_up};
 ghost use Rattle.hive_model.specs.Size.{list_size};
-ghost use Rattle.hive_model.specs.Lists.{AreHints, AreOffsets, offsets_text};
+ghost use Rattle.hive_model.specs.Lists.{AreHints, offsets_text};
 ghost use Rattle.hive_model.specs.Packed.{text, part_places, list_cells};
 ghost use Rattle.hive_cells.specs.Held.{held_at};
 ghost use Rattle.hive_cells.specs.Holes.{IsHole};

@@ -1,15 +1,14 @@
 //! The child that has a name.
 
-ghost use Rattle.std.specs.Prelude.{◌≡◌, ◌<◌, ◌≤◌, ◌==◌, true, length, find, Contains};
+ghost use Rattle.std.specs.Prelude.{◌≡◌, ◌<◌, ◌≤◌, ◌==◌, true, length, find};
 ghost use Rattle.std.specs.Result.{IsOk};
 ghost use Rattle.std.specs.Option.{IfSome};
 ghost use Rattle.std.specs.Ordering.{is_eq};
 ghost use Rattle.std.specs.List.{All};
-ghost use Rattle.nt_bytes.specs.Folding.{folded_order};
 ghost use Rattle.hive_model.specs.Bins.{look_up};
 ghost use Rattle.hive_model.specs.Lists.{list_at};
 ghost use Rattle.hive_model.specs.Footprint.{is_node_named};
-ghost use Rattle.key_index.specs.Lists.{AreLists, Finds, IsNode, ListsSiblings, NamesDiffer, children_at, name_in, offsets_of, offsets_in_lists};
+ghost use Rattle.key_index.specs.Lists.{AreLists, Finds, IsNode, ListsSiblings, NamesDiffer, children_at, offsets_of, offsets_in_lists};
 ghost use Rattle.key_index.specs.Sources.{cells_of};
 
 use crate::entries::{entry, entry_count, is_list_of_lists};

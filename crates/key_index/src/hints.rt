@@ -1,6 +1,6 @@
 //! The four bytes that a list has for each name.
 
-ghost use Rattle.std.specs.Prelude.{◌≡◌, map, true, slice_index, take, IfOk};
+ghost use Rattle.std.specs.Prelude.{◌≡◌, true, slice_index, IfOk};
 ghost use Rattle.std.specs.List.{All};
 ghost use Rattle.nt_bytes.specs.declared.version.HiveVersion.{HiveVersion};
 ghost use Rattle.hive_model.specs.Size.{is_narrow};

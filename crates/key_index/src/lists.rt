@@ -2,7 +2,7 @@
 
 ghost use Rattle.std.specs.Prelude.{◌≡◌, ◌≤◌, ◌+◌, ◌*◌, ◌++◌, length, OnOk, IfOk};
 ghost use Rattle.hive_model.specs.Size.{cell, part_count, list_size};
-ghost use Rattle.hive_model.specs.Lists.{AreHints, entries_text, lf_text, lh_text};
+ghost use Rattle.hive_model.specs.Lists.{AreHints, entries_text};
 ghost use Rattle.key_index.specs.Lists.{second_of};
 ghost use Rattle.hive_model.specs.Packed.{text, cell_text, list_text, parts, list_cells};
 

@@ -4,9 +4,11 @@
 //! order of the names. A lookup halves those, so it takes the logarithm of the number of names and no memory.
 #![tactic(auto)]
 
+mod folding;
 mod order;
 mod places;
 
+pub use folding::folded;
 pub use places::NamePlaces;
 
 #[cfg(test)]

@@ -1,6 +1,6 @@
 //! The hives of these tests.
 
-ghost use Rattle.std.specs.Prelude.{◌≡◌, ◌≤◌};
+ghost use Rattle.std.specs.Prelude.{◌≤◌};
 ghost use Rattle.hive_model.specs.Size.{bulk_of};
 ghost use Rattle.hive_model.specs.Valid.{IsValid};
 ghost use Rattle.nt_bytes.specs.declared.version.HiveVersion.TheVariants.{V3};

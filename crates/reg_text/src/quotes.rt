@@ -1,6 +1,6 @@
 //! Texts in quotes.
 
-ghost use Rattle.std.specs.Prelude.{◌≡◌, ◌<◌, false, length, IfOk};
+ghost use Rattle.std.specs.Prelude.{◌<◌, false, length, IfOk};
 ghost use Rattle.reg_text.specs.Gives.{Gives, Sees};
 ghost use Rattle.reg_text.specs.Quotes.{quoted_from, escaped_unit, first_unit};
 

@@ -1,13 +1,13 @@
 //! A text as edits.
 
-ghost use Rattle.std.specs.Prelude.{◌≡◌, ◌++◌, map, OnOk, IfOk, IfErr};
+ghost use Rattle.std.specs.Prelude.{◌≡◌, map, IfOk, IfErr};
 ghost use Rattle.std.specs.List.{All};
 ghost use Rattle.std.specs.Str.Lines.{lines};
 ghost use Rattle.reg_tree.specs.Fitting.{Fits};
 ghost use Rattle.reg_tree.specs.Makes.{step_of};
 ghost use Rattle.reg_text.specs.declared.stop.RegStop.TheVariants as stops;
 ghost use Rattle.reg_text.specs.Gives.{at_line, Finds, FailsBy, GivesSteps};
-ghost use Rattle.reg_text.specs.Reading.{number_of, line_said, lines_said, first_state, body_of, lines_behind, closed, units_said, behind_mark, reg_steps_of};
+ghost use Rattle.reg_text.specs.Reading.{number_of, line_said, lines_said, first_state, body_of, lines_behind, units_said, behind_mark, reg_steps_of};
 ghost use Rattle.reg_text.specs.Takes.{TakesLine, GivesBody, GivesLines};
 
 use crate::edits::say_line;

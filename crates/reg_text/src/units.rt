@@ -1,6 +1,6 @@
 //! Words and lines of texts in UTF-16 units.
 
-ghost use Rattle.std.specs.Prelude.{◌≡◌, ◌<◌, ◌∷◌, ℕ, length};
+ghost use Rattle.std.specs.Prelude.{◌≡◌, ◌<◌, ◌∷◌, length};
 ghost use Rattle.std.specs.Str.{bytes_eq};
 ghost use Rattle.std.specs.Str.Lines.{lines, strip_carriage_return};
 ghost use Rattle.nt_bytes.specs.Text.{without_front_blanks, without_last_blanks, trimmed};

@@ -5,7 +5,7 @@ ghost use Rattle.std.specs.List.{flat_map};
 ghost use Rattle.std.specs.Fmt.{digits};
 ghost use Rattle.std.specs.Int.{w32, from_le_bytes};
 ghost use Rattle.nt_bytes.specs.Text.{sz_of};
-ghost use Rattle.reg_text.specs.Writing.{quoted_unit, quoted, name_text, byte_digits, bytes_text, number_digits, is_dword, is_string, binary_text, data_text, value_text, breaks};
+ghost use Rattle.reg_text.specs.Writing.{quoted_unit, quoted, name_text, byte_digits, bytes_text, number_digits, is_string, binary_text, data_text, value_text, breaks};
 
 use crate::names::breaks;
 use nt_bytes::{hex_digit, sz, u32_at};

@@ -3,7 +3,7 @@
 ghost use Rattle.std.specs.Prelude.{◌≡◌, ◌++◌, codes, OnOk, IfOk};
 ghost use Rattle.std.specs.List.{flat_map};
 ghost use Rattle.reg_text.specs.declared.stop.RegStop.TheVariants as stops;
-ghost use Rattle.reg_text.specs.Writing.{system, header, place_of, text_of, unit_bytes, mark, reg_text_of};
+ghost use Rattle.reg_text.specs.Writing.{place_of, text_of, unit_bytes, mark, reg_text_of};
 ghost use Rattle.reg_text.specs.Gives.{GivesText};
 
 use crate::keys::{push_key, push_part};

@@ -1,5 +1,5 @@
--- What each event of a run keeps, said once: two facts of a state, one for while no start runs and one for while one does,
--- that go on over each change of the state and each note.
+-- What each event of a run keeps, said once: two facts of a state, one for while no start runs and one for while one
+-- does, that go on over each change of the state and each note.
 use Rattle.std.proofs.Common.{◌≡◌, ℕ, zero, suc, ◌+◌, Bool, true, false, ◌||◌, cond, List, [], ◌∷◌, ◌++◌, map, Option, Some, None, Result, Ok, Err, refl, sym, subst}
 use Rattle.hive_model.specs.Image.{Arming}
 use Rattle.hive_model.specs.Tree.{Tree}
@@ -37,9 +37,9 @@ IsStop Finished = ⊥
 IsStop PowerCut = Unit {0}
 IsStop DeviceFault = Unit {0}
 
--- By the notes so far: `Down` is a fact of a state in which no start runs, `Up` of one in which the disk is on, `Asks` of
--- what the disk may load as while an operation is not ended, `Wakes` of what it may load as when it wakes. None of them
--- looks at the machine.
+-- By the notes so far: `Down` is a fact of a state in which no start runs, `Up` of one in which the disk is on,
+-- `Asks` of what the disk may load as while an operation is not ended, `Wakes` of what it may load as when it wakes.
+-- None of them looks at the machine.
 pub record Law : Type 1 where
   pub Down : List Note → RunState → Type 0
   pub Up : List Note → RunState → Type 0

@@ -1,6 +1,6 @@
 //! The report of `safe`, line by line.
 
-ghost use Rattle.std.specs.Prelude.{◌≡◌, ◌++◌, [], ◌∷◌, map, IfOk, OnOk};
+ghost use Rattle.std.specs.Prelude.{◌≡◌, ◌++◌, [], map, IfOk, OnOk};
 ghost use Rattle.hive_model.specs.Valid.{HoldsKeys};
 ghost use Rattle.boot_report.specs.Report.{line_of, verdict_of};
 ghost use Rattle.safe_boot.specs.Lines as safe;

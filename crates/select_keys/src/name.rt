@@ -1,6 +1,6 @@
 //! The names of control sets.
 
-ghost use Rattle.std.specs.Prelude.{◌≡◌, ◌∷◌, [], ◌+◌, ◌*◌, ◌/◌, ◌%◌, ◌≤◌, ◌<◌, codes, IfOk, IfSome};
+ghost use Rattle.std.specs.Prelude.{◌≡◌, ◌∷◌, [], ◌+◌, ◌*◌, ◌/◌, ◌%◌, ◌≤◌, ◌<◌, IfOk};
 ghost use Rattle.start_model.specs.Sets.{set_name};
 ghost use Rattle.select_keys.specs.Names.{IsNumberOf, AreDigitsOf, IsDigitOf};
 

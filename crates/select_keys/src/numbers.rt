@@ -1,6 +1,6 @@
 //! The four numbers of the key `Select`.
 
-ghost use Rattle.std.specs.Prelude.{◌≡◌, codes};
+ghost use Rattle.std.specs.Prelude.{◌≡◌};
 ghost use Rattle.std.specs.Option.{option_copied};
 ghost use Rattle.start_model.specs.Sets.{select_number, numbers_in, four_of, has_number, taken_number, begun};
 ghost use Rattle.select_keys.specs.Plans.{gives_up};

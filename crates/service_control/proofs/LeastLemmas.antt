@@ -125,7 +125,8 @@ module _ (c : ControlState) (name : List ℕ) (differ : NamesDiffer c.by_group) 
           ∙ h)) [
             | inl before ↦ has_more (labels_of c.running) (labels_of others) d before
             | inr front ↦
-                (let i = any_place (λ e. folds_same d e.name) (take k others) (sym (named_any (take k others) d) ∙ front) in
+                (let i =
+                any_place (λ e. folds_same d e.name) (take k others) (sym (named_any (take k others) d) ∙ front) in
                 let low : i.0 < k = omega (arith, i.1, length-take k others) in
                 let small : i.0 < length others = omega (arith, i.1, length-take k others) in
                 let there : has_name (labels_of others) d ≡ true =

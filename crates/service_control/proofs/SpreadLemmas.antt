@@ -163,10 +163,11 @@ cause_name r q n x c =
     elim (Contains-append_cases (own_causes n) (option_to_list (option_and_then (group_cause r q n) n.group)) x c) [
       | inl own ↦ elim (Contains-append_cases (map (by_name n) (n.name ∷ []) ++ map (by_name n) n.services)
           (map (by_group n) n.groups) x own) [
-            | inl names ↦ elim (Contains-append_cases (map (by_name n) (n.name ∷ [])) (map (by_name n) n.services) x names) [
-              | inl self ↦ ap (λ (y : Need). y.name) (mapped_from (by_name n) (n.name ∷ []) x self).is
-              | inr service ↦ ap (λ (y : Need). y.name) (mapped_from (by_name n) n.services x service).is
-            ]
+            | inl names ↦ elim (Contains-append_cases (map (by_name n) (n.name ∷ [])) (map (by_name n) n.services) x
+                names) [
+                  | inl self ↦ ap (λ (y : Need). y.name) (mapped_from (by_name n) (n.name ∷ []) x self).is
+                  | inr service ↦ ap (λ (y : Need). y.name) (mapped_from (by_name n) n.services x service).is
+                ]
             | inr group ↦ ap (λ (y : Need). y.name) (mapped_from (by_group n) n.groups x group).is
           ]
       | inr class ↦ class_name r q n x n.group class
@@ -515,8 +516,8 @@ module _ (r : List Need) (s : List ℕ) (owners : List ℕ) (w : WaitingState) (
       by : (n : Need) → get_or r q none ≡ n → leans r s (member taken) (get_or r q none) ≡ true → member taken q ≡ true
       by n e h = elim (or_cases (folds_same s (get_or r q none).name || has r (member taken) (get_or r q none).name)
           _ h) [
-            | inl one ↦ elim (or_cases (folds_same s (get_or r q none).name) (has r (member taken) (get_or r q none).name)
-                one) [
+            | inl one ↦ elim (or_cases (folds_same s (get_or r q none).name)
+                (has r (member taken) (get_or r q none).name) one) [
                   | inl seed ↦ by_own_name q lt (sym (name_alike w.started s (get_or r q none).name seed) ∙ old.seeded)
                   | inr had ↦ by_own_name q lt (name_on (get_or r q none).name had)
                 ]

@@ -1,7 +1,6 @@
 //! What makes a started service lean.
 
 ghost use Rattle.std.specs.Prelude.{◌≡◌, ◌∷◌, ◌++◌, ◌==◌, [], false, length, map, replicate, position, option_and_then, option_map, slice_get, IfOk, OnOk};
-ghost use Rattle.std.specs.List.{filter_map};
 ghost use Rattle.std.specs.Option.{option_map_or, option_to_list};
 ghost use Rattle.nt_bytes.specs.Folding.{folds_same};
 ghost use Rattle.service_control.specs.Causes.{AreCauses, causes_at, causes_of, own_causes, by_name, by_group, group_cause, is_first, key_of, keys_of, names_at};

@@ -1,6 +1,6 @@
 //! Why a call is refused, one question after another.
 
-ghost use Rattle.std.specs.Prelude.{◌≡◌, ◌<◌, ◌^◌, true, not, length, option_map, position, Some, None, IfOk, IfSome, OnOk, if◌then◌else◌};
+ghost use Rattle.std.specs.Prelude.{◌≡◌, ◌<◌, true, not, option_map, position, Some, None, IfOk, OnOk, if◌then◌else◌};
 ghost use Rattle.std.specs.Option.{option_copied};
 ghost use Rattle.nt_bytes.specs.Folding.{folds_same};
 ghost use Rattle.start_model.specs.Ready.{has_name};

@@ -7,14 +7,13 @@ ghost use Rattle.std.specs.Prelude.{◌≡◌, ◌<◌, ◌∷◌, [], None, tru
 ghost use Rattle.nt_bytes.specs.Folding.{folded};
 ghost use Rattle.start_model.specs.Ready.{has_name};
 ghost use Rattle.service_control.specs.State.{labels_of};
-ghost use Rattle.service_control.specs.Turns.{all_wait};
 ghost use Rattle.service_control.specs.Leaning.{leaning_of};
 ghost use Rattle.service_control.specs.Causes.{AreCauses};
 
 use crate::causes::{CauseList, causes};
-use crate::lists::folded;
 use crate::turns::{few, waiting};
 use dependencies::{Need, Needs, Started, TestCount};
+use name_places::folded;
 use std::alloc::{AllocError, Global};
 
 /// For each started service whether it leans on the one of this name, which is started too. Takes n log n time in

@@ -1,14 +1,15 @@
 //! Lists of entries: copies, parts, names and labels.
 
-ghost use Rattle.std.specs.Prelude.{◌≡◌, ◌++◌, not, length, map, filter, reverse, option_map, slice_get, IfOk, OnOk};
+ghost use Rattle.std.specs.Prelude.{◌≡◌, ◌++◌, not, length, map, filter, reverse, slice_get, IfOk, OnOk};
 ghost use Rattle.std.specs.List.{filter_map, items_where_true, range_with_len};
 ghost use Rattle.nt_bytes.specs.Folding.{folded, folds_same};
 ghost use Rattle.dependencies.specs.Work.{names_of};
 ghost use Rattle.service_control.specs.State.{labels_of};
 
 use crate::turns::few;
-use dependencies::{Need, Needs, Places, Started};
-use nt_bytes::{Names, Units, fold, same_folded};
+use dependencies::{Need, Needs, Places, Started, folded_group};
+use name_places::folded;
+use nt_bytes::{Names, Units, same_folded};
 use std::alloc::{AllocError, Global};
 
 /// The same entry in memory of its own.
@@ -147,27 +148,4 @@ pub(crate) fn started(alloc: Global, needs: &[Need]) -> Result<Started, AllocErr
         started.push(alloc, name, group)?;
     }
     Ok(started)
-}
-
-/// The name with each unit folded.
-pub(crate) fn folded(alloc: Global, name: &[u16]) -> Result<Units, AllocError>
-    ensures { IfOk result (λ u. u ≡ folded name.now) }
-{
-    let units = folded_units(alloc, name)?;
-    Ok(Units::from_vec(units))
-}
-
-fn folded_units(alloc: Global, name: &[u16]) -> Result<Vec<u16>, AllocError>
-    ensures { IfOk result (λ u. u.items ≡ folded name.now) }
-{
-    name.iter().map(|u| fold(*u)).collect(alloc)
-}
-
-fn folded_group(alloc: Global, group: &Option<Units>) -> Result<Option<Units>, AllocError>
-    ensures { IfOk result (λ g. g ≡ option_map folded group.now) }
-{
-    match group {
-        Some(name) => Ok(Some(folded(alloc, name.as_slice())?)),
-        None => Ok(None),
-    }
 }

@@ -8,4 +8,4 @@ mod entry;
 mod table;
 
 pub use entry::{Entries, Entry};
-pub use table::{ServiceTable, entries, folded};
+pub use table::{ServiceTable, entries};

@@ -10,7 +10,8 @@ ghost use Rattle.start_model.specs.Entries.{entries_of, entry_of, services_of};
 
 use crate::entry::{Entries, Entry, read_entry};
 use indexmap::IndexMap;
-use nt_bytes::{Units, fold};
+use name_places::folded;
+use nt_bytes::Units;
 use reg_tree::Key;
 use std::alloc::{AllocError, Global};
 use std::marker::Model;
@@ -50,7 +51,7 @@ impl ServiceTable {
         ensures { OnOk result (self.new ≡ self.old ++ entry ∷ []) }
     {
         let key = folded(alloc, entry.name.as_slice())?;
-        self.by_name.insert(key, entry)?;
+        self.by_name.insert(key.into_vec(), entry)?;
         Ok(())
     }
 
@@ -93,13 +94,6 @@ impl ServiceTable {
         let entries = self.by_name.into_values().collect(alloc)?;
         Ok(Entries::from_vec(entries))
     }
-}
-
-/// A name with each unit folded.
-pub fn folded(alloc: Global, name: &[u16]) -> Result<Vec<u16>, AllocError>
-    ensures { IfOk result (λ v. v.items ≡ folded name.now) }
-{
-    name.iter().map(|u| fold(*u)).collect(alloc)
 }
 
 const SERVICES: [u16; 8] = [0x53, 0x65, 0x72, 0x76, 0x69, 0x63, 0x65, 0x73];

@@ -1,6 +1,6 @@
 //! A hive before and after an edit, and which of the two a session shows.
 
-ghost use Rattle.std.specs.Prelude.{◌≡◌, ◌≤◌, map, IfOk};
+ghost use Rattle.std.specs.Prelude.{◌≤◌, map, IfOk};
 ghost use Rattle.std.specs.List.{All};
 ghost use Rattle.hive_model.specs.Size.{bulk_of};
 ghost use Rattle.hive_model.specs.Valid.{IsValid};

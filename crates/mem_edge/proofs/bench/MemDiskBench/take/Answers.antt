@@ -30,7 +30,13 @@ returns-clause-taken c =
     let whole : IsJoined (of_file c.in-Ok.image.primary.items c.in-Ok.image.log.items file) bytes =
     subst (λ (s : _). IsJoined s bytes) c.file.ensures c.in-Ok-joined.ensures in
     let there : IsFileOf (held_of c.in-Ok.image) file bytes =
-    record { count = whole.count; long = whole.long; each = whole.each; no_more = whole.no_more; last = whole.last } in (
+    record {
+      count = whole.count;
+      long = whole.long;
+      each = whole.each;
+      no_more = whole.no_more;
+      last = whole.last;
+    } in (
       left d.keep (held_of d.image) flight,
       left_crash (held_of d.image) flight d.keep,
       ap (λ (s : Seen). s.disk) (returns-clause-does c),

@@ -16,7 +16,8 @@ returns-in_err-step-clause-made c =
     let later = map step_of (into_iter_items c.next.new.self) in
     rw (p.1, p.2) (
       step_refused c.args.version steps left later c.args.self.now c.steps.work (step_of c.in-Some.step)
-          c.in_err-step.field-0.0 c.steps.invariant (ap (λ (ss : List TreeStep). map step_of ss) c.in-Some.ensures.items)
+          c.in_err-step.field-0.0 c.steps.invariant
+          (ap (λ (ss : List TreeStep). map step_of ss) c.in-Some.ensures.items)
           c.in_err-step.ensures,
       refl,
     )
@@ -26,7 +27,8 @@ returns-then-bulk-gt-MOST_BULK-clause-made c =
     let none : into_iter_items c.steps.rest ≡ [] =
     nil_from_length _ (omega (arith, c.steps.rest.rest.ok, c.in_default.ensures.cases)) in (
       too_large c.args.version (map step_of c.args.steps) (map step_of (into_iter_items c.steps.rest))
-          c.args.self.now c.steps.work c.bulk.result c.steps.invariant (ap (λ (ss : List TreeStep). map step_of ss) none)
+          c.args.self.now c.steps.work c.bulk.result c.steps.invariant
+          (ap (λ (ss : List TreeStep). map step_of ss) none)
           c.bulk.ensures c.if-bulk-gt-MOST_BULK.true,
       refl,
     )

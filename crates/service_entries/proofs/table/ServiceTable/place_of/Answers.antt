@@ -11,6 +11,6 @@ returns c =
     let entries = c.args.self.now in
     let is : c.place_of_folded.result ≡ place_named (folded name) entries =
     c.place_of_folded.ensures.place
-    ∙ ap (λ k. place_named k entries) (c.as_slice.ensures.value ∙ c.in_ok-key.ensures) in
+    ∙ ap (λ k. place_named k entries) (c.as_slice.ensures ∙ c.in_ok-key.ensures) in
     λ q. only_place name entries c.place_of_folded.ensures.differ q
     ∙ sym (ap (λ (o : Option ℕ). option_map_or (nat_eq q) o false) is)

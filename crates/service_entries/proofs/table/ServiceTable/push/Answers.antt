@@ -6,7 +6,8 @@ use Rattle.service_entries.proofs.table.ServiceTable.push.Goals as goal
 
 pub invariant_of-self-2 : goal.invariant_of-self-2
 invariant_of-self-2 c =
-    let is = c.in_ok-key.ensures ∙ key_is c.as_slice.ensures ∙ ap (λ (e : Entry). folded e.name) c.entry.view_is in
+    let is = c.into_vec.ensures ∙ c.in_ok-key.ensures ∙ key_is c.as_slice.ensures
+    ∙ ap (λ (e : Entry). folded e.name) c.entry.view_is in
     let e = c.in_ok-insert.ensures.entries
     ∙ pushed _ _ c.args.entry c.self.invariant is (new_there c.args.entry.name c.self.view_is c.requires.new) in
     rw e (keyed_push _ _ c.args.entry c.self.invariant is (new_there c.args.entry.name c.self.view_is c.requires.new)
@@ -14,7 +15,8 @@ invariant_of-self-2 c =
 
 pub returns : goal.returns
 returns c =
-    let is = c.in_ok-key.ensures ∙ key_is c.as_slice.ensures ∙ ap (λ (e : Entry). folded e.name) c.entry.view_is in
+    let is = c.into_vec.ensures ∙ c.in_ok-key.ensures ∙ key_is c.as_slice.ensures
+    ∙ ap (λ (e : Entry). folded e.name) c.entry.view_is in
     let e = c.in_ok-insert.ensures.entries
     ∙ pushed _ _ c.args.entry c.self.invariant is (new_there c.args.entry.name c.self.view_is c.requires.new) in
     rw (e, ← c.self.view_is) (values_push _ _ c.args.entry)
