@@ -3,6 +3,7 @@
 chntpw) and `hivexregedit` (package libwin-hivex-perl) are run beside it where they are installed. Prints processor seconds, the least of
 a few runs each. No gate runs it."""
 import os
+import random
 import re
 import shutil
 import struct
@@ -142,6 +143,31 @@ def import_times(program, room):
         print(f"import of {count} keys below one: {took:.2f} s, {said.decode().strip()}")
 
 
+def numbers(count, order):
+    """So many numbers, rising, falling or mixed."""
+    if order == "mixed":
+        return random.Random(count).sample(range(count), count)
+    return range(count) if order == "rising" else range(count - 1, -1, -1)
+
+
+def edit_times(program, room):
+    """`import` of values and keys of one key in any order, and of their deletions."""
+    write(room, "empty", hives.hive(hives.cell(hives.node(b"ROOT", 0, hives.NONE, 0, hives.NONE))))
+    for what, set_line, deletion in (
+        ("values", '"V{0:06d}"=dword:{0:08x}', '"V{0:06d}"=-'),
+        ("keys", f"[{PREFIX}\\Many\\K{{0:06d}}]", f"[-{PREFIX}\\Many\\K{{0:06d}}]"),
+    ):
+        for count in (25_000, 50_000):
+            for order in ("rising", "falling", "mixed"):
+                for form, hive, doing in ((set_line, "empty", "set"), (deletion, "full", "deleted")):
+                    lines = [f"[{PREFIX}\\Many]"] + [form.format(i) for i in numbers(count, order)] + [""]
+                    write(room, "edits.reg", text_of(lines))
+                    took, said = least([program, "import", "--hive", hive, "--reg", "edits.reg", "--save-hive", "after"], room)
+                    print(f"import of {count} {what} {doing}, {order}: {took:.2f} s, {said.decode().strip()}")
+                    if doing == "set":
+                        os.replace(os.path.join(room, "after"), os.path.join(room, "full"))
+
+
 def lines_of(text):
     """The keys of a text, each with its values as a peer and this program both tell them: in small letters, whatever the order."""
     keys, at = {}, None
@@ -216,6 +242,7 @@ def main(words):
     with tempfile.TemporaryDirectory() as room:
         export_times(program, room)
         import_times(program, room)
+        edit_times(program, room)
         if shutil.which("hivexregedit"):
             compare(program, room)
 

@@ -208,9 +208,10 @@ def saves(program):
 
 
 def to_a_full_device(program):
-    """Nothing can be said: what was said, and the exit status."""
+    """Nothing can be said: what came as errors instead, and the exit status."""
     with open("/dev/full", "wb") as full:
-        return b"", subprocess.run([program], stdout=full, timeout=120).returncode
+        done = subprocess.run([program], stdout=full, stderr=subprocess.PIPE, timeout=120)
+        return done.stderr, done.returncode
 
 
 def to_a_short_file(program):
