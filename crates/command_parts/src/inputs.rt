@@ -4,7 +4,7 @@ ghost use Rattle.std.specs.Prelude.{◌≡◌, None, Err, option_map};
 ghost use Rattle.arc_path.specs.Reading.{arc_of};
 ghost use Rattle.nt_edge.specs.Host.{Asks};
 ghost use Rattle.command_parts.specs.Inputs.{system_in, file_in, bytes_in, log_in, hive_in, ini_in, AsksHive};
-ghost use Rattle.command_parts.specs.Leaves.{Looks, Reads, more, named};
+ghost use Rattle.command_parts.specs.Leaves.{AsksUntil, Looks, Reads, more, named};
 
 use crate::refusal::{Obstacle, Refusal};
 use arc_path::{Arc, ArcStop, read_arc};
@@ -65,6 +65,7 @@ pub fn file_in<H: Host>(alloc: Global, host: &mut H, name: &str) -> Result<Bytes
 pub fn bytes_in<H: Host>(alloc: Global, host: &mut H, name: Option<&str>) -> Result<Bytes, Obstacle>
     ensures looks { Looks (bytes_in (H.state host.old).files (option_map (λ v. v.now) name.entry)) result (H.state host.old) (H.state host.new) }
     ensures asks { (H.state host.new).gets ≡ more (named (option_map (λ v. v.now) name.entry)) (H.state host.old).gets }
+    ensures until { AsksUntil (named (option_map (λ v. v.now) name.entry)) result (H.state host.old).gets (H.state host.new).gets }
     ensures kept { result ≡ Err (Obstacle.Refused Refusal.Usage) → ⊥ }
 {
     match name {

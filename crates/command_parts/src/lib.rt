@@ -3,17 +3,20 @@
 //! - `inputs`: the files that words name, each asked for once, up to the first obstacle.
 //! - `refusal`, `kinds`, `status`: how the first obstacle is said, and which status the program then has.
 //! - `placing`: a hive with its log, read whole or judged, and placed on a disk.
+//! - `lines`: a line that counts something.
 //! - `saving`: the two files of a disk, saved under the names that the words have for them.
 #![tactic(auto)]
 
 mod inputs;
 mod kinds;
+mod lines;
 mod placing;
 mod refusal;
 mod saving;
 mod status;
 
 pub use inputs::{HiveFiles, bytes_in, file_in, hive_in, ini_in, no_memory, system_in};
+pub use lines::push_count;
 pub use placing::{judge, place, read};
 pub use refusal::{Obstacle, Refusal, refuse, stopped, tell};
 pub use saving::{Saves, finish, save, saved};

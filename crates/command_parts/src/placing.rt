@@ -1,6 +1,7 @@
 //! A hive and its log, checked and placed on the disk.
 
-ghost use Rattle.std.specs.Prelude.{◌≡◌, false, [], length, min, take, unwrap_or, OnOk, OnErr};
+ghost use Rattle.std.specs.Prelude.{◌≡◌, false, [], length, min, take, unwrap_or, IfOk, OnOk, OnErr};
+ghost use Rattle.hive_model.specs.Valid.{IsValid};
 ghost use Rattle.hive_store.specs.Checks.{ChecksAs, JudgesAs};
 ghost use Rattle.nt_edge.specs.Disk.{new_state};
 ghost use Rattle.command_parts.specs.Placed.{image_in, placed_disk, with_log, IsUnrun};
@@ -32,9 +33,11 @@ fn log_bytes(log: &Option<Bytes>) -> &[u8]
     }
 }
 
-/// Reads a whole hive with its log, as a start will load it: the tree, its sequence number and its version.
+/// Reads a whole hive with its log, as a start will load it: the tree, its sequence number and its version. Each key of
+/// the tree is one that a hive can hold.
 pub fn read(alloc: Global, files: &HiveFiles) -> Result<(Key, u32, HiveVersion), ReadStop>
-    ensures { ChecksAs (image_in files.now) result }
+    ensures checks { ChecksAs (image_in files.now) result }
+    ensures valid { IfOk result (λ x. IsValid x.0) }
 {
     check_images(alloc, files.primary.as_slice(), log_bytes(&files.log))
 }

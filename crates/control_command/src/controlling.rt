@@ -1,9 +1,6 @@
 //! `control`: services started and stopped after the boot.
 
-ghost use Rattle.std.specs.Prelude.{◌≡◌, [], unwrap_or, IfOk};
-ghost use Rattle.hive_model.specs.Valid.{IsValid};
-ghost use Rattle.hive_store.specs.Checks.{ChecksAs};
-ghost use Rattle.command_parts.specs.Placed.{image_in};
+ghost use Rattle.std.specs.Prelude.{◌≡◌};
 ghost use Rattle.command_words.specs.Views.{control_seen};
 ghost use Rattle.command_parts.specs.Inputs.{AsksSoMany};
 ghost use Rattle.control_command.specs.Inputs.{asks_control};
@@ -11,31 +8,12 @@ ghost use Rattle.control_command.specs.Answer.{ReportsAs, DecidesInputs, Decides
 
 use crate::answering::report;
 use crate::inputs::{Inputs, inputs_in};
-use command_parts::{HiveFiles, Obstacle, Refusal, Status, refuse, stopped, tell};
+use command_parts::{Obstacle, Refusal, Status, read, refuse, stopped, tell};
 use command_words::ControlWords;
-use hive_store::check_images;
 use nt_bytes::{Bytes, HiveVersion, ReadStop};
 use nt_edge::{Host, HostStop};
 use reg_tree::Key;
 use std::alloc::Global;
-
-/// The bytes of a log, none where there is no log.
-fn log_bytes(log: &Option<Bytes>) -> &[u8]
-    ensures { result.now ≡ unwrap_or log.now [] }
-{
-    match log {
-        Some(log) => log.as_slice(),
-        None => &[],
-    }
-}
-
-/// The tree of a hive with its log, its number and its version, or the first fault.
-fn read(alloc: Global, files: &HiveFiles) -> Result<(Key, u32, HiveVersion), ReadStop>
-    ensures exact { ChecksAs (image_in files.now) result }
-    ensures valid { IfOk result (λ x. IsValid x.0) }
-{
-    check_images(alloc, files.primary.as_slice(), log_bytes(&files.log))
-}
 
 /// The report on the hive's tree, or the hive's first fault.
 fn report_on(alloc: Global, inputs: &Inputs) -> Result<Bytes, Obstacle>

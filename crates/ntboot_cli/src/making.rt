@@ -1,7 +1,6 @@
 //! `make`: a generated hive, started once, and what that came to.
 
-ghost use Rattle.std.specs.Prelude.{◌≡◌, ◌≤◌, ◌++◌, Ok, false, IfOk, OnOk, OnErr, option_map};
-ghost use Rattle.std.specs.Fmt.{decimal};
+ghost use Rattle.std.specs.Prelude.{◌≡◌, ◌≤◌, Ok, false, IfOk, OnErr, option_map};
 ghost use Rattle.nt_edge.specs.Crash.{EachCrash};
 ghost use Rattle.nt_edge.specs.Disk.{new_state};
 ghost use Rattle.hive_model.specs.Image.{Image};
@@ -22,7 +21,8 @@ use boot_report::{Verdict, verdict_text};
 use boot_run::Summary;
 use boot_script::Event;
 use command_parts::{
-    HiveFiles, Obstacle, Saves, Status, finish, ini_in, place, refuse, stopped, system_in,
+    HiveFiles, Obstacle, Saves, Status, finish, ini_in, place, push_count, refuse, stopped,
+    system_in,
 };
 use command_words::{MakeWords, USUAL_SYSTEM};
 use generated_hive::generated_hive;
@@ -101,15 +101,6 @@ fn last_word(verdict: Option<Verdict>) -> &'static str
         Some(verdict) => verdict_text(verdict),
         None => "none",
     }
-}
-
-/// Puts a word and a number behind a line.
-fn push_count(alloc: Global, line: &mut Vec<u8>, word: &str, number: u32) -> Result<(), AllocError>
-    ensures { OnOk result (line.new.items ≡ line.old.items ++ word.now ++ decimal number) }
-{
-    line.extend_from_slice(word.as_bytes())?;
-    let digits = number.to_string(alloc)?;
-    line.extend_from_slice(digits.as_bytes())
 }
 
 /// The one line on a made hive.

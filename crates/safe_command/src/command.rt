@@ -1,42 +1,20 @@
 //! The command: files in, a report or the first obstacle out.
 
-ghost use Rattle.std.specs.Prelude.{◌≡◌, Err, IfOk, unwrap_or, []};
-ghost use Rattle.hive_model.specs.Valid.{IsValid};
-ghost use Rattle.hive_store.specs.Checks.{ChecksAs};
+ghost use Rattle.std.specs.Prelude.{◌≡◌, Err};
 ghost use Rattle.command_words.specs.Views.{safe_seen};
 ghost use Rattle.command_parts.specs.Inputs.{AsksSoMany};
-ghost use Rattle.command_parts.specs.Placed.{image_in};
 ghost use Rattle.command_parts.specs.Refusals.{IsToldAs};
 ghost use Rattle.safe_command.specs.Answer.{ReportsAs, DecidesReport, DecidesSafe};
 ghost use Rattle.safe_command.specs.Inputs.{arguments_in, asks_safe};
 
 use crate::inputs::{SafeInputs, inputs_in};
 use crate::report::report_text;
-use command_parts::{HiveFiles, Obstacle, Refusal, Status, no_memory, refuse, stopped, tell};
+use command_parts::{Obstacle, Refusal, Status, no_memory, read, refuse, stopped, tell};
 use command_words::SafeWords;
-use hive_store::check_images;
 use nt_bytes::{Bytes, HiveVersion, ReadStop};
 use nt_edge::Host;
 use reg_tree::Key;
 use std::alloc::Global;
-
-/// The bytes of a log, none where there is no log.
-fn log_bytes(log: &Option<Bytes>) -> &[u8]
-    ensures { result.now ≡ unwrap_or log.now [] }
-{
-    match log {
-        Some(log) => log.as_slice(),
-        None => &[],
-    }
-}
-
-/// Reads a whole hive with its log, as a start will load it. Each key of the tree is one that a hive can hold.
-fn read(alloc: Global, files: &HiveFiles) -> Result<(Key, u32, HiveVersion), ReadStop>
-    ensures checks { ChecksAs (image_in files.now) result }
-    ensures valid { IfOk result (λ x. IsValid x.0) }
-{
-    check_images(alloc, files.primary.as_slice(), log_bytes(&files.log))
-}
 
 /// The report, or the hive's first fault.
 fn report(alloc: Global, inputs: &SafeInputs) -> Result<Bytes, Obstacle>

@@ -1,9 +1,9 @@
 //! What `twin` says.
 
 ghost use Rattle.std.specs.Prelude.{◌≡◌, ◌++◌, IfOk, OnOk};
-ghost use Rattle.std.specs.Fmt.{decimal};
 ghost use Rattle.twin_command.specs.Told.{load_end, load_text, word_text, told_text};
 
+use command_parts::push_count;
 use std::alloc::{AllocError, Global};
 
 /// What is said of the default set.
@@ -27,15 +27,6 @@ pub(crate) struct Told {
     pub(crate) loaded: u32,
     pub(crate) mended: bool,
     pub(crate) word: Word,
-}
-
-/// Puts a word and a number behind a line.
-fn push_count(alloc: Global, line: &mut Vec<u8>, word: &str, number: u32) -> Result<(), AllocError>
-    ensures { OnOk result (line.new.items ≡ line.old.items ++ word.now ++ decimal number) }
-{
-    line.extend_from_slice(word.as_bytes())?;
-    let digits = number.to_string(alloc)?;
-    line.extend_from_slice(digits.as_bytes())
 }
 
 /// Puts a text behind a line.

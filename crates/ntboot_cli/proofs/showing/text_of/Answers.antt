@@ -5,5 +5,5 @@ use Rattle.ntboot_cli.proofs.showing.text_of.Goals as goal
 pub returns-in-Ok-shown_text : goal.returns-in-Ok-shown_text
 returns-in-Ok-shown_text c =
     shown_as (image_in c.args.files.now)
-    c.in-Ok.root c.in-Ok.sequence c.in-Ok.version c.bulk.result c.in-Ok-shown_text.text c.in-Ok.ensures
+    c.in-Ok.root c.in-Ok.sequence c.in-Ok.version c.bulk.result c.in-Ok-shown_text.text c.in-Ok.ensures.checks
     c.in-Ok-shown_text.ensures.exact c.bulk.ensures

@@ -22,8 +22,8 @@ returns-in_err-text-clause-asks g c = λ tells.
     first_asks (List ℕ) SafeInputs (asks_safe asked old.files) (named asked.boot_ini)
     (bytes_in old.files asked.boot_ini) (by_text asked old.files)
     c.in_err-text.field-0.0 c.from_residual-in_err-text.result
-    old.gets (g.H.Host.state c.text_in.new.host).gets n (c.in_err-text.ensures.looks.found tells)
-    c.in_err-text.ensures.looks.unwritten c.in_err-text.ensures.asks c.from_residual-in_err-text.ensures.1
+    old.gets (g.H.Host.state c.bytes_in.new.host).gets n (c.in_err-text.ensures.looks.found tells)
+    c.in_err-text.ensures.looks.unwritten c.in_err-text.ensures.until c.from_residual-in_err-text.ensures.1
 
 pub returns-in_err-ini-clause-asks : goal.returns-in_err-ini-clause-asks
 returns-in_err-ini-clause-asks g c = λ tells.
@@ -38,7 +38,7 @@ returns-in_err-ini-clause-asks g c = λ tells.
     c.as_bytes-2.ensures.value c.in_err-ini.ensures) in
     reads_asks (asks_safe asked old.files) (named asked.boot_ini) _
     (λ i. by_hive asked old.files) c.in_err-ini.field-0.0 c.from_residual-in_err-ini.result old.gets _
-    n reads c.from_residual-in_err-ini.ensures.1 c.in_ok-text.ensures.gets
+    n reads c.from_residual-in_err-ini.ensures.1 c.in_ok-text.ensures.asks
 
 pub returns-in_err-hive-clause-asks : goal.returns-in_err-hive-clause-asks
 returns-in_err-hive-clause-asks g c = λ tells.
@@ -52,14 +52,14 @@ returns-in_err-hive-clause-asks g c = λ tells.
     let looks = c.in_ok-text.ensures.looks in
     let all = hive_asked old.files asked c.in_ok-system.system c.in_ok-text.text c.in_ok-ini.ini system
     (looks.found tells) ini in
-    let mid = g.H.Host.state c.text_in.new.host in
+    let mid = g.H.Host.state c.bytes_in.new.host in
     let new = g.H.Host.state c.hive_in.new.host in
     let here = subst (λ (f : Files). AsksUntil {A = HiveFiles} (by_hive asked f) (Err c.in_err-hive.field-0.0)
     mid.gets new.gets) (looks.files tells)
     (c.in_err-hive.ensures.asks (looks.keeps.tells ∙ tells)) in
     behind_asks HiveFiles (asks_safe asked old.files) (named asked.boot_ini) (by_hive asked old.files)
     c.in_err-hive.field-0.0
-    c.from_residual-in_err-hive.result old.gets mid.gets new.gets all c.in_ok-text.ensures.gets here
+    c.from_residual-in_err-hive.result old.gets mid.gets new.gets all c.in_ok-text.ensures.asks here
     c.from_residual-in_err-hive.ensures.1
 
 pub returns-clause-asks : goal.returns-clause-asks
@@ -74,9 +74,9 @@ returns-clause-asks g c = λ tells.
     let looks = c.in_ok-text.ensures.looks in
     let all = hive_asked old.files asked c.in_ok-system.system c.in_ok-text.text c.in_ok-ini.ini system
     (looks.found tells) ini in
-    let mid = g.H.Host.state c.text_in.new.host in
+    let mid = g.H.Host.state c.bytes_in.new.host in
     let new = g.H.Host.state c.hive_in.new.host in
     let here = subst (λ (f : Files). new.gets ≡ more (by_hive asked f) mid.gets) (looks.files tells)
     (c.in_ok-hive.ensures.asks (looks.keeps.tells ∙ tells)) in
     more_behind (asks_safe asked old.files) (named asked.boot_ini) (by_hive asked old.files)
-    old.gets mid.gets new.gets all c.in_ok-text.ensures.gets here
+    old.gets mid.gets new.gets all c.in_ok-text.ensures.asks here
