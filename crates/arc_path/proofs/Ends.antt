@@ -1,15 +1,11 @@
 -- The front and the end of a list, of which each element passes a test.
 use Rattle.std.proofs.Common.{◌≡◌, ℕ, zero, suc, ◌+◌, ◌-◌, ◌<◌, ◌≤◌, Bool, true, false, cond, ◌&&◌, List, [], ◌∷◌, ◌++◌, length, take, drop, get_or, reverse, refl, sym, ap, ◌∙◌, arith}
 use Rattle.std.specs.List.{list_all, prefix_len, suffix_len}
-use Rattle.std.proofs.lemmas.Bool.{false≢true}
+use Rattle.std.proofs.lemmas.Bool.{false≢true, and_parts}
 use Rattle.std.proofs.lemmas.Grind.{reverse_onto}
 use Rattle.std.proofs.lemmas.List.{length-append, length-drop, length-take, length-reverse, get_or-reverse, get_or-drop, get_or-take, take_all, take_at, take_more, reverse-append}
 use Rattle.std.proofs.lemmas.List.Folds.{list_all-append}
 use Rattle.std.proofs.lemmas.List.Sums.{prefix_len_stops, prefix_len_passes, suffix_len-take_no, suffix_len-le-length}
-
-pub both : (a b : Bool) → (a && b) ≡ true → (a ≡ true) × (b ≡ true)
-both true b e = (refl, e)
-both false b e = absurd (false≢true e)
 
 -- ---- the front
 
@@ -22,13 +18,13 @@ all_from p (x ∷ xs) each = rw (each 0 (omega arith), all_from p xs (λ i lt. e
 pub prefix_whole : (p : ℕ → Bool) (front rest : List ℕ) → list_all p front ≡ true
     → prefix_len p (front ++ rest) ≡ length front + prefix_len p rest
 prefix_whole p [] rest e = omega arith
-prefix_whole p (c ∷ front) rest e = let q = both (p c) (list_all p front) e in
+prefix_whole p (c ∷ front) rest e = let q = and_parts (p c) (list_all p front) e in
     rw (q.0, prefix_whole p front rest q.1) (omega arith)
 
 -- a list of which each passes is its own front
 pub whole_front : (p : ℕ → Bool) (text : List ℕ) → list_all p text ≡ true → prefix_len p text ≡ length text
 whole_front p [] e = refl
-whole_front p (c ∷ text) e = let q = both (p c) (list_all p text) e in rw (q.0, whole_front p text q.1) (omega arith)
+whole_front p (c ∷ text) e = let q = and_parts (p c) (list_all p text) e in rw (q.0, whole_front p text q.1) (omega arith)
 
 pub front_passes : (p : ℕ → Bool) (xs : List ℕ) → list_all p (take (prefix_len p xs) xs) ≡ true
 front_passes p xs =
@@ -124,7 +120,7 @@ no_end p (c ∷ text) ends =
 all_back : (p : ℕ → Bool) (xs : List ℕ) → list_all p xs ≡ true → list_all p (reverse xs) ≡ true
 all_back p [] e = refl
 all_back p (x ∷ xs) e =
-    let q = both (p x) (list_all p xs) e in
+    let q = and_parts (p x) (list_all p xs) e in
     ap (list_all p) (reverse_onto xs x []) ∙ list_all-append p (reverse xs) (x ∷ []) ∙ rw (all_back p xs q.1, q.0) refl
 
 -- an end that passes is dropped, and no more

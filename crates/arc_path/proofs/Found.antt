@@ -6,11 +6,11 @@ use Rattle.std.specs.Str.{str_eq_ignore_ascii_case}
 use Rattle.std.specs.Str.Parse.{AllDigits, digits_value}
 use Rattle.std.proofs.lemmas.Int.Digits.{digits_value-lt}
 use Rattle.std.proofs.Math.Nat.{pow-le-pow_right}
-use Rattle.std.proofs.lemmas.Bool.{false≢true, ltb-true, ltb-false, eqb-true, eqb-false, ne_eqb}
+use Rattle.std.proofs.lemmas.Bool.{false≢true, ltb-true, ltb-false, eqb-true, eqb-false, ne_eqb, and_parts}
 use Rattle.std.proofs.lemmas.List.{take_all, take-append-drop}
 use Rattle.std.proofs.lemmas.List.Folds.{length-prefix_len, list_all-append}
 use Rattle.std.proofs.lemmas.List.Sums.{prefix_len_passes}
-use Rattle.arc_path.proofs.Ends.{both, all_from, whole_front, no_suffix, all_behind, last_fails, no_end}
+use Rattle.arc_path.proofs.Ends.{all_from, whole_front, no_suffix, all_behind, last_fails, no_end}
 use Rattle.arc_path.specs.declared.arc.Arc.{Arc}
 use Rattle.arc_path.specs.declared.arc.ArcKind.{ArcKind}
 use Rattle.arc_path.specs.declared.arc.ArcKind.TheVariants.{Multi, Scsi, Signature}
@@ -115,8 +115,8 @@ lower_closing c e = grind (arith, ltb-true, ltb-false)
 only_closing : (name : List ℕ) → IsNamed (codes ")") name → name ≡ codes ")"
 only_closing [] e = absurd (false≢true e)
 only_closing (c ∷ []) e =
-    ap (λ (d : ℕ). d ∷ []) (lower_closing c (eqb-true (to_ascii_lowercase c) 41 (both _ true e).0))
-only_closing (c ∷ d ∷ name) e = absurd (false≢true (both (eqb (to_ascii_lowercase c) 41) false e).1)
+    ap (λ (d : ℕ). d ∷ []) (lower_closing c (eqb-true (to_ascii_lowercase c) 41 (and_parts _ true e).0))
+only_closing (c ∷ d ∷ name) e = absurd (false≢true (and_parts (eqb (to_ascii_lowercase c) 41) false e).1)
 
 -- what stands behind a number: `)`, and the rest
 pub closing_behind : (text rest : List ℕ) → word_at (codes ")") text ≡ Ok rest → text ≡ codes ")" ++ rest
@@ -261,7 +261,7 @@ found_dir text dir k at is all =
       more = drop k text;
       spelled = ap (λ (t : List ℕ). 92 ∷ t) (parts ∙ ap (λ (t : List ℕ). t ++ drop k text) is);
       dropped = all_behind is_backslash text k at;
-      printable = ap (list_all is_printable) (sym is) ∙ (both _ _ printable).0;
+      printable = ap (list_all is_printable) (sym is) ∙ (and_parts _ _ printable).0;
       ends = λ front e. false≢true (sym (last_fails is_backslash dir front 92 none e));
     }
 

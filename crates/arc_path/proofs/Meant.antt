@@ -9,14 +9,14 @@ use Rattle.std.proofs.lemmas.Fmt.{decimal_is_IsNumeral, length-decimal-le}
 use Rattle.std.proofs.lemmas.List.{take_at, drop_at, length-append, length-take, append-nil}
 use Rattle.std.proofs.lemmas.List.Sums.{prefix_len_passes, suffix_len-le-length}
 use Rattle.std.proofs.lemmas.List.Folds.{list_all-append}
-use Rattle.std.proofs.lemmas.Bool.{false≢true, eqb-true, lt-ltb, le-ltb, ne_eqb}
+use Rattle.std.proofs.lemmas.Bool.{false≢true, eqb-true, lt-ltb, le-ltb, ne_eqb, and_parts}
 use Rattle.std.proofs.lemmas.Bool.Decides.{nat_tests}
 use Rattle.arc_path.specs.declared.arc.Arc.{Arc}
 use Rattle.arc_path.specs.declared.arc.ArcKind.{ArcKind}
 use Rattle.arc_path.specs.declared.arc.ArcKind.TheVariants.{Multi, Scsi, Signature}
 use Rattle.arc_path.specs.Reading.{number_at, word_at, item_at, kind_at, partition_at, numbers_at, directory_at, parts_at, arc_of, is_printable, is_backslash, without_last_backslashes, radix_of, most_of}
 use Rattle.arc_path.specs.Spelling.{IsNumeral, IsItem, word_of, IsDirectory, IsSpelled, IsPath, eight_digits, text_of, first_text, numbers_text, directory_text}
-use Rattle.arc_path.proofs.Ends.{both, all_from, whole_front, last_fails, end_dropped}
+use Rattle.arc_path.proofs.Ends.{all_from, whole_front, last_fails, end_dropped}
 use Rattle.arc_path.proofs.Found.{IsNamed, no_backslashes}
 
 -- ---- words
@@ -26,7 +26,7 @@ same_length [] [] e = refl
 same_length [] (d ∷ word) e = absurd (false≢true e)
 same_length (c ∷ name) [] e = absurd (false≢true e)
 same_length (c ∷ name) (d ∷ word) e = let same : length name ≡ length word =
-    same_length name word (both (eqb (to_ascii_lowercase c) (to_ascii_lowercase d)) _ e).1 in omega arith
+    same_length name word (and_parts (eqb (to_ascii_lowercase c) (to_ascii_lowercase d)) _ e).1 in omega arith
 
 pub word_found : (word name rest : List ℕ) → IsNamed word name → word_at word (name ++ rest) ≡ Ok rest
 unfolding word_at
@@ -44,7 +44,7 @@ other_word : (d e k : ℕ) (ds es name rest : List ℕ) → eqb (to_ascii_lowerc
     → str_eq_ignore_ascii_case (take (suc k) (name ++ rest)) (e ∷ es) ≡ false
 other_word d e k ds es [] rest differ is = absurd (false≢true is)
 other_word d e k ds es (c ∷ name) rest differ is =
-    rw (eqb-true (to_ascii_lowercase c) (to_ascii_lowercase d) (both _ _ is).0, differ) refl
+    rw (eqb-true (to_ascii_lowercase c) (to_ascii_lowercase d) (and_parts _ _ is).0, differ) refl
 
 -- so much of the text as another word has is the word's own beginning
 same_front : (k : ℕ) (name rest word other : List ℕ) → IsNamed word name → k ≤ length word
@@ -55,7 +55,7 @@ same_front (suc k) [] rest (d ∷ word) other is le = absurd (false≢true is)
 same_front (suc k) (c ∷ name) rest [] other is le = absurd (false≢true is)
 same_front (suc k) (c ∷ name) rest (d ∷ word) [] is le = refl
 same_front (suc k) (c ∷ name) rest (d ∷ word) (o ∷ other) is le =
-    let q = both (eqb (to_ascii_lowercase c) (to_ascii_lowercase d)) _ is in
+    let q = and_parts (eqb (to_ascii_lowercase c) (to_ascii_lowercase d)) _ is in
     rw (eqb-true (to_ascii_lowercase c) (to_ascii_lowercase d) q.0, same_front k name rest word other q.1 (omega arith))
     refl
 
@@ -133,7 +133,7 @@ no_digit Signature = refl
 
 backslashes_print : (more : List ℕ) → list_all is_backslash more ≡ true → list_all is_printable more ≡ true
 backslashes_print [] e = refl
-backslashes_print (c ∷ more) e = let q = both (is_backslash c) (list_all is_backslash more) e in
+backslashes_print (c ∷ more) e = let q = and_parts (is_backslash c) (list_all is_backslash more) e in
     rw (eqb-true c 92 q.0, backslashes_print more q.1) refl
 
 directory_behind : (dir more : List ℕ) → list_all is_backslash more ≡ true → list_all is_printable dir ≡ true

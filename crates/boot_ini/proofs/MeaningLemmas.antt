@@ -1,13 +1,12 @@
 -- What the lines of a section mean, and the whole text.
 use Rattle.std.proofs.Common.{◌≡◌, ◌⊎◌, inl, inr, ℕ, ◌+◌, ◌<◌, ◌≤◌, Bool, true, false, cond, not, eqb, ltb, List, [], ◌∷◌, ◌++◌, length, take, drop, filter, Option, Some, None, refl, sym, ap, subst, ◌∙◌, arith, codes}
 use Rattle.std.specs.List.{list_all, All, filter_map, cons_option, position_or_len, before_first, after_first, slice_split, onto_first}
-use Rattle.std.proofs.lemmas.Bool.{false≢true, eqb-true, eqb-false, ltb-true, ltb-false, lt-ltb, ne_eqb, not-true}
+use Rattle.std.proofs.lemmas.Bool.{false≢true, eqb-true, eqb-false, ltb-true, ltb-false, lt-ltb, ne_eqb, not-true, and_parts}
 use Rattle.std.proofs.lemmas.List.{take-append-drop, take_at, drop_at, append-nil, length-append, length-drop, drop-drop, take_all, drop_all}
 use Rattle.std.proofs.Math.Seq.{drop-append-add}
 use Rattle.std.proofs.lemmas.List.Elements.{All-nil, All-cons}
 use Rattle.std.proofs.lemmas.List.Splits.{slice_split_at, slice_split_none}
 use Rattle.nt_bytes.specs.Text.{is_blank, trimmed, names_same}
-use Rattle.arc_path.proofs.Ends.{both}
 use Rattle.boot_ini.specs.declared.keys.Section.TheVariants.{Loader, Systems, Other}
 use Rattle.boot_ini.specs.declared.ini.OsEntry.{OsEntry}
 use Rattle.boot_ini.specs.declared.ini.BootIni.{BootIni}
@@ -19,7 +18,7 @@ use Rattle.boot_ini.specs.Spelling.{IsSetting, IsFirst, IsQuoted, IsPlain, AreWo
 use Rattle.boot_ini.proofs.BlankLemmas.{trim_found, trim_read, said_found, said_read}
 use Rattle.boot_ini.proofs.PartLemmas.{before_has_no, behind_is, place_is, Cut, cut, parts_read}
 
--- ---- both sides of the first `=`
+-- ---- and_parts sides of the first `=`
 
 record Sides (line left right : List ℕ) : Type 0 where
   spelled : line ≡ left ++ (codes "=" ++ right)
@@ -163,7 +162,7 @@ words_found (c ∷ text) = by_test (is_blank c) refl (words_found text)
 no_blanks : (word : List ℕ) → list_all is_in_word word ≡ true → All (λ c. is_blank c ≡ false) word
 no_blanks [] e = All-nil (λ c. is_blank c ≡ false)
 no_blanks (c ∷ word) e =
-    let q = both (is_in_word c) (list_all is_in_word word) e in
+    let q = and_parts (is_in_word c) (list_all is_in_word word) e in
     All-cons (λ c. is_blank c ≡ false) c word (not-true (is_blank c) q.0) (no_blanks word q.1)
 
 words_read : (words : List (List ℕ)) (text : List ℕ) → AreWords words text → slice_split is_blank text ≡ words

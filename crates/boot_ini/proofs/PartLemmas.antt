@@ -2,11 +2,11 @@
 use Rattle.std.proofs.Common.{◌≡◌, inl, inr, ℕ, Bool, true, false, cond, not, eqb, List, [], ◌∷◌, ◌++◌, length, take, drop, refl, sym, ap, ◌∙◌, arith, codes}
 use Rattle.std.specs.List.{list_all, prefix_len, position_or_len, before_first}
 use Rattle.std.specs.Char.{to_ascii_lowercase}
-use Rattle.std.proofs.lemmas.Bool.{false≢true, eqb-true}
+use Rattle.std.proofs.lemmas.Bool.{false≢true, eqb-true, and_parts}
 use Rattle.std.proofs.lemmas.Bool.Decides.{Decides-eqb}
 use Rattle.std.proofs.lemmas.List.{take-append-drop, take_at, append-nil}
 use Rattle.nt_bytes.specs.Text.{names_same}
-use Rattle.arc_path.proofs.Ends.{both, prefix_whole, whole_front, front_passes, no_front, first_fails}
+use Rattle.arc_path.proofs.Ends.{prefix_whole, whole_front, front_passes, no_front, first_fails}
 use Rattle.boot_ini.specs.declared.keys.Section.{Section}
 use Rattle.boot_ini.specs.declared.keys.Section.TheVariants.{Loader, Systems, Other}
 use Rattle.boot_ini.specs.Keys.{opens_section, is_closing, section_name, section_of_name, section_named, same_section, lines_in}
@@ -64,7 +64,7 @@ named_so name = by_loader (names_same name (codes "boot loader")) refl
 lower_names : (name : List ℕ) → names_same name (codes "operating systems") ≡ true
     → names_same name (codes "boot loader") ≡ false
 lower_names [] e = refl
-lower_names (c ∷ name) e = rw (eqb-true (to_ascii_lowercase c) 111 (both (eqb (to_ascii_lowercase c) 111) _ e).0) refl
+lower_names (c ∷ name) e = rw (eqb-true (to_ascii_lowercase c) 111 (and_parts (eqb (to_ascii_lowercase c) 111) _ e).0) refl
 
 section_is : (section : Section) (name : List ℕ) → IsNameOf section name → section_of_name name ≡ section
 section_is Loader name e = rw e refl
@@ -160,7 +160,7 @@ within wanted here [] rest all = by_test (same_section wanted here)
     by_test true = refl
     by_test false = refl
 within wanted here (line ∷ body) rest all =
-    let q = both (stays line) (list_all stays body) all in
+    let q = and_parts (stays line) (list_all stays body) all in
     rw (stays_so line q.0) (by_test (same_section wanted here) refl (within wanted here body rest q.1))
   where
     by_test : (b : Bool) → same_section wanted here ≡ b

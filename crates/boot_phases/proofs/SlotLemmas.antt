@@ -2,7 +2,7 @@
 use Rattle.std.proofs.Common.{◌≡◌, ℕ, zero, suc, ◌+◌, ◌<◌, Bool, true, false, ◌||◌, nat_eq, List, [], ◌∷◌, ◌++◌, length, take, map, get_or, set, Option, Some, None, refl, sym, ap, ◌∙◌, arith}
 use Rattle.std.specs.Prelude.{slice_get}
 use Rattle.std.specs.List.{list_any}
-use Rattle.std.proofs.lemmas.Bool.{false≢true, eq-eqb}
+use Rattle.std.proofs.lemmas.Bool.{false≢true, eq-eqb, or_parts}
 use Rattle.std.proofs.lemmas.List.{take_more, length-take, get_or-take, get_or-set_other}
 use Rattle.std.proofs.lemmas.List.Folds.{list_any-append}
 use Rattle.start_model.specs.Entries.{Entry}
@@ -49,10 +49,6 @@ taken_next es ranks i r slots apart lt at left =
     same_default (r ∷ rs) zero a b lt = refl
     same_default (r ∷ rs) (suc i) a b lt = same_default rs i a b (omega arith)
 
-or_off : (a b : Bool) → (a || b) ≡ false → (a ≡ false) × (b ≡ false)
-or_off true b h = absurd (false≢true (sym h))
-or_off false b h = (refl, h)
-
 pub left_next : (es : List Entry) (ranks : List Rank) (i : ℕ) (r : Rank) (slots : List (Option Entry))
     → i < length ranks → r ≡ get_or ranks i r → AreLeft es (take i ranks) slots
     → AreLeft es (take (i + 1) ranks) (set slots r.place None)
@@ -60,8 +56,8 @@ left_next es ranks i r slots lt at left q off =
     let p : Rank → Bool = λ s. nat_eq s.place q in
     let grown : take (i + 1) ranks ≡ take i ranks ++ r ∷ [] =
     take_more ranks i r lt ∙ ap (λ (s : Rank). take i ranks ++ s ∷ []) (sym at) in
-    let parts = or_off (list_any p (take i ranks)) (list_any p (r ∷ []))
+    let parts = or_parts (list_any p (take i ranks)) (list_any p (r ∷ []))
     (sym (list_any-append p (take i ranks) (r ∷ [])) ∙ ap (list_any p) (sym grown) ∙ off) in
-    let here = or_off (nat_eq r.place q) false parts.1 in
+    let here = or_parts (nat_eq r.place q) false parts.1 in
     get_or-set_other slots r.place q None None (λ e. false≢true (sym here.0 ∙ eq-eqb r.place q (sym e)))
     ∙ left q parts.0

@@ -5,7 +5,7 @@ use Rattle.std.specs.List.{slice_split, list_all, count_by, cons_option}
 use Rattle.std.specs.Fmt.{decimal, digits, digits_onto, digit_glyph}
 use Rattle.std.proofs.lemmas.List.Folds.{list_all-append}
 use Rattle.std.proofs.lemmas.List.Splits.{length-slice_split}
-use Rattle.std.proofs.lemmas.Bool.{false≢true, ne_eqb}
+use Rattle.std.proofs.lemmas.Bool.{false≢true, ne_eqb, and_parts, and_from}
 use Rattle.std.proofs.lemmas.Bool.Decides.{nat_tests}
 use Rattle.start_model.specs.Lines as book
 use Rattle.start_model.specs.Lines.{Line, StartLine, EntryLine, LoadLine, SetLine, CommitLine, SelectLine, PhaseLine, TryLine, UnmetLine, LogonLine, SaveRefusedLine, EditOkLine, FlushNothingLine, RefusedLine, VerdictLine, EndLine, line_text, text_of, unit_text, name_text, path_text, shown_byte, is_printable, escaped, commit_word, phase_word, try_word, event_word, refused_word, verdict_word, load_word, set_word, save_word}
@@ -20,19 +20,12 @@ is_no_lf c = not (c == 10)
 abbrev pub has_no_lf : List ℕ → Bool
 has_no_lf text = list_all is_no_lf text
 
-pub both : (a b : Bool) → (a && b) ≡ true → (a ≡ true) × (b ≡ true)
-both true b e = (refl, e)
-both false b e = absurd (false≢true e)
-
-joined : (a b : Bool) → a ≡ true → b ≡ true → (a && b) ≡ true
-joined a b e f = rw (e, f) refl
-
 not_true : (b : Bool) → not b ≡ true → b ≡ false
 not_true true e = absurd (false≢true e)
 not_true false e = refl
 
 no_lf-append : (a b : List ℕ) → has_no_lf a ≡ true → has_no_lf b ≡ true → has_no_lf (a ++ b) ≡ true
-no_lf-append a b e f = list_all-append is_no_lf a b ∙ joined _ _ e f
+no_lf-append a b e f = list_all-append is_no_lf a b ∙ and_from _ _ e f
 
 above_lf : (c : ℕ) → 10 < c → is_no_lf c ≡ true
 above_lf c lt = rw (ne_eqb c 10 (λ e. absurd (omega arith))) refl
@@ -49,8 +42,8 @@ no_lf-digits_onto zero n acc e = e
 no_lf-digits_onto (suc k) n acc e =
     no_lf-bool (eqb (n / 10) 0) (digit_glyph false (n % 10) ∷ acc)
     (digits_onto k 10 false (n / 10) (digit_glyph false (n % 10) ∷ acc))
-    (joined _ _ (glyph (n % 10)) e)
-    (no_lf-digits_onto k (n / 10) (digit_glyph false (n % 10) ∷ acc) (joined _ _ (glyph (n % 10)) e))
+    (and_from _ _ (glyph (n % 10)) e)
+    (no_lf-digits_onto k (n / 10) (digit_glyph false (n % 10) ∷ acc) (and_from _ _ (glyph (n % 10)) e))
 
 no_lf-decimal : (n : ℕ) → has_no_lf (decimal n) ≡ true
 unfolding digits
@@ -61,9 +54,9 @@ unfolding unit_text
 no_lf-unit u = by_shape (is_printable u) refl
   where
     by_shape : (b : Bool) → is_printable u ≡ b → has_no_lf (cond b (u ∷ []) (escaped u)) ≡ true
-    by_shape true e = joined _ _ (above_lf u (grind (arith, nat_tests))) refl
-    by_shape false e = joined _ _ (glyph (u / 4096))
-        (joined _ _ (glyph (u / 256 % 16)) (joined _ _ (glyph (u / 16 % 16)) (joined _ _ (glyph (u % 16)) refl)))
+    by_shape true e = and_from _ _ (above_lf u (grind (arith, nat_tests))) refl
+    by_shape false e = and_from _ _ (glyph (u / 4096))
+        (and_from _ _ (glyph (u / 256 % 16)) (and_from _ _ (glyph (u / 16 % 16)) (and_from _ _ (glyph (u % 16)) refl)))
 
 no_lf-name : (units : List ℕ) → has_no_lf (name_text units) ≡ true
 no_lf-name [] = refl
@@ -78,7 +71,7 @@ no_lf-shown c = by_shape (is_printable c) refl
 
 no_lf-path : (path : List ℕ) → has_no_lf (path_text path) ≡ true
 no_lf-path [] = refl
-no_lf-path (c ∷ path) = joined _ _ (no_lf-shown c) (no_lf-path path)
+no_lf-path (c ∷ path) = and_from _ _ (no_lf-shown c) (no_lf-path path)
 
 -- ---- lines without their LF
 
@@ -238,13 +231,13 @@ split_line : (line rest : List ℕ) → has_no_lf line ≡ true
     → slice_split is_lf (line ++ 10 ∷ rest) ≡ line ∷ slice_split is_lf rest
 split_line [] rest e = refl
 split_line (c ∷ line) rest e =
-    let p = both (is_no_lf c) (has_no_lf line) e in
+    let p = and_parts (is_no_lf c) (has_no_lf line) e in
     rw (not_true (eqb c 10) p.0, split_line line rest p.1) refl
 
 only_part : (line : List ℕ) → has_no_lf line ≡ true → slice_split is_lf line ≡ line ∷ []
 only_part [] e = refl
 only_part (c ∷ line) e =
-    let p = both (is_no_lf c) (has_no_lf line) e in
+    let p = and_parts (is_no_lf c) (has_no_lf line) e in
     rw (not_true (eqb c 10) p.0, only_part line p.1) refl
 
 whole-cons : (line rest : List ℕ) → has_no_lf line ≡ true → whole_lines (line ++ 10 ∷ rest) ≡ line ∷ whole_lines rest

@@ -1,6 +1,6 @@
 -- What the save of a good start comes to in the book's run.
 use Rattle.std.proofs.Common.{◌≡◌, ℕ, Bool, true, false, not, ◌==◌, ◌≤◌, List, [], ◌∷◌, ◌++◌, length, Option, Some, None, refl, sym, ap, subst, ◌∙◌, is_some, eq-eqb}
-use Rattle.std.proofs.lemmas.Bool.{false≢true}
+use Rattle.std.proofs.lemmas.Bool.{false≢true, or_left}
 use Rattle.std.specs.Prelude.{Result, Ok, Err, OnOk, IfSome, option_map}
 use Rattle.nt_bytes.specs.declared.version.HiveVersion.{HiveVersion}
 use Rattle.hive_model.specs.Base.{Base, version_of}
@@ -27,7 +27,7 @@ use Rattle.reg_tree.specs.Makes.{IsRefused, refusal_of}
 use Rattle.reg_tree.specs.declared.stop.EditStop.{EditStop}
 use Rattle.start_laws.specs.Changes.{Saves}
 use Rattle.start_laws.proofs.SaveLemmas.{save_case, saves}
-use Rattle.start_laws.proofs.UsableLemmas.{or_first, usable_parts, usable_from}
+use Rattle.start_laws.proofs.UsableLemmas.{usable_parts, usable_from}
 use Rattle.run_laws.proofs.StillLemmas.{opens}
 use Rattle.boot_machine.specs.Steps.{on_start}
 use Rattle.run_parts.specs.Parts.{Told, Tells, Goes, PlaysOr, TellsOr, Stays}
@@ -213,7 +213,7 @@ save_keeps_by t clone u s n made h =
     let other : s.number ≡ n → ⊥ =
     λ e. false≢true (ap is_some (sym made.lowest.free) ∙ ap (λ m. is_some (set_of t m)) (sym e) ∙ low.there) in
     let kept : set_of u s.number ≡ set_of t s.number =
-    made.sets s.number low.most (or_first ((select_numbers_of t).current == s.number) _ (eq-eqb _ _ h.current)) other in
+    made.sets s.number low.most (or_left ((select_numbers_of t).current == s.number) _ (eq-eqb _ _ h.current)) other in
     record {
       there = usable_from u s.number low.least low.most (ap is_some kept ∙ low.there);
       current = made.current ∙ h.current;

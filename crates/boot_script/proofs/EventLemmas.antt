@@ -5,7 +5,7 @@ use Rattle.std.specs.Char.{is_ascii_digit, is_ascii_hexdigit, digit_value}
 use Rattle.std.specs.Int.{w32, to_le_bytes}
 use Rattle.std.specs.Str.{bytes_eq}
 use Rattle.std.specs.Str.Parse.{digits_value}
-use Rattle.std.proofs.lemmas.Bool.{false≢true, eqb-true, eqb-false, ne_eqb, le-ltb, ltb-false}
+use Rattle.std.proofs.lemmas.Bool.{false≢true, eqb-true, eqb-false, ne_eqb, le-ltb, ltb-false, and_parts, and_from}
 use Rattle.std.proofs.lemmas.Bool.Decides.{nat_tests}
 use Rattle.std.proofs.lemmas.List.Elements.{All-nil, All-cons}
 use Rattle.std.proofs.lemmas.List.Splits.{join_with_byte-slice_split, length-slice_split, slice_split_none, slice_split_at}
@@ -23,7 +23,7 @@ use Rattle.boot_script.specs.Words.{◌>>=◌, number_from}
 use Rattle.boot_script.specs.Values.{is_backslash, path_of, hex_value, hex_bytes, is_hex, dword_of, string_of, binary_of, data_of, text_bytes, texts_bytes}
 use Rattle.boot_script.specs.Commands.{boot_of, go_of, fail_of, set_of, delete_of, make_of, remove_of, alone_of, keep_of, call_of, cut_of, fault_of, edit_of, command_of, event_of}
 use Rattle.boot_script.specs.Events.{IsNumber, is_in_name, is_name, IsPath, IsPair, IsHex, IsDword, IsString, IsStrings, IsBinary, IsData, good_words, keep_word, call_word, IsSpelledBy}
-use Rattle.boot_script.proofs.SpellingLemmas.{both, joined, not_true}
+use Rattle.boot_script.proofs.SpellingLemmas.{not_true}
 use Rattle.boot_script.proofs.WordLemmas.{done, ok_is}
 
 -- ---- what a reader that succeeded has found
@@ -75,7 +75,7 @@ number_found low word n e =
     let shape = passed (not (is_digits word) || ltb 10 (length word)) Number _ n e in
     let range = passed (ltb value low || ltb 4294967295 value) Number (Ok value) n shape.1 in
     let digits : is_digits word ≡ true = not_false (is_digits word) (left_false _ _ shape.0) in
-    let parts = both (not (eqb (length word) 0)) (list_all is_ascii_digit word) digits in
+    let parts = and_parts (not (eqb (length word) 0)) (list_all is_ascii_digit word) digits in
     let same : value ≡ n = ok_is value n range.1 in
     let some : 0 < length word = omega (arith, eqb-false (length word) 0 (not_true (eqb (length word) 0) parts.0)) in
     let few : length word ≤ 10 = ltb-false 10 (length word) (right_false (not (is_digits word)) _ shape.0) in
@@ -103,9 +103,9 @@ number_read low n word is =
 
 plain_onto : (c : ℕ) (parts : List (List ℕ)) → is_in_name c ≡ true → list_all is_name parts ≡ true
     → list_all is_name (onto_first c parts) ≡ true
-plain_onto c [] e all = joined _ _ (joined _ _ e refl) refl
-plain_onto c (part ∷ parts) e all = let q = both (is_name part) (list_all is_name parts) all in
-    joined _ _ (joined _ _ e q.0) q.1
+plain_onto c [] e all = and_from _ _ (and_from _ _ e refl) refl
+plain_onto c (part ∷ parts) e all = let q = and_parts (is_name part) (list_all is_name parts) all in
+    and_from _ _ (and_from _ _ e q.0) q.1
 
 parts_plain : (word : List ℕ) → list_all is_name (path_of word) ≡ true
 parts_plain [] = refl
@@ -126,15 +126,15 @@ path_found word = record {
 no_backslash : (name : List ℕ) → is_name name ≡ true → All (λ c. is_backslash c ≡ false) name
 no_backslash [] e = All-nil (λ c. is_backslash c ≡ false)
 no_backslash (c ∷ name) e =
-    let q = both (is_in_name c) (is_name name) e in
+    let q = and_parts (is_in_name c) (is_name name) e in
     All-cons (λ c. is_backslash c ≡ false) c name (not_true (is_backslash c) q.0) (no_backslash name q.1)
 
 joined_read : (names : List (List ℕ)) → 0 < length names → list_all is_name names ≡ true
     → path_of (join_with_byte 92 names) ≡ names
 joined_read [] some all = absurd (omega arith)
-joined_read (x ∷ []) some all = slice_split_none is_backslash x (no_backslash x (both (is_name x) true all).0)
+joined_read (x ∷ []) some all = slice_split_none is_backslash x (no_backslash x (and_parts (is_name x) true all).0)
 joined_read (x ∷ y ∷ more) some all =
-    let q = both (is_name x) (list_all is_name (y ∷ more)) all in
+    let q = and_parts (is_name x) (list_all is_name (y ∷ more)) all in
     slice_split_at is_backslash x 92 (join_with_byte 92 (y ∷ more)) (no_backslash x q.0) refl
     ∙ ap (λ (names : List (List ℕ)). x ∷ names) (joined_read (y ∷ more) (omega arith) q.1)
 
@@ -156,8 +156,8 @@ hex_found : (word : List ℕ) → length word % 2 ≡ 0 → list_all is_ascii_he
 hex_found [] even all = refl
 hex_found (high ∷ []) even all = absurd (omega arith)
 hex_found (high ∷ low ∷ more) even all =
-    let h = both (is_ascii_hexdigit high) _ all in
-    let l = both (is_ascii_hexdigit low) (list_all is_ascii_hexdigit more) h.1 in
+    let h = and_parts (is_ascii_hexdigit high) _ all in
+    let l = and_parts (is_ascii_hexdigit low) (list_all is_ascii_hexdigit more) h.1 in
     let rest_even : length more % 2 ≡ 0 = omega arith in
     let pair : IsPair (hex_value high * 16 + hex_value low) high low = record {
       high_digit = hex_small high h.0;
@@ -179,7 +179,7 @@ pair_before byte high low bytes rest pair reads =
     let before : length rest % 2 ≡ 0 = reads.even in
     record {
       even = omega arith;
-      all = joined _ _ h (joined _ _ l reads.all);
+      all = and_from _ _ h (and_from _ _ l reads.all);
       same = rw (hex_same high h, hex_same low l, reads.same, pair.writes) refl;
     }
 
@@ -239,7 +239,7 @@ unfolding binary_of is_hex
 binary_found [] d e = absurd cc
 binary_found (a ∷ []) d e =
     let h = holds (eqb (length a % 2) 0 && list_all is_ascii_hexdigit a) Number _ d e in
-    let q = both (eqb (length a % 2) 0) (list_all is_ascii_hexdigit a) h.0 in
+    let q = and_parts (eqb (length a % 2) 0) (list_all is_ascii_hexdigit a) h.0 in
     let made : ℕ × List ℕ = (3, hex_bytes a) in
     let same : made ≡ d = ok_is made d h.1 in
     let hex : IsHex (hex_bytes a) a = hex_found a (eqb-true _ 0 q.0) q.1 in
@@ -312,7 +312,7 @@ boot_found (a ∷ []) event e =
     yields (Boot (Some n.0) false) event _ n.2 (a ∷ [], (a, refl, number_found 1 a n.0 n.1), refl)) e
 boot_found (a ∷ b ∷ []) event e =
     let h = holds (is_digits a && bytes_eq b (codes "lkg")) Word _ event e in
-    let q = both (is_digits a) (bytes_eq b (codes "lkg")) h.0 in
+    let q = and_parts (is_digits a) (bytes_eq b (codes "lkg")) h.0 in
     let n = bind_ok (number_from 1 a) (λ n. Ok (Boot (Some n) true)) event h.1 in
     yields (Boot (Some n.0) true) event _ n.2 (
       a ∷ [],
@@ -475,7 +475,7 @@ not_lkg : (word : List ℕ) → 0 < length word → list_all is_ascii_digit word
 not_lkg [] some digits = absurd (omega arith)
 not_lkg (c ∷ word) some digits =
     rw (ne_eqb c 108 (λ is. let P : ℕ → Type 0 = λ n. is_ascii_digit n ≡ true in
-    false≢true (subst P is (both (is_ascii_digit c) _ digits).0))) refl
+    false≢true (subst P is (and_parts (is_ascii_digit c) _ digits).0))) refl
 
 boot_entry : (n : ℕ) (word : List ℕ) (good : Bool) → IsNumber 1 n word
     → event_of (codes "boot" ∷ word ∷ good_words good) ≡ Ok (Some (Boot (Some n) good))

@@ -3,7 +3,7 @@ use Rattle.std.proofs.Common.{◌≡◌, ◌⊎◌, inl, inr, ℕ, suc, ◌+◌,
 use Rattle.std.specs.List.{prefix_len, take_while, list_all}
 use Rattle.std.proofs.lemmas.List.{length-drop, append-nil, take-append-drop, take_at, drop_at}
 use Rattle.std.proofs.lemmas.List.Folds.{length-prefix_len}
-use Rattle.std.proofs.lemmas.Bool.{false≢true, eqb-true, eqb-false, ne_eqb}
+use Rattle.std.proofs.lemmas.Bool.{false≢true, eqb-true, eqb-false, ne_eqb, and_parts, and_from}
 use Rattle.boot_script.specs.declared.stop.ScriptFaultKind.{ScriptFaultKind}
 use Rattle.boot_script.specs.declared.stop.ScriptFaultKind.TheVariants.{Line}
 use Rattle.boot_script.specs.Words.{◌>>=◌, is_plain, is_quotable, is_space, ended, closed, word_at, words_within, words_of, without_spaces}
@@ -11,13 +11,6 @@ use Rattle.boot_script.specs.Spelling.{IsBare, IsQuoted, ends_word, Opens, IsLin
 use Rattle.boot_script.proofs.WordLemmas.{ok_is, shorter, next_word}
 
 -- ---- tests, and the front of a list that passes one
-
-pub both : (a b : Bool) → (a && b) ≡ true → (a ≡ true) × (b ≡ true)
-both true b e = (refl, e)
-both false b e = absurd (false≢true e)
-
-pub joined : (a b : Bool) → a ≡ true → b ≡ true → (a && b) ≡ true
-joined a b e f = rw (e, f) refl
 
 pub not_true : (b : Bool) → not b ≡ true → b ≡ false
 not_true true e = absurd (false≢true e)
@@ -32,7 +25,7 @@ front_passes p (x ∷ xs) = by_test (p x) refl (front_passes p xs)
   where
     by_test : (b : Bool) → p x ≡ b → list_all p (take (prefix_len p xs) xs) ≡ true
         → list_all p (take (cond b (1 + prefix_len p xs) 0) (x ∷ xs)) ≡ true
-    by_test true e h = rw (one_more (prefix_len p xs)) (joined (p x) (list_all p (take (prefix_len p xs) xs)) e h)
+    by_test true e h = rw (one_more (prefix_len p xs)) (and_from (p x) (list_all p (take (prefix_len p xs) xs)) e h)
     by_test false e h = refl
 
 pub stops : (ℕ → Bool) → List ℕ → Bool
@@ -44,7 +37,7 @@ prefix_is : (p : ℕ → Bool) (front rest : List ℕ) → list_all p front ≡ 
 unfolding stops
 prefix_is p [] [] e s = refl
 prefix_is p [] (c ∷ rest) e s = rw (not_true (p c) s) refl
-prefix_is p (c ∷ front) rest e s = let q = both (p c) (list_all p front) e in
+prefix_is p (c ∷ front) rest e s = let q = and_parts (p c) (list_all p front) e in
     rw (q.0, prefix_is p front rest q.1 s) (omega arith)
 
 pub empty : (xs : List ℕ) → length xs ≡ 0 → xs ≡ []
@@ -230,7 +223,7 @@ plain_stops [] e = refl
 plain_stops (c ∷ rest) e = let P : ℕ → Type 0 = λ n. not (is_plain n) ≡ true in subst P (sym (eqb-true c 32 e)) refl
 
 no_quote : (c : ℕ) → is_plain c ≡ true → eqb c 34 ≡ false
-no_quote c e = not_true (eqb c 34) (both _ (not (eqb c 34)) e).1
+no_quote c e = not_true (eqb c 34) (and_parts _ (not (eqb c 34)) e).1
 
 no_space : (c : ℕ) → is_plain c ≡ true → eqb c 32 ≡ false
 no_space c e = ne_eqb c 32 (λ is. let P : ℕ → Type 0 = λ n. is_plain n ≡ true in false≢true (subst P is e))
@@ -250,7 +243,7 @@ bare_found : (word rest : List ℕ) → 0 < length word → list_all is_plain wo
     → word_at (word ++ rest) ≡ Ok (word, rest)
 bare_found [] rest some all ends = absurd (omega arith)
 bare_found (c ∷ word) rest some all ends =
-    word_at-plain c (word ++ rest) (no_quote c (both (is_plain c) (list_all is_plain word) all).0)
+    word_at-plain c (word ++ rest) (no_quote c (and_parts (is_plain c) (list_all is_plain word) all).0)
     ∙ plain_end (prefix_len is_plain (c ∷ (word ++ rest))) (c ∷ word) rest
     (sym (prefix_is is_plain (c ∷ word) rest all (plain_stops rest ends))) some ends
 
@@ -286,7 +279,7 @@ bare_starts : (word rest : List ℕ) → 0 < length word → list_all is_plain w
     → stops is_space (word ++ rest) ≡ true
 unfolding stops
 bare_starts [] rest some all = absurd (omega arith)
-bare_starts (c ∷ word) rest some all = rw (no_space c (both (is_plain c) (list_all is_plain word) all).0) refl
+bare_starts (c ∷ word) rest some all = rw (no_space c (and_parts (is_plain c) (list_all is_plain word) all).0) refl
 
 quoted_starts : (word rest : List ℕ) → stops is_space ((34 ∷ word ++ 34 ∷ []) ++ rest) ≡ true
 unfolding stops

@@ -16,6 +16,7 @@ use Rattle.command_parts.specs.Placed.{IsUntouchedBy}
 use Rattle.command_parts.specs.Saves.{Saves, saved_count, saved_status, FilesAs, SavedAs, HasSaved, IsSaved, KeepsUnsaved, Settles, IsStill, WritesAlone, SavesFile, SavesBoth}
 use Rattle.command_parts.proofs.AskLemmas.{more_more}
 use Rattle.command_parts.proofs.LeaveLemmas.{keeps_then, fault_then}
+use Rattle.std.proofs.lemmas.Bool.{false_from_ne_true}
 
 -- ---- the disk
 
@@ -122,15 +123,11 @@ saves-untaken file name old d e is =
       settles = settles-same d;
     })
 
-not_true : (b : Bool) → (b ≡ true → ⊥) → b ≡ false
-not_true true never = absurd (never refl)
-not_true false never = refl
-
 bytes-same : (name : List ℕ) → bytes_eq name name ≡ true
 bytes-same name = (bytes_eq-Decides name name).1 refl
 
 bytes-differ : (q name : List ℕ) → (q ≡ name → ⊥) → bytes_eq q name ≡ false
-bytes-differ q name differ = not_true (bytes_eq q name) (λ e. differ ((bytes_eq-Decides q name).0 e))
+bytes-differ q name differ = false_from_ne_true (bytes_eq q name) (λ e. differ ((bytes_eq-Decides q name).0 e))
 
 put-others : (old new : Files) (name bytes q : List ℕ) → Puts old new name bytes → (Some name ≡ Some q → ⊥)
     → new q ≡ old q

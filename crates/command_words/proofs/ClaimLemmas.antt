@@ -13,6 +13,7 @@ use Rattle.command_words.specs.Clap.{is_empty_value, is_refused}
 use Rattle.command_words.proofs.WordForms.{Looks, as_long, as_plain, looks, or_left, or_right}
 use Rattle.command_words.proofs.RowLemmas.{IsSingle, is_none, number_built, number_single, rows_for, rows_used, used_once, used_twice}
 use Rattle.command_words.proofs.WalkLemmas.{Agrees, blocked, final, follow, free, or_blocked, pending, shape, stands, turn_alone, turn_attached, turn_number, turn_stray, turn_unknown, turn_value, walked_alone, walked_attached, walked_number, walked_value, whole}
+use Rattle.std.proofs.Math.Bool.{or-true}
 
 -- the rules are those of the form
 pub record Suits (rules : List Rule) (form : CommandForm) : Type 0 where
@@ -41,14 +42,10 @@ given_apart : (m n v : Text) (g : Given) → bytes_eq n m ≡ false → is_given
 given_apart m n v [] e = rw e refl
 given_apart m n v (x ∷ g) e = ap (λ (b : Bool). bytes_eq x.0 m || b) (given_apart m n v g e)
 
-or_true : (b : Bool) → (b || true) ≡ true
-or_true true = refl
-or_true false = refl
-
 given_itself : (v : Text) (g : Given) → is_given number_name (g ++ (number_name, v) ∷ []) ≡ true
 given_itself v [] = refl
 given_itself v (x ∷ g) = ap (λ (b : Bool). bytes_eq x.0 number_name || b) (given_itself v g)
-    ∙ or_true (bytes_eq x.0 number_name)
+    ∙ or-true (bytes_eq x.0 number_name)
 
 holds_fresh : (rules : List Rule) (a : Rule) (n v : Text) (g : Given) → IsSingle a n → arg_by_id rules n ≡ Some a
     → is_given n g ≡ false

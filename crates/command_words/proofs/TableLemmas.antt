@@ -15,6 +15,7 @@ use Rattle.command_words.proofs.WalkLemmas.{shape}
 use Rattle.command_words.proofs.FormLemmas.{is_among, is_missing, look_in, make_no_defaults, make_rules, make_suits, no_place, one_needed, option_form, option_no_defaults, option_rules, option_suits, two_needed}
 use Rattle.command_words.proofs.FormLemmas.{run_offers, show_offers, safe_offers, control_offers, twin_offers, export_offers, import_offers}
 use Rattle.command_words.proofs.LevelLemmas.{Reads, reads}
+use Rattle.std.proofs.Math.Bool.{or-false}
 
 -- a command, and the rules that `clap` is told of it, by which it reads the words as we do
 pub record Entry : Type 0 where
@@ -122,16 +123,12 @@ pub data Match (command : Text) (es : List Entry) : Type 0 where
   is_unmet : find (λ c. bytes_eq c.name command) (map row_of es) ≡ None
       → find (answers_to command) (map label_for es) ≡ None → Match command es
 
-or_nothing : (b : Bool) → (b || false) ≡ b
-or_nothing true = refl
-or_nothing false = refl
-
 pub match_in : (command : Text) (es : List Entry) → Match command es
 match_in command [] = is_unmet refl refl
 match_in command (e ∷ es) = go (bytes_eq e.row.name command) refl (match_in command es)
   where
     answers : (b : Bool) → bytes_eq e.row.name command ≡ b → answers_to command (label_for e) ≡ b
-    answers b is = or_nothing (bytes_eq e.row.name command) ∙ is
+    answers b is = or-false (bytes_eq e.row.name command) ∙ is
 
     go : (b : Bool) → bytes_eq e.row.name command ≡ b → Match command es → Match command (e ∷ es)
     go true is rest = is_met e ((bytes_eq-Decides e.row.name command).0 is) (rw is refl) (rw (answers true is) refl)

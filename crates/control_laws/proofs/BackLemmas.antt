@@ -10,16 +10,13 @@ use Rattle.nt_bytes.specs.Folding.{folds_same}
 use Rattle.start_model.specs.Demand.{Need}
 use Rattle.service_control.specs.Laws.{AreStoppedInOrder}
 use Rattle.control_laws.specs.Backwards.{EachBeforeItsNeeds, some_has}
+use Rattle.std.proofs.Math.Bool.{or-false}
 
 either : (a b : Bool) → (a || b) ≡ (b || a)
 either true true = refl
 either true false = refl
 either false true = refl
 either false false = refl
-
-unless_false : (a : Bool) → (a || false) ≡ a
-unless_false true = refl
-unless_false false = refl
 
 any_back : {X : Type 0} (p : X → Bool) (xs : List X) → list_any p (reverse xs) ≡ list_any p xs
 any_back p [] = refl
@@ -28,7 +25,7 @@ any_back p (x ∷ xs) =
     ∙ list_any-append p (reverse xs) (x ∷ [])
     ∙ (let rest = any_back p xs in λ i. rest i || (p x || false))
     ∙ either (list_any p xs) (p x || false)
-    ∙ ap (λ b. b || list_any p xs) (unless_false (p x))
+    ∙ ap (λ b. b || list_any p xs) (or-false (p x))
 
 -- a list that is turned round, at one of its items
 turned : {X : Type 0} (xs front back : List X) (x : X) → reverse xs ≡ front ++ x ∷ back

@@ -5,7 +5,7 @@ use Rattle.std.specs.List.{filter_map, cons_option}
 use Rattle.std.specs.Option.{option_map_or}
 use Rattle.std.proofs.lemmas.Bool.{false≢true}
 use Rattle.std.proofs.lemmas.List.{get_or_default}
-use Rattle.std.proofs.lemmas.Option.{slice_get_within, get_or_from_slice_get}
+use Rattle.std.proofs.lemmas.Option.{slice_get_within, get_or_from_slice_get, same_Some}
 use Rattle.nt_bytes.specs.Folding.{folds_same}
 use Rattle.hive_model.specs.Tree.{Tree, head, find_dword}
 use Rattle.hive_model.specs.Valid.{HoldsKeys, KeysDiffer}
@@ -90,9 +90,6 @@ key_name set n k =
 
 -- ---- two of one name
 
-some_same : {X : Type 0} (x y : X) → Some x ≡ Some y → x ≡ y
-some_same x y h = ap (λ o. option_map_or (λ z. z) o x) h
-
 data Order (i j : ℕ) : Type 0 where
   is_less : i < j → Order i j
   is_same : i ≡ j → Order i j
@@ -131,7 +128,7 @@ one_key keys t u differ a b one = by (compared a.0 b.0)
 
 one_need : (set : Tree) (n m : Need) (a : HasKey set n) (b : HasKey set m) → a.key ≡ b.key → n ≡ m
 one_need set n m a b same =
-    some_same n m (sym a.need ∙ ap controlled (some_same a.entry b.entry (sym a.read ∙ ap entry_of same ∙ b.read))
+    same_Some n m (sym a.need ∙ ap controlled (same_Some a.entry b.entry (sym a.read ∙ ap entry_of same ∙ b.read))
     ∙ b.need)
 
 table_differs : (set : Tree) → HoldsKeys set → NamesDiffer (table_of set)

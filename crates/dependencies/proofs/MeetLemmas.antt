@@ -23,14 +23,7 @@ use Rattle.dependencies.specs.Waiting.{label_of}
 use Rattle.dependencies.specs.Wants.{meets, names_given, WantsState, is_free, is_ready_at, IsNearer, AreReadyBut, AreWantsOf, AreMetTogether}
 use Rattle.dependencies.proofs.PulledLemmas.{same_bool}
 use Rattle.dependencies.proofs.WantLemmas.{others_keep, marked_again}
-
-or_false : (a : Bool) → (a || false) ≡ a
-or_false true = refl
-or_false false = refl
-
-or_true : (a : Bool) → (a || true) ≡ true
-or_true true = refl
-or_true false = refl
+use Rattle.std.proofs.Math.Bool.{or-false, or-true}
 
 or_more : (a b c : Bool) → ((a || b) || c) ≡ (a || (b || c))
 or_more true b c = refl
@@ -116,12 +109,12 @@ marks_more met0 met places i lt within so_far k below = elim (cases_eq k place) 
       ap (member (set met place true)) e ∙ get_or-set_same met place true false within
       ∙ sym (ap (λ b. member met0 k || b)
       (more ∙ ap (λ b. list_any (nat_eq k) (take i places) || b) (eq-eqb k place e)
-      ∙ or_true (list_any (nat_eq k) (take i places))) ∙ or_true (member met0 k))
+      ∙ or-true (list_any (nat_eq k) (take i places))) ∙ or-true (member met0 k))
   | inr ne ↦
       get_or-set_other met place k true false ne ∙ so_far k below
       ∙ ap (λ b. member met0 k || b)
       (sym (more ∙ ap (λ b. list_any (nat_eq k) (take i places) || b) (ne_eqb k place ne)
-      ∙ or_false (list_any (nat_eq k) (take i places))))
+      ∙ or-false (list_any (nat_eq k) (take i places))))
 ]
   where
     place : ℕ
@@ -183,10 +176,10 @@ meets_more : (kind : Kind) (started : List Label) (label : Label) (n : List ℕ)
     → meets kind (started ++ label ∷ []) n ≡ (meets kind started n || meets_one kind label n)
 meets_more Service started label n =
     list_any-append (λ (s : Label). folds_same n s.0) started (label ∷ [])
-    ∙ ap (λ b. has_name started n || b) (or_false (folds_same n label.0) ∙ names_flip n label.0)
+    ∙ ap (λ b. has_name started n || b) (or-false (folds_same n label.0) ∙ names_flip n label.0)
 meets_more Group started label n =
     list_any-append (λ (s : Label). option_map_or (folds_same n) s.1 false) started (label ∷ [])
-    ∙ ap (λ b. has_group started n || b) (or_false (option_map_or (folds_same n) label.1 false) ∙ flip label.1)
+    ∙ ap (λ b. has_group started n || b) (or-false (option_map_or (folds_same n) label.1 false) ∙ flip label.1)
   where
     flip : (g : Option (List ℕ)) → option_map_or (folds_same n) g false ≡ option_map_or (λ g. folds_same g n) g false
     flip None = refl

@@ -16,6 +16,7 @@ use Rattle.name_places.proofs.FoldLemmas.{same_from_order, alike}
 use Rattle.nt_bytes.specs.Folding.{folded, folds_same, folded_order}
 use Rattle.start_model.specs.Ready.{Label, has_name, has_group}
 use Rattle.dependencies.specs.Index.{AddsAlike, AreInOrder, IsGap, IsIndexed, AreCarried, is_among, is_that, stands_in}
+use Rattle.std.proofs.Math.Bool.{or-false}
 
 -- ---- tests of a list
 
@@ -24,10 +25,6 @@ or_flip true true = refl
 or_flip true false = refl
 or_flip false true = refl
 or_flip false false = refl
-
-or_false : (a : Bool) → (a || false) ≡ a
-or_false true = refl
-or_false false = refl
 
 or_more : (a b c : Bool) → (a || (b || c)) ≡ ((a || b) || c)
 or_more true b c = refl
@@ -46,7 +43,7 @@ any_none p (x ∷ xs) h = ap (λ b. b || list_any p xs) (h 0 x (omega arith))
     ∙ any_none p xs (λ k d lt. h (suc k) d (omega (arith, lt)))
 
 any_push : {X : Type 0} (p : X → Bool) (xs : List X) (x : X) → list_any p (xs ++ x ∷ []) ≡ (list_any p xs || p x)
-any_push p [] x = or_false (p x)
+any_push p [] x = or-false (p x)
 any_push p (y ∷ ys) x = ap (λ b. p y || b) (any_push p ys x) ∙ or_more (p y) (list_any p ys) (p x)
 
 -- ---- a search
@@ -98,7 +95,7 @@ any_joined p (run ∷ runs) =
 
 any_some : {X : Type 0} (p : X → Bool) (o : Option X) → list_any p (option_to_list o) ≡ option_map_or p o false
 any_some p None = refl
-any_some p (Some x) = or_false (p x)
+any_some p (Some x) = or-false (p x)
 
 -- the names of some runs with one more
 joined : (names all : List (List ℕ)) (runs : List (List (List ℕ))) (name : Option (List ℕ)) (q : List ℕ)
@@ -178,7 +175,7 @@ pushed entries entries' names names' groups groups' name group own old same name
 -- one run alone
 pub in_one_run : (runs : List (List (List ℕ))) (run names : List (List ℕ)) (q : List ℕ) → runs ≡ [] ++ run ∷ []
     → ((p : List ℕ) → is_among run p ≡ is_among names p) → stands_in runs q ≡ is_among names q
-in_one_run runs run names q is has = ap (λ rs. stands_in rs q) is ∙ or_false (is_among run q) ∙ has q
+in_one_run runs run names q is has = ap (λ rs. stands_in rs q) is ∙ or-false (is_among run q) ∙ has q
 
 -- ---- those that were started, as one run of names and one of groups
 

@@ -3,49 +3,22 @@ use Rattle.std.proofs.Common.{◌≡◌, ℕ, zero, suc, ◌+◌, ◌<◌, Bool,
 use Rattle.std.specs.Prelude.{slice_get}
 use Rattle.std.specs.Option.{option_map_or}
 use Rattle.std.specs.List.{list_any, list_all, range_with_len}
-use Rattle.std.proofs.lemmas.Bool.{false≢true}
+use Rattle.std.proofs.lemmas.Bool.{false≢true, and_parts, and_from, or_cases, or_left, or_right}
 use Rattle.std.proofs.lemmas.List.Folds.{list_all-append, list_all-map, list_any_at}
 use Rattle.std.proofs.lemmas.List.FromFn.{get_or-range_with_len, length-range_with_len, get_or-map-range_with_len, length-map-range_with_len}
 use Rattle.std.proofs.lemmas.List.Sums.{AllPass-from_list_all}
 use Rattle.std.proofs.lemmas.List.Elements.{filter_agree, filter-append}
+use Rattle.std.proofs.Math.Bool.{and-true}
 use Rattle.nt_bytes.specs.Folding.{folds_same}
 use Rattle.start_model.specs.Demand.{Need}
 use Rattle.start_model.specs.Demand.{starts_at, pulls, IsClosed, is_due, is_closed, member, all_sets, is_taken, pulled_of, automatic_of}
 use Rattle.dependencies.specs.Work.{IsLeast, is_asked}
-
-and_left : (a b : Bool) → (a && b) ≡ true → a ≡ true
-and_left true b h = refl
-and_left false b h = absurd (false≢true h)
-
-and_right : (a b : Bool) → (a && b) ≡ true → b ≡ true
-and_right true b h = h
-and_right false b h = absurd (false≢true h)
-
-and_both : (a b : Bool) → a ≡ true → b ≡ true → (a && b) ≡ true
-and_both true b g h = h
-and_both false b g h = absurd (false≢true g)
 
 and_flip : (a b : Bool) → (a && b) ≡ (b && a)
 and_flip true true = refl
 and_flip true false = refl
 and_flip false true = refl
 and_flip false false = refl
-
-and_true : (a : Bool) → (a && true) ≡ a
-and_true true = refl
-and_true false = refl
-
-or_split : (a b : Bool) → (a || b) ≡ true → (a ≡ true) ⊎ (b ≡ true)
-or_split true b h = inl refl
-or_split false b h = inr h
-
-or_left : (a b : Bool) → a ≡ true → (a || b) ≡ true
-or_left true b h = refl
-or_left false b h = absurd (false≢true h)
-
-or_right : (a b : Bool) → b ≡ true → (a || b) ≡ true
-or_right true b h = refl
-or_right false b h = h
 
 -- `not a || b` is "if a then b"
 then_true : (a b : Bool) → (a ≡ true → b ≡ true) → (not a || b) ≡ true
@@ -63,7 +36,7 @@ same_bool false false f g = refl
 
 all_true : {X : Type 0} (p : X → Bool) (xs : List X) → ((x : X) → p x ≡ true) → list_all p xs ≡ true
 all_true p [] f = refl
-all_true p (x ∷ xs) f = and_both (p x) (list_all p xs) (f x) (all_true p xs f)
+all_true p (x ∷ xs) f = and_from (p x) (list_all p xs) (f x) (all_true p xs f)
 
 all_below : (p : ℕ → Bool) (n q : ℕ) → q < n → list_all p (range_with_len 0 n) ≡ true → p q ≡ true
 all_below p n q lt h =
@@ -78,19 +51,19 @@ any_below p n q lt h =
 -- each set of the places below n is among all sets
 sets_have : (p : List Bool → Bool) (t : List Bool) → list_all p (all_sets (length t)) ≡ true → p t ≡ true
 unfolding all_sets
-sets_have p [] h = and_left (p []) true h
+sets_have p [] h = (and_parts (p []) true h).0
 sets_have p (true ∷ t) h =
     let us = map (λ s. true ∷ s) (all_sets (length t)) in
     let vs = map (λ s. false ∷ s) (all_sets (length t)) in
     let e : (list_all p us && list_all p vs) ≡ true = sym (list_all-append p us vs) ∙ h in
     sets_have (λ s. p (true ∷ s)) t
-    (sym (list_all-map p (λ s. true ∷ s) (all_sets (length t))) ∙ and_left (list_all p us) (list_all p vs) e)
+    (sym (list_all-map p (λ s. true ∷ s) (all_sets (length t))) ∙ (and_parts (list_all p us) (list_all p vs) e).0)
 sets_have p (false ∷ t) h =
     let us = map (λ s. true ∷ s) (all_sets (length t)) in
     let vs = map (λ s. false ∷ s) (all_sets (length t)) in
     let e : (list_all p us && list_all p vs) ≡ true = sym (list_all-append p us vs) ∙ h in
     sets_have (λ s. p (false ∷ s)) t
-    (sym (list_all-map p (λ s. false ∷ s) (all_sets (length t))) ∙ and_right (list_all p us) (list_all p vs) e)
+    (sym (list_all-map p (λ s. false ∷ s) (all_sets (length t))) ∙ (and_parts (list_all p us) (list_all p vs) e).1)
 
 map_or_within : {X : Type 0} (f : X → Bool) (xs : List X) (i : ℕ) → option_map_or f (slice_get xs i) false ≡ true
     → i < length xs
@@ -115,8 +88,8 @@ any_pulled : (table : List Need) (set : ℕ → Bool) (q : ℕ) (ps : List ℕ) 
     → list_any (λ p. set p && pulls table p q) ps ≡ true → set q ≡ true
 any_pulled table set q [] closed h = absurd (false≢true h)
 any_pulled table set q (p ∷ ps) closed h =
-    elim (or_split (set p && pulls table p q) _ h) [
-      | inl e ↦ closed.pulled p q (and_left (set p) _ e) (and_right (set p) _ e)
+    elim (or_cases (set p && pulls table p q) _ h) [
+      | inl e ↦ closed.pulled p q (and_parts (set p) _ e).0 (and_parts (set p) _ e).1
       | inr e ↦ any_pulled table set q ps closed e
     ]
 
@@ -124,7 +97,7 @@ any_pulled table set q (p ∷ ps) closed h =
 closed_passes : (table : List Need) (set : ℕ → Bool) → IsClosed table set → is_closed table set ≡ true
 closed_passes table set closed =
     all_true _ (range_with_len 0 (length table)) (λ q. then_true (is_due table set q) (set q) (λ due.
-    elim (or_split (starts_at table 2 q) _ due) [
+    elim (or_cases (starts_at table 2 q) _ due) [
       | inl e ↦ closed.starts q e
       | inr e ↦ any_pulled table set q (range_with_len 0 (length table)) closed e
     ]))
@@ -140,7 +113,7 @@ passes_closed table set h = record {
       then_gives (is_due table set q) (set q)
       (all_below _ (length table) q within.1 h)
       (or_right (starts_at table 2 q) _
-      (any_below (λ p. set p && pulls table p q) (length table) p within.0 (and_both (set p) _ m e)));
+      (any_below (λ p. set p && pulls table p q) (length table) p within.0 (and_from (set p) _ m e)));
 }
 
 -- in all closed sets is what is in the least of them
@@ -163,7 +136,7 @@ asked_of-least table taken true is =
     filter_agree _ _ (λ q. ap (λ b. starts_at table 3 q && b) (is_taken-least table taken is q)
     ∙ and_flip (starts_at table 3 q) (member taken q)) (range_with_len 0 (length table))
 asked_of-least table taken false is =
-    filter_agree _ _ (λ q. is_taken-least table taken is q ∙ sym (and_true (member taken q)))
+    filter_agree _ _ (λ q. is_taken-least table taken is q ∙ sym (and-true (member taken q)))
     (range_with_len 0 (length table))
 
 range_suc : (a n : ℕ) → range_with_len a (suc n) ≡ range_with_len a n ++ (a + n) ∷ []
@@ -195,7 +168,7 @@ from_all : {X : Type 0} (p : X → Bool) (xs : List X) (q : X → Bool) → list
     → ((x : X) → p x ≡ true → q x ≡ true) → list_all q xs ≡ true
 from_all p [] q h f = refl
 from_all p (x ∷ xs) q h f =
-    and_both (q x) (list_all q xs) (f x (and_left (p x) _ h)) (from_all p xs q (and_right (p x) _ h) f)
+    and_from (q x) (list_all q xs) (f x (and_parts (p x) _ h).0) (from_all p xs q (and_parts (p x) _ h).1 f)
 
 -- what is in each closed set is itself closed
 pub is_taken-closed : (table : List Need) → IsClosed table (is_taken table)

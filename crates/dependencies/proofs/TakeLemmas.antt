@@ -3,7 +3,7 @@ use Rattle.std.proofs.Common.{◌≡◌, ℕ, zero, suc, ◌+◌, ◌<◌, ◌�
 use Rattle.std.specs.Prelude.{All, Contains, count_by, slice_get}
 use Rattle.std.specs.Option.{option_map_or}
 use Rattle.std.specs.List.{list_any}
-use Rattle.std.proofs.Math.Bool.{or_assoc, and-or_distrib_left}
+use Rattle.std.proofs.Math.Bool.{or_assoc, and-or_distrib_left, or-false, and-true}
 use Rattle.std.proofs.lemmas.Bool.{false≢true, cases_Bool, cases_eq, eqb-true, eq-eqb, ne_eqb}
 use Rattle.std.proofs.lemmas.List.{get_or-set_same, get_or-set_other, length_push, take_more, length-map}
 use Rattle.std.proofs.lemmas.List.Folds.{list_any-append}
@@ -19,16 +19,12 @@ use Rattle.name_places.proofs.PlaceLemmas.{all_named, each_named}
 use Rattle.dependencies.specs.Work.{IsWork, TakesIn, TakesNamed, TakesListed, names_of, is_named, is_listed}
 use Rattle.dependencies.proofs.PulledLemmas.{same_bool}
 
-or_false : (a : Bool) → (a || false) ≡ a
-or_false true = refl
-or_false false = refl
-
 and_false : (a : Bool) → (a && false) ≡ false
 and_false true = refl
 and_false false = refl
 
 nothing_new : (a b : Bool) → b ≡ false → a ≡ (a || b)
-nothing_new a b e = sym (ap (λ b. a || b) e ∙ or_false a)
+nothing_new a b e = sym (ap (λ b. a || b) e ∙ or-false a)
 
 -- ---- steps
 
@@ -63,11 +59,7 @@ joined table first second both t w t' w' t'' w'' either one two = record {
 
 listed_here : (table : List Need) (place : ℕ) → is_listed table (place ∷ []) place ≡ starts_at table 3 place
 listed_here table place =
-    ap (λ b. starts_at table 3 place && (b || false)) (eq-eqb place place refl) ∙ and_true (starts_at table 3 place)
-  where
-    and_true : (a : Bool) → (a && true) ≡ a
-    and_true true = refl
-    and_true false = refl
+    ap (λ b. starts_at table 3 place && (b || false)) (eq-eqb place place refl) ∙ and-true (starts_at table 3 place)
 
 listed_elsewhere : (table : List Need) (place k : ℕ) → k ≢ place → is_listed table (place ∷ []) k ≡ false
 listed_elsewhere table place k ne =
@@ -184,7 +176,7 @@ listed_all table name t w t' w' step = alike table _ _ t w t' w' same step
     same k lt =
         ap (λ b. starts_at table 3 k && b)
         (is_place_of table name k lt ∙ names_flip name _
-        ∙ sym (or_false (folds_same (get_or (names_of table) k []) name)))
+        ∙ sym (or-false (folds_same (get_or (names_of table) k []) name)))
         ∙ sym (named_at table (name ∷ []) k lt)
 
 -- ---- names, one after another

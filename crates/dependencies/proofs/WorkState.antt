@@ -1,7 +1,7 @@
 -- From the entries of Start 2 to the least set.
 use Rattle.std.proofs.Common.{◌≡◌, ℕ, ◌+◌, ◌<◌, Bool, true, false, ◌||◌, List, [], ◌∷◌, ◌++◌, length, get_or, refl, sym, ap, ◌∙◌, ◌⊎◌, inl, inr, cond, subst, arith}
 use Rattle.std.specs.Prelude.{All, Contains}
-use Rattle.std.proofs.lemmas.Bool.{false≢true, cases_lt}
+use Rattle.std.proofs.lemmas.Bool.{false≢true, cases_lt, or_left, or_right}
 use Rattle.std.proofs.lemmas.List.{get_or_past, get_or_push, get_or_append_left, length_push}
 use Rattle.std.proofs.lemmas.List.Elements.{All-push, All-weaker, Contains-push, Contains-push_cases, Contains-append_left}
 use Rattle.start_model.specs.Demand.{Need}
@@ -137,21 +137,13 @@ or_cases : (a b : Bool) → (a || b) ≡ true → (a ≡ true) ⊎ ((a ≡ false
 or_cases true b h = inl refl
 or_cases false b h = inr (refl, h)
 
-or_first : (a b : Bool) → a ≡ true → (a || b) ≡ true
-or_first true b h = refl
-or_first false b h = absurd (false≢true h)
-
-or_second : (a b : Bool) → b ≡ true → (a || b) ≡ true
-or_second true b h = refl
-or_second false b h = h
-
 pub worked_more : (table : List Need) (place : ℕ) (taken : List Bool) (work rest : List ℕ) (taken' : List Bool)
     (work' : List ℕ)
     → work ≡ rest ++ place ∷ [] → IsWorked table taken work → IsWork table taken' work'
     → PullsIn table place taken rest taken' work' → IsWorked table taken' work'
 worked_more table place taken work rest taken' work' e is now in' = record {
   honest = now;
-  starts = λ q s. in'.taken_then q (starts_within table 2 q s) ∙ or_first (member taken q) _ (is.starts q s);
+  starts = λ q s. in'.taken_then q (starts_within table 2 q s) ∙ or_left (member taken q) _ (is.starts q s);
   pulled = λ p t.
       (let from = or_cases (member taken p) (pulls table place p) (sym (in'.taken_then p (within p t)) ∙ t) in
       elim from [
@@ -160,10 +152,10 @@ worked_more table place taken work rest taken' work' e is now in' = record {
               elim (Contains-push_cases rest place p (subst H e waits)) [
                 | inl still ↦ inl (in'.kept p still)
                 | inr this ↦ inr (λ q s. (let s' : pulls table place q ≡ true = ap (λ r. pulls table r q) this ∙ s in
-                    in'.taken_then q (pulls_within table place q s').1 ∙ or_second (member taken q) _ s'))
+                    in'.taken_then q (pulls_within table place q s').1 ∙ or_right (member taken q) _ s'))
               ])
           | inr done ↦ inr (λ q s. in'.taken_then q (pulls_within table p q s).1
-              ∙ or_first (member taken q) _ (done q s))
+              ∙ or_left (member taken q) _ (done q s))
         ])
         | inr new ↦ inl (in'.new p t new.0)
       ]);

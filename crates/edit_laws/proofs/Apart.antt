@@ -2,7 +2,7 @@
 use Rattle.std.proofs.Common.{◌≡◌, ℕ, zero, suc, ◌<◌, Bool, true, false, not, ◌&&◌, ◌||◌, cond, List, [], ◌∷◌, ◌++◌, length, refl, sym, ◌∙◌, ap, subst, inl, inr, ⊎_elim, Option, Result, Ok, Err, arith, append_assoc}
 use Rattle.std.specs.Prelude.{◌⊎◌, ◌==◌, if◌then◌else◌}
 use Rattle.std.specs.List.{list_any}
-use Rattle.std.proofs.lemmas.Bool.{eq-eqb}
+use Rattle.std.proofs.lemmas.Bool.{eq-eqb, or_parts}
 use Rattle.nt_bytes.specs.Folding.{folds_same}
 use Rattle.nt_bytes.specs.declared.fault.HiveKind.{HiveKind}
 use Rattle.nt_bytes.specs.declared.fault.HiveKind.TheVariants.{Count, DoubleName}
@@ -38,10 +38,6 @@ once_right before (uses at s ∷ xs) ys h =
 once_right before (tests at k ∷ xs) ys h =
     subst (λ (l : List Check). OnceBehind l ys) (append_assoc before (tests at k ∷ []) xs)
     (once_right (before ++ tests at k ∷ []) xs ys h)
-
-or_parts : (a b : Bool) → (a || b) ≡ false → (a ≡ false) × (b ≡ false)
-or_parts true b e = absurd cc
-or_parts false b e = (refl, e)
 
 none_in : (f : Check → Bool) (cs : List Check) (c : Check) → list_any f cs ≡ false → In cs c → f c ≡ false
 none_in f [] c e h = absurd h

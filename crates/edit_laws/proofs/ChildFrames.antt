@@ -19,7 +19,7 @@ use Rattle.edit_laws.proofs.Ins.{in_left, in_right, in_cases, in_flat_from}
 use Rattle.edit_laws.proofs.Pairs.{in_map, in_map_from}
 use Rattle.edit_laws.proofs.StepBack.{step_back}
 use Rattle.edit_laws.proofs.Wellformed.{sound_hive, places_are, tree_of, tree_name}
-use Rattle.edit_laws.proofs.Patch.{reach_one, either_way}
+use Rattle.edit_laws.proofs.Patch.{reach_one}
 use Rattle.edit_laws.proofs.Same.{same_name}
 use Rattle.edit_laws.proofs.SameTree.{places_kept}
 use Rattle.edit_laws.proofs.Untouched.{IsNew}
@@ -28,6 +28,7 @@ use Rattle.edit_laws.proofs.Rooted.{copied_framed, added_framed}
 use Rattle.edit_laws.proofs.Relisted.{IsRelisted}
 use Rattle.edit_laws.proofs.Revalued.{reach_on}
 use Rattle.edit_laws.proofs.Relisting.{longer_no, still_same, still_elsewhere, IsStill, places_listed}
+use Rattle.std.proofs.lemmas.Bool.{cases_eq}
 
 -- ---- what is owned is used
 
@@ -115,7 +116,7 @@ pub record NamesParent (b : Cells) (root : ℕ) (t : Tree) (step : Step) (p : Li
 come_keeps : (b c : Cells) (root : ℕ) (t : Tree) (p : List (List ℕ)) (x left : ℕ) (front put back counted : List ℕ)
     → IsWellFormed b root t → Reaches b root p x → ChangesChildren b c root x left front [] put back counted
     → (q : List (List ℕ)) (y : ℕ) → Reaches b root q y → node_name c y ≡ node_name b y
-come_keeps b c root t p x left front put back counted well h g q y k = go (either_way y x)
+come_keeps b c root t p x left front put back counted well h g q y k = go (cases_eq y x)
   where
     here : node_name c x ≡ node_name b x
     here =

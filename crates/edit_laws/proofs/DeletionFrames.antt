@@ -18,7 +18,7 @@ use Rattle.edit_laws.proofs.Ins.{in_left, in_right, in_cases, in_flat}
 use Rattle.edit_laws.proofs.Pairs.{in_map, in_map_from}
 use Rattle.edit_laws.proofs.StepBack.{step_back}
 use Rattle.edit_laws.proofs.Wellformed.{both_fold, Distinct, keys_distinct, sound_hive, places_are}
-use Rattle.edit_laws.proofs.Patch.{reach_one, either_way}
+use Rattle.edit_laws.proofs.Patch.{reach_one}
 use Rattle.edit_laws.proofs.Same.{same_name}
 use Rattle.edit_laws.proofs.SameTree.{places_kept}
 use Rattle.edit_laws.proofs.Untouched.{IsNew}
@@ -28,6 +28,7 @@ use Rattle.edit_laws.proofs.Relisted.{IsRelisted}
 use Rattle.edit_laws.proofs.Revalued.{reach_on, longer}
 use Rattle.edit_laws.proofs.Relisting.{uses_below, IsGone, longer_no, still_same, still_elsewhere, IsStill, places_listed, stays_front, stays_back, apart_across, distinct_right}
 use Rattle.edit_laws.proofs.ChildFrames.{reach_kept}
+use Rattle.std.proofs.lemmas.Bool.{cases_eq}
 
 -- ---- a child goes
 
@@ -124,7 +125,7 @@ module _ (b c : Cells) (root : ℕ) (tb : Tree) (parent p : List (List ℕ)) (na
   -- a key that does not go keeps its name
   keeps_name : (q : List (List ℕ)) (w : ℕ) → Reaches b root q w → (IsGone b p (y ∷ []) q → ⊥)
       → node_name c w ≡ node_name b w
-  keeps_name q w k out = go (either_way w x)
+  keeps_name q w k out = go (cases_eq w x)
     where
       go : (w ≡ x) ⊎ (w ≡ x → ⊥) → node_name c w ≡ node_name b w
       go (inl e) = ap (node_name c) e ∙ key_name ∙ ap (node_name b) (sym e)

@@ -28,8 +28,9 @@ use Rattle.edit_laws.proofs.Wellformed.{sound_tree}
 use Rattle.edit_laws.proofs.Untouched.{root_node}
 use Rattle.edit_laws.proofs.Uses.{mark_to, walk_uses}
 use Rattle.edit_laws.proofs.Relisting.{secure_there}
-use Rattle.edit_laws.proofs.Patches.{IsPatchOf, part_patches, in_part, number_again, node_text, node_patched}
+use Rattle.edit_laws.proofs.Patches.{IsPatchOf, part_patches, in_part, node_text, node_patched}
 use Rattle.edit_laws.proofs.FromCells.{counted_some}
+use Rattle.std.proofs.lemmas.Nat.{from_le_bytes-to_le_bytes_4}
 
 -- ---- the node
 
@@ -98,9 +99,9 @@ children_written p n count volatile list e c l =
           (inl (omega arith, omega arith));
       count_is = ap (from_le_bytes w32)
           (in_part 20 (three_numbers count volatile list) p 0 4 (omega (arith, t)) (omega arith))
-          ∙ number_again count c;
+          ∙ from_le_bytes-to_le_bytes_4 count c;
       list_is = ap (from_le_bytes w32)
-          (in_part 20 (three_numbers count volatile list) p 8 4 (omega (arith, t)) (omega arith)) ∙ number_again list l;
+          (in_part 20 (three_numbers count volatile list) p 8 4 (omega (arith, t)) (omega arith)) ∙ from_le_bytes-to_le_bytes_4 list l;
     }
 
 -- ---- the lists

@@ -2,7 +2,7 @@
 -- its new one lies where no cell was.
 use Rattle.std.proofs.Common.{◌≡◌, ℕ, Bool, true, false, eqb, List, [], ◌∷◌, ◌++◌, refl, sym, ◌∙◌, ap, subst, inl, inr, ⊎_elim, Ok}
 use Rattle.std.specs.Prelude.{◌⊎◌, Contains, ◌==◌}
-use Rattle.std.proofs.lemmas.Bool.{eqb-true, eq-eqb}
+use Rattle.std.proofs.lemmas.Bool.{eqb-true, eq-eqb, cases_eq, and_from}
 use Rattle.nt_bytes.specs.Folding.{folded_unit, folds_same}
 use Rattle.hive_model.specs.Bins.{Cells}
 use Rattle.hive_model.specs.Tree.{Tree}
@@ -15,14 +15,14 @@ use Rattle.edit_laws.specs.Framed.{IsUnheld, IsFramed}
 use Rattle.edit_laws.specs.Sound.{AllSound, IsSoundHive}
 use Rattle.edit_laws.proofs.StepBack.{step_back}
 use Rattle.edit_laws.proofs.Back.{sound_below}
-use Rattle.edit_laws.proofs.Wellformed.{sound_hive, and_both}
+use Rattle.edit_laws.proofs.Wellformed.{sound_hive}
 use Rattle.edit_laws.proofs.Same.{IsKept, IsValueSame, first_used, class_same, security_same, value_list_same, value_places_same, lists_same, places_same, value_used_same, same_value_name, same_name}
 use Rattle.edit_laws.proofs.Untouched.{AreOnce, are_once, AreHeld, IsNew, framed}
 
 pub folds_itself : (a : List ℕ) → folds_same a a ≡ true
 folds_itself [] = refl
 folds_itself (x ∷ a) =
-    and_both (folded_unit x == folded_unit x) (folds_same a a) (eq-eqb (folded_unit x) (folded_unit x) refl)
+    and_from (folded_unit x == folded_unit x) (folds_same a a) (eq-eqb (folded_unit x) (folded_unit x) refl)
     (folds_itself a)
 
 -- a path leads to one place
@@ -49,13 +49,6 @@ pub record IsPatched (b c : Cells) (root : ℕ) (path : List (List ℕ)) (name :
   pub used : (o : ℕ) → In (used_in (value_checks c [] v)) o → In (used_in (value_checks b [] v)) o ⊎ IsUnheld b o
   pub others : (o : ℕ) (q : List ℕ) → b.payload o ≡ Ok q → (In (used_in (value_checks b [] v)) o → ⊥)
       → c.payload o ≡ Ok q
-
-pub either_way : (w v : ℕ) → (w ≡ v) ⊎ (w ≡ v → ⊥)
-either_way w v = go (eqb w v) refl
-  where
-    go : (t : Bool) → eqb w v ≡ t → (w ≡ v) ⊎ (w ≡ v → ⊥)
-    go true e = inl (eqb-true w v e)
-    go false e = inr (λ s. let f = eq-eqb w v s in absurd (let g : true ≡ false = sym f ∙ e in cc))
 
 abbrev name_in : Role → List ℕ
 name_in node = []
@@ -163,7 +156,7 @@ patched_framed b c root tb t u path name kind bytes well held ok p =
     role q y e value_list o h = inl (subst (λ (l : List ℕ). In l o) (value_list_same b c y (node_there q y e)) h)
     role q y e (value n) o h =
         value_role q y n o e h (subst (λ (l : List ℕ). In l h.place) (places_there q y e) h.listed)
-        (either_way h.place p.v)
+        (cases_eq h.place p.v)
     role q y e lists o h =
         inl (subst (λ (l : List ℕ). In l o) (lists_same b c y (node_there q y e) (lists_there q y e)) h)
 

@@ -229,19 +229,16 @@ says_then a b c s t = record {
 
 -- ---- numbers
 
-pub number_again : (n : ℕ) → n < 2 ^ 32 → from_le_bytes w32 (to_le_bytes w32 n) ≡ n
-number_again n lt = from_le_bytes-to_le_bytes_4 n lt
-
 -- the first and the second of two numbers that were written
 pub first_of_two : (from a b : ℕ) (p : List ℕ) → from ≤ length p → a < 2 ^ 32
     → u32_in (with_part from (two_numbers a b) p) (from + 0) ≡ a
 first_of_two from a b p fits lt =
-    ap (from_le_bytes w32) (in_part from (two_numbers a b) p 0 4 fits (omega arith)) ∙ number_again a lt
+    ap (from_le_bytes w32) (in_part from (two_numbers a b) p 0 4 fits (omega arith)) ∙ from_le_bytes-to_le_bytes_4 a lt
 
 pub second_of_two : (from a b : ℕ) (p : List ℕ) → from ≤ length p → b < 2 ^ 32
     → u32_in (with_part from (two_numbers a b) p) (from + 4) ≡ b
 second_of_two from a b p fits lt =
-    ap (from_le_bytes w32) (in_part from (two_numbers a b) p 4 4 fits (omega arith)) ∙ number_again b lt
+    ap (from_le_bytes w32) (in_part from (two_numbers a b) p 4 4 fits (omega arith)) ∙ from_le_bytes-to_le_bytes_4 b lt
 
 -- a node's count and list of values are written anew
 pub values_written : (p : List ℕ) (n : KeyNode) (count list : ℕ) → key_node_at p ≡ Ok n → count < 2 ^ 32
@@ -339,17 +336,17 @@ value_written p v size offset kind e s o k fits =
     size_is : u32_in (with_part 4 (three_numbers size offset kind) p) 4 ≡ size
     size_is =
         ap (from_le_bytes w32) (in_part 4 (three_numbers size offset kind) p 0 4 (omega (arith, long)) (omega arith))
-        ∙ number_again size s
+        ∙ from_le_bytes-to_le_bytes_4 size s
 
     offset_is : u32_in (with_part 4 (three_numbers size offset kind) p) 8 ≡ offset
     offset_is =
         ap (from_le_bytes w32) (in_part 4 (three_numbers size offset kind) p 4 4 (omega (arith, long)) (omega arith))
-        ∙ number_again offset o
+        ∙ from_le_bytes-to_le_bytes_4 offset o
 
     kind_is : u32_in (with_part 4 (three_numbers size offset kind) p) 12 ≡ kind
     kind_is =
         ap (from_le_bytes w32) (in_part 4 (three_numbers size offset kind) p 8 4 (omega (arith, long)) (omega arith))
-        ∙ number_again kind k
+        ∙ from_le_bytes-to_le_bytes_4 kind k
 
     flags_is : u16_in (with_part 4 (three_numbers size offset kind) p) 16 ≡ v.flags
     flags_is =

@@ -25,7 +25,6 @@ use Rattle.edit_laws.specs.Done.{IsDone}
 use Rattle.edit_laws.proofs.Ins.{in_left, in_right, in_flat_from}
 use Rattle.edit_laws.proofs.Pairs.{in_map, in_map_from, pairwise_map}
 use Rattle.edit_laws.proofs.Out.{IsPlaced, placed_at}
-use Rattle.edit_laws.proofs.Patch.{either_way}
 use Rattle.edit_laws.proofs.Wellformed.{first_part}
 use Rattle.edit_laws.proofs.Same.{entries_used, entries_same}
 use Rattle.edit_laws.proofs.Around.{above, above_is, hive_uses, hive_once, once_two, used_held}
@@ -36,6 +35,7 @@ use Rattle.edit_laws.proofs.DeletionFrames.{extends_on}
 use Rattle.edit_laws.proofs.FromLists.{children_written}
 use Rattle.edit_laws.proofs.KeyCells.{key_taken}
 use Rattle.edit_laws.proofs.ListsRead.{entries_held}
+use Rattle.std.proofs.lemmas.Bool.{cases_eq}
 
 -- ---- uses as security
 
@@ -69,7 +69,7 @@ in_or_not : (xs : List ℕ) (o : ℕ) → In xs o ⊎ (In xs o → ⊥)
 in_or_not [] o = inr (λ h. h)
 in_or_not (x ∷ xs) o =
     ⊎_elim (λ e. inl (inl e)) (λ no. ⊎_elim (λ i. inl (inr i)) (λ none. inr (λ h. ⊎_elim no none h)) (in_or_not xs o))
-    (either_way x o)
+    (cases_eq x o)
 
 -- what owns it as the walk uses it, owns it as security
 has_security : (cells : Cells) (at o : ℕ) (r : Role) → HasRole cells at r o → IsSecurity r

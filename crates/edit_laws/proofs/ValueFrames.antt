@@ -16,13 +16,14 @@ use Rattle.edit_laws.specs.Revalues.{cells_of_values, GetsValues, ChangesValues}
 use Rattle.edit_laws.proofs.Ins.{in_left, in_right, in_cases, in_flat, in_flat_from}
 use Rattle.edit_laws.proofs.StepBack.{step_back}
 use Rattle.edit_laws.proofs.Wellformed.{sound_hive}
-use Rattle.edit_laws.proofs.Patch.{reach_one, either_way}
+use Rattle.edit_laws.proofs.Patch.{reach_one}
 use Rattle.edit_laws.proofs.Same.{IsValueSame, same_name}
 use Rattle.edit_laws.proofs.Untouched.{IsNew}
 use Rattle.edit_laws.proofs.Relisted.{IsRevalued}
 use Rattle.edit_laws.proofs.Revalued.{elsewhere, other_same, reach_on}
 use Rattle.edit_laws.proofs.ChangedValues.{HasChanged, changed, listed_places}
 use Rattle.edit_laws.proofs.Valued.{set_framed, unset_framed}
+use Rattle.std.proofs.lemmas.Bool.{cases_eq}
 
 -- the step names its key's values of a name
 record NamesValues (t : Tree) (step : Step) (path : List (List ℕ)) (name : List ℕ) : Type 0 where
@@ -98,7 +99,7 @@ leaves b c root t step x front gone put back come among g = record {
 keeps : (b c : Cells) (root : ℕ) (t : Tree) (p : List (List ℕ)) (x : ℕ) (items : List Item) → IsWellFormed b root t
     → Reaches b root p x → GetsValues b c x items → (q : List (List ℕ)) (y : ℕ) → Reaches b root q y
     → node_name c y ≡ node_name b y
-keeps b c root t p x items well h g q y k = go (either_way y x)
+keeps b c root t p x items well h g q y k = go (cases_eq y x)
   where
     here : node_name c x ≡ node_name b x
     here =

@@ -2,7 +2,7 @@
 use Rattle.std.proofs.Common.{◌≡◌, ℕ, suc, ◌+◌, ◌<◌, ◌≤◌, Bool, true, false, not, ◌&&◌, cond, List, [], ◌∷◌, length, Result, Ok, Err, refl, sym, ap, subst, ◌∙◌, arith, inl, inr}
 use Rattle.std.specs.Prelude.{MatchBool, ◌==◌, if◌then◌else◌, max}
 use Rattle.std.specs.List.{All}
-use Rattle.std.proofs.lemmas.Bool.{eqb-true, eq-eqb}
+use Rattle.std.proofs.lemmas.Bool.{eqb-true, eq-eqb, and_parts, and_from}
 use Rattle.nt_bytes.specs.Folding.{folded_unit, folds_same}
 use Rattle.nt_bytes.specs.declared.fault.HiveKind.{HiveKind}
 use Rattle.nt_bytes.specs.declared.fault.HiveKind.TheVariants.{FormName}
@@ -22,13 +22,6 @@ use Rattle.edit_laws.proofs.Out.{of_node_is}
 
 -- ---- names
 
-and_parts : (a b : Bool) → (a && b) ≡ true → (a ≡ true) × (b ≡ true)
-and_parts true b e = (refl, e)
-and_parts false b e = absurd cc
-
-pub and_both : (a b : Bool) → a ≡ true → b ≡ true → (a && b) ≡ true
-and_both a b e f = rw (e, f) refl
-
 -- two names that one folds to fold to one
 pub both_fold : (name a b : List ℕ) → folds_same name a ≡ true → folds_same name b ≡ true → folds_same a b ≡ true
 both_fold [] [] [] e f = refl
@@ -39,7 +32,7 @@ both_fold (n ∷ name) (x ∷ a) [] e f = absurd cc
 both_fold (n ∷ name) (x ∷ a) (y ∷ b) e f =
     let p = and_parts (folded_unit n == folded_unit x) (folds_same name a) e in
     let q = and_parts (folded_unit n == folded_unit y) (folds_same name b) f in
-    and_both (folded_unit x == folded_unit y) (folds_same a b)
+    and_from (folded_unit x == folded_unit y) (folds_same a b)
     (eq-eqb (folded_unit x) (folded_unit y)
     (sym (eqb-true (folded_unit n) (folded_unit x) p.0) ∙ eqb-true (folded_unit n) (folded_unit y) q.0))
     (both_fold name a b p.1 q.1)

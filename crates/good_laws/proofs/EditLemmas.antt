@@ -3,7 +3,7 @@ use Rattle.std.proofs.Common.{◌≡◌, ℕ, suc, ◌+◌, ◌-◌, ◌/◌, �
 use Rattle.std.specs.Prelude.{codes, find}
 use Rattle.std.specs.Option.{is_some, is_none}
 use Rattle.std.specs.List.{list_all}
-use Rattle.std.proofs.lemmas.Bool.{false≢true}
+use Rattle.std.proofs.lemmas.Bool.{false≢true, and_from, or_parts}
 use Rattle.std.proofs.lemmas.Bool.Decides.{nat_tests}
 use Rattle.nt_bytes.specs.Folding.{folded_unit, folds_same}
 use Rattle.nt_bytes.specs.declared.version.HiveVersion.{HiveVersion}
@@ -11,7 +11,7 @@ use Rattle.hive_model.specs.Tree.{Item, Tree, key, head, children, is_named, is_
 use Rattle.hive_model.specs.Edit.{Step, no_key, no_value, too_deep, name_too_long, data_too_long, has_item, has_child, at_first, without_first, of_items, of_children, at_key, with_item, placed, new_key, with_key, without_key, name_tests, after_step, edited}
 use Rattle.start_model.specs.Sets.{set_name, set_of}
 use Rattle.start_model.specs.Events.{Edit, Set, Delete, Make, Remove, is_current, is_digit_unit, names_a_set, is_protected_child, begins_protected, is_current_alone, is_protected, resolved, without_last, last_of, step_of}
-use Rattle.start_laws.proofs.NameLemmas.{and_left, and_right, and_both, folds_itself, fold_alike, apart, other_number, select_is_no_set}
+use Rattle.start_laws.proofs.NameLemmas.{and_left, and_right, folds_itself, fold_alike, apart, other_number, select_is_no_set}
 use Rattle.start_laws.proofs.FindLemmas.{find-at_first_other, find-without_first, find-placed_other}
 use Rattle.start_laws.proofs.StepLemmas.{set_found, select_found, children-of_children, name_of-of_items, KeepsOthers, unless_ok, single, steps_made}
 
@@ -40,7 +40,7 @@ parts (x ∷ xs) back (y ∷ ys) h =
     let here : folded_unit x ≡ folded_unit y =
     eqb-true _ _ (and_left (folded_unit x == folded_unit y) (folds_same (xs ++ back) ys) h) in
     record {
-      first = and_both (folded_unit y == folded_unit x) (folds_same (take (length xs) ys) xs)
+      first = and_from (folded_unit y == folded_unit x) (folds_same (take (length xs) ys) xs)
           (eq-eqb _ _ (sym here)) deep.first;
       second = deep.second;
     }
@@ -62,11 +62,11 @@ digit_units a b c (x ∷ y ∷ z ∷ more) p q r h =
     let rest : (two && (three && folds_same [] more)) ≡ true = and_right one (two && (three && folds_same [] more)) h in
     let last : (three && folds_same [] more) ≡ true = and_right two (three && folds_same [] more) rest in
     let no_more : list_all is_digit_unit more ≡ true = ends more (and_right three (folds_same [] more) last) in
-    and_both (is_digit_unit x) (list_all is_digit_unit (y ∷ z ∷ more))
+    and_from (is_digit_unit x) (list_all is_digit_unit (y ∷ z ∷ more))
     (digit_unit a x p (and_left one (two && (three && folds_same [] more)) h))
-    (and_both (is_digit_unit y) (list_all is_digit_unit (z ∷ more))
+    (and_from (is_digit_unit y) (list_all is_digit_unit (z ∷ more))
     (digit_unit b y q (and_left two (three && folds_same [] more) rest))
-    (and_both (is_digit_unit z) (list_all is_digit_unit more)
+    (and_from (is_digit_unit z) (list_all is_digit_unit more)
     (digit_unit c z r (and_left three (folds_same [] more) last)) no_more))
   where
     ends : (us : List ℕ) → folds_same [] us ≡ true → list_all is_digit_unit us ≡ true
@@ -82,7 +82,7 @@ set_named m name le h =
     let P : ℕ → Type 0 = λ k. (folds_same (take k name) (codes "ControlSet") && list_all is_digit_unit (drop k name))
     ≡ true in
     subst P (sym front)
-    (and_both (folds_same (take 10 name) (codes "ControlSet")) (list_all is_digit_unit (drop 10 name)) p.first
+    (and_from (folds_same (take 10 name) (codes "ControlSet")) (list_all is_digit_unit (drop 10 name)) p.first
     (digit_units (m / 100) (m / 10 % 10) (m % 10) (drop 10 name) (omega arith) (omega arith) (omega arith) p.second))
 
 -- the name is apart from `Select` and from the sets but this one
@@ -98,20 +98,12 @@ record IsApartFromAll (n : ℕ) (name : List ℕ) : Type 0 where
 taken_apart : (n : ℕ) → n ≤ 999 → IsApart n (set_name n)
 taken_apart n le = record { sets = λ m h ne. other_number m n h le ne; select = select_is_no_set n }
 
-or_left : (a b : Bool) → (a || b) ≡ false → a ≡ false
-or_left true b h = h
-or_left false b h = refl
-
-or_right : (a b : Bool) → (a || b) ≡ false → b ≡ false
-or_right true b h = absurd (false≢true (sym h))
-or_right false b h = h
-
 no_set : (m : ℕ) (name : List ℕ) → m ≤ 999 → is_protected_child name ≡ false → folds_same (set_name m) name ≡ false
 no_set m name le h = split (folds_same (set_name m) name) refl
   where
     split : (b : Bool) → folds_same (set_name m) name ≡ b → folds_same (set_name m) name ≡ false
     split true e = absurd (false≢true
-        (sym (or_right (folds_same name (codes "Select")) (names_a_set name) h) ∙ set_named m name le e))
+        (sym (or_parts (folds_same name (codes "Select")) (names_a_set name) h).1 ∙ set_named m name le e))
     split false e = e
 
 no_select : (name : List ℕ) → is_protected_child name ≡ false → folds_same (codes "Select") name ≡ false
@@ -119,7 +111,7 @@ no_select name h = split (folds_same (codes "Select") name) refl
   where
     split : (b : Bool) → folds_same (codes "Select") name ≡ b → folds_same (codes "Select") name ≡ false
     split true e = absurd (false≢true
-        (sym (or_left (folds_same name (codes "Select")) (names_a_set name) h) ∙ folds_back (codes "Select") name e))
+        (sym (or_parts (folds_same name (codes "Select")) (names_a_set name) h).0 ∙ folds_back (codes "Select") name e))
     split false e = e
 
 unprotected : (n : ℕ) (name : List ℕ) → n ≤ 999 → is_protected_child name ≡ false → IsApartFromAll n name
@@ -335,14 +327,14 @@ edit_keeps n (Make path) t u le free e =
     ∷ name_tests (last_of (resolved n path))) ++ (ltb 512 (length (without_last (resolved n path)) + 2), too_deep)
     ∷ [])
     (at_key (without_last (resolved n path)) (with_key (last_of (resolved n path))) t) u e)
-    (key_comes n path t le (or_left (begins_protected path) (is_current_alone path) free)
-    (or_right (begins_protected path) (is_current_alone path) free))
+    (key_comes n path t le (or_parts (begins_protected path) (is_current_alone path) free).0
+    (or_parts (begins_protected path) (is_current_alone path) free).1)
 edit_keeps n (Remove path) t u le free e =
     let P : Tree → Type 0 = KeepsSets n t in
     subst P (unless_ok (((length (resolved n path) == 0) || is_none (find_key (resolved n path) t), no_key) ∷ [])
     (without_key (resolved n path) t) u e)
-    (key_goes n path t le (or_left (begins_protected path) (is_current_alone path) free)
-    (or_right (begins_protected path) (is_current_alone path) free))
+    (key_goes n path t le (or_parts (begins_protected path) (is_current_alone path) free).0
+    (or_parts (begins_protected path) (is_current_alone path) free).1)
 
 -- the same of the tree that the run goes on with
 pub edited_keeps : (version : HiveVersion) (n : ℕ) (edit : Edit) (t u : Tree) → n ≤ 999 → is_protected edit ≡ false

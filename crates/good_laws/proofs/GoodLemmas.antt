@@ -3,7 +3,7 @@ use Rattle.std.proofs.Common.{◌≡◌, inl, inr, ℕ, ◌≤◌, Bool, true, f
 use Rattle.std.specs.Prelude.{Contains}
 use Rattle.std.specs.Option.{is_some}
 use Rattle.std.specs.List.{list_any}
-use Rattle.std.proofs.lemmas.Bool.{false≢true, leb-true}
+use Rattle.std.proofs.lemmas.Bool.{false≢true, leb-true, or_left}
 use Rattle.std.proofs.lemmas.List.Elements.{Contains-push}
 use Rattle.std.proofs.lemmas.List.Folds.{list_any-append}
 use Rattle.nt_bytes.specs.declared.version.HiveVersion.{HiveVersion}
@@ -13,7 +13,7 @@ use Rattle.start_model.specs.Sets.{SelectNumbers, SetPlan, SetChange, set_name, 
 use Rattle.start_model.specs.Act.{Note, Held, Saved}
 use Rattle.start_model.specs.Starter.{good_is_usable}
 use Rattle.start_model.specs.Fits.{held_in, saved_in, good_set_of, first_good_in, IsGoodSet, NamesGood, IsGoodBehind}
-use Rattle.start_laws.proofs.UsableLemmas.{or_first, usable_parts, usable_is, small_among}
+use Rattle.start_laws.proofs.UsableLemmas.{usable_parts, usable_is, small_among}
 use Rattle.start_laws.proofs.StepLemmas.{select_key, parted, steps_made}
 use Rattle.start_laws.proofs.PlanLemmas.{settled}
 use Rattle.start_laws.proofs.BeginLemmas.{BeginCase, guarded, plain, begin_case, some_tree, good_set, same_set, names_good, begins, by_plan, begin_of-begins}
@@ -251,7 +251,7 @@ save_runs version h t clone change n is r =
       );
       least = r.least;
       most = r.most;
-      there = ap is_some (s.sets n r.most (or_first ((select_numbers_of t).current == n) _ (eq-eqb _ _ r.current))
+      there = ap is_some (s.sets n r.most (or_left ((select_numbers_of t).current == n) _ (eq-eqb _ _ r.current))
           other) ∙ r.there;
       current = s.current ∙ r.current;
       apart = λ e. other (sym e ∙ s.good);

@@ -1,7 +1,7 @@
 -- A copy that is written, sector by sector and stage by stage.
 use Rattle.std.proofs.Common.{◌≡◌, ◌⊎◌, ◌<◌, ◌+◌, ◌-◌, ◌*◌, ◌==◌, ◌&&◌, ℕ, Bool, true, false, List, length, Some, Result, Ok, Err, refl, sym, ◌∙◌, ap, subst, arith, inl, inr, ⊎_elim}
 use Rattle.std.specs.Prelude.{nat_lt, nat_le, OnOk}
-use Rattle.std.proofs.lemmas.Bool.{ne_eqb, le-leb, lt-ltb, and_from, and_right}
+use Rattle.std.proofs.lemmas.Bool.{ne_eqb, le-leb, lt-ltb, and_from, and_right, cases_Bool}
 use Rattle.hive_model.specs.Base.{Base, IsBase, base_of, base_text}
 use Rattle.hive_model.specs.Image.{Image, File, Primary, Log, Address, Bytes, put, same_file}
 use Rattle.hive_model.specs.Recovery.{sector, and_then, base_at}
@@ -100,10 +100,6 @@ copy_written file image base bins fits kind even size is =
 
 -- ---- a copy written anew
 
-either : (b : Bool) → (b ≡ true) ⊎ (b ≡ false)
-either true = inl refl
-either false = inr refl
-
 module _ (file : File) (h0 : Image) (opened closed : Base) (bits : ℕ → Bool) (new : List ℕ)
     (stays : (i : ℕ) → 512 * i < length new → bits i ≡ false → h0 (copy_at file (8 + i)) ≡ Some (Bytes (sector new i)))
   where
@@ -142,7 +138,7 @@ module _ (file : File) (h0 : Image) (opened closed : Base) (bits : ℕ → Bool)
             (λ on. written i small on)
             (λ off. agree2 (copy_at file (8 + i)) (unmarked_at file (length new) bits i off)
             ∙ agree1 (copy_at file (8 + i)) (no_block file i) ∙ stays i small off)
-            (either (bits i))
+            (cases_Bool (bits i))
 
         pub closed_written : (c : Image) → AgreeOutside (is_block file) h2 c
             → c (copy_at file 0) ≡ Some (Bytes (base_text closed)) → IsWritten file c closed new

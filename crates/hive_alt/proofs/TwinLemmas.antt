@@ -1,7 +1,7 @@
 -- What an image with two copies stands for, by what the copies are.
 use Rattle.std.proofs.Common.{◌≡◌, ◌<◌, ◌+◌, ◌*◌, ◌/◌, ◌==◌, ◌&&◌, ℕ, zero, suc, true, false, cond, List, [], length, Option, Some, None, Result, Ok, Err, refl, sym, ◌∙◌, ap, arith, add-one, ⊎_elim}
 use Rattle.std.specs.Prelude.{not, bytes_eq}
-use Rattle.std.proofs.lemmas.Bool.{eq-eqb, eqb-true, ne_eqb, lt-leb, and_right}
+use Rattle.std.proofs.lemmas.Bool.{eq-eqb, eqb-true, ne_eqb, lt-leb, and_right, and_parts}
 use Rattle.std.proofs.lemmas.Slice.Eq.{bytes_eq-Decides}
 use Rattle.nt_bytes.specs.declared.fault.HiveFault.{HiveFault}
 use Rattle.nt_bytes.specs.declared.fault.HiveKind.TheVariants.{LogAbsent, LogUnreadable, LogSequence}
@@ -11,7 +11,7 @@ use Rattle.hive_model.specs.Recovery.{log_in, sector, and_then, bytes_or, gather
 use Rattle.hive_model.specs.Carries.{HasBase}
 use Rattle.hive_model.specs.Log.{dirty}
 use Rattle.hive_log.specs.Found.{IsUnfinished}
-use Rattle.hive_log.proofs.Appending.{both, sized}
+use Rattle.hive_log.proofs.Appending.{sized}
 use Rattle.hive_log.proofs.Ranks.{split}
 use Rattle.hive_log.proofs.Runs.{gathered_whole}
 use Rattle.hive_alt.specs.Copies.{HasCopy, IsPair, IsBehind}
@@ -140,15 +140,15 @@ fields_refl b =
 
 fields_same : (a b : Base) → same_fields a b ≡ true → a ≡ b
 fields_same a b is =
-    let p1 = both (a.first == b.first) _ is in
-    let p2 = both (a.second == b.second) _ p1.1 in
-    let p3 = both (a.stamp == b.stamp) _ p2.1 in
-    let p4 = both (a.minor == b.minor) _ p3.1 in
-    let p5 = both (a.kind == b.kind) _ p4.1 in
-    let p6 = both (a.root == b.root) _ p5.1 in
-    let p7 = both (a.size == b.size) _ p6.1 in
-    let p8 = both (a.cluster == b.cluster) _ p7.1 in
-    let p9 = both (bytes_eq a.name b.name) _ p8.1 in
+    let p1 = and_parts (a.first == b.first) _ is in
+    let p2 = and_parts (a.second == b.second) _ p1.1 in
+    let p3 = and_parts (a.stamp == b.stamp) _ p2.1 in
+    let p4 = and_parts (a.minor == b.minor) _ p3.1 in
+    let p5 = and_parts (a.kind == b.kind) _ p4.1 in
+    let p6 = and_parts (a.root == b.root) _ p5.1 in
+    let p7 = and_parts (a.size == b.size) _ p6.1 in
+    let p8 = and_parts (a.cluster == b.cluster) _ p7.1 in
+    let p9 = and_parts (bytes_eq a.name b.name) _ p8.1 in
     λ i. record {
       first = eqb-true a.first b.first p1.0 i;
       second = eqb-true a.second b.second p2.0 i;
@@ -175,7 +175,7 @@ second_each : (image : Image) (bins : List ℕ) (n : ℕ) → second_has image b
     → log_in image (8 + i) ≡ Some (Bytes (sector bins i))
 second_each image bins zero is i below = absurd (omega arith)
 second_each image bins (suc n) is i below =
-    let parts = both (second_has image bins n) _ is in
+    let parts = and_parts (second_has image bins n) _ is in
     ⊎_elim
     (λ less. second_each image bins n parts.0 i less)
     (λ same. ap (λ k. log_in image (8 + k)) same ∙ bytes_there (sector bins n) (log_in image (8 + n)) parts.1
@@ -202,7 +202,7 @@ pub true_is_second : (image : Image) (base : Base) (bins : List ℕ) → base.fi
     → 512 * (length bins / 512) ≡ length bins
     → is_second image base bins ≡ true → HasCopy Log image base bins
 true_is_second image base bins even size whole is =
-    let parts = both (has_fields base (second_in image)) _ is in
+    let parts = and_parts (has_fields base (second_in image)) _ is in
     record {
       block = block_back (log_in image 0) base (has_same base (second_in image) parts.0);
       clean = even;

@@ -14,6 +14,7 @@ use Rattle.hive_cells.specs.Reading.{cell_marks, marks, bins_of, IsKept, head_of
 use Rattle.hive_cells.proofs.Tools.{word_at, length_cell, length_cells, length_head, length_spelled, spelled-append}
 use Rattle.hive_cells.proofs.Steps.{kept_seen}
 use Rattle.hive_cells.proofs.Again.{head_again, payload_again}
+use Rattle.std.proofs.lemmas.Option.{same_Some}
 
 -- ---- no cell before the first place, none past the last
 
@@ -117,9 +118,6 @@ pub record CellSpot (o p : ℕ) (cs : List Cell) (c : Cell) : Type 0 where
   pub parts : cs ≡ front ++ c ∷ back
   pub place : o ≡ p + cells_size front
 
-some_same : {X : Type 0} (x y : X) → Some x ≡ Some y → x ≡ y
-some_same x y e = cc
-
 pub cell_spot : (cs : List Cell) (o p : ℕ) (c : Cell) → in_cells o p cs ≡ Some c → CellSpot o p cs c
 cell_spot [] o p c e = absurd cc
 cell_spot (d ∷ cs) o p c e =
@@ -128,7 +126,7 @@ cell_spot (d ∷ cs) o p c e =
           record {
             front = [];
             back = cs;
-            parts = ap (λ (x : Cell). x ∷ cs) (some_same d c f);
+            parts = ap (λ (x : Cell). x ∷ cs) (same_Some d c f);
             place = omega (arith, same);
           }
       | inr other ↦ let s = cell_spot cs o (p + cell_size d) c (rw (ne_eqb p o other) at e) in

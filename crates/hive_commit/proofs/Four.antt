@@ -1,6 +1,6 @@
 -- What a cut in each stage of a commit leaves.
 use Rattle.std.proofs.Common.{◌≡◌, ◌⊎◌, ◌<◌, ◌+◌, ◌*◌, ◌/◌, ◌^◌, ℕ, Bool, true, false, List, length, Some, Ok, refl, sym, ◌∙◌, ap, subst, arith, inl, inr, ⊎_elim}
-use Rattle.std.proofs.lemmas.Bool.{ne_eqb}
+use Rattle.std.proofs.lemmas.Bool.{ne_eqb, cases_Bool}
 use Rattle.hive_model.specs.Base.{Base, IsBase, base_of, base_text, is_bins_size}
 use Rattle.hive_model.specs.Image.{Address, Image, Bytes, Unreadable, IsCrashImage, IsLeftBy}
 use Rattle.hive_model.specs.Recovery.{primary_in, sector, bit, and_then, base_at}
@@ -22,10 +22,6 @@ use Rattle.hive_commit.proofs.Growth.{unmarked_at}
 -- what is held may be left
 pub held_left : (s : DiskState) → IsCrashImage s.held s.flight s.held
 held_left s a = inl refl
-
-pub either : (b : Bool) → (b ≡ true) ⊎ (b ≡ false)
-either true = inl refl
-either false = inr refl
 
 pub no_base : (i : ℕ) → is_base (bin_at i) ≡ false
 no_base i = ne_eqb (8 + i) 0 (λ e. absurd (omega arith))
@@ -205,7 +201,7 @@ module _ (base : Base) (old new : List ℕ) (root : ℕ) (bits : ℕ → Bool) (
           is3 = bins_is h3 agree3
 
           all_new : HasBins h3 new
-          all_new i small = ⊎_elim (λ on. written i small on) (λ off. is3.unmarked i small off) (either (bits i))
+          all_new i small = ⊎_elim (λ on. written i small on) (λ off. is3.unmarked i small off) (cases_Bool (bits i))
 
           pub closed_carries : (c : Image) → AgreeOutside is_base h3 c
               → primary_in c 0 ≡ Some (Bytes (base_text closed)) → Carries c closed new

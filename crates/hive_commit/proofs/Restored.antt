@@ -12,7 +12,8 @@ use Rattle.hive_commit.specs.Fitting.{NumbersFit, TextsFit}
 use Rattle.hive_model.specs.Asked.{bin_at, log_at, primary_at}
 use Rattle.hive_commit.specs.Stages.{is_base, is_marked, BlockIsBeforeOr, HasMarked}
 use Rattle.hive_commit.proofs.Growth.{unmarked_at}
-use Rattle.hive_commit.proofs.Four.{either, no_base, bins_along, written_base, is_base_of}
+use Rattle.hive_commit.proofs.Four.{no_base, bins_along, written_base, is_base_of}
+use Rattle.std.proofs.lemmas.Bool.{cases_Bool}
 
 module _ (image : Image) (closed : Base) (bitmap bins : List ℕ) (f : Found image closed bitmap bins)
     (numbers : NumbersFit closed) (texts : TextsFit closed) (whole : 512 * (length bins / 512) ≡ length bins) where
@@ -53,7 +54,7 @@ module _ (image : Image) (closed : Base) (bitmap bins : List ℕ) (f : Found ima
     found_h = found_in_bins h agree1
 
     bins_there : HasBins h bins
-    bins_there i small = ⊎_elim (λ on. written i small on) (λ off. found_h.unmarked i small off) (either (bit bitmap i))
+    bins_there i small = ⊎_elim (λ on. written i small on) (λ off. found_h.unmarked i small off) (cases_Bool (bit bitmap i))
 
     pub closed_again : (c : Image) → AgreeOutside is_base h c → primary_in c 0 ≡ Some (Bytes (base_text closed))
         → Carries c closed bins

@@ -16,10 +16,11 @@ use Rattle.hive_cells.specs.Held.{allocated_payload, held_at, patched}
 use Rattle.hive_cells.proofs.HeldLemmas.{held_payload}
 use Rattle.edit_laws.specs.Owned.{In}
 use Rattle.edit_laws.specs.Pairs.{Pairwise}
-use Rattle.edit_laws.proofs.Patches.{IsPatchOf, part_patches, in_part, number_again}
+use Rattle.edit_laws.proofs.Patches.{IsPatchOf, part_patches, in_part}
 use Rattle.hive_edit.specs.Gone.{CanGo, AreGone, HasOffsets, HasSegments, IsClosed, ClosesGap, Unlists}
 use Rattle.hive_edit.proofs.ResultLemmas.{done, some_same, ok_same, unless, only_if}
 use Rattle.hive_edit.proofs.NodeLemmas.{numbers_there}
+use Rattle.std.proofs.lemmas.Nat.{from_le_bytes-to_le_bytes_4}
 
 -- ---- what is held
 
@@ -366,7 +367,7 @@ closing_more old mid new from place count list next part g room le lt small is r
             let z : 4 * place + 0 ≡ 4 * place = omega arith in
             ap (u32_in (patched (4 * place) part q)) (sym z)
             ∙ ap (from_le_bytes w32) (in_part (4 * place) part q 0 4 (omega (arith, inside)) (omega (arith, four)))
-            ∙ ap (λ (l : List ℕ). from_le_bytes w32 (slice_range l 0 4)) is ∙ number_again next small
+            ∙ ap (λ (l : List ℕ). from_le_bytes w32 (slice_range l 0 4)) is ∙ from_le_bytes-to_le_bytes_4 next small
 
         go : (i : ℕ) → from ≤ i → i < place + 1 → (b : Bool) → eqb i place ≡ b
             → u32_in (patched (4 * place) part q) (4 * i) ≡ u32_in p (4 * i + 4)

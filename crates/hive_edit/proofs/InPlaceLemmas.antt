@@ -36,6 +36,7 @@ use Rattle.edit_laws.proofs.Out.{placed_at}
 use Rattle.edit_laws.proofs.ValueEdits.{set_there}
 use Rattle.hive_edit.proofs.PlaceLemmas.{key_there}
 use Rattle.edit_laws.proofs.Patches.{value_written}
+use Rattle.std.proofs.Math.Bool.{or-false}
 
 -- ---- a patch, as a map from offsets to payloads
 
@@ -375,15 +376,11 @@ changes_value b c root t p x v kind bytes front back node well reaches r places 
 
 -- ---- the tree after it
 
-or_false : (q : Bool) → (q || false) ≡ q
-or_false true = refl
-or_false false = refl
-
 -- a value that is found by a name has one that folds to it
 pub named_folds : (cells : Cells) (n : List ℕ) (u : ℕ) (f : KeyValue) → reading key_value_at cells u ≡ done f
     → is_value_named cells n u ≡ true → folds_same n f.name ≡ true
 named_folds cells n u f read passes =
-    sym (or_false (folds_same n f.name))
+    sym (or-false (folds_same n f.name))
     ∙ sym (ap (λ (q : Result KeyValue HiveKind). list_any (folds_same n) (names_of (λ (z : KeyValue). z.name) q))
     read) ∙ passes
 

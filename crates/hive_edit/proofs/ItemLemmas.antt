@@ -28,6 +28,7 @@ use Rattle.key_index.specs.Lists.{payload_in}
 use Rattle.key_index.proofs.Below.{in_payload}
 use Rattle.hive_edit.specs.Places.{IsItemHere, item_read, dword_at, value_name_of}
 use Rattle.hive_edit.proofs.ResultLemmas.{done, some, some_same, value_of, is_ok_of, unless, only_if, then_so, ok_same}
+use Rattle.std.proofs.Math.Bool.{or-false}
 
 -- ---- the fields of a value
 
@@ -126,10 +127,6 @@ pub value_is_there : (cells : Cells) (at : ℕ) (p : List ℕ) → IsItemHere ce
 value_is_there cells at p h e = let f = item_facts cells at h in
     is_ok_of (key_value_at p) f.value (ap key_value_at e ∙ f.here)
 
-or_false : (b : Bool) → (b || false) ≡ b
-or_false true = refl
-or_false false = refl
-
 -- the name in the payload tells whether the value at the offset has a name
 pub named_here : (cells : Cells) (name : List ℕ) (at : ℕ) (p : List ℕ) → IsItemHere cells at → p ≡ payload_in cells at
     → is_value_named cells name at ≡ folds_same name (value_name_of p)
@@ -137,7 +134,7 @@ unfolding value_name_of
 named_here cells name at p h e =
     let f = item_facts cells at h in
     ap (λ (r : Result KeyValue HiveKind). list_any (folds_same name) (names_of (λ value. value.name) r)) f.read
-    ∙ or_false (folds_same name f.value.name)
+    ∙ or-false (folds_same name f.value.name)
     ∙ sym (ap (λ (r : Result KeyValue HiveKind). folds_same name (of_read r (λ value. value.name)))
     (ap key_value_at e ∙ f.here))
 

@@ -14,9 +14,10 @@ use Rattle.hive_model.specs.Security.{SecurityCell, security_in, security_at}
 use Rattle.hive_model.specs.Stands.{tree_flags}
 use Rattle.hive_model.proofs.Spelling.{key_node_again}
 use Rattle.edit_laws.specs.Written.{with_part}
-use Rattle.edit_laws.proofs.Patches.{IsPatchOf, part_patches, in_part, number_again}
+use Rattle.edit_laws.proofs.Patches.{IsPatchOf, part_patches, in_part}
 use Rattle.hive_edit.specs.Making.{new_node}
 use Rattle.hive_edit.proofs.ResultLemmas.{done, unless, only_if, ok_same}
+use Rattle.std.proofs.lemmas.Nat.{from_le_bytes-to_le_bytes_4}
 
 -- ---- a node
 
@@ -145,7 +146,7 @@ security_counted p s uses e fits =
     patch.behind 20 (u32_in q 16) (omega arith) ∙ ap (λ (k : ℕ). slice_range p 20 (20 + k)) size in
     let count : u32_in q 12 ≡ uses =
     ap (from_le_bytes w32) (in_part 12 (to_le_bytes w32 uses) p 0 4 (omega (arith, long)) (omega arith))
-    ∙ number_again uses fits in
+    ∙ from_le_bytes-to_le_bytes_4 uses fits in
     let was : security_in p ≡ s = t.fields in
     let now : security_in q ≡ record s { uses = uses } =
     (λ i. record { forward = forward i; backward = backward i; uses = count i; descriptor = bytes i })

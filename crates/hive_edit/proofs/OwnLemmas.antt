@@ -1,5 +1,5 @@
 -- A number of up to four bytes, and the fields of a value, as they are made.
-use Rattle.std.proofs.lemmas.Bool.{eqb-true, eqb-false}
+use Rattle.std.proofs.lemmas.Bool.{eqb-true, eqb-false, cases_lt}
 use Rattle.std.proofs.Common.{◌≡◌, ◌≢◌, ◌<◌, ◌≤◌, ℕ, zero, suc, ◌+◌, Bool, true, false, eqb, List, [], ◌∷◌, ◌++◌, length, get_or, set, take, drop, refl, sym, ap, subst, ◌∙◌, ⊎_elim, inl, inr, arith, get_or-set_same, get_or-set_other}
 use Rattle.std.specs.Prelude.{◌⊎◌}
 use Rattle.std.specs.Int.{w32, from_le_bytes, to_le_bytes}
@@ -10,11 +10,6 @@ past : (xs : List ℕ) (k : ℕ) → length xs ≤ k → get_or xs k 0 ≡ 0
 past [] k h = refl
 past (x ∷ xs) zero h = absurd (omega arith)
 past (x ∷ xs) (suc k) h = past xs k (omega arith)
-
-either : (m n : ℕ) → (m < n) ⊎ (n ≤ m)
-either m zero = inr (omega arith)
-either zero (suc n) = inl (omega arith)
-either (suc m) (suc n) = ⊎_elim (λ l. inl (omega (arith, l))) (λ l. inr (omega (arith, l))) (either m n)
 
 -- one more byte written
 pub written_below : (own bytes : List ℕ) (i : ℕ) → i < length own
@@ -45,7 +40,7 @@ pub all_written : (own bytes : List ℕ) (i : ℕ) → i ≡ length bytes
 all_written own bytes i e below above =
     let each : (k : ℕ) → get_or own k 0 ≡ get_or bytes k 0 =
     λ k. ⊎_elim (λ l. below k (omega (arith, l, e))) (λ l. above k (omega (arith, l, e)) ∙ sym (past bytes k l))
-    (either k (length bytes)) in
+    (cases_lt k (length bytes)) in
     same_number own bytes (each 0) (each 1) (each 2) (each 3)
   where
     same_number : (xs ys : List ℕ) → get_or xs 0 0 ≡ get_or ys 0 0 → get_or xs 1 0 ≡ get_or ys 1 0

@@ -19,13 +19,10 @@ use Rattle.hive_edit.specs.Places.{IsKeyAt, value_places, value_place, item_read
 use Rattle.hive_edit.proofs.ResultLemmas.{done, some, ok_same, then_so}
 use Rattle.hive_edit.proofs.StandingLemmas.{children_stand}
 use Rattle.hive_edit.proofs.OnceLemmas.{AllWellFormed, children_well_formed}
+use Rattle.std.proofs.Math.Bool.{or-false}
 
 abbrev nowhere : Option ℕ
 nowhere = None
-
-or_false : (b : Bool) → (b || false) ≡ b
-or_false true = refl
-or_false false = refl
 
 -- ---- keys
 
@@ -41,7 +38,7 @@ node_named : (cells : Cells) (at : ℕ) (t : Tree) (name : List ℕ) → Stands 
     → is_node_named cells name at ≡ is_named name t
 node_named cells at (key h ts) name s =
     ap (λ (r : Result KeyNode HiveKind). list_any (folds_same name) (names_of (λ node. node.name) r)) s.1.read
-    ∙ or_false (folds_same name s.1.node.name) ∙ ap (folds_same name) (sym s.1.name)
+    ∙ or-false (folds_same name s.1.node.name) ∙ ap (folds_same name) (sym s.1.name)
 
 child_found : (cells : Cells) (name offsets : List ℕ) (ts : Trees) → AllWellFormed cells offsets ts
     → IsPlaceOf cells (find (is_node_named cells name) offsets) (find (is_named name) (listed ts))
@@ -204,7 +201,7 @@ value_named cells at v name e =
     let bytes = then_so (data_of cells read.0) (λ bytes. Ok (item_with read.0 bytes)) v read.2 in
     let same : read.0.name ≡ v.name = ap (λ (i : Item). i.name) (ok_same (item_with read.0 bytes.0) v bytes.2) in
     ap (λ (r : Result KeyValue HiveKind). list_any (folds_same name) (names_of (λ value. value.name) r)) read.1
-    ∙ or_false (folds_same name read.0.name) ∙ ap (folds_same name) same
+    ∙ or-false (folds_same name read.0.name) ∙ ap (folds_same name) same
 
 item_found : (cells : Cells) (name offsets : List ℕ) (items : List Item) → items_at cells offsets ≡ done items
     → IsItemAt cells (find (is_value_named cells name) offsets) (find (is_item name) items)

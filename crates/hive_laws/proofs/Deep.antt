@@ -15,6 +15,7 @@ use Rattle.hive_model.specs.KeyNode.{key_node_at, key_node_text}
 use Rattle.hive_model.specs.Lists.{list_of, list_at, li_text}
 use Rattle.hive_model.specs.Walk.{Check, uses, tests, found, at_place, failing, clash, first_among, first_fault, node_at, entries_at, class_checks, security_checks, values_checks, entries_checks, children_checks, key_checks, all_checks}
 use Rattle.hive_laws.specs.SmallCells.{endless}
+use Rattle.std.proofs.Math.Bool.{or-false}
 
 -- the first fault where each use is of a cell at the bound or further; none where one is not
 abbrev rising : Cells → ℕ → List Check → Option HiveFault
@@ -27,10 +28,6 @@ rising cells bound (uses at security ∷ cs) =
 -- no use before is of a cell at the bound or further
 abbrev IsFresh : ℕ → List Check → Type 0
 IsFresh bound before = (at : ℕ) (security : Bool) → bound ≤ at → list_any (clash at security) before ≡ false
-
-or-false : (b : Bool) → (b || false) ≡ b
-or-false true = refl
-or-false false = refl
 
 one_more : (bound : ℕ) (before : List Check) (c : Check) → IsFresh bound before
     → ((at : ℕ) (security : Bool) → bound ≤ at → clash at security c ≡ false) → IsFresh bound (before ++ c ∷ [])

@@ -2,7 +2,7 @@
 use Rattle.std.specs.Prelude.{◌==◌, ◌&&◌, nat_le, nat_lt, drop, slice_index, slice_range, codes, replicate}
 use Rattle.std.specs.List.{All, AllPairs, AllByRecursion, list_all, list_any}
 use Rattle.std.proofs.Common.{◌≡◌, ◌≤◌, ◌<◌, ◌+◌, ◌%◌, ℕ, Bool, true, false, List, [], ◌∷◌, ◌++◌, length, Option, Some, None, Result, Ok, Err, refl, sym, ap, subst, ◌∙◌, add-zero, lit≤, lit<, arith}
-use Rattle.std.proofs.lemmas.Bool.{eqb-true, leb-true, ltb-true}
+use Rattle.std.proofs.lemmas.Bool.{eqb-true, leb-true, ltb-true, and_parts}
 use Rattle.std.proofs.lemmas.List.Elements.{All-cons}
 use Rattle.std.proofs.lemmas.List.Kept.{AllPairs-cons}
 use Rattle.nt_bytes.specs.Folding.{folds_same}
@@ -45,15 +45,11 @@ cells_in bytes = record { ignored = replicate 20 0; cells = cut driver_sizes (dr
 unfoldable pub is_cell : Cell → Bool
 is_cell c = nat_le 8 (cell_size c) && ((cell_size c % 8 == 0) && nat_lt (cell_size c) 2147483648)
 
-both : (b c : Bool) → (b && c) ≡ true → (b ≡ true) × (c ≡ true)
-both true c e = (refl, e)
-both false c e = absurd cc
-
 tested : (c : Cell) → is_cell c ≡ true → IsCell c
 unfolding is_cell
 tested c e =
-    let one = both (nat_le 8 (cell_size c)) ((cell_size c % 8 == 0) && nat_lt (cell_size c) 2147483648) e in
-    let two = both (cell_size c % 8 == 0) (nat_lt (cell_size c) 2147483648) one.1 in
+    let one = and_parts (nat_le 8 (cell_size c)) ((cell_size c % 8 == 0) && nat_lt (cell_size c) 2147483648) e in
+    let two = and_parts (cell_size c % 8 == 0) (nat_lt (cell_size c) 2147483648) one.1 in
     record {
       least = leb-true 8 (cell_size c) one.0;
       whole = eqb-true (cell_size c % 8) 0 two.0;
@@ -62,7 +58,7 @@ tested c e =
 
 all_tested : (cs : List Cell) → list_all is_cell cs ≡ true → AllByRecursion IsCell cs
 all_tested [] e = tt
-all_tested (c ∷ cs) e = let h = both (is_cell c) (list_all is_cell cs) e in (tested c h.0, all_tested cs h.1)
+all_tested (c ∷ cs) e = let h = and_parts (is_cell c) (list_all is_cell cs) e in (tested c h.0, all_tested cs h.1)
 
 -- ---- no cell is shared
 

@@ -1,7 +1,7 @@
 -- An image that is recovered is recovered alike where its files were saved.
 use Rattle.std.specs.Prelude.{nat_lt}
 use Rattle.std.proofs.Common.{◌≡◌, ◌⊎◌, ◌<◌, ◌≤◌, ◌-◌, ◌*◌, ℕ, Bool, true, cond, List, ◌++◌, length, take, drop, replicate, Option, Some, None, Ok, refl, sym, ◌∙◌, ap, ⊎_elim, arith, append-nil}
-use Rattle.std.proofs.lemmas.Bool.{lt-ltb}
+use Rattle.std.proofs.lemmas.Bool.{lt-ltb, cases_lt}
 use Rattle.hive_model.specs.Asked.{is_readable}
 use Rattle.hive_model.specs.Image.{Image, Address, File, Primary, Log, Content, Bytes, Unreadable, padded, sector_of, image_of, bytes_of, IsFileOf}
 use Rattle.hive_model.specs.Load.{Loads}
@@ -18,9 +18,6 @@ has_bytes None e = absurd cc
 has_bytes (Some Unreadable) e = absurd cc
 has_bytes (Some (Bytes bytes)) e = (bytes, refl)
 
-below_or_past : (n m : ℕ) → (n < m) ⊎ (m ≤ n)
-below_or_past n m = grind arith
-
 filled : (bytes : List ℕ) → length bytes ≡ 512 → padded bytes ≡ bytes
 filled bytes long = ap (λ n. bytes ++ replicate (512 - n) 0) long ∙ append-nil bytes
 
@@ -34,7 +31,7 @@ module _ (image : Image) (file : File) (bytes : List ℕ) (is : IsFileOf image f
       let inside : n < is.count =
       ⊎_elim (λ below. below) (λ past. absurd
       (let gone = is.no_more n past in let none : Some (Bytes block) ≡ None = sym there ∙ gone in cc))
-      (below_or_past n is.count) in
+      (cases_lt n is.count) in
       let same : block ≡ take 512 (drop (512 * n) bytes) = sym (ap bytes_of there) ∙ is.each n inside in
       ap (λ t. cond t (sector_of bytes n) None) (lt-ltb n 65536 (omega (arith, is.long)))
       ∙ ap (λ t. cond t (Some (Bytes (padded (take 512 (drop (512 * n) bytes))))) None)

@@ -2,7 +2,7 @@
 use Rattle.std.proofs.Common.{◌≡◌, ◌<◌, ◌≤◌, ◌+◌, ◌-◌, ◌*◌, ◌/◌, ◌%◌, ◌^◌, ◌==◌, ◌&&◌, ◌++◌, ◌∷◌, ℕ, zero, suc, Bool, true, false, cond, List, [], length, take, get_or, replicate, refl, sym, ◌∙◌, ap, arith, add-one, append_assoc}
 use Rattle.std.specs.Prelude.{codes, nat_le}
 use Rattle.std.proofs.Math.Seq.{take-add}
-use Rattle.std.proofs.lemmas.Bool.{eqb-true, leb-true}
+use Rattle.std.proofs.lemmas.Bool.{eqb-true, leb-true, and_parts}
 use Rattle.hive_model.specs.Base.{Base, base_text, is_bins_size}
 use Rattle.hive_model.specs.Recovery.{sector, bitmap_sectors}
 use Rattle.hive_model.specs.Log.{byte_of, bytes_of_bits, bitmap_text, marked_sectors, log_of}
@@ -73,11 +73,6 @@ module _ (a b : ℕ → Bool) where
       (bytes_same 0 (size / 4096) (λ j below. each j (omega arith)))
       ∙ ap (whole (bytes_of_bits b 0 (size / 4096))) (marked_same new 0 (size / 512) (λ j below. each j (omega arith)))
 
--- what the size of bins data says of it
-pub both : (x y : Bool) → (x && y) ≡ true → (x ≡ true) × (y ≡ true)
-both true y h = (refl, h)
-both false y h = cc
-
 pub record IsSized (n : ℕ) : Type 0 where
   pub pages : 4096 * (n / 4096) ≡ n
   pub low : 4096 ≤ n
@@ -85,7 +80,7 @@ pub record IsSized (n : ℕ) : Type 0 where
 
 pub sized : (n : ℕ) → is_bins_size n ≡ true → IsSized n
 sized n is =
-    let outer = both (n % 4096 == 0) (nat_le 4096 n && nat_le n 16777216) is in
-    let inner = both (nat_le 4096 n) (nat_le n 16777216) outer.1 in
+    let outer = and_parts (n % 4096 == 0) (nat_le 4096 n && nat_le n 16777216) is in
+    let inner = and_parts (nat_le 4096 n) (nat_le n 16777216) outer.1 in
     let even : n % 4096 ≡ 0 = eqb-true (n % 4096) 0 outer.0 in
     record { pages = omega arith; low = leb-true 4096 n inner.0; high = leb-true n 16777216 inner.1 }

@@ -2,7 +2,7 @@
 use Rattle.std.proofs.Common.{◌≡◌, ◌⊎◌, ◌+◌, ◌-◌, ◌*◌, ◌/◌, ◌==◌, ◌&&◌, ℕ, Bool, true, false, cond, List, length, drop, Option, Some, None, Result, Ok, Err, refl, sym, ◌∙◌, ap, arith, ⊎_elim}
 use Rattle.std.specs.Prelude.{nat_eq, codes}
 use Rattle.std.specs.List.{starts_with}
-use Rattle.std.proofs.lemmas.Bool.{eq-eqb, eqb-true, ne_eqb}
+use Rattle.std.proofs.lemmas.Bool.{eq-eqb, eqb-true, ne_eqb, and_parts}
 use Rattle.nt_bytes.specs.declared.fault.HiveFault.{HiveFault}
 use Rattle.nt_bytes.specs.declared.fault.HiveKind.TheVariants.{LogAbsent, LogUnreadable, LogShort, LogDirt, LogSequence, Size, Unreadable as UnreadableKind}
 use Rattle.hive_model.specs.Base.{Base, base_of, fault_at}
@@ -10,7 +10,6 @@ use Rattle.hive_model.specs.Image.{Image, Bytes, Unreadable}
 use Rattle.hive_model.specs.Recovery.{Recovered, Sectors, primary_in, log_in, sector, and_then, bytes_or, read_log, read_bin, joined, gathered, recovered_with, by_primary, bit, rank, bitmap_sectors, first_dirty, picked, by_bits, bitmap_in, closed_by, goes_with, by_logged, as_log_base, logged_in, by_log, base_at, base_in, by_base, recovered_of}
 use Rattle.hive_model.specs.Carries.{HasBase, Carries}
 use Rattle.hive_log.specs.Found.{IsUnfinished, HasLogBits, bins_by, Found}
-use Rattle.hive_log.proofs.Appending.{both}
 use Rattle.hive_log.proofs.Runs.{gathered_whole, gathered_same}
 
 -- bytes that are there are read
@@ -94,7 +93,7 @@ found_recovered image closed bitmap bins f =
 goes_alone : (opened : Option Base) (logged : Base) → goes_with opened logged ≡ true → goes_with None logged ≡ true
 goes_alone None logged is = is
 goes_alone (Some base) logged is =
-    let two = both (logged.first == base.first) (logged.second == base.first) is in
+    let two = and_parts (logged.first == base.first) (logged.second == base.first) is in
     eq-eqb logged.first logged.second
     (eqb-true logged.first base.first two.0 ∙ sym (eqb-true logged.second base.first two.1))
 

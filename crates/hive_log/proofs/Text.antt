@@ -6,6 +6,7 @@ use Rattle.hive_model.specs.Recovery.{sector, bit, bitmap_sectors}
 use Rattle.hive_model.specs.Log.{bytes_of_bits, bitmap_text}
 use Rattle.hive_log.proofs.Bits.{bytes_again}
 use Rattle.hive_log.proofs.LogParts.{bitmap_long}
+use Rattle.std.proofs.lemmas.Grind.{same_number_lists}
 
 zeros : (n p : ℕ) → let none : ℕ = 0 in get_or (replicate n none) p 0 ≡ none
 zeros zero p = refl
@@ -16,16 +17,6 @@ zeros_behind : (xs : List ℕ) (n p : ℕ) → get_or (xs ++ replicate n 0) p 0 
 zeros_behind [] n p = zeros n p
 zeros_behind (x ∷ xs) n zero = refl
 zeros_behind (x ∷ xs) n (suc p) = zeros_behind xs n p
-
-same_bytes : (xs ys : List ℕ) → length xs ≡ length ys → ((k : ℕ) → k < length xs → get_or xs k 0 ≡ get_or ys k 0)
-    → xs ≡ ys
-same_bytes [] [] long each = refl
-same_bytes [] (y ∷ ys) long each = absurd (omega arith)
-same_bytes (x ∷ xs) [] long each = absurd (omega arith)
-same_bytes (x ∷ xs) (y ∷ ys) long each =
-    let here : x ≡ y = each 0 (omega arith) in
-    let rest : xs ≡ ys = same_bytes xs ys (omega arith) (λ k below. each (suc k) (omega arith)) in
-    ap (λ z. z ∷ xs) here ∙ ap (λ zs. y ∷ zs) rest
 
 -- byte p of the text
 text_byte : (bitmap : List ℕ) (size p : ℕ) → ((j : ℕ) → get_or bitmap j 0 < 256) → size / 4096 ≤ length bitmap
@@ -49,6 +40,6 @@ text_sector bitmap size k into are_bytes long inside below each =
       length-drop (512 * k) text,
       bitmap_long (bit bitmap) size,
     ) in
-    same_bytes into (take 512 (drop (512 * k) text)) (omega arith) (λ m small.
+    same_number_lists into (take 512 (drop (512 * k) text)) (omega arith) (λ m small.
     each m (omega arith) ∙ sym (text_byte bitmap size (512 * k + m) are_bytes inside)
     ∙ sym (get_or-drop (512 * k) text m 0) ∙ sym (get_or-take 512 (drop (512 * k) text) m 0 (omega arith)))

@@ -3,7 +3,7 @@ use Rattle.std.proofs.Common.{◌≡◌, ◌<◌, ◌≤◌, ◌+◌, ◌-◌, �
 use Rattle.std.specs.Prelude.{nat_eq, nat_le, slice_index, slice_range, bit_xor, codes}
 use Rattle.std.specs.List.{starts_with}
 use Rattle.std.specs.Int.{w32, from_le_bytes, to_le_bytes, bytes_low_first, byte_at}
-use Rattle.std.proofs.lemmas.Bool.{eq-eqb, eqb-true, leb-true}
+use Rattle.std.proofs.lemmas.Bool.{eq-eqb, eqb-true, leb-true, and_parts}
 use Rattle.std.proofs.lemmas.Nat.{from_le_bytes-to_le_bytes_4, from_le_bytes-to_le_bytes_8, xor_lt}
 use Rattle.std.proofs.lemmas.List.{take-append-le, drop-append-le}
 use Rattle.std.proofs.Math.Seq.{drop-append_seam, take-append_seam}
@@ -105,10 +105,6 @@ none_fails [] hold = refl
 none_fails (check ∷ checks) hold =
     ap (λ t. cond t (first_failing checks) (Some check.1)) hold.0 ∙ none_fails checks hold.1
 
-both : (a b : Bool) → (a && b) ≡ true → (a ≡ true) × (b ≡ true)
-both true b h = (refl, h)
-both false b h = cc
-
 -- a part of a list, by the lengths of what stands before it and of it
 piece : (xs ys zs : List ℕ) (from to : ℕ) → length xs ≡ from → length xs + length ys ≡ to
     → slice_range (xs ++ (ys ++ zs)) from to ≡ ys
@@ -188,8 +184,8 @@ module _ (b : Base) (is : IsBase b) where
 
   size_fits : b.size < 2 ^ 32
   size_fits =
-      let parts = both (b.size % 4096 == 0) _ is.size_is in
-      let bounds = both (nat_le 4096 b.size) _ parts.1 in
+      let parts = and_parts (b.size % 4096 == 0) _ is.size_is in
+      let bounds = and_parts (nat_le 4096 b.size) _ parts.1 in
       let small : b.size ≤ 16777216 = leb-true _ _ bounds.1 in omega arith
 
   size_back : u32_in (base_text b) 40 ≡ b.size

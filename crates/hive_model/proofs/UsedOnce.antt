@@ -4,6 +4,7 @@ use Rattle.std.specs.List.{AllPairs, list_any}
 use Rattle.std.proofs.lemmas.List.{append-nil, get_or_append_left, get_or-append-add}
 use Rattle.std.proofs.lemmas.List.Quantifiers.{all_pairs_push}
 use Rattle.hive_model.specs.Walk.{Check, uses, tests, clash, clashes, AreUsedOnce}
+use Rattle.std.proofs.lemmas.Bool.{or_parts}
 
 -- no use clashes with one of these checks, nor with one between
 abbrev pub OnceBehind : List Check → List Check → Type 0
@@ -15,16 +16,12 @@ OnceBehind before (tests at kind ∷ cs) = OnceBehind (before ++ tests at kind �
 abbrev Apart : Check → Check → Type 0
 Apart earlier later = clashes earlier later ≡ false
 
-neither : (a b : Bool) → (a || b) ≡ false → (a ≡ false) × (b ≡ false)
-neither true b e = absurd cc
-neither false b e = (refl, e)
-
 -- a test that no item passes, item by item
 none_passes : {X : Type 0} (p : X → Bool) (xs : List X) → list_any p xs ≡ false → (k : ℕ) (d : X) → k < length xs
     → p (get_or xs k d) ≡ false
 none_passes p [] e k d lt = absurd (omega (arith, lt))
-none_passes p (x ∷ xs) e zero d lt = (neither (p x) (list_any p xs) e).0
-none_passes p (x ∷ xs) e (suc k) d lt = none_passes p xs (neither (p x) (list_any p xs) e).1 k d (omega (arith, lt))
+none_passes p (x ∷ xs) e zero d lt = (or_parts (p x) (list_any p xs) e).0
+none_passes p (x ∷ xs) e (suc k) d lt = none_passes p xs (or_parts (p x) (list_any p xs) e).1 k d (omega (arith, lt))
 
 passes_none : {X : Type 0} (p : X → Bool) (xs : List X) → ((k : ℕ) (d : X) → k < length xs → p (get_or xs k d) ≡ false)
     → list_any p xs ≡ false

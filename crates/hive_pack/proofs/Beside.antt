@@ -10,9 +10,7 @@ use Rattle.hive_model.specs.Bins.{Cells}
 use Rattle.std.proofs.Common.{Option, None}
 use Rattle.hive_model.specs.Walk.{reading, found, below_of, use_as, Check, uses, tests, clash}
 use Rattle.hive_model.proofs.UsedOnce.{OnceBehind}
-
-eq_of : (a b : ℕ) → eqb a b ≡ true → a ≡ b
-eq_of a b e = eqb-true a b e
+use Rattle.std.proofs.lemmas.Map.Views.{exact_unsigned_eq}
 
 -- a place before a range, or behind it
 abbrev pub Outside : ℕ → ℕ → ℕ → Type 0
@@ -123,7 +121,7 @@ unused most lo hi s at security (uses a b ∷ cs) l h c =
     rw e (unused most lo hi s at security cs l h c.1)
 
 kept_both : (s a : ℕ) (b e : Bool) → eqb s a ≡ e → (a ≡ s → b ≡ true) → (e && not b) ≡ false
-kept_both s a b true q h = let t : b ≡ true = h (sym (eq_of s a q)) in rw t refl
+kept_both s a b true q h = let t : b ≡ true = h (sym (exact_unsigned_eq s a q)) in rw t refl
 kept_both s a b false q h = refl
 
 one : (s a : ℕ) (b : Bool) (h : a ≡ s → b ≡ true) (cs : List Check) → list_any (clash s true) cs ≡ false

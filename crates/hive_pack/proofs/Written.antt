@@ -17,10 +17,6 @@ use Rattle.reg_tree.proofs.Trees.{listed_trees, trees_listed}
 use Rattle.hive_pack.specs.Numbers.{HeadNumbers, HasNumbers, AllHaveNumbers}
 use Rattle.hive_pack.proofs.Rows.{length_cell, length_text, length_value, space_value, length_values_list, space_class, space_security, space_head, length_node, space_lists, space_tree}
 
-pub if_ok : {A E : Type 0} (r : Result A E) (P Q : A → Type 0) → ((x : A) → P x → Q x) → IfOk r P → IfOk r Q
-if_ok (Ok x) P Q f p = f x p
-if_ok (Err e) P Q f p = p
-
 -- ---- a tree by its head and its children
 
 pub parted : (t : Tree) → key (head t) (trees (children t)) ≡ t

@@ -5,6 +5,8 @@ use Rattle.std.proofs.lemmas.List.Elements.{All-cons, All-nil}
 use Rattle.std.proofs.lemmas.List.Kept.{AllPairs-cons}
 use Rattle.std.proofs.lemmas.List.Folds.{list_any-append}
 use Rattle.nt_bytes.specs.Folding.{folds_same}
+use Rattle.std.proofs.lemmas.Bool.{or_parts}
+use Rattle.std.proofs.Math.Bool.{or-false}
 
 -- each has a name unlike these and unlike those before it
 abbrev pub Apart : {X : Type 0} → (X → List ℕ) → List (List ℕ) → List X → Type 0
@@ -14,14 +16,6 @@ Apart name names (x ∷ xs) = (list_any (folds_same (name x)) names ≡ false) �
 -- a later one has another name than an earlier one
 abbrev pub Differ : {X : Type 0} → (X → List ℕ) → X → X → Type 0
 Differ name a b = folds_same (name b) (name a) ≡ false
-
-neither : (a b : Bool) → (a || b) ≡ false → (a ≡ false) × (b ≡ false)
-neither true b e = absurd cc
-neither false b e = (refl, e)
-
-or-false : (b : Bool) → (b || false) ≡ b
-or-false true = refl
-or-false false = refl
 
 pushed : (m n : List ℕ) (names : List (List ℕ))
     → list_any (folds_same m) (names ++ n ∷ []) ≡ (list_any (folds_same m) names || folds_same m n)
@@ -35,7 +29,7 @@ apart-from name names n [] h a = All-nil (λ x. folds_same (name x) n ≡ false)
 apart-from name names n (x ∷ xs) h a =
     All-cons (λ x. folds_same (name x) n ≡ false) x xs (h (name x) a.0)
     (apart-from name (names ++ name x ∷ []) n xs
-    (λ m e. h m (neither (list_any (folds_same m) names) (folds_same m (name x))
+    (λ m e. h m (or_parts (list_any (folds_same m) names) (folds_same m (name x))
     (sym (pushed m (name x) names) ∙ e)).0) a.1)
 
 pub apart-pairs : {X : Type 0} (name : X → List ℕ) (names : List (List ℕ)) (xs : List X) → Apart name names xs
@@ -44,7 +38,7 @@ apart-pairs name names [] a = λ i j d lt within. absurd (omega arith)
 apart-pairs name names (x ∷ xs) a =
     AllPairs-cons (Differ name) x xs
     (apart-from name (names ++ name x ∷ []) (name x) xs
-    (λ m e. (neither (list_any (folds_same m) names) (folds_same m (name x)) (sym (pushed m (name x) names) ∙ e)).1)
+    (λ m e. (or_parts (list_any (folds_same m) names) (folds_same m (name x)) (sym (pushed m (name x) names) ∙ e)).1)
     a.1)
     (apart-pairs name (names ++ name x ∷ []) xs a.1)
 

@@ -15,11 +15,9 @@ use Rattle.cell_forms.specs.declared.stored.StoredName.{StoredName}
 use Rattle.cell_forms.specs.Views.{name_of}
 use Rattle.hive_read.specs.Taken.{folds_to, has_name, folded_name, is_behind, NoneBehind}
 use Rattle.reg_tree.proofs.Halving.{greater_is_less}
-use Rattle.hive_read.proofs.TakenLemmas.{same-bytes, folds_to-folded, any-or, or-false, any-insert}
-
-neither : (a b : Bool) → (a || b) ≡ false → (a ≡ false) × (b ≡ false)
-neither true b e = absurd cc
-neither false b e = (refl, e)
+use Rattle.hive_read.proofs.TakenLemmas.{same-bytes, folds_to-folded, any-or, any-insert}
+use Rattle.std.proofs.lemmas.Bool.{or_parts}
+use Rattle.std.proofs.Math.Bool.{or-false}
 
 -- ---- the greatest
 
@@ -40,7 +38,7 @@ above-unlike : (top name : List ℕ) (keys : List (List ℕ)) → NoneBehind top
     → list_any (folds_to name) keys ≡ false
 above-unlike top name [] none g = refl
 above-unlike top name (k ∷ ks) none g =
-    let n = neither (is_behind top k) (list_any (is_behind top) ks) none in
+    let n = or_parts (is_behind top k) (list_any (is_behind top) ks) none in
     ap (λ b. b || list_any (folds_to name) ks) (go (slice_cmp nat_cmp (folded name) k) refl n.0)
     ∙ above-unlike top name ks n.1 g
   where
@@ -63,7 +61,7 @@ pub above-none : (top name : List ℕ) (keys : List (List ℕ)) → NoneBehind t
     → NoneBehind name keys
 above-none top name [] none g = refl
 above-none top name (k ∷ ks) none g =
-    let n = neither (is_behind top k) (list_any (is_behind top) ks) none in
+    let n = or_parts (is_behind top k) (list_any (is_behind top) ks) none in
     ap (λ b. b || list_any (is_behind name) ks) (go (slice_cmp nat_cmp (folded name) k) refl n.0)
     ∙ above-none top name ks n.1 g
   where

@@ -13,19 +13,12 @@ use Rattle.hive_model.specs.Forms.{◌>>=◌}
 use Rattle.hive_model.specs.Bins.{Cells, placed, or_else}
 use Rattle.hive_model.specs.Walk.{Check, uses, tests, found, failing, clash, at_place, first_among}
 use Rattle.hive_read.specs.Walked.{Seen, clashes, marked, walk}
+use Rattle.std.proofs.Math.Bool.{or-false, or-true}
 
 -- the used cells are those of these checks
 abbrev pub Remembers : Seen → List Check → Type 0
 Remembers seen before = (at : ℕ) (security : Bool)
     → clashes (map.get seen at) security ≡ list_any (clash at security) before
-
-or-false : (b : Bool) → (b || false) ≡ b
-or-false true = refl
-or-false false = refl
-
-or-true : (b : Bool) → (b || true) ≡ true
-or-true true = refl
-or-true false = refl
 
 any-push : (at : ℕ) (s : Bool) (before : List Check) (c : Check)
     → list_any (clash at s) (before ++ c ∷ []) ≡ (list_any (clash at s) before || clash at s c)

@@ -4,7 +4,7 @@ use Rattle.std.specs.Prelude.{◌==◌, nat_lt, nat_le, slice_range}
 use Rattle.std.specs.List.{list_any}
 use Rattle.std.specs.Int.{w16, w32, from_le_bytes, to_le_bytes}
 use Rattle.std.proofs.lemmas.Bool.Decides.{nat_tests}
-use Rattle.std.proofs.lemmas.Bool.{eqb-true, eqb-false}
+use Rattle.std.proofs.lemmas.Bool.{eqb-true, eqb-false, or_parts}
 use Rattle.nt_bytes.specs.declared.fault.HiveKind.{HiveKind}
 use Rattle.nt_bytes.specs.declared.fault.HiveKind.TheVariants.{FormShort, FormSign, FormLength, FormName}
 use Rattle.nt_bytes.specs.Fields.{u16_in, u32_in}
@@ -79,10 +79,6 @@ pub then-so : {A B : Type 0} (r : Result A HiveKind) (f : A → Result B HiveKin
 then-so (Ok x) f y e = (x, refl, e)
 then-so (Err k) f y e = absurd cc
 
-neither : (a b : Bool) → (a || b) ≡ false → (a ≡ false) × (b ≡ false)
-neither true b e = absurd cc
-neither false b e = (refl, e)
-
 -- ---- key nodes
 
 pub ok_same : {A : Type 0} (x y : A) → done x ≡ done y → x ≡ y
@@ -121,7 +117,7 @@ key-name narrow bytes name e =
     name e in
     let two = unless (is_bad_key_name stored) FormName (Ok stored) name one.1 in
     let same : stored ≡ name = ok_same stored name two.1 in
-    let good = neither (nat_lt 255 (length stored)) (list_any is_backslash stored) two.0 in (
+    let good = or_parts (nat_lt 255 (length stored)) (list_any is_backslash stored) two.0 in (
       subst (λ (n : List ℕ). length n ≤ 255) same (not-above 255 (length stored) good.0),
       subst (λ (n : List ℕ). list_any is_backslash n ≡ false) same good.1,
     )

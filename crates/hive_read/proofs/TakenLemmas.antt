@@ -8,11 +8,12 @@ use Rattle.std.specs.Cmp.Lexicographic.{slice_cmp}
 use Rattle.std.specs.Str.{bytes_eq}
 use Rattle.std.specs.BTreeSet.{insert_key}
 use Rattle.std.proofs.lemmas.Map.Text.{is_eq-slice_cmp}
-use Rattle.std.proofs.lemmas.Bool.{eqb-true}
+use Rattle.std.proofs.lemmas.Bool.{eqb-true, and_parts}
 use Rattle.std.proofs.lemmas.List.Folds.{list_any-append}
 use Rattle.std.proofs.Common.{eqb}
 use Rattle.nt_bytes.specs.Folding.{folded, folds_same}
 use Rattle.hive_read.specs.Taken.{folds_to, has_name, Knows}
+use Rattle.std.proofs.Math.Bool.{or-false}
 
 folded-same : (n m : List ℕ) → bytes_eq (folded n) (folded m) ≡ folds_same n m
 folded-same [] [] = refl
@@ -20,16 +21,12 @@ folded-same [] (y ∷ ys) = refl
 folded-same (x ∷ xs) [] = refl
 folded-same (x ∷ xs) (y ∷ ys) = rw (folded-same xs ys) refl
 
-and-true : (a b : Bool) → (a && b) ≡ true → (a ≡ true) × (b ≡ true)
-and-true true b e = (refl, e)
-and-true false b e = absurd cc
-
 pub same-bytes : (xs ys : List ℕ) → bytes_eq xs ys ≡ true → xs ≡ ys
 same-bytes [] [] e = refl
 same-bytes [] (y ∷ ys) e = absurd cc
 same-bytes (x ∷ xs) [] e = absurd cc
 same-bytes (x ∷ xs) (y ∷ ys) e =
-    let p = and-true (eqb x y) (bytes_eq xs ys) e in
+    let p = and_parts (eqb x y) (bytes_eq xs ys) e in
     let h : x ≡ y = eqb-true x y p.0 in
     let t : xs ≡ ys = same-bytes xs ys p.1 in
     λ i. h i ∷ t i
@@ -113,10 +110,6 @@ known-taken keys names name fresh k a e = sym (k name) ∙ flip (has_name keys n
 pub knows-none : (keys : List (List ℕ)) → keys ≡ [] → Knows keys []
 unfolding has_name
 knows-none keys e name = rw e refl
-
-pub or-false : (b : Bool) → (b || false) ≡ b
-or-false true = refl
-or-false false = refl
 
 pub knows-more : (old new names : List (List ℕ)) (name : List ℕ) → Knows old names
     → ((n : List ℕ) → has_name new n ≡ (has_name old n || folds_same n name)) → Knows new (names ++ name ∷ [])

@@ -13,6 +13,7 @@ use Rattle.hive_model.specs.Valid.{levels}
 use Rattle.hive_model.specs.Edit.{Step, Refusal, set_value, delete_value, make_key, delete_key, copy_child, add_child, no_key, no_value, full, exists, name_too_long, data_too_long, too_deep, unless, at_first, without_first, of_items, of_children, at_key, with_item, value_set, has_item, has_child, placed, name_tests, without_key, renamed, with_child, after_step, then_edit, most_bulk, edited}
 use Rattle.reg_tree.proofs.Trees.{listed_trees, trees_listed}
 use Rattle.hive_store.specs.Same.{Keep, HasValue}
+use Rattle.std.proofs.lemmas.Option.{same_Some}
 
 abbrev made : Tree → Result Tree Refusal
 made t = Ok t
@@ -62,9 +63,6 @@ passed_first : (b : Bool) (why : Refusal) (tests : List (Bool × Refusal)) (x y 
 passed_first true why tests x y e = absurd cc
 passed_first false why tests x y e = (refl, e)
 
-one_some : {X : Type 0} (x y : X) → Some x ≡ Some y → x ≡ y
-one_some x y e = cc
-
 there : {X : Type 0} (o : Option X) → is_none o ≡ false → (x : X) × (o ≡ Some x)
 there None e = absurd cc
 there (Some x) e = (x, refl)
@@ -82,7 +80,7 @@ first_keep {X} p g (y ∷ ys) x f e = go (p y) f (λ f. first_keep p g ys x f e)
   where
     go : (b : Bool) → cond b (Some y) (find p ys) ≡ Some x → (find p ys ≡ Some x → at_first p g ys ≡ ys)
         → cond b (g y ∷ ys) (y ∷ at_first p g ys) ≡ y ∷ ys
-    go true f rest = let same : y ≡ x = one_some y x f in ap (λ (z : X). z ∷ ys) (ap g same ∙ e ∙ sym same)
+    go true f rest = let same : y ≡ x = same_Some y x f in ap (λ (z : X). z ∷ ys) (ap g same ∙ e ∙ sym same)
     go false f rest = ap (λ (l : List X). y ∷ l) (rest f)
 
 first_back : {X : Type 0} (p : X → Bool) (g : X → X) (xs : List X) (x : X) → find p xs ≡ Some x → at_first p g xs ≡ xs
@@ -92,7 +90,7 @@ first_back {X} p g (y ∷ ys) x f e = go (p y) f e (λ f e. first_back p g ys x 
   where
     go : (b : Bool) → cond b (Some y) (find p ys) ≡ Some x → cond b (g y ∷ ys) (y ∷ at_first p g ys) ≡ y ∷ ys
         → (find p ys ≡ Some x → at_first p g ys ≡ ys → g x ≡ x) → g x ≡ x
-    go true f e rest = let same : y ≡ x = one_some y x f in let h : g y ≡ y = cc in sym (ap g same) ∙ h ∙ same
+    go true f e rest = let same : y ≡ x = same_Some y x f in let h : g y ≡ y = cc in sym (ap g same) ∙ h ∙ same
     go false f e rest = let h : at_first p g ys ≡ ys = cc in rest f h
 
 -- a list without one of its own is shorter
@@ -123,7 +121,7 @@ longer t (u ∷ us) = go (is_gt (folded_order (head u).name (head t).name)) (lon
 
 pub at_keep : (path : List (List ℕ)) (f : Tree → Tree) (t k : Tree) → find_key path t ≡ Some k → f k ≡ k
     → at_key path f t ≡ t
-at_keep [] f t k found e = let same : t ≡ k = one_some t k found in ap f same ∙ e ∙ sym same
+at_keep [] f t k found e = let same : t ≡ k = same_Some t k found in ap f same ∙ e ∙ sym same
 at_keep (name ∷ path) f (key h ts) k found e =
     go (find (is_named name) (listed ts)) refl found (λ child found. at_keep path f child k found e)
   where
@@ -138,7 +136,7 @@ at_keep (name ∷ path) f (key h ts) k found e =
 
 pub at_back : (path : List (List ℕ)) (f : Tree → Tree) (t k : Tree) → find_key path t ≡ Some k → at_key path f t ≡ t
     → f k ≡ k
-at_back [] f t k found e = let same : t ≡ k = one_some t k found in sym (ap f same) ∙ e ∙ same
+at_back [] f t k found e = let same : t ≡ k = same_Some t k found in sym (ap f same) ∙ e ∙ same
 at_back (name ∷ path) f (key h ts) k found e =
     go (find (is_named name) (listed ts)) refl found (λ child found e. at_back path f child k found e)
   where
@@ -249,7 +247,7 @@ set_same version t k path name kind bytes b n bulk within short few found is =
     let small = le-ltb most_bulk (bulk_of version t) (omega (arith, bulk, within)) in
     let back : Keep version t (set_value path name kind bytes ∷ []) → b ≡ true = λ kept.
     let s = set_back version t path name kind bytes kept in
-    let same : s.at ≡ k = one_some s.at k (sym s.found ∙ sym found) in
+    let same : s.at ≡ k = same_Some s.at k (sym s.found ∙ sym found) in
     is.1 (subst (λ (u : Tree). HasValue u name kind bytes) same s.has) in (
       λ e. set_keep version t k path name kind bytes small (le-ltb 16383 (length name) short)
           (le-ltb 1048576 (length bytes) few) (sym found) (is.0 e),

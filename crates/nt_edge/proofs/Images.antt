@@ -1,6 +1,6 @@
 -- What a crash image has, by the addresses of the writes in flight.
 use Rattle.std.proofs.Common.{◌≡◌, ◌⊎◌, ◌&&◌, ◌==◌, ℕ, Bool, true, false, cond, List, [], ◌∷◌, ◌++◌, Option, Some, refl, sym, ◌∙◌, ap, inl, inr, ⊎_elim}
-use Rattle.std.proofs.lemmas.Bool.{eqb-true, eq-eqb}
+use Rattle.std.proofs.lemmas.Bool.{eqb-true, eq-eqb, and_parts, false_from_ne_true}
 use Rattle.hive_model.specs.Image.{File, Primary, Log, Address, Content, Bytes, Unreadable, Image, Write, same_file, same_address, put, overlaid, IsInFlight, IsCrashImage}
 use Rattle.nt_edge.specs.Crash.{EachWrite, AgreeOutside, unreadable_at, torn}
 
@@ -10,13 +10,9 @@ same_file_true Log Log h = refl
 same_file_true Primary Log h = cc
 same_file_true Log Primary h = cc
 
-both_true : (a b : Bool) → (a && b) ≡ true → (a ≡ true) × (b ≡ true)
-both_true true b h = (refl, h)
-both_true false b h = cc
-
 pub same_address_true : (a b : Address) → same_address a b ≡ true → a ≡ b
 same_address_true a b h =
-    let parts = both_true (same_file a.file b.file) (a.sector == b.sector) h in
+    let parts = and_parts (same_file a.file b.file) (a.sector == b.sector) h in
     let file = same_file_true a.file b.file parts.0 in
     let sector = eqb-true a.sector b.sector parts.1 in
     let at : File → ℕ → Address = λ f n. record { file = f; sector = n } in
@@ -27,13 +23,9 @@ same_address_refl a =
     let file : (f : File) → same_file f f ≡ true = elim [ Primary ↦ refl | Log ↦ refl ] in
     rw (file a.file) (eq-eqb a.sector a.sector refl)
 
-no_true : (b : Bool) → (b ≡ true → ⊥) → b ≡ false
-no_true false h = refl
-no_true true h = absurd (h refl)
-
 -- of an address of this kind and one that isn't
 pub differ : (p : Address → Bool) (a b : Address) → p a ≡ true → p b ≡ false → same_address a b ≡ false
-differ p a b is not = no_true _
+differ p a b is not = false_from_ne_true _
     (λ same. let e = same_address_true a b same in let e2 : p b ≡ true = sym (ap p e) ∙ is in cc)
 
 -- one more write in flight

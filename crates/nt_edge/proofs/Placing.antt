@@ -1,13 +1,10 @@
 -- Files placed on a disk that holds nothing.
 use Rattle.std.proofs.Common.{◌≡◌, ◌⊎◌, ◌<◌, ◌≤◌, ◌+◌, ◌-◌, ◌*◌, ℕ, List, [], length, take, drop, cond, min, Some, None, sym, ◌∙◌, ap, inl, inr, ⊎_elim, arith, length-take}
-use Rattle.std.proofs.lemmas.Bool.{lt-ltb, le-ltb}
+use Rattle.std.proofs.lemmas.Bool.{lt-ltb, le-ltb, cases_lt}
 use Rattle.std.proofs.lemmas.List.{drop-take, take-take, take_all, length-take-le}
 use Rattle.std.specs.Prelude.{nat_lt, if◌then◌else◌}
 use Rattle.hive_model.specs.Image.{File, Primary, Log, Bytes, padded, sector_of, image_of, with_file}
 use Rattle.nt_edge.proofs.Images.{same_images}
-
-less_or_not : (a b : ℕ) → (a < b) ⊎ (b ≤ a)
-less_or_not a b = grind arith
 
 -- a sector that is there
 pub sector_there : (bytes : List ℕ) (n : ℕ) → 512 * n < length bytes
@@ -39,7 +36,7 @@ there bytes m n is small inside =
     ∙ ap (λ l. Some (Bytes (padded l)))
     (front_content bytes m (512 * n)
     (⊎_elim {C = (512 * n + 512 ≤ m) ⊎ (length bytes ≤ m)} (λ less. inl (omega arith)) (λ more. inr (omega arith))
-    (less_or_not m (length bytes))))
+    (cases_lt m (length bytes))))
     ∙ sym (sector_there bytes n inside)
 
 -- a sector of the first 32 MiB of some bytes
@@ -52,11 +49,11 @@ sector_of-front bytes m n is =
     ⊎_elim
     (λ inside. there bytes m n is small inside)
     (λ past. sector_past (take m bytes) n (omega arith) ∙ sym (sector_past bytes n past))
-    (less_or_not (512 * n) (length bytes))
+    (cases_lt (512 * n) (length bytes))
     ∙ sym (ap (λ t. cond t (sector_of bytes n) None) (lt-ltb n 65536 small)))
     (λ large. sector_past (take m bytes) n (omega arith)
     ∙ sym (ap (λ t. cond t (sector_of bytes n) None) (le-ltb n 65536 large)))
-    (less_or_not n 65536)
+    (cases_lt n 65536)
 
 -- a primary and a log placed
 pub placed_both : (primary log : List ℕ) (p l : ℕ) → p ≡ min (length primary) 33554432 → l ≡ min (length log) 33554432
@@ -72,7 +69,7 @@ no_sector : (n : ℕ) → None ≡ image_of [] [] (record { file = Log; sector =
 no_sector n = sym (⊎_elim
     (λ small. ap (λ t. cond t (sector_of [] n) None) (lt-ltb n 65536 small) ∙ sector_past [] n (omega arith))
     (λ large. ap (λ t. cond t (sector_of [] n) None) (le-ltb n 65536 large))
-    (less_or_not n 65536))
+    (cases_lt n 65536))
 
 -- a primary placed, and no log
 pub placed_primary : (primary : List ℕ) (p : ℕ) → p ≡ min (length primary) 33554432

@@ -1,7 +1,7 @@
 -- The number of services that words ask for is from 1 to 10000.
 use Rattle.std.proofs.Common.{◌≡◌, ◌≤◌, ◌&&◌, ℕ, Bool, true, false, List, [], ◌∷◌, Option, Some, None, if◌then◌else◌, subst, refl}
 use Rattle.std.specs.Prelude.{IfSome, option_map, option_and_then, find, nat_le, length, bytes_eq, codes}
-use Rattle.std.proofs.lemmas.Bool.{leb-true}
+use Rattle.std.proofs.lemmas.Bool.{leb-true, and_parts}
 use Rattle.std.specs.Str.Parse.{digits_value}
 use Rattle.nt_bytes.specs.Text.{is_digits}
 use Rattle.command_words.specs.Words.{Text, Look, CommandForm, CommandRow, Asked, number_name, count_of, commands, asked_by, named_command, given_value, command_of}
@@ -41,15 +41,11 @@ by_test P false x here = tt
 
 -- ---- the words
 
-both : (a b : Bool) → (a && b) ≡ true → (a ≡ true) × (b ≡ true)
-both true b e = (refl, e)
-both false b e = absurd cc
-
 in_range : (a b : Bool) (n : ℕ) → (a && (b && (nat_le 1 n && nat_le n 10000))) ≡ true → (1 ≤ n) × (n ≤ 10000)
 in_range a b n e =
-    let first = both a (b && (nat_le 1 n && nat_le n 10000)) e in
-    let second = both b (nat_le 1 n && nat_le n 10000) first.1 in
-    let last = both (nat_le 1 n) (nat_le n 10000) second.1 in
+    let first = and_parts a (b && (nat_le 1 n && nat_le n 10000)) e in
+    let second = and_parts b (nat_le 1 n && nat_le n 10000) first.1 in
+    let last = and_parts (nat_le 1 n) (nat_le n 10000) second.1 in
     (leb-true 1 n last.0, leb-true n 10000 last.1)
 
 count_counted : (text : Text) → IfSome (count_of text) (λ n. (1 ≤ n) × (n ≤ 10000))

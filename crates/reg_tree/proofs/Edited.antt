@@ -4,7 +4,7 @@ use Rattle.std.specs.Prelude.{find, nat_lt, not}
 use Rattle.std.specs.List.{All, list_any}
 use Rattle.std.specs.Option.{is_some, is_none, option_map_or}
 use Rattle.std.specs.Ordering.{is_gt}
-use Rattle.std.proofs.lemmas.Bool.{ltb-false}
+use Rattle.std.proofs.lemmas.Bool.{ltb-false, or_parts}
 use Rattle.nt_bytes.specs.Folding.{folds_same, folded_order}
 use Rattle.hive_model.specs.Tree.{Item, Tree, key, listed, head, children, is_named, is_item, find_key}
 use Rattle.hive_model.specs.Valid.{IsItem, is_backslash, IsValid, levels}
@@ -31,10 +31,6 @@ passed (test ∷ tests) x u e = go test.0 (passed tests x u) e
     go true more e = absurd cc
     go false more e = let m = more e in ((refl, m.0), m.1)
 
-neither : (a b : Bool) → (a || b) ≡ false → (a ≡ false) × (b ≡ false)
-neither true b e = absurd cc
-neither false b e = (refl, e)
-
 -- a name that a new key may have
 record IsGood (name : List ℕ) : Type 0 where
   named : 0 < length name
@@ -47,7 +43,7 @@ some_units (u ∷ us) e = omega arith
 
 good : (name : List ℕ) → is_bad_name name ≡ false → nat_lt 255 (length name) ≡ false → IsGood name
 good name bad long =
-    let n = neither (length name == 0) (list_any is_backslash name) bad in
+    let n = or_parts (length name == 0) (list_any is_backslash name) bad in
     record { named = some_units name n.0; no_backslash = n.1; short = ltb-false 255 (length name) long }
 
 -- ---- values

@@ -3,13 +3,13 @@ use Rattle.std.proofs.Common.{◌≡◌, ◌⊎◌, ◌==◌, inl, inr, ⊎_elim
 use Rattle.std.specs.List.{list_all}
 use Rattle.std.specs.Prelude.{Result, Ok, Err}
 use Rattle.std.specs.Result.{is_err}
-use Rattle.std.proofs.lemmas.Bool.{false≢true}
+use Rattle.std.proofs.lemmas.Bool.{false≢true, and_parts}
 use Rattle.std.proofs.lemmas.List.Folds.{list_all-append}
 use Rattle.nt_bytes.specs.Front.{IsFront}
 use Rattle.nt_edge.specs.Disk.{DiskState}
 use Rattle.nt_edge.specs.Crash.{EachCrash}
 use Rattle.nt_edge.specs.Host.{SaysFront}
-use Rattle.boot_report.proofs.TextLemmas.{body, text-body, no_lf-body, both}
+use Rattle.boot_report.proofs.TextLemmas.{body, text-body, no_lf-body}
 use Rattle.start_model.specs.Lines.{Line, line_text, text_of}
 use Rattle.start_model.specs.Fits.{outcomes_in, MayLoad}
 use Rattle.start_model.specs.Causes.{HasCause}
@@ -50,7 +50,7 @@ pub record IsCutOff (text x y : List ℕ) : Type 0 where
 no_lf-front : (a b t : List ℕ) → t ≡ a ++ b → HasNoLineFeed t → HasNoLineFeed a
 no_lf-front a b t e h =
     let all : list_all (λ c. not (c == 10)) (a ++ b) ≡ true = sym (ap (list_all (λ c. not (c == 10))) e) ∙ h in
-    (both (list_all (λ c. not (c == 10)) a) (list_all (λ c. not (c == 10)) b)
+    (and_parts (list_all (λ c. not (c == 10)) a) (list_all (λ c. not (c == 10)) b)
     (sym (list_all-append (λ c. not (c == 10)) a b) ∙ all)).0
 
 -- of a line a front was said: all of it, or a part without its LF

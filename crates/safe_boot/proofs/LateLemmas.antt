@@ -3,7 +3,7 @@ use Rattle.std.proofs.Common.{◌≡◌, ℕ, zero, suc, Bool, true, false, cond
 use Rattle.std.specs.Prelude.{filter, slice_get, option_map, ◌==◌}
 use Rattle.std.specs.Option.{option_map_or}
 use Rattle.std.specs.List.{Contains, All, filter_map, cons_option, range_with_len, list_any}
-use Rattle.std.proofs.lemmas.Option.{slice_get_within}
+use Rattle.std.proofs.lemmas.Option.{slice_get_within, same_Some}
 use Rattle.std.proofs.lemmas.List.{append-nil, append_cancel_left}
 use Rattle.std.proofs.lemmas.Bool.Decides.{nat_tests}
 use Rattle.nt_bytes.specs.Folding.{folds_same}
@@ -21,13 +21,10 @@ use Rattle.safe_boot.specs.Listed.{listed_names, is_left_out, is_listed, reduced
 use Rattle.safe_boot.specs.Played.{Course, next_entry, tried_at, attempts_of, phase_ended, phase_played, course_begun, start_lines_of}
 use Rattle.safe_boot.specs.Laws.{HasListed, StartsListed, first_phase_of, FirstIsInFront, LateIsListed}
 use Rattle.safe_boot.proofs.HeldLemmas.{each_kept}
-use Rattle.safe_boot.proofs.ListLemmas.{each_map, each_passes, each_given, each_at, each_append, each_left, some_is}
+use Rattle.safe_boot.proofs.ListLemmas.{each_map, each_passes, each_given, each_at, each_append, each_left}
 use Rattle.safe_boot.proofs.PlayLemmas.{there}
 use Rattle.safe_boot.proofs.SetLemmas.{services_reduced}
-
-both : (a b : Bool) → (a && b) ≡ true → (a ≡ true) × (b ≡ true)
-both true b h = (refl, h)
-both false b h = absurd cc
+use Rattle.std.proofs.lemmas.Bool.{and_parts, or_left, or_right}
 
 -- ---- the entries of a reduced set
 
@@ -149,8 +146,8 @@ system_late entries tried =
     (At (λ e. (e.start == 0) ≡ false) entries)
     (λ p h e is.
     let t = passes_at (is_driver_of 1 tried) entries p e h is in
-    one_is_late e.start (both (is_driver e.kind) (e.start == 1)
-    (both (is_driver e.kind && (e.start == 1)) (not (was_tried tried e)) t).0).1)
+    one_is_late e.start (and_parts (is_driver e.kind) (e.start == 1)
+    (and_parts (is_driver e.kind && (e.start == 1)) (not (was_tried tried e)) t).0).1)
     (places_of (is_driver_of 1 tried) entries)
     (each_passes (λ p. option_map_or (is_driver_of 1 tried) (slice_get entries p) false)
     (range_with_len 0 (length entries)))
@@ -168,7 +165,7 @@ is_there test entries p None is h = absurd cc
 is_there test entries p (Some e) is h = record { entry = e; here = is }
 
 some_same : {X : Type 0} (x y : X) (o : Option X) → o ≡ Some x → o ≡ Some y → x ≡ y
-some_same x y o h k = some_is x y (sym h ∙ k)
+some_same x y o h k = same_Some x y (sym h ∙ k)
 
 need_at : (entries : List Entry) (places : List ℕ) (i p : ℕ) (e : Entry) → Each (IsThere entries) places
     → slice_get places i ≡ Some p → slice_get entries p ≡ Some e
@@ -187,20 +184,13 @@ late_or n h = grind (arith, nat_tests)
 abbrev automatic_set : List Need → ℕ → Bool
 automatic_set table q = starts_at table 2 q || starts_at table 3 q
 
-or_left : (a b : Bool) → a ≡ true → (a || b) ≡ true
-or_left a b h = ap (λ a. a || b) h
-
-or_right : (a b : Bool) → b ≡ true → (a || b) ≡ true
-or_right true b h = refl
-or_right false b h = h
-
 pulled_start : (a b : Option Need)
     → option_map_or (λ (n : Need). option_map_or
     (λ (m : Need). (m.start == 3) && list_any (folds_same m.name) n.services) b false) a false ≡ true
     → option_map_or (λ (m : Need). m.start == 3) b false ≡ true
 pulled_start None b h = absurd cc
 pulled_start (Some n) None h = absurd cc
-pulled_start (Some n) (Some m) h = (both (m.start == 3) (list_any (folds_same m.name) n.services) h).0
+pulled_start (Some n) (Some m) h = (and_parts (m.start == 3) (list_any (folds_same m.name) n.services) h).0
 
 closed : (table : List Need) → IsClosed table (automatic_set table)
 closed table = record {

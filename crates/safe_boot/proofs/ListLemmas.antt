@@ -3,6 +3,7 @@ use Rattle.std.proofs.Common.{◌≡◌, ℕ, zero, suc, Bool, true, false, cond
 use Rattle.std.specs.Prelude.{filter, slice_get, remove}
 use Rattle.std.specs.List.{filter_map, cons_option}
 use Rattle.reg_tree.proofs.Unlike.{Each}
+use Rattle.std.proofs.lemmas.Option.{same_Some}
 
 pub each_map : {X : Type 0} (P Q : X → Type 0) → ((x : X) → P x → Q x) → (xs : List X) → Each P xs → Each Q xs
 each_map P Q f [] h = tt
@@ -26,12 +27,9 @@ each_given {X} {Y} h Q (x ∷ xs) g = by_case (h x) refl (each_given h Q xs g.1)
     by_case None e rest = rest
     by_case (Some y) e rest = (g.0 y e, rest)
 
-pub some_is : {X : Type 0} (x y : X) → Some x ≡ Some y → x ≡ y
-some_is x y e = cc
-
 pub each_at : {X : Type 0} (P : X → Type 0) (xs : List X) (i : ℕ) (x : X) → Each P xs → slice_get xs i ≡ Some x → P x
 each_at P [] i x h e = absurd cc
-each_at P (y ∷ ys) zero x h e = subst P (some_is y x e) h.0
+each_at P (y ∷ ys) zero x h e = subst P (same_Some y x e) h.0
 each_at P (y ∷ ys) (suc i) x h e = each_at P ys i x h.1 e
 
 pub each_append : {X : Type 0} (P : X → Type 0) (xs ys : List X) → Each P xs → Each P ys → Each P (xs ++ ys)

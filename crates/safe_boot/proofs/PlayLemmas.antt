@@ -2,7 +2,7 @@
 use Rattle.std.proofs.Common.{◌≡◌, ℕ, zero, suc, ◌<◌, Bool, true, false, not, List, [], ◌∷◌, ◌++◌, length, map, take, drop, Option, Some, None, refl, sym, ap, ◌∙◌, subst, arith, length-append, length-take, length-drop}
 use Rattle.std.specs.Prelude.{slice_get, remove, option_map, option_and_then, Result, Ok, Err, OnOk, IfOk}
 use Rattle.std.specs.Option.{option_map_or}
-use Rattle.std.proofs.lemmas.Option.{slice_get_within}
+use Rattle.std.proofs.lemmas.Option.{slice_get_within, same_Some}
 use Rattle.std.proofs.lemmas.List.{map-append}
 use Rattle.hive_model.specs.Tree.{Tree}
 use Rattle.start_model.specs.Entries.{Entry, Done}
@@ -14,7 +14,6 @@ use Rattle.boot_phases.specs.declared.phase.Phase as code_phase
 use Rattle.boot_phases.specs.declared.phase.Phase.TheVariants as phases
 use Rattle.boot_phases.specs.Phases.{phase_in}
 use Rattle.boot_machine.specs.Steps.{is_there, is_at_end, on_start}
-use Rattle.safe_boot.proofs.ListLemmas.{some_is}
 use Rattle.safe_boot.specs.declared.lines.SafeLine.{SafeLine}
 use Rattle.safe_boot.specs.declared.lines.SafeLine.TheVariants as code
 use Rattle.safe_boot.specs.declared.mode.SafeMode.{SafeMode}
@@ -44,7 +43,7 @@ tried_here : (s : Start) (m : MachineState) (t : machine.Tried) (place : ℕ) (w
 tried_here s m t place None p is h = absurd cc
 tried_here s m t place (Some e) p is h =
     let same : attempt_at (running s) s false place e ≡ (m, t) =
-    some_is (attempt_at (running s) s false place e) (m, t) h in
+    same_Some (attempt_at (running s) s false place e) (m, t) h in
     record {
       place = place;
       entry = e;
@@ -96,7 +95,7 @@ fewer_here : (m m' : MachineState) (s : Start) (t : machine.Tried) (usable : Boo
     → option_map (attempt_at m s usable place) w ≡ Some (m', t) → waiting_count m' < length s.waiting
 fewer_here m m' s t usable place None is h = absurd cc
 fewer_here m m' s t usable place (Some e) is h =
-    let same : attempt_at m s usable place e ≡ (m', t) = some_is (attempt_at m s usable place e) (m', t) h in
+    let same : attempt_at m s usable place e ≡ (m', t) = same_Some (attempt_at m s usable place e) (m', t) h in
     let count : length (remove s.waiting place) ≡ waiting_count m' = ap (λ r. waiting_count r.0) same in
     omega (arith, count, one_fewer s.waiting place (slice_get_within s.waiting place e is))
 
@@ -134,7 +133,7 @@ there_by s place e (Some p) h = in_list p (slice_get s.waiting p) refl h
         → slice_get s.waiting place ≡ Some e
     in_list p None is h = absurd cc
     in_list p (Some f) is h =
-        let same : at_place p f ≡ at_place place e = some_is (at_place p f) (at_place place e) h in
+        let same : at_place p f ≡ at_place place e = same_Some (at_place p f) (at_place place e) h in
         ap (slice_get s.waiting) (sym (ap (λ r. r.0) same)) ∙ is ∙ ap (λ r. Some r.1) same
 
 pub there : (s : Start) (place : ℕ) (e : Entry) → next_entry s ≡ Some (place, e) → slice_get s.waiting place ≡ Some e

@@ -1,7 +1,7 @@
 -- The files of an image keep its sectors.
 use Rattle.std.specs.Prelude.{nat_lt}
 use Rattle.std.proofs.Common.{◌≡◌, ◌⊎◌, ◌<◌, ◌≤◌, ◌-◌, ◌*◌, ℕ, Bool, false, cond, List, ◌++◌, length, take, drop, replicate, Some, None, Ok, Err, refl, sym, ◌∙◌, ap, subst, ⊎_elim, arith, append-nil, length-take, length-drop}
-use Rattle.std.proofs.lemmas.Bool.{lt-ltb}
+use Rattle.std.proofs.lemmas.Bool.{lt-ltb, cases_lt}
 use Rattle.nt_bytes.specs.declared.fault.HiveKind.TheVariants.{NotRegf}
 use Rattle.hive_model.specs.Image.{Image, File, Primary, Log, Bytes, Unreadable, Write, padded, sector_of, image_of, bytes_of, IsFileOf, IsCrashImage}
 use Rattle.hive_model.specs.Asked.{primary_at}
@@ -16,9 +16,6 @@ use Rattle.nt_edge.proofs.Images.{still_crash}
 use Rattle.saved_laws.specs.Saved.{HasUntornBlock, KeepsSectors, LoadsWithin}
 use Rattle.saved_laws.proofs.KeptLemmas.{load_stays, clean_load_stays}
 
-below_or_past : (n m : ℕ) → (n < m) ⊎ (m ≤ n)
-below_or_past n m = grind arith
-
 filled : (bytes : List ℕ) → length bytes ≡ 512 → padded bytes ≡ bytes
 filled bytes long = ap (λ n. bytes ++ replicate (512 - n) 0) long ∙ append-nil bytes
 
@@ -32,7 +29,7 @@ module _ (image : Image) (file : File) (bytes : List ℕ) (is : IsFileOf image f
   there n block here = ⊎_elim
       (λ below. below)
       (λ past. absurd (let none : Some (Bytes block) ≡ None = sym here ∙ is.no_more n past in cc))
-      (below_or_past n is.count)
+      (cases_lt n is.count)
 
   -- a sector of the image that has bytes is that of the file
   saved_sector : (n : ℕ) (block : List ℕ) → n < 65536 → image (record { file = file; sector = n }) ≡ Some (Bytes block)
@@ -115,7 +112,7 @@ torn_block image primary log is torn =
     let inside : 0 < is.count = ⊎_elim
     (λ below. below)
     (λ past. absurd (let none : Some Unreadable ≡ None = sym torn ∙ is.no_more 0 past in cc))
-    (below_or_past 0 is.count) in
+    (cases_lt 0 is.count) in
     let part = take 512 (drop (512 * 0) primary) in
     let zeros : replicate 512 0 ≡ part = sym (ap bytes_of torn) ∙ is.each 0 inside in
     let block : image_of primary log (primary_at 0) ≡ Some (Bytes (replicate 512 0)) =

@@ -12,6 +12,7 @@ use Rattle.hive_model.specs.Tree as tree
 use Rattle.hive_model.specs.Tree.{Tree, key, head, children, find_key, is_named}
 use Rattle.select_keys.specs.Numbers.{with_number, numbers_where, numbers_marked}
 use Rattle.select_keys.specs.Names.{IsNumberOf}
+use Rattle.std.proofs.Math.Bool.{or-false}
 
 -- ---- lists of numbers in a row
 
@@ -206,10 +207,6 @@ or_swap true false = refl
 or_swap false true = refl
 or_swap false false = refl
 
-or_nothing : (b : Bool) → (b || false) ≡ b
-or_nothing true = refl
-or_nothing false = refl
-
 -- a key whose name is that of a set adds the set's number
 among_named : (keys : List Tree) (t : Tree) (n : ℕ) → IsNumberOf (head t).name (Some n)
     → with_number n (numbers_among keys) ≡ numbers_among (keys ++ t ∷ [])
@@ -223,7 +220,7 @@ among_unnamed : (keys : List Tree) (t : Tree) → IsNumberOf (head t).name None
     → numbers_among keys ≡ numbers_among (keys ++ t ∷ [])
 among_unnamed keys t is = numbers_where-same _ _ (λ k low high.
     let there : Bool = is_some (find (is_named (set_name k)) keys) in
-    sym (or_nothing there) ∙ ap (λ b. there || b) (sym (is.named k low high))
+    sym (or-false there) ∙ ap (λ b. there || b) (sym (is.named k low high))
     ∙ sym (found_more (is_named (set_name k)) keys t))
 
 among_next : (items : List Tree) (i : ℕ) (t : Tree) → i < length items → t ≡ get_or items i t

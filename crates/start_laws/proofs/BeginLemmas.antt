@@ -2,7 +2,7 @@
 use Rattle.std.proofs.Common.{◌≡◌, inl, inr, ℕ, ◌<◌, ◌≤◌, ◌^◌, Bool, true, false, not, ◌&&◌, ◌||◌, ◌==◌, cond, List, [], ◌∷◌, ◌++◌, length, map, filter, Option, Some, None, Result, Ok, Err, refl, sym, ap, subst, ◌∙◌, arith, eq-eqb, eqb-true}
 use Rattle.std.specs.Prelude.{codes}
 use Rattle.std.specs.Option.{is_some}
-use Rattle.std.proofs.lemmas.Bool.{false≢true}
+use Rattle.std.proofs.lemmas.Bool.{false≢true, or_left, or_right}
 use Rattle.nt_bytes.specs.declared.version.HiveVersion.{HiveVersion}
 use Rattle.hive_model.specs.Tree.{Tree, key}
 use Rattle.hive_model.specs.Edit.{Step, copy_child, delete_key, renamed, with_child, Refusal, after_steps}
@@ -80,22 +80,14 @@ some_tree (Some k) h = (k, refl)
 some_is_some : (o : Option Tree) (k : Tree) → o ≡ Some k → is_some o ≡ true
 some_is_some o k e = ap is_some e
 
-or_first : (a b : Bool) → a ≡ true → (a || b) ≡ true
-or_first true b h = refl
-or_first false b h = absurd (false≢true h)
-
-or_second : (a b : Bool) → b ≡ true → (a || b) ≡ true
-or_second true b h = refl
-or_second false b h = h
-
 pub names_current : (s : SelectNumbers) → has_number (four_of s) s.current ≡ true
-names_current s = or_first (s.current == s.current) _ (eq-eqb s.current s.current refl)
+names_current s = or_left (s.current == s.current) _ (eq-eqb s.current s.current refl)
 
 pub names_good : (s : SelectNumbers) → has_number (four_of s) s.good ≡ true
 names_good s =
-    or_second (s.current == s.good) _
-    (or_second (s.default == s.good) _
-    (or_second (s.failed == s.good) _ (or_first (s.good == s.good) false (eq-eqb s.good s.good refl))))
+    or_right (s.current == s.good) _
+    (or_right (s.default == s.good) _
+    (or_right (s.failed == s.good) _ (or_left (s.good == s.good) false (eq-eqb s.good s.good refl))))
 
 pub same_set : (name : List ℕ) (k : Tree) → SameSet (renamed name k) k
 same_set name (key h ts) = refl

@@ -2,15 +2,15 @@
 use Rattle.std.proofs.Common.{◌≡◌, inl, ℕ, suc, ◌<◌, ◌≤◌, ◌^◌, Bool, true, false, not, ◌&&◌, ◌||◌, ◌==◌, cond, List, [], ◌∷◌, length, get_or, Some, None, Ok, refl, sym, ap, subst, ◌∙◌, arith, eq-eqb, eqb-true}
 use Rattle.std.specs.Prelude.{find}
 use Rattle.std.specs.Ordering.{is_gt}
-use Rattle.std.proofs.lemmas.Bool.{false≢true}
+use Rattle.std.proofs.lemmas.Bool.{false≢true, and_from, or_left, or_right}
 use Rattle.nt_bytes.specs.Folding.{folded_order, folded_unit, folds_same}
 use Rattle.hive_model.specs.Tree.{Tree, key, head, children, is_named, listed}
 use Rattle.hive_model.specs.Valid.{KeysDiffer, IsValid}
 use Rattle.hive_model.specs.Edit.{delete_key, without_first, placed, renamed, with_child, after_steps}
 use Rattle.start_model.specs.Sets.{SelectNumbers, set_name, set_of, select_numbers_of, has_number, four_of, retired_of, deletions_of, writes_of}
 use Rattle.run_laws.proofs.CountLemmas.{number}
-use Rattle.start_laws.proofs.NameLemmas.{and_left, and_right, and_both, fold_alike, other_number}
-use Rattle.start_laws.proofs.UsableLemmas.{or_first, or_second, has_kept}
+use Rattle.start_laws.proofs.NameLemmas.{and_left, and_right, fold_alike, other_number}
+use Rattle.start_laws.proofs.UsableLemmas.{has_kept}
 use Rattle.start_laws.proofs.StepLemmas.{ok_is, set_found, children-of_children, name_of-renamed, without_set, deleted-is, one_step, single}
 use Rattle.start_laws.proofs.PlanLemmas.{deletions, Fitting, Settles, writes_keep_sets}
 
@@ -76,7 +76,7 @@ folds_back [] (y ∷ ys) h = absurd (false≢true h)
 folds_back (x ∷ xs) [] h = absurd (false≢true h)
 folds_back (x ∷ xs) (y ∷ ys) h =
     let p : folded_unit x ≡ folded_unit y = eqb-true _ _ (and_left _ (folds_same xs ys) h) in
-    and_both _ (folds_same ys xs) (eq-eqb _ _ (sym p))
+    and_from _ (folds_same ys xs) (eq-eqb _ _ (sym p))
     (folds_back xs ys (and_right (folded_unit x == folded_unit y) _ h))
 
 other_names : (name : List ℕ) (k : Tree) (ks : List Tree) → is_named name k ≡ true
@@ -177,11 +177,11 @@ carried new now m f le is = let e : new ≡ m = eqb-true new m is in eq-eqb now 
 one_of_four : (a b c d e f g h : Bool) → (a ≡ true → e ≡ true) → (b ≡ true → f ≡ true) → (c ≡ true → g ≡ true)
     → (d ≡ true → h ≡ true)
     → (a || (b || (c || (d || false)))) ≡ true → (e || (f || (g || (h || false)))) ≡ true
-one_of_four true b c d e f g h p q r s is = or_first e _ (p refl)
-one_of_four false true c d e f g h p q r s is = or_second e _ (or_first f _ (q refl))
-one_of_four false false true d e f g h p q r s is = or_second e _ (or_second f _ (or_first g _ (r refl)))
+one_of_four true b c d e f g h p q r s is = or_left e _ (p refl)
+one_of_four false true c d e f g h p q r s is = or_right e _ (or_left f _ (q refl))
+one_of_four false false true d e f g h p q r s is = or_right e _ (or_right f _ (or_left g _ (r refl)))
 one_of_four false false false true e f g h p q r s is =
-    or_second e _ (or_second f _ (or_second g _ (or_first h _ (s refl))))
+    or_right e _ (or_right f _ (or_right g _ (or_left h _ (s refl))))
 one_of_four false false false false e f g h p q r s is = absurd (false≢true is)
 
 -- what the new numbers name, those that stand there name
@@ -241,7 +241,7 @@ plan_gone usable old new t middle u m there was unnamed few gone made =
 pub not_that : (s : SelectNumbers) (m : ℕ) → has_number (four_of s) m ≡ false → m ≡ s.good → ⊥
 not_that s m unnamed e =
     let here : has_number (four_of s) m ≡ true =
-    or_second (s.current == m) _
-    (or_second (s.default == m) _
-    (or_second (s.failed == m) _ (or_first (s.good == m) false (eq-eqb s.good m (sym e))))) in
+    or_right (s.current == m) _
+    (or_right (s.default == m) _
+    (or_right (s.failed == m) _ (or_left (s.good == m) false (eq-eqb s.good m (sym e))))) in
     false≢true (sym unnamed ∙ here)

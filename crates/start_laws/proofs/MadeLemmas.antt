@@ -4,7 +4,7 @@ use Rattle.std.specs.Prelude.{codes, find}
 use Rattle.std.specs.Option.{is_some, is_none, option_map_or}
 use Rattle.std.specs.List.{AllByRecursion, range_with_len}
 use Rattle.std.specs.Int.{w32, to_le_bytes}
-use Rattle.std.proofs.lemmas.Bool.{false≢true, le-ltb}
+use Rattle.std.proofs.lemmas.Bool.{false≢true, le-ltb, or_left, or_right}
 use Rattle.std.proofs.lemmas.Bool.Decides.{nat_tests}
 use Rattle.nt_bytes.specs.declared.version.HiveVersion.{HiveVersion}
 use Rattle.hive_model.specs.Tree.{Tree, children, is_named, find_key}
@@ -108,25 +108,17 @@ has_small n (x ∷ xs) h e = split (x == n) refl e (has_small n xs h.1)
     split true is g deep = let same : x ≡ n = eqb-true x n is in let first : x ≤ 999 = h.0.1 in omega arith
     split false is g deep = deep g
 
-or_first : (a b : Bool) → a ≡ true → (a || b) ≡ true
-or_first true b h = refl
-or_first false b h = absurd (false≢true h)
-
-or_second : (a b : Bool) → b ≡ true → (a || b) ≡ true
-or_second true b h = refl
-or_second false b h = h
-
 all_go : (numbers : List ℕ) (t : Tree) → Rises numbers → Small numbers
     → ((n : ℕ) → has_number numbers n ≡ true → is_some (set_of t n) ≡ true)
     → (u : Tree) × (after_steps t (deletions numbers) ≡ Ok u)
 all_go [] t rises small there = (t, refl)
 all_go (r ∷ rs) t rises small there =
-    let here : is_some (set_of t r) ≡ true = there r (or_first (r == r) (has_number rs r) (eq-eqb r r refl)) in
+    let here : is_some (set_of t r) ≡ true = there r (or_left (r == r) (has_number rs r) (eq-eqb r r refl)) in
     let keeps = without_set-keeps r t small.0.1 in
     let deep = all_go rs (without_set r t) rises.1 small.1
     (λ n h. (let above : r < n = has_above r n rs rises.0 h in
     let other : n ≡ r → ⊥ = λ e. omega arith in
-    ap is_some (keeps.sets n (has_small n rs small.1 h) other) ∙ there n (or_second (r == n) (has_number rs n) h))) in (
+    ap is_some (keeps.sets n (has_small n rs small.1 h) other) ∙ there n (or_right (r == n) (has_number rs n) h))) in (
       deep.0,
       joined (delete_key (set_name r ∷ []) ∷ []) (deletions rs) t (without_set r t) (Ok deep.0)
           (alone (delete_key (set_name r ∷ [])) t (without_set r t) (goes r t here)) deep.1,

@@ -1,7 +1,7 @@
 -- Names of sets differ beyond the case of letters, and from `Select`.
 use Rattle.std.proofs.Common.{◌≡◌, ℕ, ◌+◌, ◌/◌, ◌%◌, ◌<◌, ◌≤◌, Bool, true, false, ◌&&◌, ◌==◌, List, [], ◌∷◌, refl, sym, ◌∙◌, arith, eq-eqb, eqb-true}
 use Rattle.std.specs.Prelude.{codes}
-use Rattle.std.proofs.lemmas.Bool.{false≢true}
+use Rattle.std.proofs.lemmas.Bool.{false≢true, and_from}
 use Rattle.std.proofs.lemmas.Bool.Decides.{nat_tests}
 use Rattle.nt_bytes.specs.Folding.{folded_unit, folds_same}
 use Rattle.start_model.specs.Sets.{set_name}
@@ -14,13 +14,9 @@ pub and_right : (a b : Bool) → (a && b) ≡ true → b ≡ true
 and_right true b h = h
 and_right false b h = absurd (false≢true h)
 
-pub and_both : (a b : Bool) → a ≡ true → b ≡ true → (a && b) ≡ true
-and_both true b h g = g
-and_both false b h g = absurd (false≢true h)
-
 pub folds_itself : (a : List ℕ) → folds_same a a ≡ true
 folds_itself [] = refl
-folds_itself (x ∷ xs) = and_both (folded_unit x == folded_unit x) (folds_same xs xs) (eq-eqb _ _ refl) (folds_itself xs)
+folds_itself (x ∷ xs) = and_from (folded_unit x == folded_unit x) (folds_same xs xs) (eq-eqb _ _ refl) (folds_itself xs)
 
 -- two names that one name folds to fold to one another
 pub fold_alike : (a c b : List ℕ) → folds_same a b ≡ true → folds_same c b ≡ true → folds_same a c ≡ true
@@ -33,7 +29,7 @@ fold_alike (x ∷ xs) (z ∷ zs) [] h g = absurd (false≢true h)
 fold_alike (x ∷ xs) (z ∷ zs) (y ∷ ys) h g =
     let p : folded_unit x ≡ folded_unit y = eqb-true _ _ (and_left _ (folds_same xs ys) h) in
     let q : folded_unit z ≡ folded_unit y = eqb-true _ _ (and_left _ (folds_same zs ys) g) in
-    and_both _ (folds_same xs zs) (eq-eqb _ _ (p ∙ sym q))
+    and_from _ (folds_same xs zs) (eq-eqb _ _ (p ∙ sym q))
     (fold_alike xs zs ys (and_right (folded_unit x == folded_unit y) _ h)
     (and_right (folded_unit z == folded_unit y) _ g))
 

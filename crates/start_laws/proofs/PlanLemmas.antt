@@ -2,7 +2,7 @@
 use Rattle.std.proofs.Common.{◌≡◌, ◌⊎◌, inl, inr, ℕ, ◌<◌, ◌≤◌, ◌^◌, Bool, true, false, not, ◌&&◌, ◌||◌, ◌==◌, cond, List, [], ◌∷◌, ◌++◌, map, Ok, refl, sym, ap, subst, ◌∙◌, eq-eqb, eqb-true}
 use Rattle.std.specs.Prelude.{codes}
 use Rattle.std.specs.Int.{w32, to_le_bytes}
-use Rattle.std.proofs.lemmas.Bool.{false≢true}
+use Rattle.std.proofs.lemmas.Bool.{false≢true, and_left}
 use Rattle.nt_bytes.specs.Folding.{folds_same}
 use Rattle.hive_model.specs.Tree.{Tree}
 use Rattle.hive_model.specs.Edit.{Step, set_value, delete_key, after_steps}
@@ -150,10 +150,6 @@ stays true true h = refl
 stays true false h = absurd (false≢true h)
 stays false b h = refl
 
-no_loss : (a b : Bool) → a ≡ false → (a && b) ≡ false
-no_loss true b h = absurd (false≢true (sym h))
-no_loss false b h = refl
-
 pub settled : (usable : List ℕ) (old new : SelectNumbers) (t middle u : Tree) → Small (retired_of usable old new)
     → select_numbers_of t ≡ old
     → after_steps t (deletions_of usable old new) ≡ Ok middle → after_steps middle (writes_of old new) ≡ Ok u
@@ -168,7 +164,7 @@ settled usable old new t middle u small was gone made =
           (stays (has_number (four_of old) n) (has_number (four_of new) n) named));
       others = λ n le unnamed. w.sets n
           ∙ r.sets n le (has_not (λ n. has_number (four_of old) n && not (has_number (four_of new) n)) usable n
-          (no_loss (has_number (four_of old) n) (not (has_number (four_of new) n)) unnamed));
+          (and_left (has_number (four_of old) n) (not (has_number (four_of new) n)) unnamed));
       current = w.current;
       default = w.default;
       failed = w.failed;

@@ -2,23 +2,15 @@
 use Rattle.std.proofs.Common.{◌≡◌, ℕ, zero, suc, ◌+◌, ◌<◌, ◌≤◌, Bool, true, false, ◌&&◌, ◌||◌, ◌==◌, cond, leb, List, [], ◌∷◌, filter, Option, Some, None, refl, sym, ap, ◌∙◌, arith, eq-eqb, eqb-true}
 use Rattle.std.specs.Option.{is_some}
 use Rattle.std.specs.List.{range_with_len}
-use Rattle.std.proofs.lemmas.Bool.{false≢true, leb-true}
+use Rattle.std.proofs.lemmas.Bool.{false≢true, leb-true, and_from, or_left, or_right}
 use Rattle.std.proofs.lemmas.Bool.Decides.{nat_tests}
 use Rattle.hive_model.specs.Tree.{Tree}
 use Rattle.start_model.specs.Sets.{set_of, is_usable, usable_numbers_of, has_number}
 use Rattle.start_laws.specs.Changes.{IsLowestFree}
-use Rattle.start_laws.proofs.NameLemmas.{and_left, and_right, and_both}
+use Rattle.start_laws.proofs.NameLemmas.{and_left, and_right}
 use Rattle.start_laws.proofs.NumberLemmas.{IsFree}
 
 -- ---- members of filtered lists
-
-pub or_first : (a b : Bool) → a ≡ true → (a || b) ≡ true
-or_first true b h = refl
-or_first false b h = absurd (false≢true h)
-
-pub or_second : (a b : Bool) → b ≡ true → (a || b) ≡ true
-or_second true b h = refl
-or_second false b h = h
 
 has_from : (p : ℕ → Bool) (xs : List ℕ) (n : ℕ) → has_number (filter p xs) n ≡ true → p n ≡ true
 has_from p [] n h = absurd (false≢true h)
@@ -46,7 +38,7 @@ has_among p (x ∷ xs) n h = split (p x) h (has_among p xs n)
     split : (b : Bool) → has_number (cond b (x ∷ filter p xs) (filter p xs)) n ≡ true
         → (has_number (filter p xs) n ≡ true → has_number xs n ≡ true) → has_number (x ∷ xs) n ≡ true
     split true g deep = here (x == n) refl g deep
-    split false g deep = or_second (x == n) (has_number xs n) (deep g)
+    split false g deep = or_right (x == n) (has_number xs n) (deep g)
 
 pub has_not : (p : ℕ → Bool) (xs : List ℕ) (n : ℕ) → p n ≡ false → has_number (filter p xs) n ≡ false
 has_not p xs n h = split (has_number (filter p xs) n) refl
@@ -63,8 +55,8 @@ has_kept p (x ∷ xs) n h g = split (p x) refl (x == n) refl g (has_kept p xs n 
     split : (b : Bool) → p x ≡ b → (c : Bool) → (x == n) ≡ c → (c || has_number xs n) ≡ true
         → (has_number xs n ≡ true → has_number (filter p xs) n ≡ true)
         → has_number (cond b (x ∷ filter p xs) (filter p xs)) n ≡ true
-    split true is true same there deep = or_first (x == n) _ same
-    split true is false same there deep = or_second (x == n) _ (deep there)
+    split true is true same there deep = or_left (x == n) _ same
+    split true is false same there deep = or_right (x == n) _ (deep there)
     split false is true same there deep = absurd (false≢true (sym is ∙ ap p (eqb-true x n same) ∙ h))
     split false is false same there deep = deep there
 
@@ -77,10 +69,10 @@ has_to p a (suc len) n h le lt = split (p a) refl (a == n) refl (has_to p (a + 1
         → (a + 1 ≤ n → n < a + 1 + len → has_number (filter p (range_with_len (a + 1) len)) n ≡ true)
         → has_number (cond b (a ∷ filter p (range_with_len (a + 1) len)) (filter p (range_with_len (a + 1) len))) n
         ≡ true
-    split true is true same deep = or_first (a == n) _ same
+    split true is true same deep = or_left (a == n) _ same
     split true is false same deep =
         let ne : a ≡ n → ⊥ = λ e. false≢true (sym same ∙ eq-eqb a n e) in
-        or_second (a == n) _ (deep (omega (arith, ne)) (omega arith))
+        or_right (a == n) _ (deep (omega (arith, ne)) (omega arith))
     split false is true same deep = absurd (false≢true (sym is ∙ ap p (eqb-true a n same) ∙ h))
     split false is false same deep =
         let ne : a ≡ n → ⊥ = λ e. false≢true (sym same ∙ eq-eqb a n e) in deep (omega (arith, ne)) (omega arith)
@@ -121,8 +113,8 @@ at_most n h = grind (arith, nat_tests)
 
 pub usable_from : (t : Tree) (n : ℕ) → 1 ≤ n → n ≤ 999 → is_some (set_of t n) ≡ true → is_usable t n ≡ true
 usable_from t n low high there =
-    and_both (leb 1 n && leb n 999) (is_some (set_of t n))
-    (and_both (leb 1 n) (leb n 999) (at_least n low) (at_most n high)) there
+    and_from (leb 1 n && leb n 999) (is_some (set_of t n))
+    (and_from (leb 1 n) (leb n 999) (at_least n low) (at_most n high)) there
 
 -- the free number names no set
 pub free_is_none : (t : Tree) (n : ℕ) → IsFree (usable_numbers_of t) n → set_of t n ≡ None

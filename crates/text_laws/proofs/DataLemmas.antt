@@ -7,7 +7,7 @@ use Rattle.std.specs.Char.{digit_value}
 use Rattle.std.specs.Fmt.{digits, digits_onto, digit_glyph}
 use Rattle.std.specs.Int.{w32, to_le_bytes, from_le_bytes}
 use Rattle.std.specs.Str.Parse.{AllDigits, digits_value}
-use Rattle.std.proofs.lemmas.Bool.{eq-eqb, ne_eqb, eqb-true, lt-ltb, le-ltb}
+use Rattle.std.proofs.lemmas.Bool.{eq-eqb, ne_eqb, eqb-true, lt-ltb, le-ltb, and_from, and_parts, or_parts, or_from}
 use Rattle.std.proofs.lemmas.Fmt.{digits_is_IsNumeral}
 use Rattle.std.proofs.lemmas.List.{append-nil}
 use Rattle.std.proofs.lemmas.Nat.{le_bytes_4}
@@ -20,7 +20,7 @@ use Rattle.reg_text.specs.Gives.{◌>>=◌}
 use Rattle.reg_text.specs.Items.{ends_in, front, continued, comma_ended, string_bytes, string_ended, string_item, dword_item, bytes_item, kind_ended, kind_in, kind_at, hex_item, number_item, data_item}
 use Rattle.reg_text.specs.Quotes.{with_units, quoted_from}
 use Rattle.reg_text.specs.Writing.{quoted_unit, quoted, byte_digits, bytes_text, number_digits, is_line_end, breaks, is_dword, is_string, binary_text, data_text}
-use Rattle.text_laws.proofs.LineLemmas.{neither, none_of, whole_append, last_at, Ends, ends_behind, hex_whole, hex_plain, hex_open, all_hex_whole}
+use Rattle.text_laws.proofs.LineLemmas.{whole_append, last_at, Ends, ends_behind, hex_whole, hex_plain, hex_open, all_hex_whole}
 
 -- ---- texts in quotes
 
@@ -43,12 +43,12 @@ pub quoted_whole : (text : List ℕ) → breaks text ≡ false → breaks (flat_
 unfolding quoted_unit
 quoted_whole [] e = refl
 quoted_whole (u ∷ text) e =
-    let two = neither (is_line_end u) (breaks text) e in
+    let two = or_parts (is_line_end u) (breaks text) e in
     whole_append (quoted_unit u) (flat_map quoted_unit text) (by (eqb u 92 || eqb u 34) two.0) (quoted_whole text two.1)
   where
     by : (b : Bool) → is_line_end u ≡ false → breaks (cond b (92 ∷ u ∷ []) (u ∷ [])) ≡ false
-    by true plain = none_of (is_line_end u) false plain refl
-    by false plain = none_of (is_line_end u) false plain refl
+    by true plain = or_from (is_line_end u) false plain refl
+    by false plain = or_from (is_line_end u) false plain refl
 
 -- ---- bytes
 
@@ -94,13 +94,10 @@ byte_back b lt =
 abbrev more_text : List ℕ → List ℕ
 more_text bytes = flat_map (λ y. codes "," ++ byte_digits y) bytes
 
-both_true : (a b : Bool) → a ≡ true → b ≡ true → (a && b) ≡ true
-both_true a b e f = rw (e, f) refl
-
 pair_one : (h l n : ℕ) → is_hex h ≡ true → is_hex l ≡ true → byte_of h l ≡ n → pairs_of (h ∷ l ∷ []) ≡ Ok (n ∷ [])
 unfolding pairs_of
 pair_one h l n eh el is =
-    ap (λ (b : Bool). cond b (Ok (byte_of h l ∷ [])) (Err Line)) (both_true (is_hex h) (is_hex l) eh el)
+    ap (λ (b : Bool). cond b (Ok (byte_of h l ∷ [])) (Err Line)) (and_from (is_hex h) (is_hex l) eh el)
     ∙ ap (λ (m : ℕ). Ok (m ∷ [])) is
 
 pair_more : (h l n : ℕ) (text bytes : List ℕ) → is_hex h ≡ true → is_hex l ≡ true → byte_of h l ≡ n
@@ -109,7 +106,7 @@ pair_more : (h l n : ℕ) (text bytes : List ℕ) → is_hex h ≡ true → is_h
 unfolding pairs_of
 pair_more h l n text bytes eh el is rest =
     ap (λ (b : Bool). cond b (with_bytes (byte_of h l ∷ []) (pairs_of text)) (Err Line))
-    (both_true (is_hex h) (is_hex l) eh el)
+    (and_from (is_hex h) (is_hex l) eh el)
     ∙ ap (λ (m : ℕ). with_bytes (m ∷ []) (pairs_of text)) is
     ∙ ap (with_bytes (n ∷ [])) rest
 
@@ -153,15 +150,15 @@ more_whole b [] all =
     let hex = pair_hex b (all 0 b (omega arith)) in
     let h : ℕ = digit_glyph false (b / 16) in
     let l : ℕ = digit_glyph false (b % 16) in
-    none_of (is_line_end h) (is_line_end l || false) (hex_whole h hex.0)
-    (none_of (is_line_end l) false (hex_whole l hex.1) refl)
+    or_from (is_line_end h) (is_line_end l || false) (hex_whole h hex.0)
+    (or_from (is_line_end l) false (hex_whole l hex.1) refl)
 more_whole b (c ∷ bytes) all =
     let hex = pair_hex b (all 0 b (omega arith)) in
     let h : ℕ = digit_glyph false (b / 16) in
     let l : ℕ = digit_glyph false (b % 16) in
     let rest : Bool = breaks (byte_digits c ++ more_text bytes) in
-    none_of (is_line_end h) (is_line_end l || rest) (hex_whole h hex.0)
-    (none_of (is_line_end l) rest (hex_whole l hex.1) (more_whole c bytes (λ k d lt. all (suc k) d (omega arith))))
+    or_from (is_line_end h) (is_line_end l || rest) (hex_whole h hex.0)
+    (or_from (is_line_end l) rest (hex_whole l hex.1) (more_whole c bytes (λ k d lt. all (suc k) d (omega arith))))
 
 pub bytes_whole : (bytes : List ℕ) → AreBytes bytes → breaks (bytes_text bytes) ≡ false
 bytes_whole [] all = refl
@@ -227,8 +224,8 @@ two_hex : (x : ℕ) (rest : List ℕ) → x < 256 → list_all is_hex rest ≡ t
     → list_all is_hex (byte_digits x ++ rest) ≡ true
 two_hex x rest lt all =
     let hex = pair_hex x lt in
-    both_true (is_hex (digit_glyph false (x / 16))) _ hex.0
-    (both_true (is_hex (digit_glyph false (x % 16))) (list_all is_hex rest) hex.1 all)
+    and_from (is_hex (digit_glyph false (x / 16))) _ hex.0
+    (and_from (is_hex (digit_glyph false (x % 16))) (list_all is_hex rest) hex.1 all)
 
 eight_hex : (d c b a : ℕ) → d < 256 → c < 256 → b < 256 → a < 256 → list_all is_hex (eight d c b a) ≡ true
 eight_hex d c b a dl cl bl al =
@@ -362,7 +359,7 @@ few_digits kind lt = few_onto 64 7 kind [] lt
 
 all_hex : (ds : List ℕ) → AllDigits 16 ds → list_all is_hex ds ≡ true
 all_hex [] all = refl
-all_hex (c ∷ ds) all = both_true (is_hex c) (list_all is_hex ds) (lt-ltb (digit_value c) 16 all.0) (all_hex ds all.1)
+all_hex (c ∷ ds) all = and_from (is_hex c) (list_all is_hex ds) (lt-ltb (digit_value c) 16 all.0) (all_hex ds all.1)
 
 hex_front : (ds : List ℕ) (c : ℕ) (rest : List ℕ) → list_all is_hex ds ≡ true → is_hex c ≡ false
     → prefix_len is_hex (ds ++ c ∷ rest) ≡ length ds
@@ -396,7 +393,7 @@ kind_by ds text n is some few =
     ap (λ (m : ℕ). drop m (ds ++ 41 ∷ 58 ∷ text)) is ∙ drop_front ds (41 ∷ 58 ∷ text) in
     ap (λ (b : Bool). cond b (Err Line)
     (kind_ended (digits_value 16 (take n (ds ++ 41 ∷ 58 ∷ text))) (drop n (ds ++ 41 ∷ 58 ∷ text))))
-    (none_of (eqb n 0) (ltb 8 n) none large)
+    (or_from (eqb n 0) (ltb 8 n) none large)
     ∙ ap (λ (t : List ℕ). kind_ended (digits_value 16 t) (drop n (ds ++ 41 ∷ 58 ∷ text))) lead
     ∙ ap (kind_ended (digits_value 16 ds)) rest
 
@@ -425,7 +422,7 @@ unfolding data_item number_item dword_item
 dword_is name bytes text eight hex is =
     let long : eqb (length text) 8 ≡ true = ap (λ (n : ℕ). eqb n 8) eight in
     ap (λ (b : Bool). cond b (Ok (Named name 4 (to_le_bytes w32 (digits_value 16 text)))) (Err Line))
-    (both_true (eqb (length text) 8) (list_all is_hex text) long hex)
+    (and_from (eqb (length text) 8) (list_all is_hex text) long hex)
     ∙ ap (λ (b : List ℕ). Ok (Named name 4 b)) is
 
 dword_data : (bytes : List ℕ) → length bytes ≡ 4 → AreBytes bytes
@@ -511,10 +508,6 @@ binary_by kind bytes true is lt all =
     subst (λ (k : ℕ). Back k bytes (codes "hex:" ++ bytes_text bytes)) (sym (eqb-true kind 3 is)) (hex_data bytes all)
 binary_by kind bytes false is lt all = wide_data kind bytes lt all
 
-two_true : (a b : Bool) → (a && b) ≡ true → (a ≡ true) × (b ≡ true)
-two_true true b e = (refl, e)
-two_true false b e = absurd cc
-
 not_true : (b : Bool) → not b ≡ true → b ≡ false
 not_true true e = absurd cc
 not_true false e = refl
@@ -524,8 +517,8 @@ string_by : (kind : ℕ) (bytes : List ℕ) (b : Bool) → is_string kind bytes 
 unfolding is_string
 string_by kind bytes true is lt all =
     let long : Bool = eqb (length bytes) (2 * length (sz_of bytes) + 2) in
-    let one = two_true (eqb kind 1 && long) (not (breaks (sz_of bytes))) is in
-    let two = two_true (eqb kind 1) long one.0 in
+    let one = and_parts (eqb kind 1 && long) (not (breaks (sz_of bytes))) is in
+    let two = and_parts (eqb kind 1) long one.0 in
     subst (λ (k : ℕ). Back k bytes (quoted (sz_of bytes))) (sym (eqb-true kind 1 two.0))
     (string_data bytes (eqb-true (length bytes) (2 * length (sz_of bytes) + 2) two.1)
     (not_true (breaks (sz_of bytes)) one.1) all)
@@ -536,7 +529,7 @@ dword_by : (kind : ℕ) (bytes : List ℕ) (b : Bool) → is_dword kind bytes �
     (cond b (codes "dword:" ++ number_digits (from_le_bytes w32 bytes))
     (cond (is_string kind bytes) (quoted (sz_of bytes)) (binary_text kind bytes)))
 dword_by kind bytes true is lt all =
-    let two = two_true (eqb kind 4) (eqb (length bytes) 4) is in
+    let two = and_parts (eqb kind 4) (eqb (length bytes) 4) is in
     subst (λ (k : ℕ). Back k bytes (codes "dword:" ++ number_digits (from_le_bytes w32 bytes)))
     (sym (eqb-true kind 4 two.0))
     (dword_data bytes (eqb-true (length bytes) 4 two.1) all)

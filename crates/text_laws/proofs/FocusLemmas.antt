@@ -4,6 +4,7 @@ use Rattle.std.specs.Prelude.{find, option_and_then}
 use Rattle.nt_bytes.specs.Folding.{folds_same}
 use Rattle.hive_model.specs.Edit.{Step, Refusal, at_first, of_children, at_key, unless, then_edit, after_step, after_steps}
 use Rattle.hive_model.specs.Tree.{Tree, Trees, key, none, more, trees, listed, head, children, is_named, find_key}
+use Rattle.std.proofs.lemmas.Option.{same_Some}
 
 pub trees_listed : (ts : Trees) → trees (listed ts) ≡ ts
 trees_listed none = refl
@@ -12,9 +13,6 @@ trees_listed (more t ts) = ap (more t) (trees_listed ts)
 pub listed_trees : (us : List Tree) → listed (trees us) ≡ us
 listed_trees [] = refl
 listed_trees (u ∷ us) = ap (λ (l : List Tree). u ∷ l) (listed_trees us)
-
-pub some_one : {X : Type 0} (a b : X) → Some a ≡ Some b → a ≡ b
-some_one a b e = cc
 
 -- what an edit gives that is not refused
 abbrev pub done : {X : Type 0} → X → Result X Refusal
@@ -102,7 +100,7 @@ module _ (name : List ℕ) (path : List (List ℕ)) (k l : Tree) (f : Tree → T
 pub kept_name : (path : List (List ℕ)) (k l : Tree) → (head l).name ≡ (head k).name → (w : Tree)
     → find_key path w ≡ Some k
     → (head (at_key path (λ _. l) w)).name ≡ (head w).name
-kept_name [] k l named w e = named ∙ ap (λ (z : Tree). (head z).name) (some_one k w (sym e))
+kept_name [] k l named w e = named ∙ ap (λ (z : Tree). (head z).name) (same_Some k w (sym e))
 kept_name (name ∷ path) k l named (key h ts) e = refl
 
 pub then_found : (path : List (List ℕ)) (k l : Tree) → (head l).name ≡ (head k).name → (t : Tree)
@@ -119,7 +117,7 @@ then_found (name ∷ path) k l named (key h ts) e =
 pub change_is : (path : List (List ℕ)) (k : Tree) (f g : Tree → Tree) → f k ≡ g k → (t : Tree)
     → find_key path t ≡ Some k
     → at_key path f t ≡ at_key path g t
-change_is [] k f g same t e = let one : t ≡ k = some_one t k e in ap f one ∙ same ∙ ap g (sym one)
+change_is [] k f g same t e = let one : t ≡ k = same_Some t k e in ap f one ∙ same ∙ ap g (sym one)
 change_is (name ∷ path) k f g same (key h ts) e =
     ap (λ (us : List Tree). key h (trees us))
     (first_same name path k k (at_key path f) (at_key path g) (λ w d. change_is path k f g same w d) (listed ts) e)
@@ -164,7 +162,7 @@ change_behind (name ∷ path) further f t =
 
 pub found_behind : (path further : List (List ℕ)) (t k : Tree) → find_key path t ≡ Some k
     → find_key (path ++ further) t ≡ find_key further k
-found_behind [] further t k e = ap (find_key further) (some_one t k e)
+found_behind [] further t k e = ap (find_key further) (same_Some t k e)
 found_behind (name ∷ path) further t k e =
     go (find (is_named name) (children t)) (λ w d. found_behind path further w k d) e
   where

@@ -2,7 +2,7 @@
 use Rattle.std.proofs.Common.{◌≡◌, ℕ, ◌+◌, ◌-◌, ◌*◌, ◌/◌, ◌%◌, ◌<◌, Bool, true, false, cond, ◌&&◌, ◌||◌, eqb, List, [], ◌∷◌, ◌++◌, length, take, drop, get_or, reverse, refl, sym, ap, ◌∙◌, append_assoc, arith}
 use Rattle.std.specs.List.{flat_map, list_all, prefix_len, suffix_len, slice_split, count_by, All}
 use Rattle.std.specs.Str.Lines.{lines, lines_of_parts, strip_carriage_return}
-use Rattle.std.proofs.lemmas.Bool.{ne_eqb}
+use Rattle.std.proofs.lemmas.Bool.{ne_eqb, or_parts, or_from}
 use Rattle.std.proofs.lemmas.List.{length-append, reverse-append}
 use Rattle.std.proofs.lemmas.List.Elements.{All-nil, All-cons}
 use Rattle.std.proofs.lemmas.List.Splits.{slice_split_at, length-slice_split}
@@ -12,18 +12,11 @@ use Rattle.reg_text.specs.Writing.{is_line_end, breaks, unit_bytes}
 
 -- ---- tests of two
 
-pub neither : (a b : Bool) → (a || b) ≡ false → (a ≡ false) × (b ≡ false)
-neither false b e = (refl, e)
-neither true b e = absurd cc
-
-pub none_of : (a b : Bool) → a ≡ false → b ≡ false → (a || b) ≡ false
-none_of a b e f = rw (e, f) refl
-
 pub whole_append : (a b : List ℕ) → breaks a ≡ false → breaks b ≡ false → breaks (a ++ b) ≡ false
 whole_append [] b e f = f
 whole_append (u ∷ a) b e f =
-    let two = neither (is_line_end u) (breaks a) e in
-    none_of (is_line_end u) (breaks (a ++ b)) two.0 (whole_append a b two.1 f)
+    let two = or_parts (is_line_end u) (breaks a) e in
+    or_from (is_line_end u) (breaks (a ++ b)) two.0 (whole_append a b two.1 f)
 
 -- ---- units in UTF-16
 
@@ -45,8 +38,8 @@ not_odd units = ne_eqb _ 1 (λ e. absurd (omega (arith, e, even_bytes units)))
 no_feed : (line : List ℕ) → breaks line ≡ false → All (λ b. eqb b 10 ≡ false) (line ++ 13 ∷ [])
 no_feed [] e = All-cons (λ b. eqb b 10 ≡ false) 13 [] refl (All-nil (λ b. eqb b 10 ≡ false))
 no_feed (u ∷ line) e =
-    let two = neither (is_line_end u) (breaks line) e in
-    All-cons (λ b. eqb b 10 ≡ false) u (line ++ 13 ∷ []) (neither (eqb u 10) (eqb u 13) two.0).0 (no_feed line two.1)
+    let two = or_parts (is_line_end u) (breaks line) e in
+    All-cons (λ b. eqb b 10 ≡ false) u (line ++ 13 ∷ []) (or_parts (eqb u 10) (eqb u 13) two.0).0 (no_feed line two.1)
 
 parts_after : (front : List ℕ) (ps : List (List ℕ)) → 0 < length ps
     → lines_of_parts (front ∷ ps) ≡ strip_carriage_return front ∷ lines_of_parts ps
@@ -90,7 +83,7 @@ line_cut line rest whole =
 
 -- ---- blanks at the ends
 
--- the text has a unit at its end, neither a blank nor a backslash
+-- the text has a unit at its end, or_parts a blank nor a backslash
 pub record Ends (text : List ℕ) : Type 0 where
   pub front : List ℕ
   pub last : ℕ
@@ -135,10 +128,10 @@ not_hex : (c d : ℕ) → is_hex c ≡ true → is_hex d ≡ false → eqb c d �
 not_hex c d hex other = ne_eqb c d (λ e. absurd (let both : true ≡ false = sym hex ∙ ap is_hex e ∙ other in cc))
 
 pub hex_whole : (c : ℕ) → is_hex c ≡ true → is_line_end c ≡ false
-hex_whole c hex = none_of (eqb c 10) (eqb c 13) (not_hex c 10 hex refl) (not_hex c 13 hex refl)
+hex_whole c hex = or_from (eqb c 10) (eqb c 13) (not_hex c 10 hex refl) (not_hex c 13 hex refl)
 
 pub hex_plain : (c : ℕ) → is_hex c ≡ true → is_blank c ≡ false
-hex_plain c hex = none_of (eqb c 32) (eqb c 9) (not_hex c 32 hex refl) (not_hex c 9 hex refl)
+hex_plain c hex = or_from (eqb c 32) (eqb c 9) (not_hex c 32 hex refl) (not_hex c 9 hex refl)
 
 pub hex_open : (c : ℕ) → is_hex c ≡ true → eqb c 92 ≡ false
 hex_open c hex = not_hex c 92 hex refl
@@ -147,7 +140,7 @@ pub all_hex_whole : (text : List ℕ) → list_all is_hex text ≡ true → brea
 all_hex_whole [] all = refl
 all_hex_whole (c ∷ text) all =
     let two = both (is_hex c) (list_all is_hex text) all in
-    none_of (is_line_end c) (breaks text) (hex_whole c two.0) (all_hex_whole text two.1)
+    or_from (is_line_end c) (breaks text) (hex_whole c two.0) (all_hex_whole text two.1)
   where
     both : (a b : Bool) → (a && b) ≡ true → (a ≡ true) × (b ≡ true)
     both true b e = (refl, e)

@@ -3,7 +3,7 @@ use Rattle.std.proofs.Common.{◌≡◌, ℕ, suc, ◌%◌, Bool, true, false, c
 use Rattle.std.specs.Prelude.{codes}
 use Rattle.std.specs.List.{flat_map, list_any, slice_split, All}
 use Rattle.std.specs.Str.Lines.{lines}
-use Rattle.std.proofs.lemmas.Bool.{ne_eqb}
+use Rattle.std.proofs.lemmas.Bool.{ne_eqb, or_parts, or_from}
 use Rattle.std.proofs.lemmas.List.{append-nil}
 use Rattle.std.proofs.lemmas.List.Elements.{All-nil, All-cons}
 use Rattle.std.proofs.lemmas.List.Splits.{slice_split_at, slice_split_none}
@@ -24,7 +24,7 @@ use Rattle.reg_text.specs.Quotes.{quoted_from}
 use Rattle.reg_text.specs.Reading.{making, edits_of, number_of, state_after, line_said, with_edits, then_lines, lines_said, first_state, body_of, closed, unended, lines_behind, units_said, behind_mark, reg_steps_of}
 use Rattle.reg_text.specs.Writing.{header, system, quoted_unit, quoted, name_text, data_text, value_text, breaks, place_below, key_text, keys_text, place_of, text_of, has_broken_value, has_broken_name, have_broken_names, unit_bytes, mark, reg_text_of}
 use Rattle.text_laws.specs.Back.{value_steps, key_steps, keys_steps, FitsFields, IsPart, IsTextual, AreTextual}
-use Rattle.text_laws.proofs.LineLemmas.{neither, none_of, whole_append, wide_back, not_odd, last_at, front_of, line_cut, Ends, ends_behind, tight}
+use Rattle.text_laws.proofs.LineLemmas.{whole_append, wide_back, not_odd, last_at, front_of, line_cut, Ends, ends_behind, tight}
 use Rattle.text_laws.proofs.DataLemmas.{quoted_back, quoted_whole, data_back}
 
 -- ---- the line of a value
@@ -113,7 +113,7 @@ part_text name = codes "\\" ++ name
 no_slash : (name : List ℕ) → IsPart name → All (λ b. eqb b 92 ≡ false) name
 no_slash [] e = All-nil (λ b. eqb b 92 ≡ false)
 no_slash (u ∷ name) e =
-    let two = neither (eqb u 92) (list_any is_backslash name) e in
+    let two = or_parts (eqb u 92) (list_any is_backslash name) e in
     All-cons (λ b. eqb b 92 ≡ false) u name two.0 (no_slash name two.1)
 
 parts_back : (name : List ℕ) (path : List (List ℕ)) → All IsPart (name ∷ path)
@@ -153,7 +153,7 @@ key_tight path =
 parts_whole : (path : List (List ℕ)) → list_any breaks path ≡ false → breaks (flat_map part_text path) ≡ false
 parts_whole [] e = refl
 parts_whole (name ∷ path) e =
-    let two = neither (breaks name) (list_any breaks path) e in
+    let two = or_parts (breaks name) (list_any breaks path) e in
     whole_append name (flat_map part_text path) two.0 (parts_whole path two.1)
 
 key_whole : (path : List (List ℕ)) → list_any breaks path ≡ false → breaks (key_line path) ≡ false
@@ -252,7 +252,7 @@ values_said : (values : List Item) (path : List (List ℕ)) (state : State) → 
     → has_broken_value values ≡ false → Said state (flat_map value_text values) (value_steps path values) (Some path)
 values_said [] path state begun is fits plain = nothing_said state (Some path) begun is
 values_said (v ∷ values) path state begun is fits plain =
-    let two = neither (breaks v.name) (has_broken_value values) plain in
+    let two = or_parts (breaks v.name) (has_broken_value values) plain in
     let first = value_said v path state begun is (fits 0 v (omega arith)) two.0 in
     let rest = values_said values path first.after first.begun first.key_is (λ k d lt. fits (suc k) d (omega arith))
     two.1 in
@@ -296,10 +296,10 @@ parts_push (first ∷ path) name parts part =
 
 plain_push : (path : List (List ℕ)) (name : List ℕ) → list_any breaks path ≡ false → breaks name ≡ false
     → list_any breaks (path ++ name ∷ []) ≡ false
-plain_push [] name e f = none_of (breaks name) false f refl
+plain_push [] name e f = or_from (breaks name) false f refl
 plain_push (first ∷ path) name e f =
-    let two = neither (breaks first) (list_any breaks path) e in
-    none_of (breaks first) (list_any breaks (path ++ name ∷ [])) two.0 (plain_push path name two.1 f)
+    let two = or_parts (breaks first) (list_any breaks path) e in
+    or_from (breaks first) (list_any breaks (path ++ name ∷ [])) two.0 (plain_push path name two.1 f)
 
 -- what is said by keys in a row: where values then stand is left open
 record Told (state : State) (text : List ℕ) (edits : List Step) : Type 0 where
@@ -311,7 +311,7 @@ mutual
       → list_any breaks path ≡ false → IsTextual t
       → has_broken_name t ≡ false → Told state (key_text (place_of path) t) (key_steps path t)
   key_said (key h ts) path state begun parts plain textual broken =
-      let two = neither (has_broken_value h.values) (have_broken_names ts) broken in
+      let two = or_parts (has_broken_value h.values) (have_broken_names ts) broken in
       let first = head_said path state begun parts plain in
       let values = values_said h.values path first.after first.begun first.key_is textual.0 two.0 in
       let gap = empty_said values.after (Some path) values.begun values.key_is in
@@ -344,8 +344,8 @@ mutual
       record { into = state.key; said = nothing_said state state.key begun refl }
   keys_said (more t ts) path state begun parts plain textual broken =
       let name : List ℕ = (head t).name in
-      let below = neither (breaks name || has_broken_name t) (have_broken_names ts) broken in
-      let two = neither (breaks name) (has_broken_name t) below.0 in
+      let below = or_parts (breaks name || has_broken_name t) (have_broken_names ts) broken in
+      let two = or_parts (breaks name) (has_broken_name t) below.0 in
       let one = key_said t (path ++ name ∷ []) state begun (parts_push path name parts textual.0)
       (plain_push path name plain two.0) textual.1 two.1 in
       let first : Said state (key_text (place_below (place_of path) name) t) (key_steps (path ++ name ∷ []) t)
@@ -393,7 +393,7 @@ text_said : (path : List (List ℕ)) (t : Tree) → All IsPart path → IsTextua
     → reg_steps_of (mark ++ flat_map unit_bytes (text_of path t)) ≡ Ok (key_steps path t)
 unfolding reg_steps_of behind_mark
 text_said path t parts textual plain =
-    let two = neither (list_any breaks path) (has_broken_name t) plain in
+    let two = or_parts (list_any breaks path) (has_broken_name t) plain in
     let units : List ℕ = text_of path t in
     let odd : Bool = eqb (length (flat_map unit_bytes units) % 2) 1 in
     ap (λ (u : List ℕ). units_said u odd) (wide_back units)

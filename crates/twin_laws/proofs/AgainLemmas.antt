@@ -1,7 +1,7 @@
 -- The files of an image stand for what it stands for.
 use Rattle.std.specs.Prelude.{nat_lt, not}
 use Rattle.std.proofs.Common.{◌≡◌, ◌⊎◌, inl, ◌<◌, ◌≤◌, ◌+◌, ◌-◌, ◌*◌, ◌/◌, ◌==◌, ℕ, zero, suc, Bool, true, false, cond, List, ◌++◌, length, take, drop, replicate, Option, Some, None, Result, Ok, Err, refl, sym, ◌∙◌, ap, subst, ⊎_elim, arith, append-nil, length-take, length-drop}
-use Rattle.std.proofs.lemmas.Bool.{lt-ltb, eqb-true, eq-eqb}
+use Rattle.std.proofs.lemmas.Bool.{lt-ltb, eqb-true, eq-eqb, cases_lt}
 use Rattle.nt_bytes.specs.declared.fault.HiveFault.{HiveFault}
 use Rattle.nt_bytes.specs.declared.fault.HiveKind.TheVariants.{LogAbsent, LogUnreadable, LogSequence, NotRegf}
 use Rattle.hive_model.specs.Asked.{primary_at}
@@ -26,9 +26,6 @@ use Rattle.twin_command.specs.Twinned.{stands_by}
 
 -- ---- the sectors of a file
 
-below_or_past : (n m : ℕ) → (n < m) ⊎ (m ≤ n)
-below_or_past n m = grind arith
-
 filled : (bytes : List ℕ) → length bytes ≡ 512 → padded bytes ≡ bytes
 filled bytes long = ap (λ n. bytes ++ replicate (512 - n) 0) long ∙ append-nil bytes
 
@@ -41,7 +38,7 @@ module _ (image : Image) (file : File) (bytes : List ℕ) (is : IsFileOf image f
   there n block here = ⊎_elim
       (λ below. below)
       (λ past. absurd (let none : Some (Bytes block) ≡ None = sym here ∙ is.no_more n past in cc))
-      (below_or_past n is.count)
+      (cases_lt n is.count)
 
   -- a sector of the image that has bytes is that of the file
   saved_sector : (n : ℕ) (block : List ℕ) → n < 65536 → image (copy_at file n) ≡ Some (Bytes block)
@@ -246,7 +243,7 @@ torn_there : (image : Image) (hive : List ℕ) (is : IsFileOf image Primary hive
 torn_there image hive is torn = ⊎_elim
     (λ below. below)
     (λ past. absurd (let none : Some Unreadable ≡ None = sym torn ∙ is.no_more 0 past in cc))
-    (below_or_past 0 is.count)
+    (cases_lt 0 is.count)
 
 torn_twin : (image : Image) (hive alt : List ℕ) → IsFileOf image Primary hive → image (primary_at 0) ≡ Some Unreadable
     → twin_of (image_of hive alt) ≡ Err (fault_at NotRegf 0)

@@ -1,10 +1,10 @@
 use Rattle.std.proofs.Common.{◌∙◌, sym, subst, arith}
 use Rattle.std.specs.List.{All}
-use Rattle.hive_pack.proofs.Written.{if_ok}
 use Rattle.key_index.specs.Lists.{IsNode}
 use Rattle.hive_edit.specs.Sources.{cells_of}
 use Rattle.hive_edit.proofs.NodeLemmas.{node_long, siblings_here, children_here, kids_are_nodes}
 use Rattle.hive_edit.proofs.children.children.Goals as goal
+use Rattle.std.proofs.lemmas.Result.{IfOk-weaker}
 
 pub u32_at-list-requires : goal.u32_at-list-requires
 u32_at-list-requires c = omega
@@ -30,8 +30,8 @@ returns c =
     let same = children_here cells c.args.at c.payload-node.result.now c.u32_at-list.result c.u32_at-count.result
     c.requires c.payload-node.ensures c.u32_at-list.ensures c.u32_at-count.ensures in
     record {
-      places = if_ok c.listed.result _ _ (λ v e. e ∙ same) c.listed.ensures;
-      nodes = if_ok c.listed.result _ _
+      places = IfOk-weaker c.listed.result _ _ (λ v e. e ∙ same) c.listed.ensures;
+      nodes = IfOk-weaker c.listed.result _ _
           (λ v e. subst (All (IsNode cells)) (sym (e ∙ same)) (kids_are_nodes cells c.args.at c.requires))
           c.listed.ensures;
     }

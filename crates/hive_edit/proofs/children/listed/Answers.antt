@@ -1,9 +1,9 @@
 use Rattle.std.proofs.Common.{sym, ap, subst, ◌∙◌, arith}
-use Rattle.hive_pack.proofs.Written.{if_ok}
 use Rattle.key_index.specs.Lists.{AreRead, offsets_of, offsets_in_lists}
 use Rattle.key_index.proofs.Below.{child_lists}
 use Rattle.hive_edit.specs.Sources.{cells_of}
 use Rattle.hive_edit.proofs.children.listed.Goals as goal
+use Rattle.std.proofs.lemmas.Result.{IfOk-weaker}
 
 pub entries_in-requires : goal.entries_in-requires
 entries_in-requires c = rw c.payload-bytes.ensures
@@ -30,7 +30,7 @@ returns-then-is_list_of_lists c =
     let many = (child_lists cells c.args.list c.args.count c.requires (omega arith)).many
     (rw c.payload-bytes.ensures at is) in
     let same = c.as_slice.ensures ∙ c.in_ok-offsets.ensures ∙ ap offsets_of c.payload-bytes.ensures in
-    if_ok c.joined.result _ _ (λ v e. e ∙ ap (offsets_in_lists cells) same ∙ sym many.1) c.joined.ensures
+    IfOk-weaker c.joined.result _ _ (λ v e. e ∙ ap (offsets_in_lists cells) same ∙ sym many.1) c.joined.ensures
 
 pub returns-else-is_list_of_lists : goal.returns-else-is_list_of_lists
 returns-else-is_list_of_lists c =

@@ -1,9 +1,9 @@
 use Rattle.std.proofs.Common.{sym, ◌∙◌, arith}
-use Rattle.hive_pack.proofs.Written.{if_ok}
 use Rattle.hive_edit.specs.Sources.{cells_of}
 use Rattle.hive_edit.proofs.ItemLemmas.{value_is_there, value_long}
 use Rattle.hive_edit.proofs.DataLemmas.{places_by, big_at}
 use Rattle.hive_edit.proofs.data.data_places.Goals as goal
+use Rattle.std.proofs.lemmas.Result.{IfOk-weaker}
 
 pub u32_at-size-requires : goal.u32_at-size-requires
 u32_at-size-requires c =
@@ -34,4 +34,4 @@ returns c =
     let same = places_by (cells_of c.args.cells.now)
     c.args.at c.payload-value.result.now c.u32_at-size.result c.u32_at-place.result
     c.requires c.payload-value.ensures c.u32_at-size.ensures c.u32_at-place.ensures in
-    if_ok c.places_of.result _ _ (λ v e. e ∙ sym same) c.places_of.ensures
+    IfOk-weaker c.places_of.result _ _ (λ v e. e ∙ sym same) c.places_of.ensures

@@ -3,8 +3,9 @@ use Rattle.hive_model.specs.Tree.{Item, Tree, trees, head, weights}
 use Rattle.hive_model.specs.Size.{class_size, security_size, items_size, list_size, size_of_all}
 use Rattle.hive_model.specs.Packed.{own_place, ring_of_all}
 use Rattle.reg_tree.proofs.Outcomes.{on_ok}
-use Rattle.hive_pack.proofs.Written.{if_ok, size_parted, weight_parted, ring_written}
+use Rattle.hive_pack.proofs.Written.{size_parted, weight_parted, ring_written}
 use Rattle.hive_pack.proofs.ring.+ring.Goals as goal
+use Rattle.std.proofs.lemmas.Result.{IfOk-weaker}
 
 pub ring_of-ring_of_all-requires : goal.ring_of-ring_of_all-requires
 ring_of-ring_of_all-requires m c =
@@ -54,7 +55,7 @@ pub ring_of-returns-clause-end : goal.ring_of-returns-clause-end
 ring_of-returns-clause-end m c =
     let t = c.args.key.now in
     let shared = c.args.shared.now in
-    if_ok c.ring_of_all.result _ _
+    IfOk-weaker c.ring_of_all.result _ _
     (λ e q. omega (
       arith,
       q,

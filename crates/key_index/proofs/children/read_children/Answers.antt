@@ -1,9 +1,9 @@
 use Rattle.std.proofs.Common.{sym, ap, subst, ◌∙◌, arith}
-use Rattle.hive_pack.proofs.Written.{if_ok}
 use Rattle.key_index.specs.Lists.{AreRead, offsets_of, offsets_in_lists}
 use Rattle.key_index.specs.Sources.{cells_of}
 use Rattle.key_index.proofs.Below.{child_lists}
 use Rattle.key_index.proofs.children.read_children.Goals as goal
+use Rattle.std.proofs.lemmas.Result.{IfOk-weaker}
 
 pub read_list-requires : goal.read_list-requires
 read_list-requires c = rw c.payload-bytes.ensures
@@ -30,7 +30,7 @@ returns-then-is_list_of_lists c =
     let many = (child_lists cells c.args.list c.args.count c.requires (omega arith)).many
     (rw c.payload-bytes.ensures at is) in
     let same = c.deref.ensures.value ∙ c.in_ok-offsets.ensures ∙ ap offsets_of c.payload-bytes.ensures in
-    if_ok c.read_lists.result _ _ (λ v e. e ∙ ap (offsets_in_lists cells) same ∙ sym many.1) c.read_lists.ensures
+    IfOk-weaker c.read_lists.result _ _ (λ v e. e ∙ ap (offsets_in_lists cells) same ∙ sym many.1) c.read_lists.ensures
 
 pub returns-else-is_list_of_lists : goal.returns-else-is_list_of_lists
 returns-else-is_list_of_lists c =

@@ -1,7 +1,7 @@
 use Rattle.std.proofs.Common.{◌∙◌}
-use Rattle.hive_pack.proofs.Written.{if_ok}
 use Rattle.hive_edit.proofs.HiveLemmas.{root_there, names_there, names_nowhere}
 use Rattle.hive_edit.proofs.hive.HiveBytes.names_below.Goals as goal
+use Rattle.std.proofs.lemmas.Result.{IfOk-weaker}
 
 pub key_at-requires : goal.key_at-requires
 key_at-requires c =
@@ -14,7 +14,7 @@ returns-in-Some c =
     let same = names_there i.cells c.cells.result.now i.root i.version i.bulk c.args.self.now c.args.path.now
     c.in-Some.at
     c.self.invariant c.cells.ensures c.self.view_is c.in-Some.ensures.place in
-    if_ok c.child_names.result _ _ (λ names e. e ∙ same) c.child_names.ensures
+    IfOk-weaker c.child_names.result _ _ (λ names e. e ∙ same) c.child_names.ensures
 
 pub returns-in-None : goal.returns-in-None
 returns-in-None c =
