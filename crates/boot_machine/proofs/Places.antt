@@ -1,5 +1,5 @@
 -- The first place at which a test passes.
-use Rattle.std.proofs.Common.{◌≡◌, ℕ, ◌+◌, Bool, true, false, cond, List, [], ◌∷◌, map, Some, None, refl, sym, ap, ◌∙◌}
+use Rattle.std.proofs.Common.{◌≡◌, ℕ, ◌+◌, Bool, true, false, cond, List, [], ◌∷◌, map, Some, refl, sym, ap, ◌∙◌}
 use Rattle.std.specs.Prelude.{position}
 use Rattle.std.specs.List.{position_from}
 use Rattle.std.proofs.lemmas.Iterator.Adapters.{position_from-zero}
@@ -11,23 +11,6 @@ some_is a b e = cc
 pub data Place {X : Type 0} (p : X → Bool) (i : ℕ) (x : X) (xs : List X) (at : ℕ) : Type 0 where
   here : p x ≡ true → at ≡ i → Place p i x xs at
   there : p x ≡ false → position_from p (i + 1) xs ≡ Some at → Place p i x xs at
-
-pub place_of : {X : Type 0} (p : X → Bool) (i : ℕ) (x : X) (xs : List X) (at : ℕ) → position_from p i (x ∷ xs) ≡ Some at
-    → Place p i x xs at
-place_of p i x xs at h = split (p x) refl h
-  where
-    split : (b : Bool) → p x ≡ b → cond b (Some i) (position_from p (i + 1) xs) ≡ Some at → Place p i x xs at
-    split true e k = here e (sym (some_is i at k))
-    split false e k = there e k
-
-pub no_place : {X : Type 0} (p : X → Bool) (i : ℕ) (x : X) (xs : List X) → position_from p i (x ∷ xs) ≡ None
-    → (p x ≡ false) × (position_from p (i + 1) xs ≡ None)
-no_place p i x xs h = split (p x) refl h
-  where
-    split : (b : Bool) → p x ≡ b → cond b (Some i) (position_from p (i + 1) xs) ≡ None
-        → (p x ≡ false) × (position_from p (i + 1) xs ≡ None)
-    split true e k = absurd cc
-    split false e k = (e, k)
 
 map_from : {X Y : Type 0} (f : X → Y) (p : Y → Bool) (i : ℕ) (xs : List X)
     → position_from p i (map f xs) ≡ position_from (λ x. p (f x)) i xs

@@ -9,7 +9,7 @@ use Rattle.nt_bytes.specs.Folding.{folds_same}
 use Rattle.reg_tree.proofs.Unlike.{folds_swap}
 use Rattle.start_model.specs.Entries.{Entry, was_tried}
 
-shorter : (n len : ℕ) → ltb (1 + n) (suc len) ≡ ltb n len
+pub shorter : (n len : ℕ) → ltb (1 + n) (suc len) ≡ ltb n len
 shorter n len = grind (arith, nat_tests)
 
 -- the first place that passes is in the list where an element passes

@@ -16,7 +16,6 @@ use Rattle.start_model.specs.Lines.{Line, SaveCommit, line_text}
 use Rattle.start_model.specs.Machine.{Start, MachineState}
 use Rattle.start_model.specs.Fits.{outcomes_in, MayLoad}
 use Rattle.start_model.specs.Sets.{SelectNumbers, SetPlan, SetChange, ChangeStop, NoPlan, Full, set_of, select_numbers_of, usable_numbers_of, stepped, changed_by, planned, save_of}
-use Rattle.start_model.specs.Possible.{Possible}
 use Rattle.start_model.specs.Act.{Act, RunState, Saved, done, say, mark, next_state, start_over}
 use Rattle.start_model.specs.Commit.{commit, select_line, save_refused, saved_by, committed_state, opened_state, noted_saved}
 use Rattle.start_model.specs.EventActs.{reason_of}
@@ -38,6 +37,7 @@ use Rattle.boot_run.specs.declared.runner.Runner.{Runner}
 use Rattle.boot_run.specs.Agrees.{IsUp, IsLive, IsStored, IsSound, IsOnSet, IsRunningBy, Counts, LeavesUp, CommitLeft, OnLeft, TurnLeft}
 use Rattle.boot_run.specs.Saves.{HandedOut, IsSavePlan, noting}
 use Rattle.boot_run.proofs.PlayLemmas.{live_left, plays-as, plays-then}
+use Rattle.boot_run.proofs.BeginLemmas.{none_open}
 
 -- ---- the save is noted
 
@@ -54,16 +54,12 @@ live_machine machine m s d l =
       loads = l.loads;
     }
 
--- nothing is open where a session is
-pub live_closed : (m : RunState) (s : Session) (d : DiskState) → IsLive m s d → m.disk.other ≡ None
-live_closed m s d l = ap (λ (p : Possible). p.other) l.settled
-
 -- what may be left of the disk behind the note
 pub noted_may : (ok : Bool) (s : Start) (m : RunState) (next : RunState → Act) (h : Session) (d : DiskState) → IsUp h d
     → IsLive m h d → Stays next
     → EachCrash d (MayLoad (play (next (noted_saved ok s m)) [] []).disk)
 noted_may ok s m next h d up live stays =
-    λ image crash. stays (noted_saved ok s m) image (live_closed m h d live) (live_left m h d up live image crash)
+    λ image crash. stays (noted_saved ok s m) image (none_open m h d live) (live_left m h d up live image crash)
 
 -- the runner counts the note
 pub noted_left : (ok : Bool) (s : Start) (m : RunState) (next : RunState → Act) (h : Session) (r r' : Runner)

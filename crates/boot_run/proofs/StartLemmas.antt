@@ -1,11 +1,11 @@
 -- What a step of the starter comes to in the book's run.
-use Rattle.std.proofs.Common.{◌≡◌, ℕ, zero, suc, ◌+◌, ◌<◌, ◌≤◌, ◌^◌, Bool, true, false, not, cond, List, [], ◌∷◌, ◌++◌, length, map, Option, Some, None, refl, sym, ap, subst, ◌∙◌, arith, append-nil, append_assoc}
+use Rattle.std.proofs.Common.{◌≡◌, ℕ, ◌+◌, ◌<◌, ◌≤◌, ◌^◌, Bool, true, false, not, cond, List, [], ◌∷◌, ◌++◌, length, map, Option, Some, None, refl, sym, ap, subst, ◌∙◌, arith, append-nil, append_assoc}
 use Rattle.std.proofs.lemmas.Bool.{false≢true}
 use Rattle.std.proofs.lemmas.List.Edits.{length-remove}
 use Rattle.std.specs.Prelude.{Result, Ok, Err, IfOk, OnOk, is_err, slice_get, remove, option_map, option_and_then, codes}
 use Rattle.std.specs.Option.{option_map_or, unwrap_or, is_some}
 use Rattle.hive_model.specs.Image.{Image}
-use Rattle.hive_model.specs.Tree.{Tree, key, listed, children, find_key}
+use Rattle.hive_model.specs.Tree.{Tree, listed, children, find_key}
 use Rattle.hive_model.specs.Valid.{HoldsKeys, IsKey}
 use Rattle.hive_model.proofs.HeldLemmas.{held_key}
 use Rattle.nt_edge.specs.Disk.{DiskState}
@@ -14,7 +14,7 @@ use Rattle.nt_edge.specs.Bench.{turned_off}
 use Rattle.hive_store.specs.Session.{Session}
 use Rattle.boot_report.specs.declared.words.Verdict.{Verdict as Word}
 use Rattle.boot_report.specs.Report.{verdict_of}
-use Rattle.start_model.specs.Entries.{Entry, Phase, Boot, System, Automatic, Done, services_of}
+use Rattle.start_model.specs.Entries.{Entry, Phase, Boot, System, Automatic, Done}
 use Rattle.start_model.specs.Order.{plan_of}
 use Rattle.start_model.specs.Judge.{Judgement, Ignore, Log, FallBack, Stop}
 use Rattle.start_model.specs.Lines as lines
@@ -41,6 +41,8 @@ use Rattle.boot_run.specs.Starts.{EndsBy, NextPhase, phase_lines}
 use Rattle.boot_run.specs.Views.{SaysPart, SaysAll}
 use Rattle.boot_run.proofs.DiskLemmas.{still-off, left-off}
 use Rattle.boot_run.proofs.PlayLemmas.{live_left, plays-as, plays-line, here_turn}
+use Rattle.run_laws.proofs.GoLemmas.{slice_get-within}
+use Rattle.start_model.proofs.HeldLemmas.{few_children, services_few}
 
 -- ---- what follows from an attempt
 
@@ -96,11 +98,6 @@ judged_may Stop m next c none stays h = h
 
 -- ---- an attempt keeps what a start stands on
 
-slice_get-within : {X : Type 0} (xs : List X) (i : ℕ) (x : X) → slice_get xs i ≡ Some x → i < length xs
-slice_get-within [] i x e = absurd cc
-slice_get-within (y ∷ xs) zero x e = omega arith
-slice_get-within (y ∷ xs) (suc i) x e = omega (arith, slice_get-within xs i x e)
-
 attempted_at : (m : MachineState) (s : Start) (usable : Bool) (place : ℕ) (o : Option Entry)
     (one : MachineState × Tried) (tree : Tree) → slice_get s.waiting place ≡ o
     → option_map (attempt_at m s usable place) o ≡ Some one → IsOnSet s tree → IsRunningBy one.0.start tree
@@ -133,17 +130,10 @@ attempt_keeps m usable one tree e h = attempted m usable m.start one tree e h
 
 -- ---- a change of phase
 
-few_children : (t : Tree) → HoldsKeys t → length (children t) < 2 ^ 32
-few_children (key h ts) held = held.0.key_count
-
 few_at : (set : Tree) (o : Option Tree) → find_key (codes "Services" ∷ []) set ≡ o → HoldsKeys set
     → length (option_map_or children o []) < 2 ^ 32
 few_at set None is held = omega arith
 few_at set (Some k) is held = few_children k (held_key (codes "Services" ∷ []) set k held is)
-
--- a set that a hive can hold has no more services than a key has children
-pub few_services : (set : Tree) → HoldsKeys set → length (services_of set) < 2 ^ 32
-few_services set held = few_at set (find_key (codes "Services" ∷ []) set) refl held
 
 pub phase_keeps : (o : Option Start) (set tree : Tree) → HoldsKeys set → IsRunningBy o tree
     → IsRunningBy (option_map (after_phase set) o) tree
@@ -151,7 +141,7 @@ phase_keeps None set tree held h = h
 phase_keeps (Some s) set tree held h = record {
   there = h.there;
   current = h.current;
-  few = omega (arith, plan_few set (phase_after s.phase) s.tried, few_services set held);
+  few = omega (arith, plan_few set (phase_after s.phase) s.tried, services_few set held);
   clone = h.clone;
 }
 

@@ -40,6 +40,7 @@ use Rattle.boot_run.specs.declared.runner.Runner.{Runner}
 use Rattle.boot_run.specs.Agrees.{IsUp, IsDown, IsLive, IsSound, IsRunningBy, RunsOnBy, Counts, Agrees, AgreesBy, TurnLeft}
 use Rattle.boot_run.specs.Begins.{aside_machine, aside_disk, aside_act, IsStepOf, IsEdit}
 use Rattle.boot_run.proofs.PlayLemmas.{plays-line, agrees_left, here_turn}
+use Rattle.boot_run.proofs.CloseLemmas.{runs_there}
 
 -- ---- the same act by another name
 
@@ -250,10 +251,6 @@ number_most (Some s) taken is h =
     let e : set_taken s ≡ taken = cc in
     let P : ℕ × Bool → Type 0 = λ k. k.0 ≤ 999 in subst P e h
 
-pub running_there : (o : Option Start) (tree : Tree) → IsRunningBy o tree → is_there o ≡ true
-running_there None tree h = absurd h
-running_there (Some s) tree h = refl
-
 pub edit_of : (ev : Event) → IsEdit ev → (e : Edit) × (ev ≡ Edits e)
 edit_of (BootNow entry good) h = absurd h
 edit_of (Go steps) h = absurd h
@@ -312,7 +309,7 @@ counted m r counts = ap (λ (k : MachineState). k.start) counts.machine
 
 pub there_by : (m : RunState) (r : Runner) (tree : Tree) → Counts m r → IsRunningBy r.machine.start tree
     → is_there m.machine.start ≡ true
-there_by m r tree counts h = ap is_there (counted m r counts) ∙ running_there r.machine.start tree h
+there_by m r tree counts h = ap is_there (counted m r counts) ∙ runs_there r.machine.start tree h
 
 pub go_accepted : (choice : Option ℕ → Choice) (o : Option Start) (steps : Option ℕ) (m : RunState) → is_there o ≡ true
     → go_act steps m ≡ accepted_act choice o (Go steps) m

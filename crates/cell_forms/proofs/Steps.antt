@@ -4,7 +4,7 @@ use Rattle.std.proofs.lemmas.List.{length-drop}
 use Rattle.nt_bytes.specs.Fields.{u32_in}
 use Rattle.hive_model.specs.Lists.{numbers_in}
 
-numbers_more : (step left : ℕ) (rest : List ℕ) → 0 < left
+pub numbers_more : (step left : ℕ) (rest : List ℕ) → 0 < left
     → numbers_in step left rest ≡ u32_in rest 0 ∷ numbers_in step (left - 1) (drop step rest)
 numbers_more step zero rest lt = absurd (omega (arith, lt))
 numbers_more step (suc left) rest lt =

@@ -89,7 +89,7 @@ more_behind n p k g m h whole before asked =
     let all : k + p ≡ n = omega (arith, whole) in
     asked ∙ ap (λ (i : ℕ). more k i) before ∙ more_more k p g ∙ ap (λ (i : ℕ). more i g) all
 
-some_behind : (least n p k : ℕ) (g m h : ℕ) → n ≡ p + k → m ≡ more p g → AsksSome least k m h → AsksSome least n g h
+pub some_behind : (least n p k : ℕ) (g m h : ℕ) → n ≡ p + k → m ≡ more p g → AsksSome least k m h → AsksSome least n g h
 some_behind least n p k g m h whole before some =
     record {
       asked = p + some.asked;

@@ -1,14 +1,14 @@
 -- What saving the files of a disk leaves of it, and of the host.
-use Rattle.std.proofs.Common.{◌≡◌, ◌⊎◌, ◌≤◌, ◌+◌, inl, inr, ℕ, Bool, true, false, List, [], Option, Some, None, if◌then◌else◌, cond, refl, sym, ap, subst, ◌∙◌, arith}
+use Rattle.std.proofs.Common.{◌≡◌, ◌≤◌, ◌+◌, inl, inr, ℕ, true, false, List, Option, Some, None, if◌then◌else◌, cond, refl, sym, ap, subst, ◌∙◌, arith}
 use Rattle.std.specs.Prelude.{Result, Ok, Err, OnOk, OnErr, IfSome, bytes_eq}
 use Rattle.std.proofs.lemmas.Slice.Eq.{bytes_eq-Decides}
-use Rattle.hive_model.specs.Image.{File, Primary, Log, Image, Address, Content, IsInFlight, IsCrashImage, IsFileOf}
+use Rattle.hive_model.specs.Image.{File, Primary, Log, Image, Content, IsInFlight, IsCrashImage, IsFileOf}
 use Rattle.nt_edge.specs.Bench.{taken}
 use Rattle.nt_edge.specs.Disk.{DiskState}
 use Rattle.nt_edge.specs.Host.{HostState, Files, KeepsHost, KeepsOthers, Puts, CountsFault}
 use Rattle.nt_edge.specs.declared.host.HostStop.{HostStop}
 use Rattle.nt_edge.specs.declared.host.HostStop.TheVariants.{Read, Write, Memory}
-use Rattle.nt_edge.proofs.Images.{same_images}
+use Rattle.nt_edge.proofs.Images.{still_crash}
 use Rattle.run_parts.specs.Reports.{LeftOf}
 use Rattle.command_parts.specs.declared.status.Status.TheVariants as statuses
 use Rattle.command_parts.specs.Leaves.{CountsBy, more, named, stop_in}
@@ -19,14 +19,6 @@ use Rattle.command_parts.proofs.LeaveLemmas.{keeps_then, fault_then}
 use Rattle.std.proofs.lemmas.Bool.{false_from_ne_true}
 
 -- ---- the disk
-
--- with nothing in flight a loss of power leaves what is held
-still_crash : (held c : Image) → IsCrashImage held [] c → c ≡ held
-still_crash held c crash = same_images c held (λ a. same (crash a))
-  where
-    same : {a : Address} → (c a ≡ held a) ⊎ ⊥ → c a ≡ held a
-    same (inl is) = is
-    same (inr never) = absurd never
 
 pub settles-same : (d : DiskState) → Settles 0 d d
 settles-same d = record {

@@ -136,7 +136,7 @@ pub record HasNoDefaults (rules : List Rule) : Type 0 where
   pub rows : (rows : List Row) → fold with_default rows rules ≡ rows
   pub fault : (rows : List Row) → defaults_fault rows rules ≡ []
 
-same_cond : {A : Type 0} (b : Bool) (x : A) → cond b x x ≡ x
+pub same_cond : {A : Type 0} (b : Bool) (x : A) → cond b x x ≡ x
 same_cond true x = refl
 same_cond false x = refl
 

@@ -6,10 +6,7 @@ use Rattle.std.proofs.lemmas.Slice.Eq.{bytes_eq-Decides}
 use Rattle.command_words.specs.Words.{Asked, CommandForm, CommandRow, Given, Look, Text, asked_by, attached_in, behind_hyphens, command_of, commands, given_by, is_empty_text, is_hyphen, is_option, name_in, named_command, number_name, with_next, with_option, with_value, with_word}
 use Rattle.command_words.specs.Clap.{is_empty_value, is_refused, lacks_text}
 use Rattle.command_words.proofs.WordForms.{never, or_left, or_right}
-
-same : {A : Type 0} (b : Bool) (x : A) → cond b x x ≡ x
-same true x = refl
-same false x = refl
+use Rattle.command_words.proofs.FormLemmas.{same_cond}
 
 none_then : {A B : Type 0} (f : A → Option B) → ((x : A) → f x ≡ None) → (o : Option A) → option_and_then f o ≡ None
 none_then f none None = refl
@@ -40,7 +37,7 @@ no_option form g (c ∷ cs) next nameless e = go (attached_in (c ∷ cs)) e
   where
     go : (value : Option Text) → is_empty_value value ≡ true → with_option form g (name_in (c ∷ cs)) value next ≡ None
     go None empty = never (sym empty)
-    go (Some []) empty = same (is_option (name_in (c ∷ cs)) form) None
+    go (Some []) empty = same_cond (is_option (name_in (c ∷ cs)) form) None
     go (Some (d ∷ ds)) empty = never (sym empty)
 
 lacks : (w text : Text) → behind_hyphens w ≡ Some text → is_refused w ≡ true → lacks_text (Some text) ≡ true
@@ -60,7 +57,7 @@ no_next form g w next nameless e = go (behind_hyphens w) refl
   where
     go : (b : Option Text) → behind_hyphens w ≡ b → with_next form g w b next ≡ None
     go None behind = ap (λ (o : Option Given). cond form.takes_number (option_and_then (λ more. next more None) o) None)
-        (no_word g number_name w e) ∙ same form.takes_number None
+        (no_word g number_name w e) ∙ same_cond form.takes_number None
     go (Some text) behind = no_option form g text next nameless (lacks w text behind e)
 
 -- where what follows has no reading, there is none
@@ -70,16 +67,16 @@ none_next : (form : CommandForm) (g : Given) (w : Text) (next : Next)
 none_next form g w next none None =
     ap (λ (o : Option Given). cond form.takes_number o None)
     (none_then (λ more. next more None) (λ more. none more None) (with_word g number_name w))
-    ∙ same form.takes_number None
+    ∙ same_cond form.takes_number None
 none_next form g w next none (Some text) = go (attached_in text)
   where
     go : (value : Option Text) → with_option form g (name_in text) value next ≡ None
     go None = ap (λ (o : Option Given). cond (is_option (name_in text) form) o None) (none g (Some (name_in text)))
-        ∙ same (is_option (name_in text) form) None
+        ∙ same_cond (is_option (name_in text) form) None
     go (Some v) =
         ap (λ (o : Option Given). cond (is_option (name_in text) form) o None)
         (none_then (λ more. next more None) (λ more. none more None) (with_value g (name_in text) v))
-        ∙ same (is_option (name_in text) form) None
+        ∙ same_cond (is_option (name_in text) form) None
 
 none_given : (form : CommandForm) → is_option [] form ≡ false → (words : List Text) → list_any is_refused words ≡ true
     → (g : Given) (waiting : Option Text) → given_by form g waiting words ≡ None

@@ -1,5 +1,5 @@
 -- What is stopped, the last one that was started first.
-use Rattle.std.proofs.Common.{◌≡◌, ℕ, ◌<◌, Bool, true, false, ◌||◌, List, [], ◌∷◌, ◌++◌, length, get_or, refl, sym, ap, ◌∙◌, subst, arith, append_assoc}
+use Rattle.std.proofs.Common.{◌≡◌, ℕ, ◌<◌, Bool, false, ◌||◌, List, [], ◌∷◌, ◌++◌, length, get_or, refl, sym, ap, ◌∙◌, subst, arith, append_assoc}
 use Rattle.std.specs.Prelude.{Contains, reverse}
 use Rattle.std.specs.List.{list_any}
 use Rattle.std.proofs.Math.Seq.{take-append_seam, get_or-append_seam}
@@ -11,12 +11,7 @@ use Rattle.start_model.specs.Demand.{Need}
 use Rattle.service_control.specs.Laws.{AreStoppedInOrder}
 use Rattle.control_laws.specs.Backwards.{EachBeforeItsNeeds, some_has}
 use Rattle.std.proofs.Math.Bool.{or-false}
-
-either : (a b : Bool) → (a || b) ≡ (b || a)
-either true true = refl
-either true false = refl
-either false true = refl
-either false false = refl
+use Rattle.dependencies.proofs.OrderLemmas.{or_flip}
 
 any_back : {X : Type 0} (p : X → Bool) (xs : List X) → list_any p (reverse xs) ≡ list_any p xs
 any_back p [] = refl
@@ -24,7 +19,7 @@ any_back p (x ∷ xs) =
     ap (list_any p) (reverse_onto xs x [])
     ∙ list_any-append p (reverse xs) (x ∷ [])
     ∙ (let rest = any_back p xs in λ i. rest i || (p x || false))
-    ∙ either (list_any p xs) (p x || false)
+    ∙ or_flip (list_any p xs) (p x || false)
     ∙ ap (λ b. b || list_any p xs) (or-false (p x))
 
 -- a list that is turned round, at one of its items

@@ -14,16 +14,17 @@ use Rattle.start_model.specs.Demand.{Need}
 use Rattle.start_model.specs.Entries.{Entry, entry_of, entry_with, entries_of, services_of, need_of}
 use Rattle.start_model.specs.Order.{Rank, orders_of, ordered_of}
 use Rattle.start_model.specs.Sets.{select_numbers_of, set_of, set_name, is_usable}
-use Rattle.start_model.proofs.HeldLemmas.{services_differ, found_holds}
+use Rattle.start_model.proofs.HeldLemmas.{services_differ}
 use Rattle.service_control.specs.State.{ControlState}
 use Rattle.service_control.specs.First.{is_controlled, controlled, table_of, ranks_of, by_group_of, control_of}
 use Rattle.service_control.specs.Calls.{start_refusal, stop_refusal, off_refusal, after_start, after_stop, after_stop_all}
 use Rattle.service_control.specs.Laws.{Call, start, stop, stop_all, after_call, after_calls, NamesDiffer, IsLeast}
 use Rattle.service_control.specs.declared.stop.ControlStop.{ControlStop}
-use Rattle.service_control.proofs.LeastLemmas.{a_least_start}
+use Rattle.service_control.proofs.LeastLemmas.{a_least_start, from_at}
 use Rattle.control_command.specs.declared.command.Command.{Command}
 use Rattle.control_command.specs.Report.{default_set}
 use Rattle.control_laws.specs.Called.{all_calls_by, control_behind}
+use Rattle.hive_model.proofs.HeldLemmas.{held_key}
 
 -- ---- where an entry comes from
 
@@ -31,14 +32,6 @@ record From {X Y : Type 0} (h : X → Option Y) (xs : List X) (y : Y) : Type 0 w
   item : X
   there : Contains xs item
   is : h item ≡ Some y
-
-from_at : {X Y : Type 0} (h : X → Option Y) (xs : List X) (y : Y) (k : ℕ) → k < length (filter_map h xs)
-    → get_or (filter_map h xs) k y ≡ y → From h xs y
-from_at h [] y k lt e = absurd (omega (arith, lt))
-from_at {Y = Y} h (x ∷ xs) y k lt e = by (h x) refl (λ j low at. from_at h xs y j low at) k lt e
-  where
-    further : From h xs y → From h (x ∷ xs) y
-    further f = record { item = f.item; there = (suc f.there.0, omega (arith, f.there.1), f.there.2); is = f.is }
 
     by : (o : Option Y) → h x ≡ o
         → ((j : ℕ) → j < length (filter_map h xs) → get_or (filter_map h xs) j y ≡ y → From h xs y)
@@ -174,7 +167,7 @@ usable_is false o set h = absurd cc
 pub default_holds : (tree set : Tree) → HoldsKeys tree → default_set tree ≡ Some set → HoldsKeys set
 default_holds tree set holds is =
     let n : ℕ = (select_numbers_of tree).default in
-    found_holds (set_name n ∷ []) tree set holds (usable_is (is_usable tree n) (set_of tree n) set is)
+    held_key (set_name n ∷ []) tree set holds (usable_is (is_usable tree n) (set_of tree n) set is)
 
 pub least : (tree set : Tree) (commands : List Command) (name : List ℕ) → HoldsKeys tree → default_set tree ≡ Some set
     → IsLeast (control_behind set commands) name

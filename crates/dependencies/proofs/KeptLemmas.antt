@@ -138,7 +138,7 @@ picked_push (c ∷ cs) [] b x len = absurd (omega (arith, len))
 picked_push (true ∷ cs) (y ∷ ys) b x len = ap (λ l. y ∷ l) (picked_push cs ys b x (omega (arith, len)))
 picked_push (false ∷ cs) (y ∷ ys) b x len = picked_push cs ys b x (omega (arith, len))
 
-range_push : (n : ℕ) → range_with_len 0 (n + 1) ≡ range_with_len 0 n ++ n ∷ []
+pub range_push : (n : ℕ) → range_with_len 0 (n + 1) ≡ range_with_len 0 n ++ n ∷ []
 range_push n = sym (map-id (range_with_len 0 (n + 1))) ∙ map-range_with_len_more (λ k. k) 0 n n (omega arith)
     ∙ ap (λ l. l ++ n ∷ []) (map-id (range_with_len 0 n))
 

@@ -159,7 +159,7 @@ spared name names met together = by (places_named name names) (all_named name na
 
 -- ---- one more that was started
 
-names_flip : (a b : List ℕ) → folds_same a b ≡ folds_same b a
+pub names_flip : (a b : List ℕ) → folds_same a b ≡ folds_same b a
 names_flip [] [] = refl
 names_flip [] (y ∷ ys) = refl
 names_flip (x ∷ xs) [] = refl
@@ -235,10 +235,10 @@ unmet_of kind needs started names w of =
 
 -- ---- the entry that was started
 
-unit_again : (u : ℕ) → folded_unit (folded_unit u) ≡ folded_unit u
+pub unit_again : (u : ℕ) → folded_unit (folded_unit u) ≡ folded_unit u
 unit_again u = grind (arith, nat_tests)
 
-folded_first : (a b : List ℕ) → folds_same (folded a) b ≡ folds_same a b
+pub folded_first : (a b : List ℕ) → folds_same (folded a) b ≡ folds_same a b
 folded_first [] [] = refl
 folded_first [] (y ∷ ys) = refl
 folded_first (x ∷ xs) [] = refl

@@ -20,7 +20,7 @@ use Rattle.std.proofs.Math.Bool.{or-false}
 
 -- ---- tests of a list
 
-or_flip : (a b : Bool) → (a || b) ≡ (b || a)
+pub or_flip : (a b : Bool) → (a || b) ≡ (b || a)
 or_flip true true = refl
 or_flip true false = refl
 or_flip false true = refl

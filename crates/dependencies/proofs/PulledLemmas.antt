@@ -1,5 +1,5 @@
 -- What the two ways of saying a closed set have to do with each other.
-use Rattle.std.proofs.Common.{◌≡◌, ℕ, zero, suc, ◌+◌, ◌<◌, Bool, nat_eq, true, false, not, ◌&&◌, ◌||◌, List, [], ◌∷◌, ◌++◌, length, get_or, map, filter, Option, Some, None, refl, sym, ap, ◌∙◌, ◌⊎◌, inl, inr, cond, add-zero, zero-add, add-one, append-nil, arith}
+use Rattle.std.proofs.Common.{◌≡◌, ℕ, zero, suc, ◌+◌, ◌<◌, Bool, nat_eq, true, false, not, ◌&&◌, ◌||◌, List, [], ◌∷◌, ◌++◌, length, get_or, map, filter, Option, Some, None, refl, sym, ap, ◌∙◌, inl, inr, cond, add-zero, zero-add, add-one, append-nil, arith}
 use Rattle.std.specs.Prelude.{slice_get}
 use Rattle.std.specs.Option.{option_map_or}
 use Rattle.std.specs.List.{list_any, list_all, range_with_len}
@@ -21,11 +21,11 @@ and_flip false true = refl
 and_flip false false = refl
 
 -- `not a || b` is "if a then b"
-then_true : (a b : Bool) → (a ≡ true → b ≡ true) → (not a || b) ≡ true
+pub then_true : (a b : Bool) → (a ≡ true → b ≡ true) → (not a || b) ≡ true
 then_true true b f = f refl
 then_true false b f = refl
 
-then_gives : (a b : Bool) → (not a || b) ≡ true → a ≡ true → b ≡ true
+pub then_gives : (a b : Bool) → (not a || b) ≡ true → a ≡ true → b ≡ true
 then_gives true b h g = h
 then_gives false b h g = absurd (false≢true g)
 
@@ -34,22 +34,22 @@ same_bool true b f g = sym (f refl)
 same_bool false true f g = g refl
 same_bool false false f g = refl
 
-all_true : {X : Type 0} (p : X → Bool) (xs : List X) → ((x : X) → p x ≡ true) → list_all p xs ≡ true
+pub all_true : {X : Type 0} (p : X → Bool) (xs : List X) → ((x : X) → p x ≡ true) → list_all p xs ≡ true
 all_true p [] f = refl
 all_true p (x ∷ xs) f = and_from (p x) (list_all p xs) (f x) (all_true p xs f)
 
-all_below : (p : ℕ → Bool) (n q : ℕ) → q < n → list_all p (range_with_len 0 n) ≡ true → p q ≡ true
+pub all_below : (p : ℕ → Bool) (n q : ℕ) → q < n → list_all p (range_with_len 0 n) ≡ true → p q ≡ true
 all_below p n q lt h =
     let at : get_or (range_with_len 0 n) q 0 ≡ q = omega (arith, get_or-range_with_len 0 n q 0 lt) in
     ap p (sym at) ∙ AllPass-from_list_all p (range_with_len 0 n) h q 0 (omega (arith, length-range_with_len 0 n))
 
-any_below : (p : ℕ → Bool) (n q : ℕ) → q < n → p q ≡ true → list_any p (range_with_len 0 n) ≡ true
+pub any_below : (p : ℕ → Bool) (n q : ℕ) → q < n → p q ≡ true → list_any p (range_with_len 0 n) ≡ true
 any_below p n q lt h =
     let at : get_or (range_with_len 0 n) q 0 ≡ q = omega (arith, get_or-range_with_len 0 n q 0 lt) in
     list_any_at p (range_with_len 0 n) q 0 (omega (arith, length-range_with_len 0 n)) (ap p at ∙ h)
 
 -- each set of the places below n is among all sets
-sets_have : (p : List Bool → Bool) (t : List Bool) → list_all p (all_sets (length t)) ≡ true → p t ≡ true
+pub sets_have : (p : List Bool → Bool) (t : List Bool) → list_all p (all_sets (length t)) ≡ true → p t ≡ true
 unfolding all_sets
 sets_have p [] h = (and_parts (p []) true h).0
 sets_have p (true ∷ t) h =
@@ -183,7 +183,7 @@ is_taken-closed table = record {
       e));
 }
 
-listed_member : (set : ℕ → Bool) (n q : ℕ) → q < n → member (map set (range_with_len 0 n)) q ≡ set q
+pub listed_member : (set : ℕ → Bool) (n q : ℕ) → q < n → member (map set (range_with_len 0 n)) q ≡ set q
 listed_member set n q lt = get_or-map-range_with_len set 0 n q q false lt (zero-add q)
 
 pub is_taken-least_of_all : (table : List Need) (set : ℕ → Bool) → IsClosed table set → (q : ℕ) → q < length table

@@ -11,13 +11,14 @@ use Rattle.std.proofs.lemmas.List.Elements.{Contains-push, Contains-append_left,
 use Rattle.std.proofs.lemmas.List.Sums.{sum_by-set}
 use Rattle.std.proofs.lemmas.Cmp.{nat_eq_equiv}
 use Rattle.std.proofs.lemmas.Map.Views.{Contains-from_any, list_any-from_Contains}
-use Rattle.nt_bytes.specs.Folding.{folds_same, folded_unit}
+use Rattle.nt_bytes.specs.Folding.{folds_same}
 use Rattle.start_model.specs.Demand.{Need}
 use Rattle.start_model.specs.Demand.{member, starts_at}
 use Rattle.name_places.specs.Places.{places_named}
 use Rattle.name_places.proofs.PlaceLemmas.{all_named, each_named}
 use Rattle.dependencies.specs.Work.{IsWork, TakesIn, TakesNamed, TakesListed, names_of, is_named, is_listed}
 use Rattle.dependencies.proofs.PulledLemmas.{same_bool}
+use Rattle.dependencies.proofs.MeetLemmas.{names_flip}
 
 and_false : (a : Bool) → (a && false) ≡ false
 and_false true = refl
@@ -124,15 +125,6 @@ listed_more table places i d t w t' w' t'' w'' lt one two = joined table _ _ _ t
         ∙ and-or_distrib_left (starts_at table 3 k) _ _
 
 -- ---- the places of a name
-
--- two names fold to one in either order
-names_flip : (a b : List ℕ) → folds_same a b ≡ folds_same b a
-names_flip [] [] = refl
-names_flip [] (y ∷ ys) = refl
-names_flip (x ∷ xs) [] = refl
-names_flip (x ∷ xs) (y ∷ ys) =
-    ap (λ b. b && folds_same xs ys) (nat_eq_equiv.symm (folded_unit x) (folded_unit y))
-    ∙ ap (λ b. nat_eq (folded_unit y) (folded_unit x) && b) (names_flip xs ys)
 
 -- a name is asked for among the names of the entries
 named_at : (table : List Need) (names : List (List ℕ)) (q : ℕ) → q < length table

@@ -196,7 +196,7 @@ owners_within kind i (n ∷ ns) p at =
 
 -- ---- wants as they are made
 
-unmet_yet : (n k : ℕ) → member (replicate n false) k ≡ false
+pub unmet_yet : (n k : ℕ) → member (replicate n false) k ≡ false
 unmet_yet n k = elim (cases_lt k n) [
   | inl lt ↦ get_or-replicate n k false false lt
   | inr le ↦ get_or_past (replicate n false) k false (omega (arith, le, length-replicate n false))

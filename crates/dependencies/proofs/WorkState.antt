@@ -2,12 +2,13 @@
 use Rattle.std.proofs.Common.{◌≡◌, ℕ, ◌+◌, ◌<◌, Bool, true, false, ◌||◌, List, [], ◌∷◌, ◌++◌, length, get_or, refl, sym, ap, ◌∙◌, ◌⊎◌, inl, inr, cond, subst, arith}
 use Rattle.std.specs.Prelude.{All, Contains}
 use Rattle.std.proofs.lemmas.Bool.{false≢true, cases_lt, or_left, or_right}
-use Rattle.std.proofs.lemmas.List.{get_or_past, get_or_push, get_or_append_left, length_push}
+use Rattle.std.proofs.lemmas.List.{get_or_push, get_or_append_left, length_push}
 use Rattle.std.proofs.lemmas.List.Elements.{All-push, All-weaker, Contains-push, Contains-push_cases, Contains-append_left}
 use Rattle.start_model.specs.Demand.{Need}
 use Rattle.start_model.specs.Demand.{pulls, member, starts_at, IsClosed}
 use Rattle.dependencies.specs.Work.{IsWork, PullsIn, IsLeast}
 use Rattle.dependencies.proofs.PulledLemmas.{starts_within, pulls_within}
+use Rattle.dependencies.proofs.KeptLemmas.{within_waits}
 
 -- the entries of Start 2 below a place are taken, and are the work
 pub record IsSeeded (table : List Need) (place : ℕ) (taken : List Bool) (work : List ℕ) : Type 0 where
@@ -25,13 +26,6 @@ pub record IsWorked (table : List Need) (taken : List Bool) (work : List ℕ) : 
       → Contains work p ⊎ ((q : ℕ) → pulls table p q ≡ true → member taken q ≡ true)
   pub least : (set : ℕ → Bool) → IsClosed table set → (q : ℕ) → member taken q ≡ true → set q ≡ true
 
-member_within : (taken : List Bool) (k : ℕ) → member taken k ≡ true → k < length taken
-member_within taken k h =
-    elim (cases_lt k (length taken)) [
-      | inl lt ↦ lt
-      | inr past ↦ absurd (false≢true (sym (get_or_past taken k false past) ∙ h))
-    ]
-
 member_before : (taken : List Bool) (b : Bool) (k : ℕ) → k < length taken → member (taken ++ b ∷ []) k ≡ member taken k
 member_before taken b k lt = get_or_append_left taken (b ∷ []) false k lt
 
@@ -48,7 +42,7 @@ seeded_start table = record {
 last_or_before : (taken : List Bool) (b : Bool) (k : ℕ) → member (taken ++ b ∷ []) k ≡ true
     → (k ≡ length taken) ⊎ (member taken k ≡ true)
 last_or_before taken b k t =
-    let within = member_within (taken ++ b ∷ []) k t in
+    let within = within_waits (taken ++ b ∷ []) k t in
     elim (cases_lt k (length taken)) [
       | inl before ↦ inr (sym (member_before taken b k before) ∙ t)
       | inr past ↦ inl (omega (arith, within, length_push taken b))
@@ -79,7 +73,7 @@ seeded_more table place taken work true is first =
         | inr old ↦ Contains-append_left work (place ∷ []) k (is.noted k old)
       ];
       honest = λ k h. elim (Contains-push_cases work place k h) [
-        | inl old ↦ (let m = is.honest k old in member_before taken true k (member_within taken k m) ∙ m)
+        | inl old ↦ (let m = is.honest k old in member_before taken true k (within_waits taken k m) ∙ m)
         | inr e ↦ get_or_push taken true false k (is.len ∙ e)
       ];
     }
@@ -91,7 +85,7 @@ seeded_more table place taken work false is first = record {
     | inl e ↦ absurd (false≢true (sym (get_or_push taken false false k (sym e)) ∙ t))
     | inr old ↦ is.noted k old
   ];
-  honest = λ k h. (let m = is.honest k h in member_before taken false k (member_within taken k m) ∙ m);
+  honest = λ k h. (let m = is.honest k h in member_before taken false k (within_waits taken k m) ∙ m);
 }
 
 pub worked_start : (table : List Need) (n : ℕ) (taken : List Bool) (work : List ℕ) → n ≡ length table
@@ -104,7 +98,7 @@ worked_start table n taken work e is = record {
   };
   starts = λ q s. is.is q (omega (arith, starts_within table 2 q s)) ∙ s;
   pulled = λ p t. inl (is.noted p t);
-  least = λ set closed q t. closed.starts q (sym (is.is q (omega (arith, member_within taken q t, is.len))) ∙ t);
+  least = λ set closed q t. closed.starts q (sym (is.is q (omega (arith, within_waits taken q t, is.len))) ∙ t);
 }
 
 -- one place less to work on
@@ -131,7 +125,7 @@ popped_is_work table taken work rest place e is =
 pub popped_within : (table : List Need) (taken : List Bool) (work rest : List ℕ) (place : ℕ) → work ≡ rest ++ place ∷ []
     → IsWorked table taken work → place < length table
 popped_within table taken work rest place e is =
-    omega (arith, member_within taken place (popped_is_work table taken work rest place e is), is.honest.len)
+    omega (arith, within_waits taken place (popped_is_work table taken work rest place e is), is.honest.len)
 
 or_cases : (a b : Bool) → (a || b) ≡ true → (a ≡ true) ⊎ ((a ≡ false) × (b ≡ true))
 or_cases true b h = inl refl
@@ -168,7 +162,7 @@ worked_more table place taken work rest taken' work' e is now in' = record {
 }
   where
     within : (k : ℕ) → member taken' k ≡ true → k < length table
-    within k t = omega (arith, member_within taken' k t, now.len)
+    within k t = omega (arith, within_waits taken' k t, now.len)
 
 pub worked_end : (table : List Need) (taken : List Bool) (work : List ℕ) → length work ≡ 0 → IsWorked table taken work
     → IsLeast table taken

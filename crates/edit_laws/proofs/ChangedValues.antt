@@ -17,7 +17,7 @@ use Rattle.edit_laws.specs.Revalues.{cells_of_values, all_value_cells, GetsValue
 use Rattle.edit_laws.proofs.Ins.{in_left, in_right, in_cases, in_flat, in_flat_from}
 use Rattle.edit_laws.proofs.Pairs.{InParts, pairwise_parts, pairwise_join, in_map_from}
 use Rattle.edit_laws.proofs.Out.{of_node_is}
-use Rattle.edit_laws.proofs.Wellformed.{first_part, sound_hive, items_are, HasItems}
+use Rattle.edit_laws.proofs.Wellformed.{first_part, sound_hive, items_are, HasItems, ok_items}
 use Rattle.edit_laws.proofs.Held.{are_held}
 use Rattle.edit_laws.proofs.Patch.{folds_itself}
 use Rattle.edit_laws.proofs.Same.{IsValueSame}
@@ -54,7 +54,7 @@ own_once b root t p x well h =
     top : above p (suc (511 - length p)) ≡ 512
     top = above_is p (suc (511 - length p)) ∙ omega (arith, short)
 
-plain_differ : (xs : List ℕ) → Once (plain xs) → Pairwise (λ p q. p ≡ q → ⊥) xs
+pub plain_differ : (xs : List ℕ) → Once (plain xs) → Pairwise (λ p q. p ≡ q → ⊥) xs
 plain_differ [] h = tt
 plain_differ (x ∷ xs) h = (
   λ y i e. let both = h.0 (y, false) (in_map_from (λ (o : ℕ). (o, false)) xs y i) e in
@@ -132,9 +132,6 @@ pub record ReadsBoth (cells : Cells) (xs ys : List ℕ) (items : List Item) : Ty
 
 abbrev done : {A : Type 0} → A → Result A HiveKind
 done x = Ok x
-
-ok_items : (x y : List Item) → done x ≡ done y → x ≡ y
-ok_items x y e = cc
 
 pub items_both : (cells : Cells) (xs ys : List ℕ) (items : List Item) → items_at cells (xs ++ ys) ≡ Ok items
     → ReadsBoth cells xs ys items

@@ -20,7 +20,7 @@ use Rattle.edit_laws.proofs.ValueFrames.{set_leaves, delete_leaves, set_is_frame
 abbrev done : Tree → Result Tree Refusal
 done x = Ok x
 
-ok_tree : (x u : Tree) → done x ≡ done u → x ≡ u
+pub ok_tree : (x u : Tree) → done x ≡ done u → x ≡ u
 ok_tree x u e = cc
 
 -- a step that is not refused gives its result

@@ -120,7 +120,7 @@ lists_at_none cells at n read none =
     of_node_is cells at n (λ m. if m.child_count == 0 then [] else used_in (entries_checks cells m.child_list)) read
     ∙ ap (λ (b : Bool). cond b [] (used_in (entries_checks cells n.child_list))) none
 
-length_more : (front : List ℕ) (y : ℕ) (back : List ℕ) → length (front ++ y ∷ back) ≡ suc (length (front ++ back))
+pub length_more : (front : List ℕ) (y : ℕ) (back : List ℕ) → length (front ++ y ∷ back) ≡ suc (length (front ++ back))
 length_more [] y back = refl
 length_more (x ∷ front) y back = let l = length_more front y back in omega (arith, l)
 

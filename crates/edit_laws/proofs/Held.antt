@@ -23,7 +23,7 @@ use Rattle.edit_laws.proofs.Untouched.{AreHeld}
 abbrev Held : Cells → ℕ → Type 0
 Held cells o = (q : List ℕ) × (cells.payload o ≡ Ok q)
 
-held_by : {F : Type 0} (form : List ℕ → Result F HiveKind) (cells : Cells) (at o : ℕ) (x : F)
+pub held_by : {F : Type 0} (form : List ℕ → Result F HiveKind) (cells : Cells) (at o : ℕ) (x : F)
     → reading form cells at ≡ Ok x → at ≡ o → Held cells o
 held_by form cells at o x read e =
     let p = first_part (cells.payload at) form x read in subst (λ (z : ℕ). Held cells z) e (p.0, p.1)
@@ -136,7 +136,7 @@ one_item cells (at ∷ rest) items v r h =
     ⊎_elim (λ e. (one.0, subst (λ (z : ℕ). item_at cells z ≡ Ok one.0) e one.1))
     (λ i. one_item cells rest others.0 v others.1 i) h
 
-leaf_held : (cells : Cells) (lists offsets : List ℕ) (o : ℕ) → joined_at cells lists ≡ Ok offsets
+pub leaf_held : (cells : Cells) (lists offsets : List ℕ) (o : ℕ) → joined_at cells lists ≡ Ok offsets
     → In (used_in (leaves_checks cells lists)) o → Held cells o
 leaf_held cells [] offsets o r h = absurd h
 leaf_held cells (at ∷ rest) offsets o r h =
@@ -144,7 +144,7 @@ leaf_held cells (at ∷ rest) offsets o r h =
     let others = first_part (joined_at cells rest) (λ ys. Ok (leaf.0 ++ ys)) offsets leaf.2 in
     ⊎_elim (λ e. held_by leaf_at cells at o leaf.0 leaf.1 e) (λ i. leaf_held cells rest others.0 o others.1 i) h
 
-entries_held : (cells : Cells) (at : ℕ) (offsets : List ℕ) (o : ℕ) → entries_at cells at ≡ Ok offsets
+pub entries_held : (cells : Cells) (at : ℕ) (offsets : List ℕ) (o : ℕ) → entries_at cells at ≡ Ok offsets
     → In (used_in (entries_checks cells at)) o → Held cells o
 unfolding entries_at entries_checks
 entries_held cells at offsets o r (inl e) =

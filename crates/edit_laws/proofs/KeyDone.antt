@@ -22,14 +22,12 @@ use Rattle.edit_laws.proofs.Revalued.{folds_length}
 use Rattle.edit_laws.proofs.ChildEdits.{child_gone, child_come}
 use Rattle.edit_laws.proofs.ChildFrames.{NamesParent, has_none, make_names, make_leaves, make_is_framed, add_names, add_is_framed, copy_names, copy_is_framed}
 use Rattle.edit_laws.proofs.DeletionFrames.{IsDeletion, deletion_leaves, deletion_framed}
+use Rattle.edit_laws.proofs.Done.{ok_tree}
 
 -- ---- what a step that is not refused says
 
 abbrev done : Tree → Result Tree Refusal
 done x = Ok x
-
-ok_tree : (x u : Tree) → done x ≡ done u → x ≡ u
-ok_tree x u e = cc
 
 passed : (test : Bool × Refusal) (tests : List (Bool × Refusal)) (x u : Tree) → unless (test ∷ tests) x ≡ Ok u
     → (test.0 ≡ false) × (unless tests x ≡ Ok u)

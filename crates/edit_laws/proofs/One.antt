@@ -55,7 +55,7 @@ offsets_one cells at h g xs ys s r =
     lists_one cells r.node xs ys (r.node.child_count == 0)
     (subst (λ (n : KeyNode). ListsChildren cells n xs) (nodes_one cells at h g xs ys s r) s.children) r.children
 
-first_one : (x y : ℕ) (xs ys : List ℕ) → x ∷ xs ≡ y ∷ ys → (x ≡ y) × (xs ≡ ys)
+pub first_one : (x y : ℕ) (xs ys : List ℕ) → x ∷ xs ≡ y ∷ ys → (x ≡ y) × (xs ≡ ys)
 first_one x y xs ys e = (cc, cc)
 
 mutual

@@ -1,8 +1,8 @@
 -- One step whole: a value that is there gets other data. Its vk is patched where it stands, its old data cell may go,
 -- its new one lies where no cell was.
-use Rattle.std.proofs.Common.{◌≡◌, ℕ, Bool, true, false, eqb, List, [], ◌∷◌, ◌++◌, refl, sym, ◌∙◌, ap, subst, inl, inr, ⊎_elim, Ok}
+use Rattle.std.proofs.Common.{◌≡◌, ℕ, true, List, [], ◌∷◌, ◌++◌, refl, sym, ◌∙◌, ap, subst, inl, inr, ⊎_elim, Ok}
 use Rattle.std.specs.Prelude.{◌⊎◌, Contains, ◌==◌}
-use Rattle.std.proofs.lemmas.Bool.{eqb-true, eq-eqb, cases_eq, and_from}
+use Rattle.std.proofs.lemmas.Bool.{eq-eqb, cases_eq, and_from}
 use Rattle.nt_bytes.specs.Folding.{folded_unit, folds_same}
 use Rattle.hive_model.specs.Bins.{Cells}
 use Rattle.hive_model.specs.Tree.{Tree}

@@ -1,7 +1,7 @@
 -- A part of a payload is written anew: every other field is read as before, and a node or a value with it.
 use Rattle.std.proofs.Common.{◌≡◌, ℕ, zero, suc, ◌+◌, ◌-◌, ◌<◌, ◌≤◌, ◌^◌, Bool, true, false, cond, List, [], ◌∷◌, ◌++◌, length, take, drop, refl, sym, ◌∙◌, ap, subst, inl, inr, ⊎_elim, Result, Ok, Err, arith, length-append, length-drop}
 use Rattle.std.specs.Prelude.{◌⊎◌, ◌==◌, nat_lt, if◌then◌else◌, slice_range}
-use Rattle.std.specs.Int.{w16, w32, w64, to_le_bytes, from_le_bytes}
+use Rattle.std.specs.Int.{w16, w32, w64, from_le_bytes}
 use Rattle.std.proofs.lemmas.Bool.{ltb-false, eqb-true}
 use Rattle.std.proofs.lemmas.List.{take-append-drop, length-take}
 use Rattle.std.proofs.lemmas.Nat.{from_le_bytes-to_le_bytes_4}
@@ -57,7 +57,7 @@ pub record IsPatchOf (from to : ℕ) (p q : List ℕ) : Type 0 where
 whole_at : (n : ℕ) (p : List ℕ) → take n p ++ drop n p ≡ p
 whole_at n p = take-append-drop n p
 
-length_at : (n : ℕ) (p : List ℕ) → n ≤ length p → length (take n p) ≡ n
+pub length_at : (n : ℕ) (p : List ℕ) → n ≤ length p → length (take n p) ≡ n
 length_at n p lt = let e = length-take n p in omega (arith, lt, e)
 
 pub part_patches : (from : ℕ) (part p : List ℕ) → from + length part ≤ length p

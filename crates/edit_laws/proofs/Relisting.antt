@@ -27,10 +27,8 @@ use Rattle.edit_laws.proofs.Held.{are_held}
 use Rattle.edit_laws.proofs.SameTree.{IsSameKey, class_is, security_is, value_list_is, values_are, class_of_same, security_of_same, values_of_same, all_same}
 use Rattle.edit_laws.proofs.Around.{hive_uses}
 use Rattle.edit_laws.proofs.Replaced.{trees_listed}
-use Rattle.edit_laws.proofs.Revalued.{reach_on, longer}
-
-first_one : (x y : ℕ) (xs ys : List ℕ) → x ∷ xs ≡ y ∷ ys → (x ≡ y) × (xs ≡ ys)
-first_one x y xs ys e = (cc, cc)
+use Rattle.edit_laws.proofs.Revalued.{reach_on, longer, one_node}
+use Rattle.edit_laws.proofs.One.{first_one}
 
 -- ---- what is used is owned
 
@@ -285,9 +283,6 @@ values_rest c old new same =
 
 abbrev done : {A : Type 0} → A → Result A HiveKind
 done x = Ok x
-
-one_node : (r : Result KeyNode HiveKind) (x y : KeyNode) → r ≡ done x → r ≡ done y → x ≡ y
-one_node r x y e d = cc
 
 -- what the children were, and that the key stands with others in their place
 pub record HasRelisted (b c : Cells) (x : ℕ) (front gone put back : List ℕ) (hd : Head)

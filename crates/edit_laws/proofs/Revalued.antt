@@ -33,7 +33,7 @@ use Rattle.edit_laws.proofs.Replaced.{replaced_stands, replaced_names, replaced_
 abbrev done : {A : Type 0} → A → Result A HiveKind
 done x = Ok x
 
-one_node : (r : Result KeyNode HiveKind) (x y : KeyNode) → r ≡ done x → r ≡ done y → x ≡ y
+pub one_node : (r : Result KeyNode HiveKind) (x y : KeyNode) → r ≡ done x → r ≡ done y → x ≡ y
 one_node r x y e d = cc
 
 pub folds_length : (a b : List (List ℕ)) → Folds a b → length a ≡ length b

@@ -16,7 +16,7 @@ use Rattle.edit_laws.proofs.Replaced.{listed_trees}
 
 -- ---- sizes
 
-room_cons : (x : ℕ) (xs : List ℕ) → room_of (x ∷ xs) ≡ rounded (x + 32) + room_of xs
+pub room_cons : (x : ℕ) (xs : List ℕ) → room_of (x ∷ xs) ≡ rounded (x + 32) + room_of xs
 room_cons x xs = sum_by-cons (λ s. rounded (s + 32)) x xs
 
 pub some_all : (xs : List ℕ) → AreSome xs xs

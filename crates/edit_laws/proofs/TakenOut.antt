@@ -34,8 +34,8 @@ use Rattle.edit_laws.proofs.Relisting.{uses_below, secure_there}
 use Rattle.edit_laws.proofs.DeletionFrames.{extends_on}
 use Rattle.edit_laws.proofs.FromLists.{children_written}
 use Rattle.edit_laws.proofs.KeyCells.{key_taken}
-use Rattle.edit_laws.proofs.ListsRead.{entries_held}
 use Rattle.std.proofs.lemmas.Bool.{cases_eq}
+use Rattle.edit_laws.proofs.Held.{entries_held}
 
 -- ---- uses as security
 

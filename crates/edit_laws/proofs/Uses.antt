@@ -1,5 +1,5 @@
 -- Which cells does the walk use, in order, key by key? Names told and tests apart, it uses what each key owns.
-use Rattle.std.proofs.Common.{◌≡◌, ℕ, zero, suc, ◌&&◌, Bool, true, false, not, cond, eqb, List, [], ◌∷◌, ◌++◌, length, refl, sym, ◌∙◌, ap, subst, inl, inr, Option, Result, Ok, Err}
+use Rattle.std.proofs.Common.{◌≡◌, ℕ, zero, suc, ◌&&◌, Bool, true, false, not, cond, eqb, List, [], ◌∷◌, ◌++◌, length, refl, sym, ◌∙◌, ap, subst, inl, inr, Result, Ok, Err}
 use Rattle.std.specs.Prelude.{◌==◌, if◌then◌else◌, flat_map}
 use Rattle.std.proofs.lemmas.Bool.{eqb-true, eq-eqb}
 use Rattle.nt_bytes.specs.declared.fault.HiveKind.{HiveKind}
@@ -19,6 +19,7 @@ use Rattle.edit_laws.specs.Uses.{Agree, Once, plain, secure, tree_uses}
 use Rattle.edit_laws.proofs.Pairs.{pairwise_from, pairwise_to}
 use Rattle.edit_laws.proofs.Out.{IsPlain, plain_node, of_node_is, class_plain, value_plain, entries_plain, plain_use, plain_append, plain_read}
 use Rattle.edit_laws.proofs.Back.{sound_below}
+use Rattle.edit_laws.proofs.Ins.{no_test}
 
 -- ---- uses without tests
 
@@ -45,14 +46,11 @@ pair a b = (a, b)
 one_use : (a o : ℕ) (b s : Bool) → uses a b ≡ uses o s → pair a b ≡ pair o s
 one_use a o b s e = let at : a ≡ o = cc in let way : b ≡ s = cc in λ i. (at i, way i)
 
-no_use : (a o : ℕ) (k : Option HiveKind) (s : Bool) → tests a k ≡ uses o s → ⊥
-no_use a o k s e = cc
-
 pub mark_from : (cs : List Check) (o : ℕ) (s : Bool) → In cs (uses o s) → In (marks cs) (o, s)
 mark_from [] o s h = absurd h
 mark_from (uses at b ∷ cs) o s (inl e) = inl (one_use at o b s e)
 mark_from (uses at b ∷ cs) o s (inr h) = inr (mark_from cs o s h)
-mark_from (tests at k ∷ cs) o s (inl e) = absurd (no_use at o k s e)
+mark_from (tests at k ∷ cs) o s (inl e) = absurd (no_test at o k s e)
 mark_from (tests at k ∷ cs) o s (inr h) = mark_from cs o s h
 
 -- two uses that do not clash agree

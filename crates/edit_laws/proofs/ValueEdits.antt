@@ -15,15 +15,12 @@ use Rattle.hive_model.specs.Stands.{item_at, items_at, Stands, IsWellFormed}
 use Rattle.edit_laws.specs.Owned.{In, first_or_empty, value_name, Reaches, Folds}
 use Rattle.edit_laws.specs.Revalues.{GetsValues, ChangesValues}
 use Rattle.edit_laws.proofs.Pairs.{pairwise_from, pairwise_parts}
-use Rattle.edit_laws.proofs.Wellformed.{first_part, item_value, not_named}
+use Rattle.edit_laws.proofs.Wellformed.{first_part, item_value, not_named, ok_items}
 use Rattle.edit_laws.proofs.ChangedValues.{HasChanged, changed}
 use Rattle.edit_laws.proofs.Items.{found_items, value_is_set, value_is_deleted}
 
 abbrev done : {A : Type 0} → A → Result A HiveKind
 done x = Ok x
-
-ok_items : (x y : List Item) → done x ≡ done y → x ≡ y
-ok_items x y e = cc
 
 -- ---- the item of a name
 

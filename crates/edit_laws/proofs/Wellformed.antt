@@ -188,7 +188,7 @@ done x = Ok x
 ok_item : (x y : Item) → done x ≡ done y → x ≡ y
 ok_item x y e = cc
 
-ok_items : (x y : List Item) → done x ≡ done y → x ≡ y
+pub ok_items : (x y : List Item) → done x ≡ done y → x ≡ y
 ok_items x y e = cc
 
 pub item_value : (cells : Cells) (v : ℕ) (item : Item) → item_at cells v ≡ Ok item

@@ -11,14 +11,12 @@ use Rattle.hive_model.specs.Tree.{Item, Tree, key, head, children, is_named, is_
 use Rattle.hive_model.specs.Edit.{Step, no_key, no_value, too_deep, name_too_long, data_too_long, has_item, has_child, at_first, without_first, of_items, of_children, at_key, with_item, placed, new_key, with_key, without_key, name_tests, after_step, edited}
 use Rattle.start_model.specs.Sets.{set_name, set_of}
 use Rattle.start_model.specs.Events.{Edit, Set, Delete, Make, Remove, is_current, is_digit_unit, names_a_set, is_protected_child, begins_protected, is_current_alone, is_protected, resolved, without_last, last_of, step_of}
-use Rattle.start_laws.proofs.NameLemmas.{and_left, and_right, folds_itself, fold_alike, apart, other_number, select_is_no_set}
+use Rattle.start_laws.proofs.NameLemmas.{and_left, and_right, apart, other_number, select_is_no_set}
 use Rattle.start_laws.proofs.FindLemmas.{find-at_first_other, find-without_first, find-placed_other}
 use Rattle.start_laws.proofs.StepLemmas.{set_found, select_found, children-of_children, name_of-of_items, KeepsOthers, unless_ok, single, steps_made}
+use Rattle.start_laws.proofs.GoneLemmas.{folds_back}
 
 -- ---- names that no edit may begin with
-
-folds_back : (a b : List ℕ) → folds_same a b ≡ true → folds_same b a ≡ true
-folds_back a b h = fold_alike b a b (folds_itself b) h
 
 same_length : (a b : List ℕ) → folds_same a b ≡ true → length b ≡ length a
 same_length [] [] h = refl

@@ -9,17 +9,15 @@ use Rattle.std.proofs.lemmas.Bool.{both_ways, cases_Bool, cases_lt, cases_eq, eq
 use Rattle.std.proofs.lemmas.Bool.Decides.{nat_tests}
 use Rattle.std.proofs.lemmas.List.{get_or-take, get_or_default, length-map}
 use Rattle.std.proofs.lemmas.Option.{slice_get_past}
-use Rattle.std.proofs.lemmas.List.Folds.{Any-from_list_any, find_at, list_any_at, length-prefix_len, position_or_len_push}
+use Rattle.std.proofs.lemmas.List.Folds.{Any-from_list_any, find_at, list_any_at, position_or_len_push}
 use Rattle.std.proofs.lemmas.List.Quantifiers.{position-Some}
 use Rattle.std.proofs.lemmas.List.Sums.{position_or_len_is}
 use Rattle.group_order.specs.FirstPlaces.{HasFirstPlaces}
+use Rattle.reg_tree.proofs.Halving.{first_within}
 
 -- a place, where it lies in a list of this length
 abbrev within : ℕ → ℕ → Option ℕ
 within n len = cond (ltb n len) (Some n) None
-
-at_most_length : {X : Type 0} (p : X → Bool) (xs : List X) → position_or_len p xs ≤ length xs
-at_most_length p xs = omega (arith, length-prefix_len (λ x. not (p x)) xs, length-take (position_or_len p xs) xs)
 
 one_longer : (n len : ℕ) (b : Bool) → n ≤ len
     → within (cond (eqb n len) (len + cond b 0 1) n) (len + 1) ≡ option_or (within n len) (cond b (Some len) None)
@@ -35,7 +33,7 @@ position_push p xs y =
     ap (λ n. within n (length (xs ++ y ∷ []))) (position_or_len_push p xs y)
     ∙ ap (λ len. within (cond (eqb (position_or_len p xs) (length xs)) (length xs + cond (p y) 0 1)
     (position_or_len p xs)) len) (length-append xs (y ∷ []))
-    ∙ one_longer (position_or_len p xs) (length xs) (p y) (at_most_length p xs)
+    ∙ one_longer (position_or_len p xs) (length xs) (p y) (first_within p xs)
 
 first-map : {X Y : Type 0} (p : Y → Bool) (f : X → Y) (xs : List X)
     → position_or_len p (map f xs) ≡ position_or_len (λ x. p (f x)) xs

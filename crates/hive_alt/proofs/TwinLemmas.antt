@@ -16,6 +16,7 @@ use Rattle.hive_log.proofs.Ranks.{split}
 use Rattle.hive_log.proofs.Runs.{gathered_whole}
 use Rattle.hive_alt.specs.Copies.{HasCopy, IsPair, IsBehind}
 use Rattle.hive_alt.specs.Twin.{copy_at, absent_at, torn_at, read_in, second_in, same_fields, has_fields, has_bytes, second_has, is_second, standing, by_first, by_second, by_second_block, by_copies, twin_of}
+use Rattle.hive_read.proofs.TakenLemmas.{same-bytes}
 
 -- whole sectors
 pub whole_of : (n : ℕ) → is_bins_size n ≡ true → 512 * (n / 512) ≡ n
@@ -120,9 +121,6 @@ second_stands image base bins behind is whole =
 bytes_refl : (l : List ℕ) → bytes_eq l l ≡ true
 bytes_refl l = (bytes_eq-Decides l l).1 refl
 
-bytes_same : (a b : List ℕ) → bytes_eq a b ≡ true → a ≡ b
-bytes_same a b is = (bytes_eq-Decides a b).0 is
-
 fields_refl : (b : Base) → same_fields b b ≡ true
 fields_refl b =
     rw (
@@ -158,8 +156,8 @@ fields_same a b is =
       root = eqb-true a.root b.root p6.0 i;
       size = eqb-true a.size b.size p7.0 i;
       cluster = eqb-true a.cluster b.cluster p8.0 i;
-      name = bytes_same a.name b.name p9.0 i;
-      rest = bytes_same a.rest b.rest p9.1 i;
+      name = same-bytes a.name b.name p9.0 i;
+      rest = same-bytes a.rest b.rest p9.1 i;
     }
 
 has_same : (base : Base) (r : Result Base HiveFault) → has_fields base r ≡ true → r ≡ Ok base
@@ -169,7 +167,7 @@ has_same base (Err f) is = absurd (cc)
 bytes_there : (bytes : List ℕ) (c : Option Content) → has_bytes bytes c ≡ true → c ≡ Some (Bytes bytes)
 bytes_there bytes None is = absurd (cc)
 bytes_there bytes (Some Unreadable) is = absurd (cc)
-bytes_there bytes (Some (Bytes read)) is = ap (λ b. Some (Bytes b)) (bytes_same read bytes is)
+bytes_there bytes (Some (Bytes read)) is = ap (λ b. Some (Bytes b)) (same-bytes read bytes is)
 
 second_each : (image : Image) (bins : List ℕ) (n : ℕ) → second_has image bins n ≡ true → (i : ℕ) → i < n
     → log_in image (8 + i) ≡ Some (Bytes (sector bins i))

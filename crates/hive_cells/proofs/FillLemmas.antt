@@ -9,12 +9,12 @@ use Rattle.hive_model.specs.Bins.{Cell, Bin, cell_size, cells_size, bins_size, c
 use Rattle.hive_cells.specs.Reading.{cell_marks, marks, bins_of}
 use Rattle.hive_cells.proofs.Tools.{length_cell, length_cells, length_spelled, both_hold, cells_size-append}
 use Rattle.hive_cells.proofs.Steps.{kept_seen}
-use Rattle.hive_cells.proofs.Spots.{there, read_at, length_marks}
+use Rattle.hive_cells.proofs.Spots.{there, read_at, length_marks, sizes_whole}
 use Rattle.hive_cells.specs.Held.{run_cells, IsRun}
 use Rattle.hive_cells.specs.Holes.{cell_free_sizes, free_sizes, IsHole}
 use Rattle.hive_cells.specs.Changes.{with_run}
 use Rattle.hive_cells.proofs.Indexed.{IsIndexed}
-use Rattle.hive_cells.proofs.SizeLemmas.{sizes_whole, length_bins, free_room}
+use Rattle.hive_cells.proofs.SizeLemmas.{length_bins, free_room}
 use Rattle.hive_cells.proofs.PlaceLemmas.{Place, place_of, Edited, edited, bytes_before, marks_before, rooms_before, marks_long}
 
 -- ---- the bytes

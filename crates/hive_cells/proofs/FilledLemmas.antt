@@ -6,7 +6,7 @@ use Rattle.std.proofs.lemmas.List.{length-drop}
 use Rattle.hive_model.specs.Bins.{Cell, Bin, cell_size, cells_size, bin_size, bins_size, IsBin, in_cells, in_bins, or_else, cell_at}
 use Rattle.hive_cells.specs.Reading.{bins_of}
 use Rattle.hive_cells.proofs.Tools.{cells_size-append}
-use Rattle.hive_cells.proofs.Spots.{cells_before, bins_before, cells_past, all_first}
+use Rattle.hive_cells.proofs.Spots.{cells_before, bins_before, cells_past, all_first, or_none}
 use Rattle.hive_cells.specs.Held.{run_cells, allocated_payload, held_at, held_among}
 use Rattle.hive_cells.specs.Changes.{at_cell, rest_of, with_run}
 use Rattle.hive_cells.proofs.PlaceLemmas.{bin_with, bins_here}
@@ -59,10 +59,6 @@ lookup_under (b ∷ pre) ignored front tail other post o p lt =
     (lookup_under pre ignored front tail other post o (p + bin_size b) (omega (arith, lt)))
 
 -- ---- the cells from the place on
-
-or_none_is : {X : Type 0} (x : Option X) → or_else x None ≡ x
-or_none_is None = refl
-or_none_is (Some x) = refl
 
 held_free : (c : Cell) → c.allocated ≡ false → allocated_payload (Some c) ≡ None
 held_free c free = ap (λ (u : Bool). cond u (Some c.payload) None) free
@@ -119,7 +115,7 @@ left_over n c back o p free some fits ge (inl left) =
 
 -- a lookup in one of two
 held_first : (x y : Option Cell) → y ≡ None → allocated_payload (or_else x y) ≡ allocated_payload x
-held_first x y none = ap allocated_payload (ap (or_else x) none ∙ or_none_is x)
+held_first x y none = ap allocated_payload (ap (or_else x) none ∙ or_none x)
 
 held_same : (x y z : Option Cell) → allocated_payload x ≡ allocated_payload y → (z ≡ None) ⊎ ((x ≡ None) × (y ≡ None))
     → allocated_payload (or_else x z) ≡ allocated_payload (or_else y z)
@@ -184,7 +180,7 @@ from_place pre ignored front c back post cs o sound free some fits part ge =
           ∙ ap allocated_payload (cells_inside cs rest o z lt) in
           let held_old = ap allocated_payload old ∙ held_first (in_cells o z (c ∷ back)) other none
           ∙ none_held c back o z free ge (omega (arith, lt, fits)) in
-          held_new ∙ sym (or_none_is (held_among o z cs)) ∙ ap (or_else (held_among o z cs)) (sym held_old)
+          held_new ∙ sym (or_none (held_among o z cs)) ∙ ap (or_else (held_among o z cs)) (sym held_old)
       | inr past ↦
           let gone : in_cells o z cs ≡ None = cells_gone cs o z past in
           let moved : allocated_payload (in_cells o z (cs ++ rest)) ≡ allocated_payload (in_cells o z (c ∷ back)) =

@@ -78,7 +78,7 @@ packed_allocated : (ps : List (List ℕ)) → AllByRecursion IsAllocated (map al
 packed_allocated [] = tt
 packed_allocated (p ∷ ps) = (refl, packed_allocated ps)
 
-packed_bytes : (ps : List (List ℕ)) → text ps ≡ flat_map cell_bytes (map allocated_cell ps)
+pub packed_bytes : (ps : List (List ℕ)) → text ps ≡ flat_map cell_bytes (map allocated_cell ps)
 unfolding packed.cell_text
 packed_bytes [] = refl
 packed_bytes (p ∷ ps) = ap (λ (t : List ℕ). cell_bytes (allocated_cell p) ++ t) (packed_bytes ps)

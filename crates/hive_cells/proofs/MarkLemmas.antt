@@ -8,10 +8,9 @@ use Rattle.hive_model.specs.Bins.{Cell, cell_size, cells_size, head_number, cell
 use Rattle.hive_cells.specs.Reading.{cell_marks}
 use Rattle.hive_cells.proofs.Tools.{length_cells, cells_size-append, word_at}
 use Rattle.hive_cells.proofs.Again.{head_again}
-use Rattle.hive_cells.proofs.Spots.{all_first, length_marks}
+use Rattle.hive_cells.proofs.Spots.{all_first, length_marks, sizes_whole}
 use Rattle.hive_cells.specs.Held.{run_cells, IsRun}
 use Rattle.hive_cells.specs.Changes.{MarkedSoFar}
-use Rattle.hive_cells.proofs.SizeLemmas.{sizes_whole}
 
 pub run_long : (run : List ℕ) → IsRun run → length run ≡ cells_size (run_cells run)
 run_long run is = ap length is.spelled ∙ length_cells (run_cells run)

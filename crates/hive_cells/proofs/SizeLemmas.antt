@@ -8,7 +8,7 @@ use Rattle.hive_model.specs.Bins.{Cell, Bin, cell_size, cells_size, bin_size, bi
 use Rattle.hive_cells.specs.Reading.{cells_in, or_none}
 use Rattle.hive_cells.proofs.Tools.{length_cells}
 use Rattle.hive_cells.proofs.Again.{cells_again}
-use Rattle.hive_cells.proofs.Spots.{cells_before, bins_before, cells_past, spot, bin_round, all_first}
+use Rattle.hive_cells.proofs.Spots.{cells_before, bins_before, cells_past, spot, bin_round, all_first, sizes_whole, bins_whole}
 use Rattle.free_index.specs.Sizes.{IsLowestFit}
 use Rattle.hive_cells.specs.Held.{run_cells}
 use Rattle.hive_cells.specs.Holes.{cell_free_sizes, bin_free_sizes, free_sizes, free_size, IsLowestHole}
@@ -138,14 +138,6 @@ some_room (Some c) some = by_flag c.allocated refl some
     by_flag : (u : Bool) → c.allocated ≡ u → 0 < cond u 0 (cell_size c) → IsFree (Some c)
     by_flag true is some = absurd (omega arith)
     by_flag false is some = record { cell = c; is = refl; free = is; sized = rw is refl }
-
-pub sizes_whole : (cs : List Cell) → AllByRecursion IsCell cs → cells_size cs % 8 ≡ 0
-sizes_whole [] h = refl
-sizes_whole (c ∷ cs) h = omega (arith, h.0.whole, sizes_whole cs h.1)
-
-pub bins_whole : (bs : List Bin) → AllByRecursion IsBin bs → bins_size bs % 8 ≡ 0
-bins_whole [] h = refl
-bins_whole (b ∷ bs) h = omega (arith, h.0.whole, bins_whole bs h.1)
 
 -- a free cell has its room
 pub free_room : (bs : List Bin) (o : ℕ) (c : Cell) → AllByRecursion IsBin bs → cell_at bs o ≡ Some c

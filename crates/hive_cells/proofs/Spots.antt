@@ -33,7 +33,7 @@ cells_past [] o p h le = refl
 cells_past (c ∷ cs) o p h le =
     rw (ne_eqb p o (λ e. omega (arith, e, le))) (cells_past cs o (p + cell_size c) h.1 (omega (arith, le)))
 
-or_none : {X : Type 0} (x : Option X) → or_else x None ≡ x
+pub or_none : {X : Type 0} (x : Option X) → or_else x None ≡ x
 or_none None = refl
 or_none (Some x) = refl
 
@@ -276,11 +276,11 @@ pub none_there : (text : List ℕ) (starts : List Bool) (at : ℕ) → IsKept te
     → get_or starts (at / 8) false ≡ false → cell_at (bins_of text) at ≡ None
 none_there text starts at k whole e = none_from (cell_at (bins_of text) at) (sym (told text starts at k whole) ∙ e)
 
-sizes_whole : (cs : List Cell) → AllByRecursion IsCell cs → cells_size cs % 8 ≡ 0
+pub sizes_whole : (cs : List Cell) → AllByRecursion IsCell cs → cells_size cs % 8 ≡ 0
 sizes_whole [] h = refl
 sizes_whole (c ∷ cs) h = omega (arith, h.0.whole, sizes_whole cs h.1)
 
-bins_whole : (bs : List Bin) → AllByRecursion IsBin bs → bins_size bs % 8 ≡ 0
+pub bins_whole : (bs : List Bin) → AllByRecursion IsBin bs → bins_size bs % 8 ≡ 0
 bins_whole [] h = refl
 bins_whole (b ∷ bs) h = omega (arith, h.0.whole, bins_whole bs h.1)
 

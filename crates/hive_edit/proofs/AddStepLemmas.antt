@@ -1,9 +1,8 @@
 -- The step that adds a child: what it is judged by, and that it is made.
-use Rattle.std.proofs.Common.{◌≡◌, ◌≤◌, ◌<◌, ◌^◌, ℕ, ◌+◌, ◌-◌, ◌⊎◌, ◌||◌, Bool, true, false, List, [], ◌∷◌, ◌++◌, length, Option, Some, None, Result, Ok, Err, refl, sym, ap, subst, ◌∙◌, inl, inr, arith}
-use Rattle.std.specs.Prelude.{nat_lt, find, is_some, ◌==◌, MatchBool, IfOk}
+use Rattle.std.proofs.Common.{◌≡◌, ◌≤◌, ◌<◌, ◌^◌, ℕ, ◌+◌, ◌-◌, ◌⊎◌, Bool, true, false, List, [], ◌∷◌, ◌++◌, length, Option, Some, None, Result, Ok, Err, refl, sym, ap, subst, ◌∙◌, inl, inr, arith}
+use Rattle.std.specs.Prelude.{nat_lt, find, is_some, MatchBool, IfOk}
 use Rattle.std.specs.Result.{IsOk}
 use Rattle.std.specs.Option.{IfSome}
-use Rattle.std.specs.List.{list_any}
 use Rattle.std.proofs.lemmas.Bool.{le-ltb, lt-ltb, ltb-false, cases_lt}
 use Rattle.std.proofs.lemmas.List.Sums.{sum_by-append}
 use Rattle.nt_bytes.specs.declared.version.HiveVersion.{HiveVersion}
@@ -11,7 +10,7 @@ use Rattle.hive_model.specs.Bins.{Bin, Cells, bins_size, look_up}
 use Rattle.hive_model.specs.KeyNode.{KeyNode, key_node_at}
 use Rattle.hive_model.specs.Walk.{reading}
 use Rattle.hive_model.specs.Tree.{Tree, Trees, key, head, children, listed, trees, is_named}
-use Rattle.hive_model.specs.Valid.{HoldsKeys, levels, most_levels, is_backslash}
+use Rattle.hive_model.specs.Valid.{HoldsKeys, levels, most_levels}
 use Rattle.hive_model.specs.Size.{size}
 use Rattle.hive_model.specs.Packed.{rounded}
 use Rattle.hive_model.specs.Edit.{add_child, Refusal, bad_name, name_too_long, exists, too_deep, unless, has_child, is_bad_name, placed, renamed, with_child, after_step}
@@ -40,10 +39,11 @@ use Rattle.hive_edit.specs.Stepped.{IsStepped, LacksStepRoom}
 use Rattle.hive_edit.specs.Standing.{tree_of}
 use Rattle.hive_edit.proofs.EditLemmas.{the_tree}
 use Rattle.hive_edit.proofs.JudgeLemmas.{key_present, key_absent, counted_children}
-use Rattle.hive_edit.proofs.KeyLemmas.{node_read}
+use Rattle.hive_edit.proofs.KeyLemmas.{node_read, no_slash}
 use Rattle.hive_edit.proofs.ParentLemmas.{IsParent, node_stands, security_at_node, security_there}
-use Rattle.hive_edit.proofs.ResultLemmas.{done, is_ok_of, ok_same}
-use Rattle.hive_edit.proofs.GraftRuns.{size_some}
+use Rattle.hive_edit.proofs.ResultLemmas.{done, ok_same}
+use Rattle.reg_tree.proofs.Sound.{some_size}
+use Rattle.key_index.proofs.Tests.{is_ok_of}
 
 -- ---- the name
 
@@ -91,13 +91,6 @@ step_added h name k f low = λ i.
     (with_child name k h.tree)
 
 -- ---- the key under its new name
-
-no_slash : (name : List ℕ) → is_bad_name name ≡ false → list_any is_backslash name ≡ false
-no_slash name e = go (length name == 0) (list_any is_backslash name) e
-  where
-    go : (a b : Bool) → (a || b) ≡ false → b ≡ false
-    go true b e = absurd cc
-    go false b e = e
 
 renamed_holds : (name : List ℕ) (k : Tree) → is_bad_name name ≡ false → length name ≤ 255 → HoldsKeys k
     → HoldsKeys (renamed name k)
@@ -154,7 +147,7 @@ needs_both version name k (key hd ts) absent =
     ap (λ (l : List Tree). length l) us ∙ placed_length w (listed ts) in
     let needs = added_needs version u u w [] name refl found in
     let t = tree_total version hd.security w in
-    let some = size_some version hd.security w in
+    let some = some_size version hd.security w in
     let room = room_for (sizes version hd.security w) (omega (arith, t, some)) in
     let split = sum_by-append (λ (s : ℕ). rounded (s + 32)) (list_sizes (length (children u)))
     (sizes version hd.security w) in

@@ -26,10 +26,11 @@ use Rattle.edit_laws.proofs.Held.{are_held}
 use Rattle.edit_laws.proofs.Same.{entries_used, entries_same}
 use Rattle.edit_laws.proofs.FromLists.{children_written, inserts_child, bare_uses, bare_stands}
 use Rattle.hive_edit.specs.Making.{new_node}
-use Rattle.hive_edit.proofs.ResultLemmas.{done, some, then_so}
+use Rattle.hive_edit.proofs.ResultLemmas.{done, some}
 use Rattle.hive_edit.proofs.NodeMade.{MayBeNode, node_again, no_flags, security_counted}
 use Rattle.hive_edit.proofs.ParentLemmas.{Keeps, IsParent, parent_held, list_no_node, list_no_security, node_no_security, list_held, security_listed, security_at_node, security_some, security_there, node_stands, security_read}
 use Rattle.hive_edit.proofs.PlacedLemmas.{entries_held}
+use Rattle.hive_read.proofs.FormFacts.{then-so}
 
 pub no_some : (o : Option (List ℕ)) (q : List ℕ) → o ≡ None → o ≡ some q → ⊥
 no_some None q e f = absurd cc
@@ -64,7 +65,7 @@ pub record Adds (b m l c : Cells) (root : ℕ) (t : Tree) (p : List (List ℕ)) 
   pub places : child_places b x ≡ front ++ back
   pub count_is : n.child_count ≡ length (front ++ back)
 
-length_more : (front : List ℕ) (y : ℕ) (back : List ℕ) → length (front ++ y ∷ back) ≡ length (front ++ back) + 1
+pub length_more : (front : List ℕ) (y : ℕ) (back : List ℕ) → length (front ++ y ∷ back) ≡ length (front ++ back) + 1
 length_more [] y back = omega arith
 length_more (z ∷ front) y back = let l = length_more front y back in omega (arith, l)
 
@@ -132,7 +133,7 @@ module _ (b m l c : Cells) (root : ℕ) (t : Tree) (p : List (List ℕ)) (x : �
   raised : (n.security ≡ nowhere → ⊥) → descriptor_at c n.security ≡ descriptor_at b n.security
   raised some =
       let s = secure_read some in
-      let q = then_so (b.payload n.security) security_at s.0 s.1 in
+      let q = then-so (b.payload n.security) security_at s.0 s.1 in
       let i = security_there b x n g.parent.read some in
       let listed = g.kept_l n.security q.0 (g.kept_m.held n.security q.0 q.1)
       (λ j. list_no_security b root t p x k n p x n.security g.parent g.parent.reached i (g.gone_is n.security j)) in

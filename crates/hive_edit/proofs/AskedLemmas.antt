@@ -24,6 +24,7 @@ use Rattle.hive_edit.proofs.LowLemmas.{bulk_is}
 use Rattle.hive_edit.proofs.SteppedLemmas.{lacks_room}
 use Rattle.hive_edit.proofs.JudgeLemmas.{refused_key, refused_name, refused_long, refused_deep, MayTry, step_made, key_present, key_absent, nothing_made, Grows, grows, grown_is, lists_over, make_room, counted_children}
 use Rattle.hive_edit.proofs.KeyLemmas.{node_read}
+use Rattle.tree_draft.proofs.SlotLemmas.{none_from}
 
 abbrev pub none_there : Option ℕ
 none_there = None
@@ -121,10 +122,6 @@ some_of : (r : Option ℕ) → is_some r ≡ true → (y : ℕ) × (r ≡ some y
 some_of None e = absurd cc
 some_of (Some y) e = (y, refl)
 
-none_of : (r : Option ℕ) → is_some r ≡ false → r ≡ None
-none_of None e = refl
-none_of (Some y) e = absurd cc
-
 module _ (bins heap : List Bin) (root : ℕ) (version : HiveVersion) (bulk : ℕ) (h : HiveCells) (parent : List (List ℕ))
     (name : List ℕ) (at : ℕ)
     (g : Good bins heap root version bulk h parent name at) where
@@ -148,7 +145,7 @@ module _ (bins heap : List Bin) (root : ℕ) (version : HiveVersion) (bulk : ℕ
       → has_key parent name (tree_of (look_up version bins) root) ≡ false
   absent r e s =
       key_absent (look_up version bins) root (tree_of (look_up version bins) root)
-      finds.key.there parent name at finds.key.well finds.key.found (in_bins r e ∙ none_of r s)
+      finds.key.there parent name at finds.key.well finds.key.found (in_bins r e ∙ none_from r s)
 
   pub asks_there : (r : Option ℕ) → r ≡ child_in (look_up version heap) name at → is_some r ≡ true
       → IsMadeAlready h parent name

@@ -3,7 +3,7 @@ use Rattle.std.proofs.Common.{◌≡◌, ◌≤◌, ◌<◌, ℕ, zero, suc, ◌
 use Rattle.std.specs.Prelude.{nat_lt, nat_le}
 use Rattle.std.specs.Result.{IsOk}
 use Rattle.std.specs.Int.{w32, to_le_bytes}
-use Rattle.std.proofs.lemmas.Bool.{eqb-true, ltb-false, le-ltb, lt-leb}
+use Rattle.std.proofs.lemmas.Bool.{eqb-true, ltb-false, lt-leb}
 use Rattle.std.proofs.lemmas.List.{length-append, length-take}
 use Rattle.nt_bytes.specs.declared.fault.HiveKind.{HiveKind}
 use Rattle.nt_bytes.specs.declared.fault.HiveKind.TheVariants.{FormLength, FormShort}
@@ -21,17 +21,19 @@ use Rattle.hive_model.specs.Walk.{reading, below_of, use_as, big_data_of, segmen
 use Rattle.hive_model.specs.Footprint.{of_read, used_in}
 use Rattle.hive_model.specs.Stands.{joined_segments, big_bytes_at, data_of}
 use Rattle.hive_pack.proofs.Items.{not_big}
-use Rattle.hive_read.proofs.FormFacts.{held-short, offsets-length}
+use Rattle.hive_read.proofs.FormFacts.{held-short, offsets-length, then-so}
 use Rattle.key_index.specs.Lists.{payload_in}
 use Rattle.key_index.proofs.Below.{in_payload}
 use Rattle.edit_laws.proofs.FromCells.{data_held_inside, data_in_cell, data_in_segments}
 use Rattle.hive_edit.specs.Places.{IsItemHere, data_places, data_room, room_for_item, data_places_by, room_by}
-use Rattle.hive_edit.proofs.ResultLemmas.{done, then_so, only_if, ok_same, is_ok_of, value_of}
+use Rattle.hive_edit.proofs.ResultLemmas.{done, only_if, ok_same}
 use Rattle.hive_edit.proofs.ItemLemmas.{item_facts}
+use Rattle.hive_read.proofs.WeighingLemmas.{no-cells}
+use Rattle.key_index.proofs.Tests.{value_of, is_ok_of}
 
 -- ---- big data
 
-segments_used : (cells : Cells) (n : ℕ) (os : List ℕ) → used_in (segments_checks cells n os) ≡ os
+pub segments_used : (cells : Cells) (n : ℕ) (os : List ℕ) → used_in (segments_checks cells n os) ≡ os
 segments_used cells n [] = refl
 segments_used cells n (at ∷ os) = ap (λ (l : List ℕ). at ∷ l) (segments_used cells (n - 16344) os)
 
@@ -45,16 +47,16 @@ bytes_long n p b e = go (nat_lt (length p) n) refl e
         let same : take n p ≡ b = ok_same (take n p) b f in
         omega (arith, ap length same, length-take n p, ltb-false (length p) n s)
 
-joined_long : (cells : Cells) (n : ℕ) (os bs : List ℕ) → joined_segments cells n os ≡ done bs
+pub joined_long : (cells : Cells) (n : ℕ) (os bs : List ℕ) → joined_segments cells n os ≡ done bs
     → length os ≡ segment_count n → length bs ≡ n
 joined_long cells n [] bs e c =
     let same : [] ≡ bs = ok_same [] bs e in
     omega (arith, ap length same, c)
 joined_long cells n (at ∷ os) bs e c =
-    let part = then_so (reading (bytes_in (segment_part n)) cells at)
+    let part = then-so (reading (bytes_in (segment_part n)) cells at)
     (λ xs. joined_segments cells (n - segment_bytes) os >>= λ ys. Ok (xs ++ ys)) bs e in
-    let others = then_so (joined_segments cells (n - segment_bytes) os) (λ ys. Ok (part.0 ++ ys)) bs part.2 in
-    let p = then_so (cells.payload at) (bytes_in (segment_part n)) part.0 part.1 in
+    let others = then-so (joined_segments cells (n - segment_bytes) os) (λ ys. Ok (part.0 ++ ys)) bs part.2 in
+    let p = then-so (cells.payload at) (bytes_in (segment_part n)) part.0 part.1 in
     let one : length part.0 ≡ min 16344 n = bytes_long (segment_part n) p.0 part.0 p.2 in
     let rest : length os ≡ segment_count (n - 16344) = omega (arith, c) in
     let more : length others.0 ≡ n - 16344 = joined_long cells (n - 16344) os others.0 others.1 rest in
@@ -86,11 +88,11 @@ pub big_facts : (cells : Cells) (n at : ℕ) (bytes : List ℕ) → big_bytes_at
     → BigFacts cells n at bytes
 unfolding big_bytes_at big_data_of
 big_facts cells n at bytes e =
-    let b = then_so (reading (big_data_of n) cells at)
+    let b = then-so (reading (big_data_of n) cells at)
     (λ big. reading (offsets_in big.segments) cells big.list >>= joined_segments cells n) bytes e in
-    let o = then_so (reading (offsets_in b.0.segments) cells b.0.list) (joined_segments cells n) bytes b.2 in
+    let o = then-so (reading (offsets_in b.0.segments) cells b.0.list) (joined_segments cells n) bytes b.2 in
     let here = in_payload (big_data_of n) cells at b.0 b.1 in
-    let d = then_so (big_data_at (payload_in cells at))
+    let d = then-so (big_data_at (payload_in cells at))
     (λ big. cond (eqb big.segments (segment_count n)) (Ok big) (Err FormLength)) b.0 here in
     let w = only_if (eqb d.0.segments (segment_count n)) FormLength (Ok d.0) b.0 d.2 in
     let same : d.0 ≡ b.0 = ok_same d.0 b.0 w.1 in
@@ -147,13 +149,6 @@ pub record DataFacts (cells : Cells) (value : KeyValue) (bytes : List ℕ) : Typ
   pub big : value.size < 2147483648 → is_big cells.version value.size ≡ true
       → IsOk (big_bytes_at cells value.size value.offset)
 
-no_room_few : (version : HiveVersion) (n : ℕ) → n ≤ 4 → cells_sum (data_sizes version n) ≡ 0
-no_room_few version n h =
-    ap (λ (t : Bool). cells_sum
-    (cond t (8 ∷ 4 * segment_count n ∷ segment_sizes (segment_count n) n) (cond (nat_lt 4 n) (n ∷ []) [])))
-    (not_big version n h)
-    ∙ ap (λ (t : Bool). cells_sum (cond t (n ∷ []) [])) (le-ltb 4 n h)
-
 is_not : (t : Bool) → t ≡ true → t ≡ false → ⊥
 is_not true e f = cc
 is_not false e f = cc
@@ -184,7 +179,7 @@ data_facts cells value bytes e =
           used = held.0 ∙ sym (ap (λ (t : Bool). cond t []
               (cond (eqb n 0) [] (cond (is_big cells.version n) (used_in (big_checks cells n value.offset))
               (value.offset ∷ [])))) p);
-          room = no_room_few cells.version (length bytes) short
+          room = no-cells cells.version (length bytes) short
               ∙ sym (ap (λ (t : Bool). cond t 0 (cells_sum (data_sizes cells.version n))) p);
           big = λ lt is. absurd (in_range n p lt);
         }
@@ -203,9 +198,9 @@ data_facts cells value bytes e =
               (value.offset ∷ [])))) p
               ∙ ap (λ (t : Bool). cond t []
               (cond (is_big cells.version n) (used_in (big_checks cells n value.offset)) (value.offset ∷ []))) z);
-          room = no_room_few cells.version (length bytes) short
+          room = no-cells cells.version (length bytes) short
               ∙ sym (ap (λ (t : Bool). cond t 0 (cells_sum (data_sizes cells.version n))) p
-              ∙ no_room_few cells.version n (omega (arith, zero)));
+              ∙ no-cells cells.version n (omega (arith, zero)));
           big = λ lt is. absurd (is_not (is_big cells.version n) is (not_big cells.version n (omega (arith, zero))));
         }
     go false false true p z b =
@@ -232,7 +227,7 @@ data_facts cells value bytes e =
         ap (λ (t : Bool). cond t (Some own) (cond (eqb n 0) (Some []) None)) p
         ∙ ap (λ (t : Bool). cond t (Some []) None) z in
         let held = data_in_cell cells value inside b in
-        let q = then_so (cells.payload value.offset) (bytes_in n) bytes (sym held.1 ∙ e) in
+        let q = then-so (cells.payload value.offset) (bytes_in n) bytes (sym held.1 ∙ e) in
         let long : length bytes ≡ n = bytes_long n q.0 bytes q.2 in
         record {
           used = held.0

@@ -2,7 +2,6 @@
 use Rattle.std.proofs.Common.{◌≡◌, ◌≤◌, ◌<◌, ℕ, ◌+◌, ◌||◌, Bool, true, false, cond, List, [], ◌∷◌, length, Option, Some, None, Result, Ok, Err, refl, sym, ap, subst, ◌∙◌}
 use Rattle.std.specs.Prelude.{nat_lt, ◌==◌, ◌⊎◌, OnOk, MatchBool}
 use Rattle.std.specs.Option.{is_none, IfSome}
-use Rattle.std.proofs.lemmas.Bool.{le-ltb, lt-ltb}
 use Rattle.nt_bytes.specs.declared.version.HiveVersion.{HiveVersion}
 use Rattle.hive_model.specs.Bins.{bins_size}
 use Rattle.hive_model.specs.Tree.{Tree, find_key}
@@ -16,7 +15,7 @@ use Rattle.hive_edit.specs.Edits.{IsPackedAnew, IsPackedForRoom}
 use Rattle.hive_edit.specs.Stepped.{IsStepped, LacksStepRoom}
 use Rattle.hive_edit.specs.Deleting.{DropsUses, IsDeletedInPlace}
 use Rattle.hive_edit.proofs.EditLemmas.{the_tree}
-use Rattle.hive_edit.proofs.SteppedLemmas.{packed_for_room}
+use Rattle.hive_edit.proofs.SteppedLemmas.{packed_for_room, step_within, step_full}
 use Rattle.hive_edit.proofs.DeletingLemmas.{stepped_in_place}
 
 -- ---- one step as an edit
@@ -29,20 +28,6 @@ one_edit : (version : HiveVersion) (t : Tree) (step : Step)
     → edited version t (step ∷ []) ≡ edit_of version (after_step step t)
 unfolding edited
 one_edit version t step = refl
-
-pub edit_within : (version : HiveVersion) (t u : Tree) (step : Step) → after_step step t ≡ the_tree u
-    → bulk_of version u ≤ 16773120
-    → edited version t (step ∷ []) ≡ the_tree u
-edit_within version t u step ok small =
-    one_edit version t step ∙ ap (edit_of version) ok
-    ∙ ap (λ (b : Bool). cond b (Err full) (the_tree u)) (le-ltb most_bulk (bulk_of version u) small)
-
-pub edit_full : (version : HiveVersion) (t u : Tree) (step : Step) → after_step step t ≡ the_tree u
-    → 16773120 < bulk_of version u
-    → edited version t (step ∷ []) ≡ Err full
-edit_full version t u step ok large =
-    one_edit version t step ∙ ap (edit_of version) ok
-    ∙ ap (λ (b : Bool). cond b (Err full) (the_tree u)) (lt-ltb most_bulk (bulk_of version u) large)
 
 pub edit_refused : (version : HiveVersion) (t : Tree) (step : Step) (why : Refusal) → after_step step t ≡ Err why
     → edited version t (step ∷ []) ≡ Err why
@@ -76,7 +61,7 @@ pub deleted_in_place : (old new : HiveCells) (path : List (List ℕ)) → IsStep
     → DropsUses old path new
     → bulk_of old.version new.tree ≤ 16773120 → IsDeletedInPlace old path new
 deleted_in_place old new path s d small = record {
-  edit = edit_within old.version old.tree new.tree (delete_key path) s.tree small;
+  edit = step_within old.version old.tree new.tree (delete_key path) s.tree small;
   version = s.version;
   kept = stepped_in_place old new (delete_key path) s;
   drops = d;
@@ -130,7 +115,7 @@ pub drafted_full : (h old new : HiveCells) (path : List (List ℕ)) (bulk : ℕ)
     → bulk ≡ bulk_of new.version new.tree → 16773120 < bulk → edited h.version h.tree (delete_key path ∷ []) ≡ Err full
 drafted_full h old new path bulk same s counted large =
     subst (λ (g : HiveCells). edited g.version g.tree (delete_key path ∷ []) ≡ Err full) same
-    (edit_full old.version old.tree new.tree (delete_key path) s.tree
+    (step_full old.version old.tree new.tree (delete_key path) s.tree
     (subst (λ (n : ℕ). 16773120 < n) (counted ∙ ap (λ (v : HiveVersion). bulk_of v new.tree) s.version) large))
 
 pub drafted_done : (h old new : HiveCells) (path : List (List ℕ)) (bulk : ℕ) → old ≡ h

@@ -1,5 +1,5 @@
 -- A key that was taken out of the cells of a hive: the hive is that of the tree without it.
-use Rattle.std.proofs.Common.{◌≡◌, ◌≤◌, ◌<◌, ℕ, suc, ◌+◌, ◌-◌, ◌||◌, Bool, true, false, List, [], ◌∷◌, ◌++◌, length, Option, Some, None, Result, Ok, Err, inl, inr, ⊎_elim, refl, sym, ap, subst, ◌∙◌, arith}
+use Rattle.std.proofs.Common.{◌≡◌, ◌≤◌, ◌<◌, ℕ, ◌+◌, ◌-◌, ◌||◌, Bool, true, false, List, [], ◌∷◌, ◌++◌, length, Option, Some, None, Result, Ok, Err, inl, inr, ⊎_elim, refl, sym, ap, subst, ◌∙◌, arith}
 use Rattle.std.specs.Prelude.{min, find, ◌==◌}
 use Rattle.std.specs.Option.{is_none, MatchOption}
 use Rattle.std.proofs.lemmas.List.Elements.{Contains-append_left}
@@ -40,6 +40,7 @@ use Rattle.edit_laws.specs.Owned.{In}
 use Rattle.hive_edit.proofs.DroppedLemmas.{shortened_keeps}
 use Rattle.hive_edit.proofs.RemovedLemmas.{SplitsAt, split_one, kids_apart, takes}
 use Rattle.hive_edit.proofs.PairLemmas.{a_pair, no_pair, PairHere, pair_here, pair_absent, no_node, no_list, secure_cells, in_lists, can_remove}
+use Rattle.edit_laws.proofs.FromLists.{length_more}
 
 -- ---- what the step makes of the tree
 
@@ -77,10 +78,6 @@ pair_lessens version b root t path p h =
 
 -- ---- the lists
 
-length_less : (front : List ℕ) (y : ℕ) (back : List ℕ) → length (front ++ y ∷ back) ≡ suc (length (front ++ back))
-length_less [] y back = refl
-length_less (z ∷ front) y back = ap suc (length_less front y back)
-
 split_here : (b : Cells) (root : ℕ) (t : Tree) (path : List (List ℕ)) (p : KeyPair) → PairHere b root t path p
     → SplitsAt (child_places b p.above) p.at
 split_here b root t path p h =
@@ -98,7 +95,7 @@ left_length version bins root t path p above h says =
     (λ i. children_at b (says.list i) (says.count i)) ∙ kids in
     let others = ap (λ (l : List ℕ). length l) (ap (without_child p.at) all ∙ s.others) in
     let whole = ap (λ (l : List ℕ). length l) s.whole in
-    let one = length_less s.front p.at s.back in
+    let one = length_more s.front p.at s.back in
     let count = counted_children b root t h.stored p.above h.there h.node h.parent_is in
     let number = (Rattle.hive_edit.proofs.ParentLemmas.siblings_are b root t h.stored p.above h.there h.node
     h.parent_is).number in

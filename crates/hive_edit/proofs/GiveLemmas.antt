@@ -18,10 +18,10 @@ use Rattle.hive_model.proofs.Spelling.{bytes_again}
 use Rattle.hive_cells.specs.Held.{held_at, held_among, patched, run_cells, IsRun}
 use Rattle.hive_cells.specs.Holes.{new_bin_size}
 use Rattle.hive_cells.proofs.HeldLemmas.{held_payload}
-use Rattle.hive_pack.proofs.Rows.{space, length_filled, length_text, space_data, segments_room}
+use Rattle.hive_pack.proofs.Rows.{space, length_text, space_data, segments_room}
 use Rattle.hive_pack.proofs.Found.{Has, reads_in}
 use Rattle.hive_pack.proofs.Items.{BigStands, big_stands}
-use Rattle.key_index.proofs.Runs.{among_from, has_held, run_is}
+use Rattle.key_index.proofs.Runs.{among_from, has_held, run_is, none_some}
 use Rattle.edit_laws.specs.Owned.{In}
 use Rattle.edit_laws.specs.Pairs.{Pairwise}
 use Rattle.edit_laws.proofs.FromCells.{data_held_inside, data_in_cell, data_in_segments}
@@ -31,6 +31,7 @@ use Rattle.hive_edit.specs.Runs.{IsPutAt}
 use Rattle.hive_edit.proofs.ResultLemmas.{done}
 use Rattle.hive_edit.proofs.InPlaceLemmas.{inside_size, inside_again, inside_data}
 use Rattle.hive_edit.proofs.DataLemmas.{big_used}
+use Rattle.hive_pack.proofs.Whole.{used_size}
 
 -- ---- a run of data
 
@@ -135,21 +136,13 @@ data_run_stands c place bytes long few room has = go (is_big c.version (length b
 
 -- ---- put, said by the value, and the old cells freed
 
-pub sizes_are : (ps : List (List ℕ)) → cells_size (map allocated_cell ps) ≡ space ps
-sizes_are [] = refl
-sizes_are (p ∷ ps) = omega (arith, length_filled p, sizes_are ps)
-
-pub none_some : (r : Option (List ℕ)) → r ≡ None → IsSome r → ⊥
-none_some None e h = absurd cc
-none_some (Some x) e h = absurd cc
-
 -- the cells of data
 abbrev pub data_run : HiveVersion → ℕ → List ℕ → List Cell
 data_run version place bytes = map allocated_cell (data_cells version place bytes)
 
 data_total : (version : HiveVersion) (place : ℕ) (bytes : List ℕ)
     → cells_size (data_run version place bytes) ≡ data_size version bytes
-data_total version place bytes = sizes_are (data_cells version place bytes) ∙ space_data version place bytes
+data_total version place bytes = used_size (data_cells version place bytes) ∙ space_data version place bytes
 
 pub put_unheld : (version : HiveVersion) (place : ℕ) (bytes : List ℕ) (old mid : List Bin)
     → IsPutAt (data_size version bytes) place (data_run version place bytes) old mid

@@ -18,9 +18,10 @@ use Rattle.edit_laws.specs.Owned.{In}
 use Rattle.edit_laws.specs.Pairs.{Pairwise}
 use Rattle.edit_laws.proofs.Patches.{IsPatchOf, part_patches, in_part}
 use Rattle.hive_edit.specs.Gone.{CanGo, AreGone, HasOffsets, HasSegments, IsClosed, ClosesGap, Unlists}
-use Rattle.hive_edit.proofs.ResultLemmas.{done, some_same, ok_same, unless, only_if}
+use Rattle.hive_edit.proofs.ResultLemmas.{done, some_same, ok_same, only_if}
 use Rattle.hive_edit.proofs.NodeLemmas.{numbers_there}
 use Rattle.std.proofs.lemmas.Nat.{from_le_bytes-to_le_bytes_4}
+use Rattle.hive_read.proofs.FormFacts.{unless}
 
 -- ---- what is held
 

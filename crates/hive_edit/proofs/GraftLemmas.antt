@@ -27,11 +27,13 @@ use Rattle.edit_laws.proofs.Relisting.{uses_below}
 use Rattle.edit_laws.proofs.Same.{entries_used, entries_same}
 use Rattle.edit_laws.proofs.FromLists.{children_written, inserts_child}
 use Rattle.hive_edit.specs.Grafted.{SharesAt}
-use Rattle.hive_edit.proofs.ResultLemmas.{done, then_so}
+use Rattle.hive_edit.proofs.ResultLemmas.{done}
 use Rattle.hive_edit.proofs.NodeMade.{security_counted}
 use Rattle.hive_edit.proofs.ParentLemmas.{Keeps, IsParent, parent_held, list_no_node, list_no_security, node_no_security, list_held, security_listed, security_some, security_in_list}
 use Rattle.hive_edit.proofs.PlacedLemmas.{entries_held}
 use Rattle.hive_edit.proofs.GraftRuns.{IsFormed, KeepsRange, still_stands, still_uses}
+use Rattle.hive_edit.proofs.AddedLemmas.{length_more}
+use Rattle.hive_read.proofs.FormFacts.{then-so}
 
 -- From cells b the run of a key is put into cells that were none (m), new lists name it (l), and the root's node and
 -- the security that the key shares say so (c).
@@ -61,10 +63,6 @@ pub record Grafts (b m l c : Cells) (root : ℕ) (t : Tree) (n : KeyNode) (k : T
       → (uses : ℕ) × (uses < 2 ^ 32) × (c.payload sp ≡ done (with_part 12 (to_le_bytes w32 uses) q))
   pub places : child_places b root ≡ front ++ back
   pub count_is : n.child_count ≡ length (front ++ back)
-
-length_more : (front : List ℕ) (y : ℕ) (back : List ℕ) → length (front ++ y ∷ back) ≡ length (front ++ back) + 1
-length_more [] y back = omega arith
-length_more (z ∷ front) y back = let l = length_more front y back in omega (arith, l)
 
 module _ (b m l c : Cells) (root : ℕ) (t : Tree) (n : KeyNode) (k : Tree) (y size sp list : ℕ) (s : List ℕ)
     (front back : List ℕ)
@@ -108,13 +106,13 @@ module _ (b m l c : Cells) (root : ℕ) (t : Tree) (n : KeyNode) (k : Tree) (y s
       let f : (reading security_at b sp >>= λ d. Ok d.descriptor) ≡ done s =
       sym (ap (λ (v : Bool). cond v (Ok []) (reading security_at b sp >>= λ d. Ok d.descriptor)) off)
       ∙ g.shares.descriptor in
-      let z = then_so (reading security_at b sp) (λ d. Ok d.descriptor) s f in
+      let z = then-so (reading security_at b sp) (λ d. Ok d.descriptor) s f in
       (z.0, z.1)
 
   raised : (sp ≡ nowhere → ⊥) → descriptor_at c sp ≡ descriptor_at b sp
   raised some =
       let z = secure_read some in
-      let q = then_so (b.payload sp) security_at z.0 z.1 in
+      let q = then-so (b.payload sp) security_at z.0 z.1 in
       let u = g.shares.used some in
       let listed = g.kept_l sp q.0 (g.kept_m.held sp q.0 q.1)
       (λ j. list_no_security b root t [] root t n u.path u.key sp g.parent u.reached u.uses (g.gone_is sp j)) in

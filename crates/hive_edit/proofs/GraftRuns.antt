@@ -3,7 +3,7 @@
 use Rattle.std.proofs.Common.{◌≡◌, ◌≤◌, ◌<◌, ◌⊎◌, inl, inr, ⊎_elim, ℕ, ◌+◌, Bool, true, List, [], ◌∷◌, length, map, Option, Some, None, Result, Ok, refl, sym, ap, subst, ◌∙◌, arith}
 use Rattle.nt_bytes.specs.declared.fault.HiveKind.{HiveKind}
 use Rattle.nt_bytes.specs.declared.version.HiveVersion.{HiveVersion}
-use Rattle.hive_model.specs.Bins.{Cell, Bin, Cells, cells_size, look_up, or_else}
+use Rattle.hive_model.specs.Bins.{Cell, Bin, Cells, look_up, or_else}
 use Rattle.hive_model.specs.Forms.{◌>>=◌}
 use Rattle.hive_model.specs.Tree.{Tree, key}
 use Rattle.hive_model.specs.Valid.{HoldsKeys, levels}
@@ -17,7 +17,7 @@ use Rattle.hive_model.proofs.UsedOnce.{used_once}
 use Rattle.hive_cells.specs.Held.{held_at, held_among, run_cells, IsRun}
 use Rattle.hive_cells.proofs.HeldLemmas.{payload_held, held_payload}
 use Rattle.hive_pack.specs.Numbers.{HasNumbers}
-use Rattle.hive_pack.proofs.Rows.{space, length_filled, length_text, space_tree}
+use Rattle.hive_pack.proofs.Rows.{space, length_text, space_tree}
 use Rattle.hive_pack.proofs.Found.{Has}
 use Rattle.hive_pack.proofs.Standing.{AboveStands, tree_stands}
 use Rattle.hive_pack.proofs.Singly.{key_good}
@@ -38,15 +38,11 @@ use Rattle.key_index.proofs.Runs.{among_from, has_held, run_is}
 use Rattle.hive_edit.specs.Runs.{IsPutAt}
 use Rattle.hive_edit.proofs.ResultLemmas.{done, some}
 use Rattle.hive_edit.proofs.ParentLemmas.{Keeps}
+use Rattle.hive_edit.proofs.AddedLemmas.{no_some}
+use Rattle.hive_pack.proofs.Whole.{used_size}
+use Rattle.reg_tree.proofs.Sound.{some_size}
 
 -- ---- the run
-
-sizes_are : (ps : List (List ℕ)) → cells_size (map allocated_cell ps) ≡ space ps
-sizes_are [] = refl
-sizes_are (p ∷ ps) = omega (arith, length_filled p, sizes_are ps)
-
-pub size_some : (version : HiveVersion) (shared : List ℕ) (t : Tree) → 0 < size version shared t
-size_some version shared (key h ts) = omega arith
 
 -- it is its cells
 pub record IsGraftRun (version : HiveVersion) (up : Above) (at : ℕ) (k : Tree) (run : List ℕ) : Type 0 where
@@ -60,12 +56,8 @@ pub graft_run : (version : HiveVersion) (up : Above) (at : ℕ) (k : Tree) (run 
 graft_run version up at k run e few =
     let ps = cells_of version up at k in
     let long : space ps ≡ size version up.security k = space_tree version up at k in
-    let r = run_is run ps e (omega (arith, long, few)) (omega (arith, long, size_some version up.security k)) in
+    let r = run_is run ps e (omega (arith, long, few)) (omega (arith, long, some_size version up.security k)) in
     record { long = ap length e ∙ length_text ps ∙ long; sound = r.0; cells = r.1 }
-
-no_some : (o : Option (List ℕ)) (q : List ℕ) → o ≡ None → o ≡ some q → ⊥
-no_some None q e f = absurd cc
-no_some (Some x) q e f = absurd cc
 
 -- where it was put, its cells are held, and what was held is
 pub record IsRunThere (b m : Cells) (up : Above) (at : ℕ) (k : Tree) : Type 0 where
@@ -107,7 +99,7 @@ run_there version up at k run old mid e few put = record {
     fresh_there : (o : ℕ) (q : List ℕ) → held_among o at cells ≡ Some q → held_at old o ≡ None
     fresh_there o q h =
         let a = among_from o at cells q h in
-        put.fresh o a.0 (omega (arith, a.1, sizes_are ps, space_tree version up at k, long))
+        put.fresh o a.0 (omega (arith, a.1, used_size ps, space_tree version up at k, long))
 
     stays : (o : ℕ) (z : Option (List ℕ)) {q : List ℕ} → held_among o at cells ≡ z → held_at old o ≡ some q
         → held_at mid o ≡ held_at old o

@@ -12,7 +12,7 @@ use Rattle.nt_bytes.specs.declared.fault.HiveKind.{HiveKind}
 use Rattle.nt_bytes.specs.declared.version.HiveVersion.{HiveVersion}
 use Rattle.nt_bytes.specs.Fields.{u32_in}
 use Rattle.nt_bytes.specs.Folding.{folded_order}
-use Rattle.hive_model.specs.Bins.{Bin, Cells, look_up}
+use Rattle.hive_model.specs.Bins.{Bin, look_up}
 use Rattle.hive_model.specs.Forms.{◌>>=◌}
 use Rattle.hive_model.specs.KeyNode.{KeyNode, key_node_at}
 use Rattle.hive_model.specs.Security.{security_at}
@@ -44,16 +44,18 @@ use Rattle.hive_edit.specs.declared.making.Above.{Above}
 use Rattle.hive_edit.specs.Making.{above_lists, child_fields, IsLinkable}
 use Rattle.hive_edit.specs.Grafted.{sharing, counted_more, descriptor_of, SharesAt, IsRunPut, IsGrafted}
 use Rattle.hive_edit.specs.Children.{ListsAs}
-use Rattle.hive_edit.proofs.ResultLemmas.{done, some, then_so, is_ok_of}
+use Rattle.hive_edit.proofs.ResultLemmas.{done, some}
 use Rattle.hive_edit.proofs.NodeMade.{security_text_is}
 use Rattle.hive_edit.proofs.ParentLemmas.{Keeps, IsParent, kept_parent, parent_held, lists_are, children_are, siblings_are, list_no_node, list_no_security, node_no_security}
 use Rattle.hive_edit.proofs.ParentLemmas.{lists_apart as parent_apart}
 use Rattle.hive_edit.proofs.PlacedLemmas.{name_read, node_name_read, has_place}
-use Rattle.hive_edit.proofs.MakingLemmas.{node_kept, list_kept}
+use Rattle.hive_edit.proofs.MakingLemmas.{node_kept, list_kept, one_list}
 use Rattle.hive_edit.proofs.KeyLemmas.{node_read}
 use Rattle.hive_edit.proofs.AddedLemmas.{no_some}
 use Rattle.hive_edit.proofs.GraftRuns.{IsFormed, IsRunThere, run_there, formed}
 use Rattle.hive_edit.proofs.GraftLemmas.{Grafts}
+use Rattle.key_index.proofs.Tests.{is_ok_of}
+use Rattle.hive_read.proofs.FormFacts.{then-so}
 
 -- ---- what is known of the root, the key and its place
 
@@ -172,7 +174,7 @@ module _ (version : HiveVersion) (old mid : List Bin) (root : ℕ) (t : Tree) (n
   key_node : (m : KeyNode) × (p : List ℕ) × ((look_up version mid).payload at ≡ done p) × (key_node_at p ≡ done m)
   key_node =
       let m = node_read (look_up version mid) at k is_formed.well.stands in
-      let p = then_so ((look_up version mid).payload at) key_node_at m.0 m.1 in
+      let p = then-so ((look_up version mid).payload at) key_node_at m.0 m.1 in
       (m.0, p.0, p.1, p.2)
 
   key_there : IsNode (look_up version mid) at
@@ -189,8 +191,8 @@ module _ (version : HiveVersion) (old mid : List Bin) (root : ℕ) (t : Tree) (n
       let f : (reading security_at (look_up version old) above.security >>= λ d. Ok d.descriptor) ≡ done shared =
       sym (ap (λ (v : Bool). cond v (Ok []) (descriptor_at (look_up version old) above.security)) off)
       ∙ r.shares.descriptor in
-      let z = then_so (reading security_at (look_up version old) above.security) (λ d. Ok d.descriptor) shared f in
-      let q = then_so ((look_up version old).payload above.security) security_at z.0 z.1 in
+      let z = then-so (reading security_at (look_up version old) above.security) (λ d. Ok d.descriptor) shared f in
+      let q = then-so ((look_up version old).payload above.security) security_at z.0 z.1 in
       let long = ltb-false (length q.0) 20 (security_text_is q.0 z.0 q.2).head in
       subst (λ (o : Option (List ℕ)). IsSomeAnd o (λ z. 20 ≤ length z))
       (sym (payload_held mid above.security q.0 (there.kept.held above.security q.0 q.1))) long
@@ -253,7 +255,7 @@ module _ (version : HiveVersion) (old mid : List Bin) (root : ℕ) (t : Tree) (n
           let s = ((sound_hive (look_up version old) root t r.parent.well).all.each [] root r.parent.reached).child o
           i in
           let read = plain_node false (look_up version old) o s.node s.read in
-          let q = then_so ((look_up version old).payload o) key_node_at s.node read in
+          let q = then-so ((look_up version old).payload o) key_node_at s.node read in
           name_read (look_up version mid) o s.node
           (ap (λ (z : Result (List ℕ) HiveKind). z >>= key_node_at) (there.kept.held o q.0 q.1) ∙ q.2)
           ∙ sym (node_name_read (look_up version old) o s.node read)
@@ -265,7 +267,6 @@ module _ (version : HiveVersion) (old mid : List Bin) (root : ℕ) (t : Tree) (n
           let j = subst (λ (l : List ℕ). In l o) children_still i in
           λ v. is_gt (folded_order (name_same o j v) (key_name v))
 
-one_list : (cells : Cells) (at : ℕ) → lists_at cells at 1 ≡ used_in (entries_checks cells at)
 unfolding lists_at
 one_list cells at = refl
 

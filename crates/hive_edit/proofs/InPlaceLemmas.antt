@@ -1,5 +1,5 @@
 -- Cells in which a value that holds its data itself was given other such data.
-use Rattle.std.proofs.Common.{◌≡◌, ◌≤◌, ◌<◌, ℕ, zero, suc, ◌+◌, ◌-◌, ◌^◌, ◌||◌, Bool, true, false, eqb, cond, List, [], ◌∷◌, ◌++◌, length, get_or, take, Option, Some, None, Result, Ok, Err, refl, sym, ap, subst, ◌∙◌, inl, inr, ⊎_elim, arith}
+use Rattle.std.proofs.Common.{◌≡◌, ◌≤◌, ◌<◌, ℕ, zero, suc, ◌+◌, ◌-◌, ◌^◌, Bool, true, false, eqb, cond, List, [], ◌∷◌, ◌++◌, length, get_or, take, Option, Some, None, Result, Ok, Err, refl, sym, ap, subst, ◌∙◌, inl, inr, ⊎_elim, arith}
 use Rattle.std.specs.Prelude.{◌==◌, MatchBool, find, is_some}
 use Rattle.std.specs.Option.{option_map}
 use Rattle.std.specs.List.{list_any}
@@ -31,12 +31,13 @@ use Rattle.edit_laws.proofs.Pairs.{pairwise_parts, pairwise_join}
 use Rattle.edit_laws.proofs.ChangedValues.{values_apart}
 use Rattle.hive_edit.specs.Places.{value_places, value_place}
 use Rattle.hive_edit.specs.Edits.{value_fields}
-use Rattle.hive_edit.proofs.ResultLemmas.{done, some, some_same, then_so}
+use Rattle.hive_edit.proofs.ResultLemmas.{done, some, some_same}
 use Rattle.edit_laws.proofs.Out.{placed_at}
 use Rattle.edit_laws.proofs.ValueEdits.{set_there}
 use Rattle.hive_edit.proofs.PlaceLemmas.{key_there}
 use Rattle.edit_laws.proofs.Patches.{value_written}
 use Rattle.std.proofs.Math.Bool.{or-false}
+use Rattle.hive_read.proofs.FormFacts.{then-so}
 
 -- ---- a patch, as a map from offsets to payloads
 
@@ -61,7 +62,7 @@ patched_at version old new at place part here others = record {
 
 read_payload : {F : Type 0} (form : List ℕ → Result F HiveKind) (cells : Cells) (at : ℕ) (x : F)
     → reading form cells at ≡ done x → (p : List ℕ) × (cells.payload at ≡ done p) × (form p ≡ done x)
-read_payload form cells at x r = then_so (cells.payload at) form x r
+read_payload form cells at x r = then-so (cells.payload at) form x r
 
 reads_so : {F : Type 0} (form : List ℕ → Result F HiveKind) (cells : Cells) (at : ℕ) (p : List ℕ) (x : F)
     → cells.payload at ≡ done p → form p ≡ done x → reading form cells at ≡ done x
@@ -194,7 +195,7 @@ unfolding value_list_at
 list_at_node cells x node r =
     ap (λ (q : Result KeyNode HiveKind). of_read q (λ n. cond (eqb n.value_count 0) [] (n.value_list ∷ []))) r
 
-places_at_node : (cells : Cells) (x : ℕ) (node : KeyNode) → reading key_node_at cells x ≡ done node
+pub places_at_node : (cells : Cells) (x : ℕ) (node : KeyNode) → reading key_node_at cells x ≡ done node
     → value_places cells x ≡ cond (eqb node.value_count 0) []
     (of_read (reading (offsets_in node.value_count) cells node.value_list) (λ os. os))
 unfolding value_places

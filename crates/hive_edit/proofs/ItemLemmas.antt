@@ -1,5 +1,5 @@
 -- What the payload of a key value says of the value that stands at it, and when its data are four bytes.
-use Rattle.std.proofs.Common.{◌≡◌, ◌≤◌, ◌<◌, ℕ, ◌+◌, ◌-◌, ◌^◌, ◌&&◌, ◌||◌, Bool, true, false, eqb, cond, List, [], ◌∷◌, ◌++◌, length, take, drop, Option, Some, None, Result, Ok, Err, refl, sym, ap, subst, ◌∙◌, arith, eq-eqb}
+use Rattle.std.proofs.Common.{◌≡◌, ◌≤◌, ◌<◌, ℕ, ◌+◌, ◌-◌, ◌^◌, ◌&&◌, Bool, true, false, eqb, cond, List, [], ◌∷◌, ◌++◌, length, take, Option, Some, None, Result, Ok, Err, refl, sym, ap, subst, ◌∙◌, arith, eq-eqb}
 use Rattle.std.specs.Prelude.{◌==◌, nat_lt, slice_range, option_and_then, min}
 use Rattle.std.specs.Result.{IsOk}
 use Rattle.std.specs.List.{list_any}
@@ -27,8 +27,11 @@ use Rattle.hive_model.specs.Stands.{data_or, joined_segments, big_bytes_at, data
 use Rattle.key_index.specs.Lists.{payload_in}
 use Rattle.key_index.proofs.Below.{in_payload}
 use Rattle.hive_edit.specs.Places.{IsItemHere, item_read, dword_at, value_name_of}
-use Rattle.hive_edit.proofs.ResultLemmas.{done, some, some_same, value_of, is_ok_of, unless, only_if, then_so, ok_same}
+use Rattle.hive_edit.proofs.ResultLemmas.{done, some, some_same, only_if, ok_same}
 use Rattle.std.proofs.Math.Bool.{or-false}
+use Rattle.edit_laws.proofs.Patches.{length_at}
+use Rattle.hive_read.proofs.FormFacts.{numbers-length, unless, then-so}
+use Rattle.key_index.proofs.Tests.{value_of, is_ok_of}
 
 -- ---- the fields of a value
 
@@ -65,7 +68,7 @@ value_facts p value e =
     let three = (unless (nat_lt (length p) 20) FormShort long value two.1).1 in
     let four = unless (nat_lt (length p) (20 + u16_in p 2)) FormShort fitting value three in
     let five = unless (is_overfull (u32_in p 4)) FormLength named value four.1 in
-    let n = then_so (value_name_at narrow bytes) (λ name. Ok (key_value_in p name)) value five.1 in
+    let n = then-so (value_name_at narrow bytes) (λ name. Ok (key_value_in p name)) value five.1 in
     let same : key_value_in p n.0 ≡ value = ok_same (key_value_in p n.0) value n.2 in
     record {
       is = sym same ∙ ap (λ (v : KeyValue). key_value_in p v.name) same;
@@ -106,9 +109,9 @@ pub item_facts : (cells : Cells) (at : ℕ) → IsItemHere cells at → ItemFact
 unfolding item_at
 item_facts cells at h =
     let v = value_of (item_at cells at) h in
-    let r = then_so (reading key_value_at cells at)
+    let r = then-so (reading key_value_at cells at)
     (λ value. data_of cells value >>= λ bytes. Ok (item_with value bytes)) v.0 v.1 in
-    let b = then_so (data_of cells r.0) (λ bytes. Ok (item_with r.0 bytes)) v.0 r.2 in
+    let b = then-so (data_of cells r.0) (λ bytes. Ok (item_with r.0 bytes)) v.0 r.2 in
     let same : item_with r.0 b.0 ≡ v.0 = ok_same (item_with r.0 b.0) v.0 b.2 in
     let here = in_payload key_value_at cells at r.0 r.1 in
     record {
@@ -140,9 +143,6 @@ named_here cells name at p h e =
 
 -- ---- data of four bytes
 
-take_all : (n : ℕ) (p : List ℕ) → n ≤ length p → length (take n p) ≡ n
-take_all n p h = length-take n p ∙ (omega arith)
-
 bytes_there : (n : ℕ) (p bytes : List ℕ) → bytes_in n p ≡ done bytes → (n ≤ length p) × (take n p ≡ bytes)
 unfolding bytes_in
 bytes_there n p bytes e =
@@ -153,26 +153,22 @@ pub bytes_long : (cells : Cells) (n at : ℕ) (bytes : List ℕ) → reading (by
     → length bytes ≡ n
 bytes_long cells n at bytes e =
     let b = bytes_there n (payload_in cells at) bytes (in_payload (bytes_in n) cells at bytes e) in
-    ap length (sym b.1) ∙ take_all n (payload_in cells at) b.0
-
-numbers_long : (step n : ℕ) (p : List ℕ) → length (numbers_in step n p) ≡ n
-numbers_long step Rattle.std.proofs.Common.zero p = refl
-numbers_long step (Rattle.std.proofs.Common.suc n) p = omega (arith, numbers_long step n (drop step p))
+    ap length (sym b.1) ∙ length_at n (payload_in cells at) b.0
 
 pub offsets_long : (n : ℕ) (p offsets : List ℕ) → offsets_in n p ≡ done offsets → length offsets ≡ n
 unfolding offsets_in
 offsets_long n p offsets e =
     let t = (unless (nat_lt (length p) (Rattle.std.proofs.Common.◌*◌ 4 n)) FormShort (Ok (numbers_in 4 n p))
     offsets e).1 in
-    sym (ap length (ok_same (numbers_in 4 n p) offsets t)) ∙ numbers_long 4 n p
+    sym (ap length (ok_same (numbers_in 4 n p) offsets t)) ∙ numbers-length 4 n p
 
 segments_many : (cells : Cells) (n : ℕ) (offsets bytes : List ℕ) → joined_segments cells n offsets ≡ done bytes
     → 0 < length offsets → 4 < n → 4 < length bytes
 segments_many cells n [] bytes e some big = absurd (omega arith)
 segments_many cells n (at ∷ rest) bytes e some big =
-    let part = then_so (reading (bytes_in (segment_part n)) cells at)
+    let part = then-so (reading (bytes_in (segment_part n)) cells at)
     (λ xs. joined_segments cells (n - segment_bytes) rest >>= λ ys. Ok (xs ++ ys)) bytes e in
-    let others = then_so (joined_segments cells (n - segment_bytes) rest) (λ ys. Ok (part.0 ++ ys)) bytes part.2 in
+    let others = then-so (joined_segments cells (n - segment_bytes) rest) (λ ys. Ok (part.0 ++ ys)) bytes part.2 in
     let first : length part.0 ≡ min 16344 n = bytes_long cells (segment_part n) at part.0 part.1 in
     subst (λ (xs : List ℕ). 4 < length xs) (ok_same (part.0 ++ others.0) bytes others.2)
     (omega (arith, first, length-append part.0 others.0))
@@ -180,7 +176,7 @@ segments_many cells n (at ∷ rest) bytes e some big =
 pub big_form : (n : ℕ) (p : List ℕ) (big : BigData) → big_data_of n p ≡ done big → big.segments ≡ segment_count n
 unfolding big_data_of
 big_form n p big e =
-    let r = then_so (big_data_at p) (λ (b : BigData). cond (b.segments == segment_count n) (Ok b) (Err FormLength))
+    let r = then-so (big_data_at p) (λ (b : BigData). cond (b.segments == segment_count n) (Ok b) (Err FormLength))
     big e in
     let t = only_if (r.0.segments == segment_count n) FormLength (Ok r.0) big r.2 in
     let same : r.0 ≡ big = ok_same r.0 big t.1 in
@@ -189,9 +185,9 @@ big_form n p big e =
 big_many : (cells : Cells) (n at : ℕ) (bytes : List ℕ) → big_bytes_at cells n at ≡ done bytes → 4 < n → 4 < length bytes
 unfolding big_bytes_at
 big_many cells n at bytes e big =
-    let form = then_so (reading (big_data_of n) cells at)
+    let form = then-so (reading (big_data_of n) cells at)
     (λ b. reading (offsets_in b.segments) cells b.list >>= joined_segments cells n) bytes e in
-    let list = then_so (reading (offsets_in form.0.segments) cells form.0.list) (joined_segments cells n)
+    let list = then-so (reading (offsets_in form.0.segments) cells form.0.list) (joined_segments cells n)
     bytes form.2 in
     let count : form.0.segments ≡ segment_count n =
     big_form n (payload_in cells at) form.0 (in_payload (big_data_of n) cells at form.0 form.1) in
@@ -353,7 +349,7 @@ number_outside cells at kind size place n p q h e k four s outside pl is number 
     let there : payload_in cells f.value.offset ≡ q = ap (payload_in cells) (g.place ∙ sym pl) ∙ sym is in
     let bytes : f.item.bytes ≡ take 4 q = sym o.1 ∙ ap (take 4) there in
     let long : 4 ≤ length q = subst (λ (r : List ℕ). 4 ≤ length r) there o.0 in
-    four_bytes cells at f n g.kind_is (ap length bytes ∙ take_all 4 q long) (ap (from_le_bytes w32) bytes ∙ sym number)
+    four_bytes cells at f n g.kind_is (ap length bytes ∙ length_at 4 q long) (ap (from_le_bytes w32) bytes ∙ sym number)
 
 pub no_number_size : (cells : Cells) (at kind size : ℕ) (p : List ℕ) → IsItemHere cells at → p ≡ payload_in cells at
     → kind ≡ u32_in p 12 → kind ≡ 4 → size ≡ u32_in p 4

@@ -2,12 +2,9 @@
 use Rattle.std.proofs.Common.{◌≡◌, ◌≤◌, ◌<◌, ℕ, zero, suc, ◌+◌, ◌-◌, ◌*◌, ◌/◌, ◌%◌, Bool, true, false, not, eqb, cond, List, [], ◌∷◌, ◌++◌, length, Option, Some, None, Result, Ok, Err, refl, sym, ap, subst, ◌∙◌, arith}
 use Rattle.std.specs.Prelude.{◌==◌, nat_lt, find, is_some}
 use Rattle.std.specs.Option.{is_none, option_map_or}
-use Rattle.std.specs.Ordering.{is_gt}
 use lib.ListN.{replicate}
-use Rattle.std.proofs.lemmas.List.Sums.{sum_by-cons}
 use Rattle.std.proofs.lemmas.Bool.{ne_eqb, le-ltb, lt-ltb}
 use Rattle.std.proofs.lemmas.Slice.Eq.{bytes_eq-Decides}
-use Rattle.nt_bytes.specs.Folding.{folded_order}
 use Rattle.nt_bytes.specs.declared.version.HiveVersion.{HiveVersion}
 use Rattle.hive_model.specs.Bins.{Cells}
 use Rattle.hive_model.specs.KeyNode.{KeyNode}
@@ -22,7 +19,7 @@ use Rattle.edit_laws.proofs.ChildEdits.{relisted_size}
 use Rattle.edit_laws.proofs.Found.{changed_alike}
 use Rattle.edit_laws.proofs.Patch.{folds_itself}
 use Rattle.edit_laws.proofs.Replaced.{listed_trees}
-use Rattle.edit_laws.proofs.RoomLemmas.{found_changed, make_needs}
+use Rattle.edit_laws.proofs.RoomLemmas.{found_changed, make_needs, room_cons}
 use Rattle.edit_laws.proofs.InOrder.{at_key_itself}
 use Rattle.edit_laws.proofs.Wellformed.{places_are}
 use Rattle.hive_edit.specs.Making.{made_tree}
@@ -30,6 +27,7 @@ use Rattle.hive_edit.proofs.ResultLemmas.{some}
 use Rattle.hive_edit.proofs.PlaceLemmas.{IsPlaceOf, child_place}
 use Rattle.hive_edit.proofs.LowLemmas.{BulkIs, bulk_then, name_low}
 use Rattle.hive_edit.proofs.ParentLemmas.{IsParent, children_are, siblings_are}
+use Rattle.edit_laws.proofs.Totals.{placed_length, placed_sizes, found_placed}
 
 -- ---- the edit
 
@@ -120,26 +118,6 @@ nothing_made parent name t k found there =
 
 -- ---- the bulk
 
-placed_length : (k : Tree) (us : List Tree) → length (placed k us) ≡ length us + 1
-placed_length k [] = refl
-placed_length k (u ∷ us) = go (is_gt (folded_order (head u).name (head k).name)) (placed_length k us)
-  where
-    go : (v : Bool) → length (placed k us) ≡ length us + 1
-        → length (cond v (k ∷ u ∷ us) (u ∷ placed k us)) ≡ length (u ∷ us) + 1
-    go true e = omega arith
-    go false e = omega (arith, e)
-
-placed_sizes : (version : HiveVersion) (s : List ℕ) (k : Tree) (us : List Tree)
-    → sizes_of version s (placed k us) ≡ size version s k + sizes_of version s us
-placed_sizes version s k [] = refl
-placed_sizes version s k (u ∷ us) = go (is_gt (folded_order (head u).name (head k).name)) (placed_sizes version s k us)
-  where
-    go : (v : Bool) → sizes_of version s (placed k us) ≡ size version s k + sizes_of version s us
-        → sizes_of version s (cond v (k ∷ u ∷ us) (u ∷ placed k us)) ≡ size version s k
-        + (size version s u + sizes_of version s us)
-    go true e = refl
-    go false e = omega (arith, e)
-
 shared : (s : List ℕ) → has_own s s ≡ false
 shared [] = refl
 shared (b ∷ s) = ap not ((bytes_eq-Decides (b ∷ s) (b ∷ s)).1 refl)
@@ -213,20 +191,17 @@ grown_is version parent name t n bulk g few short b =
 
 -- ---- the room
 
-pub room_next : (x : ℕ) (xs : List ℕ) → room_of (x ∷ xs) ≡ rounded (x + 32) + room_of xs
-room_next x xs = sum_by-cons (λ s. rounded (s + 32)) x xs
-
 pub room_both : (xs ys : List ℕ) → room_of (xs ++ ys) ≡ room_of xs + room_of ys
 room_both [] ys = omega arith
 room_both (x ∷ xs) ys =
-    let a = room_next x (xs ++ ys) in
-    let b = room_next x xs in
+    let a = room_cons x (xs ++ ys) in
+    let b = room_cons x xs in
     let c = room_both xs ys in omega (arith, a, b, c)
 
 pub room_alike : (k : ℕ) → room_of (replicate k (cell 4004)) ≡ 4096 * k
 room_alike zero = omega arith
 room_alike (suc k) =
-    let a = room_next (cell 4004) (replicate k (cell 4004)) in
+    let a = room_cons (cell 4004) (replicate k (cell 4004)) in
     let b = room_alike k in omega (arith, a, b)
 
 -- the lists of too many children have no room
@@ -239,7 +214,7 @@ lists_over n many =
     let rest = cond (n % 500 == 0) [] (cell (4 + 8 * (n % 500)) ∷ []) in
     let is : list_sizes n ≡ cell (4 + 4 * part_count n) ∷ (full ++ rest) =
     (λ i. cond (a i) [] (cond (b i) (cell (4 + 8 * n) ∷ []) (cell (4 + 4 * part_count n) ∷ (full ++ rest)))) in
-    let one = room_next (cell (4 + 4 * part_count n)) (full ++ rest) in
+    let one = room_cons (cell (4 + 4 * part_count n)) (full ++ rest) in
     let two = room_both full rest in
     let three = room_alike (n / 500) in
     subst (λ (l : List ℕ). 16777216 < room_of l) (sym is)
@@ -248,20 +223,6 @@ lists_over n many =
   where
     sum : (n w x y f r : ℕ) → 2097151 < n → w ≡ x + y → y ≡ f + r → f ≡ 4096 * (n / 500) → 16777216 < w
     sum n w x y f r a b c d = omega (arith, a, b, c, d)
-
-placed_found : (name : List ℕ) (k : Tree) (us : List Tree) → is_named name k ≡ true → find (is_named name) us ≡ None
-    → find (is_named name) (placed k us) ≡ Some k
-placed_found name k [] is lacks = ap (λ (v : Bool). cond v (Some k) None) is
-placed_found name k (u ∷ us) is lacks =
-    go (is_gt (folded_order (head u).name (head k).name)) (is_named name u) refl lacks
-    (λ e. placed_found name k us is e)
-  where
-    go : (v w : Bool) → is_named name u ≡ w → cond w (Some u) (find (is_named name) us) ≡ None
-        → (find (is_named name) us ≡ None → find (is_named name) (placed k us) ≡ Some k)
-        → find (is_named name) (cond v (k ∷ u ∷ us) (u ∷ placed k us)) ≡ Some k
-    go true w e n deep = ap (λ (z : Bool). cond z (Some k) (find (is_named name) (u ∷ us))) is
-    go false true e n deep = absurd cc
-    go false false e n deep = ap (λ (z : Bool). cond z (Some u) (find (is_named name) (placed k us))) e ∙ deep n
 
 none_of_name : (name : List ℕ) (k : Tree) → has_child name k ≡ false → find (is_named name) (children k) ≡ None
 none_of_name name k e = go (find (is_named name) (children k)) e
@@ -302,7 +263,7 @@ make_room version parent name t (key hd ts) found absent =
     let there : find_key parent (made_tree parent name t) ≡ Some w =
     found_changed (with_key name) parent t k (with_key_name name) found in
     let child : find (is_named name) (children w) ≡ Some nk =
-    ap (find (is_named name)) kids ∙ placed_found name nk (listed ts) (folds_itself name) (none_of_name name k lacks) in
+    ap (find (is_named name)) kids ∙ found_placed name nk (listed ts) (folds_itself name) (none_of_name name k lacks) in
     let needs = make_needs version t (made_tree parent name t) w nk parent name absent there child in
     let sizes_are : sizes version (head w).security nk ≡ cell (76 + name_bytes name) ∷ [] =
     ap (λ (s : List ℕ). sizes version s nk) same ∙ new_sizes version hd ts name in
@@ -310,7 +271,7 @@ make_room version parent name t (key hd ts) found absent =
     ap (λ (l : List Tree). length l) kids ∙ placed_length nk (listed ts) in
     let all = ap room_of (needs ∙ (λ i. list_sizes (many i) ++ sizes_are i)) in
     let both = room_both (list_sizes (length (listed ts) + 1)) (cell (76 + name_bytes name) ∷ []) in
-    let one = room_next (cell (76 + name_bytes name)) [] in
+    let one = room_cons (cell (76 + name_bytes name)) [] in
     sum (room_of (needed_sizes version t (make_key parent name) (made_tree parent name t)))
     (room_of (list_sizes (length (listed ts) + 1) ++ cell (76 + name_bytes name) ∷ []))
     (room_of (list_sizes (length (listed ts) + 1))) (room_of (cell (76 + name_bytes name) ∷ []))

@@ -25,7 +25,7 @@ use Rattle.hive_model.proofs.Spelling.{length_key_node, length_name, length_wide
 use Rattle.hive_cells.specs.Held.{held_at}
 use Rattle.hive_cells.specs.Holes.{new_bin_size}
 use Rattle.hive_cells.proofs.HeldLemmas.{payload_held, held_payload}
-use Rattle.hive_read.proofs.FormFacts.{IsBytes}
+use Rattle.hive_read.proofs.FormFacts.{IsBytes, then-so}
 use Rattle.edit_laws.specs.Owned.{In}
 use Rattle.edit_laws.proofs.Ins.{in_from}
 use Rattle.edit_laws.proofs.Out.{placed_at}
@@ -39,7 +39,7 @@ use Rattle.hive_edit.specs.Standing.{tree_of}
 use Rattle.hive_edit.specs.Making.{new_node, made_tree, above_lists, above_children, AboveIs, IsPutAt, IsLinkable, IsAddable, IsAdded, LacksNodeRoom, MayMake}
 use Rattle.hive_edit.specs.Stepped.{LacksStepRoom}
 use Rattle.hive_edit.specs.Places.{IsKeyAt}
-use Rattle.hive_edit.proofs.ResultLemmas.{done, some, then_so, is_ok_of, ok_same}
+use Rattle.hive_edit.proofs.ResultLemmas.{done, some, ok_same}
 use Rattle.hive_edit.proofs.HiveLemmas.{hive_opened}
 use Rattle.hive_edit.proofs.PlaceLemmas.{key_there}
 use Rattle.hive_edit.proofs.NodeLemmas.{node_here as node_at_key}
@@ -48,6 +48,7 @@ use Rattle.hive_edit.proofs.ParentLemmas.{Keeps, kept_well, IsParent, kept_paren
 use Rattle.hive_edit.proofs.MakingLemmas.{put_keeps, lists_still, key_done}
 use Rattle.hive_edit.proofs.JudgeLemmas.{MayTry, step_made, make_room, counted_children}
 use Rattle.hive_edit.proofs.SteppedLemmas.{IsStepMade, stepped, lacks_room}
+use Rattle.key_index.proofs.Tests.{is_ok_of}
 
 -- all that is known of the parent where a key may be made
 pub record Ready (bins : List Bin) (root : ℕ) (version : HiveVersion) (parent : List (List ℕ)) (name : List ℕ)
@@ -65,7 +66,7 @@ pub record Ready (bins : List Bin) (root : ℕ) (version : HiveVersion) (parent 
   pub at : key_place (look_up version bins) parent root ≡ some place.at
   pub bulk : place.bulk ≡ bulk_of version (made_tree parent name (tree_of (look_up version bins) root))
 
-no_slash : (name : List ℕ) → is_bad_name name ≡ false → list_any is_backslash name ≡ false
+pub no_slash : (name : List ℕ) → is_bad_name name ≡ false → list_any is_backslash name ≡ false
 no_slash name e = go (length name == 0) (list_any is_backslash name) e
   where
     go : (a b : Bool) → (a || b) ≡ false → b ≡ false
@@ -193,7 +194,7 @@ linkable bins new root version parent name place above stamp node child r e put 
         → IsSomeAnd (held_at new above.security) (λ z. 20 ≤ length z)
     secure_long b m x n new above k some_there read stands keeps says version is =
         let s = security_read b n (head k).security (node_stands b x k n stands read).security some_there in
-        let q = then_so (b.payload n.security) security_at s.0 s.1 in
+        let q = then-so (b.payload n.security) security_at s.0 s.1 in
         let held = subst (λ (c : Cells). c.payload n.security ≡ done q.0) is (keeps.held n.security q.0 q.1) in
         let long = ltb-false (length q.0) 20 (security_text_is q.0 s.0 q.2).head in
         subst (λ (o : Option (List ℕ)). IsSomeAnd o (λ z. 20 ≤ length z))

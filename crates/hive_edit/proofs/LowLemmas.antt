@@ -31,8 +31,9 @@ use Rattle.hive_edit.proofs.InPlaceLemmas.{value_first}
 use Rattle.hive_edit.proofs.InPlaceLemmas.{places_same}
 use Rattle.hive_edit.proofs.OnceLemmas.{AllWellFormed, children_well_formed}
 use Rattle.hive_edit.proofs.PlaceLemmas.{items_stand}
-use Rattle.hive_edit.proofs.ResultLemmas.{done, ok_same, then_so}
-use Rattle.hive_edit.proofs.StandingLemmas.{children_stand}
+use Rattle.hive_edit.proofs.ResultLemmas.{done, ok_same}
+use Rattle.edit_laws.proofs.Wellformed.{places_are}
+use Rattle.hive_read.proofs.FormFacts.{then-so}
 
 -- ---- values
 
@@ -41,8 +42,8 @@ pub items_length : (cells : Cells) (offsets : List ℕ) (vs : List Item) → ite
     → length offsets ≡ length vs
 items_length cells [] vs e = ap length (ok_same [] vs e)
 items_length cells (at ∷ offsets) vs e =
-    let one = then_so (item_at cells at) (λ v. items_at cells offsets >>= λ ws. Ok (v ∷ ws)) vs e in
-    let others = then_so (items_at cells offsets) (λ ws. Ok (one.0 ∷ ws)) vs one.2 in
+    let one = then-so (item_at cells at) (λ v. items_at cells offsets >>= λ ws. Ok (v ∷ ws)) vs e in
+    let others = then-so (items_at cells offsets) (λ ws. Ok (one.0 ∷ ws)) vs one.2 in
     let d = items_length cells offsets others.0 others.1 in
     let l : length (one.0 ∷ others.0) ≡ length vs = ap length (ok_same (one.0 ∷ others.0) vs others.2) in
     omega (arith, d, l)
@@ -228,7 +229,7 @@ mutual
       → units t ≤ many (tree_uses left cells at)
   units_used zero cells at (key h ts) w l = absurd (omega arith)
   units_used (suc left) cells at (key h ts) w l =
-      let places = children_stand cells at h w.stands.0 w.stands.1 in
+      let places = places_are cells at h w.stands.0 w.stands.1 in
       let own = own_many cells at (length h.values)
       (items_length cells (value_places cells at) h.values
       (subst (λ (os : List ℕ). items_at cells os ≡ done h.values) (sym (places_same cells at))

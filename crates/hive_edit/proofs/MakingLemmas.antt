@@ -32,11 +32,12 @@ use Rattle.key_index.specs.Relists.{AreApart}
 use Rattle.key_index.proofs.Meeting.{lists_apart}
 use Rattle.hive_edit.specs.declared.making.Above.{Above}
 use Rattle.hive_edit.specs.Making.{new_node, above_lists, child_fields, AboveIs, IsPutAt, IsAdded}
-use Rattle.hive_edit.proofs.ResultLemmas.{some, then_so}
+use Rattle.hive_edit.proofs.ResultLemmas.{some}
 use Rattle.hive_edit.proofs.NodeMade.{MayBeNode, node_again}
 use Rattle.hive_edit.proofs.ParentLemmas.{Keeps, IsParent, kept_parent, parent_held, lists_are, children_are, siblings_are, list_held, node_no_security, security_there}
 use Rattle.hive_edit.proofs.PlacedLemmas.{name_read, node_name_read, has_place}
 use Rattle.hive_edit.proofs.AddedLemmas.{no_some, Adds, changes, stands_new}
+use Rattle.hive_read.proofs.FormFacts.{then-so}
 
 -- where a payload was put into a cell that was none, all that was held is
 pub put_keeps : (version : HiveVersion) (payload : List ℕ) (old new : List Bin) (y : ℕ) → IsPutAt payload old new y
@@ -73,7 +74,7 @@ children_still b m root t p x k n above h keeps says =
     ∙ children_are m root t p x k n (kept_parent b m root t p x k n h keeps)
     ∙ places_same b m x (node_kept b m root t p x k n h keeps) (list_kept b m root t p x k n h keeps)
 
-one_list : (cells : Cells) (at : ℕ) → lists_at cells at 1 ≡ used_in (entries_checks cells at)
+pub one_list : (cells : Cells) (at : ℕ) → lists_at cells at 1 ≡ used_in (entries_checks cells at)
 unfolding lists_at
 one_list cells at = refl
 
@@ -184,7 +185,7 @@ placed_there version old mid root t p x k n above name y h says may put =
     name_same o i =
         let s = ((sound_hive (look_up version old) root t h.well).all.each p x h.reached).child o i in
         let read = plain_node false (look_up version old) o s.node s.read in
-        let q = then_so ((look_up version old).payload o) key_node_at s.node read in
+        let q = then-so ((look_up version old).payload o) key_node_at s.node read in
         name_read (look_up version mid) o s.node
         (ap (λ (r : Result (List ℕ) HiveKind). r >>= key_node_at) (keeps.held o q.0 q.1) ∙ q.2)
         ∙ sym (node_name_read (look_up version old) o s.node read)

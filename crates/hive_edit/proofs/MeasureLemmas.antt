@@ -1,12 +1,11 @@
 -- How many bytes a value's name and data have, by its payload.
-use Rattle.std.proofs.Common.{◌≡◌, ◌≤◌, ◌<◌, ℕ, zero, suc, ◌+◌, ◌-◌, ◌*◌, ◌/◌, ◌%◌, Bool, true, false, ◌&&◌, cond, List, [], ◌∷◌, ◌++◌, length, get_or, take, drop, Option, Some, None, Result, Ok, Err, refl, sym, ap, subst, ◌∙◌, arith}
-use Rattle.std.specs.Prelude.{◌==◌, nat_lt, nat_le, min, slice_range}
+use Rattle.std.proofs.Common.{◌≡◌, ◌≤◌, ◌<◌, ℕ, zero, suc, ◌+◌, ◌-◌, ◌*◌, ◌/◌, ◌%◌, Bool, true, false, ◌&&◌, cond, List, [], ◌∷◌, length, get_or, take, drop, Option, Some, None, Result, Ok, Err, refl, sym, ap, subst, ◌∙◌, arith}
+use Rattle.std.specs.Prelude.{◌==◌, nat_lt, nat_le, slice_range}
 use Rattle.std.specs.Result.{IsOk}
 use Rattle.std.specs.Int.{w16, w32, to_le_bytes, from_le_bytes}
 use Rattle.std.specs.List.{list_all}
 use Rattle.std.proofs.lemmas.Bool.{lt-ltb, eqb-true, eqb-false}
 use Rattle.std.proofs.lemmas.Bool.Decides.{nat_tests}
-use Rattle.std.proofs.lemmas.List.{length-append}
 use Rattle.nt_bytes.specs.declared.fault.HiveKind.{HiveKind}
 use Rattle.nt_bytes.specs.declared.fault.HiveKind.TheVariants.{FormLength, FormName}
 use Rattle.nt_bytes.specs.declared.version.HiveVersion.{HiveVersion}
@@ -17,17 +16,19 @@ use Rattle.hive_model.specs.Forms.{◌>>=◌, bytes_in}
 use Rattle.hive_model.specs.StoredNames.{stored_name, has_half_unit, is_bad_value_name, value_name_at}
 use Rattle.hive_model.specs.KeyValue.{is_narrow_value, KeyValue, key_value_at, is_in_place, data_inside}
 use Rattle.hive_model.specs.Lists.{offsets_in}
-use Rattle.hive_model.specs.Size.{segment_bytes, segment_count, segment_part, segment_sizes, data_sizes, cells_sum, cell, item_size, name_bytes, is_big, is_narrow}
+use Rattle.hive_model.specs.Size.{segment_count, data_sizes, cells_sum, cell, item_size, name_bytes, is_big, is_narrow}
 use Rattle.hive_model.specs.Tree.{Item}
 use Rattle.hive_model.specs.Walk.{reading, big_data_of}
 use Rattle.hive_model.specs.Stands.{data_or, joined_segments, big_bytes_at, data_of, item_at}
-use Rattle.hive_read.proofs.FormFacts.{held-short, bytes-drop, bytes-take}
-use Rattle.hive_pack.proofs.Items.{not_big}
+use Rattle.hive_read.proofs.FormFacts.{held-short, bytes-drop, bytes-take, unless, then-so}
 use Rattle.key_index.specs.Lists.{payload_in}
 use Rattle.key_index.proofs.Below.{in_payload}
 use Rattle.hive_edit.specs.Places.{IsItemHere, value_name_of}
-use Rattle.hive_edit.proofs.ResultLemmas.{done, ok_same, then_so, value_of, unless}
+use Rattle.hive_edit.proofs.ResultLemmas.{done, ok_same}
 use Rattle.hive_edit.proofs.ItemLemmas.{item_facts, value_facts, bytes_long, offsets_long, big_form}
+use Rattle.hive_edit.proofs.DataLemmas.{joined_long}
+use Rattle.hive_read.proofs.WeighingLemmas.{no-cells}
+use Rattle.key_index.proofs.Tests.{value_of}
 
 -- ---- names
 
@@ -49,32 +50,19 @@ wide_long (x ∷ y ∷ xs) e = let d = wide_long xs (omega (arith, e)) in omega 
 abbrev some : List ℕ → Option (List ℕ)
 some x = Some x
 
-segments_long : (cells : Cells) (n : ℕ) (offsets bytes : List ℕ) → joined_segments cells n offsets ≡ done bytes
-    → length offsets ≡ segment_count n → length bytes ≡ n
-segments_long cells n [] bytes e count = ap length (sym (ok_same [] bytes e)) ∙ omega (arith, count)
-segments_long cells n (at ∷ rest) bytes e count =
-    let part = then_so (reading (bytes_in (segment_part n)) cells at)
-    (λ xs. joined_segments cells (n - segment_bytes) rest >>= λ ys. Ok (xs ++ ys)) bytes e in
-    let others = then_so (joined_segments cells (n - segment_bytes) rest) (λ ys. Ok (part.0 ++ ys)) bytes part.2 in
-    let first : length part.0 ≡ min 16344 n = bytes_long cells (segment_part n) at part.0 part.1 in
-    let fewer : length rest ≡ segment_count (n - segment_bytes) = omega (arith, count) in
-    let deep = segments_long cells (n - segment_bytes) rest others.0 others.1 fewer in
-    subst (λ (xs : List ℕ). length xs ≡ n) (ok_same (part.0 ++ others.0) bytes others.2)
-    (omega (arith, first, deep, length-append part.0 others.0))
-
 big_long : (cells : Cells) (n at : ℕ) (bytes : List ℕ) → big_bytes_at cells n at ≡ done bytes → length bytes ≡ n
 unfolding big_bytes_at
 big_long cells n at bytes e =
-    let form = then_so (reading (big_data_of n) cells at)
+    let form = then-so (reading (big_data_of n) cells at)
     (λ b. reading (offsets_in b.segments) cells b.list >>= joined_segments cells n) bytes e in
-    let list = then_so (reading (offsets_in form.0.segments) cells form.0.list) (joined_segments cells n)
+    let list = then-so (reading (offsets_in form.0.segments) cells form.0.list) (joined_segments cells n)
     bytes form.2 in
     let count : form.0.segments ≡ segment_count n =
     big_form n (payload_in cells at) form.0 (in_payload (big_data_of n) cells at form.0 form.1) in
     let long : length list.0 ≡ form.0.segments =
     offsets_long form.0.segments (payload_in cells form.0.list) list.0
     (in_payload (offsets_in form.0.segments) cells form.0.list list.0 list.1) in
-    segments_long cells n list.0 bytes list.2 (long ∙ count)
+    joined_long cells n list.0 bytes list.2 (long ∙ count)
 
 -- data that the value does not hold itself are as many as its size says
 data_long : (cells : Cells) (value : KeyValue) (bytes : List ℕ) → data_of cells value ≡ done bytes
@@ -143,22 +131,14 @@ measures cells at p size v h i e s =
     name_is : (value : KeyValue) → reading key_value_at cells at ≡ done value
         → key_value_at (payload_in cells at) ≡ done value → v.name ≡ value_name_of p
     name_is value r here =
-        let one = then_so (reading key_value_at cells at)
+        let one = then-so (reading key_value_at cells at)
         (λ k. data_of cells k >>= λ bytes. Ok (record { name = k.name; kind = k.kind; bytes = bytes })) v i in
-        let d = then_so (data_of cells one.0)
+        let d = then-so (data_of cells one.0)
         (λ bytes. Ok (record { name = one.0.name; kind = one.0.kind; bytes = bytes })) v one.2 in
         sym (ap (λ (w : Item). w.name) (ok_same (record { name = one.0.name; kind = one.0.kind; bytes = d.0 }) v d.2))
         ∙ ap (λ (k : KeyValue). k.name) (ok_same one.0 value (sym one.1 ∙ r))
         ∙ ap (λ (q : Result KeyValue HiveKind). Rattle.hive_model.specs.Footprint.of_read q (λ k. k.name)) (sym here)
         ∙ ap value_name_of (sym e)
-
--- up to four bytes have no cell
-pub no_data_cells : (version : HiveVersion) (n : ℕ) → n ≤ 4 → cells_sum (data_sizes version n) ≡ 0
-no_data_cells version n h =
-    ap (λ (b : Bool). cells_sum
-    (cond b (8 ∷ 4 * segment_count n ∷ segment_sizes (segment_count n) n) (cond (nat_lt 4 n) (n ∷ []) [])))
-    (not_big version n h)
-    ∙ ap (λ (b : Bool). cells_sum (cond b (n ∷ []) [])) (Rattle.std.proofs.lemmas.Bool.le-ltb 4 n h)
 
 -- ---- how a name is stored
 
@@ -233,7 +213,7 @@ pub item_inside : (version : HiveVersion) (p : List ℕ) (size own name : ℕ) (
     → name ≡ name_bytes (value_name_of p) → own ≡ item_size version v
 item_inside version p size own name v m large o n =
     let a : name ≡ name_bytes v.name = n ∙ ap name_bytes (sym m.name) in
-    let b = no_data_cells version (length v.bytes) (m.inside large) in
+    let b = no-cells version (length v.bytes) (m.inside large) in
     let c : cell (20 + name) ≡ cell (20 + name_bytes v.name) = ap (λ (k : ℕ). cell (20 + k)) a in
     omega (arith, o, b, c)
 

@@ -24,7 +24,7 @@ use Rattle.hive_pack.specs.Numbers.{ItemNumbers}
 use Rattle.hive_pack.proofs.Rows.{space}
 use Rattle.hive_pack.proofs.Found.{Has, has_next, reads_in}
 use Rattle.hive_pack.proofs.Items.{item_read, data_has, item_stands}
-use Rattle.key_index.proofs.Runs.{among_from, has_held, run_is}
+use Rattle.key_index.proofs.Runs.{among_from, has_held, run_is, none_some}
 use Rattle.edit_laws.specs.Owned.{In, value_list_at}
 use Rattle.edit_laws.specs.Framed.{IsUnheld}
 use Rattle.edit_laws.specs.Pairs.{Pairwise}
@@ -35,10 +35,12 @@ use Rattle.hive_edit.specs.Given.{with_fields}
 use Rattle.hive_edit.specs.NewValue.{behind_list, added_cells, added_size, CanAdd, IsRelistedAt, LacksRoomForValue, ListsThese, PutsValue}
 use Rattle.hive_cells.specs.Holes.{new_bin_size}
 use Rattle.hive_edit.specs.Runs.{IsPutAt}
-use Rattle.hive_edit.proofs.GiveLemmas.{data_run_stands, sizes_are, none_some}
+use Rattle.hive_edit.proofs.GiveLemmas.{data_run_stands}
 use Rattle.hive_edit.proofs.GoneLemmas.{is_held, and_some}
 use Rattle.hive_edit.proofs.NewRunLemmas.{more_fit, more_long, added_space}
-use Rattle.hive_edit.proofs.ResultLemmas.{done, some, then_so}
+use Rattle.hive_edit.proofs.ResultLemmas.{done, some}
+use Rattle.hive_pack.proofs.Whole.{used_size}
+use Rattle.hive_read.proofs.FormFacts.{then-so}
 
 -- ---- the value's cell, and those of its data
 
@@ -230,7 +232,7 @@ adds_value version old new x place count list v run can c_is l_is e room fit is 
     cells = (run_is run ps e (omega (arith, size, room)) (omega (arith, size))).1
 
     p : (p : List ℕ) × (b.payload x ≡ Ok p) × (key_node_at p ≡ done can.node)
-    p = then_so (b.payload x) key_node_at can.node can.read
+    p = then-so (b.payload x) key_node_at can.node can.read
 
     x_held : held_at old x ≡ Some p.0
     x_held = payload_held old x p.0 p.1
@@ -240,7 +242,7 @@ adds_value version old new x place count list v run can c_is l_is e room fit is 
 
     fresh_there : (o : ℕ) (q : List ℕ) → held_among o place (map allocated_cell ps) ≡ Some q → held_at old o ≡ None
     fresh_there o q h = let a = among_from o place (map allocated_cell ps) q h in
-        r.put.fresh o a.0 (omega (arith, a.1, sizes_are ps, size, long))
+        r.put.fresh o a.0 (omega (arith, a.1, used_size ps, size, long))
 
     put_held : (o : ℕ) → held_at r.mid o ≡ or_else (held_among o place (map allocated_cell ps)) (held_at old o)
     put_held o = r.put.held o ∙ ap (λ (cs : List Cell). or_else (held_among o place cs) (held_at old o)) cells
@@ -283,7 +285,7 @@ pub node_held : (version : HiveVersion) (old : List Bin) (x : ℕ) (n : KeyNode)
     → reading key_node_at (look_up version old) x ≡ done n
     → IsSomeAnd (held_at old x) (λ p. 76 ≤ length p)
 node_held version old x n read =
-    let p = then_so ((look_up version old).payload x) key_node_at n read in
+    let p = then-so ((look_up version old).payload x) key_node_at n read in
     let long = (node_text p.0 n p.2).long in
     and_some (held_at old x) (λ p. 76 ≤ length p) p.0 (payload_held old x p.0 p.1) (omega (arith, long))
 

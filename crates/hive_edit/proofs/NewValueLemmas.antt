@@ -18,7 +18,7 @@ use Rattle.hive_model.specs.Walk.{reading}
 use Rattle.hive_model.specs.Footprint.{of_read, key_place, value_list_sizes, item_sizes, needed_sizes, room_of}
 use Rattle.hive_model.specs.Stands.{Stands, IsWellFormed, items_at, values_of}
 use Rattle.hive_cells.specs.Holes.{new_bin_size}
-use Rattle.hive_read.proofs.FormFacts.{IsBytes}
+use Rattle.hive_read.proofs.FormFacts.{IsBytes, then-so}
 use Rattle.edit_laws.specs.Owned.{In, value_list_at}
 use Rattle.edit_laws.specs.Owned.{value_places as owned_places}
 use Rattle.edit_laws.specs.Done.{item}
@@ -43,7 +43,7 @@ use Rattle.hive_edit.proofs.EditLemmas.{made, the_tree}
 use Rattle.hive_edit.proofs.GoneLemmas.{list_facts}
 use Rattle.hive_edit.proofs.InPlaceLemmas.{places_same}
 use Rattle.hive_edit.proofs.PlaceLemmas.{key_there, no_place, items_stand}
-use Rattle.hive_edit.proofs.ResultLemmas.{done, some, ok_same, then_so}
+use Rattle.hive_edit.proofs.ResultLemmas.{done, some, ok_same}
 use Rattle.hive_edit.proofs.LowLemmas.{items_length, bulk_is, bulk_then}
 use Rattle.hive_edit.proofs.SteppedLemmas.{IsStepMade, stepped, lacks_room}
 use Rattle.hive_edit.proofs.UnsetLemmas.{held_offsets, sized, none_named}
@@ -85,7 +85,7 @@ values_listed b x (tree_key h ts) s = go (eqb n.value_count 0) refl s.1.values
       none = λ z. refl;
     }
     go false e v =
-        let l = then_so (reading (offsets_in n.value_count) b n.value_list) (items_at b) h.values v in
+        let l = then-so (reading (offsets_in n.value_count) b n.value_list) (items_at b) h.values v in
         record {
           node = n;
           offsets = l.0;
@@ -314,7 +314,7 @@ values_then name kind bytes (tree_key h ts) none =
     pushed [] v = refl
     pushed (w ∷ vs) v = let d = pushed vs v in omega (arith, d)
 
-kept_name : (name : List ℕ) (kind : ℕ) (bytes : List ℕ) (w : Tree)
+pub kept_name : (name : List ℕ) (kind : ℕ) (bytes : List ℕ) (w : Tree)
     → (head (of_items (with_item name kind bytes) w)).name ≡ (head w).name
 kept_name name kind bytes (tree_key h ts) = refl
 

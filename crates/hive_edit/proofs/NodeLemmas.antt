@@ -20,8 +20,11 @@ use Rattle.key_index.specs.Lists.{IsNode, ListsSiblings, children_at, name_in, n
 use Rattle.key_index.proofs.Below.{in_payload}
 use Rattle.key_index.proofs.Meeting.{siblings_stand}
 use Rattle.hive_edit.specs.Places.{IsKeyAt, IsItemHere, value_places}
-use Rattle.hive_edit.proofs.ResultLemmas.{done, is_ok_of, unless, only_if, then_so, ok_same}
-use Rattle.hive_edit.proofs.StandingLemmas.{children_stand}
+use Rattle.hive_edit.proofs.ResultLemmas.{done, only_if, ok_same}
+use Rattle.edit_laws.proofs.Wellformed.{places_are}
+use Rattle.hive_edit.proofs.InPlaceLemmas.{places_at_node}
+use Rattle.key_index.proofs.Tests.{is_ok_of}
+use Rattle.hive_read.proofs.FormFacts.{unless, then-so}
 
 -- the fields of a key node are those of its payload, which is as long as they are
 record NodeFacts (p : List ℕ) (node : KeyNode) : Type 0 where
@@ -41,7 +44,7 @@ node_facts p node e =
     let three = unless (nat_lt (length p) 76) FormShort
     (cond (nat_lt (length p) (76 + u16_in p 72)) (Err FormShort) named) node two in
     let four = (unless (nat_lt (length p) (76 + u16_in p 72)) FormShort named node three.1).1 in
-    let n = then_so (key_name_at narrow bytes) (λ name. Ok (key_node_in p name)) node four in
+    let n = then-so (key_name_at narrow bytes) (λ name. Ok (key_node_in p name)) node four in
     let same : key_node_in p n.0 ≡ node = ok_same (key_node_in p n.0) node n.2 in
     record {
       is = sym same ∙ ap (λ (m : KeyNode). key_node_in p m.name) same;
@@ -114,7 +117,7 @@ kids_are_nodes cells at k = go k.0 k.1.stands
         (All-cons (IsNode cells) s.0 s.1 (node_stands cells s.0 t s.3).0 (each s.1 ts s.4))
 
     go : (t : Tree) → Stands cells at t → All (IsNode cells) (child_places cells at)
-    go (key h ts) s = subst (All (IsNode cells)) (sym (children_stand cells at h s.0 s.1)) (each s.0 ts s.2)
+    go (key h ts) s = subst (All (IsNode cells)) (sym (places_are cells at h s.0 s.1)) (each s.0 ts s.2)
 
 -- ---- values
 
@@ -122,8 +125,8 @@ pub item_each : (cells : Cells) (offsets : List ℕ) (items : List Rattle.hive_m
     → items_at cells offsets ≡ done items → All (IsItemHere cells) offsets
 item_each cells [] items e = All-nil (IsItemHere cells)
 item_each cells (at ∷ offsets) items e =
-    let one = then_so (item_at cells at) (λ v. items_at cells offsets >>= λ vs. Ok (v ∷ vs)) items e in
-    let others = then_so (items_at cells offsets) (λ vs. Ok (one.0 ∷ vs)) items one.2 in
+    let one = then-so (item_at cells at) (λ v. items_at cells offsets >>= λ vs. Ok (v ∷ vs)) items e in
+    let others = then-so (items_at cells offsets) (λ vs. Ok (one.0 ∷ vs)) items one.2 in
     All-cons (IsItemHere cells) at offsets (is_ok_of (item_at cells at) one.0 one.1)
     (item_each cells offsets others.0 others.1)
 
@@ -140,12 +143,8 @@ numbers_there count p offsets e =
     let t = unless (nat_lt (length p) (4 * count)) FormShort (Ok (numbers_in 4 count p)) offsets e in
     (ltb-false (length p) (4 * count) t.0, sym (ok_same (numbers_in 4 count p) offsets t.1))
 
--- a key's values are at the places in its list; there are none where it counts none
-values_are : (cells : Cells) (at : ℕ) (node : KeyNode) → reading key_node_at cells at ≡ done node
-    → value_places cells at ≡ cond (eqb node.value_count 0) []
-    (of_read (reading (offsets_in node.value_count) cells node.value_list) (λ os. os))
 unfolding value_places
-values_are cells at node r =
+places_at_node cells at node r =
     ap (λ (q : Result KeyNode HiveKind). of_read q
     (λ m. cond (eqb m.value_count 0) []
     (of_read (reading (offsets_in m.value_count) cells m.value_list) (λ os. os)))) r
@@ -157,7 +156,7 @@ pub no_values_here : (cells : Cells) (at : ℕ) (p : List ℕ) (count : ℕ) →
 no_values_here cells at p count k e c z =
     let n = node_here cells at p k e in
     let b : n.node.value_count ≡ 0 = ap (λ (m : KeyNode). m.value_count) n.is ∙ sym c ∙ z in
-    values_are cells at n.node n.read
+    places_at_node cells at n.node n.read
     ∙ (λ i. cond (eqb (b i) 0) []
     (of_read (reading (offsets_in n.node.value_count) cells n.node.value_list) (λ os. os)))
 
@@ -174,13 +173,13 @@ listed_values cells at (key h ts) node w r some =
     let read : (reading (offsets_in node.value_count) cells node.value_list >>= items_at cells) ≡ done h.values =
     subst (λ (b : Bool). cond b (Ok []) (reading (offsets_in node.value_count) cells node.value_list >>= items_at cells)
     ≡ done h.values) some v in
-    let l = then_so (reading (offsets_in node.value_count) cells node.value_list) (items_at cells) h.values read in
+    let l = then-so (reading (offsets_in node.value_count) cells node.value_list) (items_at cells) h.values read in
     let there = numbers_there node.value_count (payload_in cells node.value_list) l.0
     (in_payload (offsets_in node.value_count) cells node.value_list l.0 l.1) in
     record {
       long = there.0;
       places =
-          values_are cells at node r
+          places_at_node cells at node r
           ∙ ap (λ (b : Bool). cond b []
           (of_read (reading (offsets_in node.value_count) cells node.value_list) (λ os. os))) some
           ∙ ap (λ (q : Result (List ℕ) HiveKind). of_read q (λ os. os)) l.1 ∙ there.1;

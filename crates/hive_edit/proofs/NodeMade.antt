@@ -1,6 +1,6 @@
 -- The node of a new key is read as it was spelled, and a cell of security that counts one key more keeps its
 -- descriptor.
-use Rattle.std.proofs.Common.{◌≡◌, ◌≤◌, ◌<◌, ◌+◌, ◌^◌, ℕ, zero, suc, Bool, true, false, List, [], ◌∷◌, ◌++◌, length, Result, Ok, Err, refl, ap, ◌∙◌, arith}
+use Rattle.std.proofs.Common.{◌≡◌, ◌≤◌, ◌<◌, ◌+◌, ◌^◌, ℕ, Bool, true, false, List, ◌++◌, length, Result, Ok, Err, refl, ap, ◌∙◌, arith}
 use Rattle.std.specs.Prelude.{nat_lt, ◌==◌, slice_range, slice_index, if◌then◌else◌}
 use Rattle.std.specs.List.{list_any, list_all}
 use Rattle.std.specs.Int.{w32, to_le_bytes, from_le_bytes}
@@ -16,20 +16,12 @@ use Rattle.hive_model.proofs.Spelling.{key_node_again}
 use Rattle.edit_laws.specs.Written.{with_part}
 use Rattle.edit_laws.proofs.Patches.{IsPatchOf, part_patches, in_part}
 use Rattle.hive_edit.specs.Making.{new_node}
-use Rattle.hive_edit.proofs.ResultLemmas.{done, unless, only_if, ok_same}
+use Rattle.hive_edit.proofs.ResultLemmas.{done, only_if, ok_same}
 use Rattle.std.proofs.lemmas.Nat.{from_le_bytes-to_le_bytes_4}
+use Rattle.hive_pack.proofs.Items.{all_below}
+use Rattle.hive_read.proofs.FormFacts.{unless}
 
 -- ---- a node
-
-narrow_units : (name : List ℕ) → is_narrow name ≡ true → (k : ℕ) → slice_index name k < 256
-narrow_units [] e k = omega arith
-narrow_units (u ∷ us) e k = go (nat_lt u 256) refl e k (narrow_units us)
-  where
-    go : (b : Bool) → nat_lt u 256 ≡ b → (Rattle.std.specs.Prelude.◌&&◌ b (is_narrow us)) ≡ true → (k : ℕ)
-        → (is_narrow us ≡ true → (k : ℕ) → slice_index us k < 256) → slice_index (u ∷ us) k < 256
-    go true t e zero more = Rattle.std.proofs.lemmas.Bool.ltb-true u 256 t
-    go true t e (suc k) more = more e k
-    go false t e k more = absurd cc
 
 -- what a new key's name is and its parent's numbers are
 pub record MayBeNode (parent stamp security : ℕ) (name : List ℕ) : Type 0 where
@@ -64,7 +56,7 @@ is_key_node parent stamp security name m = go (is_narrow name) refl
       class_length = omega arith;
       name = m.short;
       no_backslash = m.no_backslash;
-      units = narrow_units name e;
+      units = all_below name e;
     })
     go false e = rw e (record {
       flags = omega arith;

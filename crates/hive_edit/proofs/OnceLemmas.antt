@@ -14,7 +14,8 @@ use Rattle.hive_model.specs.Tree.{Head, Tree, Trees, key, none, more, listed, he
 use Rattle.hive_model.specs.Valid.{levels, most_levels}
 use Rattle.hive_model.specs.Walk.{Check, uses, tests, clashes, reading, node_at, entries_at, below_of, failing, name_check, names_of, class_checks, security_checks, values_checks, entries_checks, keys_in_turn, children_checks, below_node, key_checks, all_checks, AreUsedOnce}
 use Rattle.hive_model.specs.Stands.{Stands, AllStand, HasApartNames, HaveApartNames, ListsChildren, IsWellFormed}
-use Rattle.hive_edit.proofs.ResultLemmas.{done, then_so}
+use Rattle.hive_edit.proofs.ResultLemmas.{done}
+use Rattle.hive_read.proofs.FormFacts.{then-so}
 
 -- ---- uses alone
 
@@ -102,7 +103,7 @@ named_node : (root : Bool) (cells : Cells) (at : ℕ) (node : KeyNode) → readi
     → (root ≡ false → 0 < length node.name) → reading (node_at root) cells at ≡ done node
 unfolding node_at
 named_node root cells at node r h =
-    let p = then_so (cells.payload at) key_node_at node r in
+    let p = then-so (cells.payload at) key_node_at node r in
     ap (λ q. q >>= λ bytes. key_node_at bytes >>= λ n. cond (eqb (length n.name) 0 && not root) (Err FormName) (Ok n))
     p.1
     ∙ ap (λ q. q >>= λ n. cond (eqb (length n.name) 0 && not root) (Err FormName) (Ok n)) p.2

@@ -39,7 +39,7 @@ use Rattle.hive_edit.specs.Places.{IsKeyAt}
 use Rattle.hive_edit.specs.Making.{AboveIs}
 use Rattle.hive_edit.specs.Dropped.{CanRemove}
 use Rattle.hive_edit.specs.Deleting.{pair, pair_from, pair_place, levels_left}
-use Rattle.hive_edit.proofs.ResultLemmas.{done, some, some_same, ok_same, then_so}
+use Rattle.hive_edit.proofs.ResultLemmas.{done, some, some_same, ok_same}
 use Rattle.hive_edit.proofs.GoneLemmas.{is_held, and_some}
 use Rattle.hive_edit.proofs.NodeMade.{security_text_is}
 use Rattle.hive_edit.proofs.PlaceLemmas.{IsPlaceOf, child_place, key_there}
@@ -47,6 +47,7 @@ use Rattle.hive_edit.proofs.KeyLemmas.{node_read}
 use Rattle.hive_edit.proofs.NodeLemmas.{node_here}
 use Rattle.hive_edit.proofs.ParentLemmas.{IsParent, node_stands, security_read, parent_held, lists_are, children_are, siblings_are, lists_apart, list_no_node}
 use Rattle.hive_edit.proofs.RemovedLemmas.{security_reads}
+use Rattle.hive_read.proofs.FormFacts.{then-so}
 
 -- ---- the search
 
@@ -347,7 +348,7 @@ can_remove version bins root t path p above h says = record {
     secure = λ o i.
         let z = security_reads b root t h.stored p.above h.there h.node h.parent_is o
         (secure_cells b root t path p h o i) in
-        let r = then_so (b.payload o) security_at z.0 z.1 in
+        let r = then-so (b.payload o) security_at z.0 z.1 in
         let size = ltb-false (length r.0) 20 (security_text_is r.0 z.0 r.2).head in
         and_some (held_at bins o) (λ w. 20 ≤ length w) r.0 (payload_held bins o r.0 r.1) size;
   };

@@ -12,10 +12,9 @@ use Rattle.hive_model.specs.Walk.{reading, nowhere, entries_at, entries_checks, 
 use Rattle.hive_model.specs.Footprint.{of_read, used_in, child_places, security_cell_at, list_cells_at}
 use Rattle.hive_model.specs.Stands.{Stands, security_of, IsWellFormed}
 use Rattle.edit_laws.specs.Owned.{Role, node, class, security, value_list, value, lists, In, node_name, Reaches, HasRole, IsSecurity, class_cell_at}
-use Rattle.edit_laws.specs.Pairs.{Pairwise}
 use Rattle.edit_laws.specs.Revalues.{all_value_cells}
 use Rattle.edit_laws.specs.Uses.{Agree, Once, plain, secure, own_uses}
-use Rattle.edit_laws.proofs.Pairs.{InParts, pairwise_parts, pairwise_to, in_map_from}
+use Rattle.edit_laws.proofs.Pairs.{InParts, pairwise_parts, pairwise_to}
 use Rattle.edit_laws.proofs.Out.{of_node_is}
 use Rattle.edit_laws.proofs.Untouched.{are_once}
 use Rattle.edit_laws.proofs.Apart.{IsOne}
@@ -23,11 +22,12 @@ use Rattle.edit_laws.proofs.Held.{are_held}
 use Rattle.edit_laws.proofs.Same.{same_name}
 use Rattle.edit_laws.proofs.SameTree.{IsSameKey, tree_same, uses_same, places_kept}
 use Rattle.edit_laws.proofs.Around.{hive_once, once_hive}
-use Rattle.edit_laws.proofs.ChangedValues.{own_once}
+use Rattle.edit_laws.proofs.ChangedValues.{own_once, plain_differ}
 use Rattle.key_index.specs.Lists.{children_at, lists_at, ListsSiblings}
 use Rattle.key_index.specs.Relists.{AreApart}
 use Rattle.key_index.proofs.Meeting.{siblings_stand}
-use Rattle.hive_edit.proofs.ResultLemmas.{done, then_so, ok_same}
+use Rattle.hive_edit.proofs.ResultLemmas.{done, ok_same}
+use Rattle.hive_read.proofs.FormFacts.{then-so}
 
 -- ---- cells that are held stay
 
@@ -92,13 +92,13 @@ kept_parent b c root t p x k n h keeps = record {
   reached = reach_kept b c root p x (λ q z r. kept_key b c root t q z h.well keeps r) h.reached;
   below = kept_well b c x k h.below keeps;
   read =
-      let r = then_so (b.payload x) key_node_at n h.read in
+      let r = then-so (b.payload x) key_node_at n h.read in
       ap (λ (q : Result (List ℕ) HiveKind). q >>= key_node_at) (keeps.held x r.0 r.1) ∙ r.2;
 }
 
 pub parent_held : (b : Cells) (root : ℕ) (t : Tree) (p : List (List ℕ)) (x : ℕ) (k : Tree) (n : KeyNode)
     → IsParent b root t p x k n → (q : List ℕ) × (b.payload x ≡ done q) × (key_node_at q ≡ done n)
-parent_held b root t p x k n h = then_so (b.payload x) key_node_at n h.read
+parent_held b root t p x k n h = then-so (b.payload x) key_node_at n h.read
 
 -- ---- its lists
 
@@ -122,12 +122,6 @@ pub siblings_are : (b : Cells) (root : ℕ) (t : Tree) (p : List (List ℕ)) (x 
     → ListsSiblings b n.child_list n.child_count
 siblings_are b root t p x k n h = siblings_stand b x k n h.below.stands h.below.names h.read
 
-plain_differ : (xs : List ℕ) → Once (plain xs) → Pairwise (λ p q. p ≡ q → ⊥) xs
-plain_differ [] h = tt
-plain_differ (x ∷ xs) h = (
-  λ y i e. let both = h.0 (y, false) (in_map_from (λ (o : ℕ). (o, false)) xs y i) e in
-      absurd (let d = both.0 in cc),
-  plain_differ xs h.1,
 )
 
 pub lists_apart : (b : Cells) (root : ℕ) (t : Tree) (p : List (List ℕ)) (x : ℕ) (k : Tree) (n : KeyNode)
@@ -252,5 +246,5 @@ security_read b n d e some =
     let off : (n.security == nowhere) ≡ false = Rattle.std.proofs.lemmas.Bool.ne_eqb n.security nowhere some in
     let f : (reading security_at b n.security >>= λ s. Ok s.descriptor) ≡ done d =
     sym (ap (λ (v : Bool). cond v (Ok []) (reading security_at b n.security >>= λ s. Ok s.descriptor)) off) ∙ e in
-    let s = then_so (reading security_at b n.security) (λ z. Ok z.descriptor) d f in
+    let s = then-so (reading security_at b n.security) (λ z. Ok z.descriptor) d f in
     (s.0, s.1)

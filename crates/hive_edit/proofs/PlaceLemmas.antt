@@ -1,5 +1,5 @@
 -- The keys and values that names lead to, in cells and in the tree that stands in them.
-use Rattle.std.proofs.Common.{◌≡◌, ◌<◌, ◌||◌, ℕ, Bool, true, false, eqb, cond, List, [], ◌∷◌, length, map, Option, Some, None, Result, Ok, Err, refl, sym, ap, subst, ◌∙◌, arith}
+use Rattle.std.proofs.Common.{◌≡◌, ◌<◌, ℕ, Bool, true, false, eqb, cond, List, [], ◌∷◌, length, map, Option, Some, None, Result, Ok, Err, refl, sym, ap, subst, ◌∙◌, arith}
 use Rattle.std.specs.Prelude.{find, option_and_then}
 use Rattle.std.specs.Option.{IfSome, is_some}
 use Rattle.std.specs.List.{list_any}
@@ -16,10 +16,11 @@ use Rattle.hive_model.specs.Footprint.{of_read, child_places, is_node_named, is_
 use Rattle.hive_model.specs.Stands.{KeyStands, Stands, AllStand, IsWellFormed, data_of, item_at, items_at, values_of}
 use Rattle.hive_edit.specs.Found.{found_dword}
 use Rattle.hive_edit.specs.Places.{IsKeyAt, value_places, value_place, item_read, dword_at}
-use Rattle.hive_edit.proofs.ResultLemmas.{done, some, ok_same, then_so}
-use Rattle.hive_edit.proofs.StandingLemmas.{children_stand}
+use Rattle.hive_edit.proofs.ResultLemmas.{done, some, ok_same}
 use Rattle.hive_edit.proofs.OnceLemmas.{AllWellFormed, children_well_formed}
 use Rattle.std.proofs.Math.Bool.{or-false}
+use Rattle.edit_laws.proofs.Wellformed.{places_are}
+use Rattle.hive_read.proofs.FormFacts.{then-so}
 
 abbrev nowhere : Option ℕ
 nowhere = None
@@ -62,7 +63,7 @@ pub child_place : (cells : Cells) (name : List ℕ) (at : ℕ) (t : Tree) → Is
     → IsPlaceOf cells (find (is_node_named cells name) (child_places cells at)) (find (is_named name) (children t))
 child_place cells name at (key h ts) w =
     subst (λ (os : List ℕ). IsPlaceOf cells (find (is_node_named cells name) os) (find (is_named name) (listed ts)))
-    (sym (children_stand cells at h w.stands.0 w.stands.1))
+    (sym (places_are cells at h w.stands.0 w.stands.1))
     (child_found cells name w.stands.0 ts (children_well_formed cells at h ts w))
 
 -- the key at a path is in the cells where it is in the tree
@@ -150,7 +151,7 @@ pub child_names_stand : (cells : Cells) (name_at : ℕ → List ℕ) (at : ℕ) 
     → ((b : ℕ) (u : Tree) → Stands cells b u → name_at b ≡ (head u).name)
     → IsWellFormed cells at t → map name_at (child_places cells at) ≡ map (λ u. (head u).name) (children t)
 child_names_stand cells name_at at (key h ts) n w =
-    ap (map name_at) (children_stand cells at h w.stands.0 w.stands.1)
+    ap (map name_at) (places_are cells at h w.stands.0 w.stands.1)
     ∙ names_stand cells name_at w.stands.0 ts n w.stands.2
 
 -- ---- values
@@ -196,9 +197,9 @@ value_named : (cells : Cells) (at : ℕ) (v : Item) (name : List ℕ) → item_a
     → is_value_named cells name at ≡ is_item name v
 unfolding item_at
 value_named cells at v name e =
-    let read = then_so (reading key_value_at cells at)
+    let read = then-so (reading key_value_at cells at)
     (λ value. data_of cells value >>= λ bytes. Ok (item_with value bytes)) v e in
-    let bytes = then_so (data_of cells read.0) (λ bytes. Ok (item_with read.0 bytes)) v read.2 in
+    let bytes = then-so (data_of cells read.0) (λ bytes. Ok (item_with read.0 bytes)) v read.2 in
     let same : read.0.name ≡ v.name = ap (λ (i : Item). i.name) (ok_same (item_with read.0 bytes.0) v bytes.2) in
     ap (λ (r : Result KeyValue HiveKind). list_any (folds_same name) (names_of (λ value. value.name) r)) read.1
     ∙ or-false (folds_same name read.0.name) ∙ ap (folds_same name) same
@@ -208,8 +209,8 @@ item_found : (cells : Cells) (name offsets : List ℕ) (items : List Item) → i
 item_found cells name [] items e =
     subst (λ (vs : List Item). IsItemAt cells None (find (is_item name) vs)) (ok_same [] items e) tt
 item_found cells name (at ∷ offsets) items e =
-    let one = then_so (item_at cells at) (λ v. items_at cells offsets >>= λ vs. Ok (v ∷ vs)) items e in
-    let others = then_so (items_at cells offsets) (λ vs. Ok (one.0 ∷ vs)) items one.2 in
+    let one = then-so (item_at cells at) (λ v. items_at cells offsets >>= λ vs. Ok (v ∷ vs)) items e in
+    let others = then-so (items_at cells offsets) (λ vs. Ok (one.0 ∷ vs)) items one.2 in
     subst (λ (vs : List Item). IsItemAt cells (find (is_value_named cells name) (at ∷ offsets))
     (find (is_item name) vs)) (ok_same (one.0 ∷ others.0) items others.2)
     (subst (λ (b : Bool). IsItemAt cells (cond b (Some at) (find (is_value_named cells name) offsets))

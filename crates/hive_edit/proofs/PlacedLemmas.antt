@@ -14,7 +14,8 @@ use Rattle.hive_model.specs.Footprint.{used_in, of_read}
 use Rattle.edit_laws.specs.Owned.{In, first_or_empty, node_name}
 use Rattle.edit_laws.specs.Relists.{HasPlace}
 use Rattle.key_index.specs.Lists.{name_in, name_of, payload_in}
-use Rattle.hive_edit.proofs.ResultLemmas.{done, then_so}
+use Rattle.hive_edit.proofs.ResultLemmas.{done}
+use Rattle.hive_read.proofs.FormFacts.{then-so}
 
 -- ---- names
 
@@ -23,7 +24,7 @@ pub name_read : (cells : Cells) (at : ℕ) (n : KeyNode) → reading key_node_at
     → name_in cells at ≡ n.name
 unfolding payload_in name_of
 name_read cells at n r =
-    let p = then_so (cells.payload at) key_node_at n r in
+    let p = then-so (cells.payload at) key_node_at n r in
     ap (λ (q : Result (List ℕ) HiveKind). of_read (key_node_at (of_read q (λ z. z))) (λ m. m.name)) p.1
     ∙ ap (λ (q : Result KeyNode HiveKind). of_read q (λ m. m.name)) p.2
 
@@ -69,24 +70,24 @@ Held cells o = (q : List ℕ) × (cells.payload o ≡ done q)
 held_by : {F : Type 0} (form : List ℕ → Result F HiveKind) (cells : Cells) (at o : ℕ) (x : F)
     → reading form cells at ≡ done x → at ≡ o → Held cells o
 held_by form cells at o x r e =
-    let p = then_so (cells.payload at) form x r in
+    let p = then-so (cells.payload at) form x r in
     (p.0, ap cells.payload (sym e) ∙ p.1)
 
 leaf_held : (cells : Cells) (lists offsets : List ℕ) (o : ℕ) → joined_at cells lists ≡ done offsets
     → In (used_in (leaves_checks cells lists)) o → Held cells o
 leaf_held cells [] offsets o r h = absurd h
 leaf_held cells (at ∷ rest) offsets o r h =
-    let leaf = then_so (reading leaf_at cells at) (λ xs. joined_at cells rest >>= λ ys. Ok (xs ++ ys)) offsets r in
-    let others = then_so (joined_at cells rest) (λ ys. Ok (leaf.0 ++ ys)) offsets leaf.2 in
+    let leaf = then-so (reading leaf_at cells at) (λ xs. joined_at cells rest >>= λ ys. Ok (xs ++ ys)) offsets r in
+    let others = then-so (joined_at cells rest) (λ ys. Ok (leaf.0 ++ ys)) offsets leaf.2 in
     ⊎_elim (λ e. held_by leaf_at cells at o leaf.0 leaf.1 e) (λ i. leaf_held cells rest others.0 o others.1 i) h
 
 pub entries_held : (cells : Cells) (at : ℕ) (offsets : List ℕ) (o : ℕ) → entries_at cells at ≡ done offsets
     → In (used_in (entries_checks cells at)) o → Held cells o
 unfolding entries_at entries_checks
 entries_held cells at offsets o r (inl e) =
-    let p = then_so (reading list_at cells at) (entries_of cells) offsets r in held_by list_at cells at o p.0 p.1 e
+    let p = then-so (reading list_at cells at) (entries_of cells) offsets r in held_by list_at cells at o p.0 p.1 e
 entries_held cells at offsets o r (inr h) =
-    let p = then_so (reading list_at cells at) (entries_of cells) offsets r in
+    let p = then-so (reading list_at cells at) (entries_of cells) offsets r in
     go p.0 (is_list_of_lists p.0.kind) p.2
     (subst (λ (q : Result SubkeyList HiveKind). In
     (used_in (below_of q (λ list. if is_list_of_lists list.kind then leaves_checks cells list.offsets else []))) o)

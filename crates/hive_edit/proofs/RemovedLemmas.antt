@@ -28,10 +28,12 @@ use Rattle.key_index.specs.Relists.{AreApart}
 use Rattle.hive_edit.specs.declared.making.Above.{Above}
 use Rattle.hive_edit.specs.Making.{AboveIs, child_fields}
 use Rattle.hive_edit.specs.Dropped.{IsRemoved, left_children}
-use Rattle.hive_edit.proofs.ResultLemmas.{done, some, then_so}
+use Rattle.hive_edit.proofs.ResultLemmas.{done, some}
 use Rattle.hive_edit.proofs.ParentLemmas.{IsParent, lists_are, children_are, siblings_are, security_at_node, security_some, security_read}
 use Rattle.hive_edit.proofs.AddedLemmas.{no_some}
 use Rattle.hive_edit.proofs.DroppedLemmas.{shortened_keeps}
+use Rattle.hive_edit.proofs.MakingLemmas.{one_list}
+use Rattle.hive_read.proofs.FormFacts.{then-so}
 
 -- ---- children without one
 
@@ -105,7 +107,6 @@ security_reads b root t p x k n h o u =
         let s = security_read b m hd.security stands.1.security listed.1 in
         (s.0, ap (reading security_at b) (sym listed.0) ∙ s.1)
 
-one_list : (cells : Cells) (at : ℕ) → lists_at cells at 1 ≡ used_in (entries_checks cells at)
 unfolding lists_at
 one_list cells at = refl
 
@@ -192,7 +193,7 @@ module _ (version : HiveVersion) (old new : List Bin) (root : ℕ) (t : Tree) (p
           → descriptor_at (look_up version new) o ≡ descriptor_at cells_old o
       descriptor o i =
           let z = security_reads cells_old root t p x k n h o (secure_there o i) in
-          let q = then_so (cells_old.payload o) security_at z.0 z.1 in
+          let q = then-so (cells_old.payload o) security_at z.0 z.1 in
           let held = payload_held old o q.0 q.1 in
           let nx : o ≡ x → ⊥ = λ same. apart true (subst (λ (w : ℕ). In uses (w, true)) same (used_there o true i)) in
           let noted : held_at r.noted o ≡ Some q.0 = r.fields.others o nx

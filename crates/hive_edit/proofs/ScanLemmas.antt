@@ -1,20 +1,14 @@
 -- Numbers at equal steps, looked through one by one.
-use Rattle.std.proofs.Common.{◌≡◌, ◌<◌, ◌≤◌, ◌-◌, ◌*◌, ℕ, zero, suc, Bool, true, false, cond, List, ◌∷◌, length, drop, Option, None, refl, sym, ap, subst, ◌∙◌, arith, length-drop}
+use Rattle.std.proofs.Common.{◌≡◌, ◌<◌, ◌≤◌, ◌-◌, ◌*◌, ℕ, zero, suc, Bool, true, false, cond, List, ◌∷◌, length, drop, Option, None, sym, ap, subst, ◌∙◌, arith, length-drop}
 use Rattle.std.specs.Prelude.{find}
 use Rattle.std.specs.List.{All}
 use Rattle.nt_bytes.specs.Fields.{u32_in}
 use Rattle.hive_model.specs.Lists.{numbers_in}
 use Rattle.hive_edit.proofs.ResultLemmas.{some}
+use Rattle.cell_forms.proofs.Steps.{numbers_more}
 
 abbrev nothing : Option ℕ
 nothing = None
-
-numbers_more : (step left : ℕ) (rest : List ℕ) → 0 < left
-    → numbers_in step left rest ≡ u32_in rest 0 ∷ numbers_in step (left - 1) (drop step rest)
-numbers_more step zero rest lt = absurd (omega (arith, lt))
-numbers_more step (suc left) rest lt =
-    let e : suc left - 1 ≡ left = omega arith in
-    rw e refl
 
 -- the first passes, so it is the one that is found
 pub scan_here : (test : ℕ → Bool) (left at : ℕ) (rest : List ℕ) (whole : Option ℕ) → 0 < left → at ≡ u32_in rest 0

@@ -21,7 +21,7 @@ use Rattle.hive_model.specs.Walk.{reading}
 use Rattle.hive_model.specs.Footprint.{key_place, is_value_named}
 use Rattle.hive_model.specs.Stands.{Stands, data_of, item_at, IsWellFormed}
 use Rattle.hive_cells.specs.Held.{held_at, patched}
-use Rattle.hive_read.proofs.FormFacts.{held-short, value-facts}
+use Rattle.hive_read.proofs.FormFacts.{held-short, value-facts, then-so}
 use Rattle.reg_tree.specs.Fitting.{Fits}
 use Rattle.reg_tree.proofs.Edited.{edited_valid}
 use Rattle.key_index.specs.Lists.{payload_in}
@@ -29,7 +29,7 @@ use Rattle.hive_edit.specs.Hive.{HiveCells, cells_in, hive_of, IsHive}
 use Rattle.hive_edit.specs.Edits.{value_fields, held_itself, holds_itself, if_inside, inside_place, IsEditedInPlace}
 use Rattle.hive_edit.specs.Places.{IsItemHere, value_place, value_places}
 use Rattle.hive_edit.specs.Standing.{tree_of}
-use Rattle.hive_edit.proofs.ResultLemmas.{done, some, some_same, ok_same, then_so}
+use Rattle.hive_edit.proofs.ResultLemmas.{done, some, some_same, ok_same}
 use Rattle.hive_edit.proofs.StandingLemmas.{tree_is}
 use Rattle.hive_edit.proofs.PlaceLemmas.{key_there, IsItemAt, place_of_item}
 use Rattle.hive_cells.proofs.HeldLemmas.{payload_held}
@@ -158,10 +158,10 @@ short_item b name key v k value well e r inside =
     with_data : (item : Item) → find_item name k ≡ some item → item_at b v ≡ done item → (o : Option (List ℕ))
         → data_inside value ≡ o → is_some o ≡ true → ShortItem b name k
     with_data item f i (Some d) h t =
-        let read = then_so (reading key_value_at b v)
+        let read = then-so (reading key_value_at b v)
         (λ u. data_of b u >>= λ bytes. Ok (record { name = u.name; kind = u.kind; bytes = bytes })) item i in
         let same : read.0 ≡ value = ok_same read.0 value (sym read.1 ∙ r) in
-        let bytes = then_so (data_of b read.0)
+        let bytes = then-so (data_of b read.0)
         (λ bytes. Ok (record { name = read.0.name; kind = read.0.kind; bytes = bytes })) item read.2 in
         let read_data : data_of b value ≡ done bytes.0 =
         subst (λ (u : KeyValue). data_of b u ≡ done bytes.0) same bytes.1 in
@@ -190,7 +190,7 @@ record EditThere (version : HiveVersion) (t : Tree) (path : List (List ℕ)) (na
 pub name_short : (b : Cells) (name : List ℕ) (key v : ℕ) (value : KeyValue) → value_place b name key ≡ some v
     → reading key_value_at b v ≡ done value → length name ≤ 16383
 name_short b name key v value e r =
-    let p = then_so (b.payload v) key_value_at value r in
+    let p = then-so (b.payload v) key_value_at value r in
     let long = value-facts p.0 value p.2 in
     let among = found_among (is_value_named b name) (value_places b key) v e in
     let same = folds_length name value.name (named_folds b name v value r among.passes) in
@@ -318,7 +318,7 @@ patch_room old root version bulk h path name v part is view e long =
     let b = look_up version old in
     let i = inside_there b path name root v
     (subst (λ (g : HiveCells). inside_place (cells_in g) path name g.root ≡ some v) (sym view) e) in
-    let p = then_so (b.payload v) key_value_at i.value i.read in
+    let p = then-so (b.payload v) key_value_at i.value i.read in
     let f = value_facts p.0 i.value p.2 in
     let room : 4 + length part ≤ length p.0 = omega (arith, long, f.long) in
     subst (λ (o : Option (List ℕ)). IsSomeAnd o (λ q. 4 + length part ≤ length q)) (sym (payload_held old v p.0 p.1))

@@ -10,12 +10,10 @@ use Rattle.hive_model.specs.Walk.{reading, entries_at}
 use Rattle.hive_model.specs.Footprint.{of_read, child_places}
 use Rattle.hive_model.specs.Stands.{KeyStands, Stands, AllStand, IsWellFormed}
 use Rattle.hive_edit.specs.Standing.{list_read, head_of, tree_at, tree_of}
+use Rattle.edit_laws.proofs.Wellformed.{places_are}
 
--- the children of a key that stands are at the places that its node names
-pub children_stand : (cells : Cells) (at : ℕ) (h : Head) (offsets : List ℕ) → KeyStands cells at h offsets
-    → child_places cells at ≡ offsets
 unfolding child_places
-children_stand cells at h offsets s =
+places_are cells at h offsets s =
     ap (λ (r : Result KeyNode HiveKind). of_read r
     (λ node. cond (eqb node.child_count 0) [] (of_read (entries_at cells node.child_list) (λ os. os)))) s.read
     ∙ go (eqb s.node.child_count 0) s.children
@@ -49,7 +47,7 @@ mutual
   tree_at_is (suc left) cells at (key h ts) s l =
       let heads : head_of cells (reading key_node_at cells at) ≡ h = head_stands cells at h s.0 s.1 in
       let below : trees (map (tree_at left cells) (child_places cells at)) ≡ ts =
-      ap (λ (os : List ℕ). trees (map (tree_at left cells) os)) (children_stand cells at h s.0 s.1)
+      ap (λ (os : List ℕ). trees (map (tree_at left cells) os)) (places_are cells at h s.0 s.1)
       ∙ trees_at_are left cells s.0 ts s.2 (omega arith) in
       λ i. key (heads i) (below i)
 

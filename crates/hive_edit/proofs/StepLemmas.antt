@@ -36,7 +36,7 @@ use Rattle.hive_edit.specs.Standing.{tree_of}
 use Rattle.hive_edit.proofs.ResultLemmas.{done, some}
 use Rattle.hive_edit.proofs.EditLemmas.{the_tree}
 use Rattle.hive_edit.proofs.HiveLemmas.{hive_opened}
-use Rattle.hive_edit.proofs.InPlaceLemmas.{found_among}
+use Rattle.hive_edit.proofs.InPlaceLemmas.{found_among, places_same}
 use Rattle.hive_edit.proofs.StandingLemmas.{tree_is}
 
 -- ---- a step that is done
@@ -96,7 +96,6 @@ one_of_them b (w ∷ front) back v h =
     (pairwise_parts (λ p q. p ≡ q → ⊥) (used_in (value_checks b [] w)) (cells_of_values b (front ++ (v ∷ back)))
     h).right
 
-pub places_same : (cells : Cells) (at : ℕ) → owned_places cells at ≡ value_places cells at
 unfolding owned_places value_places
 places_same cells at = refl
 

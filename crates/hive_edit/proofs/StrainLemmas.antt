@@ -29,6 +29,7 @@ use Rattle.hive_pack.proofs.Rows.{space_data}
 use Rattle.hive_edit.proofs.GiveLemmas.{some_size}
 use Rattle.hive_edit.proofs.SteppedLemmas.{IsStepMade, IsWithinRoom, stepped, lacks_room}
 use Rattle.hive_edit.proofs.ThereLemmas.{ThereIs, there_in, edit_there, there_done}
+use Rattle.hive_edit.proofs.NewValueLemmas.{kept_name}
 
 abbrev become : ℕ → List ℕ → Item → Item
 become kind bytes v = record v { kind = kind; bytes = bytes }
@@ -59,10 +60,6 @@ item_then name kind bytes (tree_key h ts) one e =
     (cond (is_some o) (at_first (is_item name) (become kind bytes) h.values)
     (h.values ++ record { name = name; kind = kind; bytes = bytes } ∷ []))) e
     ∙ first_found name kind bytes h.values one e
-
-kept_name : (name : List ℕ) (kind : ℕ) (bytes : List ℕ) (w : Tree)
-    → (head (of_items (with_item name kind bytes) w)).name ≡ (head w).name
-kept_name name kind bytes (tree_key h ts) = refl
 
 data_total : (version : HiveVersion) (v : Item)
     → total (map cell (data_sizes version (length v.bytes))) ≡ data_size version v.bytes

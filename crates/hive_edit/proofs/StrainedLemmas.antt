@@ -16,14 +16,14 @@ use Rattle.hive_model.specs.Walk.{reading}
 use Rattle.edit_laws.specs.Sizes.{AreGrown}
 use Rattle.edit_laws.proofs.Grown.{strain_behind}
 use Rattle.edit_laws.proofs.Out.{placed_at}
-use Rattle.edit_laws.proofs.RoomLemmas.{room_some, some_all, some_left, strain_least}
+use Rattle.edit_laws.proofs.RoomLemmas.{room_some, some_all, some_left, strain_least, room_cons}
 use Rattle.hive_edit.specs.Hive.{HiveCells, hive_of, IsHive}
 use Rattle.hive_edit.specs.Making.{made_tree}
 use Rattle.hive_edit.specs.Standing.{tree_of}
 use Rattle.hive_edit.specs.Stepped.{IsStepped}
 use Rattle.hive_edit.specs.Steps.{AreStepped, AreStrained, IsLeastRoom, values_in, children_in}
 use Rattle.hive_edit.proofs.EditLemmas.{the_tree}
-use Rattle.hive_edit.proofs.JudgeLemmas.{counted_children, nothing_made, room_next, room_both, room_alike}
+use Rattle.hive_edit.proofs.JudgeLemmas.{counted_children, nothing_made, room_both, room_alike}
 use Rattle.hive_edit.proofs.KeyLemmas.{node_read}
 use Rattle.hive_edit.proofs.NewValueLemmas.{can_add, values_many}
 use Rattle.hive_edit.proofs.ParentLemmas.{IsParent}
@@ -101,7 +101,7 @@ pub record HasRoom (size room : ℕ) : Type 0 where
 values_least : (n : ℕ) → (n ≡ 0 → ⊥) → HasRoom (4 * n) (room_of (value_list_sizes n))
 values_least n some_values =
     subst (λ (l : List ℕ). HasRoom (4 * n) (room_of l)) (sym (one_list (ne_eqb n 0 some_values)))
-    (let one = room_next (cell (4 * n)) [] in
+    (let one = room_cons (cell (4 * n)) [] in
     let p = page (4 * n) in
     record { page = omega (arith, one, p); least = long (room_of (cell (4 * n) ∷ [])) one })
   where
@@ -116,12 +116,12 @@ unfolding list_sizes
 lists_least n some_children = elim (cases_lt n 501) [
   | inl few ↦ subst (λ (l : List ℕ). HasRoom (n / 500 * 4096) (room_of l))
       (sym (one_list (ne_eqb n 0 some_children) (lt-ltb n 501 few)))
-      (let one = room_next (cell (4 + 8 * n)) [] in
+      (let one = room_cons (cell (4 + 8 * n)) [] in
       let p = page (4 + 8 * n) in
       record { page = omega (arith, one, p); least = short (room_of (cell (4 + 8 * n) ∷ [])) one few })
   | inr many ↦ subst (λ (l : List ℕ). HasRoom (n / 500 * 4096) (room_of l))
       (sym (lists (ne_eqb n 0 some_children) (le-ltb n 501 many)))
-      (let one = room_next (cell (4 + 4 * part_count n)) (full ++ rest) in
+      (let one = room_cons (cell (4 + 4 * part_count n)) (full ++ rest) in
       let two = room_both full rest in
       let three = room_alike (n / 500) in
       let p = page (4 + 4 * part_count n) in

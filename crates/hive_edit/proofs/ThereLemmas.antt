@@ -8,15 +8,13 @@ use Rattle.nt_bytes.specs.declared.version.HiveVersion.{HiveVersion}
 use Rattle.nt_bytes.specs.Folding.{folds_same}
 use Rattle.hive_model.specs.Bins.{Bin, Cells, bins_size, look_up}
 use Rattle.hive_model.specs.Forms.{◌>>=◌}
-use Rattle.hive_model.specs.KeyNode.{KeyNode, key_node_at}
 use Rattle.hive_model.specs.KeyValue.{KeyValue, key_value_at}
 use Rattle.hive_model.specs.Size.{cell, name_bytes, data_size, items_size, size, bulk_of}
 use Rattle.hive_model.specs.Tree.{Tree, Item, head, find_key, find_item}
-use Rattle.hive_model.specs.Tree.{key as tree_key}
 use Rattle.hive_model.specs.Edit.{set_value, after_step, with_item}
 use Rattle.hive_model.specs.Walk.{reading, value_checks, data_checks}
 use Rattle.hive_model.specs.Footprint.{used_in, key_place, is_value_named}
-use Rattle.hive_model.specs.Stands.{Stands, item_at, IsWellFormed}
+use Rattle.hive_model.specs.Stands.{item_at, IsWellFormed}
 use Rattle.hive_cells.specs.Held.{held_at, patched}
 use Rattle.hive_cells.proofs.HeldLemmas.{payload_held, held_payload}
 use Rattle.key_index.specs.Relists.{AreApart}
@@ -37,14 +35,17 @@ use Rattle.hive_edit.specs.Hive.{HiveCells, cells_in, hive_of, IsHive}
 use Rattle.hive_edit.specs.NewValue.{set_tree}
 use Rattle.hive_edit.specs.Places.{value_places, value_place, data_places, data_room, room_for_item, IsItemHere}
 use Rattle.hive_edit.specs.Standing.{tree_of}
-use Rattle.hive_edit.proofs.ResultLemmas.{done, some, then_so, is_ok_of}
+use Rattle.hive_edit.proofs.ResultLemmas.{done, some}
 use Rattle.hive_edit.proofs.EditLemmas.{made, the_tree}
-use Rattle.hive_edit.proofs.InPlaceLemmas.{found_among, named_folds}
+use Rattle.hive_edit.proofs.InPlaceLemmas.{found_among, named_folds, places_same}
 use Rattle.hive_edit.proofs.ItemLemmas.{item_facts, value_facts}
 use Rattle.hive_edit.proofs.LowLemmas.{bulk_is, bulk_then}
 use Rattle.hive_edit.proofs.PlaceLemmas.{key_there, IsItemAt, place_of_item}
 use Rattle.hive_edit.proofs.SetLemmas.{name_short}
-use Rattle.hive_edit.proofs.StepLemmas.{ValueOwn, value_own, places_same, data_held, data_apart}
+use Rattle.hive_edit.proofs.StepLemmas.{ValueOwn, value_own, data_held, data_apart}
+use Rattle.hive_edit.proofs.KeyLemmas.{node_read}
+use Rattle.key_index.proofs.Tests.{is_ok_of}
+use Rattle.hive_read.proofs.FormFacts.{then-so}
 
 -- ---- where it is
 
@@ -203,7 +204,7 @@ given_gets version v kind bytes old new own g kind_fits = record {
     after = with_fields own.value g.size g.offset kind
 
     p : (p : List ℕ) × (b.payload v ≡ done p) × (key_value_at p ≡ done own.value)
-    p = then_so (b.payload v) key_value_at own.value own.read
+    p = then-so (b.payload v) key_value_at own.value own.read
 
     read_new : reading key_value_at c v ≡ done after
     read_new =
@@ -228,10 +229,6 @@ given_gets version v kind bytes old new own g kind_fits = record {
 pub own_there : (b : Cells) (root : ℕ) (t : Tree) (path : List (List ℕ)) (name : List ℕ) (v : ℕ) → IsWellFormed b root t
     → ThereIs b t root path name v → ValueOwn b v
 own_there b root t path name v well i = value_own b root t path name i.key v i.value well i.place i.named i.read
-
-node_read : (cells : Cells) (at : ℕ) (k : Tree) → Stands cells at k
-    → (n : KeyNode) × (reading key_node_at cells at ≡ done n)
-node_read cells at (tree_key g ts) s = (s.1.node, s.1.read)
 
 -- the step is done
 pub there_done : (old new : List Bin) (root : ℕ) (version : HiveVersion) (bulk : ℕ) (h : HiveCells)
@@ -272,7 +269,7 @@ pub there_room : (bins : List Bin) (root : ℕ) (version : HiveVersion) (bulk : 
     → IsSomeAnd (held_at bins v) (λ p. 16 ≤ length p)
 there_room bins root version bulk h path name v is view there =
     let i = there_in bins root version bulk h path name v is view there in
-    let p = then_so ((look_up version bins).payload v) key_value_at i.value i.read in
+    let p = then-so ((look_up version bins).payload v) key_value_at i.value i.read in
     let f = value_facts p.0 i.value p.2 in
     let room : 16 ≤ length p.0 = omega (arith, f.long) in
     subst (λ (o : Option (List ℕ)). IsSomeAnd o (λ q. 16 ≤ length q)) (sym (payload_held bins v p.0 p.1)) room

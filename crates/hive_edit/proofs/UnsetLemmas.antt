@@ -17,16 +17,15 @@ use Rattle.hive_model.specs.KeyNode.{KeyNode, key_node_at}
 use Rattle.hive_model.specs.KeyValue.{KeyValue, key_value_at, data_inside, is_in_place}
 use Rattle.hive_model.specs.BigData.{BigData, big_data_at}
 use Rattle.hive_model.specs.Lists.{offsets_in}
-use Rattle.hive_model.specs.Size.{is_big, segment_bytes, segment_count, cell, item_size, items_sum, items_size, size, bulk_of}
+use Rattle.hive_model.specs.Size.{is_big, segment_count, cell, item_size, items_sum, items_size, size, bulk_of}
 use Rattle.hive_model.specs.Tree.{Tree, Item, head, find_key, find_item, is_item}
-use Rattle.hive_model.specs.Tree.{key as tree_key}
 use Rattle.hive_model.specs.Edit.{Step, delete_value, Refusal, no_key, no_value, unless, without_first, has_item, value_deleted, after_step}
 use Rattle.hive_model.specs.Walk.{reading, below_of, use_as, big_data_of, segments_checks, big_checks, data_checks, value_checks}
 use Rattle.hive_model.specs.Footprint.{used_in, key_place, is_value_named, step_cells, unless_refused, IsInFootprint}
-use Rattle.hive_model.specs.Stands.{Stands, IsWellFormed, big_bytes_at, joined_segments, data_of, item_at, items_at}
+use Rattle.hive_model.specs.Stands.{IsWellFormed, big_bytes_at, joined_segments, data_of, item_at, items_at}
 use Rattle.hive_cells.specs.Held.{held_at, patched}
 use Rattle.hive_cells.proofs.HeldLemmas.{held_payload, payload_held}
-use Rattle.hive_read.proofs.FormFacts.{IsBytes}
+use Rattle.hive_read.proofs.FormFacts.{IsBytes, then-so}
 use Rattle.edit_laws.specs.Owned.{In, value_list_at}
 use Rattle.edit_laws.specs.Owned.{value_places as owned_places}
 use Rattle.edit_laws.specs.Pairs.{Pairwise}
@@ -48,7 +47,7 @@ use Rattle.hive_edit.specs.Hive.{HiveCells, cells_in, hive_of, IsHive}
 use Rattle.hive_edit.specs.Gone.{AreGone, HasOffsets, HasSegments, Unlists, HasData, with_data, data_cells, CanTake, TakesOut, unset_tree, list_room}
 use Rattle.hive_edit.specs.Places.{IsItemHere, value_place, value_places}
 use Rattle.hive_edit.specs.Standing.{tree_of}
-use Rattle.hive_edit.proofs.ResultLemmas.{done, some, ok_same, then_so, value_of, is_ok_of, only_if}
+use Rattle.hive_edit.proofs.ResultLemmas.{done, some, ok_same, only_if}
 use Rattle.hive_edit.proofs.PlaceLemmas.{KeyThere, key_there, no_place, IsItemAt, place_of_item, items_stand}
 use Rattle.hive_edit.proofs.ItemLemmas.{item_facts}
 use Rattle.hive_edit.proofs.InPlaceLemmas.{found_among, listed_values, places_same, named_folds}
@@ -56,6 +55,9 @@ use Rattle.hive_edit.proofs.EditLemmas.{the_tree}
 use Rattle.hive_edit.proofs.LowLemmas.{items_length, bulk_is}
 use Rattle.hive_edit.proofs.SteppedLemmas.{IsStepMade, stepped}
 use Rattle.hive_edit.proofs.GoneLemmas.{is_held, and_some, at_place, ListFacts, list_facts}
+use Rattle.hive_edit.proofs.DataLemmas.{segments_used}
+use Rattle.hive_edit.proofs.KeyLemmas.{node_read}
+use Rattle.key_index.proofs.Tests.{value_of, is_ok_of}
 
 -- ---- the cells of a value's data
 
@@ -114,14 +116,10 @@ unfolding data_cells
 one_apart cells size place small some_bytes big =
     (data_in_cell cells (with_data size place) (nothing_inside size place small some_bytes) big).0
 
-segments_used : (cells : Cells) (n : ℕ) (offsets : List ℕ) → used_in (segments_checks cells n offsets) ≡ offsets
-segments_used cells n [] = refl
-segments_used cells n (at ∷ rest) = ap (λ (l : List ℕ). at ∷ l) (segments_used cells (n - segment_bytes) rest)
-
 big_form_of : (n : ℕ) (p : List ℕ) (big : BigData) → big_data_of n p ≡ done big → big_data_at p ≡ done big
 unfolding big_data_of
 big_form_of n p big e =
-    let r = then_so (big_data_at p) (λ (b : BigData). cond (b.segments == segment_count n) (Ok b) (Err FormLength))
+    let r = then-so (big_data_at p) (λ (b : BigData). cond (b.segments == segment_count n) (Ok b) (Err FormLength))
     big e in
     let t = only_if (r.0.segments == segment_count n) FormLength (Ok r.0) big r.2 in
     r.1 ∙ ap done (ok_same r.0 big t.1)
@@ -136,7 +134,7 @@ pub record BigHere (version : HiveVersion) (bins : List Bin) (size place : ℕ) 
 pub held_offsets : (version : HiveVersion) (bins : List Bin) (count at : ℕ) (offsets : List ℕ)
     → reading (offsets_in count) (look_up version bins) at ≡ done offsets → HasOffsets bins at count offsets
 held_offsets version bins count at offsets e =
-    let p = then_so ((look_up version bins).payload at) (offsets_in count) offsets e in
+    let p = then-so ((look_up version bins).payload at) (offsets_in count) offsets e in
     record { text = p.0; there = payload_held bins at p.0 p.1; read = p.2 }
 
 pub big_here : (version : HiveVersion) (bins : List Bin) (size place : ℕ) → size < 2147483648 → (size ≡ 0 → ⊥)
@@ -147,11 +145,11 @@ big_here version bins size place small some_bytes big h =
     let cells = look_up version bins in
     let d = data_in_segments cells (with_data size place) (nothing_inside size place small some_bytes) big in
     let v = value_of (data_of cells (with_data size place)) h in
-    let form = then_so (reading (big_data_of size) cells place)
+    let form = then-so (reading (big_data_of size) cells place)
     (λ b. reading (offsets_in b.segments) cells b.list >>= joined_segments cells size) v.0 (sym d.1 ∙ v.1) in
-    let list = then_so (reading (offsets_in form.0.segments) cells form.0.list) (joined_segments cells size)
+    let list = then-so (reading (offsets_in form.0.segments) cells form.0.list) (joined_segments cells size)
     v.0 form.2 in
-    let p = then_so (cells.payload place) (big_data_of size) form.0 form.1 in
+    let p = then-so (cells.payload place) (big_data_of size) form.0 form.1 in
     record {
       list = form.0.list;
       offsets = list.0;
@@ -187,10 +185,6 @@ item_is_there : (cells : Cells) (name : List ℕ) (v : ℕ) (o : Option Item) �
     → IsItemHere cells v
 item_is_there cells name v None h = absurd h
 item_is_there cells name v (Some item) h = is_ok_of (item_at cells v) item h
-
-node_read : (cells : Cells) (at : ℕ) (k : Tree) → Stands cells at k
-    → (n : KeyNode) × (reading key_node_at cells at ≡ done n)
-node_read cells at (tree_key g ts) s = (s.1.node, s.1.read)
 
 -- a value that is there by its name can be taken out
 pub can_take : (version : HiveVersion) (bins : List Bin) (root : ℕ) (t : Tree) (path : List (List ℕ)) (name : List ℕ)
@@ -275,7 +269,7 @@ pub node_after : (version : HiveVersion) (old m1 m2 : List Bin) (x v now : ℕ)
     → Unlists m1 m2 t.node.value_list now t.offsets v
     → (p : List ℕ) × (held_at m2 x ≡ Some p) × (key_node_at p ≡ done t.node)
 node_after version old m1 m2 x v now t g u =
-    let p = then_so ((look_up version old).payload x) key_node_at t.node t.read in (
+    let p = then-so ((look_up version old).payload x) key_node_at t.node t.read in (
       p.0,
       u.others x (λ e. t.node_apart t.node.value_list (inl refl) (sym e))
           ∙ g.others x (λ i. t.node_apart x (inr i) refl) ∙ payload_held old x p.0 p.1,

@@ -24,12 +24,13 @@ use Rattle.edit_laws.proofs.Out.{of_node_is}
 use Rattle.edit_laws.proofs.FromCells.{value_uses}
 use Rattle.key_index.specs.Lists.{payload_in, lists_at}
 use Rattle.hive_edit.specs.Places.{IsKeyAt, IsItemHere, data_places}
-use Rattle.hive_edit.proofs.StandingLemmas.{children_stand}
 use Rattle.hive_edit.proofs.OnceLemmas.{AllWellFormed, children_well_formed}
 use Rattle.hive_edit.proofs.ItemLemmas.{item_facts}
 use Rattle.hive_edit.proofs.NodeLemmas.{node_here, values_here, no_values_here}
 use Rattle.hive_edit.proofs.InPlaceLemmas.{places_same}
 use Rattle.hive_edit.proofs.ParentLemmas.{security_at_node}
+use Rattle.cell_forms.proofs.Steps.{numbers_more}
+use Rattle.edit_laws.proofs.Wellformed.{places_are}
 
 abbrev pub use_of : ℕ → Bool → ℕ × Bool
 use_of o s = (o, s)
@@ -105,13 +106,6 @@ value_with_data cells at h =
 pub plain_append : (xs ys : List ℕ) → plain (xs ++ ys) ≡ plain xs ++ plain ys
 plain_append [] ys = refl
 plain_append (x ∷ xs) ys = ap (λ (l : List (ℕ × Bool)). use_of x false ∷ l) (plain_append xs ys)
-
-numbers_more : (step left : ℕ) (rest : List ℕ) → 0 < left
-    → numbers_in step left rest ≡ u32_in rest 0 ∷ numbers_in step (left - 1) (drop step rest)
-numbers_more step zero rest lt = absurd (omega (arith, lt))
-numbers_more step (suc left) rest lt =
-    let e : suc left - 1 ≡ left = omega arith in
-    rw e refl
 
 -- the first of the values that are left, and the others
 pub values_on : (cells : Cells) (left at : ℕ) (rest : List ℕ) (whole old now after : List (ℕ × Bool)) → 0 < left
@@ -199,7 +193,7 @@ kids_stand cells at k = go k.0 k.1
 
     go : (t : Tree) → IsWellFormed cells at t → All (IsKeyAt cells) (child_places cells at)
     go (key h ts) w =
-        subst (All (IsKeyAt cells)) (sym (children_stand cells at h w.stands.0 w.stands.1))
+        subst (All (IsKeyAt cells)) (sym (places_are cells at h w.stands.0 w.stands.1))
         (each w.stands.0 ts (children_well_formed cells at h ts w))
 
 pub flat_more : (f : ℕ → List (ℕ × Bool)) (xs : List ℕ) (k x : ℕ) → k < length xs → x ≡ get_or xs k x

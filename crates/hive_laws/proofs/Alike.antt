@@ -9,9 +9,10 @@ use Rattle.hive_model.specs.Asked.{primary_at, log_at, bin_at}
 use Rattle.hive_model.specs.Base.{Base, base_of, fault_at}
 use Rattle.hive_model.specs.Image.{Image, Address}
 use Rattle.hive_model.specs.Carries.{HasBase}
-use Rattle.hive_model.specs.Recovery.{Recovered, Sectors, and_then, bytes_or, read_bin, read_log, joined, gathered, recovered_with, by_primary, bit, one_if, rank, bitmap_sectors, first_dirty, by_bits, front_in, bitmap_in, closed_by, goes_with, by_logged, as_log_base, logged_in, by_log, base_at, base_in, by_base, recovered_of}
+use Rattle.hive_model.specs.Recovery.{Recovered, Sectors, and_then, bytes_or, read_bin, read_log, joined, gathered, recovered_with, by_primary, bit, rank, bitmap_sectors, first_dirty, by_bits, front_in, bitmap_in, closed_by, goes_with, by_logged, as_log_base, logged_in, by_log, base_at, base_in, by_base, recovered_of}
 use Rattle.hive_laws.specs.Looking.{AreRead, IsOpen, HasLogBase, HasBits, bits_of, bins_sectors, marks, marked_in, bins_by, LooksAt}
 use Rattle.hive_laws.specs.Looking.LooksAt.{at_the_block, at_a_clean_one, at_the_log, at_the_sign, at_more_bits, at_a_marked_one, at_another_one}
+use Rattle.hive_log.proofs.Ranks.{split, rank_below}
 
 -- ---- runs of sectors
 
@@ -82,19 +83,6 @@ abbrev pub signed : List ℕ → Result (List ℕ) HiveFault
 signed front = if starts_with nat_eq front (codes "DIRT") then Ok front else Err (fault_at kinds.LogDirt 512)
 
 -- ---- how many bits are on
-
-below_or_here : (j i : ℕ) → j < suc i → (j < i) ⊎ (j ≡ i)
-below_or_here j i below = grind arith
-
--- a bit that is on below i counts there
-pub rank_below : (bits : ℕ → Bool) (i j : ℕ) → j < i → bits j ≡ true → rank bits j < rank bits i
-rank_below bits zero j below on = absurd (omega arith)
-rank_below bits (suc i) j below on = ⊎_elim
-    (λ less. omega (arith, rank_below bits i j less on))
-    (λ same.
-    let here : one_if (bits i) ≡ 1 = ap one_if (sym (ap bits same) ∙ on) in
-    let at : rank bits j ≡ rank bits i = ap (rank bits) same in omega arith)
-    (below_or_here j i below)
 
 -- ---- the steps of recovery, of two images that agree where the first one's recovery looks
 

@@ -36,7 +36,7 @@ below_first true u name p e later zero = ltb-true u 256 p
 below_first true u name p e later (suc k) = later (rw p at e) k
 below_first false u name p e later k = absurd (let q : false ≡ true = rw p at e in cc)
 
-all_below : (name : List ℕ) → is_narrow name ≡ true → (k : ℕ) → slice_index name k < 256
+pub all_below : (name : List ℕ) → is_narrow name ≡ true → (k : ℕ) → slice_index name k < 256
 all_below [] e k = omega arith
 all_below (u ∷ name) e k = below_first (nat_lt u 256) u name refl e (λ q. all_below name q) k
 
@@ -127,7 +127,7 @@ item_read cells at v h f g le =
 -- ---- its data
 
 -- no bytes are the empty list
-no_bytes : (n : ℕ) (bytes : List ℕ) → length bytes ≡ n → n ≡ 0 → bytes ≡ []
+pub no_bytes : (n : ℕ) (bytes : List ℕ) → length bytes ≡ n → n ≡ 0 → bytes ≡ []
 no_bytes n [] e z = refl
 no_bytes n (b ∷ bs) e z = absurd (omega arith)
 

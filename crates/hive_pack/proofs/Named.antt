@@ -15,6 +15,7 @@ use Rattle.hive_model.specs.Packed.{part_places, list_text, parts, list_cells, p
 use Rattle.hive_model.proofs.Spelling.{lf_again, lh_again, ri_again, length_ri}
 use Rattle.hive_pack.proofs.Rows.{length_list_text, length_part_places, hints_take, hints_drop, many_lists}
 use Rattle.hive_pack.proofs.Found.{Has, has_next, reads_in}
+use Rattle.hive_pack.proofs.Items.{no_bytes}
 
 offsets_take : (n : ℕ) (os : List ℕ) → AreOffsets os → AreOffsets (take n os)
 offsets_take zero os f = tt
@@ -62,10 +63,6 @@ leaf_read cells at os hs later has e few f g =
     reads_in leaf_at cells at (list_text cells.version os hs) os has.0
     (λ slack. leaf_again cells.version os hs slack e few f g)
 
-no_items : (n : ℕ) (os : List ℕ) → length os ≡ n → n ≡ 0 → os ≡ []
-no_items n [] e z = refl
-no_items n (o ∷ os) e z = absurd (omega arith)
-
 take_all : (os : List ℕ) → length os ≤ 500 → take 500 os ≡ os
 take_all os h = go (cases os)
   where
@@ -73,7 +70,7 @@ take_all os h = go (cases os)
     go d = sym (append-nil (take 500 os)) ∙ ap (λ (x : List ℕ). take 500 os ++ x) (sym d) ∙ take-append-drop 500 os
 
     cases : (xs : List ℕ) → drop 500 os ≡ []
-    cases xs = no_items 0 (drop 500 os) (length-drop 500 os ∙ omega arith) refl
+    cases xs = no_bytes 0 (drop 500 os) (length-drop 500 os ∙ omega arith) refl
 
 -- one list, and the rest where it is full
 part_then : (cells : Cells) (k n at : ℕ) (os : List ℕ) → length os ≡ n → part_count n ≡ suc k
@@ -94,7 +91,7 @@ part_then cells k n at os l p one rest = go (cases_lt 500 n)
 parts_read : (cells : Cells) (k n at : ℕ) (os : List ℕ) (hs : List (List ℕ)) → length os ≡ n → length os ≡ length hs
     → AreOffsets os → AreHints hs → part_count n ≡ k → Has cells at (parts cells.version k os hs)
     → joined_at cells (part_places k at) ≡ Ok os
-parts_read cells zero n at os hs l e f g p has = ap (λ (x : List ℕ). Ok x) (sym (no_items n os l (omega arith)))
+parts_read cells zero n at os hs l e f g p has = ap (λ (x : List ℕ). Ok x) (sym (no_bytes n os l (omega arith)))
 parts_read cells (suc k) n at os hs l e f g p has =
     let first = list_text cells.version (take 500 os) (take 500 hs) in
     let later = parts cells.version k (drop 500 os) (drop 500 hs) in

@@ -72,7 +72,7 @@ cells_size_append : (a b : List Cell) → cells_size (a ++ b) ≡ cells_size a +
 cells_size_append [] b = omega arith
 cells_size_append (c ∷ cs) b = omega (arith, cells_size_append cs b)
 
-used_size : (ps : List (List ℕ)) → cells_size (map allocated_cell ps) ≡ space ps
+pub used_size : (ps : List (List ℕ)) → cells_size (map allocated_cell ps) ≡ space ps
 used_size [] = refl
 used_size (p ∷ ps) = omega (arith, used_size ps, length_filled p)
 

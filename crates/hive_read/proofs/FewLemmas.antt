@@ -15,7 +15,7 @@ use Rattle.cell_forms.specs.declared.stored.StoredName.{StoredName}
 use Rattle.cell_forms.specs.Views.{name_of}
 use Rattle.hive_read.specs.Taken.{folds_to, has_name, folded_name, is_behind, NoneBehind}
 use Rattle.reg_tree.proofs.Halving.{greater_is_less}
-use Rattle.hive_read.proofs.TakenLemmas.{same-bytes, folds_to-folded, any-or, any-insert}
+use Rattle.hive_read.proofs.TakenLemmas.{same-bytes, folds_to-folded, any-or, any-insert, or-same}
 use Rattle.std.proofs.lemmas.Bool.{or_parts}
 use Rattle.std.proofs.Math.Bool.{or-false}
 
@@ -110,11 +110,6 @@ pub not-above : (top : List ℕ) (n : StoredName) → is_gt (folded_order (name_
 not-above top n e = sym (greater_is_less (name_of n) top) ∙ e
 
 -- ---- a name that is there already
-
-or-same : (a b : Bool) → (a || b) ≡ ((a || b) || a)
-or-same true b = refl
-or-same false true = refl
-or-same false false = refl
 
 same-again : (name n : List ℕ) (keys : List (List ℕ)) → list_any (folds_to name) keys ≡ true
     → list_any (folds_to n) keys ≡ (list_any (folds_to n) keys || folds_same n name)

@@ -1,5 +1,5 @@
 -- What forms say of lengths and numbers, where payloads are bytes.
-use Rattle.std.proofs.Common.{◌≡◌, ℕ, zero, suc, ◌+◌, ◌-◌, ◌*◌, ◌/◌, ◌%◌, ◌<◌, ◌≤◌, Bool, true, false, ◌||◌, cond, List, [], ◌∷◌, ◌++◌, length, get_or, take, drop, Option, Some, None, Result, Ok, Err, refl, sym, ap, subst, ◌∙◌, arith}
+use Rattle.std.proofs.Common.{◌≡◌, ℕ, zero, suc, ◌+◌, ◌-◌, ◌*◌, ◌/◌, ◌%◌, ◌<◌, ◌≤◌, Bool, true, false, cond, List, [], ◌∷◌, ◌++◌, length, get_or, take, drop, Option, Some, None, Result, Ok, Err, refl, sym, ap, subst, ◌∙◌, arith}
 use Rattle.std.specs.Prelude.{◌==◌, nat_lt, nat_le, slice_range}
 use Rattle.std.specs.List.{list_any}
 use Rattle.std.specs.Int.{w16, w32, from_le_bytes, to_le_bytes}
@@ -223,7 +223,7 @@ descriptor-small p s h e =
     take-short (20 + u32_in p 16 - 20) (drop 20 p) in
     subst (λ (c : SecurityCell). length c.descriptor < 4294967296) same (omega (arith, size, part))
 
-numbers-length : (step n : ℕ) (p : List ℕ) → length (numbers_in step n p) ≡ n
+pub numbers-length : (step n : ℕ) (p : List ℕ) → length (numbers_in step n p) ≡ n
 numbers-length step zero p = refl
 numbers-length step (suc n) p = omega (arith, numbers-length step n (drop step p))
 

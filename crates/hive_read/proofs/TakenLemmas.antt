@@ -1,5 +1,5 @@
 -- Folded names in an ordered set.
-use Rattle.std.proofs.Common.{◌≡◌, ℕ, Bool, true, false, not, ◌||◌, ◌&&◌, List, [], ◌∷◌, ◌++◌, map, refl, sym, ap, ◌∙◌}
+use Rattle.std.proofs.Common.{◌≡◌, ℕ, Bool, true, false, not, ◌||◌, List, [], ◌∷◌, ◌++◌, map, refl, sym, ap, ◌∙◌}
 use Rattle.std.specs.List.{list_any}
 use Rattle.std.specs.Ordering.{is_eq, nat_cmp, match_ordering}
 use Rattle.std.specs.declared.cmp.Ordering.{Ordering}
@@ -45,7 +45,7 @@ or-swap true false = refl
 or-swap false true = refl
 or-swap false false = refl
 
-or-same : (a b : Bool) → (a || b) ≡ ((a || b) || a)
+pub or-same : (a b : Bool) → (a || b) ≡ ((a || b) || a)
 or-same true b = refl
 or-same false true = refl
 or-same false false = refl

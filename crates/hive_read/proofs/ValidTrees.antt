@@ -19,7 +19,7 @@ use Rattle.hive_model.specs.Valid.{IsItem, HoldsKeys, AllHoldKeys, IsValid, is_b
 use Rattle.hive_model.specs.Stands.{class_of, security_of, data_or, joined_segments, big_bytes_at, data_of, item_at, items_at, values_of, ListsChildren, Stands, AllStand, HasApartNames, HaveApartNames, IsWellFormed}
 use Rattle.hive_model.specs.Size.{segment_bytes, is_big, segment_part}
 use Rattle.hive_read.specs.Celled.{celled_bytes}
-use Rattle.hive_read.proofs.FormFacts.{IsBytes, bytes-front, bytes-back, node-facts, value-facts, held-short, celled-small, bytes-in, descriptor-small, offsets-length, own-flags}
+use Rattle.hive_read.proofs.FormFacts.{IsBytes, bytes-front, bytes-back, node-facts, value-facts, held-short, celled-small, bytes-in, descriptor-small, offsets-length, own-flags, then-so}
 use Rattle.hive_read.proofs.ValueWalks.{item_of}
 
 -- each payload is bytes
@@ -31,11 +31,6 @@ done x = Ok x
 
 ok_same : {A : Type 0} (x y : A) → done x ≡ done y → x ≡ y
 ok_same x y e = cc
-
-then-so : {A B : Type 0} (r : Result A HiveKind) (f : A → Result B HiveKind) (y : B) → (r >>= f) ≡ done y
-    → (x : A) × (r ≡ done x) × (f x ≡ done y)
-then-so (Ok x) f y e = (x, refl, e)
-then-so (Err k) f y e = absurd cc
 
 -- a form that stands, in the payload in which it does
 payload : {F : Type 0} (form : List ℕ → Result F HiveKind) (cells : Cells) (at : ℕ) (x : F) → AreBytes cells

@@ -43,7 +43,7 @@ item-stands cells at v bytes r d = rw (r, d) refl
 abbrev done : Item → Result Item HiveKind
 done x = Ok x
 
-ok_one : (x y : Item) → done x ≡ done y → x ≡ y
+pub ok_one : (x y : Item) → done x ≡ done y → x ≡ y
 ok_one x y e = cc
 
 -- the name of a value that stands

@@ -80,7 +80,7 @@ segments-last cells size offsets left rest seen start s z = (
 -- ---- data
 
 -- up to four bytes have no cell
-no-cells : (version : HiveVersion) (n : ℕ) → n ≤ 4 → cells_sum (data_sizes version n) ≡ 0
+pub no-cells : (version : HiveVersion) (n : ℕ) → n ≤ 4 → cells_sum (data_sizes version n) ≡ 0
 no-cells version n h =
     ap (λ (b : Bool). cells_sum
     (cond b (8 ∷ 4 * segment_count n ∷ segment_sizes (segment_count n) n) (cond (nat_lt 4 n) (n ∷ []) [])))

@@ -21,7 +21,7 @@ use Rattle.hive_model.proofs.UsedOnce.{once_from_pairs}
 use Rattle.hive_read.specs.Celled.{celled_checks, celled_bytes}
 use Rattle.hive_read.proofs.BigWalks.{listed_segments}
 use Rattle.hive_read.proofs.Apart.{Apart, differ-apart}
-use Rattle.hive_read.proofs.ValueWalks.{item_of, item-named}
+use Rattle.hive_read.proofs.ValueWalks.{item_of, item-named, ok_one}
 use Rattle.hive_read.proofs.KeyWalks.{key_name}
 use Rattle.hive_read.proofs.Making.{item_name}
 use Rattle.hive_read.proofs.Passing.{AllPass, pass-append, use-passes, below-passes, choice-passes, none-fails}
@@ -29,14 +29,11 @@ use Rattle.hive_read.proofs.Passing.{AllPass, pass-append, use-passes, below-pas
 abbrev done : {A : Type 0} → A → Result A HiveKind
 done x = Ok x
 
-ok_item : (x y : Item) → done x ≡ done y → x ≡ y
-ok_item x y e = cc
-
 ok_items : (x y : List Item) → done x ≡ done y → x ≡ y
 ok_items x y e = cc
 
 -- the parts of a reading that came about
-first-part : {A B : Type 0} (r : Result A HiveKind) (f : A → Result B HiveKind) (y : B) → (r >>= f) ≡ Ok y
+pub first-part : {A B : Type 0} (r : Result A HiveKind) (f : A → Result B HiveKind) (y : B) → (r >>= f) ≡ Ok y
     → (x : A) × (r ≡ Ok x) × (f x ≡ Ok y)
 first-part (Ok x) f y e = (x, refl, e)
 first-part (Err k) f y e = absurd cc
@@ -117,7 +114,7 @@ value-passes cells names at item r e =
     let v = first-part (reading key_value_at cells at)
     (λ value. data_of cells value >>= λ bytes. Ok (item_of value bytes)) item r in
     let d = first-part (data_of cells v.0) (λ bytes. Ok (item_of v.0 bytes)) item v.2 in
-    let same : v.0.name ≡ item.name = ap (λ i. i.name) (ok_item (item_of v.0 d.0) item d.2) in
+    let same : v.0.name ≡ item.name = ap (λ i. i.name) (ok_one (item_of v.0 d.0) item d.2) in
     pass-append cells (use_as false key_value_at cells at)
     (below_of (reading key_value_at cells at) (λ value. name_check names at value.name ∷ data_checks cells value))
     (use-passes false key_value_at cells at v.0 v.1)

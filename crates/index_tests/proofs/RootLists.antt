@@ -1,9 +1,8 @@
 -- The root of well-formed cells meets what is asked of its lists.
-use Rattle.std.proofs.Common.{◌≡◌, ◌<◌, ℕ, zero, suc, Bool, true, false, not, ◌&&◌, cond, if◌then◌else◌, List, [], ◌∷◌, ◌++◌, ◌+◌, length, Result, Ok, Err, refl, sym, ap, subst, ◌∙◌, arith, eqb, length-append}
+use Rattle.std.proofs.Common.{◌≡◌, ◌<◌, ℕ, zero, suc, Bool, true, false, not, ◌&&◌, cond, if◌then◌else◌, List, [], ◌∷◌, ◌++◌, ◌+◌, length, Ok, Err, refl, sym, ap, subst, ◌∙◌, arith, eqb, length-append}
 use Rattle.std.specs.Prelude.{get_or, ◌==◌}
 use Rattle.std.specs.List.{AllPairs}
 use Rattle.std.proofs.lemmas.List.{get_or_append_left, get_or-append-add}
-use Rattle.nt_bytes.specs.declared.fault.HiveKind.{HiveKind}
 use Rattle.nt_bytes.specs.declared.fault.HiveKind.TheVariants.{FormName, Count}
 use Rattle.hive_model.specs.Bins.{Cells}
 use Rattle.hive_model.specs.Forms.{◌>>=◌}
@@ -17,6 +16,7 @@ use Rattle.key_index.specs.Relists.{AreApart}
 use Rattle.key_index.proofs.Below.{in_payload}
 use Rattle.key_index.proofs.Meeting.{siblings_stand, lists_apart}
 use Rattle.key_index.proofs.Tests.{is_ok_of}
+use Rattle.hive_read.proofs.Wellformed.{first-part}
 
 -- ---- of checks that use each cell once, those in front and those behind do
 
@@ -32,17 +32,12 @@ behind_once xs ys once i j d less lt =
 
 -- ---- the root's node
 
-first_part : {A B : Type 0} (r : Result A HiveKind) (f : A → Result B HiveKind) (y : B) → (r >>= f) ≡ Ok y
-    → (x : A) × (r ≡ Ok x) × (f x ≡ Ok y)
-first_part (Ok x) f y e = (x, refl, e)
-first_part (Err k) f y e = absurd cc
-
 -- any name will do for it
 root_named : (cells : Cells) (root : ℕ) (node : KeyNode) → reading key_node_at cells root ≡ Ok node
     → reading (node_at true) cells root ≡ Ok node
 unfolding node_at
 root_named cells root node r =
-    let p = first_part (cells.payload root) key_node_at node r in
+    let p = first-part (cells.payload root) key_node_at node r in
     ap (λ q. q >>= λ bytes. key_node_at bytes >>= λ n. if (length n.name == 0) && not true then Err FormName else Ok n)
     p.1
     ∙ ap (λ q. q >>= λ n. if (length n.name == 0) && not true then Err FormName else Ok n) p.2

@@ -13,7 +13,7 @@ use Rattle.hive_model.specs.Footprint.{of_read}
 use Rattle.key_index.specs.Lists.{offsets_of, entry_size, lists_lists}
 use Rattle.key_index.proofs.Tests.{done, value_of, unless, ok_same}
 
-not_below : (m n : ℕ) → nat_lt m n ≡ false → n ≤ m
+pub not_below : (m n : ℕ) → nat_lt m n ≡ false → n ≤ m
 not_below m n e = ltb-false m n e
 
 -- a payload with a list is as long as its entries ask, and these are the offsets
@@ -70,7 +70,7 @@ length_numbers step (suc n) p = ap suc (length_numbers step n (drop step p))
 u32_behind : (k : ℕ) (p : List ℕ) → u32_in (drop k p) 0 ≡ u32_in p k
 u32_behind k p = let e : k + 4 - k ≡ 4 = omega arith in rw e refl
 
-drop_drop : (a b : ℕ) (p : List ℕ) → drop b (drop a p) ≡ drop (a + b) p
+pub drop_drop : (a b : ℕ) (p : List ℕ) → drop b (drop a p) ≡ drop (a + b) p
 drop_drop zero b p = let e : 0 + b ≡ b = omega arith in rw e refl
 drop_drop (suc a) b [] = drop-nil b ∙ sym (drop-nil (suc a + b))
 drop_drop (suc a) b (x ∷ xs) = let e : suc a + b ≡ suc (a + b) = omega arith in rw e (drop_drop a b xs)

@@ -1,8 +1,7 @@
 -- The key node in a payload.
-use Rattle.std.proofs.Common.{◌≡◌, ℕ, ◌+◌, ◌≤◌, Bool, false, List, length, Result, Ok, Err, cond, sym, ap, ◌∙◌}
+use Rattle.std.proofs.Common.{◌≡◌, ℕ, ◌+◌, ◌≤◌, Bool, List, length, Result, Ok, Err, cond, sym, ap, ◌∙◌}
 use Rattle.std.specs.Prelude.{◌==◌, nat_lt, slice_range}
 use Rattle.std.specs.Result.{IsOk}
-use Rattle.std.proofs.lemmas.Bool.{ltb-false}
 use Rattle.nt_bytes.specs.declared.fault.HiveKind.{HiveKind}
 use Rattle.nt_bytes.specs.declared.fault.HiveKind.TheVariants.{FormShort, FormSign, FormLength, FormName}
 use Rattle.nt_bytes.specs.Fields.{u16_in}
@@ -12,9 +11,7 @@ use Rattle.hive_model.specs.KeyNode.{is_narrow_key, KeyNode, key_node_in, key_no
 use Rattle.hive_model.specs.Footprint.{of_read}
 use Rattle.key_index.specs.Lists.{name_of}
 use Rattle.key_index.proofs.Tests.{done, value_of, unless, only_if, then_so, ok_same}
-
-not_below : (m n : ℕ) → nat_lt m n ≡ false → n ≤ m
-not_below m n e = ltb-false m n e
+use Rattle.key_index.proofs.Entered.{not_below}
 
 -- a name that is read is the stored one
 stored_is : (narrow : Bool) (bytes name : List ℕ) → key_name_at narrow bytes ≡ done name

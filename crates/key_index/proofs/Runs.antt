@@ -4,10 +4,9 @@ use Rattle.std.specs.Prelude.{◌==◌, nat_lt}
 use Rattle.std.specs.Option.{IsSome}
 use Rattle.std.specs.Result.{IsOk}
 use Rattle.std.specs.Int.{w16, w32, to_le_bytes}
-use Rattle.std.specs.List.{All, AllByRecursion, Contains, flat_map}
+use Rattle.std.specs.List.{All, AllByRecursion, Contains}
 use lib.ListN.{replicate}
 use Rattle.std.proofs.lemmas.Bool.{eqb-true, eqb-false, ne_eqb, le-ltb, lt-ltb, cases_lt}
-use Rattle.std.proofs.Math.Seq.{drop-nil}
 use Rattle.std.proofs.lemmas.List.{append-nil, length-append, length-take, length-drop, take_more}
 use Rattle.std.proofs.lemmas.List.Elements.{All-cons, All-nil, Contains-append_left, Contains-push, Contains-push_cases}
 use Rattle.std.proofs.lemmas.List.Sums.{sum_by-append, sum_by-cons}
@@ -16,7 +15,7 @@ use Rattle.nt_bytes.specs.declared.version.HiveVersion.{HiveVersion}
 use Rattle.nt_bytes.specs.declared.version.HiveVersion.TheVariants.{V3, V5}
 use Rattle.nt_bytes.specs.declared.fault.HiveKind.{HiveKind}
 use Rattle.hive_model.specs.Size.{cell, is_narrow, part_count, list_size}
-use Rattle.hive_model.specs.Bins.{Cell, Bin, Cells, cell_size, cells_size, bin_size, bins_size, cell_bytes, IsCell, in_cells, in_bins, or_else, payload_at, look_up}
+use Rattle.hive_model.specs.Bins.{Cell, Bin, Cells, cell_size, cells_size, bin_size, bins_size, IsCell, in_cells, in_bins, or_else, payload_at, look_up}
 use Rattle.hive_model.specs.Lists.{AreOffsets, AreHints, list_at, offsets_text, ri_text}
 use Rattle.hive_model.specs.Packed.{filled, allocated_cell, cell_text, text, rounded, part_places, list_cells, name_hint, parts}
 use Rattle.hive_model.specs.Footprint.{of_read, list_sizes, room_of, list_strain_of}
@@ -27,23 +26,20 @@ use Rattle.hive_pack.proofs.Found.{Has}
 use Rattle.hive_cells.specs.Held.{run_cells, held_at, held_among, IsRun}
 use Rattle.hive_cells.specs.Holes.{IsHole, FindsRoom}
 use Rattle.hive_cells.proofs.GrowLemmas.{new_long}
-use Rattle.hive_cells.proofs.Made.{run_made}
+use Rattle.hive_cells.proofs.Made.{run_made, packed_bytes}
 use Rattle.hive_cells.proofs.HeldLemmas.{held_payload, payload_held}
 use Rattle.key_index.specs.Relists.{list_run, IsPut, AreRelisted}
 use Rattle.key_index.specs.Lists.{IsNode, ListsSiblings, hints_in, lists_at, lists_lists, name_in, offsets_of, payload_in, without_child}
 use Rattle.key_index.proofs.Fresh.{lists_inside, lists_once}
 use Rattle.key_index.proofs.Below.{ChildLists, UsedLists, child_lists, used_lists}
+use Rattle.hive_pack.proofs.Whole.{used_size}
+use Rattle.key_index.proofs.Entered.{drop_drop}
 
 -- ---- a run is its cells
 
-texts_are : (ps : List (List ℕ)) → text ps ≡ flat_map cell_bytes (map allocated_cell ps)
 unfolding cell_text
-texts_are [] = refl
-texts_are (p ∷ ps) = ap (λ (t : List ℕ). cell_text p ++ t) (texts_are ps)
-
-sizes_are : (ps : List (List ℕ)) → cells_size (map allocated_cell ps) ≡ space ps
-sizes_are [] = refl
-sizes_are (p ∷ ps) = omega (arith, length_filled p, sizes_are ps)
+packed_bytes [] = refl
+packed_bytes (p ∷ ps) = ap (λ (t : List ℕ). cell_text p ++ t) (packed_bytes ps)
 
 cells_sound : (ps : List (List ℕ)) → space ps ≤ 16777216 → AllByRecursion IsCell (map allocated_cell ps)
 cells_sound [] h = tt
@@ -63,8 +59,8 @@ cells_used (p ∷ ps) = (refl, cells_used ps)
 pub run_is : (run : List ℕ) (ps : List (List ℕ)) → run ≡ text ps → space ps ≤ 16777216 → 0 < space ps
     → IsRun run × (run_cells run ≡ map allocated_cell ps)
 run_is run ps e small some =
-    run_made run (map allocated_cell ps) (e ∙ texts_are ps) (cells_sound ps small) (cells_used ps)
-    (omega (arith, sizes_are ps))
+    run_made run (map allocated_cell ps) (e ∙ packed_bytes ps) (cells_sound ps small) (cells_used ps)
+    (omega (arith, used_size ps))
 
 -- ---- where its cells stand
 
@@ -289,11 +285,6 @@ moved_is version at place os hs new many e p =
     ∙ drop_front (head_of k ++ zeros) (tail_of version k os hs) (8 + 4 * k) both in
     e ∙ (λ j. front j ++ (offsets_text (part_places k (p j)) ++ back j)) ∙ sym (run_parts version at os hs many)
 
-drop_drop : (a b : ℕ) (p : List ℕ) → drop b (drop a p) ≡ drop (a + b) p
-drop_drop zero b p = let e : 0 + b ≡ b = omega arith in rw e refl
-drop_drop (suc a) b [] = drop-nil b ∙ sym (drop-nil (suc a + b))
-drop_drop (suc a) b (x ∷ xs) = let e : suc a + b ≡ suc (a + b) = omega arith in rw e (drop_drop a b xs)
-
 length_front : (n : ℕ) (xs : List ℕ) → n ≤ length xs → length (take n xs) ≡ n
 length_front n xs h = omega (arith, length-take n xs)
 
@@ -386,7 +377,7 @@ others_more old mid new xs i lt others before o h =
 
 -- ---- put and freed
 
-none_some : (r : Option (List ℕ)) → r ≡ None → IsSome r → ⊥
+pub none_some : (r : Option (List ℕ)) → r ≡ None → IsSome r → ⊥
 none_some None e h = absurd cc
 none_some (Some x) e h = absurd cc
 
@@ -407,7 +398,7 @@ pub put_is : (version : HiveVersion) (gone offsets : List ℕ) (hints : List (Li
 put_is version gone offsets hints old mid new at held fit some same four room filled fresh long freed others long_too =
     let ps = list_cells version at offsets hints in
     let size : cells_size (map allocated_cell ps) ≡ list_size (length offsets) =
-    sizes_are ps ∙ space_list version at offsets hints same four in
+    used_size ps ∙ space_list version at offsets hints same four in
     let unheld : (o : ℕ) (p : List ℕ) → held_among o at (map allocated_cell ps) ≡ Some p → held_at old o ≡ None =
     λ o p h. let r = among_from o at (map allocated_cell ps) p h in fresh o r.0 (omega (arith, r.1, size)) in
     let stays : (o : ℕ) (p : List ℕ) → held_among o at (map allocated_cell ps) ≡ Some p → Contains gone o → ⊥ =

@@ -7,13 +7,13 @@ use Rattle.std.specs.declared.cmp.Ordering.{Ordering}
 use Rattle.std.specs.declared.cmp.Ordering.TheVariants.{Less, Equal, Greater}
 use Rattle.nt_bytes.specs.Folding.{folded, folded_unit, folds_same, folded_order}
 
-folded_pointwise : (a b : List ℕ) → pointwise nat_eq (folded a) (folded b) ≡ folds_same a b
+pub folded_pointwise : (a b : List ℕ) → pointwise nat_eq (folded a) (folded b) ≡ folds_same a b
 folded_pointwise [] [] = refl
 folded_pointwise [] (y ∷ ys) = refl
 folded_pointwise (x ∷ xs) [] = refl
 folded_pointwise (x ∷ xs) (y ∷ ys) = ap (λ b. nat_eq (folded_unit x) (folded_unit y) && b) (folded_pointwise xs ys)
 
-reversed_eq : (r : Ordering) → is_eq (ordering_reverse r) ≡ is_eq r
+pub reversed_eq : (r : Ordering) → is_eq (ordering_reverse r) ≡ is_eq r
 reversed_eq Less = refl
 reversed_eq Equal = refl
 reversed_eq Greater = refl

@@ -77,7 +77,7 @@ less_le Less h = refl
 less_le Equal h = refl
 less_le Greater h = h
 
-less_differs : (r : Ordering) → is_lt r ≡ true → is_eq r ≡ false
+pub less_differs : (r : Ordering) → is_lt r ≡ true → is_eq r ≡ false
 less_differs Less h = refl
 less_differs Equal h = sym h
 less_differs Greater h = refl

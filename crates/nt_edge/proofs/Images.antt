@@ -1,5 +1,5 @@
 -- What a crash image has, by the addresses of the writes in flight.
-use Rattle.std.proofs.Common.{◌≡◌, ◌⊎◌, ◌&&◌, ◌==◌, ℕ, Bool, true, false, cond, List, [], ◌∷◌, ◌++◌, Option, Some, refl, sym, ◌∙◌, ap, inl, inr, ⊎_elim}
+use Rattle.std.proofs.Common.{◌≡◌, ◌⊎◌, ◌==◌, ℕ, Bool, true, false, cond, List, [], ◌∷◌, ◌++◌, Option, Some, refl, sym, ◌∙◌, ap, inl, inr, ⊎_elim}
 use Rattle.std.proofs.lemmas.Bool.{eqb-true, eq-eqb, and_parts, false_from_ne_true}
 use Rattle.hive_model.specs.Image.{File, Primary, Log, Address, Content, Bytes, Unreadable, Image, Write, same_file, same_address, put, overlaid, IsInFlight, IsCrashImage}
 use Rattle.nt_edge.specs.Crash.{EachWrite, AgreeOutside, unreadable_at, torn}

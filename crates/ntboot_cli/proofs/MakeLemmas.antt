@@ -37,6 +37,7 @@ use Rattle.command_parts.proofs.DecideLemmas.{memory_decides, unchanged, told_un
 use Rattle.command_parts.proofs.LeaveLemmas.{keeps_then, fault_then, no_front}
 use Rattle.command_parts.proofs.SaveLemmas.{files_saved, counts_saved}
 use Rattle.command_parts.proofs.SaveLemmas.{settles-same}
+use Rattle.twin_command.proofs.TwinnedLemmas.{was_said}
 
 -- ---- a text that is said, and files that are saved behind it
 
@@ -45,10 +46,6 @@ done_with text = record { status = statuses.Done; text = text }
 
 whole_front : (text old new : List ℕ) → new ≡ old ++ text → SaysFront old new text
 whole_front text old new is = record { front = text; rest = []; cut = sym (append-nil text); said = is }
-
-was_said : (text old new : List ℕ) → Ends (done_with text) statuses.Done old new → new ≡ old ++ text
-was_said text old new (inl x) = x.1
-was_said text old new (inr never) = absurd never
 
 ends_finished : (r : Result (Unit {0}) HostStop) (saves : Saves) (text : List ℕ) (mid new : HostState)
     (before after : DiskState) (old : List ℕ) → SavesBoth saves r mid new before after

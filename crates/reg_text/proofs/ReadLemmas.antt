@@ -16,12 +16,12 @@ use Rattle.reg_text.specs.Takes.{TakesLine}
 abbrev Read : Type 0
 Read = Result (List Step × State) RegFault
 
-regroup : (front edits : List Step) (read : Read)
+pub regroup : (front edits : List Step) (read : Read)
     → with_edits front (with_edits edits read) ≡ with_edits (front ++ edits) read
 regroup front edits (Ok r) = ap (λ (es : List Step). Ok (es, r.1)) (sym (append_assoc front edits r.0))
 regroup front edits (Err f) = refl
 
-one_line : (state after : State) (line : List ℕ) (more : List (List ℕ)) (edits : List Step)
+pub one_line : (state after : State) (line : List ℕ) (more : List (List ℕ)) (edits : List Step)
     → line_said state line ≡ Ok (edits, after)
     → lines_said state (line ∷ more) ≡ with_edits edits (lines_said after more)
 unfolding lines_said

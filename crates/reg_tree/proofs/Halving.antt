@@ -23,6 +23,7 @@ use Rattle.hive_model.specs.Tree.{Tree, head}
 use Rattle.hive_model.specs.Edit.{placed}
 use Rattle.reg_tree.specs.Places.{folds_greater}
 use Rattle.reg_tree.proofs.Unlike.{Each, each_from, each_all}
+use Rattle.name_places.proofs.OrderLemmas.{less_differs}
 
 -- ---- the first place that passes a test
 
@@ -124,11 +125,6 @@ reversed_gt Greater = refl
 pub greater_is_less : (a b : List ℕ) → is_gt (folded_order a b) ≡ is_lt (folded_order b a)
 greater_is_less a b = reversed_gt (folded_order a b)
     ∙ sym (ap is_lt (nat_list_cmp_total.antisymm (folded b) (folded a)))
-
-less_differs : (r : Ordering) → is_lt r ≡ true → is_eq r ≡ false
-less_differs Less h = refl
-less_differs Equal h = sym h
-less_differs Greater h = refl
 
 greater_differs : (r : Ordering) → is_gt r ≡ true → is_eq r ≡ false
 greater_differs Less h = refl

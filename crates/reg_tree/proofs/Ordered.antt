@@ -46,7 +46,7 @@ name_changed (x ∷ xs) (suc i) v same (suc k) = name_changed xs i v same k
 
 -- ---- names in order
 
-is_less : (r : Ordering) → is_lt r ≡ true → r ≡ Less
+pub is_less : (r : Ordering) → is_lt r ≡ true → r ≡ Less
 is_less Less h = refl
 is_less Equal h = absurd cc
 is_less Greater h = absurd cc

@@ -17,7 +17,7 @@ data Place {X : Type 0} (p : X → Bool) (i : ℕ) (x : X) (xs : List X) (at : �
   here : p x ≡ true → at ≡ i → Place p i x xs at
   there : p x ≡ false → position_from p (i + 1) xs ≡ Some at → Place p i x xs at
 
-place_of : {X : Type 0} (p : X → Bool) (i : ℕ) (x : X) (xs : List X) (at : ℕ) → position_from p i (x ∷ xs) ≡ Some at
+pub place_of : {X : Type 0} (p : X → Bool) (i : ℕ) (x : X) (xs : List X) (at : ℕ) → position_from p i (x ∷ xs) ≡ Some at
     → Place p i x xs at
 place_of p i x xs at h = split (p x) refl h
   where
@@ -25,7 +25,7 @@ place_of p i x xs at h = split (p x) refl h
     split true e k = here e (sym (some_is i at k))
     split false e k = there e k
 
-no_place : {X : Type 0} (p : X → Bool) (i : ℕ) (x : X) (xs : List X) → position_from p i (x ∷ xs) ≡ None
+pub no_place : {X : Type 0} (p : X → Bool) (i : ℕ) (x : X) (xs : List X) → position_from p i (x ∷ xs) ≡ None
     → (p x ≡ false) × (position_from p (i + 1) xs ≡ None)
 no_place p i x xs h = split (p x) refl h
   where

@@ -155,7 +155,7 @@ items_within : (version : HiveVersion) (vs : List Item) → length vs ≤ items_
 items_within version [] = omega arith
 items_within version (v ∷ vs) = omega (arith, many_items version (v ∷ vs))
 
-some_size : (version : HiveVersion) (shared : List ℕ) (t : Tree) → 0 < size version shared t
+pub some_size : (version : HiveVersion) (shared : List ℕ) (t : Tree) → 0 < size version shared t
 some_size version shared (key h ts) = omega arith
 
 many_keys : (version : HiveVersion) (shared : List ℕ) (ts : Trees) → length (listed ts) ≤ size_of_all version shared ts

@@ -127,11 +127,11 @@ starts n e = e.start == n
 abbrev starts_late : Entry → Bool
 starts_late e = (e.start == 2) || (e.start == 3)
 
-right_of : (a b : Bool) → (a && b) ≡ true → b ≡ true
+pub right_of : (a b : Bool) → (a && b) ≡ true → b ≡ true
 right_of true b e = e
 right_of false b e = absurd (false≢true e)
 
-left_of : (a b : Bool) → (a && b) ≡ true → a ≡ true
+pub left_of : (a b : Bool) → (a && b) ≡ true → a ≡ true
 left_of true b e = refl
 left_of false b e = absurd (false≢true e)
 

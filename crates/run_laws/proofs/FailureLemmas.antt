@@ -1,10 +1,12 @@
 -- What is noted of failures to come is noted for a folded name.
-use Rattle.std.proofs.Common.{◌≡◌, ℕ, ◌-◌, Bool, true, false, ◌&&◌, ◌==◌, cond, List, [], ◌∷◌, refl, sym, ap, subst, ◌∙◌, arith}
+use Rattle.std.proofs.Common.{◌≡◌, ℕ, ◌-◌, Bool, true, false, ◌&&◌, ◌==◌, cond, List, [], ◌∷◌, refl, sym, ap, subst, ◌∙◌}
 use Rattle.std.specs.Bool.{Decides}
 use Rattle.std.proofs.lemmas.Bool.{false≢true}
-use Rattle.std.proofs.lemmas.Bool.Decides.{Decides-and, Decides-eqb, nat_tests}
+use Rattle.std.proofs.lemmas.Bool.Decides.{Decides-and, Decides-eqb}
 use Rattle.nt_bytes.specs.Folding.{folded, folded_unit, folds_same}
 use Rattle.start_model.specs.Machine.{failures_of, one_failure_less, with_failures}
+use Rattle.dependencies.proofs.MeetLemmas.{unit_again}
+use Rattle.dependencies.proofs.PulledLemmas.{same_bool}
 
 -- ---- names that fold to one
 
@@ -23,19 +25,11 @@ folds-Decides (x ∷ xs) (y ∷ ys) =
     parts : folded (x ∷ xs) ≡ folded (y ∷ ys) → (folded_unit x ≡ folded_unit y) × (folded xs ≡ folded ys)
     parts e = (let unit : folded_unit x ≡ folded_unit y = cc in let rest : folded xs ≡ folded ys = cc in (unit, rest))
 
-bool_same : (a b : Bool) → (a ≡ true → b ≡ true) → (b ≡ true → a ≡ true) → a ≡ b
-bool_same true b f g = sym (f refl)
-bool_same false true f g = g refl
-bool_same false false f g = refl
-
 -- a name may be put in the place of one that folds to it
 same_for : (a b c : List ℕ) → folded a ≡ folded b → folds_same a c ≡ folds_same b c
 same_for a b c e =
-    bool_same (folds_same a c) (folds_same b c) (λ t. (folds-Decides b c).1 (sym e ∙ (folds-Decides a c).0 t))
+    same_bool (folds_same a c) (folds_same b c) (λ t. (folds-Decides b c).1 (sym e ∙ (folds-Decides a c).0 t))
     (λ t. (folds-Decides a c).1 (e ∙ (folds-Decides b c).0 t))
-
-unit_again : (u : ℕ) → folded_unit (folded_unit u) ≡ folded_unit u
-unit_again u = grind (arith, nat_tests)
 
 folded_again : (a : List ℕ) → folded (folded a) ≡ folded a
 folded_again [] = refl

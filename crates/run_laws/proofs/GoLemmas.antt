@@ -68,7 +68,7 @@ phase_falls set s e = by_phase s.phase refl
 
 -- ---- an attempt takes an entry off those that wait
 
-slice_get-within : {X : Type 0} (xs : List X) (i : ℕ) (x : X) → slice_get xs i ≡ Some x → i < length xs
+pub slice_get-within : {X : Type 0} (xs : List X) (i : ℕ) (x : X) → slice_get xs i ≡ Some x → i < length xs
 slice_get-within [] i x e = absurd cc
 slice_get-within (y ∷ xs) zero x e = omega arith
 slice_get-within (y ∷ xs) (suc i) x e = omega (arith, slice_get-within xs i x e)

@@ -4,16 +4,13 @@ use Rattle.std.specs.Prelude.{position, ◌==◌, codes, IfOk}
 use Rattle.std.specs.List.{list_any, position_or_len}
 use Rattle.std.specs.Option.{is_some, option_map_or}
 use Rattle.std.proofs.lemmas.Bool.{lt-ltb}
-use Rattle.std.proofs.lemmas.Bool.Decides.{nat_tests}
 use Rattle.nt_bytes.specs.Folding.{folds_same}
 use Rattle.hive_model.specs.Tree.{Tree, head, is_named, find_text}
 use Rattle.start_model.specs.Entries.{Entry, named_group, entry_with}
 use Rattle.safe_boot.specs.Listed.{has_name, is_among, is_left_out}
+use Rattle.boot_phases.proofs.TriedLemmas.{shorter}
 
 -- ---- a name that has a place is there
-
-shorter : (n len : ℕ) → ltb (1 + n) (suc len) ≡ ltb n len
-shorter n len = grind (arith, nat_tests)
 
 within : {X : Type 0} (p : X → Bool) (xs : List X) → ltb (position_or_len p xs) (length xs) ≡ list_any p xs
 within p [] = refl

@@ -1,6 +1,6 @@
 -- The files of an image keep its sectors.
 use Rattle.std.specs.Prelude.{nat_lt}
-use Rattle.std.proofs.Common.{◌≡◌, ◌⊎◌, ◌<◌, ◌≤◌, ◌-◌, ◌*◌, ℕ, Bool, false, cond, List, ◌++◌, length, take, drop, replicate, Some, None, Ok, Err, refl, sym, ◌∙◌, ap, subst, ⊎_elim, arith, append-nil, length-take, length-drop}
+use Rattle.std.proofs.Common.{◌≡◌, ◌⊎◌, ◌<◌, ◌-◌, ◌*◌, ℕ, Bool, false, cond, List, ◌++◌, length, take, drop, replicate, Some, None, Ok, Err, refl, sym, ◌∙◌, ap, subst, ⊎_elim, arith, append-nil, length-take, length-drop}
 use Rattle.std.proofs.lemmas.Bool.{lt-ltb, cases_lt}
 use Rattle.nt_bytes.specs.declared.fault.HiveKind.TheVariants.{NotRegf}
 use Rattle.hive_model.specs.Image.{Image, File, Primary, Log, Bytes, Unreadable, Write, padded, sector_of, image_of, bytes_of, IsFileOf, IsCrashImage}
@@ -16,11 +16,11 @@ use Rattle.nt_edge.proofs.Images.{still_crash}
 use Rattle.saved_laws.specs.Saved.{HasUntornBlock, KeepsSectors, LoadsWithin}
 use Rattle.saved_laws.proofs.KeptLemmas.{load_stays, clean_load_stays}
 
-filled : (bytes : List ℕ) → length bytes ≡ 512 → padded bytes ≡ bytes
+pub filled : (bytes : List ℕ) → length bytes ≡ 512 → padded bytes ≡ bytes
 filled bytes long = ap (λ n. bytes ++ replicate (512 - n) 0) long ∙ append-nil bytes
 
 -- a sector within the bytes is whole, as these are so many sectors
-whole : (bytes : List ℕ) (count n : ℕ) → length bytes ≡ 512 * count → n < count
+pub whole : (bytes : List ℕ) (count n : ℕ) → length bytes ≡ 512 * count → n < count
     → length (take 512 (drop (512 * n) bytes)) ≡ 512
 whole bytes count n long inside = omega (arith, length-take 512 (drop (512 * n) bytes), length-drop (512 * n) bytes)
 

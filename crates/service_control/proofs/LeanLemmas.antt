@@ -1,13 +1,11 @@
 -- What sets have by their names, and what makes a service lean.
-use Rattle.std.proofs.Common.{◌≡◌, ℕ, zero, suc, ◌+◌, ◌<◌, Bool, true, false, not, nat_eq, ◌&&◌, ◌||◌, List, [], ◌∷◌, ◌++◌, length, get_or, map, Option, Some, None, refl, sym, ap, ◌∙◌, ◌⊎◌, inl, inr, arith, zero-add}
+use Rattle.std.proofs.Common.{◌≡◌, ℕ, zero, suc, ◌+◌, ◌<◌, Bool, true, false, not, ◌&&◌, ◌||◌, List, [], ◌∷◌, ◌++◌, length, get_or, map, Option, Some, None, refl, sym, ap, ◌∙◌, ◌⊎◌, inl, inr, arith, zero-add}
 use Rattle.std.specs.Prelude.{slice_get, Contains, position}
 use Rattle.std.specs.List.{list_any, list_all, range_with_len, filter_map, cons_option}
 use Rattle.std.specs.Option.{option_map, option_map_or, option_and_then, option_to_list}
 use Rattle.std.proofs.lemmas.Bool.{false≢true, and_parts, and_from, or_cases, or_left, or_right, cases_Bool, eqb-true, eq-eqb}
-use Rattle.std.proofs.lemmas.Bool.Decides.{nat_tests}
 use Rattle.std.proofs.lemmas.List.{get_or-map, length-map, get_or_default}
 use Rattle.std.proofs.lemmas.List.Folds.{Any-from_list_any, list_any_at, list_any-append}
-use Rattle.std.proofs.lemmas.List.Sums.{AllPass-from_list_all}
 use Rattle.std.proofs.lemmas.List.Elements.{Contains-append_cases, Contains-append_left, Contains-append_right}
 use Rattle.std.proofs.lemmas.List.FromFn.{get_or-range_with_len, length-range_with_len}
 use Rattle.std.proofs.lemmas.List.Quantifiers.{position-Some}
@@ -22,22 +20,14 @@ use Rattle.start_model.specs.Ready.{Label, has_name, has_group, is_ready}
 use Rattle.service_control.specs.Leaning.{is_named, is_of_group, has, has_at, has_all, leans, is_due, IsClosed}
 use Rattle.service_control.specs.Causes.{cause_of, by_name, by_group, own_causes, key_of, keys_of, names_at, is_first, group_cause, causes_of, causes_at}
 use Rattle.service_control.proofs.SpreadState.{none, IsHad}
+use Rattle.dependencies.proofs.MeetLemmas.{folded_first}
+use Rattle.dependencies.proofs.PulledLemmas.{then_true, then_gives, all_below, any_below}
 
 -- ---- names
 
 pub folds_itself : (name : List ℕ) → folds_same name name ≡ true
 folds_itself [] = refl
 folds_itself (x ∷ xs) = ap (λ b. b && folds_same xs xs) (eq-eqb (folded_unit x) (folded_unit x) refl) ∙ folds_itself xs
-
-unit_again : (u : ℕ) → folded_unit (folded_unit u) ≡ folded_unit u
-unit_again u = grind (arith, nat_tests)
-
-pub folded_first : (a b : List ℕ) → folds_same (folded a) b ≡ folds_same a b
-folded_first [] [] = refl
-folded_first [] (y ∷ ys) = refl
-folded_first (x ∷ xs) [] = refl
-folded_first (x ∷ xs) (y ∷ ys) = let unit = unit_again x in let rest = folded_first xs ys in
-    (λ i. nat_eq (unit i) (folded_unit y) && rest i)
 
 pub folded_last : (a b : List ℕ) → folds_same a (folded b) ≡ folds_same a b
 folded_last a b = folds_swap a (folded b) ∙ folded_first b a ∙ folds_swap b a
@@ -67,11 +57,6 @@ group_alike started a b h =
 
 -- ---- what a set has
 
-range_at : (test : ℕ → Bool) (n p : ℕ) → p < n → test p ≡ true → list_any test (range_with_len 0 n) ≡ true
-range_at test n p lt h =
-    let at : get_or (range_with_len 0 n) p 0 ≡ p = omega (arith, get_or-range_with_len 0 n p 0 lt) in
-    list_any_at test (range_with_len 0 n) p 0 (omega (arith, length-range_with_len 0 n)) (ap test at ∙ h)
-
 record InRange (test : ℕ → Bool) (n : ℕ) : Type 0 where
   place : ℕ
   inside : place < n
@@ -84,25 +69,12 @@ range_some test n h =
     let at : a.1 ≡ a.0 = omega (arith, a.3, get_or-range_with_len 0 n a.0 a.1 lt) in
     record { place = a.1; inside = omega (arith, at, lt); passes = a.4 }
 
-pub range_all : (test : ℕ → Bool) (n p : ℕ) → p < n → list_all test (range_with_len 0 n) ≡ true → test p ≡ true
-range_all test n p lt h =
-    let at : get_or (range_with_len 0 n) p 0 ≡ p = omega (arith, get_or-range_with_len 0 n p 0 lt) in
-    ap test (sym at) ∙ AllPass-from_list_all test (range_with_len 0 n) h p 0 (omega (arith, length-range_with_len 0 n))
-
 pub range_each : (test : ℕ → Bool) (a n : ℕ) → ((p : ℕ) → p < a + n → test p ≡ true)
     → list_all test (range_with_len a n) ≡ true
 range_each test a zero f = refl
 range_each test a (suc n) f =
     and_from (test a) (list_all test (range_with_len (a + 1) n)) (f a (omega arith))
     (range_each test (a + 1) n (λ p lt. f p (omega (arith, lt))))
-
-pub then_true : (a b : Bool) → (a ≡ true → b ≡ true) → (not a || b) ≡ true
-then_true true b f = f refl
-then_true false b f = refl
-
-pub then_gives : (a b : Bool) → (not a || b) ≡ true → a ≡ true → b ≡ true
-then_gives true b h g = h
-then_gives false b h g = absurd (false≢true g)
 
 pub named_at : (r : List Need) (d : List ℕ) (p : ℕ) → p < length r
     → is_named r d p ≡ folds_same d (get_or r p none).name
@@ -116,7 +88,7 @@ group_at r g p lt = ap (λ o. option_map_or (λ (n : Need). option_map_or (folds
 pub has_by : (r : List Need) (set : ℕ → Bool) (d : List ℕ) (p : ℕ) → p < length r → set p ≡ true
     → folds_same d (get_or r p none).name ≡ true → has r set d ≡ true
 has_by r set d p lt m h =
-    range_at (λ p. set p && is_named r d p) (length r) p lt
+    any_below (λ p. set p && is_named r d p) (length r) p lt
     (and_from (set p) (is_named r d p) m (named_at r d p lt ∙ h))
 
 pub record IsOf (r : List Need) (set : ℕ → Bool) (d : List ℕ) : Type 0 where
@@ -155,7 +127,7 @@ pub has_all_by : (r : List Need) (set : ℕ → Bool) (g : List ℕ) (q : ℕ) �
     → ((p : ℕ) → p < length r → is_of_group r g p ≡ true → has r set (get_or r p none).name ≡ true)
     → has_all r set g ≡ true
 has_all_by r set g q lt of f =
-    and_from _ _ (range_at (is_of_group r g) (length r) q lt of)
+    and_from _ _ (any_below (is_of_group r g) (length r) q lt of)
     (range_each (λ p. not (is_of_group r g p) || has_at r set p) 0 (length r) (λ p low. each p (omega (arith, low))))
   where
     each : (p : ℕ) → p < length r → (not (is_of_group r g p) || has_at r set p) ≡ true
@@ -173,7 +145,7 @@ pub has_all_each : (r : List Need) (set : ℕ → Bool) (g : List ℕ) → has_a
 has_all_each r set g h p lt of =
     sym (has_at_is r set p lt)
     ∙ then_gives (is_of_group r g p) (has_at r set p)
-    (range_all (λ p. not (is_of_group r g p) || has_at r set p) (length r) p lt
+    (all_below (λ p. not (is_of_group r g p) || has_at r set p) (length r) p lt
     (and_parts (list_any (is_of_group r g) (range_with_len 0 (length r))) _ h).1) of
 
 -- ---- leaning

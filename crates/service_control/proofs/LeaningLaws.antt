@@ -1,17 +1,18 @@
 -- What leans on a service is the least of the closed sets.
-use Rattle.std.proofs.Common.{◌≡◌, ℕ, suc, ◌+◌, ◌<◌, Bool, true, false, not, ◌&&◌, ◌||◌, List, [], ◌∷◌, length, get_or, map, refl, sym, ap, ◌∙◌, inl, inr, arith, zero-add}
+use Rattle.std.proofs.Common.{◌≡◌, ℕ, suc, ◌+◌, ◌<◌, Bool, true, false, not, ◌&&◌, ◌||◌, List, [], ◌∷◌, length, get_or, map, refl, sym, ap, ◌∙◌, inl, inr, arith}
 use Rattle.std.specs.Prelude.{Contains}
 use Rattle.std.specs.List.{list_any, list_all, range_with_len}
 use Rattle.std.proofs.lemmas.Bool.{false≢true, and_from, or_cases, or_left, or_right}
 use Rattle.std.proofs.lemmas.List.Sums.{AllPass-from_list_all}
-use Rattle.std.proofs.lemmas.List.FromFn.{get_or-map-range_with_len, length-map-range_with_len}
+use Rattle.std.proofs.lemmas.List.FromFn.{length-map-range_with_len}
 use Rattle.nt_bytes.specs.Folding.{folds_same}
 use Rattle.start_model.specs.Demand.{Need, member, all_sets}
 use Rattle.service_control.specs.Leaning.{has, has_all, leans, is_due, IsClosed, is_closed, is_leaning}
 use Rattle.service_control.proofs.SpreadState.{none}
-use Rattle.service_control.proofs.WaitLemmas.{member_within}
-use Rattle.service_control.proofs.LeanLemmas.{has_by, has_some, has_all_by, has_all_some, has_all_each, due_is, due_within, lean_seed, lean_name, lean_service, lean_group, then_true, then_gives}
-use Rattle.service_control.proofs.SpreadLemmas.{sets_have, closed_passes, passes_closed}
+use Rattle.service_control.proofs.LeanLemmas.{has_by, has_some, has_all_by, has_all_some, has_all_each, due_is, due_within, lean_seed, lean_name, lean_service, lean_group}
+use Rattle.service_control.proofs.SpreadLemmas.{closed_passes, passes_closed}
+use Rattle.dependencies.proofs.KeptLemmas.{within_waits}
+use Rattle.dependencies.proofs.PulledLemmas.{then_true, then_gives, sets_have, listed_member}
 
 all_in : {X : Type 0} (p : X → Bool) (xs : List X) → ((x : X) → Contains xs x → p x ≡ true) → list_all p xs ≡ true
 all_in p [] f = refl
@@ -69,9 +70,6 @@ leaning_closed r s q due =
     (all_out (λ t. not (is_closed r s (member t)) || member t p) (all_sets (length r)) t leans there) closed)
     q due)))
 
-listed : (set : ℕ → Bool) (n q : ℕ) → q < n → member (map set (range_with_len 0 n)) q ≡ set q
-listed set n q lt = get_or-map-range_with_len set 0 n q q false lt (zero-add q)
-
 pub leaning_least : (r : List Need) (s : List ℕ) (set : ℕ → Bool) → IsClosed r s set → (q : ℕ) → q < length r
     → is_leaning r s q ≡ true → set q ≡ true
 unfolding is_leaning
@@ -81,14 +79,14 @@ leaning_least r s set closed q lt h =
     let len : length t ≡ n = length-map-range_with_len set 0 n in
     let is : IsClosed r s (member t) = λ p due.
     (let within = due_within r s (member t) p due in
-    listed set n p within ∙ closed p (due_grows r s (member t) set in_set p due)) in
+    listed_member set n p within ∙ closed p (due_grows r s (member t) set in_set p due)) in
     let test : List Bool → Bool = λ t. not (is_closed r s (member t)) || member t q in
     let all : list_all test (all_sets (length t)) ≡ true = ap (λ k. list_all test (all_sets k)) len ∙ h in
-    sym (listed set n q lt) ∙ then_gives (is_closed r s (member t)) (member t q) (sets_have test t all)
+    sym (listed_member set n q lt) ∙ then_gives (is_closed r s (member t)) (member t q) (sets_have test t all)
     (closed_passes r s (member t) is)
   where
     past : (set : ℕ → Bool) (n p : ℕ) → member (map set (range_with_len 0 n)) p ≡ true → p < n
-    past set n p m = omega (arith, length-map-range_with_len set 0 n, member_within (map set (range_with_len 0 n)) p m)
+    past set n p m = omega (arith, length-map-range_with_len set 0 n, within_waits (map set (range_with_len 0 n)) p m)
 
     in_set : (p : ℕ) → member (map set (range_with_len 0 (length r))) p ≡ true → set p ≡ true
-    in_set p m = sym (listed set (length r) p (past set (length r) p m)) ∙ m
+    in_set p m = sym (listed_member set (length r) p (past set (length r) p m)) ∙ m

@@ -33,7 +33,7 @@ record From {X Y : Type 0} (h : X → Option Y) (xs : List X) (y : Y) : Type 0 w
   there : Contains xs item
   is : h item ≡ Some y
 
-from_at : {X Y : Type 0} (h : X → Option Y) (xs : List X) (y : Y) (k : ℕ) → k < length (filter_map h xs)
+pub from_at : {X Y : Type 0} (h : X → Option Y) (xs : List X) (y : Y) (k : ℕ) → k < length (filter_map h xs)
     → get_or (filter_map h xs) k y ≡ y → From h xs y
 from_at h [] y k lt e = absurd (omega (arith, lt))
 from_at h (x ∷ xs) y k lt e = by (h x) refl (λ j low at. from_at h xs y j low at) k lt e

@@ -31,9 +31,10 @@ use Rattle.service_control.specs.First.{after_phase, first_running, control_of}
 use Rattle.service_control.specs.Laws.{Call, start, stop, stop_all, after_call, after_calls, AreMet, AreStoppedInOrder}
 use Rattle.service_control.proofs.SpreadState.{none}
 use Rattle.service_control.proofs.StepLemmas.{within}
-use Rattle.service_control.proofs.WaitLemmas.{next_ready, no_place, none_passes, member_within}
+use Rattle.service_control.proofs.WaitLemmas.{next_ready, no_place, none_passes}
 use Rattle.service_control.proofs.LeanLemmas.{folds_itself, folded_last, any_of_label, name_alike, group_at, has_by, has_all_by, due_is, lean_seed, lean_name, lean_service, lean_group}
 use Rattle.service_control.proofs.LeaningLaws.{leaning_closed}
+use Rattle.dependencies.proofs.KeptLemmas.{within_waits}
 
 all_more : {X : Type 0} (p q : X → Bool) (xs : List X) → ((x : X) → p x ≡ true → q x ≡ true) → list_all p xs ≡ true
     → list_all q xs ≡ true

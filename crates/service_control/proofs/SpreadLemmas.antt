@@ -1,5 +1,5 @@
 -- A cause that gets ready makes its owner lean, and in the end each cause of a service that leans was ready.
-use Rattle.std.proofs.Common.{◌≡◌, ℕ, zero, suc, ◌+◌, ◌<◌, Bool, true, false, not, nat_eq, ltb, ◌&&◌, ◌||◌, cond, List, [], ◌∷◌, ◌++◌, length, get_or, map, set, replicate, Option, Some, None, refl, sym, ap, ◌∙◌, subst, ◌⊎◌, inl, inr, arith, zero-add}
+use Rattle.std.proofs.Common.{◌≡◌, ℕ, ◌+◌, ◌<◌, Bool, true, false, not, nat_eq, ltb, ◌&&◌, ◌||◌, cond, List, [], ◌∷◌, ◌++◌, length, get_or, map, set, replicate, Option, Some, None, refl, sym, ap, ◌∙◌, subst, ◌⊎◌, inl, inr, arith, zero-add}
 use Rattle.std.specs.Prelude.{slice_get, Contains, position}
 use Rattle.std.specs.List.{list_any, list_all, range_with_len, filter_map, position_or_len}
 use Rattle.std.specs.Option.{option_map, option_map_or, option_and_then, option_to_list}
@@ -17,7 +17,7 @@ use Rattle.reg_tree.proofs.Unlike.{folds_swap}
 use Rattle.start_model.specs.Demand.{Need, member, all_sets}
 use Rattle.start_model.specs.Ready.{Label, has_name, has_group, is_ready}
 use Rattle.dependencies.specs.Waiting.{WaitingState, label_of, labels_at, next_place_in, after_trying}
-use Rattle.dependencies.proofs.PulledLemmas.{same_bool}
+use Rattle.dependencies.proofs.PulledLemmas.{same_bool, then_true, then_gives, all_true, all_below, sets_have}
 use Rattle.service_control.specs.State.{labels_of}
 use Rattle.service_control.specs.Turns.{all_wait}
 use Rattle.service_control.specs.Leaning.{is_of_group, has, has_all, leans, is_due, IsClosed, is_closed, is_leaning, leaning_of}
@@ -25,7 +25,9 @@ use Rattle.service_control.specs.Causes.{cause_of, by_name, by_group, own_causes
 use Rattle.service_control.proofs.SpreadState.{none, IsDone, IsHad, IsSpread}
 use Rattle.service_control.proofs.StepLemmas.{within}
 use Rattle.service_control.proofs.WaitLemmas.{next_ready, none_ready, no_place}
-use Rattle.service_control.proofs.LeanLemmas.{folds_itself, folded_first, folded_last, label_of_any, any_of_label, name_alike, group_alike, group_at, has_by, has_some, has_alike, has_all_alike, has_all_by, has_all_some, has_all_each, due_is, due_within, lean_seed, lean_name, lean_service, lean_group, mapped_from, mapped_to, alone_from, all_mapped, each_mapped, key_is, group_place, place_group, name_found, range_each, range_all, then_true, then_gives}
+use Rattle.service_control.proofs.LeanLemmas.{folds_itself, folded_last, label_of_any, any_of_label, name_alike, group_alike, group_at, has_by, has_some, has_alike, has_all_alike, has_all_by, has_all_some, has_all_each, due_is, due_within, lean_seed, lean_name, lean_service, lean_group, mapped_from, mapped_to, alone_from, all_mapped, each_mapped, key_is, group_place, place_group, name_found, range_each}
+use Rattle.dependencies.proofs.MeetLemmas.{folded_first}
+use Rattle.dependencies.proofs.WantLemmas.{unmet_yet}
 
 none_some : (g : List ℕ) → None ≡ Some g → ⊥
 none_some g e = absurd cc
@@ -318,11 +320,6 @@ spread_more r s owners w w' taken taken' at o old next after is more_taken =
 
 -- ---- the beginning
 
-none_in : (n q : ℕ) → member (replicate n false) q ≡ false
-none_in zero q = refl
-none_in (suc n) zero = refl
-none_in (suc n) (suc q) = none_in n q
-
 seed_has : (r : List Need) (s : List ℕ) (set : ℕ → Bool) → has_name (labels_of r) s ≡ true → IsClosed r s set
     → has r set (folded s) ≡ true
 seed_has r s set on closed =
@@ -349,14 +346,14 @@ spread_start r s owners w taken needs seed causes on is all none_taken =
       len = length-replicate (length r) false;
       seeded = or_left (folds_same s (folded s)) false (folded_last s s ∙ folds_itself s);
       done = λ c lt m. absurd (false≢true (sym m ∙ get_or-replicate (length needs) c true false lt));
-      on = λ q lt m. absurd (false≢true (sym (none_in (length r) q) ∙ m));
+      on = λ q lt m. absurd (false≢true (sym (unmet_yet (length r) q) ∙ m));
       sound = λ set closed l c.
           (let e = alone_from (folded s, None) l c in
           record {
             name = ap (λ (k : Label). has r set k.0) (sym e) ∙ seed_has r s set on closed;
             group = λ g h. absurd (none_some g (ap (λ (k : Label). k.1) e ∙ h));
           });
-      least = λ set closed q m. absurd (false≢true (sym (none_in (length r) q) ∙ m));
+      least = λ set closed q m. absurd (false≢true (sym (unmet_yet (length r) q) ∙ m));
     })
 
 -- ---- the end
@@ -535,8 +532,6 @@ and_left' a b h = (and_parts a b h).0
 and_right' : (a b : Bool) → (a && b) ≡ true → b ≡ true
 and_right' a b h = (and_parts a b h).1
 
--- each set of the places below n is among all sets
-pub sets_have : (p : List Bool → Bool) (t : List Bool) → list_all p (all_sets (length t)) ≡ true → p t ≡ true
 unfolding all_sets
 sets_have p [] h = and_left' (p []) true h
 sets_have p (true ∷ t) h =
@@ -560,11 +555,7 @@ closed_passes r s set closed =
 pub passes_closed : (r : List Need) (s : List ℕ) (set : ℕ → Bool) → is_closed r s set ≡ true → IsClosed r s set
 passes_closed r s set h q due =
     then_gives (is_due r s set q) (set q)
-    (range_all (λ q. not (is_due r s set q) || set q) (length r) q (due_within r s set q due) h) due
-
-all_true : {X : Type 0} (p : X → Bool) (xs : List X) → ((x : X) → p x ≡ true) → list_all p xs ≡ true
-all_true p [] f = refl
-all_true p (x ∷ xs) f = and_from (p x) (list_all p xs) (f x) (all_true p xs f)
+    (all_below (λ q. not (is_due r s set q) || set q) (length r) q (due_within r s set q due) h) due
 
 -- the taken ones are those of the least closed set
 is_least : (r : List Need) (s : List ℕ) (taken : List Bool) → length taken ≡ length r → IsClosed r s (member taken)

@@ -4,18 +4,15 @@ use Rattle.std.specs.Prelude.{position, slice_get}
 use Rattle.std.specs.List.{list_any, position_or_len, filter_map, cons_option, items_where_true, range_with_len}
 use Rattle.std.specs.Option.{is_some, option_and_then}
 use Rattle.std.proofs.lemmas.Bool.{lt-ltb}
-use Rattle.std.proofs.lemmas.Bool.Decides.{nat_tests}
-use Rattle.std.proofs.lemmas.List.{take_more, take_all, append-nil, map-id}
+use Rattle.std.proofs.lemmas.List.{take_more, take_all, append-nil}
 use Rattle.std.proofs.lemmas.List.Elements.{filter_map-append}
-use Rattle.std.proofs.lemmas.List.FromFn.{map-range_with_len_more}
 use Rattle.std.proofs.lemmas.Option.{slice_get_cases}
 use Rattle.nt_bytes.specs.Folding.{folds_same}
 use Rattle.start_model.specs.Demand.{Need}
+use Rattle.boot_phases.proofs.TriedLemmas.{shorter}
+use Rattle.dependencies.proofs.KeptLemmas.{range_push}
 
 -- ---- names
-
-shorter : (n len : ℕ) → ltb (1 + n) (suc len) ≡ ltb n len
-shorter n len = grind (arith, nat_tests)
 
 -- the first place that passes is in the list where an item passes
 pub within : {X : Type 0} (p : X → Bool) (xs : List X) → ltb (position_or_len p xs) (length xs) ≡ list_any p xs
@@ -96,10 +93,6 @@ pub at_none : {X Y : Type 0} (h : X → Option Y) (xs : List X) (i : ℕ) (o : O
     → ys ≡ filter_map h (take (i + 1) xs)
 at_none h xs i o ys is none so_far =
     sym (append-nil ys) ∙ ap (λ q. ys ++ cons_option q []) (sym none) ∙ at_by h xs i o ys is so_far
-
-range_push : (n : ℕ) → range_with_len 0 (n + 1) ≡ range_with_len 0 n ++ n ∷ []
-range_push n = sym (map-id (range_with_len 0 (n + 1))) ∙ map-range_with_len_more (λ k. k) 0 n n (omega arith)
-    ∙ ap (λ l. l ++ n ∷ []) (map-id (range_with_len 0 n))
 
 range_by : {Y : Type 0} (h : ℕ → Option Y) (i : ℕ) (ys : List Y) → ys ≡ filter_map h (range_with_len 0 i)
     → ys ++ cons_option (h i) [] ≡ filter_map h (range_with_len 0 (i + 1))

@@ -14,6 +14,7 @@ use Rattle.dependencies.specs.Waiting.{WaitingState, waiting_in, places_in, next
 use Rattle.service_control.specs.Turns.{turns, all_wait}
 use Rattle.service_control.proofs.SpreadState.{none}
 use Rattle.service_control.proofs.StepLemmas.{within}
+use Rattle.dependencies.proofs.KeptLemmas.{within_waits}
 
 as_many : {X : Type 0} (bs : List Bool) (xs : List X) (i : ℕ)
     → length (items_where_true bs (range_with_len i (length xs))) ≡ length (items_where_true bs xs)
@@ -118,16 +119,11 @@ none_ready w h c lt m = none_passes (is_ready w.started) w.waits w.needs c none
 
 -- ---- how many wait
 
-pub member_within : (bs : List Bool) (k : ℕ) → member bs k ≡ true → k < length bs
-member_within [] k m = absurd (false≢true m)
-member_within (b ∷ bs) zero m = omega arith
-member_within (b ∷ bs) (suc k) m = omega (arith, member_within bs k m)
-
 pub one_fewer : (bs : List Bool) (k : ℕ) → member bs k ≡ true
     → count_by (λ b. b) bs ≡ count_by (λ b. b) (set bs k false) + 1
 one_fewer bs k m =
     let s : ◌≡◌ {A = ℕ} (count_by (λ b. b) (set bs k false) + cond (member bs k) 1 0) (count_by (λ b. b) bs + 0) =
-    sum_by-set (λ (b : Bool). cond b 1 0) bs k false false (member_within bs k m) in
+    sum_by-set (λ (b : Bool). cond b 1 0) bs k false false (within_waits bs k m) in
     let one : ◌≡◌ {A = ℕ} (cond (member bs k) 1 0) 1 = ap (λ b. cond b 1 0) m in
     omega (arith, s, one)
 

@@ -6,7 +6,7 @@ use Rattle.std.specs.List.{AllByRecursion, filter_map, cons_option}
 use Rattle.std.proofs.lemmas.List.Elements.{recursion_from_All, All-from_recursion, All-push, filter_map-append}
 use Rattle.std.proofs.lemmas.List.{take_more, get_or-take, get_or_default, length-take, length-map, length_push, append-nil}
 use Rattle.indexmap.specs.IndexMap.{insert_entry}
-use Rattle.nt_bytes.specs.Folding.{folded, folded_unit, folds_same}
+use Rattle.nt_bytes.specs.Folding.{folded, folds_same}
 use Rattle.hive_model.specs.Tree.{Tree, head}
 use Rattle.start_model.specs.Entries.{Entry, entry_of, entry_with}
 use Rattle.service_entries.specs.Keyed.{AreKeyed}
@@ -18,18 +18,13 @@ use Rattle.std.specs.Cmp.Lexicographic.{nat_list_eq_equiv}
 use Rattle.std.proofs.lemmas.Bool.Decides.{nat_tests}
 use Rattle.reg_tree.proofs.Unlike.{Each, Unlike, unlike_from, unlike_pairs, unlike_push, each_from, folds_swap}
 use Rattle.service_entries.specs.Named.{NamesDiffer, is_named_at, IsOnlyPlace}
+use Rattle.name_places.proofs.FoldLemmas.{folded_pointwise}
 
 abbrev Pair : Type 0
 Pair = Vec ℕ Global × Entry
 
 abbrev same_key : Vec ℕ Global → Vec ℕ Global → Bool
 same_key a b = pointwise nat_eq a.items b.items
-
-folded_pointwise : (a b : List ℕ) → pointwise nat_eq (folded a) (folded b) ≡ folds_same a b
-folded_pointwise [] [] = refl
-folded_pointwise [] (y ∷ ys) = refl
-folded_pointwise (x ∷ xs) [] = refl
-folded_pointwise (x ∷ xs) (y ∷ ys) = ap (λ b. nat_eq (folded_unit x) (folded_unit y) && b) (folded_pointwise xs ys)
 
 insert_new : (es : List Pair) (key : Vec ℕ Global) (entry : Entry)
     → AllByRecursion (λ (e : Pair). e.0.items ≡ folded e.1.name) es → key.items ≡ folded entry.name

@@ -70,7 +70,7 @@ placed_no_more p t h (u ∷ us) = split (is_gt (folded_order (head u).name (head
 
 -- ---- in a valid tree
 
-folds_back : (a b : List ℕ) → folds_same a b ≡ true → folds_same b a ≡ true
+pub folds_back : (a b : List ℕ) → folds_same a b ≡ true → folds_same b a ≡ true
 folds_back [] [] h = refl
 folds_back [] (y ∷ ys) h = absurd (false≢true h)
 folds_back (x ∷ xs) [] h = absurd (false≢true h)

@@ -1,5 +1,5 @@
 -- What a tree that a hive can hold has in its services and its lists.
-use Rattle.std.proofs.Common.{◌≡◌, subst, ℕ, ◌+◌, ◌*◌, ◌<◌, ◌≤◌, ◌^◌, Bool, true, false, cond, List, [], ◌∷◌, length, Option, Some, None, arith, length-take}
+use Rattle.std.proofs.Common.{ℕ, ◌+◌, ◌*◌, ◌<◌, ◌≤◌, ◌^◌, Bool, true, false, cond, List, [], ◌∷◌, length, Option, Some, None, arith, length-take}
 use Rattle.std.specs.Prelude.{find, option_and_then, nat_eq, codes}
 use Rattle.std.specs.Option.{option_map_or}
 use Rattle.std.specs.List.{prefix_len, slice_split}
@@ -42,14 +42,10 @@ held_find_key (name ∷ path) t h =
     held_through (find_key path) (find (is_named name) (children t)) (held_child name t h)
     (λ u held. held_find_key path u held)
 
--- what a path leads to in a tree that can be held can be held
-pub found_holds : (path : List (List ℕ)) (t u : Tree) → HoldsKeys t → find_key path t ≡ Some u → HoldsKeys u
-found_holds path t u h is = let P : Option Tree → Type 0 = λ o. Held o in subst P is (held_find_key path t h)
-
 differ : (t : Tree) → HoldsKeys t → KeysDiffer (children t)
 differ (key h ts) held = held.0.keys_differ
 
-few_children : (t : Tree) → HoldsKeys t → length (children t) < 2 ^ 32
+pub few_children : (t : Tree) → HoldsKeys t → length (children t) < 2 ^ 32
 few_children (key h ts) held = held.0.key_count
 
 -- the services of a set have names that differ

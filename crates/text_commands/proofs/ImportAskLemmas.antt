@@ -13,10 +13,10 @@ use Rattle.command_parts.specs.declared.refusal.Obstacle.TheVariants.{Refused, S
 use Rattle.command_parts.specs.declared.status.Status.{Status}
 use Rattle.command_parts.specs.declared.status.Status.TheVariants as statuses
 use Rattle.command_parts.specs.Inputs.{hive_in, asks_hive, AsksHive}
-use Rattle.command_parts.specs.Leaves.{Looks, AsksBy, AsksSome, more, stop_in, stopped_as}
+use Rattle.command_parts.specs.Leaves.{Looks, AsksBy, more, stop_in, stopped_as}
 use Rattle.command_parts.specs.Placed.{image_in}
 use Rattle.command_parts.specs.Refusals.{IsToldAs, refusal_status}
-use Rattle.command_parts.proofs.AskLemmas.{asks_on, asks_stop, more_behind}
+use Rattle.command_parts.proofs.AskLemmas.{asks_on, asks_stop, more_behind, some_behind}
 use Rattle.command_parts.proofs.DecideLemmas.{not_read, refused_unread}
 use Rattle.text_commands.specs.Asks.{AsksBehind, AsksText, AsksImport}
 use Rattle.text_commands.specs.Imports.{IsLoadable}
@@ -61,13 +61,6 @@ unchecked_asked files gets =
 
 -- ---- behind the search for the hive
 
-some_behind : (least whole n k : ℕ) (old mid new : ℕ) → whole ≡ n + k → mid ≡ more n old → AsksSome least k mid new
-    → AsksSome least whole old new
-some_behind least whole n k old mid new is before some = record {
-  asked = n + some.asked;
-  not_less = omega (arith, some.not_less);
-  not_more = omega (arith, is, some.not_more);
-  gets = more_behind (n + some.asked) n some.asked old mid new refl before some.gets;
 }
 
 none_more : (n : ℕ) → n ≡ n + 0

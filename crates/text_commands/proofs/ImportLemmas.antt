@@ -72,7 +72,7 @@ part_imported files change n most disk le m = record {
   uncut = m.uncut;
 }
 
-new_part : (files : HiveFiles) (disk : DiskState) → disk ≡ new_state → IsPartImported files 0 disk
+pub new_part : (files : HiveFiles) (disk : DiskState) → disk ≡ new_state → IsPartImported files 0 disk
 new_part files disk is =
     let P : DiskState → Type 0 = IsPartImported files 0 in
     subst P (sym is) (record { placed = omega arith; taken = omega arith; unordered = refl; uncut = refl })

@@ -11,8 +11,9 @@ use Rattle.hive_model.specs.Tree.{Item, Head, Tree, Trees, key, none, more, tree
 use Rattle.hive_model.specs.Valid.{longest_value_name, deepest_level}
 use Rattle.reg_text.specs.Reading.{making}
 use Rattle.text_laws.specs.Back.{value_steps, key_steps, keys_steps, bares, IsOrdered, AreOrdered, IsFree, IsFreeAt, HasBack}
-use Rattle.text_laws.proofs.FocusLemmas.{listed_trees, ok_one, then_found, change_is, change_none, change_again, change_behind, found_behind, unless_ok, first_step, in_parts}
+use Rattle.text_laws.proofs.FocusLemmas.{ok_one, then_found, change_is, change_none, change_again, change_behind, found_behind, unless_ok, first_step, in_parts}
 use Rattle.text_laws.proofs.ApartLemmas.{Test, Free, Apart, apart, none_found, last_found, last_changed, map_push}
+use Rattle.reg_tree.proofs.Trees.{listed_trees}
 
 -- a name passes for one before it
 abbrev same : Test

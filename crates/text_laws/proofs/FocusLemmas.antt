@@ -5,14 +5,11 @@ use Rattle.nt_bytes.specs.Folding.{folds_same}
 use Rattle.hive_model.specs.Edit.{Step, Refusal, at_first, of_children, at_key, unless, then_edit, after_step, after_steps}
 use Rattle.hive_model.specs.Tree.{Tree, Trees, key, none, more, trees, listed, head, children, is_named, find_key}
 use Rattle.std.proofs.lemmas.Option.{same_Some}
+use Rattle.reg_tree.proofs.Trees.{listed_trees}
 
 pub trees_listed : (ts : Trees) → trees (listed ts) ≡ ts
 trees_listed none = refl
 trees_listed (more t ts) = ap (more t) (trees_listed ts)
-
-pub listed_trees : (us : List Tree) → listed (trees us) ≡ us
-listed_trees [] = refl
-listed_trees (u ∷ us) = ap (λ (l : List Tree). u ∷ l) (listed_trees us)
 
 -- what an edit gives that is not refused
 abbrev pub done : {X : Type 0} → X → Result X Refusal

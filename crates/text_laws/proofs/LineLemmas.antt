@@ -1,5 +1,5 @@
 -- Lines that are written, as they are cut and trimmed.
-use Rattle.std.proofs.Common.{◌≡◌, ℕ, ◌+◌, ◌-◌, ◌*◌, ◌/◌, ◌%◌, ◌<◌, Bool, true, false, cond, ◌&&◌, ◌||◌, eqb, List, [], ◌∷◌, ◌++◌, length, take, drop, get_or, reverse, refl, sym, ap, ◌∙◌, append_assoc, arith}
+use Rattle.std.proofs.Common.{◌≡◌, ℕ, ◌+◌, ◌-◌, ◌*◌, ◌/◌, ◌%◌, Bool, true, false, cond, ◌&&◌, eqb, List, [], ◌∷◌, ◌++◌, length, take, drop, get_or, reverse, refl, sym, ap, ◌∙◌, append_assoc, arith}
 use Rattle.std.specs.List.{flat_map, list_all, prefix_len, suffix_len, slice_split, count_by, All}
 use Rattle.std.specs.Str.Lines.{lines, lines_of_parts, strip_carriage_return}
 use Rattle.std.proofs.lemmas.Bool.{ne_eqb, or_parts, or_from}
@@ -9,6 +9,7 @@ use Rattle.std.proofs.lemmas.List.Splits.{slice_split_at, length-slice_split}
 use Rattle.nt_bytes.specs.Text.{wide_of, is_blank, without_front_blanks, without_last_blanks, trimmed}
 use Rattle.reg_text.specs.Digits.{is_hex}
 use Rattle.reg_text.specs.Writing.{is_line_end, breaks, unit_bytes}
+use Rattle.nt_bytes.proofs.LineLemmas.{parts_after}
 
 -- ---- tests of two
 
@@ -40,11 +41,6 @@ no_feed [] e = All-cons (λ b. eqb b 10 ≡ false) 13 [] refl (All-nil (λ b. eq
 no_feed (u ∷ line) e =
     let two = or_parts (is_line_end u) (breaks line) e in
     All-cons (λ b. eqb b 10 ≡ false) u (line ++ 13 ∷ []) (or_parts (eqb u 10) (eqb u 13) two.0).0 (no_feed line two.1)
-
-parts_after : (front : List ℕ) (ps : List (List ℕ)) → 0 < length ps
-    → lines_of_parts (front ∷ ps) ≡ strip_carriage_return front ∷ lines_of_parts ps
-parts_after front [] h = absurd (omega arith)
-parts_after front (p ∷ ps) h = refl
 
 pub last_at : (line : List ℕ) (d : ℕ) → get_or (line ++ d ∷ []) (length (line ++ d ∷ []) - 1) 0 ≡ d
 last_at line d = ap (λ (n : ℕ). get_or (line ++ d ∷ []) n 0) (count line) ∙ nth line

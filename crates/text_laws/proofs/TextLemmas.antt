@@ -26,6 +26,7 @@ use Rattle.reg_text.specs.Writing.{header, system, quoted_unit, quoted, name_tex
 use Rattle.text_laws.specs.Back.{value_steps, key_steps, keys_steps, FitsFields, IsPart, IsTextual, AreTextual}
 use Rattle.text_laws.proofs.LineLemmas.{whole_append, wide_back, not_odd, last_at, front_of, line_cut, Ends, ends_behind, tight}
 use Rattle.text_laws.proofs.DataLemmas.{quoted_back, quoted_whole, data_back}
+use Rattle.reg_text.proofs.ReadLemmas.{regroup, one_line}
 
 -- ---- the line of a value
 
@@ -172,20 +173,12 @@ record Said (state : State) (text : List ℕ) (edits : List Step) (into : Option
   key_is : after.key ≡ into
   reads : (rest : List ℕ) → lines_said state (lines (text ++ rest)) ≡ with_edits edits (lines_said after (lines rest))
 
-regroup : (first edits : List Step) (read : Read)
-    → with_edits first (with_edits edits read) ≡ with_edits (first ++ edits) read
-regroup first edits (Ok r) = ap (λ (es : List Step). Ok (es, r.1)) (sym (append_assoc first edits r.0))
-regroup first edits (Err f) = refl
-
 no_edits : (read : Read) → with_edits [] read ≡ read
 no_edits (Ok r) = refl
 no_edits (Err f) = refl
 
-one_said : (state after : State) (line : List ℕ) (further : List (List ℕ)) (edits : List Step)
-    → line_said state line ≡ Ok (edits, after)
-    → lines_said state (line ∷ further) ≡ with_edits edits (lines_said after further)
 unfolding lines_said
-one_said state after line further edits read =
+one_line state after line further edits read =
     ap (λ (r : Result (List Step × State) RegKind). then_lines (at_line (number_of state) r)
     (λ next. lines_said next further)) read
 
@@ -213,7 +206,7 @@ line_is state after line edits into whole said begun is = record {
   reads = λ rest.
       ap (λ (t : List ℕ). lines_said state (lines t)) (append_assoc line (13 ∷ 10 ∷ []) rest)
       ∙ ap (lines_said state) (line_cut line rest whole)
-      ∙ one_said state after line (lines rest) edits said;
+      ∙ one_line state after line (lines rest) edits said;
 }
 
 then_said : (state : State) (first further : List ℕ) (edits steps : List Step) (into to : Option (List (List ℕ)))

@@ -11,11 +11,12 @@ use Rattle.std.specs.Cmp.Lexicographic.{slice_cmp, nat_list_cmp_total}
 use Rattle.std.specs.declared.cmp.Ordering.{Ordering}
 use Rattle.std.specs.declared.cmp.Ordering.TheVariants.{Less, Equal, Greater}
 use Rattle.nt_bytes.specs.Folding.{folded, folds_same, folded_order}
-use Rattle.name_places.proofs.FoldLemmas.{same_from_order}
+use Rattle.name_places.proofs.FoldLemmas.{same_from_order, reversed_eq}
 use Rattle.hive_model.specs.Tree.{Tree, head, is_named}
 use Rattle.hive_model.specs.Edit.{at_first, without_first, placed}
 use Rattle.reg_tree.proofs.Unlike.{Each, each_from, each_all}
 use Rattle.tree_draft.specs.Children.{AreOpened, IsBehind}
+use Rattle.reg_tree.proofs.Ordered.{is_less}
 
 abbrev Entry : Type 0
 Entry = Vec ℕ × Tree
@@ -31,11 +32,6 @@ IsByName e = e.0.items ≡ folded (name_of e.1)
 -- whether a key of the map is this name, folded
 abbrev pub is_key : List ℕ → Vec ℕ → Bool
 is_key name k = is_eq (slice_cmp nat_cmp name k.items)
-
-reversed_eq : (r : Ordering) → is_eq (ordering_reverse r) ≡ is_eq r
-reversed_eq Less = refl
-reversed_eq Equal = refl
-reversed_eq Greater = refl
 
 same_by_order : (q y : List ℕ) → is_eq (folded_order q y) ≡ folds_same q y
 same_by_order q y =
@@ -170,11 +166,6 @@ opened_more k t es fs keys key behind put old =
       all = values_last k t es ∙ ap (λ (ts : List Tree). ts ++ t ∷ []) old.all;
       named = each_all IsByName (es ++ (k, t) ∷ []) (named_last k t es key (each_from IsByName es old.named));
     })
-
-is_less : (r : Ordering) → is_lt r ≡ true → r ≡ Less
-is_less Less h = refl
-is_less Equal h = absurd cc
-is_less Greater h = absurd cc
 
 -- behind the last key, where no other is greater
 pub behind_last : (last : Vec ℕ) (name : List ℕ) (es : List Entry) → is_lt (slice_cmp nat_cmp last.items name) ≡ true

@@ -166,7 +166,7 @@ part_more files most disk p =
 abbrev done_with : List ℕ → Answer
 done_with text = record { status = statuses.Done; text = text }
 
-was_said : (text old new : List ℕ) → Ends (done_with text) statuses.Done old new → new ≡ old ++ text
+pub was_said : (text old new : List ℕ) → Ends (done_with text) statuses.Done old new → new ≡ old ++ text
 was_said text old new (inl x) = x.1
 was_said text old new (inr never) = absurd never
 

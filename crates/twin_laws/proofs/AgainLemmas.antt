@@ -1,6 +1,6 @@
 -- The files of an image stand for what it stands for.
 use Rattle.std.specs.Prelude.{nat_lt, not}
-use Rattle.std.proofs.Common.{◌≡◌, ◌⊎◌, inl, ◌<◌, ◌≤◌, ◌+◌, ◌-◌, ◌*◌, ◌/◌, ◌==◌, ℕ, zero, suc, Bool, true, false, cond, List, ◌++◌, length, take, drop, replicate, Option, Some, None, Result, Ok, Err, refl, sym, ◌∙◌, ap, subst, ⊎_elim, arith, append-nil, length-take, length-drop}
+use Rattle.std.proofs.Common.{◌≡◌, ◌⊎◌, inl, ◌<◌, ◌≤◌, ◌+◌, ◌-◌, ◌*◌, ◌/◌, ◌==◌, ℕ, zero, suc, Bool, true, false, cond, List, length, take, drop, replicate, Option, Some, None, Result, Ok, Err, refl, sym, ◌∙◌, ap, subst, ⊎_elim, arith}
 use Rattle.std.proofs.lemmas.Bool.{lt-ltb, eqb-true, eq-eqb, cases_lt}
 use Rattle.nt_bytes.specs.declared.fault.HiveFault.{HiveFault}
 use Rattle.nt_bytes.specs.declared.fault.HiveKind.TheVariants.{LogAbsent, LogUnreadable, LogSequence, NotRegf}
@@ -13,7 +13,7 @@ use Rattle.hive_model.specs.State.{HiveState}
 use Rattle.hive_model.proofs.BaseLemmas.{base_in_checked}
 use Rattle.saved_laws.specs.Saved.{HasUntornBlock, KeepsSectors}
 use Rattle.saved_laws.proofs.KeptLemmas.{Stays}
-use Rattle.saved_laws.proofs.SavedLemmas.{files_load, torn_block}
+use Rattle.saved_laws.proofs.SavedLemmas.{files_load, torn_block, filled, whole}
 use Rattle.hive_log.specs.Found.{IsUnfinished}
 use Rattle.hive_log.proofs.Appending.{sized}
 use Rattle.hive_alt.specs.Copies.{copy_in}
@@ -25,13 +25,6 @@ use Rattle.command_words.specs.declared.asked.TwinScheme.TheVariants as schemes
 use Rattle.twin_command.specs.Twinned.{stands_by}
 
 -- ---- the sectors of a file
-
-filled : (bytes : List ℕ) → length bytes ≡ 512 → padded bytes ≡ bytes
-filled bytes long = ap (λ n. bytes ++ replicate (512 - n) 0) long ∙ append-nil bytes
-
-whole : (bytes : List ℕ) (count n : ℕ) → length bytes ≡ 512 * count → n < count
-    → length (take 512 (drop (512 * n) bytes)) ≡ 512
-whole bytes count n long inside = omega (arith, length-take 512 (drop (512 * n) bytes), length-drop (512 * n) bytes)
 
 module _ (image : Image) (file : File) (bytes : List ℕ) (is : IsFileOf image file bytes) where
   there : (n : ℕ) (block : List ℕ) → image (copy_at file n) ≡ Some (Bytes block) → n < is.count

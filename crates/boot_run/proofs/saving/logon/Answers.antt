@@ -12,9 +12,10 @@ use Rattle.run_parts.proofs.BreakLemmas.{breaks-line, or-breaks}
 use Rattle.boot_run.specs.Agrees.{Counts, OnLeft, TurnLeft, IsRunningBy}
 use Rattle.boot_run.specs.Views.{told_in, told_by}
 use Rattle.boot_run.proofs.PlayLemmas.{live_left, plays-as, plays-then, stays_done}
-use Rattle.boot_run.proofs.SaveLemmas.{live_machine, live_closed}
+use Rattle.boot_run.proofs.SaveLemmas.{live_machine}
 use Rattle.boot_run.proofs.DueLemmas.{due_may, logged, logged_on, logged_state, logon_is, done_left, start_by}
 use Rattle.boot_run.proofs.saving.logon.Goals as goal
+use Rattle.boot_run.proofs.BeginLemmas.{none_open}
 
 pub returns-in_err-say-clause-plays : goal.returns-in_err-say-clause-plays
 returns-in_err-say-clause-plays g c = λ m tells counts live.
@@ -31,7 +32,7 @@ returns-in_err-say-clause-plays g c = λ m tells counts live.
     (logon_is m.machine.start c.args.hive.tree m refl on) (λ v a k. k)
     (or-breaks Left c.from_residual.result c.from_residual.ensures.0 (say LogonLine more) x y d d
     (breaks-line LogonLine more x y.said d d (still d) refl (c.in_err-say.ensures.tells tells)
-    (λ image crash. due_may n.machine.start n done image (live_closed m c.args.hive d live) stays_done
+    (λ image crash. due_may n.machine.start n done image (none_open m c.args.hive d live) stays_done
     (live_left m c.args.hive d c.requires.sound.0 live image crash))))
 
 pub save_where_due-requires : goal.save_where_due-requires

@@ -6,8 +6,9 @@ use Rattle.run_parts.proofs.CountLemmas.{still}
 use Rattle.run_parts.proofs.BreakLemmas.{breaks-silent, or-breaks}
 use Rattle.boot_run.specs.Views.{told_in}
 use Rattle.boot_run.proofs.PlayLemmas.{live_left}
-use Rattle.boot_run.proofs.SaveLemmas.{live_closed, saved_may}
+use Rattle.boot_run.proofs.SaveLemmas.{saved_may}
 use Rattle.boot_run.proofs.saving.save.Goals as goal
+use Rattle.boot_run.proofs.BeginLemmas.{none_open}
 
 pub returns-in_err-plan-clause-plays : goal.returns-in_err-plan-clause-plays
 returns-in_err-plan-clause-plays g c = λ m s next tells out counts live stays.
@@ -17,7 +18,7 @@ returns-in_err-plan-clause-plays g c = λ m s next tells out counts live stays.
     or-breaks _ c.from_residual.result c.from_residual.ensures.0 act x x d d
     (breaks-silent act x d d (still d)
     (λ image crash. saved_may s c.args.clone m next image (save_of m.version m.live c.args.clone)
-    (live_closed m c.args.hive d live) stays (live_left m c.args.hive d c.requires.sound.0 live image crash)))
+    (none_open m c.args.hive d live) stays (live_left m c.args.hive d c.requires.sound.0 live image crash)))
 
 pub returns-in-Some-clause-plays : goal.returns-in-Some-clause-plays
 returns-in-Some-clause-plays g c = λ m s next tells out counts live stays.

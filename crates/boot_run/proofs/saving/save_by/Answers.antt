@@ -14,8 +14,9 @@ use Rattle.boot_run.specs.Agrees.{IsSound, IsLive, OnLeft}
 use Rattle.boot_run.specs.Saves.{noting}
 use Rattle.boot_run.specs.Views.{told_in}
 use Rattle.boot_run.proofs.PlayLemmas.{live_left}
-use Rattle.boot_run.proofs.SaveLemmas.{save_keeps, up_by, stored_by, live_closed, save_made, save_full, saved_may, refused_why}
+use Rattle.boot_run.proofs.SaveLemmas.{save_keeps, up_by, stored_by, save_made, save_full, saved_may, refused_why}
 use Rattle.boot_run.proofs.saving.save_by.Goals as goal
+use Rattle.boot_run.proofs.BeginLemmas.{none_open}
 
 pub apply-requires : goal.apply-requires
 apply-requires g c = let P : SetPlan → Type 0 = λ p. All Fits p.steps in
@@ -61,7 +62,7 @@ returns-in-None-clause-plays g c = λ m s clone next tells out counts live is st
     let x = told_in (g.H.Host.state c.args.host.now) c.args.runner.now in
     let d = g.B.Disk.state c.args.bench.now in
     breaks-silent (saved_by s clone m next (save_of m.version m.live clone)) x d d (still d)
-    (λ image crash. saved_may s clone m next image (save_of m.version m.live clone) (live_closed m c.args.hive d live)
+    (λ image crash. saved_may s clone m next image (save_of m.version m.live clone) (none_open m c.args.hive d live)
     stays (live_left m c.args.hive d c.requires.sound.0 live image crash))
 
 pub returns-in-Some-clause-plays : goal.returns-in-Some-clause-plays

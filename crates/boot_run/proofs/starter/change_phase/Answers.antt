@@ -9,11 +9,12 @@ use Rattle.boot_run.specs.Agrees.{OnLeft}
 use Rattle.boot_run.specs.Starts.{phase_lines}
 use Rattle.boot_run.specs.Views.{told_in}
 use Rattle.boot_run.proofs.PlayLemmas.{live_left, plays-as, plays-then}
-use Rattle.boot_run.proofs.SaveLemmas.{live_machine, live_closed}
+use Rattle.boot_run.proofs.SaveLemmas.{live_machine}
 use Rattle.boot_run.proofs.DueLemmas.{due_may}
 use Rattle.boot_run.proofs.StartLemmas.{breaks_all, goes_all, phase_quiet, phase_act}
 use Rattle.boot_run.proofs.StepLemmas.{next_counts}
 use Rattle.boot_run.proofs.starter.change_phase.Goals as goal
+use Rattle.boot_run.proofs.BeginLemmas.{none_open}
 
 pub returns-in_err-say_phase-clause-plays : goal.returns-in_err-say_phase-clause-plays
 returns-in_err-say_phase-clause-plays g c = λ m s next tells counts live at stays.
@@ -28,7 +29,7 @@ returns-in_err-say_phase-clause-plays g c = λ m s next tells counts live at sta
     or-breaks _ c.from_residual.result c.from_residual.ensures.0 (phase_step s m next) x y d d
     (subst P (phase_act s m next)
     (breaks_all (phase_lines s) more x y.said d (phase_quiet s) (c.in_err-say_phase.ensures.tells s tells there)
-    (λ image crash. due_may (Some after) n next image (live_closed m c.args.hive d live) stays
+    (λ image crash. due_may (Some after) n next image (none_open m c.args.hive d live) stays
     (live_left m c.args.hive d c.requires.sound.0 live image crash))))
 
 pub save_where_due-requires : goal.save_where_due-requires

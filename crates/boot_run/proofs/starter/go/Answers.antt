@@ -8,9 +8,9 @@ use Rattle.start_model.specs.Act.{Act}
 use Rattle.start_model.specs.Run.{play}
 use Rattle.boot_run.specs.Views.{told_in}
 use Rattle.boot_run.proofs.PlayLemmas.{live_left}
-use Rattle.boot_run.proofs.SaveLemmas.{live_closed}
 use Rattle.boot_run.proofs.StepLemmas.{go_may}
 use Rattle.boot_run.proofs.starter.go.Goals as goal
+use Rattle.boot_run.proofs.BeginLemmas.{none_open}
 
 pub returns-in_err-most-clause-plays : goal.returns-in_err-most-clause-plays
 returns-in_err-most-clause-plays g c = λ m tells counts live.
@@ -18,7 +18,7 @@ returns-in_err-most-clause-plays g c = λ m tells counts live.
     let d = g.B.Disk.state c.args.bench.now in
     or-breaks _ c.from_residual.result c.from_residual.ensures.0 (go_act c.args.steps m) x x d d
     (breaks-silent (go_act c.args.steps m) x d d (still d)
-    (λ image crash. go_may c.args.steps m image (live_closed m c.args.hive d live)
+    (λ image crash. go_may c.args.steps m image (none_open m c.args.hive d live)
     (live_left m c.args.hive d c.requires.sound.0 live image crash)))
 
 pub returns-in_err-take_steps-clause-plays : goal.returns-in_err-take_steps-clause-plays

@@ -9,10 +9,11 @@ use Rattle.run_parts.proofs.BreakLemmas.{breaks-silent, breaks-line, or-breaks}
 use Rattle.boot_run.specs.Agrees.{Counts, IsRunningBy, OnLeft}
 use Rattle.boot_run.specs.Views.{told_in}
 use Rattle.boot_run.proofs.PlayLemmas.{live_left, plays-as, plays-then}
-use Rattle.boot_run.proofs.SaveLemmas.{live_machine, live_closed}
+use Rattle.boot_run.proofs.SaveLemmas.{live_machine}
 use Rattle.boot_run.proofs.StartLemmas.{judged_may, attempt_keeps}
 use Rattle.boot_run.proofs.StepLemmas.{attempt_there, step_may}
 use Rattle.boot_run.proofs.starter.try_next.Goals as goal
+use Rattle.boot_run.proofs.BeginLemmas.{none_open}
 
 pub returns-in_default-clause-plays : goal.returns-in_default-clause-plays
 returns-in_default-clause-plays g c = λ m s next tells counts live stays.
@@ -20,7 +21,7 @@ returns-in_default-clause-plays g c = λ m s next tells counts live stays.
     let d = g.B.Disk.state c.args.bench.now in
     let o = attempt_of m.machine (good_is_usable m.live) in
     breaks-silent (starter_step s m next o) x d d (still d)
-    (λ image crash. step_may s m next image o (live_closed m c.args.hive d live) stays
+    (λ image crash. step_may s m next image o (none_open m c.args.hive d live) stays
     (live_left m c.args.hive d c.requires.sound.0 live image crash))
 
 pub returns-in_err-verdict-clause-plays : goal.returns-in_err-verdict-clause-plays
@@ -40,7 +41,7 @@ returns-in_err-verdict-clause-plays g c = λ m s next tells counts live stays.
     (subst P (sym (same ∙ there.1))
     (breaks-line (try_line one.1) (judged one.1.judgement (with_machine one.0 m) next) x y.said d d (still d) refl
     (c.in_err-verdict.ensures.tells one tells there.1)
-    (λ image crash. judged_may one.1.judgement (with_machine one.0 m) next image (live_closed m c.args.hive d live)
+    (λ image crash. judged_may one.1.judgement (with_machine one.0 m) next image (none_open m c.args.hive d live)
     stays (live_left m c.args.hive d c.requires.sound.0 live image crash))))
 
 pub end_where-requires : goal.end_where-requires

@@ -13,8 +13,9 @@ use Rattle.boot_run.specs.Agrees.{RunsOnBy, TurnLeft}
 use Rattle.boot_run.specs.Views.{told_in}
 use Rattle.boot_run.proofs.EditLemmas.{edit_may}
 use Rattle.boot_run.proofs.PlayLemmas.{live_left}
-use Rattle.boot_run.proofs.TurnLemmas.{goes_as, breaks_as, edit_of, edit_step, edit_act, edit_free, counted, running_number, running_most, running_there}
+use Rattle.boot_run.proofs.TurnLemmas.{goes_as, breaks_as, edit_of, edit_step, edit_act, edit_free, counted, running_number, running_most}
 use Rattle.boot_run.proofs.turning.edit_by.Goals as goal
+use Rattle.boot_run.proofs.CloseLemmas.{runs_there}
 
 pub next_step-requires : goal.next_step-requires
 next_step-requires g c =
@@ -22,7 +23,7 @@ next_step-requires g c =
     record {
       edit = c.requires.edit;
       number = running_most o c.args.hive.tree c.requires.sound.1;
-      on = running_there o c.args.hive.tree c.requires.sound.1;
+      on = runs_there o c.args.hive.tree c.requires.sound.1;
     }
 
 pub returns-in_default-clause-plays : goal.returns-in_default-clause-plays

@@ -10,8 +10,8 @@ use Rattle.hive_edit.specs.NewValue.{added_cells, added_size}
 use Rattle.hive_edit.specs.Runs.{IsPlace}
 use Rattle.hive_edit.proofs.NewCellsLemmas.{adds_value, apart_here, listed_here, node_held}
 use Rattle.hive_edit.proofs.NewRunLemmas.{added_run, list_held, listed_few}
-use Rattle.hive_edit.proofs.ResultLemmas.{is_ok_of}
 use Rattle.hive_edit.proofs.new_value.add_at.Goals as goal
+use Rattle.key_index.proofs.Tests.{is_ok_of}
 
 pub values_of-count-requires : goal.values_of-count-requires
 values_of-count-requires c =

@@ -6,8 +6,8 @@ use Rattle.edit_laws.specs.Done.{item}
 use Rattle.hive_edit.specs.NewValue.{added_size}
 use Rattle.hive_edit.specs.Runs.{IsPlace}
 use Rattle.hive_edit.proofs.NewCellsLemmas.{far_over, lacks_room}
-use Rattle.hive_edit.proofs.ResultLemmas.{is_ok_of}
 use Rattle.hive_edit.proofs.new_value.add_value.Goals as goal
+use Rattle.key_index.proofs.Tests.{is_ok_of}
 
 pub values_of-count-requires : goal.values_of-count-requires
 values_of-count-requires c =

@@ -1,11 +1,11 @@
 use Rattle.std.proofs.Common.{ℕ, sym, subst, ap, length, arith}
 use Rattle.hive_edit.specs.Gone.{HasOffsets, Unlists}
-use Rattle.hive_edit.proofs.ResultLemmas.{is_ok_of}
 use Rattle.hive_edit.proofs.UnsetLemmas.{can_count, list_after, node_room, takes_out}
 use Rattle.hive_model.specs.Bins.{look_up}
 use Rattle.hive_model.specs.KeyNode.{key_node_at}
 use Rattle.hive_model.specs.Walk.{reading}
 use Rattle.hive_edit.proofs.unset.take_out.Goals as goal
+use Rattle.key_index.proofs.Tests.{is_ok_of}
 
 pub values_of-count-requires : goal.values_of-count-requires
 values_of-count-requires c =

@@ -3,9 +3,9 @@ use Rattle.hive_model.specs.Bins.{Bin, look_up}
 use Rattle.hive_model.specs.KeyNode.{key_node_at}
 use Rattle.hive_model.specs.Walk.{reading}
 use Rattle.key_index.specs.Lists.{payload_in}
-use Rattle.hive_edit.proofs.ResultLemmas.{value_of}
 use Rattle.hive_edit.proofs.UnsetLemmas.{node_numbers}
 use Rattle.hive_edit.proofs.unset.values_of.Goals as goal
+use Rattle.key_index.proofs.Tests.{value_of}
 
 pub u32_at-requires : goal.u32_at-requires
 u32_at-requires c =

@@ -3,9 +3,9 @@ use Rattle.hive_model.specs.Bins.{Bin, look_up}
 use Rattle.hive_model.specs.KeyNode.{key_node_at}
 use Rattle.hive_model.specs.Walk.{reading}
 use Rattle.hive_edit.specs.Places.{IsItemHere}
-use Rattle.hive_edit.proofs.ResultLemmas.{is_ok_of}
 use Rattle.hive_edit.proofs.UnsetLemmas.{hive_unset, hive_can_take, can_count, hive_bulk}
 use Rattle.hive_edit.proofs.hive.HiveBytes.bulk_without.Goals as goal
+use Rattle.key_index.proofs.Tests.{is_ok_of}
 
 pub values_of-count-requires : goal.values_of-count-requires
 values_of-count-requires c =
