@@ -16,7 +16,7 @@ mod wants;
 
 pub use demand::{automatic, automatic_in, pulled, taken_is_the_least_closed_set};
 pub use need::{Need, Needs, Places};
-pub use next::{all_met, both_ways_try_the_same, groups_met, next_ready, ready, services_met};
+pub use next::{both_ways_try_the_same, next_ready, ready, services_met};
 pub use started::Started;
 pub use table::NeedTable;
 pub use test_count::TestCount;

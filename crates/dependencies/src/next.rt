@@ -14,14 +14,8 @@ use nt_bytes::Units;
 pub fn ready(needs: &Need, started: &Started) -> bool
     ensures { result ≡ is_ready started.now needs.now }
 {
-    all_met(needs.services.as_slice(), needs.groups.as_slice(), started)
-}
-
-/// Whether each of these names was started, and each of these groups has a started member.
-pub fn all_met(services: &[Units], groups: &[Units], started: &Started) -> bool
-    ensures { result ≡ (list_all (has_name started.now) services.now && list_all (has_group started.now) groups.now) }
-{
-    services_met(services, started) && groups_met(groups, started)
+    services_met(needs.services.as_slice(), started)
+        && groups_met(needs.groups.as_slice(), started)
 }
 
 /// Whether each of these names was started.
@@ -32,7 +26,7 @@ pub fn services_met(services: &[Units], started: &Started) -> bool
 }
 
 /// Whether each of these groups has a started member.
-pub fn groups_met(groups: &[Units], started: &Started) -> bool
+fn groups_met(groups: &[Units], started: &Started) -> bool
     ensures { result ≡ list_all (has_group started.now) groups.now }
 {
     groups.iter().all(|g| started.has_group(g.as_slice()))

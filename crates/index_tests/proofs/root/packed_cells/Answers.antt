@@ -1,5 +1,5 @@
 use Rattle.hive_cells.proofs.Again.{not_both}
-use Rattle.packing_tests.proofs.RoundTrip.{well_formed_again}
+use Rattle.packing_laws.proofs.RoundTrip.{well_formed_again}
 use Rattle.index_tests.proofs.root.packed_cells.Goals as goal
 
 pub unreachable-requires : goal.unreachable-requires

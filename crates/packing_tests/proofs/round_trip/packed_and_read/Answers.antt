@@ -1,7 +1,7 @@
 use Rattle.hive_model.specs.Bins.{look_up}
 use Rattle.hive_cells.proofs.Again.{not_both}
 use Rattle.hive_read.proofs.One.{one_stands}
-use Rattle.packing_tests.proofs.RoundTrip.{well_formed_again, stops_at_none}
+use Rattle.packing_laws.proofs.RoundTrip.{well_formed_again, stops_at_none}
 use Rattle.packing_tests.proofs.round_trip.packed_and_read.Goals as goal
 
 pub unreachable-requires : goal.unreachable-requires

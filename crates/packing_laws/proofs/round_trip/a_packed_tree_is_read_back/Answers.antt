@@ -4,8 +4,8 @@ use Rattle.hive_cells.proofs.Again.{not_both}
 use Rattle.hive_read.proofs.One.{one_stands}
 use Rattle.hive_read.proofs.Wellformed.{well-formed-passes}
 use Rattle.hive_pack.proofs.Heap.{packed_is_bins}
-use Rattle.packing_tests.proofs.RoundTrip.{well_formed_packed}
-use Rattle.packing_tests.proofs.round_trip.a_packed_tree_is_read_back.Goals as goal
+use Rattle.packing_laws.proofs.RoundTrip.{well_formed_packed}
+use Rattle.packing_laws.proofs.round_trip.a_packed_tree_is_read_back.Goals as goal
 
 pub returns-clause-bins : goal.returns-clause-bins
 returns-clause-bins c = λ version t room. (packed_bins version t, packed_is_bins version t room)

@@ -11,7 +11,7 @@ use Rattle.hive_cells.proofs.Again.{one_list}
 use Rattle.hive_pack.proofs.Heap.{packed_is_bins}
 use Rattle.hive_pack.proofs.Formed.{packed_is_well_formed}
 use Rattle.hive_read.proofs.Wellformed.{well-formed-passes}
-use Rattle.packing_tests.specs.Packing.{IsPackedIn}
+use Rattle.packing_laws.specs.Packing.{IsPackedIn}
 
 -- cells that are well-formed in bins are so in the bins that are read from their bytes
 pub well_formed_again : (version : HiveVersion) (text : List ℕ) (bins others : List Bin) (root : ℕ) (t : Tree)
