@@ -4,9 +4,6 @@ pub mod OneByOne
 pub mod Asked
 pub mod AskedOnce
 pub mod AskedInOrder
-pub mod Driver
-pub mod Faults
-pub mod Deep
 pub mod Room
 pub mod CutLemmas
 pub mod Sized
@@ -14,6 +11,5 @@ pub mod FirstFault
 pub mod FileSectors
 pub mod Saved
 pub mod ReadBack
-pub mod FullHives
 pub mod WrittenLists
 pub mod SecurityRead

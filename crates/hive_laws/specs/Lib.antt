@@ -1,11 +1,8 @@
 pub mod Samples
-pub mod OneDriver
-pub mod SmallCells
 pub mod Trees
 pub mod Looking
 pub mod Cuts
 pub mod Whole
 pub mod Opened
-pub mod Rings
 pub mod Rows
 pub mod Both

@@ -1,0 +1,4 @@
+pub mod Driver
+pub mod Faults
+pub mod Deep
+pub mod FullHives

@@ -1,0 +1,21 @@
+use Rattle.std.proofs.Common.{refl}
+use Rattle.hive_model.specs.Base.{mixed_words, head_text, summed_text, base_text, base_of, fields_of}
+use Rattle.hive_model.specs.Log.{bitmap_text, log_of}
+use Rattle.hive_model.specs.Recovery.{sector, bit, recovered_of}
+use Rattle.hive_laws.specs.Samples.{before, after, file_of}
+use Rattle.hive_examples.proofs.recovery.a_hive_with_unreadable_sectors.Goals as goal
+
+pub returns-clause-block : goal.returns-clause-block
+unfolding mixed_words head_text summed_text base_text base_of fields_of bitmap_text log_of sector bit recovered_of
+    before after file_of
+returns-clause-block c = refl
+
+pub returns-clause-logged : goal.returns-clause-logged
+unfolding mixed_words head_text summed_text base_text base_of fields_of bitmap_text log_of sector bit recovered_of
+    before after file_of
+returns-clause-logged c = refl
+
+pub returns-clause-left_alone : goal.returns-clause-left_alone
+unfolding mixed_words head_text summed_text base_text base_of fields_of bitmap_text log_of sector bit recovered_of
+    before after file_of
+returns-clause-left_alone c = refl

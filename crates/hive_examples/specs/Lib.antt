@@ -1,0 +1,3 @@
+pub mod OneDriver
+pub mod SmallCells
+pub mod Rings

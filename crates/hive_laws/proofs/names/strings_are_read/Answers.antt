@@ -1,8 +1,0 @@
-use Rattle.std.proofs.Common.{refl}
-use Rattle.hive_laws.proofs.names.strings_are_read.Goals as goal
-
-pub returns-clause-string : goal.returns-clause-string
-returns-clause-string c = refl
-
-pub returns-clause-strings : goal.returns-clause-strings
-returns-clause-strings c = refl

@@ -1,5 +1,0 @@
-use Rattle.hive_laws.proofs.Deep.{keys_end}
-use Rattle.hive_laws.proofs.walks.keys_without_end.Goals as goal
-
-pub returns : goal.returns
-returns c = keys_end
