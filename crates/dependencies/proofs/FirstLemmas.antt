@@ -10,6 +10,7 @@ use Rattle.dependencies.specs.Firsts.{AreNodesBut, IsTreeOf, leaf_of}
 
 -- ---- the first element that passes
 
+-- the first place that passes, counted from i, is found
 some_at : {X : Type 0} (p : X → Bool) (i at : ℕ) (xs : List X) (d : X) → at < length xs
     → ((k : ℕ) → k < at → p (get_or xs k d) ≡ false) → p (get_or xs at d) ≡ true
     → position_from p i xs ≡ Some (i + at)
@@ -69,6 +70,7 @@ pub record HasLeaf (firsts : List ℕ) (count k : ℕ) : Type 0 where
   pub high : at < 2 * count
   pub same : get_or firsts k 0 ≡ get_or firsts at 0
 
+-- what a node has comes from a leaf below it, found going down
 from_leaf : (firsts : List ℕ) (count fuel k : ℕ) → AreNodesBut 0 firsts count → 2 * count ≤ k + fuel → 0 < k
     → k < 2 * count → HasLeaf firsts count k
 from_leaf firsts count zero k nodes enough pos lt = absurd (omega (arith, enough, lt))
@@ -97,6 +99,7 @@ out_of_leaf : (b : Bool) (p r : ℕ) → r ≤ leaf_of b p → p < r → b ≡ f
 out_of_leaf true p r le lt = absurd (omega (arith, le, lt))
 out_of_leaf false p r le lt = refl
 
+-- so the root has no more than any place that is in the set
 root_below : (s : List Bool) (firsts : List ℕ) → IsTreeOf s firsts → (p : ℕ) → p < length s
     → get_or firsts 1 0 ≤ leaf_of (member s p) p
 root_below s firsts tree p lt =
@@ -105,6 +108,7 @@ root_below s firsts tree p lt =
     (omega (arith, lt)) in
     omega (arith, le, tree.leaves p lt)
 
+-- a root below the number of places is the first place that is in the set
 pub root_some : (s : List Bool) (firsts : List ℕ) (root : ℕ) → IsTreeOf s firsts → root ≡ get_or firsts 1 0
     → root < length s → length s < 2 ^ 64 → Some root ≡ position (λ b. b) s
 root_some s firsts root tree is lt small =
@@ -121,6 +125,7 @@ root_some s firsts root tree is lt small =
     (λ k l. out_of_leaf (member s k) k root (omega (arith, is, root_below s firsts tree k (omega (arith, l, lt))))
     l) there)
 
+-- a root at or past the number of places says that none is in the set
 pub root_none : (s : List Bool) (firsts : List ℕ) (root : ℕ) → IsTreeOf s firsts → root ≡ get_or firsts 1 0
     → length s ≤ root → None ≡ position (λ b. b) s
 root_none s firsts root tree is le =
@@ -130,6 +135,7 @@ root_none s firsts root tree is le =
 
 -- ---- a new tree, and one after a change
 
+-- the tree of an empty set has the greatest number everywhere
 pub empty_tree : (count : ℕ) → IsTreeOf (replicate count false) (replicate (2 * count) (2 ^ 64 - 1))
 empty_tree count =
     let same : length (replicate count false) ≡ count = length-replicate count false in

@@ -38,6 +38,7 @@ behind : (i : ℕ) (is : List ℕ) (o : Option ℕ)
 behind i is None = refl
 behind i is (Some k) = refl
 
+-- the first flag that is on stands where, of those that wait, the first stands that passes
 first_among : {X : Type 0} (test : X → Bool) (flags waits : List Bool) (xs : List X) (i : ℕ) → length flags ≡ length xs
     → length waits ≡ length xs
     → ((k : ℕ) (d : X) → k < length xs → member flags k ≡ (member waits k && test (get_or xs k d)))
@@ -102,6 +103,7 @@ ready_is needs waits started done capacity sn s gn g ready kept k d lt =
         }) k)
         ∙ free_is Group (has_group started) needs k d lt
 
+-- so the first ready flag is the entry that the book takes next among those that wait
 pub next_is : (needs : List Need) (waits : List Bool) (started : List Label) (done capacity : ℕ) (sn : List (List ℕ))
     (s : WantsState) (gn : List (List ℕ)) (g : WantsState) (ready : List Bool)
     → IsKept needs waits started done capacity sn s gn g ready
@@ -129,6 +131,7 @@ next_waits needs waits started done capacity sn s gn g ready kept at is =
 
 -- ---- the places that are left
 
+-- what is picked from a longer list is what was picked before, and the last one if it is on
 picked_push : {X : Type 0} (bs : List Bool) (xs : List X) (b : Bool) (x : X) → length bs ≡ length xs
     → items_where_true (bs ++ b ∷ []) (xs ++ x ∷ []) ≡ items_where_true bs xs ++ cond b (x ∷ []) []
 picked_push [] [] true x len = refl
@@ -142,6 +145,7 @@ pub range_push : (n : ℕ) → range_with_len 0 (n + 1) ≡ range_with_len 0 n +
 range_push n = sym (map-id (range_with_len 0 (n + 1))) ∙ map-range_with_len_more (λ k. k) 0 n n (omega arith)
     ∙ ap (λ l. l ++ n ∷ []) (map-id (range_with_len 0 n))
 
+-- so the places that are left are gathered one by one
 left_more : (waits : List Bool) (i : ℕ) → i < length waits
     → items_where_true (take (i + 1) waits) (range_with_len 0 (i + 1))
     ≡ items_where_true (take i waits) (range_with_len 0 i) ++ cond (member waits i) (i ∷ []) []
@@ -287,6 +291,7 @@ raised_twice t t' t'' a a' b b' one two less_a less_b = omega arith
 pub raised_sum : (t t' t'' a b : ℕ) → t' ≡ raised t a → t'' ≡ raised t' b → t'' ≡ raised t (a + b)
 raised_sum t t' t'' a b one two = omega arith
 
+-- the tests of a start: the wants of services and of groups that it is the first to meet
 pub tests_of_start : (needs : List Need) (started started' : List Label) (sn : List (List ℕ)) (s s' : WantsState)
     (gn : List (List ℕ)) (g g' : WantsState) (t t' t'' : ℕ)
     → AreWantsOf Service needs started sn s → AreWantsOf Service needs started' sn s'

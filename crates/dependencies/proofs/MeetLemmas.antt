@@ -40,6 +40,7 @@ or_by false false h = refl
 abbrev pub with_met : WantsState → List Bool → WantsState
 with_met w met = record w { met = met }
 
+-- a want that is met now is one fewer to meet
 pub one_fewer : (met : List Bool) (k : ℕ) → k < length met → member met k ≡ false
     → count_by not (set met k true) + 1 ≡ count_by not met
 one_fewer met k lt un =
@@ -48,6 +49,7 @@ one_fewer met k lt un =
     let one : ◌≡◌ {A = ℕ} (cond (not (member met k)) 1 0) 1 = ap (λ b. cond (not b) 1 0) un in
     omega (arith, s, one)
 
+-- so the wants come nearer; meeting none is no step back, and steps add up
 pub nearer_by_one : (w : WantsState) (k : ℕ) → k < length w.met → member w.met k ≡ false
     → IsNearer w (with_met w (set w.met k true))
 nearer_by_one w k lt un =
@@ -69,10 +71,12 @@ nearer_again a b c one two = record {
   fewer = omega (arith, one.fewer, two.fewer);
 }
 
+-- a want that is met already may be marked again
 pub same_again : (w : WantsState) (k : ℕ) → member w.met k ≡ true → w ≡ with_met w (set w.met k true)
 same_again w k h = let e = sym (marked_again w.met k h) in
     (λ i. record { count = w.count; owners = w.owners; met = e i })
 
+-- the flags are right again once the owner of a want that is met has its own written anew
 pub one_met : (w other : WantsState) (ready waits : List Bool) (want : ℕ) → AreReadyBut w.count ready waits w other
     → want < length w.met → length w.owners ≡ length w.met → member w.met want ≡ false
     → (owner : ℕ) → owner ≡ get_or w.owners want 0 → owner < w.count
@@ -100,6 +104,7 @@ one_met w other ready waits want old lt paired un owner is small = record {
 
 -- ---- the wants of a name
 
+-- place by place the marks of a name grow by the wants at these places
 pub marks_more : (met0 met : List Bool) (places : List ℕ) (i : ℕ) → i < length places → get_or places i 0 < length met
     → ((k : ℕ) → k < length met0 → member met k ≡ (member met0 k || list_any (nat_eq k) (take i places)))
     → (k : ℕ) → k < length met0
@@ -185,6 +190,7 @@ meets_more Group started label n =
     flip None = refl
     flip (Some g) = names_flip n g
 
+-- names that fold alike are met alike
 meets_alike : (kind : Kind) (started : List Label) (a b : List ℕ) → folds_same a b ≡ true
     → meets kind started a ≡ meets kind started b
 meets_alike Service started a b h =
@@ -208,6 +214,7 @@ pub met_len : (kind : Kind) (needs : List Need) (started : List Label) (names : 
     → AreWantsOf kind needs started names w → length w.met ≡ length names
 met_len kind needs started names w of = ap length of.met ∙ length-map names (meets kind started)
 
+-- what a start leaves of the wants: those that it meets are met, the others as they were
 pub met_by_start : (kind : Kind) (needs : List Need) (started : List Label) (label : Label) (names : List (List ℕ))
     (w w' : WantsState) → AreWantsOf kind needs started names w → IsNearer w w'
     → ((k : ℕ) → k < length names → member w'.met k ≡ (member w.met k || meets_one kind label (get_or names k [])))

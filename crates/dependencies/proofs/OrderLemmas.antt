@@ -48,11 +48,13 @@ any_push p (y ∷ ys) x = ap (λ b. p y || b) (any_push p ys x) ∙ or_more (p y
 
 -- ---- a search
 
+-- a name that a search finds is among the names
 pub found : (names : List (List ℕ)) (name : List ℕ) (at : ℕ) → at < length names
     → HoldsAt (λ y. folded_order y name ≡ Equal) names at → list_any (folds_same name) names ≡ true
 found names name at lt h =
     any_at (folds_same name) names at [] lt (same_from_order name (get_or names at []) ∙ ap is_eq (h []))
 
+-- a name that has its gap among names in order is not
 pub not_found : (names : List (List ℕ)) (name : List ℕ) (at : ℕ) → IsGap names name at
     → list_any (folds_same name) names ≡ false
 not_found names name at gap = any_none (folds_same name) names other
@@ -63,6 +65,7 @@ not_found names name at gap = any_none (folds_same name) names other
       | inr behind ↦ ap is_eq (gap.higher k d behind lt)
     ]
 
+-- so what a search answers, by halves, says whether the name is there
 pub searched : (names : List (List ℕ)) (name : List ℕ) (r : Result ℕ ℕ) → AreInOrder names
     → IsSearchInRange r (length names) → IsBinarySearchResult (λ y. folded_order y name) names r
     → record { found : IfOk r (λ at. list_any (folds_same name) names ≡ true); absent : IfErr r (IsGap names name) }
@@ -107,6 +110,7 @@ joined names all runs name q is more =
     ∙ ap (λ b. b || list_any (folds_same q) (option_to_list name)) (any_joined (folds_same q) runs)
     ∙ ap (λ b. stands_in runs q || b) (any_some (folds_same q) name)
 
+-- the same of names that were joined and sorted, unless memory was lacking
 pub joined_ok : {E : Type 0} (r : Result (List (List ℕ)) E) (names all : List (List ℕ)) (runs : List (List (List ℕ)))
     (name : Option (List ℕ))
     → names ≡ flat_map (λ run. run) runs → all ≡ names ++ option_to_list name
@@ -156,6 +160,7 @@ replaced runs slice room new name given kept run slice_is room_is given_is carri
     ∙ ap (λ rs. stands_in rs q || is_that given q) slice_is
     ∙ ap (λ n. stands_in runs q || is_that n q) given_is
 
+-- one start more is indexed: its name among the names, its group among the groups
 pub pushed : (entries entries' : List Label) (names names' groups groups' : List (List (List ℕ))) (name : List ℕ)
     (group own : Option (List ℕ)) → IsIndexed entries names groups
     → entries' ≡ entries ++ (name, group) ∷ []

@@ -34,6 +34,7 @@ pub record IsPicked {X : Type 0} (bs : List Bool) (xs : List X) (i k at : ℕ) :
 pub some_is : (a b : ℕ) → Some a ≡ Some b → a ≡ b
 some_is a b e = cc
 
+-- what is picked at place k stands at some place of the list, and without it the others stay
 pub picked : {X : Type 0} (bs : List Bool) (xs : List X) (i k at : ℕ)
     → slice_get (items_where_true bs (range_with_len i (length xs))) k ≡ Some at → IsPicked bs xs i k at
 picked [] xs i k at h = absurd cc
@@ -78,9 +79,11 @@ plain_step ok oks started waiting k =
     option_to_list (slice_get waiting k)
     ++ tried_plainly oks (if ok then started ++ labels_at waiting k else started) (remove waiting k)
 
+-- what the way by places attempts, and then
 abbrev place_step : Bool → List Bool → WaitingState → ℕ → List Need
 place_step ok oks w place = option_to_list (slice_get w.needs place) ++ tried_by_place oks (after_trying w place ok)
 
+-- one attempt is the same by both ways, if what follows it is
 same_step : (oks : List Bool) → ((w : WaitingState) → tried_by_place oks w ≡ tried_plainly oks w.started (waiting_in w))
     → (w : WaitingState) (ok : Bool) (k place : ℕ) → slice_get (places_in w) k ≡ Some place
     → place_step ok oks w place ≡ plain_step ok oks w.started (waiting_in w) k
@@ -104,6 +107,7 @@ at_place : (oks : List Bool) → ((w : WaitingState) → tried_by_place oks w �
 at_place oks rest w ok k None lt h = absurd (false≢true (none_within (places_in w) k lt h false))
 at_place oks rest w ok k (Some place) lt h = same_step oks rest w ok k place h
 
+-- so it is at the next ready entry; where none is ready both ways end
 at_next : (oks : List Bool) → ((w : WaitingState) → tried_by_place oks w ≡ tried_plainly oks w.started (waiting_in w))
     → (w : WaitingState) (ok : Bool) (o : Option ℕ) → next_of w.started (waiting_in w) ≡ o
     → option_map_or (place_step ok oks w) (option_and_then (slice_get (places_in w)) o) []
@@ -122,6 +126,7 @@ tried_alike : (oks : List Bool) (w : WaitingState) → tried_by_place oks w ≡ 
 tried_alike [] w = refl
 tried_alike (ok ∷ oks) w = at_next oks (tried_alike oks) w ok (next_of w.started (waiting_in w)) refl
 
+-- so from the start of a phase both ways attempt the same
 pub both_ways : (needs : List Need) (started : List Label) (oks : List Bool)
     → tried_by_place oks (all_waiting needs started) ≡ tried_plainly oks started needs
 both_ways needs started oks =

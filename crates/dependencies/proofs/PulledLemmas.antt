@@ -84,6 +84,7 @@ pulls_within table p q h = (map_or_within _ table p h, inner (slice_get table p)
     inner None h = absurd (false≢true h)
     inner (Some a) h = map_or_within _ table q h
 
+-- a closed set has what any of its places pulls in
 any_pulled : (table : List Need) (set : ℕ → Bool) (q : ℕ) (ps : List ℕ) → IsClosed table set
     → list_any (λ p. set p && pulls table p q) ps ≡ true → set q ≡ true
 any_pulled table set q [] closed h = absurd (false≢true h)
@@ -145,6 +146,7 @@ range_suc a (suc n) =
     let e : a + 1 + n ≡ a + suc n = omega arith in
     ap (λ xs. a ∷ xs) (range_suc (a + 1) n ∙ ap (λ k. range_with_len (a + 1) n ++ k ∷ []) e)
 
+-- a filtered range grows by its last place, if that passes
 pub filter-range_more : (p : ℕ → Bool) (n : ℕ)
     → filter p (range_with_len 0 (n + 1)) ≡ filter p (range_with_len 0 n) ++ cond (p n) (n ∷ []) []
 filter-range_more p n =
@@ -186,6 +188,7 @@ is_taken-closed table = record {
 pub listed_member : (set : ℕ → Bool) (n q : ℕ) → q < n → member (map set (range_with_len 0 n)) q ≡ set q
 listed_member set n q lt = get_or-map-range_with_len set 0 n q q false lt (zero-add q)
 
+-- and is part of each closed set, so it is the least of them
 pub is_taken-least_of_all : (table : List Need) (set : ℕ → Bool) → IsClosed table set → (q : ℕ) → q < length table
     → is_taken table q ≡ true → set q ≡ true
 unfolding is_taken

@@ -109,6 +109,7 @@ takes table place taken work is lt why = record {
 
 -- ---- places, one after another
 
+-- places taken in one by one are those of a longer front each time
 pub listed_more : (table : List Need) (places : List ℕ) (i d : ℕ)
     (t : List Bool) (w : List ℕ) (t' : List Bool) (w' : List ℕ) (t'' : List Bool) (w'' : List ℕ)
     → i < length places → TakesListed table (take i places) t w t' w'
@@ -185,6 +186,7 @@ named_both table xs ys k = through (slice_get table k)
     through (Some n) = ap (λ b. nat_eq n.start 3 && b) (list_any-append (folds_same n.name) xs ys)
         ∙ and-or_distrib_left (nat_eq n.start 3) _ _
 
+-- names taken in one by one are those of a longer front each time
 pub named_more : (table : List Need) (names : List (List ℕ)) (i : ℕ) (name : List ℕ)
     (t : List Bool) (w : List ℕ) (t' : List Bool) (w' : List ℕ) (t'' : List Bool) (w'' : List ℕ)
     → i < length names → name ≡ get_or names i name → TakesNamed table (take i names) t w t' w'

@@ -51,6 +51,7 @@ had_one owners met k lt len un =
     let one : ◌≡◌ {A = ℕ} (cond (nat_eq own own) 1 0) 1 = ap (λ b. cond b 1 0) (eq-eqb own own refl) in
     omega (arith, marked owners met k own lt len un, one)
 
+-- and the count of any other entry stays
 pub others_keep : (owners : List ℕ) (met : List Bool) (k p : ℕ) → k < length owners → length met ≡ length owners
     → member met k ≡ false → p ≢ get_or owners k 0
     → unmet_among owners (set met k true) p ≡ unmet_among owners met p
@@ -65,6 +66,7 @@ marked_again [] k h = refl
 marked_again (m ∷ ms) zero h = ap (λ b. b ∷ ms) (sym h)
 marked_again (m ∷ ms) (suc k) h = ap (λ l. m ∷ l) (marked_again ms k h)
 
+-- so the counts stay right when the owner's is one less
 pub counted_after : (owners : List ℕ) (met : List Bool) (unmet : List ℕ) (k v : ℕ) → AreCounted owners met unmet
     → k < length met → member met k ≡ false
     → v ≡ get_or unmet (get_or owners k 0) 0 - 1 → AreCounted owners (set met k true) (set unmet (get_or owners k 0) v)
@@ -98,6 +100,7 @@ appended [] os' (m ∷ ms) ms' p len = absurd (omega (arith, len))
 appended (o ∷ os) os' [] ms' p len = absurd (omega (arith, len))
 appended (o ∷ os) os' (m ∷ ms) ms' p len = omega (arith, appended os os' ms ms' p (omega (arith, len)))
 
+-- the wants of one entry count for that entry alone
 of_one : (has : List ℕ → Bool) (i p : ℕ) (names : List (List ℕ))
     → unmet_among (map (λ g. i) names) (map has names) p ≡ cond (nat_eq i p) (count_by (λ n. not (has n)) names) 0
 of_one has i p [] = elim (cases_Bool (nat_eq i p)) [ inl e ↦ rw e refl | inr e ↦ rw e refl ]
@@ -128,6 +131,7 @@ none_before kind has i p (n ∷ ns) lt =
     ∙ ap (λ b. cond b (count_by (λ n. not (has n)) (given kind n)) 0) (ne_eqb i p (omega (arith, lt))) in
     omega (arith, a, none_before kind has (i + 1) p ns (omega (arith, lt))))
 
+-- the unmet wants of an entry are its names that are not met
 wants_from : (kind : Kind) (has : List ℕ → Bool) (i k p : ℕ) (needs : List Need) (d : Need) → k < length needs
     → p ≡ i + k
     → unmet_among (owners_from kind i needs) (map has (names_given kind needs)) p
@@ -154,6 +158,7 @@ wants_from kind has i (suc k) p (n ∷ ns) d lt at =
     ∙ ap (λ b. cond b (count_by (λ n. not (has n)) (given kind n)) 0) (ne_eqb i p (omega (arith, at))) in
     omega (arith, a, wants_from kind has (i + 1) k p ns d (omega (arith, lt)) (omega (arith, at))))
 
+-- none is unmet where all names are met
 none_unmet : (has : List ℕ → Bool) (names : List (List ℕ))
     → nat_eq (count_by (λ n. not (has n)) names) 0 ≡ list_all has names
 none_unmet has [] = refl
@@ -205,6 +210,7 @@ unmet_yet n k = elim (cases_lt k n) [
 pub unmet_first : (met : List Bool) (n k : ℕ) → met ≡ replicate n false → member met k ≡ false
 unmet_first met n k is = ap (λ ms. member ms k) is ∙ unmet_yet n k
 
+-- the counts as they are made: of each entry how many wants it has, since none is met yet
 pub counted_first : (owners : List ℕ) (met : List Bool) (counts : List ℕ) (count n : ℕ) → n ≡ length owners
     → met ≡ replicate n false → length counts ≡ count → All (λ o. o < count) owners
     → ((p : ℕ) → get_or counts p 0 ≡ count_by (λ o. nat_eq o p) owners) → AreCounted owners met counts
@@ -215,6 +221,7 @@ counted_first owners met counts count n same is len owned each = record {
       ∙ ap (λ ms. unmet_among owners ms p) (sym is);
 }
 
+-- names and owners grow by those of the next entry
 pub names_more : (kind : Kind) (needs : List Need) (i : ℕ) (n : Need) (names : List (List ℕ)) → i < length needs
     → n ≡ get_or needs i n → names ≡ names_given kind (take i needs)
     → names ++ given kind n ≡ names_given kind (take (i + 1) needs)

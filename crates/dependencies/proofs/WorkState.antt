@@ -58,6 +58,7 @@ is_more table place taken b len is first k lt =
           get_or_push taken b false k (len ∙ e) ∙ first ∙ ap (starts_at table 2) e)
     ]
 
+-- one place more: it is taken and noted where its entry has Start 2
 pub seeded_more : (table : List Need) (place : ℕ) (taken : List Bool) (work : List ℕ) (b : Bool)
     → IsSeeded table place taken work → b ≡ starts_at table 2 place
     → IsSeeded table (place + 1) (taken ++ b ∷ []) (cond b (work ++ place ∷ []) work)
@@ -88,6 +89,7 @@ seeded_more table place taken work false is first = record {
   honest = λ k h. (let m = is.honest k h in member_before taken false k (within_waits taken k m) ∙ m);
 }
 
+-- all of Start 2 are taken, and all of that is work
 pub worked_start : (table : List Need) (n : ℕ) (taken : List Bool) (work : List ℕ) → n ≡ length table
     → IsSeeded table n taken work → IsWorked table taken work
 worked_start table n taken work e is = record {
@@ -116,6 +118,7 @@ work_rest table taken work rest place e is = record {
       is.honest.taken_already k (subst H (sym e) (Contains-append_left rest (place ∷ []) k h)));
 }
 
+-- a place that is worked on was taken, and is that of an entry
 pub popped_is_work : (table : List Need) (taken : List Bool) (work rest : List ℕ) (place : ℕ)
     → work ≡ rest ++ place ∷ [] → IsWorked table taken work → member taken place ≡ true
 popped_is_work table taken work rest place e is =
@@ -131,6 +134,7 @@ or_cases : (a b : Bool) → (a || b) ≡ true → (a ≡ true) ⊎ ((a ≡ false
 or_cases true b h = inl refl
 or_cases false b h = inr (refl, h)
 
+-- behind it, what it pulls in is taken or is work
 pub worked_more : (table : List Need) (place : ℕ) (taken : List Bool) (work rest : List ℕ) (taken' : List Bool)
     (work' : List ℕ)
     → work ≡ rest ++ place ∷ [] → IsWorked table taken work → IsWork table taken' work'
@@ -164,6 +168,7 @@ worked_more table place taken work rest taken' work' e is now in' = record {
     within : (k : ℕ) → member taken' k ≡ true → k < length table
     within k t = omega (arith, within_waits taken' k t, now.len)
 
+-- without work left, what is taken is the least set
 pub worked_end : (table : List Need) (taken : List Bool) (work : List ℕ) → length work ≡ 0 → IsWorked table taken work
     → IsLeast table taken
 worked_end table taken work none is = record {

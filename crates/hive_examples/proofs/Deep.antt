@@ -39,6 +39,7 @@ one_more bound before c fresh not_this at security far =
 used_behind : (q at : ℕ) (security kept : Bool) → at < q → clash q security (uses at kept) ≡ false
 used_behind q at security kept less = ap (λ b. b && not (security && kept)) (ne_eqb q at (λ e. omega arith))
 
+-- one use of a cell: without a fault of its own, and not shared, the next fault decides
 turn : (b : Bool) (p : Result (List ℕ) HiveKind) (shared : Bool) (next rest : Option HiveFault) (at : ℕ) (f : HiveFault)
     → (if b then None else or_else (at_place at (found p)) next) ≡ Some f → (b ≡ false → shared ≡ false)
     → (b ≡ false → next ≡ Some f → rest ≡ Some f)
@@ -48,6 +49,7 @@ turn false (Err kind) shared next rest at f e fresh more = e
 turn false (Ok x) shared next rest at f e fresh more =
     ap (λ d. or_else (at_place at (failing d Shared)) rest) (fresh refl) ∙ more refl e
 
+-- where cells come further and further on, the first fault is that of this shorter walk
 rising_first : (cells : Cells) (bound : ℕ) (before cs : List Check) (f : HiveFault) → IsFresh bound before
     → rising cells bound cs ≡ Some f → first_among cells before cs ≡ Some f
 rising_first cells bound before [] f fresh e = absurd cc
@@ -64,6 +66,7 @@ rising_first cells bound before (uses at s ∷ cs) f fresh e =
     (one_more (at + 1) before (uses at s) (λ q t further. fresh q t (omega arith))
     (λ q t further. used_behind q at t s (omega arith))) rest)
 
+-- in keys without end, each further on, the walk ends at the level that is one too many
 too_deep : (version : HiveVersion)
     → rising (endless version) 0 (all_checks (endless version) 0) ≡ Some (fault_at TooDeep 8192)
 unfolding key_name_at key_node_at key_node_text list_of list_at li_text node_at entries_at class_checks security_checks

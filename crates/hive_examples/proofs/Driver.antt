@@ -85,10 +85,12 @@ all_of : {X : Type 0} (P : X → Type 0) (xs : List X) → AllByRecursion P xs �
 all_of P [] h = λ k d below. absurd (omega arith)
 all_of P (x ∷ xs) h = All-cons P x xs h.0 (all_of P xs h.1)
 
+-- of each two of a list, by recursion
 abbrev EachTwo : {X : Type 0} → (X → X → Type 0) → List X → Type 0
 EachTwo R [] = Unit {0}
 EachTwo R (x ∷ xs) = AllByRecursion (R x) xs × EachTwo R xs
 
+-- what holds so holds of all pairs, as that the names of a list differ
 pairs_of : {X : Type 0} (R : X → X → Type 0) (xs : List X) → EachTwo R xs → AllPairs R xs
 pairs_of R [] h = λ i j d less below. absurd (omega arith)
 pairs_of R (x ∷ xs) h = AllPairs-cons R x xs (all_of (R x) xs h.0) (pairs_of R xs h.1)
@@ -136,12 +138,14 @@ heap bytes each long same = (
   same,
 )
 
+-- the walk over the driver's hive finds nothing; it computes
 pub no_fault : first_fault (look_up V3 (cells_in driver_bin)) 32 ≡ None
 unfolding key_name_at key_node_at value_name_at key_value_at bytes_in offsets_in list_of list_at entries_at node_at
     driver_words driver_bin cells_in all_checks key_checks class_checks security_checks data_checks value_checks
     values_checks entries_checks children_checks
 no_fault = refl
 
+-- each key of the hive stands at its offset, with those below it at theirs; so the tree stands, key by key
 root_stands : KeyStands (look_up V3 (cells_in driver_bin)) 32 (head one_driver) (144 ∷ 528 ∷ [])
 unfolding key_name_at key_node_at value_name_at key_value_at bytes_in offsets_in list_of list_at entries_at node_at
     class_of security_of data_of item_at values_of driver_words driver_bin cells_in node_in payload_in
@@ -267,6 +271,7 @@ names = (
   ),
 )
 
+-- and its cells are well-formed, since no check fails and names differ
 pub well_formed : IsWellFormed (look_up V3 (cells_in driver_bin)) 32 one_driver
 well_formed = let checks = all_checks (look_up V3 (cells_in driver_bin)) 32 in record {
   stands = stands;

@@ -20,6 +20,7 @@ use Rattle.hive_examples.proofs.Driver.{cut, driver_sizes, is_cell, cells_in, he
 abbrev pub found : List (ℕ × ℕ) → Recovered
 found edits = record { base = block 5 5 0; bins = changed edits driver_bin; dirty = false }
 
+-- the hive of one driver loads as its tree, if what is recovered and its cells compute so
 pub loaded : recovered_of (driver_with []) ≡ Ok (found [])
     → list_all is_cell (cut driver_sizes (drop 32 driver_bin)) ≡ true
     → bins_size (cells_in driver_bin) ≡ 4096 → driver_bin ≡ spelled 0 (cells_in driver_bin)
@@ -37,6 +38,7 @@ loaded read each long same = record {
   };
 }
 
+-- where changed bytes still are bins, the load's first fault is that of the walk
 pub walk_fault : (edits : List (ℕ × ℕ)) (fault : HiveFault) → recovered_of (driver_with edits) ≡ Ok (found edits)
     → list_all is_cell (cut driver_sizes (drop 32 (changed edits driver_bin))) ≡ true
     → bins_size (cells_in (changed edits driver_bin)) ≡ 4096

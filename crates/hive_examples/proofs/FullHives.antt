@@ -19,12 +19,14 @@ caught false x y e = absurd cc
 unfoldable pub one_more : List ℕ → List ℕ → Tree
 one_more block last = full_root (replicate 15 block ++ last ∷ [])
 
+-- setting a value of n bytes, few enough, makes that tree
 pub set : (block last : List ℕ) (n : ℕ) → length last ≡ n → nat_lt 1048576 n ≡ false
     → after_step (set_value [] (codes "P") 3 last) (full_root (replicate 15 block)) ≡ Ok (one_more block last)
 unfolding one_more
 set block last n long few =
     passed (nat_lt 1048576 (length last)) (Err data_too_long) (Ok (one_more block last)) (rw long few)
 
+-- the judgement of a step's tree by its bulk
 unfoldable pub judged : HiveVersion → Result Tree Refusal → Result Tree Refusal
 judged version step = then_edit (then_edit step (λ u. after_steps u []))
     (λ u. if nat_lt most_bulk (bulk_of version u) then Err full else Ok u)

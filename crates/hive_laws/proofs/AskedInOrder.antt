@@ -26,6 +26,7 @@ no_others : (from : ℕ) → AreRising from []
 no_others from =
     record { others = []; are = refl; behind = All-nil (λ n. from ≤ n); rising = no_pairs (λ m n. m < n) }
 
+-- sectors from further on rise from here on too
 later_ones : (from m : ℕ) (sectors : List Address) → from ≤ m → AreRising m sectors → AreRising from sectors
 later_ones from m sectors low r =
     record {
@@ -35,6 +36,7 @@ later_ones from m sectors low r =
       rising = r.rising;
     }
 
+-- and so does this one in front of those behind it
 one_and_later : (from m : ℕ) (sectors : List Address) → from < m → AreRising m sectors
     → AreRising from (primary_at from ∷ sectors)
 one_and_later from m sectors low r =

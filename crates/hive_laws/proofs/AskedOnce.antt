@@ -25,6 +25,7 @@ differ Log m n other = ne_eqb m n other
 abbrev IsPast : ℕ → Address → Type 0
 IsPast n a = of_file 8 n a.file ≤ a.sector
 
+-- the primary's sector 0 is none of those; and no sector of the log is one further on
 base_before : (f : File) (n m : ℕ) → of_file 8 m f ≤ n → Differ (primary_at 0) (record { file = f; sector = n })
 base_before Primary n m past = ne_eqb 0 n (λ e. omega arith)
 base_before Log n m past = refl
@@ -33,6 +34,7 @@ log_before : (f : File) (m n : ℕ) → of_file 8 (m + 1) f ≤ n → Differ (lo
 log_before Primary m n past = refl
 log_before Log m n past = ne_eqb m n (λ e. omega arith)
 
+-- the log's dirty sectors stand from its sector 2 on, behind the base block and the bits
 two_first : (size : ℕ) → 2 ≤ first_dirty size
 two_first size = omega arith
 

@@ -10,6 +10,7 @@ use Rattle.hive_read.proofs.Loading.{one-load}
 use Rattle.hive_commit.specs.Stages.{IsBeforeOrAfter, LoadsAsEither}
 use Rattle.hive_laws.specs.Cuts.{HoldsIn, LoadsAsNoThird, ReadsAsEither}
 
+-- an image that is recovered as this loads as the state that this holds
 loads_as : (image : Image) (base : Base) (bins : List ℕ) (state : HiveState) → HoldsIn base bins state
     → (is : IsRecoveredAs image base bins) → Loads image state is.dirty
 loads_as image base bins state holds is =
@@ -26,6 +27,7 @@ loads_as image base bins state holds is =
       };
     }
 
+-- so an image that is recovered as one of two reads as one of them, by whatever reading
 pub reads_as_either : (reading : Base → List ℕ → Option HiveState) (base closed : Base) (old new : List ℕ)
     (image : Image)
     → IsBeforeOrAfter base old closed new image → ReadsAsEither reading base old closed new image

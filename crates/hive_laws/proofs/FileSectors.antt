@@ -40,6 +40,7 @@ zeros zero i = omega arith
 zeros (suc n) zero = omega arith
 zeros (suc n) (suc i) = zeros n i
 
+-- each sector of two files is whole, and of bytes where the files are
 pub whole_of_files : (primary log : List ℕ) → HasWholeSectors (image_of primary log)
 whole_of_files primary log a bytes e =
     sym (ap length (is_filled primary log a bytes e)) ∙ padded_long (drop (512 * a.sector) (of_file primary log a.file))

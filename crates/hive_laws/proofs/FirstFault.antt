@@ -30,6 +30,7 @@ ok_err x f o e g = cc
 abbrev first_of : Recovered → List Bin → Option HiveFault
 first_of r bins = first_fault (look_up (version_of r.base.minor) bins) r.base.root
 
+-- what was recovered has one first fault, of its bins or of their walk
 held_one : (r : Recovered) (f g : HiveFault) → length r.bins ≤ 16777216 → HeldFault r f → HeldFault r g → f ≡ g
 held_one r f g small (inl b) (inl c) = one_fault r.bins f g small b c
 held_one r f g small (inl b) (inr w) = absurd (not_both r.bins w.bins f w.cells.0 w.cells.1 b)
@@ -38,6 +39,7 @@ held_one r f g small (inr v) (inr w) =
     let bins : v.bins ≡ w.bins = one_list v.bins w.bins v.cells.0 w.cells.0 (sym v.cells.1 ∙ w.cells.1) in
     some_same f g (first_of r w.bins) (sym (ap (first_of r) bins) ∙ v.first) w.first
 
+-- so an image of whole sectors has one: of recovery, or of what was recovered
 pub one_first : (image : Image) (f g : HiveFault) → HasWholeSectors image → LoadFault image f → LoadFault image g
     → f ≡ g
 one_first image f g whole (inl a) (inl b) = err_same f g (recovered_of image) a b
@@ -51,6 +53,7 @@ abbrev LoadsOrNot : Image → Type 0
 LoadsOrNot image = ((state : HiveState) × (dirty : Bool) × Loads image state dirty)
     ⊎ ((fault : HiveFault) × LoadFault image fault)
 
+-- and it loads, or has that fault: each step has one of the two
 pub loads_or_not : (image : Image) → HasWholeSectors image → HasBytes image → LoadsOrNot image
 loads_or_not image whole small = here (recovered_of image) refl
   where

@@ -17,6 +17,7 @@ pages : (size : ℕ) (bins : List ℕ) → size ≡ length bins → is_bins_size
     → 4096 * (length bins / 4096) ≡ length bins
 pages size bins long is = omega (arith, long, (sized size is).pages)
 
+-- what an image carries it is recovered as, clean, whatever its log is
 pub carried_recovered : (image : Image) (base : Base) (bins : List ℕ) → Carries image base bins
     → recovered_of image ≡ Ok (record { base = base; bins = bins; dirty = false })
 carried_recovered image base bins is =

@@ -26,6 +26,7 @@ sum_one : (none_there : Bool) (n : ℕ) → sum (if none_there then [] else n �
 sum_one true n = refl
 sum_one false n = omega (arith, sum_cons n [])
 
+-- a size that is 0 where there is no cell adds nothing
 some_sum : (n : ℕ) (none_there : Bool) → (n == 0) ≡ none_there → sum (if none_there then [] else n ∷ []) ≡ n
 some_sum n true e = sym (eqb-true n 0 e)
 some_sum n false e = sum_one false n
@@ -33,6 +34,7 @@ some_sum n false e = sum_one false n
 some_cell_sum : (n : ℕ) → sum (some_cell n) ≡ n
 some_cell_sum n = some_sum n (n == 0) refl
 
+-- the lists of a key's children add up: none, one, or a head with full ones and a rest
 sum_lists : (empty one full : Bool) (few head rest whole k : ℕ)
     → sum (if empty then [] else if one then few ∷ [] else head
     ∷ (replicate k whole ++ (if full then [] else rest ∷ [])))
@@ -46,6 +48,7 @@ sum_lists false false full few head rest whole k =
     ∙ ap (λ n. head + (k * whole + n)) (sum_one full rest)
     ∙ (omega arith)
 
+-- so the sizes of lists add up to the size of the lists
 pub lists_sum : (n : ℕ) → sum (list_sizes n) ≡ list_size n
 unfolding list_sizes
 lists_sum n =
@@ -56,6 +59,7 @@ cells_sum_is : (ns : List ℕ) → sum (map cell ns) ≡ cells_sum ns
 cells_sum_is [] = refl
 cells_sum_is (n ∷ ns) = sum_cons (cell n) (map cell ns) ∙ ap (λ k. cell n + k) (cells_sum_is ns)
 
+-- a value's cells add up to its size, and those of values in a row to theirs
 item_sum : (version : HiveVersion) (v : Item) → sum (item_sizes version v) ≡ item_size version v
 item_sum version v =
     let lengths = data_sizes version (length v.bytes) in
@@ -79,6 +83,7 @@ values_sum version (v ∷ vs) =
     (ne_eqb (length (v ∷ vs)) 0 (λ e. omega arith))
     ∙ ap (λ n. n + items_sum version (v ∷ vs)) (sum_one false (cell (4 * length (v ∷ vs))))
 
+-- a key's own cells add up to its own size
 head_sum : (version : HiveVersion) (shared : List ℕ) (h : Head)
     → sum (head_sizes version shared h) ≡ head_size version shared h
 head_sum version shared h =
@@ -126,6 +131,7 @@ room_least [] = omega arith
 room_least (n ∷ ns) = omega
     (arith, sum_cons n ns, sum_by-cons (λ s. rounded (s + 32)) n ns, room_least ns, rounded_up (n + 32))
 
+-- the strain of lists is at least the old length and their size
 pub list_strain_least : (bytes n : ℕ) → bytes + list_size n ≤ list_strain_of bytes n
 list_strain_least bytes n = omega (arith, lists_sum n, room_least (list_sizes n))
 
@@ -165,6 +171,7 @@ ok_is t u e = cc
 
 -- ---- the strain
 
+-- the strain of an edit is at least the old length
 pub strain_least : (version : HiveVersion) (bytes : ℕ) (t : Tree) (steps : List Step)
     → bytes ≤ strain_of version bytes t steps
 strain_least version bytes t [] = omega arith
@@ -182,6 +189,7 @@ strain_grows version bytes t (step ∷ steps) further =
     (λ u. strain_of version (bytes + room_of (needed_sizes version t step u)) u (steps ++ further))
     (omega arith) (λ u. strain_grows version (bytes + room_of (needed_sizes version t step u)) u steps further)
 
+-- further steps strain from where the first ones led
 pub strain_goes_on : (version : HiveVersion) (bytes : ℕ) (t u : Tree) (steps further : List Step)
     → after_steps t steps ≡ Ok u
     → strain_of version bytes t (steps ++ further) ≡ strain_of version (strain_of version bytes t steps) u further
@@ -192,6 +200,7 @@ strain_goes_on version bytes t u (step ∷ steps) further e =
     (λ v. strain_of version (bytes + room_of (needed_sizes version t step v)) v (steps ++ further))
     e (λ v rest. strain_goes_on version (bytes + room_of (needed_sizes version t step v)) v u steps further rest)
 
+-- behind a refused step nothing strains
 pub strain_ends : (version : HiveVersion) (bytes : ℕ) (t : Tree) (why : Refusal) (steps further : List Step)
     → after_steps t steps ≡ Err why
     → strain_of version bytes t (steps ++ further) ≡ strain_of version bytes t steps
@@ -202,6 +211,7 @@ strain_ends version bytes t why (step ∷ steps) further e =
     (λ v. strain_of version (bytes + room_of (needed_sizes version t step v)) v steps)
     e (λ v rest. strain_ends version (bytes + room_of (needed_sizes version t step v)) v why steps further rest)
 
+-- a step that is refused strains by nothing itself
 pub strain_stays : (version : HiveVersion) (bytes : ℕ) (t u : Tree) (why : Refusal) (steps further : List Step)
     (step : Step) → after_steps t steps ≡ Ok u → after_step step u ≡ Err why
     → strain_of version bytes t (steps ++ step ∷ further) ≡ strain_of version bytes t steps
@@ -213,6 +223,7 @@ strain_stays version bytes t u why steps further step e refused =
 
 -- ---- the footprint
 
+-- further steps add their own cells, and behind a refusal none
 pub footprint_goes_on : (cells : Cells) (root : ℕ) (t u : Tree) (steps further : List Step) → after_steps t steps ≡ Ok u
     → footprint_of cells root t (steps ++ further) ≡ footprint_of cells root t steps
     ++ footprint_of cells root u further

@@ -41,6 +41,7 @@ second : (o p : Option HiveFault) → or_else o p ≡ None → p ≡ None
 second None p e = e
 second (Some f) p e = absurd cc
 
+-- where no check of a list fails, no test of it does
 none_found : (cells : Cells) (before cs : List Check) → first_among cells before cs ≡ None → NoneFound cs
 none_found cells before [] e = tt
 none_found cells before (uses at s ∷ cs) e =
@@ -69,6 +70,7 @@ choice : (cells : Cells) (b : Bool) (one other : List Check) → Reads cells one
 choice cells true one other p q = p
 choice cells false one other p q = q
 
+-- what is below a form, whatever the form says
 below : {F : Type 0} (cells : Cells) (r : Result F HiveKind) (next : F → List Check) → ((x : F) → Reads cells (next x))
     → Reads cells (below_of r next)
 below cells (Ok x) next p = p x
@@ -85,6 +87,7 @@ read_of (Err kind) e = absurd cc
 
 -- ---- the walk
 
+-- the walk, part by part: a descriptor is read as security, and no other part is used as that
 of_security : (cells : Cells) (node : KeyNode) → Reads cells (security_checks cells node)
 unfolding security_checks
 of_security cells node =
@@ -201,6 +204,7 @@ of_node checks cells each node at =
     (then cells security (values ++ children) (of_security cells node)
     (then cells values children (of_values cells node) (of_children checks cells each node at)))
 
+-- a key with all below it, by the number of levels left
 of_key : (left : ℕ) (cells : Cells) (root : Bool) (names : List (List ℕ)) (at : ℕ)
     → Reads cells (key_checks left cells root names at)
 unfolding key_checks
@@ -214,12 +218,14 @@ of_key (suc left) cells root names at =
 
 -- ---- what is used as security
 
+-- so each offset in the list of security cells can be read as one
 each_used : (cells : Cells) (cs : List Check) → EachRead cells cs → All (IsRead cells) (security_used_in cs)
 each_used cells [] h = λ k d below. absurd (omega arith)
 each_used cells (uses at true ∷ cs) h = All-cons (IsRead cells) at (security_used_in cs) h.0 (each_used cells cs h.1)
 each_used cells (uses at false ∷ cs) h = each_used cells cs h
 each_used cells (tests at kind ∷ cs) h = each_used cells cs h
 
+-- so cells without a fault keep their security where nothing changes
 pub kept_as_they_are : (cells : Cells) (root : ℕ) → first_fault cells root ≡ None
     → KeepsSecurity root (λ at. []) cells cells
 unfolding all_checks

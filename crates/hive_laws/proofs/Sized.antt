@@ -42,6 +42,7 @@ content f g None bytes e = absurd cc
 content f g (Some Unreadable) bytes e = absurd cc
 content f g (Some (Bytes b)) bytes e = ap (λ l. Some (Bytes l)) (bytes_same b bytes e)
 
+-- a run of n sectors of 512 bytes has 512 n bytes
 run_long : (at : Sectors) (from n : ℕ) (bytes : List ℕ) → ((i : ℕ) (b : List ℕ) → at i ≡ Ok b → length b ≡ 512)
     → gathered at from n ≡ Ok bytes → length bytes ≡ 512 * n
 run_long at from zero bytes each e = sym (ap length (bytes_same [] bytes e))
@@ -82,6 +83,7 @@ record IsGathered (image : Image) (r : Recovered) : Type 0 where
   pub run : gathered at 0 (r.base.size / 512) ≡ Ok r.bins
   pub size : is_bins_size r.base.size ≡ true
 
+-- a recovery with bins data gathered them from the image
 with_bins : (image : Image) (dirty : Bool) (base : Base) (at : Sectors) (r : Recovered)
     → ((i : ℕ) (b : List ℕ) → at i ≡ Ok b → (a : Address) × (image a ≡ Some (Bytes b))) → is_bins_size base.size ≡ true
     → recovered_with dirty base (gathered at 0 (base.size / 512)) ≡ Ok r → IsGathered image r

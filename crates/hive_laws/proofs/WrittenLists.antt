@@ -58,6 +58,7 @@ in_parts cells (suc (suc n)) at places hints full same four row =
           (omega (arith, same, length-drop 500 places, length-drop 500 hints)) (hints_drop 500 hints four) next,
     )
 
+-- a list of lists and its parts, one behind another, are a parted list
 parted : (cells : Cells) (at n : ℕ) (places : List ℕ) (hints : List (List ℕ)) → 500 < length places
     → n ≡ part_count (length places)
     → length places ≡ length hints → AreHints hints
@@ -76,6 +77,7 @@ parted cells at n places hints many number same four row =
       parts = in_parts cells n (at + cell (4 + 4 * n)) places hints (omega (arith, number)) same four next;
     }
 
+-- a key's lists as they are packed: one list, or a list of lists with full ones and a rest
 pub packed_list : (cells : Cells) (at : ℕ) (places : List ℕ) (hints : List (List ℕ)) → 0 < length places
     → length places ≡ length hints → AreHints hints
     → InARow cells at (list_cells cells.version at places hints) → IsPackedList cells at places hints

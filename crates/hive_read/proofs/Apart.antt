@@ -32,6 +32,7 @@ apart-from name names n (x ∷ xs) h a =
     (λ m e. h m (or_parts (list_any (folds_same m) names) (folds_same m (name x))
     (sym (pushed m (name x) names) ∙ e)).0) a.1)
 
+-- what is each apart from those before it differs pair by pair
 pub apart-pairs : {X : Type 0} (name : X → List ℕ) (names : List (List ℕ)) (xs : List X) → Apart name names xs
     → AllPairs (Differ name) xs
 apart-pairs name names [] a = λ i j d lt within. absurd (omega arith)

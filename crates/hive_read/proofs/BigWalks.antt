@@ -13,6 +13,7 @@ use Rattle.hive_read.proofs.Walks.{walk-on, walk-off, walk-below}
 
 -- ---- segments
 
+-- the walk over segments ends where the first one has a fault, and goes on behind it where it has none
 pub segments-off : (cells : Cells) (seen : Seen) (n : ℕ) (offsets : List ℕ) (at : ℕ) (rest : List ℕ) (f : HiveFault)
     → offsets ≡ at ∷ rest
     → walk cells seen (use_as false (bytes_in (segment_part n)) cells at) ≡ Err f
@@ -51,6 +52,7 @@ listed_segments cells n big =
     use_as false (offsets_in big.segments) cells big.list
     ++ below_of (reading (offsets_in big.segments) cells big.list) (segments_checks cells n)
 
+-- big data has the fault of its own cell first, then that of its list, then those of its segments
 pub big-off : (cells : Cells) (seen : Seen) (n at : ℕ) (f : HiveFault)
     → walk cells seen (use_as false (big_data_of n) cells at) ≡ Err f → walk cells seen (big_checks cells n at) ≡ Err f
 unfolding big_checks
@@ -69,6 +71,7 @@ big-unlisted cells seen after n at big f e r s =
     ∙ walk-off cells after (use_as false (offsets_in big.segments) cells big.list)
     (below_of (reading (offsets_in big.segments) cells big.list) (segments_checks cells n)) f s
 
+-- where both stand, the walk goes on over the segments, whose bytes are its bytes
 pub big-on : (cells : Cells) (seen after next : Seen) (n at : ℕ) (big : BigData) (offsets : List ℕ)
     → walk cells seen (use_as false (big_data_of n) cells at) ≡ Ok after → reading (big_data_of n) cells at ≡ Ok big
     → walk cells after (use_as false (offsets_in big.segments) cells big.list) ≡ Ok next

@@ -26,6 +26,7 @@ greater Less e = absurd cc
 greater Equal e = absurd cc
 greater Greater e = refl
 
+-- a name that folds greater than the greatest stands behind it in the order of the keys
 above : (top name : List ℕ) → is_gt (folded_order name top) ≡ true → slice_cmp nat_cmp (folded top) (folded name) ≡ Less
 above top name g = nat_list_cmp_total.antisymm (folded top) (folded name)
     ∙ ap ordering_reverse (greater (folded_order name top) g)
@@ -101,6 +102,7 @@ not-less Less e = absurd cc
 not-less Equal e = refl
 not-less Greater e = refl
 
+-- no name is behind itself, nor is one that folds no greater behind the greatest
 pub not-behind-itself : (n : StoredName) → is_behind (name_of n) (folded_name n) ≡ false
 not-behind-itself n = not-less (slice_cmp nat_cmp (folded_name n) (folded_name n))
     (nat_list_cmp_total.antisymm (folded_name n) (folded_name n))
@@ -132,6 +134,7 @@ same-again name n (k ∷ ks) e = go (slice_cmp nat_cmp (folded name) k) refl (sa
         ∙ ap (λ b. (folds_to n k || list_any (folds_to n) ks) || b) (folds_to-folded n name k (sym (key-same name k s)))
     go Greater s more h = later (more h)
 
+-- a known name that comes again makes no other name known
 pub known-again : (name n : List ℕ) (keys : List (List ℕ)) → has_name keys name ≡ true
     → has_name keys n ≡ (has_name keys n || folds_same n name)
 unfolding has_name
@@ -151,6 +154,7 @@ first-item (x ∷ xs) d h =
     let n : length (x ∷ xs) - 1 ≡ length xs = omega arith in
     rw (n, take-length xs) refl
 
+-- one step of putting the names into the set: what is known of both together stays the same
 pub one-gathered : {K : Type 0} (f : K → List ℕ) (p : List ℕ → Bool) (ks new : List K) (k : K)
     (rest more : List StoredName) (first : StoredName)
     → new ≡ insert_key (λ x y. slice_cmp nat_cmp (f x) (f y)) ks k → f k ≡ folded_name first → rest ≡ first ∷ more

@@ -28,6 +28,7 @@ any-push at s before c = list_any-append (clash at s) before (c ∷ [])
 pub remembers-none : Remembers map.empty []
 remembers-none at s = ap (λ o. clashes o s) (map.get-empty nat_cmp at)
 
+-- a test uses no cell, so the used cells stay
 remembers-tests : (seen : Seen) (before : List Check) (at : ℕ) (k : Option HiveKind) → Remembers seen before
     → Remembers seen (before ++ tests at k ∷ [])
 remembers-tests seen before at k h q s =
@@ -40,6 +41,7 @@ again true false b h = sym (or-true b)
 again false true b h = sym (or-true b)
 again false false b h = sym (or-true b)
 
+-- a use that clashes with none before marks its cell as used
 remembers-uses : (seen : Seen) (before : List Check) (at : ℕ) (s : Bool) → clashes (map.get seen at) s ≡ false
     → Remembers seen before → Remembers (map.insert seen at s) (before ++ uses at s ∷ [])
 remembers-uses seen before at s fresh h q t =
@@ -62,6 +64,7 @@ abbrev pub Agrees : Result Seen HiveFault → Option HiveFault → Type 0
 Agrees (Ok after) first = first ≡ None
 Agrees (Err f) first = first ≡ Some f
 
+-- the walk over checks behind others, by what the cells before it used
 pub walk-first : (cells : Cells) (seen : Seen) (before cs : List Check) → Remembers seen before
     → Agrees (walk cells seen cs) (first_among cells before cs)
 walk-first cells seen before [] h = refl

@@ -42,6 +42,7 @@ pub bytes-back : (a b : List ℕ) → IsBytes (a ++ b) → IsBytes b
 bytes-back [] b h = h
 bytes-back (x ∷ xs) b h = bytes-back xs b (λ j. h (suc j))
 
+-- numbers that are read from bytes fit in their width
 le16 : (xs : List ℕ) → IsBytes xs → from_le_bytes w16 xs < 65536
 le16 xs h = omega (arith, h 0, h 1)
 
@@ -64,6 +65,7 @@ take-short (suc n) (x ∷ xs) = omega (arith, take-short n xs)
 abbrev pub done : {A : Type 0} → A → Result A HiveKind
 done x = Ok x
 
+-- a test that was passed did not hold, and what followed it was done
 pub unless : {A : Type 0} (b : Bool) (k : HiveKind) (r : Result A HiveKind) (x : A) → cond b (Err k) r ≡ done x
     → (b ≡ false) × (r ≡ done x)
 unless true k r x e = absurd cc
@@ -74,6 +76,7 @@ only-if : {A : Type 0} (b : Bool) (k : HiveKind) (r : Result A HiveKind) (x : A)
 only-if true k r x e = e
 only-if false k r x e = absurd cc
 
+-- what was done in two steps was done in each
 pub then-so : {A B : Type 0} (r : Result A HiveKind) (f : A → Result B HiveKind) (y : B) → (r >>= f) ≡ done y
     → (x : A) × (r ≡ done x) × (f x ≡ done y)
 then-so (Ok x) f y e = (x, refl, e)
@@ -101,6 +104,7 @@ take-within zero xs = omega arith
 take-within (suc n) [] = omega arith
 take-within (suc n) (x ∷ xs) = omega (arith, take-within n xs)
 
+-- what a key's node says of its name and of its counts, before anything that it names is read
 pub record NodeFacts (node : KeyNode) : Type 0 where
   pub name : length node.name ≤ 255
   pub no_backslash : list_any is_backslash node.name ≡ false
@@ -108,6 +112,7 @@ pub record NodeFacts (node : KeyNode) : Type 0 where
   pub children : node.child_count < 4294967296
   pub values : node.value_count < 4294967296
 
+-- a key's name that was read has at most 255 units and no backslash, a value's at most 16,383 units
 key-name : (narrow : Bool) (bytes name : List ℕ) → key_name_at narrow bytes ≡ done name
     → (length name ≤ 255) × (list_any is_backslash name ≡ false)
 unfolding key_name_at
@@ -235,6 +240,7 @@ offsets-length n p offsets e =
 
 -- ---- flags
 
+-- the flag that tells how the name is stored is no flag of the tree
 pub own-flags : (flags : ℕ) → tree_flags flags / 32 % 2 ≡ 0
 own-flags flags = go (flags / 32 % 2 == 1) refl
   where

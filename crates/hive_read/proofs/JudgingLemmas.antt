@@ -26,6 +26,7 @@ use Rattle.hive_read.proofs.Standing.{reads-root}
 
 -- ---- sums that stay at the greatest number
 
+-- cutting the parts and then their sum at the greatest number cuts the sum there
 capped-sum : (a b x y total : ℕ) → x ≡ capped a → y ≡ capped b → total ≡ capped (x + y) → total ≡ capped (a + b)
 capped-sum a b x y total e f g = omega (arith, e, f, g)
 
@@ -51,6 +52,7 @@ pub record KeysSoFar (cells : Cells) (left : ℕ) (shared offsets rest : List �
   pub knows : Knows taken (map key_name children)
   pub counted : total ≡ capped (sum_by (size cells.version shared) children)
 
+-- at first no key is before these; each that is there is one more; behind the last all were walked
 pub keys-first : (cells : Cells) (left : ℕ) (shared offsets : List ℕ) (taken : List (List ℕ)) (seen : Seen) → taken ≡ []
     → KeysSoFar cells left shared offsets offsets taken 0 seen seen
 keys-first cells left shared offsets taken seen e =
@@ -103,6 +105,7 @@ no-children checks cells seen node at shared z =
     let n = children-none checks cells seen node at z in
     (n.0, record { it = []; means = ([], n.1, refl); counted = refl })
 
+-- a list of children and the children below it, counted together
 pub children-counts : (cells : Cells) (node : KeyNode) (shared offsets : List ℕ) (lists one total : ℕ)
     → ListsChildren cells node offsets → lists ≡ capped (list_size (length offsets))
     → Counts (λ (ts : List Tree). AllStand cells offsets (trees ts)) (sum_by (size cells.version shared)) one
@@ -148,6 +151,7 @@ pub record PartsCount (cells : Cells) (node : KeyNode) (shared descriptor : List
   pub below : Counts (ChildrenRead cells node)
       (λ (ts : List Tree). list_size (length ts) + sum_by (size cells.version descriptor) ts) b
 
+-- the parts of a key and its children, counted together, are a key's bytes
 pub below-counts : (cells : Cells) (at : ℕ) (node : KeyNode) (shared security : List ℕ)
     (own class descriptor values below one two three total : ℕ)
     → PartsCount cells node shared security own class descriptor values below → one ≡ capped (own + class)
@@ -198,6 +202,7 @@ below-counts cells at node shared security own class descriptor values below one
           ∙ ap capped (sym (key-size cells.version shared h ts));
     }
 
+-- a key whose name is new stands here with the bytes that were counted
 pub key-counts : (cells : Cells) (root : Bool) (at : ℕ) (node : KeyNode) (shared : List ℕ) (old new : List (List ℕ))
     (n : ℕ) → reading (node_at root) cells at ≡ Ok node → AddsName old new node.name
     → Counts (BelowHere cells at node) (size cells.version shared) n
@@ -218,11 +223,13 @@ key-counts cells root at node shared old new n r a c =
 
 -- ---- the whole tree
 
+-- a walk that stopped is what `judge` answers: the first fault of the hive, or want of memory
 pub judged-err : (cells : Cells) (root : ℕ) (old new : Seen) (e : ReadStop) → old ≡ map.empty
     → Stops (walk cells old (key_checks 512 cells true [] root)) e → Judges cells root (Err e)
 judged-err cells root old new stops.Memory o s = tt
 judged-err cells root old new (stops.Fault f) o s = reads-root cells root old new (Err (stops.Fault f)) o s
 
+-- and what its end is: the bulk of the tree that stands at the root
 pub judged-ok : (cells : Cells) (root : ℕ) (old new : Seen) (known now : List (List ℕ)) (n total : ℕ) → AreBytes cells
     → old ≡ map.empty
     → walk cells old (key_checks 512 cells true [] root) ≡ Ok new

@@ -16,6 +16,7 @@ use Rattle.hive_read.proofs.Walks.{walk-on, walk-off, walk-below, not-same}
 
 -- ---- a key
 
+-- with no level left a key is too deep, whatever is there
 pub key-deep : (left : ℕ) (cells : Cells) (root : Bool) (seen : Seen) (names : List (List ℕ)) (at : ℕ) → left ≡ 0
     → walk cells seen (key_checks left cells root names at) ≡ fault TooDeep at
 unfolding key_checks
@@ -25,6 +26,7 @@ key-deep (suc left) cells root seen names at h = absurd (omega arith)
 abbrev named : ℕ → Cells → List (List ℕ) → ℕ → KeyNode → List Check
 named left cells names at node = name_check names at node.name ∷ below_node (key_checks left cells false) cells node at
 
+-- the walk over a key ends where its node can't be read
 pub key-off : (left : ℕ) (cells : Cells) (root : Bool) (seen : Seen) (names : List (List ℕ)) (at : ℕ) (f : HiveFault)
     → 0 < left
     → walk cells seen (use_as false (node_at root) cells at) ≡ Err f
@@ -35,6 +37,7 @@ key-off (suc left) cells root seen names at f h e =
     walk-off cells seen (use_as false (node_at root) cells at)
     (below_of (reading (node_at root) cells at) (named left cells names at)) f e
 
+-- and else goes on over its name and what it names
 pub key-named : (left : ℕ) (cells : Cells) (root : Bool) (seen after : Seen) (names : List (List ℕ)) (at : ℕ)
     (node : KeyNode) → 0 < left
     → walk cells seen (use_as false (node_at root) cells at) ≡ Ok after → reading (node_at root) cells at ≡ Ok node
@@ -78,6 +81,7 @@ node-plain root cells at node e = payload (cells.payload at) e
 abbrev Checks : Type 0
 Checks = List (List ℕ) → ℕ → List Check
 
+-- what a node names is walked in order: class, security, values, children; the first fault ends it
 pub below-class : (checks : Checks) (cells : Cells) (seen : Seen) (node : KeyNode) (at : ℕ) (f : HiveFault)
     → walk cells seen (class_checks cells node) ≡ Err f → walk cells seen (below_node checks cells node at) ≡ Err f
 below-class checks cells seen node at f e =
@@ -121,11 +125,13 @@ abbrev counted : Checks → Cells → KeyNode → ℕ → List ℕ → List Chec
 counted checks cells node at offsets =
     tests at (failing (not (length offsets == node.child_count)) Count) ∷ keys_in_turn checks cells [] offsets
 
+-- a node without children needs no list
 pub children-none : (checks : Checks) (cells : Cells) (seen : Seen) (node : KeyNode) (at : ℕ) → node.child_count ≡ 0
     → (walk cells seen (children_checks checks cells node at) ≡ Ok seen) × ListsChildren cells node []
 unfolding children_checks
 children-none checks cells seen node at z = (rw z refl, rw z refl)
 
+-- the faults of children: of the list first, then that it has another length than was counted
 pub children-off : (checks : Checks) (cells : Cells) (seen : Seen) (node : KeyNode) (at : ℕ) (f : HiveFault)
     → (node.child_count ≡ 0 → ⊥)
     → walk cells seen (entries_checks cells node.child_list) ≡ Err f
@@ -148,6 +154,7 @@ children-count checks cells seen after node at offsets n e r d =
     rw z (walk-below cells seen after (entries_checks cells node.child_list) (entries_at cells node.child_list)
     (counted checks cells node at) offsets e r ∙ rw w refl)
 
+-- where the list and its length are right, the walk goes on over its keys
 pub children-on : (checks : Checks) (cells : Cells) (seen after : Seen) (node : KeyNode) (at : ℕ) (offsets : List ℕ)
     → (node.child_count ≡ 0 → ⊥)
     → walk cells seen (entries_checks cells node.child_list) ≡ Ok after → entries_at cells node.child_list ≡ Ok offsets
@@ -168,6 +175,7 @@ children-on checks cells seen after node at offsets n e r d =
 abbrev pub key_name : Tree → List ℕ
 key_name t = (head t).name
 
+-- the walk over keys ends at the first fault of one, and goes on behind one that stands
 pub keys-off : (left : ℕ) (cells : Cells) (seen : Seen) (names : List (List ℕ)) (offsets : List ℕ) (at : ℕ)
     (rest : List ℕ) (f : HiveFault) → offsets ≡ at ∷ rest
     → walk cells seen (key_checks left cells false names at) ≡ Err f

@@ -9,6 +9,7 @@ use Rattle.hive_model.specs.Walk.{Check, reading, below_of, use_as, is_list_of_l
 use Rattle.hive_read.specs.Walked.{Seen, walk}
 use Rattle.hive_read.proofs.Walks.{walk-on, walk-off, walk-below}
 
+-- the walk over leaves ends where one can't be read, and goes on behind one that can
 pub leaves-off : (cells : Cells) (seen : Seen) (lists : List ℕ) (at : ℕ) (rest : List ℕ) (f : HiveFault)
     → lists ≡ at ∷ rest
     → walk cells seen (use_as false leaf_at cells at) ≡ Err f → walk cells seen (leaves_checks cells lists) ≡ Err f
@@ -34,12 +35,14 @@ joined-one cells lists rest whole at all leaf o s h more r =
 abbrev leaves_of : Cells → SubkeyList → List Check
 leaves_of cells list = if is_list_of_lists list.kind then leaves_checks cells list.offsets else []
 
+-- a list that can't be read ends the walk
 pub entries-off : (cells : Cells) (seen : Seen) (at : ℕ) (f : HiveFault)
     → walk cells seen (use_as false list_at cells at) ≡ Err f → walk cells seen (entries_checks cells at) ≡ Err f
 unfolding entries_checks
 entries-off cells seen at f e =
     walk-off cells seen (use_as false list_at cells at) (below_of (reading list_at cells at) (leaves_of cells)) f e
 
+-- a leaf has its offsets itself, and a list of lists those of its leaves, in order
 pub entries-own : (cells : Cells) (seen after : Seen) (at : ℕ) (list : SubkeyList)
     → walk cells seen (use_as false list_at cells at) ≡ Ok after → reading list_at cells at ≡ Ok list
     → is_list_of_lists list.kind ≡ false

@@ -16,6 +16,7 @@ use Rattle.hive_read.proofs.Wellformed.{well-formed-passes}
 abbrev pub OneList : Type 0
 OneList = (bins others : List Bin) → IsHeap bins → IsHeap others → spelled 0 bins ≡ spelled 0 others → bins ≡ others
 
+-- bytes that are a list of bins have no fault
 abbrev pub ListOrFault : Type 0
 ListOrFault = (bins : List Bin) (fault : HiveFault) → IsHeap bins → BinsFault (spelled 0 bins) fault → ⊥
 
@@ -39,6 +40,7 @@ holds-one one r s u h g =
     let version : s.version ≡ u.version = h.version ∙ sym g.version in
     λ i. record { tree = tree i; sequence = sequence i; version = version i }
 
+-- one state for each image, since recovery and reading are functions
 pub one-load : OneList → (image : Image) (s u : HiveState) (d e : Bool) → Loads image s d → Loads image u e
     → (s ≡ u) × (d ≡ e)
 one-load one image s u d e h g =
@@ -51,6 +53,7 @@ one-load one image s u d e h g =
 abbrev some : HiveFault → Option HiveFault
 some f = Some f
 
+-- a recovery that holds a state has no fault behind it
 held-sound : OneList → ListOrFault → (r : Recovered) (s : HiveState) (fault : HiveFault) → Holds r s → HeldFault r fault
     → ⊥
 held-sound one either r s fault h (inl b) =
@@ -66,6 +69,7 @@ held-sound one either r s fault h (inr w) =
     none-some : (o : Option HiveFault) (f : HiveFault) → o ≡ None → o ≡ some f → ⊥
     none-some o f e g = cc
 
+-- an image that loads has no first fault, at any step
 pub load-or-fault : OneList → ListOrFault → (image : Image) (s : HiveState) (d : Bool) (fault : HiveFault)
     → Loads image s d → LoadFault image fault → ⊥
 load-or-fault one either image s d fault h (inl e) = ok-err (recovered_of image) h.recovered fault h.read e

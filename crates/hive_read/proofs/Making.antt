@@ -26,6 +26,7 @@ use Rattle.hive_read.proofs.ValueWalks.{item_of, item-stands, item-named}
 use Rattle.hive_read.proofs.KeyWalks.{key_name, node-plain}
 use Rattle.hive_read.proofs.Passing.{AllPass, pass-split, use-made, below-made, not-failing, choice-made}
 
+-- where the checks of a part pass, that part can be read: the class, the descriptor, the data
 class-made : (cells : Cells) (node : KeyNode) → AllPass cells (class_checks cells node)
     → (b : List ℕ) × (class_of cells node ≡ Ok b)
 unfolding class_checks class_of
@@ -42,6 +43,7 @@ security-made cells node p = go (node.security == nowhere) p
     go false p = let r = use-made true security_at cells node.security p in
         (r.0.descriptor, ap (λ q. q >>= λ s. Ok s.descriptor) r.1)
 
+-- a segment and those behind it are read together
 segments-both : (cells : Cells) (n at : ℕ) (more part others : List ℕ)
     → reading (bytes_in (segment_part n)) cells at ≡ Ok part
     → joined_segments cells (n - segment_bytes) more ≡ Ok others
@@ -98,6 +100,7 @@ data-made cells value p = go (data_inside value) p
 
 -- ---- values
 
+-- a value that passes has a name unlike those before it
 value-made : (cells : Cells) (names : List (List ℕ)) (at : ℕ) → AllPass cells (value_checks cells names at)
     → (item : Item) × (item_at cells at ≡ Ok item) × (list_any (folds_same item.name) names ≡ false)
 unfolding value_checks
@@ -121,6 +124,7 @@ items-both : (cells : Cells) (at : ℕ) (rest : List ℕ) (item : Item) (items :
     → items_at cells rest ≡ Ok items → items_at cells (at ∷ rest) ≡ Ok (item ∷ items)
 items-both cells at rest item items r s = rw (r, s) refl
 
+-- values that pass in turn are read in turn, with names apart
 items-made : (cells : Cells) (names : List (List ℕ)) (offsets : List ℕ)
     → AllPass cells (values_in_turn cells names offsets)
     → (items : List Item) × (items_at cells offsets ≡ Ok items) × Apart item_name names items
@@ -174,6 +178,7 @@ leaves-made cells (at ∷ more) p =
 abbrev leaves_of : Cells → SubkeyList → List Check
 leaves_of cells list = if is_list_of_lists list.kind then leaves_checks cells list.offsets else []
 
+-- a list whose checks pass gives its offsets, of either form
 entries-made : (cells : Cells) (at : ℕ) → AllPass cells (entries_checks cells at)
     → (offsets : List ℕ) × (entries_at cells at ≡ Ok offsets)
 unfolding entries_checks entries_at
@@ -210,6 +215,7 @@ pub record AllMade (left : ℕ) (cells : Cells) (names : List (List ℕ)) (offse
   pub differ : Apart key_name names siblings
   pub named : All (λ t. 0 < length (key_name t)) siblings
 
+-- keys that pass in turn stand in turn, if each that passes stands
 keys-made : (left : ℕ) (cells : Cells)
     → ((names : List (List ℕ)) (at : ℕ) → AllPass cells (key_checks left cells false names at)
     → Made left cells false names at)
@@ -246,6 +252,7 @@ not-not : (t : Bool) → not t ≡ false → t ≡ true
 not-not true e = refl
 not-not false e = absurd cc
 
+-- the children of a node are listed and stand, with names apart
 pub record ChildrenMade (left : ℕ) (cells : Cells) (node : KeyNode) : Type 0 where
   pub offsets : List ℕ
   pub lists : ListsChildren cells node offsets
@@ -256,6 +263,7 @@ counted left cells node at offsets =
     tests at (failing (not (length offsets == node.child_count)) Count)
     ∷ keys_in_turn (key_checks left cells false) cells [] offsets
 
+-- they do where their checks pass
 children-made : (left : ℕ) (cells : Cells) (node : KeyNode) (at : ℕ)
     → ((names : List (List ℕ)) (at : ℕ) → AllPass cells (key_checks left cells false names at)
     → Made left cells false names at)
@@ -326,6 +334,7 @@ pairs-listed : (ts : List Tree) → Apart key_name [] ts → AllPairs (Differ ke
 pairs-listed ts a = subst (λ (us : List Tree). AllPairs (Differ key_name) us) (listed-trees ts)
     (apart-pairs key_name [] ts a)
 
+-- one key, if those a level below can be made
 key-made-of : (left : ℕ) (cells : Cells) (root : Bool) (names : List (List ℕ)) (at : ℕ)
     → ((names : List (List ℕ)) (at : ℕ) → AllPass cells (key_checks left cells false names at)
     → Made left cells false names at)
@@ -390,6 +399,7 @@ key-made-of left cells root names at h p =
       named = node-named root cells at node n.1;
     }
 
+-- each key whose checks pass stands, by the number of levels left
 pub key-made : (left : ℕ) (cells : Cells) (root : Bool) (names : List (List ℕ)) (at : ℕ)
     → AllPass cells (key_checks left cells root names at) → Made left cells root names at
 unfolding key_checks

@@ -19,11 +19,13 @@ none = None
 pub no-bit : (place : ℕ) → eqb (bit_at 0 place) 1 ≡ false
 no-bit place = rw (bit_at-zero place) refl
 
+-- behind the last word no bit is on
 pub bit-past : (words : List ℕ) (slot : ℕ) → length words ≤ slot / 64 → has_bit words slot ≡ false
 unfolding has_bit
 bit-past words slot h = ap (λ word. eqb (bit_at word (slot % 64)) 1) (get_or_past words (slot / 64) 0 h)
     ∙ no-bit (slot % 64)
 
+-- words that are the same, a word past the end counting as 0, have the same bits
 pub same-bits : (words others : List ℕ) → HaveSame words others → (slot : ℕ) → has_bit others slot ≡ has_bit words slot
 unfolding has_bit
 same-bits words others h slot = ap (λ word. eqb (bit_at word (slot % 64)) 1) (h (slot / 64))
@@ -84,6 +86,7 @@ get-with n (Some security) others at =
     ∙ ap (λ b. cond b (Some security) (map.get (map.from_entries {R = nat_cmp} others) at))
     (sym (unsigned_ties at (8 * n)))
 
+-- the table of the slots below n says what the bits of those slots say
 get-below : (plain security : List ℕ) (n at : ℕ)
     → map.get (map.from_entries {R = nat_cmp} (marks_below plain security n)) at ≡ below_at plain security n at
 get-below plain security zero at =
@@ -128,6 +131,7 @@ get-below plain security (suc n) at =
         let within : nat_lt (at / 8) (suc n) ≡ true = lt-ltb (at / 8) (suc n) (omega arith) in
         rw (e, there, past, within, near) (here (slot_mark plain security n))
 
+-- behind all words no slot has a mark
 slot-past : (plain security : List ℕ) (slot : ℕ) → 64 * (length plain + length security) ≤ slot
     → slot_mark plain security slot ≡ none
 slot-past plain security slot h =
@@ -147,6 +151,7 @@ get-marks plain security at =
     go true e = refl
     go false e = sym (slot-past plain security (at / 8) (grind (arith, nat_tests)))
 
+-- a cell's mark is that of its slot, an eighth of its offset
 whole-mark : (plain security : List ℕ) (at : ℕ) → at % 8 ≡ 0
     → mark_at plain security at ≡ slot_mark plain security (at / 8)
 whole-mark plain security at whole = rw (eq-eqb (at % 8) 0 whole) refl
@@ -192,6 +197,7 @@ replaced plain security others kept at mark whole new = map.same_map nat_cmp_tot
         let same : eqb q at ≡ true = eq-eqb q at (omega arith) in
         rw same refl
 
+-- a bit more is a mark more: of a security cell, and of any other cell
 pub mark-security : (plain security others : List ℕ) (at : ℕ) → at % 8 ≡ 0
     → ((slot : ℕ) → has_bit others slot ≡ (eqb slot (at / 8) || has_bit security slot))
     → marks_in plain others ≡ map.insert (marks_in plain security) at true

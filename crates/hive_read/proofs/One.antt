@@ -14,16 +14,19 @@ done x = Ok x
 ok_one : {A : Type 0} (r : Result A HiveKind) (x y : A) → r ≡ done x → r ≡ done y → x ≡ y
 ok_one r x y e d = cc
 
+-- a node's children are listed by one list of offsets
 lists-one : (cells : Cells) (node : KeyNode) (xs ys : List ℕ) (b : Bool)
     → MatchBool b (xs ≡ []) ((entries_at cells node.child_list ≡ Ok xs) × (length xs ≡ node.child_count))
     → MatchBool b (ys ≡ []) ((entries_at cells node.child_list ≡ Ok ys) × (length ys ≡ node.child_count)) → xs ≡ ys
 lists-one cells node xs ys true p q = p ∙ sym q
 lists-one cells node xs ys false p q = ok_one (entries_at cells node.child_list) xs ys p.0 q.0
 
+-- a key stands at an offset by one node
 nodes-one : (cells : Cells) (at : ℕ) (h g : Head) (xs ys : List ℕ)
     → (s : KeyStands cells at h xs) (r : KeyStands cells at g ys) → s.node ≡ r.node
 nodes-one cells at h g xs ys s r = ok_one (reading key_node_at cells at) s.node r.node s.read r.read
 
+-- so it has one head, and its children one list of offsets
 heads-one : (cells : Cells) (at : ℕ) (h g : Head) (xs ys : List ℕ) → KeyStands cells at h xs → KeyStands cells at g ys
     → h ≡ g
 heads-one cells at h g xs ys s r =

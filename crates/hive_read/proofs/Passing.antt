@@ -46,6 +46,7 @@ passing cells before (uses at s ∷ cs) e =
     parts (Ok p) true rest e = absurd cc
     parts (Ok p) false rest e = ((p, refl), refl, e)
 
+-- the other way round
 pub none-fails : (cells : Cells) (before cs : List Check) → AllPass cells cs → OnceBehind before cs
     → first_among cells before cs ≡ None
 none-fails cells before [] p o = refl
@@ -93,6 +94,7 @@ pub choice-made : {F : Type 0} (b security : Bool) (form : List ℕ → Result F
 choice-made true security form cells at other p = (other, refl)
 choice-made false security form cells at other p = use-made security form cells at p
 
+-- it passes where one or the other stands
 pub choice-passes : {F : Type 0} (b security : Bool) (form : List ℕ → Result F HiveKind) (cells : Cells) (at : ℕ)
     (other x : F) → cond b (Ok other) (reading form cells at) ≡ Ok x
     → AllPass cells (cond b [] (use_as security form cells at))

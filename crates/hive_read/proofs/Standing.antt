@@ -34,6 +34,7 @@ stands-where-none-fails cells root e =
       },
     )
 
+-- a tree that stands where no check fails is the one that stands in well-formed cells
 pub well_formed : (cells : Cells) (root : ℕ) (t : Tree) → Stands cells root t → first_fault cells root ≡ None
     → IsWellFormed cells root t
 well_formed cells root t s e =

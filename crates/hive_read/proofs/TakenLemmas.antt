@@ -15,6 +15,7 @@ use Rattle.nt_bytes.specs.Folding.{folded, folds_same}
 use Rattle.hive_read.specs.Taken.{folds_to, has_name, Knows}
 use Rattle.std.proofs.Math.Bool.{or-false}
 
+-- two names are the same as folded bytes exactly where they fold alike
 folded-same : (n m : List ℕ) → bytes_eq (folded n) (folded m) ≡ folds_same n m
 folded-same [] [] = refl
 folded-same [] (y ∷ ys) = refl
@@ -73,6 +74,7 @@ any-insert f p (x ∷ xs) k = go (slice_cmp nat_cmp (f k) (f x)) refl (any-inser
         or-same (p (f x)) (list_any p (map f xs)) ∙ ap (λ n. (p (f x) || list_any p (map f xs)) || p n) (sym same)
     go Greater e h = ap (λ b. p (f x) || b) h ∙ any-or (p (f x)) (list_any p (map f xs)) (p (f k))
 
+-- a name put into the set is known, and others are as they were
 pub has-insert : {K : Type 0} (f : K → List ℕ) (ks new : List K) (k : K) (name n : List ℕ) → f k ≡ folded name
     → new ≡ insert_key (λ x y. slice_cmp nat_cmp (f x) (f y)) ks k
     → has_name (map f new) n ≡ (has_name (map f ks) n || folds_same n name)

@@ -37,6 +37,7 @@ payload : {F : Type 0} (form : List ℕ → Result F HiveKind) (cells : Cells) (
     → reading form cells at ≡ done x → (p : List ℕ) × IsBytes p × (form p ≡ done x)
 payload form cells at x h r = let p = then-so (cells.payload at) form x r in (p.0, h at p.0 p.1, p.2)
 
+-- each part that was read is no longer than the field that counts it can say
 class-short : (cells : Cells) (node : KeyNode) (b : List ℕ) → AreBytes cells → class_of cells node ≡ done b
     → length b ≤ node.class_length
 unfolding class_of
@@ -62,6 +63,7 @@ security-small cells node b h r = go (node.security == nowhere) r
         let p = payload security_at cells node.security s.0 h s.1 in
         subst (λ (x : List ℕ). length x < 4294967296) (ok_same s.0.descriptor b s.2) (descriptor-small p.0 s.0 p.1 p.2)
 
+-- so are the data: of segments, of big data, of one cell, of a value
 segments-short : (cells : Cells) (n : ℕ) (offsets b : List ℕ) → AreBytes cells
     → joined_segments cells n offsets ≡ done b → length b ≤ n
 segments-short cells n [] b h r = let same : [] ≡ b = ok_same [] b r in
@@ -108,6 +110,7 @@ data-small cells value b h r = go (data_inside value) refl r
         let small : value.size < 2147483648 = celled-small value e in
         omega arith
 
+-- so a value that stands is one that a hive can hold
 item-fits : (cells : Cells) (at : ℕ) (item : Item) → AreBytes cells → item_at cells at ≡ done item → IsItem item
 unfolding item_at
 item-fits cells at item h r =
@@ -118,6 +121,7 @@ item-fits cells at item h r =
     let small : length d.0 < 2147483648 = data-small cells v.0 d.0 h d.1 in
     subst IsItem (ok_same (item_of v.0 d.0) item d.2) (record { name = value-facts p.0 v.0 p.2; bytes = small })
 
+-- and so are values in a row, as many as they were counted
 items-fit : (cells : Cells) (offsets : List ℕ) (items : List Item) → AreBytes cells
     → items_at cells offsets ≡ done items → (length items ≡ length offsets) × All IsItem items
 items-fit cells [] items h r = let same : [] ≡ items = ok_same [] items r in
@@ -156,6 +160,7 @@ children-count cells node offsets l = go (node.child_count == 0) l
     go true l = rw l (omega arith)
     go false l = omega (arith, l.1)
 
+-- keys in a row are as many as their offsets
 pub stand-as-many : (cells : Cells) (offsets : List ℕ) (ts : Trees) → AllStand cells offsets ts
     → length (listed ts) ≡ length offsets
 stand-as-many cells offsets none s = rw s refl
@@ -192,6 +197,7 @@ mutual
   trees-fit cells offsets none b s n = tt
   trees-fit cells offsets (more t ts) b s n = (tree-fits cells s.0 t b s.3 n.0, trees-fit cells s.1 ts b s.4 n.1)
 
+-- the tree of well-formed cells is valid, since its parts, counts, names and levels are
 pub well-formed-valid : (cells : Cells) (root : ℕ) (t : Tree) → AreBytes cells → IsWellFormed cells root t → IsValid t
 well-formed-valid cells root t b w = record { keys = tree-fits cells root t b w.stands w.names; levels = w.levels }
 
@@ -217,6 +223,7 @@ payload-bytes : (c : Cell) → IsBytes (cell_bytes c) → IsBytes c.payload
 unfolding cell_bytes
 payload-bytes c h = bytes-back (to_le_bytes w32 (head_number c.allocated (cell_size c))) c.payload h
 
+-- a payload that is looked up is a part of the bytes: in cells, then in bins
 cell-in : (o at : ℕ) (cs : List Cell) (c : Cell) → IsBytes (flat_map cell_bytes cs) → in_cells o at cs ≡ some c
     → IsBytes c.payload
 cell-in o at [] c h e = absurd cc
@@ -234,6 +241,7 @@ bin-in o at (b ∷ bs) c h e =
     (bytes-back (head_bytes at (bin_size b) b.ignored) (flat_map cell_bytes b.cells) front) f)
     (λ f. bin-in o (at + bin_size b) bs c (bytes-back (bin_bytes at b) (spelled (at + bin_size b) bs) h) f) e
 
+-- so the payloads of bins that are spelled in bytes are bytes
 pub cells-bytes : (version : HiveVersion) (bins : List Bin) → IsBytes (spelled 0 bins) → AreBytes (look_up version bins)
 cells-bytes version bins h at p e = go (cell_at bins at) refl e
   where

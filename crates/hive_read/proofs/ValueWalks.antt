@@ -18,6 +18,7 @@ use Rattle.hive_read.proofs.Walks.{walk-on, walk-off, walk-below, not-same}
 abbrev pub item_of : KeyValue → List ℕ → Item
 item_of v b = record { name = v.name; kind = v.kind; bytes = b }
 
+-- the walk over a value ends where its cell can't be read
 pub value-off : (cells : Cells) (seen : Seen) (names : List (List ℕ)) (at : ℕ) (f : HiveFault)
     → walk cells seen (use_as false key_value_at cells at) ≡ Err f
     → walk cells seen (value_checks cells names at) ≡ Err f
@@ -26,6 +27,7 @@ value-off cells seen names at f e =
     walk-off cells seen (use_as false key_value_at cells at)
     (below_of (reading key_value_at cells at) (λ v. name_check names at v.name ∷ data_checks cells v)) f e
 
+-- and else goes on over its name and its data
 pub value-named : (cells : Cells) (seen after : Seen) (names : List (List ℕ)) (at : ℕ) (v : KeyValue)
     → walk cells seen (use_as false key_value_at cells at) ≡ Ok after → reading key_value_at cells at ≡ Ok v
     → walk cells seen (value_checks cells names at)
@@ -62,6 +64,7 @@ item-named cells at item e = go (reading key_value_at cells at) e
     go (Ok v) e = ap (λ n. n ∷ []) (named v (data_of cells v) e)
     go (Err k) e = absurd cc
 
+-- the walk over values ends at the first fault of one, and goes on behind one that stands
 pub values-off : (cells : Cells) (seen : Seen) (names : List (List ℕ)) (offsets : List ℕ) (at : ℕ) (rest : List ℕ)
     (f : HiveFault) → offsets ≡ at ∷ rest
     → walk cells seen (value_checks cells names at) ≡ Err f
@@ -87,6 +90,7 @@ pub items-one : (cells : Cells) (offsets rest all : List ℕ) (at : ℕ) (items 
 items-one cells offsets rest all at items item o s h more r =
     h (item ∷ more) (rw o (rw (s, r) refl)) ∙ ap (λ i. Ok i) (sym (append_assoc items (item ∷ []) more))
 
+-- a list of values that can be read is walked value by value; none is read where there are no values
 pub values-read : (cells : Cells) (seen after : Seen) (node : KeyNode) (offsets : List ℕ) → (node.value_count ≡ 0 → ⊥)
     → walk cells seen (use_as false (offsets_in node.value_count) cells node.value_list) ≡ Ok after
     → reading (offsets_in node.value_count) cells node.value_list ≡ Ok offsets

@@ -49,6 +49,7 @@ bytes-long cells n at b r =
     let t = unless (nat_lt (length p.0) n) FormShort (Ok (take n p.0)) b p.2 in
     ap length (sym (ok_same (take n p.0) b t.1)) ∙ take-long n p.0 (not-above (length p.0) n t.0)
 
+-- at first no segment is before these; each that was read is one more; behind the last all were walked
 pub segments-first : (cells : Cells) (size : ℕ) (offsets : List ℕ) (seen : Seen)
     → SegmentsSoFar cells size offsets size offsets seen seen
 segments-first cells size offsets seen = record { bytes = []; told = refl; stand = λ more e. e; long = omega arith }
@@ -103,6 +104,7 @@ pub celled-one : (cells : Cells) (seen after : Seen) (n at : ℕ) (b : List ℕ)
     → (walk cells seen (celled_checks cells n at) ≡ Ok after) × HasLength (celled_bytes cells n at) n
 celled-one cells seen after n at b e w r = (rw e w, (b, rw e r, bytes-long cells n at b r))
 
+-- data that a value holds want no check and have no cell
 pub held-here : (cells : Cells) (seen : Seen) (value : KeyValue) → is_some (data_inside value) ≡ true
     → (walk cells seen (data_checks cells value) ≡ Ok seen)
     × Counts (λ (b : List ℕ). data_of cells value ≡ Ok b) (data_size cells.version) 0
@@ -131,6 +133,7 @@ pub record ValuesSoFar (cells : Cells) (offsets rest : List ℕ) (taken : List (
   pub knows : Knows taken (map item_name items)
   pub counted : total ≡ capped (sum_by (item_size cells.version) items)
 
+-- the same of values: none before the first, one more with each, all walked behind the last
 pub values-first : (cells : Cells) (offsets : List ℕ) (taken : List (List ℕ)) (seen : Seen) → taken ≡ []
     → ValuesSoFar cells offsets offsets taken 0 seen seen
 values-first cells offsets taken seen e =
@@ -140,6 +143,7 @@ values-first cells offsets taken seen e =
 abbrev pub ValueHere : Cells → ℕ → List (List ℕ) → List (List ℕ) → Item → Type 0
 ValueHere cells at old new v = (item_at cells at ≡ Ok v) × AddsName old new v.name
 
+-- a value's own cell and those of its data, counted together
 pub value-counts : (cells : Cells) (at : ℕ) (value : KeyValue) (old new : List (List ℕ)) (own held total : ℕ)
     → reading key_value_at cells at ≡ Ok value → AddsName old new value.name
     → own ≡ capped (cell (20 + name_bytes value.name))
@@ -206,6 +210,7 @@ pub no-values : (cells : Cells) (seen : Seen) (node : KeyNode) → node.value_co
 no-values cells seen node z = let n = values-none cells seen node z in
     (n.0, record { it = []; means = n.1; counted = refl })
 
+-- the list of values and the values, counted together, are a key's values
 pub values-counts : (cells : Cells) (node : KeyNode) (offsets : List ℕ) (list one total : ℕ)
     → values_of cells node ≡ items_at cells offsets → list ≡ capped (value_list_size (length offsets))
     → Counts (λ (vs : List Item). items_at cells offsets ≡ Ok vs) (sum_by (item_size cells.version)) one

@@ -38,6 +38,7 @@ pub first-part : {A B : Type 0} (r : Result A HiveKind) (f : A → Result B Hive
 first-part (Ok x) f y e = (x, refl, e)
 first-part (Err k) f y e = absurd cc
 
+-- a part that can be read passes its checks: the class, the descriptor, the data
 class-passes : (cells : Cells) (node : KeyNode) (b : List ℕ) → class_of cells node ≡ Ok b
     → AllPass cells (class_checks cells node)
 unfolding class_checks class_of
@@ -103,6 +104,7 @@ data-passes cells value b r = go (data_inside value) r
     go (Some d) r = tt
     go None r = celled-passes cells value.size value.offset b r
 
+-- a name unlike those before it passes the check of names
 fresh-passes : (cells : Cells) (names : List (List ℕ)) (at : ℕ) (name : List ℕ) (rest : List Check)
     → list_any (folds_same name) names ≡ false → AllPass cells rest → AllPass cells (name_check names at name ∷ rest)
 fresh-passes cells names at name rest e p = (rw e refl, p)
@@ -123,6 +125,7 @@ value-passes cells names at item r e =
     (fresh-passes cells names at v.0.name (data_checks cells v.0) (ap (λ n. list_any (folds_same n) names) same ∙ e)
     (data-passes cells v.0 d.0 d.1)))
 
+-- values that can be read in turn pass in turn, where their names are apart
 items-passes : (cells : Cells) (names : List (List ℕ)) (offsets : List ℕ) (items : List Item)
     → items_at cells offsets ≡ Ok items → Apart item_name names items
     → AllPass cells (values_in_turn cells names offsets)
@@ -159,6 +162,7 @@ values-passes cells node items r a = go (node.value_count == 0) r
         (below-passes cells (reading (offsets_in node.value_count) cells node.value_list) (values_in_turn cells [])
         l.0 l.1 (items-passes cells [] l.0 items l.2 a))
 
+-- lists that can be read pass, of either form
 leaves-passes : (cells : Cells) (lists offsets : List ℕ) → joined_at cells lists ≡ Ok offsets
     → AllPass cells (leaves_checks cells lists)
 leaves-passes cells [] offsets r = tt
@@ -209,6 +213,7 @@ abbrev counted : (List (List ℕ) → ℕ → List Check) → Cells → KeyNode 
 counted checks cells node at offsets =
     tests at (failing (not (length offsets == node.child_count)) Count) ∷ keys_in_turn checks cells [] offsets
 
+-- a node's children pass where its list is right and the keys in it pass
 children-passes : (checks : List (List ℕ) → ℕ → List Check) (cells : Cells) (node : KeyNode) (at : ℕ) (offsets : List ℕ)
     → ListsChildren cells node offsets → AllPass cells (keys_in_turn checks cells [] offsets)
     → AllPass cells (children_checks checks cells node at)

@@ -18,6 +18,8 @@ use Rattle.start_laws.proofs.GoneLemmas.{named_so_many, one_of_a_set, with_child
 
 -- ---- which plan it is
 
+-- a beginning's plan: LastKnownGood names the taken set, so that is copied under the free number first;
+-- or it names another one, and no set is copied
 pub data BeginCase (old : SelectNumbers) (usable : List ℕ) (on_good : Bool) (plan : SetPlan) : Type 0 where
   guarded : (free : ℕ) → free_number_of usable ≡ Some free → old.good ≡ taken_number old on_good
       → plan ≡ plan_with (taken_number old on_good) usable old (record (begun old on_good) { good = free })
@@ -27,6 +29,7 @@ pub data BeginCase (old : SelectNumbers) (usable : List ℕ) (on_good : Bool) (p
       → plan ≡ plan_with (taken_number old on_good) usable old (begun old on_good) []
       → BeginCase old usable on_good plan
 
+-- what a plan that is there tells: the taken number names a set, and which case it is
 pub record Begun (old : SelectNumbers) (usable : List ℕ) (on_good : Bool) (plan : SetPlan) : Type 0 where
   pub usable_one : has_number usable (taken_number old on_good) ≡ true
   pub kind : BeginCase old usable on_good plan
@@ -103,6 +106,7 @@ good_set t n k named low high is =
     ap (is_usable t) named ∙ usable_from t n low high (ap is_some is) in
     ap (λ b. cond b (set_of t (select_numbers_of t).good) None) usable ∙ ap (set_of t) named ∙ is
 
+-- LastKnownGood names this set, which can be used
 pub record GoodSet (t k : Tree) : Type 0 where
   pub usable : Usable t (select_numbers_of t).good
   pub is : set_of t (select_numbers_of t).good ≡ Some k
@@ -118,6 +122,7 @@ good_parts t k e = split (is_usable t (select_numbers_of t).good) refl e
 some_same : (a b : Tree) → Some a ≡ Some b → a ≡ b
 some_same a b e = cc
 
+-- the number Failed fits four bytes or is not written: it stays, or is the old Default, which fits
 failed_fits : (old : SelectNumbers) (on_good : Bool) → old.default < 2 ^ 32
     → Fitting old.failed (begun old on_good).failed
 failed_fits old on_good fits = split (on_good && not (old.default == taken_number old on_good))
@@ -126,6 +131,7 @@ failed_fits old on_good fits = split (on_good && not (old.default == taken_numbe
     split true = inl fits
     split false = inr refl
 
+-- what the steps leave where a guard is copied
 pub begins_guarded : (t u : Tree) (on_good : Bool) (free : ℕ)
     → has_number (usable_numbers_of t) (taken_number (select_numbers_of t) on_good) ≡ true
     → free_number_of (usable_numbers_of t) ≡ Some free
@@ -202,6 +208,7 @@ begins_guarded t u on_good free usable is same e =
       good,
     )
 
+-- what the steps leave where none is
 pub begins_plain : (t u : Tree) (on_good : Bool)
     → has_number (usable_numbers_of t) (taken_number (select_numbers_of t) on_good) ≡ true
     → ((select_numbers_of t).good ≡ taken_number (select_numbers_of t) on_good → ⊥)
@@ -247,6 +254,7 @@ begins_plain t u on_good usable other e =
           ));
     }
 
+-- what a beginning leaves, by the plan that was made
 pub begins : (version : HiveVersion) (t u : Tree) (on_good : Bool) (plan : SetPlan)
     → begin_plan_of (select_numbers_of t) (usable_numbers_of t) on_good ≡ Ok plan → stepped version t plan.steps ≡ Ok u
     → Begins t on_good plan.chosen u
@@ -300,6 +308,7 @@ nothing_to_do usable old new e =
     ++ not_written (codes "Failed") old.failed i ++ not_written (codes "LastKnownGood") old.good i in
     ap (λ s. deletions_of usable old s ++ writes_of old s) e ∙ (λ i. gone i ++ made i)
 
+-- where the tree stays as it was, the plan without a guard had nothing to write or delete
 plain_changes : (t u : Tree) (on_good : Bool) (usable : List ℕ)
     → ((select_numbers_of t).good ≡ taken_number (select_numbers_of t) on_good → ⊥)
     → (select_numbers_of u).current ≡ taken_number (select_numbers_of t) on_good → u ≡ t
@@ -312,6 +321,7 @@ plain_changes t u false usable other current same =
     nothing_to_do usable old (begun old false)
     (λ i. record { current = was i; default = old.default; failed = old.failed; good = old.good })
 
+-- so a plan with steps gives another tree
 pub begin_changes : (version : HiveVersion) (t u : Tree) (on_good : Bool) (plan : SetPlan)
     → begin_plan_of (select_numbers_of t) (usable_numbers_of t) on_good ≡ Ok plan → stepped version t plan.steps ≡ Ok u
     → (length plan.steps ≡ 0 → ⊥) → u ≡ t → ⊥
@@ -355,6 +365,7 @@ by_steps version t plan change (Ok v) is e =
     subst P q (record { plan = plan; is = refl; chosen = refl; numbers = refl; has_steps = refl; made = is })
 by_steps version t plan change (Err why) is e = absurd cc
 
+-- each change comes of a plan, by whether there is one
 pub by_plan : (version : HiveVersion) (t : Tree) (r : Result SetPlan SetStop) (change : SetChange)
     → planned version t r ≡ Ok change → Planned version t r change
 by_plan version t (Ok plan) change e = by_steps version t plan change (stepped version t plan.steps) refl e

@@ -7,6 +7,7 @@ use Rattle.std.proofs.lemmas.List.Elements.{Contains-append_left, Contains-appen
 use Rattle.start_model.specs.Demand.{Need, IsClosed, is_taken, automatic_of}
 use Rattle.dependencies.proofs.PulledLemmas.{is_taken-closed, is_taken-least_of_all}
 
+-- q is one of n numbers from a on, and passes
 record Listed (p : ℕ → Bool) (a n q : ℕ) : Type 0 where
   low : a ≤ q
   high : q < a + n
@@ -18,6 +19,7 @@ alone x q h = elim (Contains-push_cases [] x q h) [
   | inr same ↦ same
 ]
 
+-- a filtered range has only what is in the range and passes
 listed_from : (p : ℕ → Bool) (a n q : ℕ) → Contains (filter p (range_with_len a n)) q → Listed p a n q
 listed_from p a zero q h = absurd (omega (arith, h.1))
 listed_from p a (suc n) q h = split (p a) refl h (listed_from p (a + 1) n q)
@@ -57,6 +59,7 @@ listed_to p a (suc n) q low high h = split (p a) refl (λ above. listed_to p (a 
       | inr above ↦ more above
     ]
 
+-- what is taken is in each closed set, since the taken places are the least of them
 pub taken_is_in_each : (table : List Need) (q : ℕ) → Contains (automatic_of table) q
     → (q < length table) × ((set : ℕ → Bool) → IsClosed table set → set q ≡ true)
 taken_is_in_each table q h =
@@ -64,6 +67,7 @@ taken_is_in_each table q h =
     let within : q < length table = omega (arith, l.high) in
     (within, λ set closed. is_taken-least_of_all table set closed q within l.passes)
 
+-- what is in each closed set is taken, since the taken places are one of them
 pub in_each_is_taken : (table : List Need) (q : ℕ) → q < length table
     → ((set : ℕ → Bool) → IsClosed table set → set q ≡ true) → Contains (automatic_of table) q
 in_each_is_taken table q lt all =

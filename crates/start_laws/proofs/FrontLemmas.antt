@@ -26,6 +26,7 @@ whole_run r = record { lines = all_of r.lines; notes = all_of r.notes }
 nothing : {A : Type 0} (xs : List A) → IsFront xs []
 nothing xs = record { rest = xs; cut = refl }
 
+-- a front stays one where the same stands before both, and where the whole goes on
 behind_one : {A : Type 0} (xs front whole : List A) → IsFront whole front → IsFront (xs ++ whole) (xs ++ front)
 behind_one xs front whole f =
     record { rest = f.rest; cut = ap (λ l. xs ++ l) f.cut ∙ sym (append_assoc xs front f.rest) }
@@ -41,6 +42,7 @@ behind-front lines notes r s f =
 
 -- ---- an event
 
+-- more wakes and outcomes only lengthen what an act says and notes
 play-front : (act : Act) (wakes : List Woken) (outcomes : List Outcome) (w : List Woken) (o : List Outcome)
     → IsFrontOfRun (play act wakes outcomes) (play act (wakes ++ w) (outcomes ++ o))
 play-front (acts.done m) wakes outcomes w o = record { lines = all_of []; notes = all_of [] }
@@ -67,6 +69,7 @@ then-front go first whole (Some (m, ws, os)) f =
       notes = ahead_of first.notes whole.notes r.notes f.notes;
     }
 
+-- over these events more wakes and outcomes only lengthen what is said and noted
 Fronts : (Option ℕ → Choice) → List Event → Type 0
 Fronts choice es = (m : RunState) (wakes : List Woken) (outcomes : List Outcome) (w : List Woken) (o : List Outcome)
     → IsFrontOfRun (run_from choice es m wakes outcomes) (run_from choice es m (wakes ++ w) (outcomes ++ o))

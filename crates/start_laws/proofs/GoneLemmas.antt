@@ -39,6 +39,7 @@ none_is_found {X} p (x ∷ xs) h = split (p x) h (none_is_found p xs)
     split true le deep = absurd (omega arith)
     split false le deep = deep le
 
+-- without its first one, a list that had at most one has none
 none_is_left : {X : Type 0} (p : X → Bool) (xs : List X) → number p xs ≤ 1 → find p (without_first p xs) ≡ None
 none_is_left p [] h = refl
 none_is_left {X} p (x ∷ xs) h = split (p x) refl h (none_is_left p xs)
@@ -59,6 +60,7 @@ no_more {X} p q (x ∷ xs) = split (q x) (p x) refl (no_more p q xs)
     split false true is le = rw is (omega (arith, le))
     split false false is le = rw is le
 
+-- putting in one that does not pass leaves the number of those that do
 placed_no_more : (p : Tree → Bool) (t : Tree) → p t ≡ false → (ts : List Tree) → number p (placed t ts) ≡ number p ts
 placed_no_more p t h [] = rw h refl
 placed_no_more p t h (u ∷ us) = split (is_gt (folded_order (head u).name (head t).name)) (placed_no_more p t h us)
@@ -79,6 +81,7 @@ folds_back (x ∷ xs) (y ∷ ys) h =
     and_from _ (folds_same ys xs) (eq-eqb _ _ (sym p))
     (folds_back xs ys (and_right (folded_unit x == folded_unit y) _ h))
 
+-- where all others differ from a key in name, none of them has the name of that key
 other_names : (name : List ℕ) (k : Tree) (ks : List Tree) → is_named name k ≡ true
     → ((i : ℕ) (d : Tree) → i < length ks → folds_same (head (get_or ks i d)).name (head k).name ≡ false)
     → number (is_named name) ks ≤ 0
@@ -94,6 +97,7 @@ other_names name k (l ∷ ls) is h =
         (folds_back name (head k).name is)))
     split false both le = le
 
+-- where no two keys have one name, at most one has this name
 one_of_a_name : (name : List ℕ) (ks : List Tree) → KeysDiffer ks → number (is_named name) ks ≤ 1
 one_of_a_name name [] h = omega arith
 one_of_a_name name (k ∷ ks) h =
@@ -105,9 +109,11 @@ one_of_a_name name (k ∷ ks) h =
     split true is le = omega (arith, other_names name k ks is (λ i d lt. h 0 (suc i) d (omega arith) (omega arith)))
     split false is le = le
 
+-- so at most one child of a valid tree has a set's name
 pub one_of_a_set : (n : ℕ) (t : Tree) → IsValid t → named_so_many n t ≤ 1
 one_of_a_set n (key h ts) v = one_of_a_name (set_name n) (listed ts) v.keys.0.keys_differ
 
+-- a set that comes under another number changes nothing in this
 pub with_child-so_many : (n r : ℕ) (k t : Tree) → n ≤ 999 → r ≤ 999 → (n ≡ r → ⊥)
     → named_so_many n (with_child (set_name r) k t) ≡ named_so_many n t
 with_child-so_many n r k t h g ne =
@@ -126,6 +132,7 @@ without_set-so_many n r t =
       no_more (is_named (set_name n)) (is_named (set_name r)) (children t),
     )
 
+-- a set that stood once is gone when it is deleted
 without_set-gone : (n : ℕ) (t : Tree) → named_so_many n t ≤ 1 → set_of (without_set n t) n ≡ None
 unfolding without_set
 without_set-gone n t h =
@@ -149,6 +156,7 @@ still_gone n (r ∷ rs) t u none e =
     deleted-is r t one.middle (single (delete_key (set_name r ∷ [])) t one.middle one.front) in
     still_gone n rs one.middle u (ap (λ v. set_of v n) (sym is) ∙ without_set-still_gone n r t none) one.back
 
+-- each set whose number is among the deletions is gone behind them
 pub all_gone : (n : ℕ) (numbers : List ℕ) (t u : Tree) → has_number numbers n ≡ true → named_so_many n t ≤ 1
     → after_steps t (deletions numbers) ≡ Ok u → set_of u n ≡ None
 all_gone n [] t u h few e = absurd (false≢true h)
@@ -171,9 +179,11 @@ all_gone n (r ∷ rs) t u h few e =
 
 -- ---- a plan
 
+-- a number that a new one names is named by what stands there, since it fits four bytes
 carried : (new now m : ℕ) → (new < 2 ^ 32 → now ≡ new) → m ≤ 999 → (new == m) ≡ true → (now == m) ≡ true
 carried new now m f le is = let e : new ≡ m = eqb-true new m is in eq-eqb now m (f (omega arith) ∙ e)
 
+-- where each of four tests gives another one, one of the four gives one of the others
 one_of_four : (a b c d e f g h : Bool) → (a ≡ true → e ≡ true) → (b ≡ true → f ≡ true) → (c ≡ true → g ≡ true)
     → (d ≡ true → h ≡ true)
     → (a || (b || (c || (d || false)))) ≡ true → (e || (f || (g || (h || false)))) ≡ true
@@ -197,6 +207,7 @@ named_then t u old new m s le is =
     (carried new.good now.good m (λ fits. s.good (inl fits)) le)
     is
 
+-- the other way round: what none there names, none of the new numbers names
 pub unnamed_then : (t u : Tree) (old new : SelectNumbers) (m : ℕ) → Settles t u old new → m ≤ 999
     → has_number (four_of (select_numbers_of u)) m ≡ false → has_number (four_of new) m ≡ false
 unnamed_then t u old new m s le h = split (has_number (four_of new) m) refl
@@ -227,6 +238,7 @@ both_so true true h g = absurd (false≢true (sym g))
 both_so true false h g = refl
 both_so false b h g = absurd (false≢true h)
 
+-- a set that an old number named and no new one names is gone behind the plan's deletions and writes
 pub plan_gone : (usable : List ℕ) (old new : SelectNumbers) (t middle u : Tree) (m : ℕ) → has_number usable m ≡ true
     → has_number (four_of old) m ≡ true → has_number (four_of new) m ≡ false
     → named_so_many m t ≤ 1 → after_steps t (deletions_of usable old new) ≡ Ok middle

@@ -28,6 +28,7 @@ good_stays trees more clones later set g = (
   ),
 )
 
+-- a set that is good behind a front of a run is good behind the whole run
 pub good_in_front : (first whole : RunResult) (set : Tree) → IsFrontOfRun first whole
     → IsGoodSet (held_in first.notes) (saved_in first.notes) set
     → IsGoodSet (held_in whole.notes) (saved_in whole.notes) set

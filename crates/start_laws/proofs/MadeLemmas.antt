@@ -57,6 +57,7 @@ goes r t h =
     (of_children (without_first (is_named (set_name r))) t)
     (some_not_none (find_key (set_name r ∷ []) t) h, tt)
 
+-- each number is above all before it, so none is listed twice
 abbrev Rises : List ℕ → Type 0
 Rises [] = Unit {0}
 Rises (n ∷ ns) = AllByRecursion (λ m. n < m) ns × Rises ns
@@ -87,6 +88,7 @@ rises_range : (a len : ℕ) → Rises (range_with_len a len)
 rises_range a zero = tt
 rises_range a (suc len) = (above_range a (a + 1) len (omega arith), rises_range (a + 1) len)
 
+-- the numbers of sets rise, and so do any chosen among them
 rises_among : (p : ℕ → Bool) (t : Tree) → Rises (filter p (usable_numbers_of t))
 unfolding usable_numbers_of
 rises_among p t = rises_filter p (filter (is_usable t) (range_with_len 1 999))
@@ -108,6 +110,7 @@ has_small n (x ∷ xs) h e = split (x == n) refl e (has_small n xs h.1)
     split true is g deep = let same : x ≡ n = eqb-true x n is in let first : x ≤ 999 = h.0.1 in omega arith
     split false is g deep = deep g
 
+-- sets that are all there can be deleted one after the other, since no deletion removes another one
 all_go : (numbers : List ℕ) (t : Tree) → Rises numbers → Small numbers
     → ((n : ℕ) → has_number numbers n ≡ true → is_some (set_of t n) ≡ true)
     → (u : Tree) × (after_steps t (deletions numbers) ≡ Ok u)
@@ -135,6 +138,7 @@ is_set name number t short there =
     (at_key (codes "Select" ∷ []) (of_items (with_item name 4 (to_le_bytes w32 number))) t)
     (some_not_none (find_key (codes "Select" ∷ []) t) there, (short, (refl, tt)))
 
+-- steps were made, and Select is still there
 record Wrote (t : Tree) (steps : List Step) : Type 0 where
   tree : Tree
   made : after_steps t steps ≡ Ok tree
@@ -156,6 +160,7 @@ one_written name old new t short there = split (old == new)
           (with_value-renumbers name new t there).there there;
     }
 
+-- the four writes can be made, each behind the one before
 pub writes_made : (old new : SelectNumbers) (t : Tree) → is_some (select_key t) ≡ true
     → (u : Tree) × (after_steps t (writes_of old new) ≡ Ok u)
 writes_made old new t there =
@@ -185,12 +190,14 @@ good_name n h = rw (
   no_backslash (n % 10) (omega arith),
 ) refl
 
+-- a set that is there is a child, and one that is not there is none
 there_is_child : (t : Tree) (n : ℕ) → is_some (set_of t n) ≡ true → not (has_child (set_name n) t) ≡ false
 there_is_child t n h = ap not (ap is_some (sym (set_found t n)) ∙ h)
 
 no_child : (t : Tree) (n : ℕ) → set_of t n ≡ None → has_child (set_name n) t ≡ false
 no_child t n e = ap is_some (sym (set_found t n) ∙ e)
 
+-- a set can be copied under a free number
 comes : (n free : ℕ) (k t : Tree) → free ≤ 999 → set_of t n ≡ Some k → set_of t free ≡ None
     → after_step (copy_child (set_name n) (set_name free)) t ≡ Ok (with_child (set_name free) k t)
 comes n free k t le is none =
@@ -201,6 +208,7 @@ comes n free k t le is none =
     (there_is_child t n (ap is_some is), (good_name free le, (refl, (no_child t free none, tt))))
     ∙ ap (λ o. Ok (option_map_or (λ k. with_child (set_name free) k t) o t)) there
 
+-- a clone of at most 511 levels can be added there
 is_added : (free : ℕ) (k t : Tree) → free ≤ 999 → set_of t free ≡ None → levels k ≤ 511
     → after_step (add_child (set_name free) k) t ≡ Ok (with_child (set_name free) k t)
 is_added free k t le none deep =
@@ -231,6 +239,7 @@ settled_so from t old new sets there =
     let r = retired numbers t gone.0 small gone.1 in
     (gone.0, (gone.1, writes_made old new gone.0 (ap is_some r.select ∙ there)))
 
+-- a plan can be made behind its first steps, which leave Select and the sets that retire
 plan_made : (from t m : Tree) (old new : SelectNumbers) (first : List Step) (chosen : ℕ) → after_steps t first ≡ Ok m
     → ((n : ℕ) → n ≤ 999 → is_usable from n ≡ true → is_some (set_of m n) ≡ true) → is_some (select_key m) ≡ true
     → Made t (plan_with chosen (usable_numbers_of from) old new first).steps
@@ -272,6 +281,7 @@ unfolding select_key
 taken_there t true h = select_there (codes "LastKnownGood") (find_key (codes "Select" ∷ []) t) h
 taken_there t false h = select_there (codes "Default") (find_key (codes "Select" ∷ []) t) h
 
+-- the steps of a beginning can be made, guarded or not
 begin_made : (t : Tree) (on_good : Bool) (plan : SetPlan)
     → has_number (usable_numbers_of t) (taken_number (select_numbers_of t) on_good) ≡ true
     → BeginCase (select_numbers_of t) (usable_numbers_of t) on_good plan → Made t plan.steps
@@ -298,6 +308,7 @@ begin_made t on_good plan usable (plain other p) =
     subst P (sym p) (plan_made t t t old (begun old on_good) [] n refl (λ j le is. (usable_parts t j is).there)
     (taken_there t on_good un.least))
 
+-- so a beginning is refused only for size
 pub begin_only_full : (version : HiveVersion) (t : Tree) (on_good : Bool) (plan : SetPlan) (why : Refusal)
     → begin_plan_of (select_numbers_of t) (usable_numbers_of t) on_good ≡ Ok plan
     → stepped version t plan.steps ≡ Err why → why ≡ full
@@ -306,6 +317,7 @@ begin_only_full version t on_good plan why is e =
     let m = begin_made t on_good plan b.usable_one b.kind in
     made_or_full version plan.steps t m.0 why m.1 e
 
+-- and so is a save, where Select is there and the clone is not too deep
 pub save_only_full : (version : HiveVersion) (t clone : Tree) (plan : SetPlan) (why : Refusal)
     → is_some (find_key (codes "Select" ∷ []) t) ≡ true → levels clone ≤ 511
     → save_plan_of (select_numbers_of t) (usable_numbers_of t) clone ≡ Ok plan → stepped version t plan.steps ≡ Err why

@@ -57,6 +57,7 @@ number_is n m a b c = omega arith
 pub digits_of : ℕ → List ℕ
 digits_of n = (48 + n / 100) ∷ (48 + n / 10 % 10) ∷ (48 + n % 10) ∷ []
 
+-- names of sets that fold alike have one number
 pub one_number : (n m : ℕ) → n ≤ 999 → m ≤ 999 → folds_same (set_name n) (set_name m) ≡ true → n ≡ m
 one_number n m h g e =
     let first : Bool = folded_unit (48 + n / 100) == folded_unit (48 + m / 100) in

@@ -19,6 +19,7 @@ next_is started waiting p e = record {
   first = λ k d lt. (position-Some (is_ready started) waiting p d e).2 k lt;
 }
 
+-- the first place that passes, counted from i, is found
 place_from : (t : Need → Bool) (i : ℕ) (xs : List Need) (k : ℕ) → k < length xs
     → ((d : Need) → t (get_or xs k d) ≡ true) → ((j : ℕ) (d : Need) → j < k → t (get_or xs j d) ≡ false)
     → position_from t i xs ≡ Some (i + k)

@@ -98,6 +98,7 @@ is_free usable n e =
 
 -- ---- what becomes of a beginning and a save then
 
+-- a beginning that needs a guard has no plan then
 pub not_guarded : (numbers : SelectNumbers) (usable : List ℕ) (on_good : Bool) → AllTaken usable
     → has_number usable (taken_number numbers on_good) ≡ true → numbers.good ≡ taken_number numbers on_good
     → begin_plan_of numbers usable on_good ≡ Err NoFreeNumber

@@ -11,6 +11,7 @@ use Rattle.start_laws.proofs.SaveLemmas.{save_case, saves}
 
 -- ---- a beginning
 
+-- the numbers of a beginning's plan are read back from the tree, if Default was below 2^32
 plan_numbers : (version : HiveVersion) (t u : Tree) (on_good : Bool) (plan : SetPlan)
     → begin_plan_of (select_numbers_of t) (usable_numbers_of t) on_good ≡ Ok plan → stepped version t plan.steps ≡ Ok u
     → (select_numbers_of t).default < 2 ^ 32 → plan.numbers ≡ select_numbers_of u
@@ -46,6 +47,7 @@ plan_numbers version t u on_good plan is made fits =
         sym (s.unguarded (λ e. other (e ∙ s.taken))) in
         ap (λ (q : SetPlan). q.numbers) p ∙ (λ i. record { current = n i; default = d i; failed = f i; good = l i })
 
+-- the same of a beginning, whose line `select` says them
 pub begin_numbers : (version : HiveVersion) (t : Tree) (on_good : Bool) (change : SetChange)
     → begin_of version t on_good ≡ Ok change → (select_numbers_of t).default < 2 ^ 32
     → change.numbers ≡ select_numbers_of change.tree
@@ -55,6 +57,7 @@ begin_numbers version t on_good change e fits =
 
 -- ---- a save
 
+-- the numbers of a save are read back from its tree, whatever they are
 pub save_numbers : (version : HiveVersion) (t clone : Tree) (change : SetChange) → save_of version t clone ≡ Ok change
     → change.numbers ≡ select_numbers_of change.tree
 save_numbers version t clone change e =

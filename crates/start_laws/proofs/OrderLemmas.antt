@@ -56,6 +56,7 @@ all_have P xs z h c = subst P c.2 (All-from_recursion P xs h c.0 z c.1)
 
 -- ---- putting a rank in its place changes no members
 
+-- putting a rank in its place loses no member and adds none
 placed_has : (r : Rank) (rs : List Rank) (z : Rank) → Contains (r ∷ rs) z → Contains (placed r rs) z
 placed_has r [] z h = h
 placed_has r (s ∷ rs) z h = by_case (is_before r s) (placed_has r rs z)
@@ -110,9 +111,11 @@ ordered_only (r ∷ rs) z h = elim (first_or_later r (ordered_of rs) z (placed_o
 
 -- ---- lists in order
 
+-- no rank is before another that is before it
 not_both : (x y : Rank) → is_before x y ≡ true → is_before y x ≡ true → ⊥
 not_both x y h g = false≢true (sym (rank_weak.one_way x y h) ∙ g)
 
+-- each head would be before the other one, were they two
 same_first : (x : Rank) (xs : List Rank) (y : Rank) (ys : List Rank) → Strict (x ∷ xs) → Strict (y ∷ ys)
     → Contains (y ∷ ys) x → Contains (x ∷ xs) y → x ≡ y
 same_first x xs y ys h g f b =
@@ -136,6 +139,7 @@ rest_in x xs y ys h e f z c =
       | inr rest ↦ rest
     ]
 
+-- so the lists are one, head by head
 same_lists : (xs ys : List Rank) → Strict xs → Strict ys → ((z : Rank) → Contains xs z → Contains ys z)
     → ((z : Rank) → Contains ys z → Contains xs z) → xs ≡ ys
 same_lists [] [] h g f b = refl

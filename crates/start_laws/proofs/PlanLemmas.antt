@@ -12,6 +12,7 @@ use Rattle.start_laws.proofs.StepLemmas.{ok_is, select_key, KeepsOthers, without
 
 -- ---- sets retire
 
+-- every set but those of the numbers is kept, and so is Select
 pub record Retires (t u : Tree) (numbers : List ℕ) : Type 0 where
   pub sets : (n : ℕ) → n ≤ 999 → has_number numbers n ≡ false → set_of u n ≡ set_of t n
   pub select : select_key u ≡ select_key t
@@ -49,6 +50,7 @@ retired (r ∷ rs) t u small e =
 abbrev pub Fitting : ℕ → ℕ → Type 0
 Fitting old new = (new < 2 ^ 32) ⊎ (old ≡ new)
 
+-- a number is written, and no set and no other number is touched
 pub record Rewrites (t u : Tree) (name : List ℕ) (old new : ℕ) : Type 0 where
   pub sets : (n : ℕ) → set_of u n ≡ set_of t n
   pub here : old ≡ select_number name (select_key t) → Fitting old new → select_number name (select_key u) ≡ new
@@ -137,6 +139,7 @@ writes_keep_sets old new t u e n =
 
 -- ---- deletions and numbers
 
+-- the sets that the new numbers name, and those that no old one named, are kept; the numbers are the new ones
 pub record Settles (t u : Tree) (old new : SelectNumbers) : Type 0 where
   pub sets : (n : ℕ) → n ≤ 999 → has_number (four_of new) n ≡ true → set_of u n ≡ set_of t n
   pub others : (n : ℕ) → n ≤ 999 → has_number (four_of old) n ≡ false → set_of u n ≡ set_of t n
@@ -150,6 +153,7 @@ stays true true h = refl
 stays true false h = absurd (false≢true h)
 stays false b h = refl
 
+-- the deletions of a plan and then its writes leave that
 pub settled : (usable : List ℕ) (old new : SelectNumbers) (t middle u : Tree) → Small (retired_of usable old new)
     → select_numbers_of t ≡ old
     → after_steps t (deletions_of usable old new) ≡ Ok middle → after_steps middle (writes_of old new) ≡ Ok u

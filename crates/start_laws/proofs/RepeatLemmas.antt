@@ -69,6 +69,7 @@ front_less n = grind (arith, nat_tests)
 front_greater : (n : ℕ) → nat_cmp (suc n) 0 ≡ Greater
 front_greater n = grind (arith, nat_tests)
 
+-- two places compare alike in two lists whose heads test alike, if they do in the tails
 heads : (a b : Bool) (m n k l : ℕ) → (a ≡ false → b ≡ false → nat_cmp m n ≡ nat_cmp k l)
     → nat_cmp (cond a 0 (suc m)) (cond b 0 (suc n)) ≡ nat_cmp (cond a 0 (suc k)) (cond b 0 (suc l))
 heads true true m n k l h = refl
@@ -78,6 +79,7 @@ heads false false m n k l h = shift m n ∙ h refl refl ∙ sym (shift k l)
 
 -- ---- without some that do not pass
 
+-- leaving out what passes neither test changes the two places, but not which is first
 thinned : {X : Type 0} (q p r : X → Bool) (xs : List X) → ((x : X) → q x ≡ false → p x ≡ false)
     → ((x : X) → q x ≡ false → r x ≡ false)
     → nat_cmp (at p (filter q xs)) (at r (filter q xs)) ≡ nat_cmp (at p xs) (at r xs)
@@ -94,6 +96,7 @@ thinned q p r (x ∷ xs) g h = by_case (thinned q p r xs g h) (q x) refl
         ∙ ap (λ a. nat_cmp (cond a 0 (suc (at p xs))) (suc (at r xs))) (sym (g x e))
         ∙ ap (λ b. nat_cmp (cond (p x) 0 (suc (at p xs))) (cond b 0 (suc (at r xs)))) (sym (h x e))
 
+-- leaving out what does not pass changes nothing that is found
 find_thinned : {X : Type 0} (q p : X → Bool) (xs : List X) → ((x : X) → q x ≡ false → p x ≡ false)
     → find p (filter q xs) ≡ find p xs
 find_thinned q p [] g = refl
@@ -120,6 +123,7 @@ not_named (Some name) n m h g = by_case (folds_same name m) (folds_same n m) ref
     by_case true false e f g = absurd (false≢true (sym g))
     by_case false b e f g = refl
 
+-- so two groups compare by the first names as by all names
 once : (g h : Option (List ℕ)) (ns : List (List ℕ))
     → nat_cmp (at (named g) (first_names ns)) (at (named h) (first_names ns))
     ≡ nat_cmp (at (named g) ns) (at (named h) ns)
@@ -144,6 +148,7 @@ found g (n ∷ ns) = by_case (found g ns) (named g n) refl
 
 -- ---- ranks
 
+-- a group's place in the orders is its first place among the names
 place_is : (lists : Option Tree) (ns : List (List ℕ)) (g : Option (List ℕ))
     → group_place (map (order_of lists) ns) g ≡ at (named g) ns
 place_is lists ns None = map_length (order_of lists) ns ∙ sym (at_none ns)
@@ -151,6 +156,7 @@ place_is lists ns (Some name) =
     first_is (λ (o : GroupOrder). folds_same name o.name) (map (order_of lists) ns)
     ∙ at_map (order_of lists) (λ (o : GroupOrder). folds_same name o.name) ns
 
+-- two groups compare alike, whether or not repeated names are left out
 groups_alike : (lists : Option Tree) (ns : List (List ℕ)) (g h : Option (List ℕ))
     → nat_cmp (group_place (map (order_of lists) (first_names ns)) g)
     (group_place (map (order_of lists) (first_names ns)) h)
@@ -162,10 +168,12 @@ groups_alike lists ns g h =
     ∙ ap (λ m. nat_cmp m (at (named h) ns)) (sym (place_is lists ns g))
     ∙ ap (nat_cmp (group_place (map (order_of lists) ns) g)) (sym (place_is lists ns h))
 
+-- the place of a tag within a group's order
 abbrev tag_in : Option ℕ → Option GroupOrder → ℕ
 tag_in tag o = option_map_or
     (λ (o : GroupOrder). option_map_or (λ t. first_place (λ x. nat_eq x t) o.tags) tag (length o.tags)) o 0
 
+-- it depends on the first order of that name alone
 tag_by_name : (lists : Option Tree) (ns : List (List ℕ)) (g : Option (List ℕ)) (tag : Option ℕ)
     → tag_place_in (map (order_of lists) ns) (group_place (map (order_of lists) ns) g) tag
     ≡ tag_in tag (option_map (order_of lists) (find (named g) ns))
@@ -173,6 +181,7 @@ tag_by_name lists ns g tag =
     ap (λ p. tag_place_in (map (order_of lists) ns) p tag) (place_is lists ns g)
     ∙ ap (tag_in tag) (got (order_of lists) (named g) ns)
 
+-- so it is the same, whether or not repeated names are left out
 tags_alike : (lists : Option Tree) (ns : List (List ℕ)) (g : Option (List ℕ)) (tag : Option ℕ) (counts : Bool)
     → tag_place (map (order_of lists) (first_names ns)) g tag counts ≡ tag_place (map (order_of lists) ns) g tag counts
 tags_alike lists ns g tag false = refl

@@ -23,12 +23,14 @@ pub possible_by : (images : List Image) (wakes : List Woken) (ps : List Possible
     → ArePossible wakes ps
 possible_by images wakes ps f = fits_possible images wakes ps f
 
+-- each wake of a report is one that the run says could be
 pub report-possible : (choice : Option ℕ → Choice) (script : List Event) (placed : Woken) (images : List Image)
     (left : Image → Type 0) (text : List ℕ) (r : Report (run_of choice script placed) images left text)
     → ArePossible r.woken (woke_in (run_of choice script placed r.woken (outcomes_of text)).notes)
 report-possible choice script placed images left text r =
     fits_possible images r.woken (woke_in (run_of choice script placed r.woken (outcomes_of text)).notes) r.fits
 
+-- the outcomes that the run notes are those that the text tells
 pub report-ended : (choice : Option ℕ → Choice) (script : List Event) (placed : Woken) (images : List Image)
     (left : Image → Type 0) (text : List ℕ) (r : Report (run_of choice script placed) images left text)
     → ended_in (run_of choice script placed r.woken (outcomes_of text)).notes ≡ outcomes_of text
@@ -36,6 +38,7 @@ report-ended choice script placed images left text r =
     let t = run_of-takes choice script placed r.woken (outcomes_of text) r.last [] [] r.taken in
     t.noted ∙ sym (append-nil t.ended) ∙ sym t.outcomes_are
 
+-- where the text tells no stop, the report's run is the quiet run
 pub report-quiet : (choice : Option ℕ → Choice) (script : List Event) (placed : Woken) (images : List Image)
     (left : Image → Type 0) (text : List ℕ) (r : Report (run_of choice script placed) images left text)
     → AllFinished (outcomes_of text)
@@ -44,12 +47,14 @@ report-quiet choice script placed images left text r all =
     run_of-quiet choice script placed r.woken (outcomes_of text) r.last [] [] r.taken
     (report-possible choice script placed images left text r) all
 
+-- its text is then that of the quiet run's lines
 pub report-quiet_text : (choice : Option ℕ → Choice) (script : List Event) (placed : Woken) (images : List Image)
     (left : Image → Type 0) (text : List ℕ) → Report (run_of choice script placed) images left text
     → AllFinished (outcomes_of text) → text ≡ text_of (quiet_run_of choice script placed).lines
 report-quiet_text choice script placed images left text r all =
     r.lines ∙ ap text_of (report-quiet choice script placed images left text r all).lines
 
+-- and what is left of the disk loads as the quiet run's last state
 pub report-quiet_loads : (choice : Option ℕ → Choice) (script : List Event) (placed : Woken) (images : List Image)
     (left : Image → Type 0) (text : List ℕ) → Report (run_of choice script placed) images left text
     → AllFinished (outcomes_of text) → (c : Image) → left c → MayLoad (quiet_run_of choice script placed).state.disk c

@@ -25,6 +25,7 @@ same_on : (a b c : Tree) → SameButNumbers b a → SameButNumbers c b → SameB
 same_on a b c f g = record
     { own = g.own ∙ f.own; keys = g.keys ∙ f.keys; items = λ name h. g.items name h ∙ f.items name h }
 
+-- a tree keeps its own rest; what each of two changes keeps, both keep
 pub rest_itself : (t : Tree) → KeepsRest t t
 rest_itself t = record { root = refl; paths = λ name path h. refl; select = λ old is. (old, (is, same_itself old)) }
 
@@ -42,6 +43,7 @@ rest_on t m u f g = record {
 abbrev pub Keeps : Step → Type 0
 Keeps s = (t u : Tree) → after_step s t ≡ Ok u → KeepsRest t u
 
+-- steps that each keep the rest keep it together
 pub steps_keep : (steps : List Step) (t u : Tree) → AllByRecursion Keeps steps → after_steps t steps ≡ Ok u
     → KeepsRest t u
 steps_keep [] t u h e = let P : Tree → Type 0 = λ v. KeepsRest t v in subst P (ok_is t u e) (rest_itself t)
@@ -60,6 +62,7 @@ keep_both (x ∷ xs) ys h g = (h.0, keep_both xs ys h.1 g)
 head-of_children : (change : List Tree → List Tree) (t : Tree) → head (of_children change t) ≡ head t
 head-of_children change (key h ts) = refl
 
+-- a change of the root's children keeps the rest if it leaves other names and Select's own rest
 children_rest : (change : List Tree → List Tree) (t : Tree)
     → ((name : List ℕ) → IsOther name → find (is_named name) (change (children t)) ≡ find (is_named name) (children t))
     → ((old : Tree) → select_key t ≡ Some old
@@ -124,6 +127,7 @@ copy_keeps n r low high t u e = let P : Tree → Type 0 = λ v. KeepsRest t v in
 
 -- ---- a number is written
 
+-- setting one of the four numbers changes no other value of Select, and none of its keys
 same_but : (name bytes : List ℕ) → ((m : List ℕ) → names_a_number m ≡ false → folds_same m name ≡ false) → (s : Tree)
     → SameButNumbers (of_items (with_item name 4 bytes) s) s
 same_but name bytes other (key h ts) =
@@ -208,6 +212,7 @@ writes_keep old new =
 
 -- ---- a plan
 
+-- a plan keeps the rest: its first steps, the deletions, the writes
 pub plan_keeps : (usable : List ℕ) (old new : SelectNumbers) (first : List Step) (t u : Tree)
     → Small (retired_of usable old new) → AllByRecursion Keeps first
     → after_steps t (first ++ deletions_of usable old new ++ writes_of old new) ≡ Ok u → KeepsRest t u

@@ -16,6 +16,7 @@ use Rattle.start_laws.proofs.BeginLemmas.{plan_is, names_good, word, good_set, b
 
 -- ---- which plan it is
 
+-- the one plan of a save: the clone under the free number, which LastKnownGood then is
 pub record SaveCase (old : SelectNumbers) (usable : List ℕ) (clone : Tree) (plan : SetPlan) : Type 0 where
   pub free : ℕ
   pub is : free_number_of usable ≡ Some free
@@ -44,6 +45,7 @@ one_more false true c d h = refl
 one_more false false true d h = refl
 one_more false false false d h = absurd (false≢true h)
 
+-- what the steps of that plan leave
 saves_so : (t clone u : Tree) (free : ℕ) → free_number_of (usable_numbers_of t) ≡ Some free
     → after_steps t (plan_with free (usable_numbers_of t) (select_numbers_of t)
     (record (select_numbers_of t) { good = free }) (add_child (set_name free) clone ∷ [])).steps ≡ Ok u
@@ -95,6 +97,7 @@ saves_so t clone u free is e =
           e;
     }
 
+-- what a save leaves, by the plan that was made
 pub saves : (version : HiveVersion) (t clone u : Tree) (plan : SetPlan)
     → save_plan_of (select_numbers_of t) (usable_numbers_of t) clone ≡ Ok plan → stepped version t plan.steps ≡ Ok u
     → Saves t clone plan.chosen u
@@ -105,6 +108,7 @@ saves version t clone u plan is made =
     subst P (ap (λ (q : SetPlan). q.chosen) (sym c.plan_is))
     (saves_so t clone u c.free c.is (ap (λ (q : SetPlan). after_steps t q.steps) (sym c.plan_is) ∙ all))
 
+-- a save never gives the same tree, since the set under the free number is new
 pub save_changes : (version : HiveVersion) (t clone u : Tree) (plan : SetPlan)
     → save_plan_of (select_numbers_of t) (usable_numbers_of t) clone ≡ Ok plan → stepped version t plan.steps ≡ Ok u
     → u ≡ t → ⊥

@@ -20,6 +20,7 @@ use Rattle.start_laws.proofs.FindLemmas.{find-at_first_other, find-at_first, fin
 pub ok_is : (a b : Tree) → ◌≡◌ {A = Result Tree Refusal} (Ok a) (Ok b) → a ≡ b
 ok_is a b e = cc
 
+-- where no test refused, the tree is the one that was to be made
 pub unless_ok : (tests : List (Bool × Refusal)) (x u : Tree) → unless tests x ≡ Ok u → x ≡ u
 unless_ok [] x u e = ok_is x u e
 unless_ok (test ∷ tests) x u e = split test.0 e (unless_ok tests x u)
@@ -41,6 +42,7 @@ pub some_key : (o : Option Tree) → option_and_then (find_key []) o ≡ o
 some_key None = refl
 some_key (Some t) = refl
 
+-- a set, and Select, is the first child of that name
 pub set_found : (t : Tree) (n : ℕ) → set_of t n ≡ find (is_named (set_name n)) (children t)
 set_found t n = some_key (find (is_named (set_name n)) (children t))
 
@@ -56,6 +58,7 @@ pub children-of_children : (change : List Tree → List Tree) (t : Tree)
     → children (of_children change t) ≡ change (children t)
 children-of_children change (key h ts) = listed_trees (change (listed ts))
 
+-- a change of the children that finds the same child of a name leaves that set, and so Select
 set_kept : (change : List Tree → List Tree) (t : Tree) (n : ℕ)
     → find (is_named (set_name n)) (change (children t)) ≡ find (is_named (set_name n)) (children t)
     → set_of (of_children change t) n ≡ set_of t n
@@ -78,6 +81,7 @@ pub record KeepsOthers (t u : Tree) (number : ℕ) : Type 0 where
 unfoldable pub without_set : ℕ → Tree → Tree
 without_set r t = of_children (without_first (is_named (set_name r))) t
 
+-- the tree without a set has all other sets, and Select
 pub without_set-keeps : (r : ℕ) (t : Tree) → r ≤ 999 → KeepsOthers t (without_set r t) r
 unfolding without_set
 without_set-keeps r t h = record {
@@ -89,6 +93,7 @@ without_set-keeps r t h = record {
       (λ x is. apart (codes "Select") (set_name r) (head x).name (select_is_no_set r) is) (children t));
 }
 
+-- a deletion that was not refused made that tree; so below of a copy, an addition and a write
 pub deleted-is : (r : ℕ) (t u : Tree) → after_step (delete_key (set_name r ∷ [])) t ≡ Ok u → without_set r t ≡ u
 unfolding without_set
 deleted-is r t u e = unless_ok
@@ -103,6 +108,7 @@ name_of-renamed name (key h ts) = refl
 named_so : (name : List ℕ) (k : Tree) → is_named name (renamed name k) ≡ true
 named_so name k = ap (folds_same name) (name_of-renamed name k) ∙ folds_itself name
 
+-- a child that comes under a set's name leaves all other sets, and Select
 pub with_child-keeps : (r : ℕ) (k t : Tree) → r ≤ 999 → KeepsOthers t (with_child (set_name r) k t) r
 with_child-keeps r k t h =
     let new : Tree = renamed (set_name r) k in
@@ -115,6 +121,7 @@ with_child-keeps r k t h =
           (ap (folds_same (codes "Select")) (name_of-renamed (set_name r) k) ∙ select_is_no_set r) (children t));
     }
 
+-- and stands there, where no set stood
 pub with_child-adds : (r : ℕ) (k t : Tree) → set_of t r ≡ None
     → set_of (with_child (set_name r) k t) r ≡ Some (renamed (set_name r) k)
 with_child-adds r k t e =
@@ -143,6 +150,7 @@ added-is r k t u e = unless_ok
 pub name_of-of_items : (change : List Item → List Item) (t : Tree) → (head (of_items change t)).name ≡ (head t).name
 name_of-of_items change (key h ts) = refl
 
+-- the tree with a number of Select written, as four bytes
 unfoldable pub with_value : List ℕ → ℕ → Tree → Tree
 with_value name number t =
     of_children (at_first (is_named (codes "Select")) (of_items (with_item name 4 (to_le_bytes w32 number)))) t
@@ -158,6 +166,7 @@ with_value-sets name number t n =
     (λ x is. ap (folds_same (set_name n)) (name_of-of_items (with_item name 4 (to_le_bytes w32 number)) x) ∙ other x is)
     (children t))
 
+-- the values of Select are the old ones with that one set
 pub with_value-select : (name : List ℕ) (number : ℕ) (t : Tree)
     → select_key (with_value name number t)
     ≡ option_map (of_items (with_item name 4 (to_le_bytes w32 number))) (select_key t)
@@ -211,6 +220,7 @@ number_other m name bytes None h = refl
 number_other m name bytes (Some (key g ts)) h =
     ap (λ o. unwrap_or (option_and_then dword_in o) 0) (item_other m name bytes g.values h)
 
+-- a number that fits four bytes is read back as it was written
 number_same : (name : List ℕ) (number : ℕ) (o : Option Tree) → is_some o ≡ true → number < 2 ^ 32
     → select_number name (option_map (of_items (with_item name 4 (to_le_bytes w32 number))) o) ≡ number
 number_same name number None there fits = absurd (false≢true there)
@@ -228,6 +238,7 @@ some_mapped : (f : Tree → Tree) (o : Option Tree) → is_some o ≡ true → i
 some_mapped f None h = h
 some_mapped f (Some t) h = refl
 
+-- what writing a number leaves, where Select is there
 pub with_value-renumbers : (name : List ℕ) (number : ℕ) (t : Tree) → is_some (select_key t) ≡ true
     → Renumbers t (with_value name number t) name number
 with_value-renumbers name number t there = record {
@@ -252,6 +263,7 @@ not_none : (o : Option Tree) → is_none o ≡ false → is_some o ≡ true
 not_none None h = absurd (false≢true (sym h))
 not_none (Some t) h = refl
 
+-- a number that was written found Select there
 pub value_set-there : (name : List ℕ) (number : ℕ) (t u : Tree)
     → after_step (set_value (codes "Select" ∷ []) name 4 (to_le_bytes w32 number)) t ≡ Ok u
     → is_some (select_key t) ≡ true
@@ -261,6 +273,7 @@ value_set-there name number t u e =
 
 -- ---- steps in order
 
+-- steps in order were made over a tree in between
 pub record Parted (t u : Tree) (xs ys : List Step) : Type 0 where
   pub middle : Tree
   pub front : after_steps t xs ≡ Ok middle
@@ -281,6 +294,7 @@ single s t u e = split (after_step s t) refl e
     split (Ok v) is same = is ∙ same
     split (Err why) is same = absurd cc
 
+-- steps that were made were made as their front and then their back
 pub parted : (xs ys : List Step) (t u : Tree) → after_steps t (xs ++ ys) ≡ Ok u → Parted t u xs ys
 parted [] ys t u e = record { middle = t; front = refl; back = e }
 parted (x ∷ xs) ys t u e =
@@ -297,6 +311,7 @@ too_large_or : (b : Bool) (v u : Tree) → cond b (Err full) (Ok v) ≡ Ok u →
 too_large_or true v u e = absurd cc
 too_large_or false v u e = ok_is v u e
 
+-- a plan that was not refused made each of its steps
 pub steps_made : (version : HiveVersion) (steps : List Step) (t u : Tree) → stepped version t steps ≡ Ok u
     → after_steps t steps ≡ Ok u
 unfolding edited

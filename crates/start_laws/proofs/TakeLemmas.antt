@@ -23,6 +23,7 @@ same_left a b e = cc
 
 -- ---- an event
 
+-- an act that ended took a front of its wakes and outcomes, and noted each of them
 play-takes : (act : Act) (h : List Note) → Keeps nothing h act
     → (wakes : List Woken) (outcomes : List Outcome) (m : RunState) (ws : List Woken) (os : List Outcome)
     → (play act wakes outcomes).rest ≡ Some (m, ws, os)
@@ -100,6 +101,7 @@ play-takes (acts.mark note act) h k wakes outcomes m ws os e =
 
 -- ---- a run
 
+-- over these events a run that came to its end did so
 Takes : (Option ℕ → Choice) → List Event → Type 0
 Takes choice es =
     (n : RunState) (wakes : List Woken) (outcomes : List Outcome) (m : RunState) (ws : List Woken) (os : List Outcome)
@@ -174,6 +176,7 @@ run_of-takes choice script placed wakes outcomes m ws os e =
 
 -- ---- what is left over grows with what is given, and nothing else changes
 
+-- over these events what is given besides is left over, and changes nothing else
 More : (Option ℕ → Choice) → List Event → Type 0
 More choice es =
     (n : RunState) (wakes : List Woken) (outcomes : List Outcome) (m : RunState) (ws : List Woken) (os : List Outcome)
@@ -224,6 +227,7 @@ with_mark (Ordered arming) mark ns = refl
 with_mark Cuts mark ns = refl
 with_mark (Ended o) mark ns = absurd mark
 
+-- an act notes a wake only where it takes one
 play-few : (act : Act) (h : List Note) → Keeps nothing h act → (wakes : List Woken) (outcomes : List Outcome)
     → length (woke_in (play act wakes outcomes).notes) ≤ length wakes
 play-few (acts.done n) h k wakes outcomes = omega arith
@@ -239,6 +243,7 @@ play-few (acts.mark note act) h k wakes outcomes =
     ap length (with_mark note k.0 (play act wakes outcomes).notes) in
     omega (arith, same, play-few act (push h note) k.1 wakes outcomes)
 
+-- over these events no more wakes are noted than there are
 Few : (Option ℕ → Choice) → List Event → Type 0
 Few choice es = (n : RunState) (wakes : List Woken) (outcomes : List Outcome)
     → length (woke_in (run_from choice es n wakes outcomes).notes) ≤ length wakes

@@ -69,6 +69,7 @@ taken_there entries Done tried = tt
 abbrev place_in : Rank → ℕ
 place_in r = r.place
 
+-- the ranks have the places that were ranked, none left out
 places_of_ranks : (entries : List Entry) (orders : List GroupOrder) (counts : Bool) (ps : List ℕ) → There entries ps
     → map place_in (filter_map (λ p. option_map (rank_of orders counts p) (slice_get entries p)) ps) ≡ ps
 places_of_ranks entries orders counts [] h = refl
@@ -94,6 +95,7 @@ ranks_places set phase tried =
 exchange : {X : Type 0} (a b : X) (xs : List X) → IsPermutation (a ∷ b ∷ xs) (b ∷ a ∷ xs)
 exchange a b xs = IsPermutation-middle (a ∷ []) b xs
 
+-- putting a rank in its place rearranges the places
 placed_rearranges : (r : Rank) (rs : List Rank) → IsPermutation (map place_in (r ∷ rs)) (map place_in (placed r rs))
 placed_rearranges r [] = IsPermutation-refl (r.place ∷ [])
 placed_rearranges r (s ∷ rs) = split (is_before r s) (placed_rearranges r rs)
@@ -114,6 +116,7 @@ ordered_rearranges (r ∷ rs) =
     (IsPermutation-cons r.place (map place_in rs) (map place_in (ordered_of rs)) (ordered_rearranges rs))
     (placed_rearranges r (ordered_of rs))
 
+-- the order of a phase rearranges what it takes
 pub plan_places : (set : Tree) (phase : Phase) (tried : List (List ℕ))
     → IsPermutation (taken_of (entries_of set) phase tried) (map place_in (ordered_of (ranks_of set phase tried)))
 plan_places set phase tried =
@@ -125,6 +128,7 @@ plan_places set phase tried =
 abbrev entry_at : List Entry → Rank → Option Entry
 entry_at entries r = slice_get entries r.place
 
+-- no rank is lost when entries are looked up
 each_entry : (entries : List Entry) (rs : List Rank) → There entries (map place_in rs)
     → map (λ (e : Entry). Some e) (filter_map (entry_at entries) rs) ≡ map (entry_at entries) rs
 each_entry entries [] h = refl
@@ -156,6 +160,7 @@ ordered_there set phase tried =
     (All-permutation P taken places (plan_places set phase tried)
     (All-from_recursion P taken (taken_there (entries_of set) phase tried)))
 
+-- the plan has the entries at the places of the order, one at each
 pub plan_entries : (set : Tree) (phase : Phase) (tried : List (List ℕ))
     → map (λ (e : Entry). Some e) (plan_of set phase tried)
     ≡ map (λ (r : Rank). slice_get (entries_of set) r.place) (ordered_of (ranks_of set phase tried))
@@ -181,6 +186,7 @@ places_rise [] h = λ i j d lt within. absurd (omega arith)
 places_rise (r ∷ rs) h = AllPairs-cons (λ a b. a < b) r.place (map place_in rs)
     (All-from_recursion (λ p. r.place < p) (map place_in rs) (places_above r rs h.0)) (places_rise rs h.1)
 
+-- the places that a phase takes rise, so none is taken twice
 pub taken_rise : (set : Tree) (phase : Phase) (tried : List (List ℕ))
     → AllPairs (λ a b. a < b) (taken_of (entries_of set) phase tried)
 taken_rise set phase tried =

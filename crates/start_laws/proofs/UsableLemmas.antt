@@ -79,6 +79,7 @@ has_to p a (suc len) n h le lt = split (p a) refl (a == n) refl (has_to p (a + 1
 
 -- ---- usable numbers
 
+-- a number from 1 to 999 that names a set
 pub record Usable (t : Tree) (n : ℕ) : Type 0 where
   pub least : 1 ≤ n
   pub most : n ≤ 999
