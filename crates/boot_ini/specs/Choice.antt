@@ -2,6 +2,7 @@
 use Rattle.std.specs.Prelude.{ℕ, ◌-◌, pos, Bool, false, ◌&&◌, List, [], ◌∷◌, Option, Some, None, IsSome, Result, Ok, Err, slice_get, ◌==◌, if◌then◌else◌, codes}
 use Rattle.std.specs.List.{list_any}
 use Rattle.std.specs.Char.{is_ascii_alphabetic}
+use Rattle.std.specs.Option.{option_map_or}
 use Rattle.std.specs.Ordering.{int_eq}
 use Rattle.nt_bytes.specs.Text.{names_same}
 use Rattle.arc_path.specs.declared.arc.Arc.{Arc}
@@ -16,6 +17,10 @@ use Rattle.boot_ini.specs.declared.choosing.Chosen.TheVariants.{Entry, NoEntry, 
 -- the entry of a number, counted from 1
 abbrev pub entry_at : List OsEntry → ℕ → Option OsEntry
 entry_at entries n = if n == 0 then None else slice_get entries (n - 1)
+
+-- the path of that entry, empty where none is there
+abbrev pub path_at : BootIni → ℕ → List ℕ
+path_at ini n = option_map_or (λ (e : OsEntry). e.path) (entry_at ini.entries n) []
 
 -- the number that is asked for: the wanted one, unless nobody may choose, which a timeout of 0 says
 abbrev pub asked_for : BootIni → Option ℕ → ℕ

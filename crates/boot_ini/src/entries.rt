@@ -2,41 +2,14 @@
 
 ghost use Rattle.std.specs.Prelude.{◌≡◌, ◌<◌, ◌≤◌, ◌++◌, [], ◌∷◌, length, IfOk, Option};
 ghost use Rattle.std.specs.List.{position_or_len, before_first, after_first};
-ghost use Rattle.boot_ini.specs.Entries.{is_quote, is_slash, is_quoted, title_of, behind_title, is_switch, switches_in, entry_of};
+ghost use Rattle.boot_ini.specs.Entries.{is_quoted, title_of, behind_title, is_switch, switches_in, entry_of};
 ghost use Rattle.nt_bytes.specs.Text.{is_blank};
 
 use crate::ini::{OsEntry, Switches};
 use crate::keys::split_line;
+use crate::places::{place_of, split_around};
 use nt_bytes::{Bytes, trim};
 use std::alloc::{AllocError, Global};
-
-fn quote_place(text: &[u8]) -> usize
-    ensures place { result ≡ position_or_len is_quote text.now }
-    ensures bound { result ≤ length text.now }
-{
-    let mut place = 0;
-    for c in text {
-        if *c == b'"' {
-            return place;
-        }
-        place += 1;
-    }
-    place
-}
-
-fn slash_place(text: &[u8]) -> usize
-    ensures place { result ≡ position_or_len is_slash text.now }
-    ensures bound { result ≤ length text.now }
-{
-    let mut place = 0;
-    for c in text {
-        if *c == b'/' {
-            return place;
-        }
-        place += 1;
-    }
-    place
-}
 
 fn blank_place(text: &[u8]) -> usize
     ensures place { result ≡ position_or_len is_blank text.now }
@@ -52,28 +25,15 @@ fn blank_place(text: &[u8]) -> usize
     place
 }
 
-/// The quoted title behind the `"`, and what follows the closing one.
-fn split_quoted(inside: &[u8]) -> (&[u8], &[u8])
-    ensures title { result.0.now ≡ before_first is_quote inside.now }
-    ensures behind { result.1.now ≡ after_first is_quote inside.now }
-{
-    let place = quote_place(inside);
-    let title = inside.split_at(place).0;
-    if place == inside.len() {
-        return (title, &[]);
-    }
-    (title, inside.split_at(place + 1).1)
-}
-
 /// The title, and what follows it.
 fn split_title(text: &[u8]) -> (&[u8], &[u8])
     ensures title { result.0.now ≡ title_of text.now }
     ensures behind { result.1.now ≡ behind_title text.now }
 {
     if let [b'"', inside @ ..] = text {
-        return split_quoted(inside);
+        return split_around(inside, place_of(b'"', inside));
     }
-    let (title, behind) = text.split_at(slash_place(text));
+    let (title, behind) = text.split_at(place_of(b'/', text));
     (trim(title), behind)
 }
 
@@ -84,12 +44,7 @@ fn split_word(text: &[u8]) -> (&[u8], &[u8])
     ensures behind { result.1.now ≡ after_first is_blank text.now }
     ensures shorter { length result.1.now < length text.now }
 {
-    let place = blank_place(text);
-    let word = text.split_at(place).0;
-    if place == text.len() {
-        return (word, &[]);
-    }
-    (word, text.split_at(place + 1).1)
+    split_around(text, blank_place(text))
 }
 
 fn begins_switch(word: &[u8]) -> bool

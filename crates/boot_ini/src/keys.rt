@@ -1,10 +1,10 @@
 //! Lines without blanks at their ends: the sections that they open, their keys and values.
 
-ghost use Rattle.std.specs.Prelude.{◌≡◌, ◌≤◌, length};
-ghost use Rattle.std.specs.List.{position_or_len};
+ghost use Rattle.std.specs.Prelude.{◌≡◌};
 ghost use Rattle.std.specs.Option.{option_map};
-ghost use Rattle.boot_ini.specs.Keys.{is_equals, is_closing, sides, value_of, says_something, opens_section, section_name, section_of_name, section_named};
+ghost use Rattle.boot_ini.specs.Keys.{sides, value_of, says_something, opens_section, section_name, section_of_name, section_named};
 
+use crate::places::{place_of, split_around};
 use nt_bytes::{is_named, trim};
 
 /// The section in which a line stands.
@@ -15,43 +15,15 @@ pub enum Section {
     Other,
 }
 
-fn equals_place(line: &[u8]) -> usize
-    ensures place { result ≡ position_or_len is_equals line.now }
-    ensures bound { result ≤ length line.now }
-{
-    let mut place = 0;
-    for c in line {
-        if *c == b'=' {
-            return place;
-        }
-        place += 1;
-    }
-    place
-}
-
-fn closing_place(line: &[u8]) -> usize
-    ensures place { result ≡ position_or_len is_closing line.now }
-    ensures bound { result ≤ length line.now }
-{
-    let mut place = 0;
-    for c in line {
-        if *c == b']' {
-            return place;
-        }
-        place += 1;
-    }
-    place
-}
-
 /// What stands before and behind the first `=`.
 pub fn split_line(line: &[u8]) -> Option<(&[u8], &[u8])>
     ensures { option_map (λ x. (x.0.now, x.1.now)) result ≡ sides line.now }
 {
-    let place = equals_place(line);
+    let place = place_of(b'=', line);
     if place == line.len() {
         return None;
     }
-    Some((line.split_at(place).0, line.split_at(place + 1).1))
+    Some(split_around(line, place))
 }
 
 /// The value of `key=value`, blanks around both left out.
@@ -88,7 +60,7 @@ fn name_in(line: &[u8]) -> &[u8]
     let [_, inside @ ..] = line else {
         return line;
     };
-    inside.split_at(closing_place(inside)).0
+    inside.split_at(place_of(b']', inside)).0
 }
 
 fn section_with(name: &[u8]) -> Section

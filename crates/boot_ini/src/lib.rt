@@ -10,6 +10,7 @@ mod entries;
 mod ini;
 mod keys;
 mod laws;
+mod places;
 mod reading;
 
 pub use choosing::{Chosen, choose, wants_last_known_good};

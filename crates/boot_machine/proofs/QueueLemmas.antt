@@ -16,6 +16,7 @@ use Rattle.start_model.specs.Ready.{Label, is_ready, next_of}
 use Rattle.start_model.specs.Machine.{label_of}
 use Rattle.dependencies.specs.Waiting as deps
 use Rattle.dependencies.specs.Waiting.{WaitingState, waiting_in, places_in, next_place_in, labels_at, after_trying}
+use Rattle.dependencies.proofs.PickedLemmas.{all_picked, as_many, picked, some_is}
 use Rattle.boot_machine.specs.declared.parts.Rest.{Rest}
 use Rattle.boot_machine.specs.Parts.{rest_of, joined, all_joined}
 use Rattle.boot_machine.specs.Steps.{is_there}
@@ -30,59 +31,6 @@ picked_map f [] xs = refl
 picked_map f (b ∷ bs) [] = refl
 picked_map f (true ∷ bs) (x ∷ xs) = ap (λ l. f x ∷ l) (picked_map f bs xs)
 picked_map f (false ∷ bs) (x ∷ xs) = picked_map f bs xs
-
-pub all_picked : {X : Type 0} (xs : List X) → items_where_true (replicate (length xs) true) xs ≡ xs
-all_picked [] = refl
-all_picked (x ∷ xs) = ap (λ l. x ∷ l) (all_picked xs)
-
-as_many : {X : Type 0} (bs : List Bool) (xs : List X) (i : ℕ)
-    → length (items_where_true bs (range_with_len i (length xs))) ≡ length (items_where_true bs xs)
-as_many [] xs i = refl
-as_many (b ∷ bs) [] i = refl
-as_many (true ∷ bs) (x ∷ xs) i = ap suc (as_many bs xs (i + 1))
-as_many (false ∷ bs) (x ∷ xs) i = as_many bs xs (i + 1)
-
--- the k-th of those that are picked, and the others
-pub record IsPicked {X : Type 0} (bs : List Bool) (xs : List X) (i k at : ℕ) : Type 0 where
-  pub j : ℕ
-  pub here : at ≡ i + j
-  pub within : j < length xs
-  pub same : slice_get (items_where_true bs xs) k ≡ slice_get xs j
-  pub others : items_where_true (set bs j false) xs ≡ remove (items_where_true bs xs) k
-
-some_is : (a b : ℕ) → Some a ≡ Some b → a ≡ b
-some_is a b e = cc
-
-pub picked : {X : Type 0} (bs : List Bool) (xs : List X) (i k at : ℕ)
-    → slice_get (items_where_true bs (range_with_len i (length xs))) k ≡ Some at → IsPicked bs xs i k at
-picked [] xs i k at h = absurd cc
-picked (b ∷ bs) [] i k at h = absurd cc
-picked (true ∷ bs) (x ∷ xs) i zero at h =
-    record {
-      j = 0;
-      here = (let e = some_is i at h in omega (arith, e));
-      within = omega arith;
-      same = refl;
-      others = refl;
-    }
-picked (true ∷ bs) (x ∷ xs) i (suc k) at h =
-    let p = picked bs xs (i + 1) k at h in
-    record {
-      j = suc p.j;
-      here = omega (arith, p.here);
-      within = omega (arith, p.within);
-      same = p.same;
-      others = ap (λ l. x ∷ l) p.others;
-    }
-picked (false ∷ bs) (x ∷ xs) i k at h =
-    let p = picked bs xs (i + 1) k at h in
-    record {
-      j = suc p.j;
-      here = omega (arith, p.here);
-      within = omega (arith, p.within);
-      same = p.same;
-      others = p.others;
-    }
 
 -- ---- the next one
 

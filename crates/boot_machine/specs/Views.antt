@@ -6,8 +6,8 @@ use Rattle.nt_edge.specs.Book.{call_of, keep_of}
 use Rattle.hive_model.specs.Image.{ArmedCut, ArmedFault}
 use Rattle.start_model.specs.Events as book
 use Rattle.start_model.specs.Lines.{RefusedWord, OffReason, RunningReason, EarlyReason, AgainReason, IdleReason, ProtectedReason}
-use Rattle.boot_machine.specs.declared.refusal.Refusal.{Refusal}
-use Rattle.boot_machine.specs.declared.refusal.Refusal.TheVariants as code
+use Rattle.boot_machine.specs.declared.refusal.EventRefusal.{EventRefusal}
+use Rattle.boot_machine.specs.declared.refusal.EventRefusal.TheVariants as code
 use Rattle.boot_machine.specs.declared.tried.Tried.{Tried}
 use Rattle.error_control.specs.Judgement.{judgement_in}
 use Rattle.start_model.specs.Machine as machine
@@ -27,7 +27,7 @@ event_in (script.CutNow keep) = book.CutNow (keep_of keep)
 event_in (script.ArmCut call n keep) = book.Arm (ArmedCut (call_of call) n (keep_of keep))
 event_in (script.ArmFault call n) = book.Arm (ArmedFault (call_of call) n)
 
-abbrev pub refusal_in : Refusal → RefusedWord
+abbrev pub refusal_in : EventRefusal → RefusedWord
 refusal_in code.Off = OffReason
 refusal_in code.Running = RunningReason
 refusal_in code.Early = EarlyReason
@@ -39,6 +39,6 @@ abbrev pub tried_in : Tried → machine.Tried
 tried_in t = record { name = t.name; ok = t.ok; judgement = judgement_in t.judgement }
 
 -- an event is taken where nothing refuses it, and refused for the stated reason otherwise
-abbrev pub Answers : Result (Unit {0}) Refusal → Option RefusedWord → Type 0
+abbrev pub Answers : Result (Unit {0}) EventRefusal → Option RefusedWord → Type 0
 Answers (Ok taken) why = why ≡ None
 Answers (Err refusal) why = why ≡ Some (refusal_in refusal)

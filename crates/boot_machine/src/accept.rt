@@ -8,7 +8,7 @@ ghost use Rattle.start_model.specs.Machine.{is_done, takes_logons, refused_off, 
 ghost use Rattle.boot_machine.specs.Views.{event_in, Answers};
 
 use crate::phases::{is_done, takes_logons};
-use crate::refusal::Refusal;
+use crate::refusal::EventRefusal;
 use crate::start::Start;
 use boot_script::Event;
 use nt_bytes::{Units, same_folded};
@@ -23,22 +23,22 @@ const CONTROL_SET: [u16; 10] = [0x43, 0x6f, 0x6e, 0x74, 0x72, 0x6f, 0x6c, 0x53, 
 const SELECT: [u16; 6] = [0x53, 0x65, 0x6c, 0x65, 0x63, 0x74];
 
 /// What is taken where no start runs.
-pub(crate) fn accept_off(event: &Event) -> Result<(), Refusal>
+pub(crate) fn accept_off(event: &Event) -> Result<(), EventRefusal>
     ensures { Answers result (refused_off (event_in event.now)) }
 {
     match event {
         Event::Boot { .. } | Event::Fail { .. } => Ok(()),
         Event::ArmCut { .. } | Event::ArmFault { .. } => Ok(()),
-        _ => Err(Refusal::Off),
+        _ => Err(EventRefusal::Off),
     }
 }
 
 /// What is taken where a start runs.
-pub(crate) fn accept_running(start: &Start, event: &Event) -> Result<(), Refusal>
+pub(crate) fn accept_running(start: &Start, event: &Event) -> Result<(), EventRefusal>
     ensures { Answers result (refused_running start.now (event_in event.now)) }
 {
     match event {
-        Event::Boot { .. } => Err(Refusal::Running),
+        Event::Boot { .. } => Err(EventRefusal::Running),
         Event::Go { .. } => accept_go(start),
         Event::Set { path, .. } => accept_edit(begins_protected(path.as_slice())),
         Event::Delete { path, .. } => accept_edit(begins_protected(path.as_slice())),
@@ -51,34 +51,34 @@ pub(crate) fn accept_running(start: &Start, event: &Event) -> Result<(), Refusal
 }
 
 /// Steps of the starter are taken until all phases are over.
-fn accept_go(start: &Start) -> Result<(), Refusal>
+fn accept_go(start: &Start) -> Result<(), EventRefusal>
     ensures { Answers result (if is_done start.now.phase then Some IdleReason else None) }
 {
     if is_done(start.phase()) {
-        Err(Refusal::Idle)
+        Err(EventRefusal::Idle)
     } else {
         Ok(())
     }
 }
 
 /// A logon is taken once, from the automatic phase on.
-fn accept_logon(start: &Start) -> Result<(), Refusal>
+fn accept_logon(start: &Start) -> Result<(), EventRefusal>
     ensures { Answers result (if not (takes_logons start.now.phase) then Some EarlyReason else (if start.now.logged_on then Some AgainReason else None)) }
 {
     if !takes_logons(start.phase()) {
-        Err(Refusal::Early)
+        Err(EventRefusal::Early)
     } else if start.logged_on() {
-        Err(Refusal::Again)
+        Err(EventRefusal::Again)
     } else {
         Ok(())
     }
 }
 
-fn accept_edit(protected: bool) -> Result<(), Refusal>
+fn accept_edit(protected: bool) -> Result<(), EventRefusal>
     ensures { Answers result (if protected then Some ProtectedReason else None) }
 {
     if protected {
-        Err(Refusal::Protected)
+        Err(EventRefusal::Protected)
     } else {
         Ok(())
     }
@@ -120,7 +120,8 @@ fn is_protected_child(name: &[u16]) -> bool
     same_folded(name, &SELECT) || names_a_set(name)
 }
 
-fn is_current(name: &[u16]) -> bool
+/// Whether the name is `CurrentControlSet`, in letters of either case.
+pub fn is_current(name: &[u16]) -> bool
     ensures { result ≡ is_current name.now }
 {
     same_folded(name, &CURRENT)

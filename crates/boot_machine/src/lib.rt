@@ -18,9 +18,11 @@ mod refusal;
 mod start;
 mod tried;
 
+pub use accept::is_current;
 pub use boot_phases::Phase;
 pub use boot_report::Verdict;
 pub use error_control::Judgement;
 pub use machine::Machine;
-pub use refusal::Refusal;
+pub use phases::phase_word;
+pub use refusal::EventRefusal;
 pub use tried::Tried;

@@ -15,7 +15,7 @@ use crate::accept::{accept_off, accept_running};
 use crate::attempt::attempt;
 use crate::failures::Failures;
 use crate::phases::is_last;
-use crate::refusal::Refusal;
+use crate::refusal::EventRefusal;
 use crate::start::Start;
 use crate::tried::Tried;
 use boot_phases::Phase;
@@ -59,7 +59,7 @@ impl Machine {
     }
 
     /// Whether the event may be looked at any further, and why not.
-    pub fn accept(&self, event: &Event) -> Result<(), Refusal>
+    pub fn accept(&self, event: &Event) -> Result<(), EventRefusal>
         ensures { Answers result (refusal_of self.now (event_in event.now)) }
     {
         match &self.start {

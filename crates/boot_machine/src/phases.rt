@@ -1,11 +1,15 @@
-//! The phases of a start: which is next, and what is taken or done in them.
+//! The phases of a start: which is next, what is taken or done in them, and the word of each.
 
 ghost use Rattle.std.specs.Prelude.{◌≡◌};
 ghost use Rattle.boot_phases.specs.Phases.{phase_in};
+ghost use Rattle.boot_report.specs.Report.{phase_of};
+ghost use Rattle.start_model.specs.Lines.{PhaseLine};
 ghost use Rattle.start_model.specs.Machine.{phase_after, is_done, takes_logons};
+ghost use Rattle.start_model.specs.Starter.{phase_line};
 ghost use Rattle.boot_machine.specs.Steps.{is_last_phase};
 
 use boot_phases::Phase;
+use boot_report::PhaseWord;
 
 /// The phase behind a phase.
 pub(crate) fn phase_after(phase: Phase) -> Phase
@@ -45,5 +49,17 @@ pub(crate) fn takes_logons(phase: Phase) -> bool
     match phase {
         Phase::Automatic | Phase::Done => true,
         Phase::Boot | Phase::System => false,
+    }
+}
+
+/// The word of the report for a phase.
+pub fn phase_word(phase: Phase) -> PhaseWord
+    ensures { PhaseLine (phase_of result) ≡ phase_line (phase_in phase) }
+{
+    match phase {
+        Phase::Boot => PhaseWord::Boot,
+        Phase::System => PhaseWord::System,
+        Phase::Automatic => PhaseWord::Automatic,
+        Phase::Done => PhaseWord::Done,
     }
 }

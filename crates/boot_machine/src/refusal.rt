@@ -2,7 +2,7 @@
 
 /// Why an event is refused before it is looked at any further.
 #[derive(Clone, Copy, Debug, PartialEq, Eq)]
-pub enum Refusal {
+pub enum EventRefusal {
     /// No start runs.
     Off,
     /// A start runs already.

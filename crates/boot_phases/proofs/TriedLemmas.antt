@@ -13,7 +13,7 @@ pub shorter : (n len : ℕ) → ltb (1 + n) (suc len) ≡ ltb n len
 shorter n len = grind (arith, nat_tests)
 
 -- the first place that passes is in the list where an element passes
-within : {X : Type 0} (p : X → Bool) (xs : List X) → ltb (position_or_len p xs) (length xs) ≡ list_any p xs
+pub within : {X : Type 0} (p : X → Bool) (xs : List X) → ltb (position_or_len p xs) (length xs) ≡ list_any p xs
 within p [] = refl
 within p (x ∷ xs) = by_case (p x) (within p xs)
   where
@@ -26,6 +26,9 @@ some_where : (b : Bool) (n : ℕ) → is_some (cond b (Some n) None) ≡ b
 some_where true n = refl
 some_where false n = refl
 
+pub some_place : {X : Type 0} (p : X → Bool) (xs : List X) → is_some (position p xs) ≡ list_any p xs
+some_place p xs = some_where _ (position_or_len p xs) ∙ within p xs
+
 pub is_tried : (tried : List (List ℕ)) (e : Entry) → is_some (position (folds_same e.name) tried) ≡ was_tried tried e
-is_tried tried e = some_where _ (position_or_len (folds_same e.name) tried) ∙ within (folds_same e.name) tried
-    ∙ (λ j. list_any (λ name. folds_swap e.name name j) tried)
+is_tried tried e =
+    some_place (folds_same e.name) tried ∙ (λ j. list_any (λ name. folds_swap e.name name j) tried)

@@ -10,7 +10,7 @@ ghost use Rattle.boot_phases.specs.Apart.{StandApart};
 use crate::phase::{Phase, tags_count};
 use crate::rank::{Rank, in_order, ranks_at};
 use crate::taken::taken;
-use crate::tried::Tried;
+use crate::tried::TriedNames;
 use group_order::read_orders;
 use nt_bytes::Units;
 use reg_tree::Key;
@@ -41,7 +41,7 @@ fn plan_phase(
 {
     let table = entries(alloc, set)?;
     let orders = read_orders(alloc, set)?;
-    let tried = Tried::new(alloc, tried)?;
+    let tried = TriedNames::new(alloc, tried)?;
     let places = taken(alloc, &table, phase, &tried)?;
     let mut ranks = ranks_at(alloc, &table, &orders, tags_count(phase), places.as_slice())?;
     in_order(&mut ranks);

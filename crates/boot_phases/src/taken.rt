@@ -8,7 +8,7 @@ ghost use Rattle.boot_phases.specs.Phases.{phase_in};
 
 use crate::kind::is_driver;
 use crate::phase::Phase;
-use crate::tried::Tried;
+use crate::tried::TriedNames;
 use crate::untried::Untried;
 use dependencies::{Need, Places, automatic_in};
 use nt_bytes::Units;
@@ -20,7 +20,7 @@ pub(crate) fn taken(
     alloc: Global,
     table: &ServiceTable,
     phase: Phase,
-    tried: &Tried,
+    tried: &TriedNames,
 ) -> Result<Places, AllocError>
     ensures { IfOk result (λ p. p ≡ taken_of table.now (phase_in phase) tried.now) }
 {
@@ -39,7 +39,7 @@ fn drivers(
     alloc: Global,
     table: &ServiceTable,
     start: u32,
-    tried: &Tried,
+    tried: &TriedNames,
 ) -> Result<Places, AllocError>
     ensures { IfOk result (λ p. p ≡ places_of (is_driver_of start tried.now) table.now) }
 {
@@ -52,7 +52,7 @@ fn drivers(
     Ok(places)
 }
 
-fn is_driver_at(table: &ServiceTable, place: u32, start: u32, tried: &Tried) -> bool
+fn is_driver_at(table: &ServiceTable, place: u32, start: u32, tried: &TriedNames) -> bool
     ensures { result ≡ option_map_or (is_driver_of start tried.now) (slice_get table.now place) false }
 {
     table
@@ -60,7 +60,7 @@ fn is_driver_at(table: &ServiceTable, place: u32, start: u32, tried: &Tried) -> 
         .is_some_and(|entry| is_driver_of(entry, start, tried))
 }
 
-fn is_driver_of(entry: &Entry, start: u32, tried: &Tried) -> bool
+fn is_driver_of(entry: &Entry, start: u32, tried: &TriedNames) -> bool
     ensures { result ≡ is_driver_of start tried.now entry.now }
 {
     is_driver(entry.kind) && entry.start == start && !tried.has(entry)
@@ -72,7 +72,7 @@ fn is_driver_of(entry: &Entry, start: u32, tried: &Tried) -> bool
 fn automatic_places(
     alloc: Global,
     table: &ServiceTable,
-    tried: &Tried,
+    tried: &TriedNames,
 ) -> Result<Places, AllocError>
     ensures { IfOk result (λ p. p ≡ automatic_among table.now (places_of (is_open tried.now) table.now)) }
 {

@@ -11,11 +11,11 @@ use std::marker::Model;
 
 /// Names that were tried, whatever the case of their letters. Contracts see their list.
 #[derive(Drop)]
-pub(crate) struct Tried {
+pub(crate) struct TriedNames {
     names: NamePlaces,
 }
 
-impl Model for Tried {
+impl Model for TriedNames {
     ghost use Rattle.std.specs.Prelude.{List, ℕ};
 
     ghost Value = { List (List ℕ) };
@@ -23,13 +23,13 @@ impl Model for Tried {
     ghost view = { λ a. a.names };
 }
 
-impl Tried {
+impl TriedNames {
     /// These names. Takes n log n time in their number.
-    pub(crate) fn new(alloc: Global, names: &[Units]) -> Result<Tried, AllocError>
+    pub(crate) fn new(alloc: Global, names: &[Units]) -> Result<TriedNames, AllocError>
         ensures { IfOk result (λ t. t ≡ names.now) }
     {
         let names = NamePlaces::new(alloc, Names::from_slice(alloc, names)?)?;
-        Ok(Tried { names })
+        Ok(TriedNames { names })
     }
 
     /// Whether the entry's name is among those that were tried.

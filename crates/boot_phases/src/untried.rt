@@ -6,7 +6,7 @@ ghost use Rattle.start_model.specs.Entries.{Entry, is_open, need_of, needs_at, p
 ghost use Rattle.boot_phases.specs.Untried.{indices_of};
 
 use crate::kind::{is_driver, is_service};
-use crate::tried::Tried;
+use crate::tried::TriedNames;
 use dependencies::{NeedTable, Places};
 use nt_bytes::{Row, Units};
 use service_entries::{Entry, ServiceTable};
@@ -42,7 +42,7 @@ impl<'a> Untried<'a> {
     pub(crate) fn new(
         alloc: Global,
         table: &'a ServiceTable,
-        tried: &Tried,
+        tried: &TriedNames,
     ) -> Result<Untried<'a>, AllocError>
         ensures entries { IfOk result (λ u. u.entries ≡ table.now) }
         ensures places { IfOk result (λ u. u.places ≡ places_of (is_open tried.now) table.now) }
@@ -142,13 +142,13 @@ impl<'a> NeedTable for Untried<'a> {
     }
 }
 
-fn is_open_at(table: &ServiceTable, place: u32, tried: &Tried) -> bool
+fn is_open_at(table: &ServiceTable, place: u32, tried: &TriedNames) -> bool
     ensures { result ≡ option_map_or (is_open tried.now) (slice_get table.now place) false }
 {
     table.get(place).is_some_and(|entry| is_open(entry, tried))
 }
 
-fn is_open(entry: &Entry, tried: &Tried) -> bool
+fn is_open(entry: &Entry, tried: &TriedNames) -> bool
     ensures { result ≡ is_open tried.now entry.now }
 {
     (is_driver(entry.kind) || is_service(entry.kind)) && !tried.has(entry)

@@ -1,18 +1,14 @@
 -- What boot.ini has for a start, in the words of the book of startup. (this project's own)
-use Rattle.std.specs.Prelude.{ℕ, Bool, false, List, [], Option}
+use Rattle.std.specs.Prelude.{ℕ, Bool, false, Option}
 use Rattle.std.specs.Option.{option_map_or}
 use Rattle.arc_path.specs.declared.arc.Arc.{Arc}
-use Rattle.boot_ini.specs.declared.ini.OsEntry.{OsEntry}
 use Rattle.boot_ini.specs.declared.ini.BootIni.{BootIni}
 use Rattle.boot_ini.specs.declared.choosing.Chosen.{Chosen}
 use Rattle.boot_ini.specs.declared.choosing.Chosen.TheVariants as chosen
-use Rattle.boot_ini.specs.Choice.{entry_at, choice_of, asks_for_last_known_good}
+use Rattle.boot_ini.specs.Choice.{entry_at, path_at, choice_of, asks_for_last_known_good}
 use Rattle.start_model.specs.Boot.{Choice, EntryTaken, NoEntry, OtherLoader, NoSystem}
 
--- the path of an entry, and whether it is on LastKnownGood, by its number
-abbrev pub path_at : BootIni → ℕ → List ℕ
-path_at ini n = option_map_or (λ (e : OsEntry). e.path) (entry_at ini.entries n) []
-
+-- whether an entry is on LastKnownGood, by its number
 abbrev pub is_on_good : BootIni → ℕ → Bool
 is_on_good ini n = option_map_or asks_for_last_known_good (entry_at ini.entries n) false
 

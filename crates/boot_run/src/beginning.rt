@@ -25,7 +25,7 @@ use crate::committing::commit;
 use crate::ending::end_start;
 use crate::runner::Runner;
 use crate::saying::say;
-use crate::sets::{live_numbers, live_set, live_sets, taken_number};
+use crate::sets::{live_numbers, live_set, live_sets};
 use crate::stop::RunStop;
 use crate::summary::Summary;
 use crate::words::{edit_word, select_line};
@@ -245,7 +245,7 @@ fn say_set<H: Host>(
         return Err(RunStop::Memory);
     };
     let line = Line::Set {
-        number: taken_number(numbers, on_good),
+        number: numbers.taken(on_good),
         last_known_good: on_good,
     };
     match planned(alloc, numbers, on_good, hive) {

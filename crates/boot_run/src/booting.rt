@@ -2,7 +2,7 @@
 
 ghost use Rattle.std.specs.Prelude.{◌≡◌, ◌||◌, true, None, IfOk, IsSome};
 ghost use Rattle.nt_edge.specs.Crash.{EachCrash};
-ghost use Rattle.boot_ini.specs.Choice.{entry_at, IsThere};
+ghost use Rattle.boot_ini.specs.Choice.{entry_at, path_at, IsThere};
 ghost use Rattle.start_model.specs.Fits.{MayLoad};
 ghost use Rattle.start_model.specs.Lines.{EntryLine};
 ghost use Rattle.start_model.specs.Act.{RunState};
@@ -11,7 +11,7 @@ ghost use Rattle.start_model.specs.Act as acts;
 ghost use Rattle.start_model.specs.Boot as boot_book;
 ghost use Rattle.run_parts.specs.Parts.{TellsOr};
 ghost use Rattle.boot_run.specs.Agrees.{IsDown, IsSound, Counts, TurnLeft};
-ghost use Rattle.boot_run.specs.Choices.{path_at, is_on_good, choice_in, choices};
+ghost use Rattle.boot_run.specs.Choices.{is_on_good, choice_in, choices};
 ghost use Rattle.boot_run.specs.Hosts.{LeavesHost};
 ghost use Rattle.boot_run.specs.Views.{moment, told_by, RunsTo};
 

@@ -1,24 +1,12 @@
 //! The path of an edit, in which `CurrentControlSet` stands for the set that the start took.
 
 ghost use Rattle.std.specs.Prelude.{◌≡◌, ◌≤◌, ◌∷◌, [], IfOk};
-ghost use Rattle.start_model.specs.Events.{is_current, resolved, without_last, last_of};
+ghost use Rattle.start_model.specs.Events.{resolved, without_last, last_of};
 
-use nt_bytes::{Names, Units, same_folded};
+use boot_machine::is_current;
+use nt_bytes::{Names, Units};
 use select_keys::set_name;
 use std::alloc::{AllocError, Global};
-
-/// `CurrentControlSet`.
-const CURRENT: [u16; 17] = [
-    0x43, 0x75, 0x72, 0x72, 0x65, 0x6e, 0x74, 0x43, 0x6f, 0x6e, 0x74, 0x72, 0x6f, 0x6c, 0x53, 0x65,
-    0x74,
-];
-
-/// Whether the name is `CurrentControlSet`, in letters of either case.
-fn is_current(name: &[u16]) -> bool
-    ensures { result ≡ is_current name.now }
-{
-    same_folded(name, &CURRENT)
-}
 
 /// The first component as it is looked up: the taken set's own name for `CurrentControlSet`.
 fn first_name(alloc: Global, first: &Units, number: u32) -> Result<Units, AllocError>

@@ -5,31 +5,19 @@ ghost use Rattle.std.specs.Option.{unwrap_or};
 ghost use Rattle.hive_model.specs.Valid.{HoldsKeys};
 ghost use Rattle.hive_store.specs.Found.{found_dword};
 ghost use Rattle.start_model.specs.Entries.{services_of};
-ghost use Rattle.start_model.specs.Sets.{select_numbers_of, usable_numbers_of, taken_number, set_of, is_usable};
+ghost use Rattle.start_model.specs.Sets.{select_numbers_of, usable_numbers_of, set_of, is_usable};
 ghost use Rattle.start_model.specs.Starter.{good_is_usable, no_set};
 
 use hive_store::Hive;
 use nt_bytes::{Names, Units};
 use reg_tree::Key;
-use select_keys::{SelectNumbers, Taken, select_path, set_path, sets_named};
+use select_keys::{
+    CURRENT, DEFAULT, FAILED, GOOD, SelectNumbers, TakenNumbers, select_path, set_path, sets_named,
+};
 use std::alloc::{AllocError, Global};
-
-/// `Current`.
-const CURRENT: [u16; 7] = [0x43, 0x75, 0x72, 0x72, 0x65, 0x6e, 0x74];
-
-/// `Default`.
-const DEFAULT: [u16; 7] = [0x44, 0x65, 0x66, 0x61, 0x75, 0x6c, 0x74];
-
-/// `Failed`.
-const FAILED: [u16; 6] = [0x46, 0x61, 0x69, 0x6c, 0x65, 0x64];
 
 /// `Services`.
 const SERVICES: [u16; 8] = [0x53, 0x65, 0x72, 0x76, 0x69, 0x63, 0x65, 0x73];
-
-/// `LastKnownGood`.
-const GOOD: [u16; 13] = [
-    0x4c, 0x61, 0x73, 0x74, 0x4b, 0x6e, 0x6f, 0x77, 0x6e, 0x47, 0x6f, 0x6f, 0x64,
-];
 
 /// A number of the key at the path, 0 where it is absent or no DWORD.
 fn number_in(hive: &Hive, path: &Names, name: &[u16]) -> u32
@@ -51,19 +39,8 @@ pub(crate) fn live_numbers(alloc: Global, hive: &Hive) -> Result<SelectNumbers, 
     })
 }
 
-/// The number of the set that a start takes: LastKnownGood or Default.
-pub(crate) fn taken_number(numbers: SelectNumbers, on_good: bool) -> u32
-    ensures { result ≡ taken_number numbers on_good }
-{
-    if on_good {
-        numbers.good
-    } else {
-        numbers.default
-    }
-}
-
 /// The numbers of the sets of the live tree.
-pub(crate) fn live_sets(alloc: Global, hive: &Hive) -> Result<Taken, AllocError>
+pub(crate) fn live_sets(alloc: Global, hive: &Hive) -> Result<TakenNumbers, AllocError>
     ensures { IfOk result (λ taken. taken ≡ usable_numbers_of hive.now.tree) }
 {
     let names = hive.names_below(alloc, &Names::new(alloc))?;

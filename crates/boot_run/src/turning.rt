@@ -35,7 +35,7 @@ use crate::summary::Summary;
 use crate::words::{event_word, refused_word};
 use arc_path::Arc;
 use boot_ini::BootIni;
-use boot_machine::{Machine, Refusal};
+use boot_machine::{EventRefusal, Machine};
 use boot_report::Line;
 use boot_script::Event;
 use hive_store::Hive;
@@ -245,7 +245,7 @@ fn running<H: Host, B: Bench>(
 fn refuse<H: Host>(
     alloc: Global,
     event: &Event,
-    refusal: Refusal,
+    refusal: EventRefusal,
     summary: &mut Summary,
     host: &mut H,
 ) -> Result<(), RunStop>

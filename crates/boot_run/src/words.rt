@@ -2,17 +2,16 @@
 
 ghost use Rattle.std.specs.Prelude.{◌≡◌, option_map};
 ghost use Rattle.boot_machine.specs.Views.{event_in, refusal_in, tried_in};
-ghost use Rattle.boot_phases.specs.Phases.{phase_in};
-ghost use Rattle.boot_report.specs.Report.{event_of, refused_of, phase_of, try_of, verdict_of, line_of};
+ghost use Rattle.boot_report.specs.Report.{event_of, refused_of, try_of, verdict_of, line_of};
 ghost use Rattle.reg_tree.specs.Makes.{refusal_of};
 ghost use Rattle.start_model.specs.Commit.{select_line};
-ghost use Rattle.start_model.specs.Starter.{phase_line, try_line};
+ghost use Rattle.start_model.specs.Starter.{try_line};
 ghost use Rattle.start_model.specs.EventActs.{event_word_of, reason_of};
-ghost use Rattle.start_model.specs.Lines.{PhaseLine, TryLine};
+ghost use Rattle.start_model.specs.Lines.{TryLine};
 ghost use Rattle.boot_run.specs.Ends.{EndsAs, missing};
 
-use boot_machine::{Phase, Refusal, Tried};
-use boot_report::{EventWord, Line, PhaseWord, RefusedWord, TryWord, Verdict};
+use boot_machine::{EventRefusal, Tried};
+use boot_report::{EventWord, Line, RefusedWord, TryWord, Verdict};
 use boot_script::Event;
 use error_control::Judgement;
 use reg_tree::EditStop;
@@ -38,16 +37,16 @@ pub(crate) fn event_word(event: &Event) -> EventWord
     }
 }
 
-pub(crate) fn refused_word(refusal: Refusal) -> RefusedWord
+pub(crate) fn refused_word(refusal: EventRefusal) -> RefusedWord
     ensures { refused_of result ≡ refusal_in refusal }
 {
     match refusal {
-        Refusal::Off => RefusedWord::Off,
-        Refusal::Running => RefusedWord::Running,
-        Refusal::Early => RefusedWord::Early,
-        Refusal::Again => RefusedWord::Again,
-        Refusal::Idle => RefusedWord::Idle,
-        Refusal::Protected => RefusedWord::Protected,
+        EventRefusal::Off => RefusedWord::Off,
+        EventRefusal::Running => RefusedWord::Running,
+        EventRefusal::Early => RefusedWord::Early,
+        EventRefusal::Again => RefusedWord::Again,
+        EventRefusal::Idle => RefusedWord::Idle,
+        EventRefusal::Protected => RefusedWord::Protected,
     }
 }
 
@@ -64,17 +63,6 @@ pub(crate) fn edit_word(stop: EditStop) -> Option<RefusedWord>
         EditStop::DataTooLong => Some(RefusedWord::DataTooLong),
         EditStop::Full => Some(RefusedWord::Full),
         EditStop::Memory => None,
-    }
-}
-
-pub(crate) fn phase_word(phase: Phase) -> PhaseWord
-    ensures { PhaseLine (phase_of result) ≡ phase_line (phase_in phase) }
-{
-    match phase {
-        Phase::Boot => PhaseWord::Boot,
-        Phase::System => PhaseWord::System,
-        Phase::Automatic => PhaseWord::Automatic,
-        Phase::Done => PhaseWord::Done,
     }
 }
 

@@ -3,4 +3,3 @@ pub mod SpellingLemmas
 pub mod EventLemmas
 pub mod ScriptLemmas
 pub mod AskLemmas
-pub mod PathLemmas

@@ -1,11 +1,10 @@
 -- What path, and what data, does a line name? (this project's own; types of values: Microsoft's
 -- documentation of registry value types)
-use Rattle.std.specs.Prelude.{ℕ, ◌+◌, ◌-◌, ◌*◌, ◌%◌, Bool, ◌&&◌, List, [], ◌∷◌, ◌++◌, length, Option, Some, None, Result, Ok, Err, nat_le, ◌==◌, if◌then◌else◌, codes}
+use Rattle.std.specs.Prelude.{ℕ, ◌+◌, ◌-◌, ◌*◌, ◌%◌, Bool, ◌&&◌, List, [], ◌∷◌, ◌++◌, length, Result, Ok, Err, nat_le, ◌==◌, if◌then◌else◌, codes}
 use Rattle.std.specs.List.{flat_map, list_all, slice_split}
 use Rattle.std.specs.Char.{is_ascii_hexdigit}
 use Rattle.std.specs.Int.{w32, to_le_bytes}
 use Rattle.std.specs.Str.{bytes_eq}
-use Rattle.std.specs.Borrow.{Bor}
 use Rattle.boot_script.specs.declared.stop.ScriptFaultKind.{ScriptFaultKind}
 use Rattle.boot_script.specs.declared.stop.ScriptFaultKind.TheVariants.{Word, Number}
 use Rattle.boot_script.specs.Words.{◌>>=◌, number_from}
@@ -16,10 +15,6 @@ is_backslash c = c == 92
 -- the names between backslashes, empty ones too
 abbrev pub path_of : List ℕ → List (List ℕ)
 path_of word = slice_split is_backslash word
-
-abbrev pub parts_after : Option (Bor (List ℕ)) → List (List ℕ)
-parts_after None = []
-parts_after (Some more) = slice_split is_backslash more.now
 
 -- a unit for each byte
 abbrev pub wide_bytes : ℕ → List ℕ

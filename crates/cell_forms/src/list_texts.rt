@@ -21,7 +21,8 @@ fn append_offsets(out: &mut Bytes, offsets: &[u32]) -> Result<(), AllocError>
     }
 }
 
-fn append_entries(out: &mut Bytes, offsets: &[u32], hints: &[[u8; 4]]) -> Result<(), AllocError>
+/// Appends the entries of a list of key nodes, eight bytes each: an offset, and the four bytes of its name.
+pub fn append_entries(out: &mut Bytes, offsets: &[u32], hints: &[[u8; 4]]) -> Result<(), AllocError>
     requires { length offsets.now ≡ length hints.now }
     ensures { OnOk result (out.new ≡ out.old ++ entries_text offsets.now hints.now) }
 {

@@ -9,7 +9,7 @@ use Rattle.nt_edge.specs.Disk.{new_state}
 use Rattle.nt_edge.specs.Host.{HostState, KeepsFiles, AsksNone}
 use Rattle.nt_edge.specs.declared.host.HostStop.{HostStop}
 use Rattle.nt_edge.specs.declared.host.HostStop.TheVariants.{Read, Write, Memory}
-use Rattle.control_command.specs.declared.inputs.Inputs.{Inputs}
+use Rattle.control_command.specs.declared.inputs.ControlInputs.{ControlInputs}
 use Rattle.control_command.specs.Report.{report_of}
 use Rattle.command_parts.specs.declared.refusal.Refusal.{Refusal}
 use Rattle.command_parts.specs.declared.refusal.Obstacle.TheVariants.{Refused, Stopped}
@@ -28,14 +28,14 @@ abbrev done_with : List ℕ → Answer
 done_with text = record { status = statuses.Done; text = text }
 
 -- the report is that on the tree that was read
-pub reported_as : (inputs : Inputs) (root : Tree) (sequence : ℕ) (version : HiveVersion) (text : List ℕ)
+pub reported_as : (inputs : ControlInputs) (root : Tree) (sequence : ℕ) (version : HiveVersion) (text : List ℕ)
     → ChecksAs (image_in inputs.hive) (Ok (root, sequence, version))
     → text ≡ report_of root inputs.commands → ReportsAs inputs (Ok text)
 reported_as inputs root sequence version text loads is =
     (record { state = state_of root sequence version; dirty = loads.0 }, loads.1, is)
 
 -- the report was said
-pub report_decides : (inputs : Inputs) (text : List ℕ) (status : Status) (old new : HostState)
+pub report_decides : (inputs : ControlInputs) (text : List ℕ) (status : Status) (old new : HostState)
     → ReportsAs inputs (Ok text)
     → Leaves (Ends (record { status = statuses.Done; text = text })) status old new → KeepsFiles old new
     → AsksNone old new → IsToldAs statuses.Done status
@@ -45,7 +45,7 @@ report_decides inputs text status old new shows leaves kept unasked told =
     (λ o n end. inr (inl (shows.0, shows.1, subst (λ (t : List ℕ). Ends (done_with t) status o n) shows.2 end)))
 
 -- the hive's fault was said
-pub fault_said : (inputs : Inputs) (why : Refusal) (status : Status) (old new : HostState)
+pub fault_said : (inputs : ControlInputs) (why : Refusal) (status : Status) (old new : HostState)
     → ReportsAs inputs (Err (Refused why))
     → Leaves (Ends (refusal why)) status old new → KeepsFiles old new → AsksNone old new
     → IsToldAs (refusal_status why) status
@@ -62,19 +62,20 @@ fault_said inputs why status old new shows leaves kept unasked told =
     }
 
 -- there was no memory for it
-pub unreported : (inputs : Inputs) (host : HostState)
+pub unreported : (inputs : ControlInputs) (host : HostState)
     → DecidesAlone (EndsControl (Ok inputs)) no_saves statuses.Memory host host new_state
 unreported inputs host = memory_decides (EndsControl (Ok inputs)) no_saves host new_state refl
     (inr (inr (inl refl, refl)))
 
-pub unreported_by : (inputs : Inputs) (stop : HostStop) (host : HostState) → ReportsAs inputs (Err (Stopped stop))
+pub unreported_by : (inputs : ControlInputs) (stop : HostStop) (host : HostState)
+    → ReportsAs inputs (Err (Stopped stop))
     → DecidesAlone (EndsControl (Ok inputs)) no_saves (stopped_as stop) host host new_state
 unreported_by inputs stop host is =
     subst (λ (s : HostStop). DecidesAlone (EndsControl (Ok inputs)) no_saves (stopped_as s) host host new_state)
     (sym is) (unreported inputs host)
 
 -- the outside stopped the search for the files
-pub unsaid_control : (wanted : Result Inputs Refusal) (stop : HostStop) (old new : List ℕ) → new ≡ old
+pub unsaid_control : (wanted : Result ControlInputs Refusal) (stop : HostStop) (old new : List ℕ) → new ≡ old
     → (stop ≡ Write → ⊥)
     → EndsControl wanted (stopped_as stop) old new
 unsaid_control (Err r) Read old new same unwritten = inr same

@@ -5,7 +5,7 @@ use Rattle.nt_edge.specs.Host.{Files}
 use Rattle.command_words.specs.Words.{ControlAsked}
 use Rattle.command_parts.specs.declared.refusal.Refusal.{Refusal}
 use Rattle.command_parts.specs.Inputs.{file_in, behind_step, asks_hive}
-use Rattle.control_command.specs.declared.command.Command.{Command}
+use Rattle.control_command.specs.declared.command.ControlCommand.{ControlCommand}
 use Rattle.control_command.specs.Commands.{commands_of}
 use Rattle.control_command.specs.Inputs.{commands_in, asks_control}
 
@@ -21,9 +21,10 @@ pub commands_asked : (files : Files) (asked : ControlAsked) (text : List ℕ)
 commands_asked files asked text found =
     ap (λ (r : Result (List ℕ) Refusal). 1 + behind_step r (by_text asked files)) found
 
-pub hive_asked : (files : Files) (asked : ControlAsked) (text : List ℕ) (commands : List Command)
+pub hive_asked : (files : Files) (asked : ControlAsked) (text : List ℕ) (commands : List ControlCommand)
     → file_in asked.commands (files asked.commands) ≡ Ok text
     → commands_in (commands_of text) ≡ Ok commands → asks_control asked files ≡ 1 + by_hive asked files
 hive_asked files asked text commands found are =
     commands_asked files asked text found
-    ∙ ap (λ (r : Result (List Command) Refusal). 1 + behind_step r (λ (cs : List Command). by_hive asked files)) are
+    ∙ ap (λ (r : Result (List ControlCommand) Refusal).
+    1 + behind_step r (λ (cs : List ControlCommand). by_hive asked files)) are

@@ -9,7 +9,7 @@ use Rattle.hive_model.specs.Tree.{Tree}
 use Rattle.service_control.specs.State.{ControlState}
 use Rattle.service_control.specs.First.{control_of}
 use Rattle.service_control.specs.Calls.{StopsBy}
-use Rattle.control_command.specs.declared.command.Command.{Command}
+use Rattle.control_command.specs.declared.command.ControlCommand.{ControlCommand}
 use Rattle.control_command.specs.Report.{Answered, Adds, answer_to, answers_to, default_set, report_of, unless, refused_line}
 
 -- a refusal that is no want of memory is the reason
@@ -57,7 +57,7 @@ refused_on (Err e) why given command name slice old control done stop before aft
     said
 
 -- the report on a tree with a set
-pub report_with : {E : Type 0} (tree set : Tree) (commands : List Command) (r : Result (List ℕ) E)
+pub report_with : {E : Type 0} (tree set : Tree) (commands : List ControlCommand) (r : Result (List ℕ) E)
     → Some set ≡ default_set tree → IfOk r (λ t. t ≡ answers_to (control_of set) commands)
     → IfOk r (λ t. t ≡ report_of tree commands)
 report_with tree set commands r found h =
@@ -66,7 +66,7 @@ report_with tree set commands r found h =
     found) h
 
 -- one more command was answered
-pub answered_more : (commands : List Command) (i : ℕ) (command : Command) (old new : ControlState)
+pub answered_more : (commands : List ControlCommand) (i : ℕ) (command : ControlCommand) (old new : ControlState)
     (before after total : List ℕ) → i < length commands → command ≡ get_or commands i command
     → before ++ answers_to old (drop i commands) ≡ total → Adds (answer_to old command) new before after
     → after ++ answers_to new (drop (i + 1) commands) ≡ total
@@ -80,7 +80,7 @@ answered_more commands i command old new before after total lt is so_far adds =
     ∙ so_far
 
 -- all were answered
-pub answered_all : (commands : List Command) (i : ℕ) (c : ControlState) (before after total : List ℕ)
+pub answered_all : (commands : List ControlCommand) (i : ℕ) (c : ControlState) (before after total : List ℕ)
     → length commands ≤ i → before ++ answers_to c (drop i commands) ≡ total
     → after ≡ before ++ codes "end\n" → after ≡ total
 answered_all commands i c before after total all so_far said =

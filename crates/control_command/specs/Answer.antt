@@ -17,17 +17,17 @@ use Rattle.command_parts.specs.Decides.{Decides, DecidesAlone}
 use Rattle.command_parts.specs.Placed.{image_in}
 use Rattle.command_parts.specs.Refusals.{Answer, Ends, refusal}
 use Rattle.command_parts.specs.Saves.{no_saves}
-use Rattle.control_command.specs.declared.inputs.Inputs.{Inputs}
+use Rattle.control_command.specs.declared.inputs.ControlInputs.{ControlInputs}
 use Rattle.control_command.specs.Inputs.{inputs_in}
 use Rattle.control_command.specs.Report.{report_of}
 
 -- the answer with the report on a state's tree
-abbrev pub reported : Inputs → Woken → Answer
+abbrev pub reported : ControlInputs → Woken → Answer
 reported inputs placed = record { status = statuses.Done; text = report_of placed.state.tree inputs.commands }
 
 -- The first obstacle is said. Without one the hive has a first fault, and that is said; or it loads as a state, and the report on
 -- its tree is said; or there was no memory or a read fault before anything was said.
-abbrev pub EndsControl : Result Inputs Refusal → Status → List ℕ → List ℕ → Type 0
+abbrev pub EndsControl : Result ControlInputs Refusal → Status → List ℕ → List ℕ → Type 0
 EndsControl (Err r) status old new = Ends (refusal r) status old new
 EndsControl (Ok inputs) status old new =
     ((fault : HiveFault) × (LoadFault (image_in inputs.hive) fault) × Ends (refusal (BadHive fault)) status old new)
@@ -35,13 +35,13 @@ EndsControl (Ok inputs) status old new =
     ⊎ (((status ≡ statuses.Memory) ⊎ (status ≡ statuses.ReadFault)) × (new ≡ old)))
 
 -- the report on the hive's tree, or its first fault, or there was no memory
-abbrev pub ReportsAs : Inputs → Result (List ℕ) Obstacle → Type 0
+abbrev pub ReportsAs : ControlInputs → Result (List ℕ) Obstacle → Type 0
 ReportsAs inputs (Ok text) = (placed : Woken) × (Loads (image_in inputs.hive) placed.state placed.dirty) × (text ≡ (reported inputs placed).text)
 ReportsAs inputs (Err (Refused r)) = (fault : HiveFault) × (LoadFault (image_in inputs.hive) fault) × (r ≡ BadHive fault)
 ReportsAs inputs (Err (Stopped stop)) = stop ≡ NoMemory
 
 -- what a command leaves of which the inputs were read
-abbrev pub DecidesInputs : Inputs → Status → HostState → HostState → Type 0
+abbrev pub DecidesInputs : ControlInputs → Status → HostState → HostState → Type 0
 DecidesInputs inputs status old new = DecidesAlone (EndsControl (Ok inputs)) no_saves status old new new_state
 
 -- and of the whole command; it depends on no disk

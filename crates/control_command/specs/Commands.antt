@@ -12,14 +12,14 @@ use Rattle.boot_script.specs.declared.stop.ScriptFault.{ScriptFault}
 use Rattle.boot_script.specs.declared.stop.ScriptStop.{ScriptStop}
 use Rattle.boot_script.specs.declared.stop.ScriptStop.TheVariants as stops
 use Rattle.boot_script.specs.Words.{◌>>=◌, words_of, without_spaces}
-use Rattle.control_command.specs.declared.command.Command.{Command}
-use Rattle.control_command.specs.declared.command.Command.TheVariants.{Start, Stop, StopAll, Listing}
+use Rattle.control_command.specs.declared.command.ControlCommand.{ControlCommand}
+use Rattle.control_command.specs.declared.command.ControlCommand.TheVariants.{Start, Stop, StopAll, Listing}
 
 -- the command of one word, or of a word and a name
-abbrev pub alone_of : List ℕ → Result Command ScriptFaultKind
+abbrev pub alone_of : List ℕ → Result ControlCommand ScriptFaultKind
 alone_of word = if bytes_eq word (codes "list") then Ok Listing else Err Word
 
-abbrev pub named_of : List ℕ → List ℕ → Result Command ScriptFaultKind
+abbrev pub named_of : List ℕ → List ℕ → Result ControlCommand ScriptFaultKind
 named_of word name =
     if bytes_eq word (codes "start") then Ok (Start name)
     else if bytes_eq word (codes "stop") then Ok (Stop name)
@@ -27,59 +27,59 @@ named_of word name =
     else Err Word
 
 -- the command of a line with these words
-unfoldable pub command_of : List (List ℕ) → Result Command ScriptFaultKind
+unfoldable pub command_of : List (List ℕ) → Result ControlCommand ScriptFaultKind
 command_of [] = Err Word
 command_of (a ∷ []) = alone_of a
 command_of (a ∷ b ∷ []) = named_of a b
 command_of (a ∷ b ∷ c ∷ more) = Err Word
 
 -- the command of a line that begins with no space; a comment and an empty line have none
-unfoldable pub trimmed_command : List ℕ → Result (Option Command) ScriptFaultKind
+unfoldable pub trimmed_command : List ℕ → Result (Option ControlCommand) ScriptFaultKind
 trimmed_command [] = Ok None
 trimmed_command (c ∷ line) = if c == 35 then Ok None else (words_of (c ∷ line) >>= λ words. command_of words >>= λ command. Ok (Some command))
 
-abbrev pub line_command : List ℕ → Result (Option Command) ScriptFaultKind
+abbrev pub line_command : List ℕ → Result (Option ControlCommand) ScriptFaultKind
 line_command line = trimmed_command (without_spaces line)
 
 abbrev pub at_line : {A : Type 0} → ℕ → ScriptFaultKind → Result A ScriptFault
 at_line n kind = Err (record { kind = kind; line = n })
 
-abbrev pub put_before : List Command → Result (List Command) ScriptFault → Result (List Command) ScriptFault
+abbrev pub put_before : List ControlCommand → Result (List ControlCommand) ScriptFault → Result (List ControlCommand) ScriptFault
 put_before front (Ok commands) = Ok (front ++ commands)
 put_before front (Err f) = Err f
 
 -- what a line gives, and what follows it
-abbrev pub after_line : ℕ → Result (Option Command) ScriptFaultKind → Result (List Command) ScriptFault → Result (List Command) ScriptFault
+abbrev pub after_line : ℕ → Result (Option ControlCommand) ScriptFaultKind → Result (List ControlCommand) ScriptFault → Result (List ControlCommand) ScriptFault
 after_line n (Err kind) next = at_line n kind
 after_line n (Ok command) next = put_before (option_to_list command) next
 
 -- the commands of the lines from line n on, or the first fault
-unfoldable pub commands_from : ℕ → List (List ℕ) → Result (List Command) ScriptFault
+unfoldable pub commands_from : ℕ → List (List ℕ) → Result (List ControlCommand) ScriptFault
 commands_from n [] = Ok []
 commands_from n (line ∷ more) = after_line n (line_command line) (commands_from (n + 1) more)
 
 -- the commands that the text is, or the first fault: a text over 65,536 bytes is refused before all else, as line 0
-unfoldable pub commands_of : List ℕ → Result (List Command) ScriptFault
+unfoldable pub commands_of : List ℕ → Result (List ControlCommand) ScriptFault
 commands_of text = if nat_lt 65536 (length text) then at_line 0 TooLong else commands_from 1 (lines text)
 
 -- ---- what a function of the code returned, against what the grammar gives
 
-abbrev pub FailsBy : ScriptStop → Result (List Command) ScriptFault → Type 0
+abbrev pub FailsBy : ScriptStop → Result (List ControlCommand) ScriptFault → Type 0
 FailsBy stops.Memory read = Unit {0}
 FailsBy (stops.Fault f) read = read ≡ Err f
 
 -- the commands were read, or the first fault is this, or there was no memory
-abbrev pub GivesCommands : Result (List Command) ScriptStop → Result (List Command) ScriptFault → Type 0
+abbrev pub GivesCommands : Result (List ControlCommand) ScriptStop → Result (List ControlCommand) ScriptFault → Type 0
 GivesCommands (Ok commands) read = read ≡ Ok commands
 GivesCommands (Err stop) read = FailsBy stop read
 
 -- a line was read, and its command stands behind the others
-pub record TakesLine (old new : List Command) (line : List ℕ) : Type 0 where
-  pub command : Option Command
+pub record TakesLine (old new : List ControlCommand) (line : List ℕ) : Type 0 where
+  pub command : Option ControlCommand
   pub reads : line_command line ≡ Ok command
   pub adds : new ≡ old ++ option_to_list command
 
 -- a line was refused
 abbrev pub RefusesLine : List ℕ → ℕ → ScriptStop → Type 0
 RefusesLine line n stops.Memory = Unit {0}
-RefusesLine line n (stops.Fault f) = (next : Result (List Command) ScriptFault) → after_line n (line_command line) next ≡ Err f
+RefusesLine line n (stops.Fault f) = (next : Result (List ControlCommand) ScriptFault) → after_line n (line_command line) next ≡ Err f

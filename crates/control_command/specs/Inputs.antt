@@ -10,16 +10,16 @@ use Rattle.command_parts.specs.declared.refusal.Refusal.TheVariants.{ScriptFault
 use Rattle.command_parts.specs.declared.refusal.Obstacle.{Obstacle}
 use Rattle.command_parts.specs.Inputs.{◌>>=◌, file_in, hive_in, behind_step, asks_hive}
 use Rattle.command_parts.specs.Leaves.{AsksUntil}
-use Rattle.control_command.specs.declared.command.Command.{Command}
-use Rattle.control_command.specs.declared.inputs.Inputs.{Inputs}
+use Rattle.control_command.specs.declared.command.ControlCommand.{ControlCommand}
+use Rattle.control_command.specs.declared.inputs.ControlInputs.{ControlInputs}
 use Rattle.control_command.specs.Commands.{commands_of}
 
-abbrev pub commands_in : Result (List Command) ScriptFault → Result (List Command) Refusal
+abbrev pub commands_in : Result (List ControlCommand) ScriptFault → Result (List ControlCommand) Refusal
 commands_in (Ok commands) = Ok commands
 commands_in (Err fault) = Err (BadCommands fault)
 
 -- the commands, and then the hive and its log
-abbrev pub inputs_in : ControlAsked → Files → Result Inputs Refusal
+abbrev pub inputs_in : ControlAsked → Files → Result ControlInputs Refusal
 inputs_in words files = do
   text ← file_in words.commands (files words.commands)
   commands ← commands_in (commands_of text)

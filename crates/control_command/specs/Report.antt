@@ -14,8 +14,8 @@ use Rattle.service_control.specs.Calls.{start_refusal, stop_refusal, off_refusal
 use Rattle.service_control.specs.First.{control_of}
 use Rattle.service_control.specs.declared.stop.ControlStop.{ControlStop}
 use Rattle.service_control.specs.declared.stop.ControlStop.TheVariants.{NoService, Disabled, Running, NotStarted, Missing, NeedDisabled, InUse, Unmet, Memory}
-use Rattle.control_command.specs.declared.command.Command.{Command}
-use Rattle.control_command.specs.declared.command.Command.TheVariants.{Start, Stop, StopAll, Listing}
+use Rattle.control_command.specs.declared.command.ControlCommand.{ControlCommand}
+use Rattle.control_command.specs.declared.command.ControlCommand.TheVariants.{Start, Stop, StopAll, Listing}
 
 -- a word, and a name as names are printed
 abbrev pub name_line : List ℕ → List ℕ → List ℕ
@@ -56,7 +56,7 @@ unless why command name c done = option_map_or (λ stop. record { text = refused
 abbrev pub spelled : ControlState → List ℕ → List ℕ
 spelled c name = option_map_or (λ n. n.name) (named c.table name) []
 
-abbrev pub answer_to : ControlState → Command → Answered
+abbrev pub answer_to : ControlState → ControlCommand → Answered
 answer_to c (Start name) =
     unless (start_refusal c name) (codes "start") name c (record { text = name_lines (codes "started") (names_of (new_of c name)); state = after_start c name })
 answer_to c (Stop name) =
@@ -73,7 +73,7 @@ pub record Adds (answer : Answered) (control : ControlState) (old new : List ℕ
 -- ---- the report
 
 -- what is said of each command, one after the other
-abbrev pub answers_to : ControlState → List Command → List ℕ
+abbrev pub answers_to : ControlState → List ControlCommand → List ℕ
 answers_to c [] = codes "end\n"
 answers_to c (command ∷ more) = (answer_to c command).text ++ answers_to (answer_to c command).state more
 
@@ -82,5 +82,5 @@ abbrev pub default_set : Tree → Option Tree
 default_set tree = usable_set tree (select_numbers_of tree).default
 
 -- what is said of the commands on the services of this tree
-abbrev pub report_of : Tree → List Command → List ℕ
+abbrev pub report_of : Tree → List ControlCommand → List ℕ
 report_of tree commands = option_map_or (λ set. answers_to (control_of set) commands) (default_set tree) (codes "verdict no-control-set\nend\n")

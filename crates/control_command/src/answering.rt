@@ -5,9 +5,9 @@ ghost use Rattle.hive_model.specs.Valid.{HoldsKeys};
 ghost use Rattle.control_command.specs.Report.{Adds, answer_to, answers_to, report_of, spelled, name_lines};
 ghost use Rattle.dependencies.specs.Work.{names_of};
 ghost use Rattle.service_control.specs.First.{control_of};
-ghost use Rattle.control_command.specs.declared.command.Command.TheVariants as code;
+ghost use Rattle.control_command.specs.declared.command.ControlCommand.TheVariants as code;
 
-use crate::command::Command;
+use crate::command::ControlCommand;
 use crate::printing::{push_line, push_lines, push_refused};
 use dependencies::Need;
 use nt_bytes::{Bytes, Units};
@@ -92,21 +92,21 @@ fn push_running(out: &mut Vec<u8>, running: &[Need]) -> Result<(), AllocError>
 fn answer(
     alloc: Global,
     control: &mut Control,
-    command: &Command,
+    command: &ControlCommand,
     out: &mut Vec<u8>,
 ) -> Result<(), AllocError>
     ensures { OnOk result (Adds (answer_to control.old command.now) control.new out.old.items out.new.items) }
 {
     match command {
-        Command::Start(name) => start(alloc, control, name, out),
-        Command::Stop(name) => stop(alloc, control, name, out),
-        Command::StopAll(name) => stop_all(alloc, control, name, out),
-        Command::Listing => list(control, out),
+        ControlCommand::Start(name) => start(alloc, control, name, out),
+        ControlCommand::Stop(name) => stop(alloc, control, name, out),
+        ControlCommand::StopAll(name) => stop_all(alloc, control, name, out),
+        ControlCommand::Listing => list(control, out),
     }
 }
 
 /// What is said of the commands on the services of this set.
-fn answers(alloc: Global, set: &Key, commands: &[Command]) -> Result<Bytes, AllocError>
+fn answers(alloc: Global, set: &Key, commands: &[ControlCommand]) -> Result<Bytes, AllocError>
     requires { HoldsKeys set.now }
     ensures { IfOk result (λ t. t ≡ answers_to (control_of set.now) commands.now) }
 {
@@ -120,7 +120,7 @@ fn answers(alloc: Global, set: &Key, commands: &[Command]) -> Result<Bytes, Allo
 }
 
 /// What is said of the commands on the services of this tree, whose keys must be those that a hive can hold.
-pub fn report(alloc: Global, root: &Key, commands: &[Command]) -> Result<Bytes, AllocError>
+pub fn report(alloc: Global, root: &Key, commands: &[ControlCommand]) -> Result<Bytes, AllocError>
     requires { HoldsKeys root.now }
     ensures { IfOk result (λ t. t ≡ report_of root.now commands.now) }
 {

@@ -4,7 +4,7 @@ use nt_bytes::{Row, Units};
 
 /// A command.
 #[derive(Debug, Drop)]
-pub enum Command {
+pub enum ControlCommand {
     /// Start this service and all that it needs.
     Start(Units),
     /// Stop this service.
@@ -16,4 +16,4 @@ pub enum Command {
 }
 
 /// Commands, in the order of their lines.
-pub type Commands = Row<Command>;
+pub type Commands = Row<ControlCommand>;

@@ -7,7 +7,7 @@ ghost use Rattle.control_command.specs.Inputs.{asks_control};
 ghost use Rattle.control_command.specs.Answer.{ReportsAs, DecidesInputs, DecidesControl};
 
 use crate::answering::report;
-use crate::inputs::{Inputs, inputs_in};
+use crate::inputs::{ControlInputs, inputs_in};
 use command_parts::{Obstacle, Refusal, Status, read, refuse, stopped, tell};
 use command_words::ControlWords;
 use nt_bytes::{Bytes, HiveVersion, ReadStop};
@@ -16,7 +16,7 @@ use reg_tree::Key;
 use std::alloc::Global;
 
 /// The report on the hive's tree, or the hive's first fault.
-fn report_on(alloc: Global, inputs: &Inputs) -> Result<Bytes, Obstacle>
+fn report_on(alloc: Global, inputs: &ControlInputs) -> Result<Bytes, Obstacle>
     ensures { ReportsAs inputs.now result }
 {
     match read(alloc, &inputs.hive) {
@@ -32,7 +32,7 @@ fn report_on(alloc: Global, inputs: &Inputs) -> Result<Bytes, Obstacle>
 }
 
 /// Says the report on the hive's tree, or the hive's first fault.
-fn control_inputs<H: Host>(alloc: Global, inputs: &Inputs, host: &mut H) -> Status
+fn control_inputs<H: Host>(alloc: Global, inputs: &ControlInputs, host: &mut H) -> Status
     ensures { DecidesInputs inputs.now result (H.state host.old) (H.state host.new) }
 {
     match report_on(alloc, inputs) {

@@ -16,7 +16,7 @@ use std::alloc::Global;
 
 /// All that the command reads.
 #[derive(Drop)]
-pub struct Inputs {
+pub struct ControlInputs {
     pub commands: Commands,
     pub hive: HiveFiles,
 }
@@ -38,7 +38,7 @@ pub(crate) fn inputs_in<H: Host>(
     alloc: Global,
     words: ControlWords<'_>,
     host: &mut H,
-) -> Result<Inputs, Obstacle>
+) -> Result<ControlInputs, Obstacle>
     ensures looks { Looks (inputs_in (control_seen words.entry) (H.state host.old).files) result (H.state host.old) (H.state host.new) }
     ensures asks { AsksControl (control_seen words.entry) result (H.state host.old) (H.state host.new) }
     ensures kept { result ≡ Err (Obstacle.Refused Refusal.Usage) → ⊥ }
@@ -46,5 +46,5 @@ pub(crate) fn inputs_in<H: Host>(
     let text = file_in(alloc, host, words.commands)?;
     let commands = commands_in(alloc, text.as_slice())?;
     let hive = hive_in(alloc, host, words.hive, words.log)?;
-    Ok(Inputs { commands, hive })
+    Ok(ControlInputs { commands, hive })
 }

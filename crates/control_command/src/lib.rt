@@ -13,7 +13,7 @@ mod printing;
 mod reading;
 
 pub use answering::report;
-pub use command::{Command, Commands};
+pub use command::{Commands, ControlCommand};
 pub use controlling::control;
-pub use inputs::Inputs;
+pub use inputs::ControlInputs;
 pub use reading::read_commands;

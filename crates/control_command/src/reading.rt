@@ -6,7 +6,7 @@ ghost use Rattle.boot_script.specs.declared.stop.ScriptStop.TheVariants as stops
 ghost use Rattle.boot_script.specs.Words.{Gives};
 ghost use Rattle.control_command.specs.Commands.{trimmed_command, line_command, commands_from, commands_of, GivesCommands, TakesLine, RefusesLine};
 
-use crate::command::{Command, Commands};
+use crate::command::{Commands, ControlCommand};
 use crate::commands::command;
 use boot_script::{LineStop, ScriptFault, ScriptFaultKind, ScriptStop, after_spaces, words_in};
 use nt_bytes::first_line;
@@ -17,7 +17,7 @@ const MAX_LEN: usize = 65536;
 
 /// The command of a line that begins with no space; an empty line and a comment have none.
 #[tactic(auto, unfolding(crate::specs::Commands::trimmed_command))]
-fn command_of_trimmed(alloc: Global, line: &[u8]) -> Result<Option<Command>, LineStop>
+fn command_of_trimmed(alloc: Global, line: &[u8]) -> Result<Option<ControlCommand>, LineStop>
     ensures { Gives (λ c. c) result (trimmed_command line.now) }
 {
     match line {
@@ -29,7 +29,7 @@ fn command_of_trimmed(alloc: Global, line: &[u8]) -> Result<Option<Command>, Lin
     }
 }
 
-fn command_of_line(alloc: Global, line: &[u8]) -> Result<Option<Command>, LineStop>
+fn command_of_line(alloc: Global, line: &[u8]) -> Result<Option<ControlCommand>, LineStop>
     ensures { Gives (λ c. c) result (line_command line.now) }
 {
     command_of_trimmed(alloc, after_spaces(line))

@@ -13,8 +13,8 @@ use Rattle.service_control.specs.State.{ControlState, named, labels_of}
 use Rattle.service_control.specs.Leaning.{has, has_all, leans, is_closed, is_leaning, leaning_of, in_use_by}
 use Rattle.service_control.specs.Calls.{start_refusal, start_refusal_at, started_by, new_of, after_start, off_refusal, stop_refusal, after_stop, after_stop_all, stopped_by}
 use Rattle.service_control.proofs.LeanLemmas.{name_alike}
-use Rattle.control_command.specs.declared.command.Command.{Command}
-use Rattle.control_command.specs.declared.command.Command.TheVariants.{Start, Stop, StopAll, Listing}
+use Rattle.control_command.specs.declared.command.ControlCommand.{ControlCommand}
+use Rattle.control_command.specs.declared.command.ControlCommand.TheVariants.{Start, Stop, StopAll, Listing}
 use Rattle.control_command.specs.Report.{Answered, unless, name_line, name_lines, spelled}
 use Rattle.control_laws.specs.Alike.{with_name, EndAlike}
 use Rattle.control_laws.proofs.CallLemmas.{state_unless}
@@ -76,7 +76,7 @@ module _ (a b : List ℕ) (h : folds_same a b ≡ true) where
   stop_same c = let off = off_same c in let use_of = in_use_same c.running in
       (λ i. option_or (off i) (option_map InUse (use_of i)))
 
-  end_alike : (c : ControlState) (command : Command) → EndAlike c (with_name a command) (with_name b command)
+  end_alike : (c : ControlState) (command : ControlCommand) → EndAlike c (with_name a command) (with_name b command)
   end_alike c (Start old) =
       let one : Answered = record
       { text = name_lines (codes "started") (names_of (new_of c a)); state = after_start c a } in
@@ -126,6 +126,6 @@ module _ (a b : List ℕ) (h : folds_same a b ≡ true) where
       }
   end_alike c Listing = record { refusal = refl; state = refl; text = λ none. refl }
 
-pub ends_alike : (c : ControlState) (command : Command) (a b : List ℕ) → folds_same a b ≡ true
+pub ends_alike : (c : ControlState) (command : ControlCommand) (a b : List ℕ) → folds_same a b ≡ true
     → EndAlike c (with_name a command) (with_name b command)
 ends_alike c command a b h = end_alike a b h c command

@@ -9,8 +9,8 @@ use Rattle.service_control.specs.First.{control_of}
 use Rattle.service_control.specs.Calls.{start_refusal, stop_refusal, off_refusal, after_start, after_stop, after_stop_all, new_of, stopped_by}
 use Rattle.service_control.specs.Laws.{Call, after_call, after_calls}
 use Rattle.dependencies.specs.Work.{names_of}
-use Rattle.control_command.specs.declared.command.Command.{Command}
-use Rattle.control_command.specs.declared.command.Command.TheVariants.{Start, Stop, StopAll, Listing}
+use Rattle.control_command.specs.declared.command.ControlCommand.{ControlCommand}
+use Rattle.control_command.specs.declared.command.ControlCommand.TheVariants.{Start, Stop, StopAll, Listing}
 use Rattle.control_command.specs.Report.{Answered, answer_to, answers_to, unless, name_line, name_lines, spelled, default_set, report_of}
 use Rattle.control_laws.specs.Called.{calls_by, all_calls_by, said_to}
 
@@ -20,7 +20,7 @@ pub state_unless : (why : Option ControlStop) (command name : List ℕ) (c : Con
 state_unless None command name c done = refl
 state_unless (Some stop) command name c done = refl
 
-pub command_calls : (c : ControlState) (command : Command)
+pub command_calls : (c : ControlState) (command : ControlCommand)
     → (answer_to c command).state ≡ after_calls c (calls_by command)
 command_calls c (Start name) =
     state_unless (start_refusal c name) (codes "start") name c
@@ -40,17 +40,17 @@ after_more c [] more = refl
 after_more c (call ∷ calls) more = after_more (after_call c call) calls more
 
 -- the first command's call, and then the others
-call_first : (c : ControlState) (command : Command) (more : List Command)
+call_first : (c : ControlState) (command : ControlCommand) (more : List ControlCommand)
     → after_calls (answer_to c command).state (all_calls_by more) ≡ after_calls c (all_calls_by (command ∷ more))
 call_first c command more =
     ap (λ d. after_calls d (all_calls_by more)) (command_calls c command)
     ∙ sym (after_more c (calls_by command) (all_calls_by more))
 
 -- what is said from a command on, in this state
-abbrev from : Command → List Command → ControlState → List ℕ
+abbrev from : ControlCommand → List ControlCommand → ControlState → List ℕ
 from command back now = (answer_to now command).text ++ answers_to (after_calls now (calls_by command)) back
 
-pub answer_behind : (c : ControlState) (front back : List Command) (command : Command)
+pub answer_behind : (c : ControlState) (front back : List ControlCommand) (command : ControlCommand)
     → answers_to c (front ++ command ∷ back) ≡ said_to c front ++ from command back (after_calls c (all_calls_by front))
 answer_behind c [] back command = ap (λ d. (answer_to c command).text ++ answers_to d back) (command_calls c command)
 answer_behind c (first ∷ front) back command =
@@ -60,14 +60,15 @@ answer_behind c (first ∷ front) back command =
     ∙ sym (append_assoc (answer_to c first).text (said_to next front)
     (from command back (after_calls c (all_calls_by (first ∷ front)))))
 
-pub ends : (c : ControlState) (commands : List Command) → answers_to c commands ≡ said_to c commands ++ codes "end\n"
+pub ends : (c : ControlState) (commands : List ControlCommand)
+    → answers_to c commands ≡ said_to c commands ++ codes "end\n"
 ends c [] = refl
 ends c (first ∷ more) =
     let next : ControlState = (answer_to c first).state in
     ap (λ t. (answer_to c first).text ++ t) (ends next more)
     ∙ sym (append_assoc (answer_to c first).text (said_to next more) (codes "end\n"))
 
-pub report_is : (tree set : Tree) (commands : List Command) → default_set tree ≡ Some set
+pub report_is : (tree set : Tree) (commands : List ControlCommand) → default_set tree ≡ Some set
     → report_of tree commands ≡ answers_to (control_of set) commands
 report_is tree set commands is =
     ap (λ o. option_map_or (λ s. answers_to (control_of s) commands) o (codes "verdict no-control-set\nend\n")) is

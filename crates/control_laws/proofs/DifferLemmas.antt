@@ -21,7 +21,7 @@ use Rattle.service_control.specs.Calls.{start_refusal, stop_refusal, off_refusal
 use Rattle.service_control.specs.Laws.{Call, start, stop, stop_all, after_call, after_calls, NamesDiffer, IsLeast}
 use Rattle.service_control.specs.declared.stop.ControlStop.{ControlStop}
 use Rattle.service_control.proofs.LeastLemmas.{a_least_start, from_at}
-use Rattle.control_command.specs.declared.command.Command.{Command}
+use Rattle.control_command.specs.declared.command.ControlCommand.{ControlCommand}
 use Rattle.control_command.specs.Report.{default_set}
 use Rattle.control_laws.specs.Called.{all_calls_by, control_behind}
 use Rattle.hive_model.proofs.HeldLemmas.{held_key}
@@ -153,7 +153,7 @@ kept : (c : ControlState) (calls : List Call) → (after_calls c calls).by_group
 kept c [] = refl
 kept c (call ∷ more) = kept (after_call c call) more ∙ kept_by c call
 
-pub names_differ : (set : Tree) (commands : List Command) → HoldsKeys set
+pub names_differ : (set : Tree) (commands : List ControlCommand) → HoldsKeys set
     → NamesDiffer (control_behind set commands).by_group
 names_differ set commands holds =
     subst NamesDiffer (sym (kept (control_of set) (all_calls_by commands))) (by_group_differs set holds)
@@ -169,7 +169,8 @@ default_holds tree set holds is =
     let n : ℕ = (select_numbers_of tree).default in
     held_key (set_name n ∷ []) tree set holds (usable_is (is_usable tree n) (set_of tree n) set is)
 
-pub least : (tree set : Tree) (commands : List Command) (name : List ℕ) → HoldsKeys tree → default_set tree ≡ Some set
+pub least : (tree set : Tree) (commands : List ControlCommand) (name : List ℕ) → HoldsKeys tree
+    → default_set tree ≡ Some set
     → IsLeast (control_behind set commands) name
 least tree set commands name holds is =
     a_least_start (control_behind set commands) name (names_differ set commands (default_holds tree set holds is))

@@ -11,8 +11,8 @@ use Rattle.service_control.specs.First.{control_of}
 use Rattle.service_control.specs.Calls.{off_refusal, after_stop_all}
 use Rattle.service_control.specs.Laws.{stop_all, after_call, after_calls}
 use Rattle.service_control.specs.Leaning.{is_leaning, leaning_of, leaning_in, others_in}
-use Rattle.control_command.specs.declared.command.Command.{Command}
-use Rattle.control_command.specs.declared.command.Command.TheVariants.{StopAll}
+use Rattle.control_command.specs.declared.command.ControlCommand.{ControlCommand}
+use Rattle.control_command.specs.declared.command.ControlCommand.TheVariants.{StopAll}
 use Rattle.control_laws.specs.Called.{calls_by, all_calls_by, control_behind}
 use Rattle.control_laws.specs.Parted.{ArePartedIn, all_parted, one_is_out, one_stays}
 use Rattle.control_laws.proofs.CallLemmas.{after_more}
@@ -36,13 +36,13 @@ parted running name =
     (length-map-range_with_len (is_leaning running name) 0 (length running))
 
 -- one more command behind others
-pub one_more : (set : Tree) (commands : List Command) (name : List ℕ)
+pub one_more : (set : Tree) (commands : List ControlCommand) (name : List ℕ)
     → control_behind set (commands ++ StopAll name ∷ []) ≡ after_call (control_behind set commands) (stop_all name)
 one_more set commands name =
     ap (after_calls (control_of set)) (flat_map-append calls_by commands (StopAll name ∷ []))
     ∙ after_more (control_of set) (all_calls_by commands) (stop_all name ∷ [])
 
-pub stays : (set : Tree) (commands : List Command) (name : List ℕ)
+pub stays : (set : Tree) (commands : List ControlCommand) (name : List ℕ)
     → off_refusal (control_behind set commands) name ≡ None
     → ArePartedIn (control_behind set commands).running (leaning_in (control_behind set commands).running name)
     (control_behind set (commands ++ StopAll name ∷ [])).running

@@ -6,25 +6,25 @@ use Rattle.service_control.specs.First.{control_of}
 use Rattle.service_control.specs.Laws.{Call, start, stop, stop_all, after_calls}
 use Rattle.service_control.specs.State.{ControlState}
 use Rattle.control_command.specs.Report.{answer_to}
-use Rattle.control_command.specs.declared.command.Command.{Command}
-use Rattle.control_command.specs.declared.command.Command.TheVariants.{Start, Stop, StopAll, Listing}
+use Rattle.control_command.specs.declared.command.ControlCommand.{ControlCommand}
+use Rattle.control_command.specs.declared.command.ControlCommand.TheVariants.{Start, Stop, StopAll, Listing}
 
 -- the calls of a command: a listing makes none
-abbrev pub calls_by : Command → List Call
+abbrev pub calls_by : ControlCommand → List Call
 calls_by (Start name) = start name ∷ []
 calls_by (Stop name) = stop name ∷ []
 calls_by (StopAll name) = stop_all name ∷ []
 calls_by Listing = []
 
 -- the calls of commands, in their order
-abbrev pub all_calls_by : List Command → List Call
+abbrev pub all_calls_by : List ControlCommand → List Call
 all_calls_by commands = flat_map calls_by commands
 
 -- the services behind these commands on a set
-abbrev pub control_behind : Tree → List Command → ControlState
+abbrev pub control_behind : Tree → List ControlCommand → ControlState
 control_behind set commands = after_calls (control_of set) (all_calls_by commands)
 
 -- what is said of commands, one after the other
-abbrev pub said_to : ControlState → List Command → List ℕ
+abbrev pub said_to : ControlState → List ControlCommand → List ℕ
 said_to c [] = []
 said_to c (command ∷ more) = (answer_to c command).text ++ said_to (answer_to c command).state more

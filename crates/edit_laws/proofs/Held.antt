@@ -20,7 +20,7 @@ use Rattle.edit_laws.proofs.Wellformed.{first_part, standing, items_are, item_fr
 use Rattle.edit_laws.proofs.Untouched.{AreHeld}
 
 -- a cell is held
-abbrev Held : Cells → ℕ → Type 0
+abbrev pub Held : Cells → ℕ → Type 0
 Held cells o = (q : List ℕ) × (cells.payload o ≡ Ok q)
 
 pub held_by : {F : Type 0} (form : List ℕ → Result F HiveKind) (cells : Cells) (at o : ℕ) (x : F)

@@ -46,7 +46,6 @@ pub mod ValueCells
 pub mod ItemSizes
 pub mod KeyCells
 pub mod Grown
-pub mod ListsRead
 pub mod TakenOut
 pub mod Lessening
 pub mod Totals

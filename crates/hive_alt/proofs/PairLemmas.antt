@@ -7,7 +7,7 @@ use Rattle.hive_model.specs.Image.{Image, File, Primary, Log, Bytes, Unreadable,
 use Rattle.hive_model.specs.Recovery.{sector, base_at}
 use Rattle.hive_model.proofs.BaseLemmas.{IsChecked, base_in_checked}
 use Rattle.nt_edge.specs.Crash.{AgreeOutside}
-use Rattle.hive_commit.specs.Fitting.{NumbersFit, TextsFit}
+use Rattle.regf_base.specs.Fitting.{NumbersFit, TextsFit}
 use Rattle.hive_commit.specs.Stages.{HasMarked, opened_of, closed_of}
 use Rattle.hive_commit.proofs.Four.{IsAsked, is_base_of}
 use Rattle.hive_alt.specs.Copies.{copy_in, HasCopy, IsPair, IsBehind, in_copy, is_block, is_bin, BlockIsBeforeOr, IsWritten, IsRewriting}

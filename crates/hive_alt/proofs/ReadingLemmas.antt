@@ -1,8 +1,10 @@
 -- Reads, one after the other.
-use Rattle.std.proofs.Common.{◌++◌, ◌∷◌, [], List, sym, subst}
+use Rattle.std.proofs.Common.{◌++◌, ◌∷◌, [], Bool, List, Result, sym, subst}
 use Rattle.std.proofs.lemmas.List.{append-nil}
 use Rattle.nt_edge.specs.Calls.{Made, ReadAt, Makes}
 use Rattle.hive_model.specs.Image.{Address}
+use Rattle.hive_log.specs.Asked.{AsksFirst}
+use Rattle.hive_log.specs.declared.stops.LoadStop.{LoadStop}
 use Rattle.hive_log.proofs.Asking.{reads_in_turn}
 use Rattle.hive_alt.specs.Schemes.{OnlyReads}
 
@@ -19,3 +21,8 @@ reads_then {a = a} {b = b} {c = c} one two =
       made = reads_in_turn a b c one.sectors two.sectors one.made two.made;
       are = tt;
     }
+
+-- a part of what recovery asks for
+pub reads_part : {T : Type 0} {a b : List Made → Type 0} {tells : Bool} {part : List Address → List Address}
+    {result : Result T LoadStop} → AsksFirst a b tells part result → OnlyReads a b
+reads_part part = record { sectors = part.sectors; made = part.made; are = tt }

@@ -1,36 +1,24 @@
 -- What a reading of two copies finds, or its first fault.
-use Rattle.std.proofs.Common.{◌≡◌, ◌<◌, ◌+◌, ◌*◌, ◌/◌, ℕ, Bool, true, false, cond, List, length, Option, Some, None, Result, Ok, Err, refl, sym, ◌∙◌, ap, arith}
+use Rattle.std.proofs.Common.{◌≡◌, ◌<◌, ◌+◌, ◌*◌, ◌/◌, ℕ, Bool, true, false, cond, List, length, Option, Some, Result, Ok, Err, refl, sym, ◌∙◌, ap, arith}
 use Rattle.std.specs.Prelude.{not}
 use Rattle.nt_bytes.specs.declared.fault.HiveFault.{HiveFault}
 use Rattle.nt_bytes.specs.declared.fault.HiveKind.TheVariants.{LogSequence}
 use Rattle.hive_model.specs.Base.{Base, fault_at, is_bins_size}
-use Rattle.hive_model.specs.Image.{Image, File, Primary, Log, Content, Bytes, Unreadable}
-use Rattle.hive_model.specs.Recovery.{sector, log_in, and_then, bytes_or, gathered, recovered_with, goes_with, base_in}
+use Rattle.hive_model.specs.Image.{Image, File, Primary, Log, Bytes}
+use Rattle.hive_model.specs.Recovery.{sector, log_in, and_then, gathered, recovered_with, goes_with, base_in}
 use Rattle.hive_model.specs.Carries.{HasBase}
 use Rattle.hive_log.specs.Found.{IsUnfinished}
 use Rattle.hive_log.proofs.Appending.{sized}
 use Rattle.hive_log.proofs.Finding.{one_number}
+use Rattle.hive_log.proofs.Looked.{bytes_back}
 use Rattle.hive_alt.specs.Copies.{HasCopy, IsBehind, StandsBy}
 use Rattle.hive_alt.specs.Twin.{copy_at, absent_at, torn_at, read_in, second_in, is_second, standing, by_second_block, twin_of}
 use Rattle.hive_alt.proofs.TwinLemmas.{by_clean, by_unfinished, block_back, first_stands, second_block_stands, second_stands, true_is_second}
 
 -- a sector that was read is there
-bytes_back : (absent torn : HiveFault) (c : Option Content) (bytes : List ℕ) → bytes_or absent torn c ≡ Ok bytes
-    → c ≡ Some (Bytes bytes)
-bytes_back absent torn None bytes is = absurd (cc)
-bytes_back absent torn (Some Unreadable) bytes is = absurd (cc)
-bytes_back absent torn (Some (Bytes read)) bytes is = let same : read ≡ bytes = cc in ap (λ b. Some (Bytes b)) same
-
 read_back : (file : File) (image : Image) (i : ℕ) (bytes : List ℕ) → read_in file image i ≡ Ok bytes
     → image (copy_at file (8 + i)) ≡ Some (Bytes bytes)
 read_back file image i bytes is = bytes_back (absent_at file i) (torn_at file i) (image (copy_at file (8 + i))) bytes is
-
--- the size of what was read
-pub sized_bins : (size : ℕ) (bins : List ℕ) → is_bins_size size ≡ true → length bins ≡ 512 * (size / 512)
-    → is_bins_size (length bins) ≡ true
-sized_bins size bins is long =
-    let whole : size ≡ length bins = omega (arith, (sized size is).pages, long) in
-    ap is_bins_size (sym whole) ∙ is
 
 whole_bins : (bins : List ℕ) (count : ℕ) → length bins ≡ 512 * count → 512 * (length bins / 512) ≡ length bins
 whole_bins bins count long = omega (arith, long)

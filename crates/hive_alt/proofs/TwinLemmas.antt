@@ -10,6 +10,7 @@ use Rattle.hive_model.specs.Image.{Image, File, Primary, Log, Content, Bytes, Un
 use Rattle.hive_model.specs.Recovery.{log_in, sector, and_then, bytes_or, gathered, recovered_with, goes_with, as_log_base, base_at, base_in}
 use Rattle.hive_model.specs.Carries.{HasBase}
 use Rattle.hive_model.specs.Log.{dirty}
+use Rattle.hive_model.proofs.BaseLemmas.{log_base_back}
 use Rattle.hive_log.specs.Found.{IsUnfinished}
 use Rattle.hive_log.proofs.Appending.{sized}
 use Rattle.hive_log.proofs.Ranks.{split}
@@ -63,10 +64,6 @@ block_there : (c : Option Content) (b : Base) → base_at c ≡ Ok (Some b) → 
 block_there None b is = absurd (cc)
 block_there (Some Unreadable) b is = absurd (cc)
 block_there (Some (Bytes block)) b is = ap as_log_base (base_back_at (base_of block 0) b is)
-
-log_base_back : (r : Result Base HiveFault) (b : Base) → as_log_base r ≡ Ok b → r ≡ Ok b
-log_base_back (Ok x) b is = is
-log_base_back (Err f) b is = absurd (cc)
 
 pub block_back : (c : Option Content) (b : Base) → second_at c ≡ Ok b → base_at c ≡ Ok (Some b)
 block_back None b is = absurd (cc)

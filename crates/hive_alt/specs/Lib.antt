@@ -1,6 +1,5 @@
 pub mod Changes
 pub mod Copies
-pub mod FilesState
 pub mod Plans
 pub mod Schemes
 pub mod Shown

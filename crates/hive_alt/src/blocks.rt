@@ -1,42 +1,17 @@
-//! Reading the base blocks of two copies, and comparing the second copy. Nothing is written.
+//! Reading the second copy's base block, and comparing the second copy. Nothing is written.
 
-ghost use Rattle.std.specs.Prelude.{◌≡◌, ◌≤◌, ◌+◌, ◌*◌, ◌/◌, true, Some, [], length, IfOk};
-ghost use Rattle.hive_model.specs.Base.{Base, is_bins_size, base_of};
-ghost use Rattle.hive_model.specs.Recovery.{log_in, as_log_base, base_in, sector};
+ghost use Rattle.std.specs.Prelude.{◌≡◌, ◌≤◌, ◌+◌, ◌*◌, ◌/◌, true, [], length, IfOk};
+ghost use Rattle.hive_model.specs.Base.{is_bins_size, base_of};
+ghost use Rattle.hive_model.specs.Recovery.{log_in, as_log_base, sector};
 ghost use Rattle.hive_log.specs.Stops.{Reads, IsLookAt};
 ghost use Rattle.hive_alt.specs.Schemes.{OnlyReads};
 ghost use Rattle.hive_alt.specs.Twin as twin;
 ghost use Rattle.hive_alt.specs.Twin.{second_in, has_fields, has_bytes, second_has, is_second};
 
-use crate::gathering::read_sector;
-use hive_log::{LoadStop, copy_sector};
+use hive_log::{LoadStop, copy_sector, read_logged, read_sector};
 use nt_bytes::{HiveFault, HiveKind};
 use nt_edge::{Address, Disk, HiveFile, Presence};
 use regf_base::{BaseBlock, read_base};
-
-/// The primary's base block, none where it can't be read.
-pub(crate) fn read_first_block<D: Disk>(disk: &mut D) -> Result<Option<BaseBlock>, LoadStop>
-    requires on { (D.state disk.old).on ≡ true }
-    requires still { D.tells ≡ true → (D.state disk.old).flight ≡ [] }
-    ensures asked { OnlyReads (D.calls disk.old) (D.calls disk.new) }
-    ensures block { D.tells ≡ true → Reads result (base_in (D.state disk.old).held) }
-    ensures sized { (b : Base) → result ≡ Ok (Some b) → is_bins_size b.size ≡ true }
-    ensures look { IsLookAt D.tells (D.state disk.old) (D.state disk.new) result }
-{
-    let mut sector = [0; 512];
-    let at = Address {
-        file: HiveFile::Primary,
-        sector: 0,
-    };
-    match disk.read(at, &mut sector)? {
-        Presence::Whole => Ok(Some(read_base(&sector, 0)?)),
-        Presence::Unreadable => Ok(None),
-        Presence::Absent => Err(LoadStop::Fault(HiveFault {
-            kind: HiveKind::NotRegf,
-            at: 0,
-        })),
-    }
-}
 
 /// The second copy's base block. A fault of it is `LogBase` at the same byte.
 pub(crate) fn read_second_block<D: Disk>(disk: &mut D) -> Result<BaseBlock, LoadStop>
@@ -61,20 +36,7 @@ pub(crate) fn read_second_block<D: Disk>(disk: &mut D) -> Result<BaseBlock, Load
         at: 0,
     };
     read_sector(disk, at, absent, unreadable, &mut sector)?;
-    Ok(read_second(&sector)?)
-}
-
-fn read_second(sector: &[u8; 512]) -> Result<BaseBlock, HiveFault>
-    ensures exact { result ≡ as_log_base (base_of sector.now 0) }
-    ensures sized { IfOk result (λ b. is_bins_size b.size ≡ true) }
-{
-    match read_base(sector, 0) {
-        Ok(base) => Ok(base),
-        Err(fault) => Err(HiveFault {
-            kind: HiveKind::LogBase,
-            at: fault.at,
-        }),
-    }
+    Ok(read_logged(&sector, 0)?)
 }
 
 /// Whether two base blocks have the same fields.

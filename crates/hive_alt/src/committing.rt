@@ -5,16 +5,16 @@ ghost use Rattle.hive_model.specs.Base.{is_bins_size};
 ghost use Rattle.nt_edge.specs.Crash.{EachCrash};
 ghost use Rattle.nt_edge.specs.Frames.{Goes};
 ghost use Rattle.nt_edge.specs.Host.{Rises};
-ghost use Rattle.hive_commit.specs.Stages.{next_number, opened_of, closed_of};
+ghost use Rattle.hive_commit.specs.Stages.{closed_of};
 ghost use Rattle.hive_alt.specs.Copies.{IsPair};
 ghost use Rattle.hive_alt.specs.Schemes.{IsKeptAsEither};
 ghost use Rattle.hive_alt.specs.Twin.{twin_of};
 
-use crate::fitting::{numbers_fit, texts_fit};
 use crate::rewriting::rewrite;
+use hive_commit::{closed_block, opened_block};
 use hive_log::mark_dirty;
 use nt_edge::{Disk, DiskStop, HiveFile};
-use regf_base::BaseBlock;
+use regf_base::{BaseBlock, numbers_fit, texts_fit};
 
 /// Puts new bins data in the place of the old ones in both copies, the second one first. Each of them takes three
 /// stages with one sync each: opened, its sectors that differ, closed. Once the second copy is closed it has the new
@@ -49,41 +49,4 @@ pub(crate) fn change_pair<D: Disk>(
     rewrite(disk, HiveFile::Log, &opened, &closed, &bitmap, new)?;
     rewrite(disk, HiveFile::Primary, &opened, &closed, &bitmap, new)?;
     Ok(closed)
-}
-
-/// The base block that opens a commit.
-fn opened_block(base: &BaseBlock) -> BaseBlock
-    ensures { result ≡ opened_of base.now }
-{
-    BaseBlock {
-        first: base.first.wrapping_add(1),
-        second: base.second,
-        stamp: base.stamp,
-        minor: base.minor,
-        kind: base.kind,
-        root: base.root,
-        size: base.size,
-        cluster: base.cluster,
-        name: base.name,
-        rest: base.rest,
-    }
-}
-
-/// The base block that closes a commit.
-fn closed_block(base: &BaseBlock, size: u32, root: u32) -> BaseBlock
-    ensures { result ≡ record base.now { first = next_number base.now.first; second = next_number base.now.first; size = size; root = root } }
-{
-    let next = base.first.wrapping_add(1);
-    BaseBlock {
-        first: next,
-        second: next,
-        stamp: base.stamp,
-        minor: base.minor,
-        kind: base.kind,
-        root,
-        size,
-        cluster: base.cluster,
-        name: base.name,
-        rest: base.rest,
-    }
 }

@@ -1,39 +1,17 @@
 //! Reading the bins sectors of a copy. Nothing is written.
 
 ghost use Rattle.std.specs.Prelude.{◌≡◌, ◌<◌, ◌+◌, ◌*◌, ℕ, true, Ok, [], ◌∷◌, length, IfOk};
-ghost use Rattle.hive_model.specs.Recovery.{bytes_or, gathered, sector};
+ghost use Rattle.hive_model.specs.Recovery.{gathered, sector};
 ghost use Rattle.nt_edge.specs.Book.{file_of};
 ghost use Rattle.nt_edge.specs.Calls.{Makes, ReadAt};
 ghost use Rattle.hive_log.specs.Stops.{Reads, ReadsAs, IsLookAt};
 ghost use Rattle.hive_alt.specs.Schemes.{OnlyReads};
 ghost use Rattle.hive_alt.specs.Twin.{copy_at, absent_at, torn_at, read_in};
 
-use hive_log::LoadStop;
+use hive_log::{LoadStop, read_sector};
 use nt_bytes::{Bytes, HiveFault, HiveKind};
-use nt_edge::{Address, Disk, HiveFile, Presence};
+use nt_edge::{Address, Disk, HiveFile};
 use std::alloc::Global;
-
-/// Reads a sector as it was last written, or answers the one fault where it is absent, the other where it
-/// can't be read.
-pub(crate) fn read_sector<D: Disk>(
-    disk: &mut D,
-    at: Address,
-    absent: HiveFault,
-    unreadable: HiveFault,
-    into: &mut [u8; 512],
-) -> Result<(), LoadStop>
-    requires on { (D.state disk.old).on ≡ true }
-    requires still { D.tells ≡ true → (D.state disk.old).flight ≡ [] }
-    ensures made { Makes (D.calls disk.old) (D.calls disk.new) (ReadAt at ∷ []) }
-    ensures bytes { D.tells ≡ true → ReadsAs (λ _. into.new) result (bytes_or absent unreadable ((D.state disk.old).held at)) }
-    ensures look { IsLookAt D.tells (D.state disk.old) (D.state disk.new) result }
-{
-    match disk.read(at, into)? {
-        Presence::Whole => Ok(()),
-        Presence::Absent => Err(LoadStop::Fault(absent)),
-        Presence::Unreadable => Err(LoadStop::Fault(unreadable)),
-    }
-}
 
 /// The fault of a copy whose bins sector i is absent.
 fn absent_in(file: HiveFile, i: u32) -> HiveFault

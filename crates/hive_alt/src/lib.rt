@@ -10,7 +10,6 @@ mod change;
 mod changing;
 mod committing;
 mod files;
-mod fitting;
 mod gathering;
 mod log_scheme;
 mod mending;

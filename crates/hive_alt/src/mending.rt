@@ -13,13 +13,12 @@ ghost use Rattle.hive_alt.specs.Copies.{HasCopy, IsPair, IsBehind, unfinished_of
 ghost use Rattle.hive_alt.specs.Schemes.{IsKeptAs};
 ghost use Rattle.hive_alt.specs.Twin.{twin_of};
 
-use crate::fitting::{numbers_fit, texts_fit};
 use crate::pair::{Seen, read_pair};
 use crate::rewriting::rewrite;
-use crate::writing::{write_bins, write_block};
+use crate::writing::{write_copy_bins, write_copy_block};
 use hive_log::{LoadStop, Recovered, mark_dirty};
 use nt_edge::{Disk, DiskStop, HiveFile};
-use regf_base::BaseBlock;
+use regf_base::{BaseBlock, numbers_fit, texts_fit};
 use std::alloc::Global;
 
 /// The base block that opens a second copy which is mended: its second number is the one before.
@@ -27,16 +26,8 @@ fn unfinished_block(base: &BaseBlock) -> BaseBlock
     ensures { result ≡ unfinished_of base.now }
 {
     BaseBlock {
-        first: base.first,
         second: base.first.wrapping_sub(1),
-        stamp: base.stamp,
-        minor: base.minor,
-        kind: base.kind,
-        root: base.root,
-        size: base.size,
-        cluster: base.cluster,
-        name: base.name,
-        rest: base.rest,
+        ..*base
     }
 }
 
@@ -84,8 +75,8 @@ fn mend_first<D: Disk>(disk: &mut D, base: &BaseBlock, bins: &[u8]) -> Result<()
     texts_fit(base);
     let mut bitmap = [0; 4096];
     mark_all(bins, &mut bitmap);
-    write_bins(disk, HiveFile::Primary, &bitmap, bins)?;
-    write_block(disk, HiveFile::Primary, base)?;
+    write_copy_bins(disk, HiveFile::Primary, &bitmap, bins)?;
+    write_copy_block(disk, HiveFile::Primary, base)?;
     Ok(())
 }
 

@@ -3,7 +3,6 @@
 ghost use Rattle.std.specs.Prelude.{◌≡◌, true, false, Some, Ok, [], length, IfOk};
 ghost use Rattle.hive_model.specs.Base.{is_bins_size};
 ghost use Rattle.hive_model.specs.Recovery.{base_in};
-ghost use Rattle.hive_model.specs.Recovery as book;
 ghost use Rattle.hive_model.specs.Carries.{HasBase};
 ghost use Rattle.hive_log.specs.Found.{IsUnfinished};
 ghost use Rattle.hive_log.specs.Stops.{HasItsFault, IsLookAt};
@@ -11,9 +10,9 @@ ghost use Rattle.hive_alt.specs.Copies.{StandsBy};
 ghost use Rattle.hive_alt.specs.Schemes.{OnlyReads};
 ghost use Rattle.hive_alt.specs.Twin.{twin_of};
 
-use crate::blocks::{read_first_block, read_second_block, second_is};
+use crate::blocks::{read_second_block, second_is};
 use crate::gathering::read_run;
-use hive_log::{LoadStop, Recovered};
+use hive_log::{LoadStop, Recovered, goes_with, read_primary_block};
 use nt_bytes::{HiveFault, HiveKind};
 use nt_edge::{Disk, HiveFile};
 use regf_base::BaseBlock;
@@ -37,14 +36,18 @@ pub(crate) fn read_pair<D: Disk>(alloc: Global, disk: &mut D) -> Result<Seen, Lo
     ensures sized { IfOk result (λ s. is_bins_size (length s.found.bins) ≡ true) }
     ensures look { IsLookAt D.tells (D.state disk.old) (D.state disk.new) result }
 {
-    match read_first_block(disk)? {
-        Some(base) => read_behind(alloc, disk, base),
+    match read_primary_block(disk)? {
+        Some(base) => read_behind_first(alloc, disk, base),
         None => read_second(alloc, disk, &None),
     }
 }
 
 /// Behind the primary's base block.
-fn read_behind<D: Disk>(alloc: Global, disk: &mut D, base: BaseBlock) -> Result<Seen, LoadStop>
+fn read_behind_first<D: Disk>(
+    alloc: Global,
+    disk: &mut D,
+    base: BaseBlock,
+) -> Result<Seen, LoadStop>
     requires on { (D.state disk.old).on ≡ true }
     requires still { D.tells ≡ true → (D.state disk.old).flight ≡ [] }
     requires block { D.tells ≡ true → HasBase (D.state disk.old).held base }
@@ -86,16 +89,6 @@ fn read_first<D: Disk>(alloc: Global, disk: &mut D, base: BaseBlock) -> Result<S
         },
         second: false,
     })
-}
-
-/// Whether the second copy's two numbers are one, and the primary's first one where its base block could be read.
-fn goes_with(opened: &Option<BaseBlock>, second: &BaseBlock) -> bool
-    ensures { result ≡ book.goes_with opened.now second.now }
-{
-    match opened {
-        None => second.first == second.second,
-        Some(base) => second.first == base.first && second.second == base.first,
-    }
 }
 
 /// The primary doesn't stand.

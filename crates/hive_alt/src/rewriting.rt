@@ -9,7 +9,7 @@ ghost use Rattle.nt_edge.specs.Crash.{EachCrash, AgreeOutside};
 ghost use Rattle.hive_alt.specs.Copies.{in_copy, IsWritten, IsRewriting};
 ghost use Rattle.hive_alt.specs.Twin.{copy_at};
 
-use crate::writing::{write_bins, write_block};
+use crate::writing::{write_copy_bins, write_copy_block};
 use nt_edge::{Disk, DiskStop, HiveFile};
 use regf_base::BaseBlock;
 
@@ -37,7 +37,7 @@ pub(crate) fn rewrite<D: Disk>(
     ensures written { D.tells ≡ true → OnOk result (IsWritten (file_of file) (D.state disk.new).held closed.now new.now) }
     ensures goes { Goes (D.state disk.old) (D.state disk.new) result }
 {
-    write_block(disk, file, opened)?;
-    write_bins(disk, file, bitmap, new)?;
-    write_block(disk, file, closed)
+    write_copy_block(disk, file, opened)?;
+    write_copy_bins(disk, file, bitmap, new)?;
+    write_copy_block(disk, file, closed)
 }

@@ -1,10 +1,8 @@
-//! The steps of a stage: writes that stay in flight, and the sync that settles them; and the two stages of a copy, its base
-//! block and its bins sectors.
+//! The two stages of a copy, its base block and its bins sectors.
 
-ghost use Rattle.std.specs.Prelude.{◌≡◌, ◌<◌, ◌≤◌, ◌+◌, ◌*◌, ◌/◌, true, Bool, Some, [], length, OnOk};
+ghost use Rattle.std.specs.Prelude.{◌≡◌, ◌<◌, ◌≤◌, ◌+◌, ◌*◌, ◌/◌, true, Some, [], length, OnOk};
 ghost use Rattle.hive_model.specs.Base.{base_text};
 ghost use Rattle.hive_model.specs.Image as book;
-ghost use Rattle.hive_model.specs.Image.{put};
 ghost use Rattle.hive_model.specs.Recovery.{bit, sector};
 ghost use Rattle.nt_edge.specs.Book.{file_of};
 ghost use Rattle.nt_edge.specs.Disk.{DiskState, now_of};
@@ -15,35 +13,13 @@ ghost use Rattle.hive_commit.specs.Stages.{HasMarked};
 ghost use Rattle.hive_alt.specs.Copies.{copy_in, is_block, is_bin, BlockIsBeforeOr};
 ghost use Rattle.hive_alt.specs.Twin.{copy_at};
 
+use hive_commit::{put_sector, settle};
 use hive_log::{copy_sector, has_bit};
 use nt_edge::{Address, Disk, DiskStop, HiveFile};
 use regf_base::{BaseBlock, base_bytes};
 
-/// Writes a sector, and leaves it in flight.
-fn put_sector<D: Disk>(disk: &mut D, at: Address, bytes: &[u8; 512]) -> Result<(), DiskStop>
-    requires on { (D.state disk.old).on ≡ true }
-    ensures writing { D.tells ≡ true → (p : book.Address → Bool) (first : DiskState) → p at ≡ true
-        → Writing p first (D.state disk.old) → Writing p first (D.state disk.new) }
-    ensures put { D.tells ≡ true → OnOk result (now_of (D.state disk.new) ≡ put (now_of (D.state disk.old)) (at, bytes.now)) }
-    ensures goes { Goes (D.state disk.old) (D.state disk.new) result }
-{
-    disk.write(at, bytes)
-}
-
-/// Syncs. A cut then leaves what it may have left before, or all that was in flight.
-fn settle<D: Disk>(disk: &mut D) -> Result<(), DiskStop>
-    requires on { (D.state disk.old).on ≡ true }
-    ensures crash { D.tells ≡ true → (p : book.Address → Bool) (first : DiskState)
-        → Writing p first (D.state disk.old) → EachCrash (D.state disk.new) (AgreeOutside p first.held) }
-    ensures still { D.tells ≡ true → OnOk result ((D.state disk.new).flight ≡ []) }
-    ensures held { D.tells ≡ true → OnOk result ((D.state disk.new).held ≡ now_of (D.state disk.old)) }
-    ensures goes { Goes (D.state disk.old) (D.state disk.new) result }
-{
-    disk.sync()
-}
-
 /// The bins sectors of a copy whose bit is on; they stay in flight.
-fn write_marked<D: Disk>(
+fn write_copy_marked<D: Disk>(
     disk: &mut D,
     file: HiveFile,
     bitmap: &[u8],
@@ -75,7 +51,7 @@ fn write_marked<D: Disk>(
 }
 
 /// A stage: the bins sectors of a copy whose bit is on, and a sync.
-pub(crate) fn write_bins<D: Disk>(
+pub(crate) fn write_copy_bins<D: Disk>(
     disk: &mut D,
     file: HiveFile,
     bitmap: &[u8],
@@ -92,12 +68,12 @@ pub(crate) fn write_bins<D: Disk>(
     ensures written { D.tells ≡ true → OnOk result (HasMarked (copy_in (file_of file) (D.state disk.new).held) (bit bitmap.now) new.now) }
     ensures goes { Goes (D.state disk.old) (D.state disk.new) result }
 {
-    write_marked(disk, file, bitmap, new)?;
+    write_copy_marked(disk, file, bitmap, new)?;
     settle(disk)
 }
 
 /// A stage: the base block of a copy, and a sync.
-pub(crate) fn write_block<D: Disk>(
+pub(crate) fn write_copy_block<D: Disk>(
     disk: &mut D,
     file: HiveFile,
     base: &BaseBlock,

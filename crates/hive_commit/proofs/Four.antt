@@ -1,5 +1,5 @@
 -- What a cut in each stage of a commit leaves.
-use Rattle.std.proofs.Common.{◌≡◌, ◌⊎◌, ◌<◌, ◌+◌, ◌*◌, ◌/◌, ◌^◌, ℕ, Bool, true, false, List, length, Some, Ok, refl, sym, ◌∙◌, ap, subst, arith, inl, inr, ⊎_elim}
+use Rattle.std.proofs.Common.{◌≡◌, ◌⊎◌, ◌<◌, ◌+◌, ◌*◌, ◌/◌, ◌^◌, ℕ, Bool, true, false, List, length, Some, Ok, refl, sym, ◌∙◌, ap, arith, inl, inr, ⊎_elim}
 use Rattle.std.proofs.lemmas.Bool.{ne_eqb, cases_Bool}
 use Rattle.hive_model.specs.Base.{Base, IsBase, base_of, base_text, is_bins_size}
 use Rattle.hive_model.specs.Image.{Address, Image, Bytes, Unreadable, IsCrashImage, IsLeftBy}
@@ -15,7 +15,7 @@ use Rattle.hive_log.proofs.Finding.{carries_recovered}
 use Rattle.hive_log.proofs.Opened.{IsOpened, IsCommitOf, opened_recovered}
 use Rattle.hive_commit.specs.Cuts.{IsChange}
 use Rattle.hive_commit.specs.Stages.{in_log, is_base, is_marked, BlockIsBeforeOr, HasMarked, opened_of, closed_of, IsBeforeOrAfter}
-use Rattle.hive_commit.specs.Fitting.{NumbersFit, TextsFit}
+use Rattle.regf_base.specs.Fitting.{NumbersFit, TextsFit}
 use Rattle.hive_model.specs.Asked.{bin_at, log_at, primary_at}
 use Rattle.hive_commit.proofs.Growth.{unmarked_at}
 
@@ -266,27 +266,23 @@ change_asked image base old new root bits is =
     }
 
 -- with a bit on where a sector differs
+pub changed : (image : Image) (base : Base) (old new : List ℕ) (root : ℕ) (bitmap : List ℕ) → Carries image base old
+    → NumbersFit base → TextsFit base → is_bins_size (length new) ≡ true → root < 2 ^ 32
+    → ((i : ℕ) → i < length new / 512 → bit bitmap i ≡ dirty old new i)
+    → IsChange image base old new root (bit bitmap)
+changed image base old new root bitmap is numbers texts size root_fits marks = record {
+  carries = is;
+  numbers = numbers;
+  texts = texts;
+  sized = size;
+  root_fits = root_fits;
+  stays = λ i small off.
+      let same = off_same old new i (sym (marks i (omega (arith, (sized (length new) size).pages))) ∙ off) in
+      (omega (arith, same.0), sym same.1);
+}
+
 pub asked : (image : Image) (base : Base) (old new : List ℕ) (root : ℕ) (bitmap : List ℕ) → Carries image base old
     → NumbersFit base → TextsFit base → is_bins_size (length new) ≡ true → root < 2 ^ 32
     → ((i : ℕ) → i < length new / 512 → bit bitmap i ≡ dirty old new i) → IsAsked base old new root (bit bitmap)
-asked image base old new root bitmap is numbers texts size root_fits marks =
-    change_asked image base old new root (bit bitmap)
-    (record {
-      carries = is;
-      numbers = numbers;
-      texts = texts;
-      sized = size;
-      root_fits = root_fits;
-      stays = λ i small off.
-          let same = off_same old new i (sym (marks i (omega (arith, (sized (length new) size).pages))) ∙ off) in
-          (omega (arith, same.0), sym same.1);
-    })
-
--- what a stage said of a base block that is this one
-pub along_log : (image : Image) (bits : ℕ → Bool) (new : List ℕ) (made base : Base) → made ≡ base
-    → HasLog image (log_of bits new made) → HasLog image (log_of bits new base)
-along_log image bits new made base same has = subst (λ (b : Base). HasLog image (log_of bits new b)) same has
-
-pub along_block : (before after : Image) (made base : Base) → made ≡ base → BlockIsBeforeOr before made after
-    → BlockIsBeforeOr before base after
-along_block before after made base same has = subst (λ (b : Base). BlockIsBeforeOr before b after) same has
+asked image base old new root bitmap is numbers texts size root_fits marks = change_asked image base old new root
+    (bit bitmap) (changed image base old new root bitmap is numbers texts size root_fits marks)

@@ -9,3 +9,5 @@ pub mod WriteCalls
 pub mod StageCalls
 pub mod RecoveryCalls
 pub mod LogSectors
+pub mod Staged
+pub mod StagedCuts

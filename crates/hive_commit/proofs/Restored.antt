@@ -8,7 +8,7 @@ use Rattle.hive_model.proofs.BaseLemmas.{logged_in_checked}
 use Rattle.nt_edge.specs.Crash.{AgreeOutside}
 use Rattle.hive_log.specs.Found.{Found}
 use Rattle.hive_log.proofs.Finding.{carries_recovered, found_recovered, one_number, found_along}
-use Rattle.hive_commit.specs.Fitting.{NumbersFit, TextsFit}
+use Rattle.regf_base.specs.Fitting.{NumbersFit, TextsFit}
 use Rattle.hive_model.specs.Asked.{bin_at, log_at, primary_at}
 use Rattle.hive_commit.specs.Stages.{is_base, is_marked, BlockIsBeforeOr, HasMarked}
 use Rattle.hive_commit.proofs.Growth.{unmarked_at}
@@ -54,7 +54,8 @@ module _ (image : Image) (closed : Base) (bitmap bins : List ℕ) (f : Found ima
     found_h = found_in_bins h agree1
 
     bins_there : HasBins h bins
-    bins_there i small = ⊎_elim (λ on. written i small on) (λ off. found_h.unmarked i small off) (cases_Bool (bit bitmap i))
+    bins_there i small =
+        ⊎_elim (λ on. written i small on) (λ off. found_h.unmarked i small off) (cases_Bool (bit bitmap i))
 
     pub closed_again : (c : Image) → AgreeOutside is_base h c → primary_in c 0 ≡ Some (Bytes (base_text closed))
         → Carries c closed bins

@@ -1,5 +1,5 @@
 -- The calls of a stage by those of its steps, and those of a change by its stages.
-use Rattle.std.proofs.Common.{◌≡◌, ◌<◌, ◌+◌, ◌*◌, ◌/◌, ◌++◌, ◌∷◌, ℕ, true, List, [], length, sym, ◌∙◌, ap, arith, append_assoc}
+use Rattle.std.proofs.Common.{◌≡◌, ◌<◌, ◌+◌, ◌*◌, ◌/◌, ◌++◌, ◌∷◌, ℕ, true, List, [], length, ◌∙◌, ap, arith, append_assoc}
 use Rattle.hive_model.specs.Base.{Base, is_bins_size}
 use Rattle.hive_model.specs.Recovery.{bit}
 use Rattle.hive_model.specs.Log.{dirty, log_of}

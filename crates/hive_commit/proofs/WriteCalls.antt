@@ -9,28 +9,17 @@ use Rattle.hive_model.specs.Recovery.{sector}
 use Rattle.nt_edge.specs.Calls.{Made, Wrote, Makes, MakesUntil, writes_of}
 use Rattle.hive_commit.specs.Calls.{log_writes}
 use Rattle.hive_model.specs.Asked.{log_at, bin_at}
+use Rattle.hive_log.proofs.Asking.{range_split}
 use Rattle.hive_commit.specs.Growing.{log_part, marked_below}
 use Rattle.hive_commit.proofs.CallLemmas.{stopped, front_made, front_as, made_then}
 
 writes_append : (first second : List Write) → writes_of first ++ writes_of second ≡ writes_of (first ++ second)
 writes_append first second = sym (map-append Wrote first second)
 
--- a range is cut in two
-range_append : (from m n : ℕ) → range_with_len from (m + n) ≡ range_with_len from m ++ range_with_len (from + m) n
-range_append from zero n =
-    let one : zero + n ≡ n = omega arith in
-    let two : from + zero ≡ from = omega arith in
-    ap (range_with_len from) one ∙ ap (λ k. range_with_len k n) (sym two)
-range_append from (suc m) n =
-    let one : suc m + n ≡ suc (m + n) = omega arith in
-    let two : from + 1 + m ≡ from + suc m = omega arith in
-    ap (range_with_len from) one
-    ∙ ap (λ l. from ∷ l) (range_append (from + 1) m n ∙ ap (λ k. range_with_len (from + 1) m ++ range_with_len k n) two)
-
 -- the log from sector `from` on
 module _ (log : List ℕ) (from : ℕ) where
   log_append : (m n : ℕ) → log_part log from (m + n) ≡ log_part log from m ++ log_part log (from + m) n
-  log_append m n = ap (map (λ k. (log_at k, sector log k))) (range_append from m n)
+  log_append m n = ap (map (λ k. (log_at k, sector log k))) (range_split from m n)
       ∙ map-append _ (range_with_len from m) (range_with_len (from + m) n)
 
   module _ (a b : List Made → Type 0) (n : ℕ) (so_far : Makes a b (writes_of (log_part log from n))) where
@@ -78,7 +67,7 @@ module _ (bits : ℕ → Bool) (bins : List ℕ) where
       → marked_below bits bins (m + n) ≡ marked_below bits bins m
       ++ map (bin_write bins) (filter bits (range_with_len (0 + m) n))
   marked_append m n =
-      ap (λ l. map (bin_write bins) (filter bits l)) (range_append 0 m n)
+      ap (λ l. map (bin_write bins) (filter bits l)) (range_split 0 m n)
       ∙ ap (map (bin_write bins)) (filter-append bits (range_with_len 0 m) (range_with_len (0 + m) n))
       ∙ map-append _ (filter bits (range_with_len 0 m)) (filter bits (range_with_len (0 + m) n))
 

@@ -5,7 +5,7 @@ use Rattle.hive_model.specs.Image.{Image, Bytes}
 use Rattle.hive_model.specs.Recovery.{primary_in, sector}
 use Rattle.hive_model.specs.Carries.{Carries, HasLog}
 use Rattle.nt_edge.specs.Crash.{AgreeOutside}
-use Rattle.hive_commit.specs.Fitting.{NumbersFit, TextsFit}
+use Rattle.regf_base.specs.Fitting.{NumbersFit, TextsFit}
 use Rattle.hive_commit.specs.Stages.{in_log, is_base, is_marked, BlockIsBeforeOr, HasMarked}
 
 -- An image carries the old data, and the new data with their root and their bits can be logged: a bit is off only

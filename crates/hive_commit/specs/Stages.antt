@@ -1,7 +1,7 @@
 -- What each stage of a commit leaves. (This project's own.)
 use Rattle.std.specs.Prelude.{◌≡◌, ◌⊎◌, ◌<◌, ◌+◌, ◌-◌, ◌*◌, ◌%◌, ◌&&◌, nat_le, nat_lt, Bool, true, ℕ, List, length, Some}
 use Rattle.hive_model.specs.Base.{Base, base_text}
-use Rattle.hive_model.specs.Image.{Primary, Log, Address, Image, Bytes, Write, IsLeftBy, same_file, same_address}
+use Rattle.hive_model.specs.Image.{Primary, Log, Address, Image, Bytes, IsLeftBy, same_file, same_address}
 use Rattle.hive_model.specs.Recovery.{primary_in, sector}
 use Rattle.hive_model.specs.Carries.{IsRecoveredAs}
 use Rattle.hive_model.specs.State.{HiveState}

@@ -10,15 +10,15 @@ ghost use Rattle.nt_edge.specs.Calls.{MakesUntil};
 ghost use Rattle.nt_edge.specs.Crash.{EachCrash};
 ghost use Rattle.hive_commit.specs.Alone.{KeepsRest};
 ghost use Rattle.hive_commit.specs.Calls.{change_calls};
-ghost use Rattle.hive_commit.specs.Stages.{next_number, opened_of, closed_of, IsBeforeOrAfter};
+ghost use Rattle.hive_commit.specs.Stages.{closed_of, IsBeforeOrAfter};
 ghost use Rattle.hive_commit.specs.Stops.{IsCommitOn};
 
 use crate::CommitStop;
-use crate::fitting::{numbers_fit, texts_fit};
+use crate::blocks::{closed_block, opened_block};
 use crate::stages::{write_bins, write_block, write_log};
 use hive_log::mark_dirty;
 use nt_edge::Disk;
-use regf_base::BaseBlock;
+use regf_base::{BaseBlock, numbers_fit, texts_fit};
 
 /// Puts new bins data with their root in the place of old ones. The disk is on, has nothing in flight and
 /// carries the base block and the old data; the size of the new data in bytes is a multiple of 4096 from
@@ -66,41 +66,4 @@ pub fn commit<D: Disk>(
     write_bins(disk, marks, new)?;
     write_block(disk, &closed)?;
     Ok(closed)
-}
-
-/// The base block that opens a commit.
-fn opened_block(base: &BaseBlock) -> BaseBlock
-    ensures { result ≡ opened_of base.now }
-{
-    BaseBlock {
-        first: base.first.wrapping_add(1),
-        second: base.second,
-        stamp: base.stamp,
-        minor: base.minor,
-        kind: base.kind,
-        root: base.root,
-        size: base.size,
-        cluster: base.cluster,
-        name: base.name,
-        rest: base.rest,
-    }
-}
-
-/// The base block that closes a commit.
-fn closed_block(base: &BaseBlock, size: u32, root: u32) -> BaseBlock
-    ensures { result ≡ record base.now { first = next_number base.now.first; second = next_number base.now.first; size = size; root = root } }
-{
-    let next = base.first.wrapping_add(1);
-    BaseBlock {
-        first: next,
-        second: next,
-        stamp: base.stamp,
-        minor: base.minor,
-        kind: base.kind,
-        root,
-        size,
-        cluster: base.cluster,
-        name: base.name,
-        rest: base.rest,
-    }
 }

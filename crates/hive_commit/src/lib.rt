@@ -7,8 +7,8 @@
 //! in stage 3 they are sectors that the log has. Rules: docs/format.md, "Commit and recovery".
 #![tactic(auto)]
 
+mod blocks;
 mod change;
-mod fitting;
 mod laws;
 mod loading;
 mod parts;
@@ -16,6 +16,7 @@ mod restoring;
 mod stages;
 mod stops;
 
+pub use blocks::{closed_block, opened_block};
 pub use change::commit;
 pub use hive_log::{LoadStop, Recovered};
 pub use laws::{
@@ -24,5 +25,6 @@ pub use laws::{
     a_cut_while_the_bins_are_written_leaves_the_new, a_cut_while_the_log_is_written_leaves_the_old,
 };
 pub use loading::{look, recover};
+pub use parts::{put_sector, settle};
 pub use restoring::restore;
 pub use stops::CommitStop;

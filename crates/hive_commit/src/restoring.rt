@@ -11,10 +11,9 @@ ghost use Rattle.hive_log.specs.Found.{Found};
 ghost use Rattle.hive_commit.specs.Alone.{KeepsLog, KeepsRest};
 ghost use Rattle.hive_commit.specs.Calls.{closing_calls};
 
-use crate::fitting::{numbers_fit, texts_fit};
 use crate::stages::{write_bins, write_block};
 use nt_edge::{Disk, DiskStop};
-use regf_base::BaseBlock;
+use regf_base::{BaseBlock, numbers_fit, texts_fit};
 
 /// Writes what a reading found into a dirty primary: the sectors that the log gave, and then the base block.
 /// Whatever a cut leaves is recovered as the same. The log is not written. The disk is on and has nothing in

@@ -1,5 +1,5 @@
 -- The cells of a value's data, as they are read, and how many bytes the data have.
-use Rattle.std.proofs.Common.{◌≡◌, ◌≤◌, ◌<◌, ℕ, zero, suc, ◌+◌, ◌-◌, ◌*◌, Bool, true, false, eqb, cond, List, [], ◌∷◌, ◌++◌, length, take, min, Some, None, Result, Ok, Err, refl, sym, ap, subst, ◌∙◌, append_assoc, arith}
+use Rattle.std.proofs.Common.{◌≡◌, ◌≤◌, ◌<◌, ℕ, ◌-◌, ◌*◌, Bool, true, false, eqb, cond, List, [], ◌∷◌, ◌++◌, length, take, min, Some, None, Result, Ok, Err, refl, sym, ap, subst, ◌∙◌, arith}
 use Rattle.std.specs.Prelude.{nat_lt, nat_le}
 use Rattle.std.specs.Result.{IsOk}
 use Rattle.std.specs.Int.{w32, to_le_bytes}
@@ -10,18 +10,17 @@ use Rattle.nt_bytes.specs.declared.fault.HiveKind.TheVariants.{FormLength, FormS
 use Rattle.nt_bytes.specs.declared.version.HiveVersion.{HiveVersion}
 use Rattle.nt_bytes.specs.Fields.{u32_in}
 use Rattle.hive_model.specs.Bins.{Cells}
-use Rattle.hive_model.specs.Packed.{cell_text, text, segment_places, segments, big_cells}
-use Rattle.hive_pack.specs.Writes.{big_size}
-use Rattle.hive_model.specs.Size.{cell, is_big, segment_count, segment_sizes, segment_part, segment_bytes, data_sizes, data_size, cells_sum}
+use Rattle.hive_model.specs.Size.{is_big, segment_count, segment_sizes, segment_part, segment_bytes, data_sizes, data_size, cells_sum}
 use Rattle.hive_model.specs.Forms.{◌>>=◌, bytes_in}
 use Rattle.hive_model.specs.KeyValue.{KeyValue, data_inside, is_in_place}
-use Rattle.hive_model.specs.BigData.{BigData, big_data_at, big_data_text}
-use Rattle.hive_model.specs.Lists.{offsets_in, offsets_text}
+use Rattle.hive_model.specs.BigData.{BigData, big_data_at}
+use Rattle.hive_model.specs.Lists.{offsets_in}
 use Rattle.hive_model.specs.Walk.{reading, below_of, use_as, big_data_of, segments_checks, big_checks, data_checks}
 use Rattle.hive_model.specs.Footprint.{of_read, used_in}
 use Rattle.hive_model.specs.Stands.{joined_segments, big_bytes_at, data_of}
 use Rattle.hive_pack.proofs.Items.{not_big}
 use Rattle.hive_read.proofs.FormFacts.{held-short, offsets-length, then-so}
+use Rattle.hive_pack.proofs.Rows.{sizes_most}
 use Rattle.key_index.specs.Lists.{payload_in}
 use Rattle.key_index.proofs.Below.{in_payload}
 use Rattle.edit_laws.proofs.FromCells.{data_held_inside, data_in_cell, data_in_segments}
@@ -282,14 +281,6 @@ big_at cells at p size place h e s q =
 
 -- ---- written
 
--- how many bytes segments take
-sizes_most : (k n : ℕ) → cells_sum (segment_sizes k n) ≤ 16352 * k
-sizes_most zero n = omega arith
-sizes_most (suc k) n = let r = sizes_most k (n - 16344) in omega (arith, r)
-
-pub big_most : (n : ℕ) → n < 2147483648 → big_size n ≤ 4294967296
-big_most n lt = let r = sizes_most (segment_count n) n in omega (arith, r, lt)
-
 pub data_small : (version : HiveVersion) (n : ℕ) → n ≤ 1048576 → cells_sum (data_sizes version n) ≤ 16777216
 data_small version n few = go (is_big version n) (nat_lt 4 n)
   where
@@ -298,22 +289,3 @@ data_small version n few = go (is_big version n) (nat_lt 4 n)
     go true long = let r = sizes_most (segment_count n) n in omega (arith, r, few)
     go false true = omega (arith, few)
     go false false = omega arith
-
--- big data that were written cell by cell, to stand at a place
-pub big_put : (bytes old one two new : List ℕ) (at k count list first : ℕ) → k ≡ count → list ≡ at + 16
-    → first ≡ list + cell (4 * k)
-    → one ≡ old ++ cell_text (big_data_text (record { segments = k; list = list }))
-    → two ≡ one ++ cell_text (offsets_text (segment_places k first))
-    → new ≡ two ++ text (segments k bytes) → new ≡ old ++ text (big_cells at count bytes)
-unfolding big_cells
-big_put bytes old one two new at k count list first e l f a b d =
-    let head : List ℕ = cell_text (big_data_text (record { segments = k; list = list })) in
-    let places : List ℕ = cell_text (offsets_text (segment_places k first)) in
-    let all : List ℕ = text (segments k bytes) in
-    let first-is : first ≡ at + 16 + cell (4 * k) = omega (arith, l, f) in
-    d ∙ ap (λ (x : List ℕ). x ++ all) (b ∙ ap (λ (x : List ℕ). x ++ places) a)
-    ∙ append_assoc (old ++ head) places all
-    ∙ append_assoc old head (places ++ all)
-    ∙ (λ j. old ++ (cell_text (big_data_text (record { segments = k; list = l j }))
-    ++ (cell_text (offsets_text (segment_places k (first-is j))) ++ all)))
-    ∙ ap (λ (n : ℕ). old ++ text (big_cells at n bytes)) e

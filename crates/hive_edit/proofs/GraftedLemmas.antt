@@ -267,9 +267,6 @@ module _ (version : HiveVersion) (old mid : List Bin) (root : ℕ) (t : Tree) (n
           let j = subst (λ (l : List ℕ). In l o) children_still i in
           λ v. is_gt (folded_order (name_same o j v) (key_name v))
 
-unfolding lists_at
-one_list cells at = refl
-
 count_small : (keys uses : ℕ) → counted_more keys uses < 2 ^ 32
 count_small keys uses = omega arith
 

@@ -143,12 +143,6 @@ numbers_there count p offsets e =
     let t = unless (nat_lt (length p) (4 * count)) FormShort (Ok (numbers_in 4 count p)) offsets e in
     (ltb-false (length p) (4 * count) t.0, sym (ok_same (numbers_in 4 count p) offsets t.1))
 
-unfolding value_places
-places_at_node cells at node r =
-    ap (λ (q : Result KeyNode HiveKind). of_read q
-    (λ m. cond (eqb m.value_count 0) []
-    (of_read (reading (offsets_in m.value_count) cells m.value_list) (λ os. os)))) r
-
 -- a key that counts no value has none
 pub no_values_here : (cells : Cells) (at : ℕ) (p : List ℕ) (count : ℕ) → IsKeyAt cells at → p ≡ payload_in cells at
     → count ≡ u32_in p 36 → count ≡ 0

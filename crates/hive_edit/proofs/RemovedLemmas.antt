@@ -107,9 +107,6 @@ security_reads b root t p x k n h o u =
         let s = security_read b m hd.security stands.1.security listed.1 in
         (s.0, ap (reading security_at b) (sym listed.0) ∙ s.1)
 
-unfolding lists_at
-one_list cells at = refl
-
 -- ---- the child is taken out
 
 module _ (version : HiveVersion) (old new : List Bin) (root : ℕ) (t : Tree) (p : List (List ℕ)) (x : ℕ) (k : Tree)

@@ -12,18 +12,6 @@ use Rattle.hive_model.specs.Stands.{KeyStands, Stands, AllStand, IsWellFormed}
 use Rattle.hive_edit.specs.Standing.{list_read, head_of, tree_at, tree_of}
 use Rattle.edit_laws.proofs.Wellformed.{places_are}
 
-unfolding child_places
-places_are cells at h offsets s =
-    ap (λ (r : Result KeyNode HiveKind). of_read r
-    (λ node. cond (eqb node.child_count 0) [] (of_read (entries_at cells node.child_list) (λ os. os)))) s.read
-    ∙ go (eqb s.node.child_count 0) s.children
-  where
-    go : (b : Bool) → MatchBool b (offsets ≡ [])
-        ((entries_at cells s.node.child_list ≡ Ok offsets) × (length offsets ≡ s.node.child_count))
-        → cond b [] (of_read (entries_at cells s.node.child_list) (λ os. os)) ≡ offsets
-    go true e = sym e
-    go false e = ap (λ (r : Result (List ℕ) HiveKind). of_read r (λ os. os)) e.0
-
 -- what a key that stands says of itself
 pub head_stands : (cells : Cells) (at : ℕ) (h : Head) (offsets : List ℕ) → KeyStands cells at h offsets
     → head_of cells (reading key_node_at cells at) ≡ h

@@ -96,9 +96,6 @@ one_of_them b (w ∷ front) back v h =
     (pairwise_parts (λ p q. p ≡ q → ⊥) (used_in (value_checks b [] w)) (cells_of_values b (front ++ (v ∷ back)))
     h).right
 
-unfolding owned_places value_places
-places_same cells at = refl
-
 pub value_own : (b : Cells) (root : ℕ) (t : Tree) (path : List (List ℕ)) (name : List ℕ) (key v : ℕ) (value : KeyValue)
     → IsWellFormed b root t → key_place b path root ≡ some key
     → value_place b name key ≡ some v → reading key_value_at b v ≡ done value → ValueOwn b v

@@ -10,10 +10,10 @@ ghost use Rattle.hive_model.specs.Size.{list_size, security_size, size};
 ghost use Rattle.hive_model.specs.Edit.{add_child, after_step, is_bad_name, renamed};
 ghost use Rattle.reg_tree.specs.Fitting.{Fits};
 ghost use Rattle.reg_tree.specs.Makes.{IsRefused};
+ghost use Rattle.key_index.specs.Sources.{cells_of};
 ghost use Rattle.hive_edit.specs.Children.{IsAddedIn, IsFreeName, IsGraftedIn, IsNewChild, LacksGraftRoom, MayGraft, RefusesName};
 ghost use Rattle.hive_edit.specs.Grafted.{descriptor_of};
 ghost use Rattle.hive_edit.specs.Runs.{IsPlace};
-ghost use Rattle.hive_edit.specs.Sources.{cells_of};
 ghost use Rattle.hive_edit.specs.Stepped.{IsStepped, LacksStepRoom};
 
 use crate::adding::above_at;
@@ -22,16 +22,13 @@ use crate::grafting::graft_cells;
 use crate::hive::HiveBytes;
 use crate::making::Above;
 use crate::path::child_at;
-use crate::source::{Source, payload};
 use cell_forms::read_sk;
 use hive_cells::OpenHeap;
-use hive_pack::list_len;
+use hive_pack::{NOWHERE, list_len};
+use key_index::{Source, payload};
 use nt_bytes::{Bytes, HiveVersion, ReadStop, Units};
 use reg_tree::{EditStop, Key, is_bad_name};
 use std::alloc::{AllocError, Global};
-
-/// An offset that names nothing.
-const NOWHERE: u32 = 0xffff_ffff;
 
 /// How many bytes a key takes less that shares its descriptor, than it takes with a cell of its own for it.
 fn spared(shared: &[u8], security: &[u8]) -> u64

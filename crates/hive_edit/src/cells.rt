@@ -1,15 +1,15 @@
-//! Runs of new cells put, and old cells freed.
+//! Runs of new cells put.
 
-ghost use Rattle.std.specs.Prelude.{◌≡◌, ◌≤◌, ◌<◌, ℕ, length, slice_index, Contains, None, OnOk, OnErr, MatchOption};
-ghost use Rattle.std.specs.Option.{IsSome};
-ghost use Rattle.std.specs.List.{All};
+ghost use Rattle.std.specs.Prelude.{◌≡◌, ◌≤◌, ◌<◌, ℕ, length, slice_index, OnOk, OnErr, MatchOption};
 ghost use Rattle.hive_model.specs.Bins.{bins_size, spelled};
-ghost use Rattle.hive_cells.specs.Held.{held_at, run_cells, IsRun};
-ghost use Rattle.key_index.specs.Relists.{AreApart};
+ghost use Rattle.hive_cells.specs.Held.{run_cells, IsRun};
 ghost use Rattle.hive_edit.specs.Runs.{IsNewPlace, IsPlace, IsPutAt, LacksPlace};
 
 use hive_cells::OpenHeap;
 use std::alloc::AllocError;
+
+/// How long bins data may be, in bytes.
+pub(crate) const MOST_BINS: u64 = 16_777_216;
 
 /// How many bytes the bins data have, at most 16 MiB.
 pub(crate) fn long(heap: &OpenHeap) -> u32
@@ -31,19 +31,6 @@ fn bytes_small(bytes: &[u8])
     ensures { (i : ℕ) → slice_index bytes.now i < 256 }
 {
     let _whole = bytes;
-}
-
-/// Frees these cells.
-pub(crate) fn free_all(heap: &mut OpenHeap, cells: &[u32])
-    requires held { All (λ o. IsSome (held_at heap.old o)) cells.now }
-    requires apart { AreApart cells.now }
-    ensures gone { (o : ℕ) → Contains cells.now o → held_at heap.new o ≡ None }
-    ensures others { (o : ℕ) → (Contains cells.now o → ⊥) → held_at heap.new o ≡ held_at heap.old o }
-    ensures long { bins_size heap.new ≡ bins_size heap.old }
-{
-    for at in cells {
-        heap.free(*at);
-    }
 }
 
 /// Where a run of so many bytes is to be put, if there is room: nothing changes.

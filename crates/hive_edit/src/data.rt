@@ -9,12 +9,12 @@ ghost use Rattle.hive_model.specs.Lists.{offsets_in};
 ghost use Rattle.hive_model.specs.Walk.{big_checks};
 ghost use Rattle.hive_model.specs.Footprint.{used_in};
 ghost use Rattle.hive_model.specs.Stands.{big_bytes_at};
+ghost use Rattle.key_index.specs.Sources.{cells_of};
 ghost use Rattle.hive_edit.specs.Places.{IsItemHere, data_places, data_room, data_places_by, room_by};
-ghost use Rattle.hive_edit.specs.Sources.{cells_of};
 
-use crate::runs::{data_len, is_big};
-use crate::source::{Source, payload};
 use cell_forms::{DbForm, Offsets, read_db, read_offsets};
+use hive_pack::{data_len, is_big};
+use key_index::{Source, payload};
 use nt_bytes::{HiveVersion, ReadStop, u32_at};
 use std::alloc::{AllocError, Global};
 

@@ -10,12 +10,10 @@ ghost use Rattle.hive_edit.specs.Dropped.{AreDropped, AreShortened, CanDrop, Can
 
 use crate::making::{Above, note, uses_at};
 use hive_cells::OpenHeap;
+use hive_pack::NOWHERE;
 use key_index::{Removal, remove_child};
 use nt_bytes::HiveVersion;
 use std::alloc::{AllocError, Global};
-
-/// An offset that names nothing.
-const NOWHERE: u32 = 0xffff_ffff;
 
 /// One key less uses the security cell, which stays even where none uses it.
 fn lower(heap: &mut OpenHeap, at: u32)

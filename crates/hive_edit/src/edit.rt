@@ -19,18 +19,18 @@ ghost use Rattle.hive_edit.specs.Edits.{inside_place, value_fields, IsEditedInPl
 use crate::give::inside_fields;
 use crate::hive::HiveBytes;
 use crate::path::key_at;
-use crate::source::Source;
 use crate::values::{if_inside, value_at};
 use hive_cells::read_cells;
 use hive_pack::pack;
 use hive_read::read_tree;
+use key_index::Source;
 use nt_bytes::{Bytes, HiveVersion, Names, ReadStop, Row, Units};
 use reg_tree::{EditStop, Key, MOST_BULK, Steps, TreeStep};
 use std::alloc::{AllocError, Global};
 use tree_draft::apply;
 
 /// The greatest number of bytes that a value's data have.
-const MOST_DATA: usize = 1_048_576;
+pub(crate) const MOST_DATA: usize = 1_048_576;
 
 /// Where the packed form has the root.
 const ROOT: u32 = 32;

@@ -13,9 +13,10 @@ ghost use Rattle.hive_edit.specs.Edits.{value_fields};
 ghost use Rattle.hive_edit.specs.Given.{Gives, IsGiven};
 ghost use Rattle.hive_edit.specs.Runs.{IsPlace};
 
-use crate::cells::{free_all, place_for, put_run};
-use crate::runs::{data_len, write_data};
+use crate::cells::{place_for, put_run};
 use hive_cells::OpenHeap;
+use hive_pack::{data_len, write_data};
+use key_index::free_all;
 use nt_bytes::{Bytes, HiveVersion, put_u32};
 use std::alloc::{AllocError, Global};
 

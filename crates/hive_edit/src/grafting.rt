@@ -12,14 +12,11 @@ ghost use Rattle.hive_edit.specs.Grafted.{CanGraft, IsGrafted, IsLinkedBy, IsRai
 use crate::cells::put_run;
 use crate::making::{Above, note, uses_at};
 use hive_cells::OpenHeap;
-use hive_pack::{cells_below, sharing_keys, tree_fits};
+use hive_pack::{NOWHERE, cells_below, sharing_keys, tree_fits};
 use key_index::insert_child;
 use nt_bytes::HiveVersion;
 use reg_tree::Key;
 use std::alloc::{AllocError, Global};
-
-/// An offset that names nothing.
-const NOWHERE: u32 = 0xffff_ffff;
 
 /// So many keys more use the security cell, if there is one.
 fn raise_by(heap: &mut OpenHeap, at: u32, keys: u32)

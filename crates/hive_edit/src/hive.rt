@@ -11,10 +11,10 @@ ghost use Rattle.hive_edit.specs.Hive.{cells_in, Takes};
 
 use crate::children::child_names;
 use crate::path::key_at;
-use crate::source::Source;
 use crate::values::dword_under;
 use hive_cells::{CellHeap, OpenHeap};
 use hive_read::{judge, read_tree};
+use key_index::Source;
 use nt_bytes::{HiveVersion, Names, ReadStop};
 use reg_tree::Key;
 use std::alloc::{AllocError, Global};

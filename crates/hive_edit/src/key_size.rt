@@ -6,21 +6,19 @@ ghost use Rattle.hive_model.specs.Bins.{look_up};
 ghost use Rattle.hive_model.specs.Tree.{Tree, head};
 ghost use Rattle.hive_model.specs.Stands.{IsWellFormed};
 ghost use Rattle.hive_model.specs.Size.{bulk_of, list_size, security_size, size};
+ghost use Rattle.key_index.specs.Sources.{cells_of};
 ghost use Rattle.hive_edit.specs.Places.{IsKeyAt};
-ghost use Rattle.hive_edit.specs.Sources.{cells_of};
 
 use crate::measure::cell_len;
-use crate::source::{Source, payload};
 use hive_cells::OpenHeap;
+use hive_pack::NOWHERE;
 use hive_read::judge;
+use key_index::{Source, payload};
 use nt_bytes::{HiveVersion, ReadStop, u32_at};
 use std::alloc::{AllocError, Global};
 
 /// Beyond so many bytes a bulk is counted anew, as the sum of its parts may not be whole.
 pub(crate) const MANY: u64 = 1_099_511_627_776;
-
-/// The offset that names nothing.
-const NOWHERE: u32 = 0xffff_ffff;
 
 /// The lists of so many children.
 pub(crate) fn list_len(n: u32) -> u64

@@ -6,7 +6,7 @@ ghost use Rattle.nt_bytes.specs.Fields.{u32_in};
 ghost use Rattle.hive_model.specs.Bins.{bins_size};
 ghost use Rattle.hive_model.specs.Footprint.{list_strain_of};
 ghost use Rattle.hive_model.specs.Packed.{cell_text};
-ghost use Rattle.hive_model.specs.Size.{is_narrow, name_bytes};
+ghost use Rattle.hive_model.specs.Size.{is_narrow};
 ghost use Rattle.hive_model.specs.KeyNode.{key_node_text};
 ghost use Rattle.hive_model.specs.Walk.{nowhere};
 ghost use Rattle.hive_cells.specs.Held.{held_at};
@@ -14,13 +14,10 @@ ghost use Rattle.hive_edit.specs.Making.{child_fields, new_node, above_children,
 
 use cell_forms::{NkForm, nk_bytes};
 use hive_cells::OpenHeap;
-use hive_pack::put_cell;
+use hive_pack::{NOWHERE, is_narrow, put_cell};
 use key_index::insert_child;
 use nt_bytes::{Bytes, HiveVersion, Units, put_u32, u32_at};
 use std::alloc::{AllocError, Global};
-
-/// An offset that names nothing.
-const NOWHERE: u32 = 0xffff_ffff;
 
 /// What a parent's node says of its children, and where its security is.
 #[derive(Clone, Copy)]
@@ -29,25 +26,6 @@ pub(crate) struct Above {
     pub(crate) count: u32,
     pub(crate) volatile: u32,
     pub(crate) security: u32,
-}
-
-/// Whether one byte is enough for each unit.
-pub(crate) fn is_narrow(name: &[u16]) -> bool
-    ensures { result ≡ is_narrow name.now }
-{
-    name.iter().all(|u| *u < 256)
-}
-
-/// How many bytes a name is stored in.
-pub(crate) fn name_len(name: &[u16]) -> usize
-    requires { length name.now ≤ 16777216 }
-    ensures { result ≡ name_bytes name.now }
-{
-    if is_narrow(name) {
-        name.len()
-    } else {
-        2 * name.len()
-    }
 }
 
 /// The flags of a node with this name.

@@ -5,14 +5,15 @@ ghost use Rattle.std.specs.Result.{IsOk};
 ghost use Rattle.nt_bytes.specs.Text.{wide_of};
 ghost use Rattle.hive_model.specs.StoredNames.{stored_name};
 ghost use Rattle.hive_model.specs.KeyValue.{key_value_at};
-ghost use Rattle.hive_model.specs.Size.{cell, cells_sum, data_sizes, is_big, is_narrow, item_size, name_bytes, segment_count, segment_sizes};
+ghost use Rattle.hive_model.specs.Size.{cell, cells_sum, data_sizes, is_narrow, item_size, name_bytes, segment_count, segment_sizes};
 ghost use Rattle.hive_model.specs.Stands.{item_at};
 ghost use Rattle.hive_model.specs.Tree.{Item};
+ghost use Rattle.key_index.specs.Sources.{cells_of};
 ghost use Rattle.hive_edit.specs.Places.{IsItemHere, value_name_of};
-ghost use Rattle.hive_edit.specs.Sources.{cells_of};
 
-use crate::source::{Source, payload};
 use crate::values::{is_narrow, stored_bytes};
+use hive_pack::is_big;
+use key_index::{Source, payload};
 use nt_bytes::{HiveVersion, u32_at};
 
 /// The cell of a payload of so many bytes.
@@ -65,16 +66,6 @@ fn name_len(value: &[u8]) -> u64
     stored_len(narrow, stored)
 }
 
-/// Whether data of so many bytes stand in segments.
-pub(crate) fn is_big(version: HiveVersion, n: u32) -> bool
-    ensures { result ≡ is_big version n }
-{
-    match version {
-        HiveVersion::V3 => false,
-        HiveVersion::V5 => n > 16344,
-    }
-}
-
 /// The cells of the segments of so many bytes.
 fn segments_len(n: u64) -> u64
     requires some { 0 < n }
@@ -92,7 +83,7 @@ pub(crate) fn data_len(version: HiveVersion, n: u32) -> u64
     ensures few { result ≤ 8589934592 }
 {
     let size = u64::from(n);
-    if is_big(version, n) {
+    if is_big(version, n as usize) {
         let count = (size + 16343) / 16344;
         return 16 + cell_len(4 * count) + segments_len(size);
     }

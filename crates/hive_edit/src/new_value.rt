@@ -26,28 +26,22 @@ ghost use Rattle.hive_edit.specs.Places.{value_place};
 ghost use Rattle.hive_edit.specs.Runs.{IsPlace};
 ghost use Rattle.hive_edit.specs.Stepped.{IsStepped, LacksStepRoom};
 
-use crate::cells::{are_bytes, place_for, put_run};
+use crate::cells::{MOST_BINS, are_bytes, place_for, put_run};
+use crate::edit::MOST_DATA;
 use crate::give::own_number;
 use crate::hive::HiveBytes;
-use crate::making::{cell_bytes, is_narrow, name_len};
+use crate::making::cell_bytes;
 use crate::measure::{cell_len, data_len};
 use crate::path::key_at;
-use crate::runs::{cell_size, write_data};
-use crate::source::Source;
-use crate::unset::{bins_fit, list_len, two_fields, values_of};
+use crate::unset::{list_len, two_fields, values_of};
 use crate::values::value_at;
 use cell_forms::{VkForm, vk_bytes};
 use hive_cells::OpenHeap;
-use hive_pack::put_cell;
+use hive_pack::{cell_size, is_narrow, name_len, put_cell, write_data};
+use key_index::{Source, bins_fit};
 use nt_bytes::{Bytes, HiveVersion, Names, Units};
 use reg_tree::{EditStop, MOST_BULK};
 use std::alloc::{AllocError, Global};
-
-/// The greatest number of bytes that a value's data have.
-const MOST_DATA: usize = 1_048_576;
-
-/// How long bins data may be.
-const MOST_BINS: u64 = 16_777_216;
 
 // ---- the run
 

@@ -8,12 +8,10 @@ ghost use Rattle.reg_tree.specs.Makes.{IsRefused, step_of};
 ghost use Rattle.hive_edit.specs.Stepped.{IsStepped, LacksStepRoom};
 ghost use Rattle.hive_edit.specs.Steps.{AreStepped, AreStrained};
 
+use crate::cells::MOST_BINS;
 use crate::hive::HiveBytes;
 use reg_tree::{EditStop, TreeStep};
 use std::alloc::Global;
-
-/// The greatest size of bins data, in bytes.
-const MOST_BINS: u64 = 16_777_216;
 
 impl HiveBytes {
     /// Makes one step, whatever the bulk of the tree then. `false` where there is no room for it. The hive is a draft, to be

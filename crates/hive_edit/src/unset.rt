@@ -23,16 +23,14 @@ ghost use Rattle.hive_edit.specs.Stepped.{IsStepped, LacksStepRoom};
 
 use crate::cells::are_bytes;
 use crate::hive::HiveBytes;
-use crate::measure::{cell_len, is_big, value_len};
+use crate::measure::{cell_len, value_len};
 use crate::path::key_at;
-use crate::source::{Source, payload};
 use crate::values::value_at;
 use hive_cells::OpenHeap;
+use hive_pack::{NOWHERE, is_big};
+use key_index::{Source, bins_fit, payload};
 use nt_bytes::{HiveVersion, Names, put_u32, u16_at, u32_at};
 use reg_tree::{EditStop, MOST_BULK};
-
-/// The offset that names nothing.
-const NOWHERE: u32 = 0xffff_ffff;
 
 // ---- lists of offsets
 
@@ -57,13 +55,6 @@ fn free_listed(heap: &mut OpenHeap, list: u32, count: u32)
         heap.free(at);
     }
     heap.free(list);
-}
-
-/// The bins data have at most 16 MiB.
-pub(crate) fn bins_fit(heap: &OpenHeap)
-    ensures { bins_size heap.now ≤ 16777216 }
-{
-    let _bins = heap.bytes();
 }
 
 /// Moves the numbers of a list behind a place down by one, over the one that is there.
@@ -132,7 +123,7 @@ fn free_data(heap: &mut OpenHeap, version: HiveVersion, size: u32, place: u32)
     if size == 0 {
         return;
     }
-    if is_big(version, size) {
+    if is_big(version, size as usize) {
         free_big(heap, place);
     } else {
         heap.free(place);

@@ -6,20 +6,18 @@ ghost use Rattle.hive_model.specs.Lists.{numbers_in};
 ghost use Rattle.hive_model.specs.Walk.{value_checks};
 ghost use Rattle.hive_model.specs.Footprint.{used_in, security_cell_at, list_cells_at};
 ghost use Rattle.key_index.specs.Lists.{payload_in};
+ghost use Rattle.key_index.specs.Sources.{cells_of};
 ghost use Rattle.edit_laws.specs.Owned.{class_cell_at};
 ghost use Rattle.edit_laws.specs.Revalues.{all_value_cells, cells_of_values};
 ghost use Rattle.edit_laws.specs.Uses.{own_uses, plain, secure, tree_uses};
 ghost use Rattle.hive_edit.specs.Places.{IsItemHere, IsKeyAt};
-ghost use Rattle.hive_edit.specs.Sources.{cells_of};
 
 use crate::children::{children, entries_in, is_list_of_lists};
 use crate::data::data_places;
-use crate::source::{Source, payload};
+use hive_pack::NOWHERE;
+use key_index::{Source, payload};
 use nt_bytes::{u16_at, u32_at};
 use std::alloc::{AllocError, Global};
-
-/// The offset that names nothing.
-const NOWHERE: u32 = 0xffff_ffff;
 
 /// The payload of the node of a key.
 fn node_at<'a>(cells: &Source<'a>, at: u32) -> &'a [u8]

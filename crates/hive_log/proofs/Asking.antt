@@ -138,7 +138,7 @@ module _ {before between : List Made → Type 0} {tells : Bool} {image : Image} 
         }
 
 -- numbers in turn
-range_split : (from m n : ℕ) → range_with_len from (m + n) ≡ range_with_len from m ++ range_with_len (from + m) n
+pub range_split : (from m n : ℕ) → range_with_len from (m + n) ≡ range_with_len from m ++ range_with_len (from + m) n
 range_split from zero n =
     let short : zero + n ≡ n = omega arith in
     let same : from ≡ from + zero = omega arith in

@@ -14,7 +14,7 @@ use Rattle.hive_log.proofs.Runs.{gathered_same}
 use Rattle.hive_log.proofs.Finding.{by_clean, by_unfinished, by_log_bits}
 
 -- bytes that were read are there
-bytes_back : (absent unreadable : HiveFault) (c : Option Content) (bytes : List ℕ)
+pub bytes_back : (absent unreadable : HiveFault) (c : Option Content) (bytes : List ℕ)
     → bytes_or absent unreadable c ≡ Ok bytes → c ≡ Some (Bytes bytes)
 bytes_back absent unreadable None bytes is = absurd (cc)
 bytes_back absent unreadable (Some Unreadable) bytes is = absurd (cc)

@@ -5,9 +5,9 @@ use Rattle.std.proofs.Common.{lit≤}
 use Rattle.hive_model.specs.Image.{image_of}
 use Rattle.nt_edge.specs.Calls.{Made}
 use Rattle.nt_edge.specs.Disk.{DiskState, IsBounded}
-use Rattle.hive_log.specs.declared.files.Files.{Files}
+use Rattle.hive_log.specs.declared.files.TwoFiles.{TwoFiles}
 
-abbrev pub files_state : Files → DiskState
+abbrev pub files_state : TwoFiles → DiskState
 files_state files = record {
   held = image_of files.primary.now files.log.now;
   flight = [];
@@ -18,9 +18,9 @@ files_state files = record {
   history = record { wakes = []; cut_calls = 0; placings = 0; takings = 0; armings = [] };
 }
 
-pub files_bounded : (files : Files) → IsBounded (files_state files)
+pub files_bounded : (files : TwoFiles) → IsBounded (files_state files)
 files_bounded files = record { cuts = lit≤ tt; faults = lit≤ tt; lacks = lit≤ tt; cut_calls = lit≤ tt; placings = lit≤ tt; takings = lit≤ tt }
 
 -- no call is remembered, so each list is said
-pub files_said : (files : Files) → List Made × Unit {0}
+pub files_said : (files : TwoFiles) → List Made × Unit {0}
 files_said files = ([], tt)

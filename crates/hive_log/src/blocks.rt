@@ -15,8 +15,9 @@ use nt_edge::{Address, Disk, HiveFile, Presence};
 use regf_base::{BaseBlock, read_base};
 use std::alloc::{AllocError, Global};
 
-/// The primary's base block, none where it can't be read.
-pub(crate) fn read_primary_block<D: Disk>(disk: &mut D) -> Result<Option<BaseBlock>, LoadStop>
+/// The primary's base block, sector 0 of its file, or none where that can't be read. Where it is absent the fault is
+/// `NotRegf`, and else the first check that fails.
+pub fn read_primary_block<D: Disk>(disk: &mut D) -> Result<Option<BaseBlock>, LoadStop>
     requires on { (D.state disk.old).on ≡ true }
     requires still { D.tells ≡ true → (D.state disk.old).flight ≡ [] }
     ensures block { D.tells ≡ true → Reads result (base_in (D.state disk.old).held) }
@@ -64,13 +65,15 @@ pub(crate) fn read_log_block<D: Disk>(disk: &mut D) -> Result<BaseBlock, LoadSto
         at: 0,
     };
     read_sector(disk, at, absent, unreadable, &mut sector)?;
-    Ok(read_logged(&sector)?)
+    Ok(read_logged(&sector, 1)?)
 }
 
-fn read_logged(sector: &[u8; 512]) -> Result<BaseBlock, HiveFault>
-    ensures { result ≡ as_log_base (base_of sector.now 1) }
+/// The base block of a sector 0 in the log's file, of this file type: 1 for a log, 0 for what a caller keeps in its place.
+/// A fault of it is `LogBase` at the same byte.
+pub fn read_logged(sector: &[u8; 512], kind: u32) -> Result<BaseBlock, HiveFault>
+    ensures { result ≡ as_log_base (base_of sector.now kind) }
 {
-    match read_base(sector, 1) {
+    match read_base(sector, kind) {
         Ok(base) => Ok(base),
         Err(fault) => Err(HiveFault {
             kind: HiveKind::LogBase,
@@ -144,7 +147,7 @@ pub(crate) fn bits_behind(alloc: Global, text: &[u8]) -> Result<Bytes, AllocErro
 }
 
 /// Whether the log's two numbers are one, and the primary's first one where its base block could be read.
-pub(crate) fn goes_with(opened: &Option<BaseBlock>, logged: &BaseBlock) -> bool
+pub fn goes_with(opened: &Option<BaseBlock>, logged: &BaseBlock) -> bool
     ensures { result ≡ book.goes_with opened.now logged.now }
 {
     match opened {

@@ -11,14 +11,17 @@ use nt_bytes::ReadStop;
 use nt_edge::{Address, Disk, DiskStop, HiveFile, Presence};
 use std::alloc::Global;
 
-/// The first 65,536 sectors of two files, as a disk whose every write lacks memory.
+/// Two files as a disk that is on and tells what it holds: the first 65,536 sectors of each, 512 bytes a sector, the last one
+/// filled up with zeros. An empty file is an absent one. Every write and every sync lacks memory.
 #[derive(Drop)]
-struct Files<'a> {
-    primary: &'a [u8],
-    log: &'a [u8],
+pub struct TwoFiles<'a> {
+    /// The file of the primary.
+    pub primary: &'a [u8],
+    /// The file of the log, or what a caller keeps in its place.
+    pub log: &'a [u8],
 }
 
-impl Disk for Files<'_> {
+impl Disk for TwoFiles<'_> {
     ghost use Rattle.std.specs.Prelude.{true};
     ghost use Rattle.hive_log.specs.FilesState.{files_state, files_bounded, files_said};
 
@@ -79,7 +82,7 @@ pub fn recovered(alloc: Global, primary: &[u8], log: &[u8]) -> Result<Recovered,
     ensures exact { ReadsFiles result (recovered_of (image.image_of primary.now log.now)) }
     ensures sized { IfOk result (λ r. is_bins_size (length r.bins) ≡ true) }
 {
-    let mut files = Files { primary, log };
+    let mut files = TwoFiles { primary, log };
     match read_recovered(alloc, &mut files) {
         Ok(
             Reading {

@@ -15,9 +15,9 @@ use nt_bytes::{Bytes, HiveFault, HiveKind};
 use nt_edge::{Address, Disk, HiveFile, Presence};
 use std::alloc::Global;
 
-/// Reads a sector as it was last written, or answers the one fault where it is absent, the other where it
+/// Reads a sector of 512 bytes as it was last written, or answers the one fault where it is absent, the other where it
 /// can't be read.
-pub(crate) fn read_sector<D: Disk>(
+pub fn read_sector<D: Disk>(
     disk: &mut D,
     at: Address,
     absent: HiveFault,

@@ -16,7 +16,9 @@ mod spelling;
 mod stops;
 
 pub use bitmap::{bitmap_sector, bitmap_sectors, first_dirty, has_bit};
-pub use files::recovered;
+pub use blocks::{goes_with, read_logged, read_primary_block};
+pub use files::{TwoFiles, recovered};
+pub use gathering::read_sector;
 pub use looking::{Reading, read_recovered};
 pub use marking::mark_dirty;
 pub use outcome::Recovered;

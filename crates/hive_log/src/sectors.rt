@@ -27,16 +27,5 @@ pub fn copy_sector(bytes: &[u8], i: usize, into: &mut [u8; 512])
 pub fn logged_block(base: &BaseBlock) -> BaseBlock
     ensures { result ≡ record base.now { kind = 1 } }
 {
-    BaseBlock {
-        first: base.first,
-        second: base.second,
-        stamp: base.stamp,
-        minor: base.minor,
-        kind: 1,
-        root: base.root,
-        size: base.size,
-        cluster: base.cluster,
-        name: base.name,
-        rest: base.rest,
-    }
+    BaseBlock { kind: 1, ..*base }
 }

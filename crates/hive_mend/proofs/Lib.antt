@@ -1,3 +1,1 @@
-pub mod Holding
-pub mod LoadingLemmas
 pub mod MendingLemmas

@@ -1,14 +1,13 @@
 -- What does a mending make of a loaded hive? (This project's own.)
-use Rattle.std.specs.Prelude.{◌⊎◌, ◌&&◌, nat_le, nat_lt, Bool, ℕ, List, length, Option, Some, None, Result, if◌then◌else◌}
+use Rattle.std.specs.Prelude.{◌&&◌, nat_le, nat_lt, Bool, ℕ, List, length, Option, Some, None, Result, if◌then◌else◌}
 use Rattle.hive_model.specs.Base.{version_of}
 use Rattle.hive_model.specs.Image.{Image}
 use Rattle.hive_model.specs.Size.{bulk_of}
 use Rattle.hive_model.specs.Packed.{packed}
 use Rattle.hive_model.specs.State.{HiveState}
-use Rattle.hive_model.specs.Load.{LoadsAs}
 use Rattle.nt_edge.specs.Calls.{Made, MakesNone, MakesUntil}
 use Rattle.hive_commit.specs.Calls.{change_calls}
-use Rattle.hive_commit.specs.Stages.{next_number, closed_of}
+use Rattle.hive_commit.specs.Stages.{next_number, closed_of, LoadsAsEither}
 use Rattle.hive_mend.specs.Loaded.{Loaded}
 
 -- its tree's packed form in its version
@@ -44,4 +43,4 @@ next_state s = record s { sequence = next_number s.sequence }
 
 -- the image loads as the state, under its number or the next one
 abbrev pub LoadsAsOrNext : HiveState → Image → Type 0
-LoadsAsOrNext s image = LoadsAs image s ⊎ LoadsAs image (next_state s)
+LoadsAsOrNext s = LoadsAsEither s (next_state s)

@@ -7,49 +7,34 @@ ghost use Rattle.hive_model.specs.Image.{Image};
 ghost use Rattle.hive_model.specs.Carries.{Carries};
 ghost use Rattle.hive_model.specs.State.{HiveState};
 ghost use Rattle.hive_model.specs.Load.{Loads, LoadsAs, LoadFault};
-ghost use Rattle.hive_model.specs.Valid.{IsValid};
 ghost use Rattle.nt_edge.specs.Crash.{EachCrash};
 ghost use Rattle.hive_log.specs.Found.{Found};
 ghost use Rattle.hive_log.specs.Stops.{IsLookAt, IsLoadOn};
 ghost use Rattle.hive_commit.specs.Alone.{KeepsClean};
 ghost use Rattle.hive_commit.specs.Untouched.{IsUntouched, IsUnwritten};
+ghost use Rattle.hive_store.specs.Loading.{StopsFrom};
 ghost use Rattle.hive_mend.specs.Loaded.{loaded_state};
-ghost use Rattle.hive_mend.specs.Loading.{HoldsAs, LoadsFrom, StopsFrom, IsLoadOf};
+ghost use Rattle.hive_mend.specs.Loading.{LoadsFrom, IsLoadOf};
 
 use crate::LoadedHive;
-use hive_cells::read_cells;
 use hive_commit::restore;
-use hive_log::{LoadStop, Reading, Recovered, read_recovered};
-use hive_read::read_tree;
+use hive_log::{LoadStop, Reading, read_recovered};
+use hive_store::tree_in;
 use nt_bytes::{Bytes, ReadStop};
 use nt_edge::Disk;
-use reg_tree::Key;
 use std::alloc::Global;
-
-/// The tree of what was recovered, with the bins data given back, or the first fault of its bins, and then
-/// of the tree in them. The bins data are not copied.
-fn tree_in(alloc: Global, found: Recovered) -> Result<(Key, Bytes), ReadStop>
-    requires sized { is_bins_size (length found.bins) ≡ true }
-    ensures exact { HoldsAs found result }
-    ensures valid { IfOk result (λ x. IsValid x.0) }
-{
-    let base = found.base;
-    let cells = read_cells(alloc, found.bins)?;
-    let tree = read_tree(alloc, &cells, base.root, base.version())?;
-    Ok((tree, cells.into_bytes()))
-}
 
 /// What was read: the hive, whether the primary is dirty, and the bits of the log that it was read with
 /// (none where the primary is clean).
 #[derive(Drop)]
-struct Looked {
+struct Unmended {
     hive: LoadedHive,
     dirty: bool,
     bitmap: Bytes,
 }
 
 /// Reads the hive, and checks all of it. Nothing is written.
-fn look<D: Disk>(alloc: Global, disk: &mut D) -> Result<Looked, LoadStop>
+fn read_unmended<D: Disk>(alloc: Global, disk: &mut D) -> Result<Unmended, LoadStop>
     requires on { (D.state disk.old).on ≡ true }
     requires still { D.tells ≡ true → (D.state disk.old).flight ≡ [] }
     ensures exact { D.tells ≡ true → MatchResult result
@@ -64,7 +49,7 @@ fn look<D: Disk>(alloc: Global, disk: &mut D) -> Result<Looked, LoadStop>
     let Reading { recovered, bitmap } = read_recovered(alloc, disk)?;
     let (base, dirty) = (recovered.base, recovered.dirty);
     match tree_in(alloc, recovered) {
-        Ok((tree, bins)) => Ok(Looked {
+        Ok((tree, bins)) => Ok(Unmended {
             hive: LoadedHive { base, bins, tree },
             dirty,
             bitmap,
@@ -99,11 +84,11 @@ impl LoadedHive {
         ensures unwritten { D.tells ≡ true → IsUnwritten (D.state disk.old) (D.state disk.new) result }
         ensures goes { IsLoadOn (D.state disk.old) (D.state disk.new) result }
     {
-        let Looked {
+        let Unmended {
             hive,
             dirty,
             bitmap,
-        } = look(alloc, disk)?;
+        } = read_unmended(alloc, disk)?;
         if dirty {
             restore(disk, &hive.base, bitmap.as_slice(), hive.bins.as_slice())?;
         }

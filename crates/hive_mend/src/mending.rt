@@ -12,7 +12,8 @@ ghost use Rattle.hive_commit.specs.Calls.{change_calls};
 ghost use Rattle.hive_commit.specs.Stages.{next_number};
 ghost use Rattle.hive_commit.specs.Stops.{IsCommitOn};
 ghost use Rattle.hive_commit.specs.declared.stops.CommitStop.TheVariants.{PowerLost, Device, Memory};
-ghost use Rattle.hive_mend.specs.Loaded.{HasTree, loaded_state};
+ghost use Rattle.hive_store.specs.Session.{HasTree};
+ghost use Rattle.hive_mend.specs.Loaded.{loaded_state};
 ghost use Rattle.hive_mend.specs.Mending.{shorter, mended_by, number_by, CallsBy, next_state, LoadsAsOrNext};
 
 use crate::LoadedHive;

@@ -153,26 +153,6 @@ pub record Good (most lo hi s : ℕ) (cs : List Check) : Type 0 where
   pub within : Within most lo hi s cs
   pub once : (before : List Check) → Clean most lo hi s before → OnceBehind before cs
 
--- under a bound that the descriptor is before if it is before the other
-pub good_bound : (most most' lo hi s : ℕ) (cs : List Check) → (s < most → s < most') → Good most lo hi s cs
-    → Good most' lo hi s cs
-good_bound most most' lo hi s cs k g =
-    record { within = wider cs g.within; once = λ before c. g.once before (cleaner before c) }
-  where
-    within_use : (at : ℕ) (b : Bool) → WithinCheck most lo hi s (uses at b) → WithinCheck most' lo hi s (uses at b)
-    within_use at b (inl p) = inl p
-    within_use at b (inr p) = inr (p.0, p.1, k p.2)
-
-    wider : (xs : List Check) → Within most lo hi s xs → Within most' lo hi s xs
-    wider [] w = tt
-    wider (tests at n ∷ xs) w = (tt, wider xs w.1)
-    wider (uses at b ∷ xs) w = (within_use at b w.0, wider xs w.1)
-
-    cleaner : (xs : List Check) → Clean most' lo hi s xs → Clean most lo hi s xs
-    cleaner [] c = tt
-    cleaner (tests at n ∷ xs) c = (tt, cleaner xs c.1)
-    cleaner (uses at b ∷ xs) c = ((c.0.0, λ e l. c.0.1 e (k l)), cleaner xs c.1)
-
 pub good_none : {most : ℕ} (lo hi s : ℕ) → Good most lo hi s []
 good_none lo hi s = record { within = tt; once = λ before c. tt }
 

@@ -12,7 +12,6 @@ pub mod Standing
 pub mod Heap
 pub mod Sized
 pub mod Beside
-pub mod Once
 pub mod Singly
 pub mod Formed
 pub mod Uses

@@ -1,13 +1,12 @@
 -- Lists of entries, and the bytes of names in them.
-use Rattle.std.proofs.Common.{◌≡◌, ◌<◌, ◌-◌, ◌+◌, ◌++◌, ℕ, zero, suc, List, [], ◌∷◌, length, take, drop, map, min, refl, ap, arith}
+use Rattle.std.proofs.Common.{◌≡◌, ◌<◌, ◌-◌, ◌+◌, ◌++◌, ℕ, zero, suc, List, [], ◌∷◌, length, take, drop, min, refl, ap, arith}
 use Rattle.std.specs.Prelude.{slice_index}
-use Rattle.std.specs.Int.{w32, to_le_bytes}
-use Rattle.std.proofs.lemmas.List.{take-map, drop-map}
+use Rattle.std.specs.Int.{w16, to_le_bytes}
 use Rattle.nt_bytes.specs.declared.version.HiveVersion.{HiveVersion}
-use Rattle.nt_bytes.specs.declared.version.HiveVersion.TheVariants.{V5}
-use Rattle.hive_model.specs.Tree.{Tree, head}
-use Rattle.hive_model.specs.Lists.{hash_of}
-use Rattle.hive_model.specs.Packed.{segment_places, segments, hint, part_places, list_text, parts}
+use Rattle.nt_bytes.specs.declared.version.HiveVersion.TheVariants.{V3, V5}
+use Rattle.hive_model.specs.Lists.{entries_text, lf_text, lh_text}
+use Rattle.hive_model.specs.Packed.{segment_places, segments, part_places, list_text, parts}
+use Rattle.hive_pack.specs.Writes.{second_of}
 
 -- the first four bytes of a name, zeros behind a short one
 pub first_four : (name : List ℕ)
@@ -39,31 +38,29 @@ drop_least (suc k) (suc n) [] e = refl
 drop_least (suc k) (suc n) (x ∷ xs) e = drop_least k n xs (omega arith)
 
 -- the next list, and those behind it
-pub parts_next : (version : HiveVersion) (left k : ℕ) (places : List ℕ) (keys : List Tree) → 0 < left
-    → length places ≡ length keys → k ≡ min (length places) 500
-    → parts version left places (map (hint version) keys)
-    ≡ list_text version (take k places) (map (hint version) (take k keys))
-    ∷ parts version (left - 1) (drop k places) (map (hint version) (drop k keys))
-parts_next version zero k places keys h l e = absurd (omega arith)
-parts_next version (suc left) k places keys h l e =
+pub parts_next : (version : HiveVersion) (left k : ℕ) (places : List ℕ) (hints : List (List ℕ)) → 0 < left
+    → length places ≡ length hints → k ≡ min (length places) 500
+    → parts version left places hints
+    ≡ list_text version (take k places) (take k hints) ∷ parts version (left - 1) (drop k places) (drop k hints)
+parts_next version zero k places hints h l e = absurd (omega arith)
+parts_next version (suc left) k places hints h l e =
     let n : suc left - 1 ≡ left = omega arith in
-    let same : k ≡ min (length keys) 500 = omega arith in
-    let hints = hint version in
+    let same : k ≡ min (length hints) 500 = omega arith in
     rw (
       n,
-      take-map hints 500 keys,
-      drop-map hints 500 keys,
       take_least k 500 places e,
-      take_least k 500 keys same,
+      take_least k 500 hints same,
       drop_least k 500 places e,
-      drop_least k 500 keys same,
+      drop_least k 500 hints same,
     ) refl
 
--- the hashes of names, as four bytes each
-pub hashes_are : (keys : List Tree)
-    → map (to_le_bytes w32) (map (λ (t : Tree). hash_of (head t).name) keys) ≡ map (hint V5) keys
-hashes_are [] = refl
-hashes_are (t ∷ ts) = ap (λ (hs : List (List ℕ)). hint V5 t ∷ hs) (hashes_are ts)
+-- a list of a version, by its parts
+pub list_is : (version : HiveVersion) (places : List ℕ) (hints : List (List ℕ))
+    → list_text version places hints ≡ 0x6c ∷ second_of version
+    ∷ (to_le_bytes w16 (length places) ++ entries_text places hints)
+unfolding lf_text lh_text
+list_is V3 places hints = refl
+list_is V5 places hints = refl
 
 -- the next segment, and those behind it
 pub segments_next : (left k : ℕ) (bytes : List ℕ) → 0 < left → k ≡ min (length bytes) 16344

@@ -16,6 +16,7 @@ use Rattle.hive_model.specs.KeyValue.{is_narrow_value, key_value_text}
 use Rattle.hive_model.specs.Security.{SecurityCell, security_text}
 use Rattle.hive_model.specs.Lists.{offsets_text, AreHints, ri_text, hint_of}
 use Rattle.hive_model.specs.Packed.{filled, cell_text, text, data_place, item_form, segments, segment_places, big_cells, data_cells, item_cells, cells_of_items, item_places, items_cells, forward, backward, descriptor_place, sharers_of_all, Above, below, values_place, list_place, children_place, stored_flags, node_of, class_cells, security_cells, head_cells, part_places, list_text, parts, list_cells, places, hint, cells_of, cells_of_all}
+use Rattle.hive_pack.specs.Writes.{big_size}
 use Rattle.hive_model.proofs.Spelling.{length_wide, length_key_node, length_key_value, length_security, length_offsets, length_lf, length_lh, length_ri, length_big_data}
 
 -- how many bytes cells with these payloads take
@@ -163,6 +164,14 @@ segments_room (suc k) n e = go (cases_lt 16344 n) (segments_room k (n - 16344))
         let m : min 16344 n ≡ n = omega arith in
         let last : k ≡ 0 = omega arith in
         rw (m, last) (omega arith)
+
+-- how many bytes segments take at most
+pub sizes_most : (k n : ℕ) → cells_sum (segment_sizes k n) ≤ 16352 * k
+sizes_most zero n = omega arith
+sizes_most (suc k) n = let r = sizes_most k (n - 16344) in omega (arith, r)
+
+pub big_most : (n : ℕ) → n < 2147483648 → big_size n ≤ 4294967296
+big_most n lt = let r = sizes_most (segment_count n) n in omega (arith, r, lt)
 
 -- big data are some bytes
 big_some : (version : HiveVersion) (n : ℕ) → is_big version n ≡ true → 0 < n

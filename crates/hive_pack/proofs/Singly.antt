@@ -294,7 +294,8 @@ some_list n h = go (cases_lt n 501)
     go (inl few) = let b : nat_lt n 501 ≡ true = lt-ltb n 501 few in rw (a, b) (omega arith)
     go (inr many) = omega (arith, many_lists n many)
 
-entries_good : (cells : Cells) (at hi d : ℕ) (os : List ℕ) (hs : List (List ℕ))
+-- the checks of lists in packed form are good in their run
+pub entries_good : (cells : Cells) (at hi d : ℕ) (os : List ℕ) (hs : List (List ℕ))
     → Has cells at (list_cells cells.version at os hs)
     → 0 < length os → length os ≡ length hs → AreOffsets os → AreHints hs → at + list_size (length os) ≡ hi
     → hi ≤ 16777216

@@ -44,15 +44,14 @@ numbers_whole (key h ts) f g = (f, subst AllHaveNumbers (trees_listed ts) g)
 
 -- ---- values
 
--- big data that were written cell by cell
-pub big_written : (bytes old one two new : List ℕ) (k count list first : ℕ) → k ≡ count → list ≡ length old + 16
+-- big data that were written cell by cell, to stand at a place
+pub big_written : (bytes old one two new : List ℕ) (at k count list first : ℕ) → k ≡ count → list ≡ at + 16
     → first ≡ list + cell (4 * k)
     → one ≡ old ++ cell_text (big_data_text (record { segments = k; list = list }))
     → two ≡ one ++ cell_text (offsets_text (segment_places k first))
-    → new ≡ two ++ text (segments k bytes) → new ≡ old ++ text (big_cells (length old) count bytes)
+    → new ≡ two ++ text (segments k bytes) → new ≡ old ++ text (big_cells at count bytes)
 unfolding big_cells
-big_written bytes old one two new k count list first e l f a b d =
-    let at = length old in
+big_written bytes old one two new at k count list first e l f a b d =
     let head : List ℕ = cell_text (big_data_text (record { segments = k; list = list })) in
     let places : List ℕ = cell_text (offsets_text (segment_places k first)) in
     let all : List ℕ = text (segments k bytes) in

@@ -19,7 +19,7 @@ use reg_tree::{Key, Value};
 use std::alloc::{AllocError, Global};
 
 /// An offset that names nothing.
-pub(crate) const NOWHERE: u32 = 4294967295;
+pub const NOWHERE: u32 = 0xffff_ffff;
 
 /// At most four bytes as a number, with zeros behind them.
 fn own_number(alloc: Global, bytes: &[u8]) -> Result<u32, AllocError>

@@ -20,10 +20,11 @@ mod write;
 
 pub use below::{cells_below, sharing_keys, tree_fits};
 pub use bins::pack;
+pub use forms::NOWHERE;
 pub use laws::{
     packed_cells_are_well_formed, packed_form_is_its_bins, packed_tree_stands,
     security_cells_are_a_ring, security_cells_count_their_keys,
 };
-pub use lists::part_starts;
-pub use sizes::{cell_size, list_len, part_count};
-pub use values::put_cell;
+pub use lists::{first_part, name_hint, write_lists};
+pub use sizes::{cell_size, data_len, is_big, is_narrow, list_len, name_len, part_count};
+pub use values::{put_cell, write_data};

@@ -2,18 +2,19 @@
 
 ghost use Rattle.std.specs.Prelude.{◌≡◌, ◌≤◌, ◌<◌, ◌+◌, ◌*◌, ◌++◌, length, map, OnOk, IfOk};
 ghost use Rattle.std.specs.Prelude.{slice_index, true};
-ghost use Rattle.nt_bytes.specs.declared.version.HiveVersion.{HiveVersion};
-ghost use Rattle.hive_model.specs.Tree.{Tree, head};
-ghost use Rattle.hive_model.specs.Size.{is_narrow, part_count, list_size};
-ghost use Rattle.hive_model.specs.Lists.{hint_of, hash_of};
-ghost use Rattle.hive_model.specs.Packed.{text, cell_text, hint, part_places, list_text, parts, list_cells};
+ghost use Rattle.hive_model.specs.Size.{cell, is_narrow, part_count, list_size};
+ghost use Rattle.hive_model.specs.Lists.{AreHints, hint_of};
+ghost use Rattle.hive_model.specs.Packed.{text, cell_text, hint, name_hint, part_places, list_text, parts, list_cells};
+ghost use Rattle.hive_pack.specs.Writes.{second_of};
 
 use crate::sizes::{cell_size, is_narrow, part_count};
 use crate::values::put_cell;
-use cell_forms::{lf_bytes, lh_bytes, name_hash, ri_bytes};
+use cell_forms::{append_entries, name_hash, ri_bytes};
 use nt_bytes::{Bytes, HiveVersion};
 use reg_tree::Key;
 use std::alloc::{AllocError, Global};
+
+// ---- hints
 
 /// A unit as a byte, or 0 behind the name.
 fn byte_or_zero(name: &[u16], at: usize) -> u8
@@ -26,9 +27,9 @@ fn byte_or_zero(name: &[u16], at: usize) -> u8
     }
 }
 
-/// The four bytes that a list has for a name: its first four, or zeros for a wide one.
+/// The first four bytes of a name, or zeros for a wide one.
 #[tactic(auto, using(crate::proofs::Parts::first_four))]
-fn hint(name: &[u16]) -> [u8; 4]
+fn first_bytes(name: &[u16]) -> [u8; 4]
     ensures { result ≡ hint_of (is_narrow name.now) name.now }
 {
     if is_narrow(name) {
@@ -43,63 +44,56 @@ fn hint(name: &[u16]) -> [u8; 4]
     }
 }
 
+/// The four bytes for a name in a list of this version: its first bytes, or its hash.
+pub fn name_hint(version: HiveVersion, name: &[u16]) -> [u8; 4]
+    ensures { result ≡ name_hint version name.now }
+{
+    match version {
+        HiveVersion::V3 => first_bytes(name),
+        HiveVersion::V5 => name_hash(name).to_le_bytes(),
+    }
+}
+
 /// Those of all children, in order.
-fn hints(alloc: Global, keys: &[Key]) -> Result<Vec<[u8; 4]>, AllocError>
-    ensures { IfOk result (λ v. v.items ≡ map (hint HiveVersion.V3) keys.now) }
+fn hints(alloc: Global, version: HiveVersion, keys: &[Key]) -> Result<Vec<[u8; 4]>, AllocError>
+    ensures { IfOk result (λ v. v.items ≡ map (hint version) keys.now) }
 {
     let mut made = Vec::new(alloc);
     for key in keys {
-        made.push(hint(key.name()))?;
+        made.push(name_hint(version, key.name()))?;
     }
     Ok(made)
 }
 
-/// The hashes of the names of all children, in order.
-fn hashes(alloc: Global, keys: &[Key]) -> Result<Vec<u32>, AllocError>
-    ensures { IfOk result (λ v. v.items ≡ map (λ (t : Tree). hash_of (head t).name) keys.now) }
+// ---- lists
+
+fn second_byte(version: HiveVersion) -> u8
+    ensures { result ≡ second_of version }
 {
-    let mut made = Vec::new(alloc);
-    for key in keys {
-        made.push(name_hash(key.name()))?;
+    match version {
+        HiveVersion::V3 => 0x66,
+        HiveVersion::V5 => 0x68,
     }
-    Ok(made)
-}
-
-/// A list of these children with the first bytes of their names.
-fn lf_list(alloc: Global, places: &[u32], keys: &[Key]) -> Result<Bytes, AllocError>
-    requires same { length places.now ≡ length keys.now }
-    requires few { length places.now ≤ 500 }
-    ensures { IfOk result (λ b. b ≡ list_text HiveVersion.V3 places.now (map (hint HiveVersion.V3) keys.now)) }
-{
-    let hints = hints(alloc, keys)?;
-    lf_bytes(alloc, places, &hints)
-}
-
-/// A list of these children with the hashes of their names.
-fn lh_list(alloc: Global, places: &[u32], keys: &[Key]) -> Result<Bytes, AllocError>
-    requires same { length places.now ≡ length keys.now }
-    requires few { length places.now ≤ 500 }
-    ensures { IfOk result (λ b. b ≡ list_text HiveVersion.V5 places.now (map (hint HiveVersion.V5) keys.now)) }
-{
-    let hashes = hashes(alloc, keys)?;
-    lh_bytes(alloc, places, &hashes)
 }
 
 /// A list of these children, in the form of a version.
+#[tactic(auto, using(crate::proofs::Parts::list_is))]
 fn list_bytes(
     alloc: Global,
     version: HiveVersion,
     places: &[u32],
-    keys: &[Key],
+    hints: &[[u8; 4]],
 ) -> Result<Bytes, AllocError>
-    requires same { length places.now ≡ length keys.now }
+    requires same { length places.now ≡ length hints.now }
     requires few { length places.now ≤ 500 }
-    ensures { IfOk result (λ b. b ≡ list_text version places.now (map (hint version) keys.now)) }
+    ensures { IfOk result (λ b. b ≡ list_text version places.now hints.now) }
 {
-    match version {
-        HiveVersion::V3 => lf_list(alloc, places, keys),
-        HiveVersion::V5 => lh_list(alloc, places, keys),
-    }
+    let mut bytes = Bytes::new(alloc);
+    bytes.push(0x6c)?;
+    bytes.push(second_byte(version))?;
+    bytes.put_u16(places.len() as u16)?;
+    append_entries(&mut bytes, places, hints)?;
+    Ok(bytes)
 }
 
 /// Writes one list.
@@ -108,13 +102,14 @@ fn write_part(
     out: &mut Bytes,
     version: HiveVersion,
     places: &[u32],
-    keys: &[Key],
+    hints: &[[u8; 4]],
 ) -> Result<(), AllocError>
-    requires same { length places.now ≡ length keys.now }
+    requires same { length places.now ≡ length hints.now }
     requires few { length places.now ≤ 500 }
-    ensures { OnOk result (out.new ≡ out.old ++ cell_text (list_text version places.now (map (hint version) keys.now))) }
+    requires four { AreHints hints.now }
+    ensures { OnOk result (out.new ≡ out.old ++ cell_text (list_text version places.now hints.now)) }
 {
-    let list = list_bytes(alloc, version, places, keys)?;
+    let list = list_bytes(alloc, version, places, hints)?;
     put_cell(out, list.as_slice())
 }
 
@@ -125,28 +120,29 @@ fn write_parts(
     version: HiveVersion,
     count: usize,
     places: &[u32],
-    keys: &[Key],
+    hints: &[[u8; 4]],
 ) -> Result<(), AllocError>
-    requires same { length places.now ≡ length keys.now }
-    ensures { OnOk result (out.new ≡ out.old ++ text (parts version count places.now (map (hint version) keys.now))) }
+    requires same { length places.now ≡ length hints.now }
+    requires four { AreHints hints.now }
+    ensures { OnOk result (out.new ≡ out.old ++ text (parts version count places.now hints.now)) }
 {
     let mut left = count;
     let mut rest = places;
-    let mut rest_keys = keys;
+    let mut rest_hints = hints;
     'parts: while left > 0 {
         let n = rest.len().min(500);
         let (first, more) = rest.split_at(n);
-        let (first_keys, more_keys) = rest_keys.split_at(n);
-        write_part(alloc, out, version, first, first_keys)?;
+        let (first_hints, more_hints) = rest_hints.split_at(n);
+        write_part(alloc, out, version, first, first_hints)?;
         rest = more;
-        rest_keys = more_keys;
+        rest_hints = more_hints;
         left -= 1;
     }
     Ok(())
 }
 
 /// Where full lists begin that stand one behind another, so many of them.
-pub fn part_starts(alloc: Global, count: usize, at: usize) -> Result<Vec<u32>, AllocError>
+fn part_starts(alloc: Global, count: usize, at: usize) -> Result<Vec<u32>, AllocError>
     requires { at + 4008 * count < 4294967296 }
     ensures { IfOk result (λ v. v.items ≡ part_places count at) }
 {
@@ -161,6 +157,15 @@ pub fn part_starts(alloc: Global, count: usize, at: usize) -> Result<Vec<u32>, A
     Ok(starts)
 }
 
+/// Where the first list of a list of lists begins that stands at this offset in bytes, with so many children.
+pub fn first_part(n: usize, at: usize) -> usize
+    requires few { n ≤ 16777216 }
+    requires room { at ≤ 16777216 }
+    ensures { result ≡ at + cell (4 + 4 * part_count n) }
+{
+    at + cell_size(4 + 4 * part_count(n))
+}
+
 /// Writes the list of lists and its lists.
 #[tactic(auto, using(crate::proofs::Rows::lengths))]
 fn write_list_of_lists(
@@ -169,23 +174,48 @@ fn write_list_of_lists(
     version: HiveVersion,
     at: usize,
     places: &[u32],
-    keys: &[Key],
+    hints: &[[u8; 4]],
 ) -> Result<(), AllocError>
-    requires same { length places.now ≡ length keys.now }
+    requires same { length places.now ≡ length hints.now }
+    requires four { AreHints hints.now }
     requires room { at + list_size (length places.now) ≤ 16777216 }
     requires many { 501 ≤ length places.now }
-    ensures { OnOk result (out.new ≡ out.old ++ text (list_cells version at places.now (map (hint version) keys.now))) }
+    ensures { OnOk result (out.new ≡ out.old ++ text (list_cells version at places.now hints.now)) }
 {
     let count = part_count(places.len());
-    let starts = part_starts(alloc, count, at + cell_size(4 + 4 * count))?;
+    let starts = part_starts(alloc, count, first_part(places.len(), at))?;
     let list = ri_bytes(alloc, &starts)?;
     put_cell(out, list.as_slice())?;
-    write_parts(alloc, out, version, count, places, keys)
+    write_parts(alloc, out, version, count, places, hints)
 }
 
-/// Writes the subkey lists that stand at this place: one of at most 500 entries, or a list of such.
+/// Writes the subkey lists of children at these places and with these hints, to stand at an offset in bytes:
+/// one list of at most 500 entries, or a list of such.
 #[tactic(auto, unfolding(hive_model::specs::Packed::list_cells))]
-pub(crate) fn write_lists(
+pub fn write_lists(
+    alloc: Global,
+    out: &mut Bytes,
+    version: HiveVersion,
+    at: usize,
+    places: &[u32],
+    hints: &[[u8; 4]],
+) -> Result<(), AllocError>
+    requires same { length places.now ≡ length hints.now }
+    requires four { AreHints hints.now }
+    requires room { at + list_size (length places.now) ≤ 16777216 }
+    ensures { OnOk result (out.new ≡ out.old ++ text (list_cells version at places.now hints.now)) }
+{
+    if places.len() == 0 {
+        return Ok(());
+    }
+    if places.len() < 501 {
+        return write_part(alloc, out, version, places, hints);
+    }
+    write_list_of_lists(alloc, out, version, at, places, hints)
+}
+
+/// Writes those of these keys.
+pub(crate) fn write_key_lists(
     alloc: Global,
     out: &mut Bytes,
     version: HiveVersion,
@@ -197,11 +227,6 @@ pub(crate) fn write_lists(
     requires room { at + list_size (length places.now) ≤ 16777216 }
     ensures { OnOk result (out.new ≡ out.old ++ text (list_cells version at places.now (map (hint version) keys.now))) }
 {
-    if places.len() == 0 {
-        return Ok(());
-    }
-    if places.len() < 501 {
-        return write_part(alloc, out, version, places, keys);
-    }
-    write_list_of_lists(alloc, out, version, at, places, keys)
+    let hints = hints(alloc, version, keys)?;
+    write_lists(alloc, out, version, at, places, &hints)
 }

@@ -2,7 +2,7 @@
 
 ghost use Rattle.std.specs.Prelude.{◌≡◌, ◌≤◌, ◌<◌, ◌+◌, length};
 ghost use Rattle.hive_model.specs.Tree.{head};
-ghost use Rattle.hive_model.specs.Size.{cell, is_narrow, name_bytes, is_big, segment_count, data_size, item_size, items_size, class_size, has_own, security_size, node_size, part_count, list_size};
+ghost use Rattle.hive_model.specs.Size.{cell, is_narrow, name_bytes, is_big, segment_count, cells_sum, data_sizes, item_size, items_size, class_size, has_own, security_size, node_size, part_count, list_size};
 ghost use Rattle.hive_pack.specs.Writes.{big_size};
 
 use nt_bytes::HiveVersion;
@@ -16,20 +16,21 @@ pub(crate) const SEGMENT_CELL: usize = 16352;
 
 /// How many bytes a cell takes, by those of its payload.
 pub fn cell_size(payload: usize) -> usize
-    requires { payload ≤ 16777216 }
+    requires { payload < 2147483648 }
     ensures { result ≡ cell payload }
 {
     (payload + 11) / 8 * 8
 }
 
 /// Whether one byte is enough for each unit.
-pub(crate) fn is_narrow(name: &[u16]) -> bool
+pub fn is_narrow(name: &[u16]) -> bool
     ensures { result ≡ is_narrow name.now }
 {
     name.iter().all(|u| *u < 256)
 }
 
-pub(crate) fn name_len(name: &[u16]) -> usize
+/// How many bytes a name is stored in.
+pub fn name_len(name: &[u16]) -> usize
     requires { length name.now ≤ 16777216 }
     ensures { result ≡ name_bytes name.now }
 {
@@ -80,7 +81,7 @@ pub(crate) fn security_len(shared: &[u8], security: &[u8]) -> usize
 }
 
 /// Whether data of so many bytes stand in segments.
-pub(crate) fn is_big(version: HiveVersion, n: usize) -> bool
+pub fn is_big(version: HiveVersion, n: usize) -> bool
     ensures { result ≡ is_big version n }
 {
     match version {
@@ -91,18 +92,18 @@ pub(crate) fn is_big(version: HiveVersion, n: usize) -> bool
 
 /// How many segments so many bytes fill.
 pub(crate) fn segment_count(n: usize) -> usize
-    requires { n ≤ 16777216 }
+    requires { n < 2147483648 }
     ensures { result ≡ segment_count n }
 {
     (n + 16343) / SEGMENT
 }
 
-/// The cells of so many bytes in segments: of `db`, of the list, and of segments that are full but
-/// for the last.
+/// How many bytes the cells of so many bytes in segments take: of `db`, of the list, and of segments
+/// that are full but for the last.
 #[tactic(auto, using(crate::proofs::Rows::segments_size))]
 fn big_len(n: usize) -> usize
     requires some { 0 < n }
-    requires few { n ≤ 16777216 }
+    requires few { n < 2147483648 }
     ensures { result ≡ big_size n }
 {
     let count = segment_count(n);
@@ -110,23 +111,26 @@ fn big_len(n: usize) -> usize
     16 + cell_size(4 * count) + full * SEGMENT_CELL + cell_size(n - full * SEGMENT)
 }
 
-/// The cells of a value's data.
-fn data_len(version: HiveVersion, bytes: &[u8]) -> usize
-    requires { data_size version bytes.now ≤ 16777216 }
-    ensures { result ≡ data_size version bytes.now }
+/// How many bytes the cells of so many bytes of data take: none where these stand in the value.
+pub fn data_len(version: HiveVersion, n: usize) -> usize
+    requires { n < 2147483648 }
+    ensures len { result ≡ cells_sum (data_sizes version n) }
+    ensures few { result ≤ 4294967296 }
 {
-    let n = bytes.len();
     if is_big(version, n) {
         return big_len(n);
     }
-    if n > 4 { cell_size(n) } else { 0 }
+    if n <= 4 {
+        return 0;
+    }
+    cell_size(n)
 }
 
 fn value_len(version: HiveVersion, value: &Value) -> usize
     requires { item_size version value.now ≤ 16777216 }
     ensures { result ≡ item_size version value.now }
 {
-    cell_size(20 + name_len(value.name())) + data_len(version, value.data())
+    cell_size(20 + name_len(value.name())) + data_len(version, value.data().len())
 }
 
 pub(crate) fn values_len(version: HiveVersion, values: &[Value]) -> usize

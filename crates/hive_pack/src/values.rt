@@ -71,14 +71,14 @@ fn write_segments(out: &mut Bytes, count: usize, bytes: &[u8]) -> Result<(), All
     Ok(())
 }
 
-/// Writes data in segments: `db`, the list of the segments, and the segments.
-fn write_big(alloc: Global, out: &mut Bytes, bytes: &[u8]) -> Result<(), AllocError>
-    requires room { length out.old + big_size (length bytes.now) ≤ 16777216 }
+/// Writes data in segments, to stand at a place: `db`, the list of the segments, and the segments.
+fn write_big(alloc: Global, out: &mut Bytes, at: usize, bytes: &[u8]) -> Result<(), AllocError>
+    requires room { at + big_size (length bytes.now) ≤ 16777216 }
     requires few { length bytes.now ≤ 16777216 }
-    ensures { OnOk result (out.new ≡ out.old ++ text (big_cells (length out.old) (segment_count (length bytes.now)) bytes.now)) }
+    ensures { OnOk result (out.new ≡ out.old ++ text (big_cells at (segment_count (length bytes.now)) bytes.now)) }
 {
     let count = segment_count(bytes.len());
-    let list_at = out.len() + 16;
+    let list_at = at + 16;
     let form = DbForm {
         segments: count as u16,
         list: list_at as u32,
@@ -90,19 +90,20 @@ fn write_big(alloc: Global, out: &mut Bytes, bytes: &[u8]) -> Result<(), AllocEr
     write_segments(out, count, bytes)
 }
 
-/// Writes the cells of a value's data, where they are over four bytes: one, or in version 1.5 for
-/// over 16,344 bytes those of segments.
-fn write_data(
+/// Writes the cells of a value's data, to stand at this offset in bytes, where they are over four bytes:
+/// one, or in version 1.5 for over 16,344 bytes those of segments.
+pub fn write_data(
     alloc: Global,
     out: &mut Bytes,
     version: HiveVersion,
+    at: usize,
     bytes: &[u8],
 ) -> Result<(), AllocError>
-    requires room { length out.old + data_size version bytes.now ≤ 16777216 }
-    ensures { OnOk result (out.new ≡ out.old ++ text (data_cells version (length out.old) bytes.now)) }
+    requires room { at + data_size version bytes.now ≤ 16777216 }
+    ensures { OnOk result (out.new ≡ out.old ++ text (data_cells version at bytes.now)) }
 {
     if is_big(version, bytes.len()) {
-        return write_big(alloc, out, bytes);
+        return write_big(alloc, out, at, bytes);
     }
     if bytes.len() <= 4 {
         return Ok(());
@@ -125,7 +126,8 @@ fn write_value(
     let form = value_form(alloc, out.len(), value)?;
     let cell = vk_bytes(alloc, &form)?;
     put_cell(out, cell.as_slice())?;
-    write_data(alloc, out, version, value.data())
+    let data = out.len();
+    write_data(alloc, out, version, data, value.data())
 }
 
 /// Writes the values, and answers the list of their places.

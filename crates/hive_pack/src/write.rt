@@ -9,7 +9,7 @@ ghost use Rattle.hive_model.specs.Packed.{text, cell_text, node_of, head_cells, 
 ghost use Rattle.hive_pack.specs.Writes.{above, IsRising};
 
 use crate::forms::node_form;
-use crate::lists::write_lists;
+use crate::lists::write_key_lists;
 use crate::security::{Up, below_up, write_security};
 use crate::sizes::list_len;
 use crate::values::{put_cell, write_class, write_values};
@@ -79,7 +79,7 @@ pub(crate) fn write_key(
     let mine = below_up(up, at, key);
     let places = write_children(alloc, out, version, mine, keys)?;
     let mut lists = Bytes::new(alloc);
-    write_lists(alloc, &mut lists, version, list_at, &places, keys)?;
+    write_key_lists(alloc, &mut lists, version, list_at, &places, keys)?;
     out.overwrite(list_at, lists.as_slice());
     Ok(())
 }

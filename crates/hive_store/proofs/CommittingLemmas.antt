@@ -1,5 +1,5 @@
 -- What a commit of a session leaves.
-use Rattle.std.proofs.Common.{◌≡◌, inl, inr, ⊎_elim, ℕ, Bool, true, false, List, length, Err, refl, sym, ap, subst, ◌∙◌}
+use Rattle.std.proofs.Common.{◌≡◌, ℕ, Bool, true, false, List, length, Err, refl, sym, ap, subst, ◌∙◌}
 use Rattle.std.specs.Prelude.{IsErrOf}
 use Rattle.hive_model.specs.Base.{Base, is_bins_size, version_of}
 use Rattle.hive_model.specs.Image.{Image}
@@ -20,18 +20,14 @@ use Rattle.hive_commit.specs.declared.stops.CommitStop.TheVariants as commit
 use Rattle.hive_store.specs.Session.{Session, HasTree, IsSession, session_of, next_bins, next_root}
 use Rattle.hive_store.specs.Commits.{next_base, committed, committed_state}
 use Rattle.hive_store.proofs.SizedLemmas.{has_bytes}
-use Rattle.hive_store.proofs.Holding.{clean, held_again, held_by, carried, carried_loads}
+use Rattle.hive_store.proofs.Holding.{clean, held_by, carried, tree_holds, tree_loads, either_loads}
 
 -- what a session's disk loads as before
 pub stood : (s : Session) (tree : Tree) → HasTree (version_of s.base.minor) s.bins s.base.root tree → (held : Image)
     → Carries held s.base s.bins
     → (before : HiveState) × Loads held before false
 stood s tree has held carries =
-    let was = state_of tree s.base.first (version_of s.base.minor) in (
-      was,
-      carried_loads held s.base s.bins was has.sized carries
-          (record { bins = has.heap; cells = has.cells; tree = has.stands; sequence = refl; version = refl }),
-    )
+    (state_of tree s.base.first (version_of s.base.minor), tree_loads s.base s.bins tree has held carries)
 
 -- the next commit writes data in which the session's tree stands
 abbrev pub IsReady : Session → Type 0
@@ -45,14 +41,10 @@ is_ready base bins cells changed is heap stands =
     subst (λ (v : HiveVersion). HasTree v (spelled 0 cells.bins) cells.root cells.tree) is.version
     (has_bytes cells.version cells.bins cells.root cells.tree heap stands)
 
--- the base block that closes the commit, with these data, holds the tree under the next number
-closed_holds : (s : Session) → IsReady s → Holds (clean (next_base s) (next_bins s)) (committed_state s)
-closed_holds s has = record { bins = has.heap; cells = has.cells; tree = has.stands; sequence = refl; version = refl }
-
+-- the base block that closes the commit, with these data, has the tree under the next number
 pub commit_loads : (s : Session) → IsReady s → (held : Image) → Carries held (next_base s) (next_bins s)
     → Loads held (committed_state s) false
-commit_loads s has held carries =
-    carried_loads held (next_base s) (next_bins s) (committed_state s) has.sized carries (closed_holds s has)
+commit_loads s has held carries = tree_loads (next_base s) (next_bins s) s.tree has held carries
 
 pub commit_crash : (s : Session) → IsReady s → is_bins_size (length s.bins) ≡ true → (held : Image) (state : DiskState)
     → Carries held s.base s.bins
@@ -62,10 +54,8 @@ pub commit_crash : (s : Session) → IsReady s → is_bins_size (length s.bins) 
 commit_crash s has size held state carries each before dirty loads c crash =
     let was = clean s.base s.bins in
     let holds : Holds was before = held_by held before dirty was loads (carried held s.base s.bins size carries) in
-    ⊎_elim
-    (λ is. inl (held_again was before c holds is))
-    (λ is. inr (held_again (clean (next_base s) (next_bins s)) (committed_state s) c (closed_holds s has) is))
-    (each c crash)
+    either_loads s.base s.bins before holds (next_base s) (next_bins s) (committed_state s)
+    (tree_holds (next_base s) (next_bins s) s.tree has) state each c crash
 
 -- ---- the session after the commit
 
@@ -94,13 +84,13 @@ next_is s tree closed bins new root closed_is bins_are written at =
     ∙ ap (λ (t : Tree). record { base = next_base s; bins = next_bins s; cells = s.cells; tree = t; changed = false })
     (sym tree)
 
--- what is said of the data that were written is said of those of the session
-pub as_written : (s : Session) (P : List ℕ → List ℕ → ℕ → Type 0) (old new : List ℕ) (root : ℕ) → old ≡ s.bins
-    → new ≡ next_bins s → root ≡ next_root s
-    → P old new root → P s.bins (next_bins s) (next_root s)
-as_written s P old new root old_is written at is =
-    subst (λ (n : ℕ). P s.bins (next_bins s) n) at
-    (subst (λ (b : List ℕ). P s.bins b root) written (subst (λ (b : List ℕ). P b new root) old_is is))
+-- what is said of the data and the root that were written is said of those that were given
+pub as_written : (P : List ℕ → List ℕ → ℕ → Type 0) {old bins written new : List ℕ} {root at : ℕ} → old ≡ bins
+    → written ≡ new → root ≡ at
+    → P old written root → P bins new at
+as_written P {bins = bins} {written = written} {new = new} {root = root} old_is written_is root_is is =
+    subst (λ (n : ℕ). P bins new n) root_is
+    (subst (λ (b : List ℕ). P bins b root) written_is (subst (λ (b : List ℕ). P b written root) old_is is))
 
 -- ---- refusals
 

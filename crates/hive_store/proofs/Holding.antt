@@ -1,15 +1,19 @@
--- What an image holds that is recovered as a base block and bins data.
-use Rattle.std.proofs.Common.{◌≡◌, ℕ, Bool, true, false, List, length, Result, Ok, refl, sym, subst, ◌∙◌, arith}
+-- What an image holds that is recovered as a base block and bins data, or as one of two of them.
+use Rattle.std.proofs.Common.{◌≡◌, inl, inr, ⊎_elim, ℕ, Bool, true, false, List, length, Result, Ok, refl, sym, subst, ◌∙◌, arith}
 use Rattle.nt_bytes.specs.declared.fault.HiveFault.{HiveFault}
-use Rattle.hive_model.specs.Base.{Base, is_bins_size}
+use Rattle.hive_model.specs.Base.{Base, is_bins_size, version_of}
 use Rattle.hive_model.specs.Image.{Image}
 use Rattle.hive_model.specs.Recovery.{Recovered, recovered_of}
 use Rattle.hive_model.specs.Carries.{Carries, IsRecoveredAs}
 use Rattle.hive_model.specs.State.{HiveState}
 use Rattle.hive_model.specs.Load.{Loads, LoadsAs, Holds}
 use Rattle.hive_model.specs.Tree.{Tree}
+use Rattle.nt_edge.specs.Disk.{DiskState}
+use Rattle.nt_edge.specs.Crash.{EachCrash}
 use Rattle.hive_log.proofs.Appending.{sized}
 use Rattle.hive_log.proofs.Finding.{carries_recovered}
+use Rattle.hive_commit.specs.Stages.{IsBeforeOrAfter, LoadsAsEither}
+use Rattle.hive_store.specs.Session.{HasTree}
 use Rattle.hive_store.specs.Checks.{held_state}
 
 abbrev done : Recovered → Result Recovered HiveFault
@@ -66,3 +70,27 @@ pub carried_loads : (image : Image) (base : Base) (bins : List ℕ) (s : HiveSta
     → Holds (clean base bins) s → Loads image s false
 carried_loads image base bins s size carries holds =
     record { recovered = clean base bins; read = carried image base bins size carries; was_dirty = refl; holds = holds }
+
+-- bins data in which a tree stands hold it, under the number and in the version of the base block
+pub tree_holds : (base : Base) (bins : List ℕ) (tree : Tree) → HasTree (version_of base.minor) bins base.root tree
+    → Holds (clean base bins) (held_state (clean base bins) tree)
+tree_holds base bins tree has =
+    record { bins = has.heap; cells = has.cells; tree = has.stands; sequence = refl; version = refl }
+
+-- and an image that carries them loads as it
+pub tree_loads : (base : Base) (bins : List ℕ) (tree : Tree) → HasTree (version_of base.minor) bins base.root tree
+    → (held : Image) → Carries held base bins → Loads held (held_state (clean base bins) tree) false
+tree_loads base bins tree has held carries =
+    carried_loads held base bins (held_state (clean base bins) tree) has.sized carries
+    (tree_holds base bins tree has)
+
+-- what is recovered as the old or as the new loads as what the one or the other holds
+pub either_loads : (base : Base) (bins : List ℕ) (before : HiveState) → Holds (clean base bins) before
+    → (closed : Base) (new : List ℕ) (after : HiveState) → Holds (clean closed new) after
+    → (state : DiskState) → EachCrash state (IsBeforeOrAfter base bins closed new)
+    → EachCrash state (LoadsAsEither before after)
+either_loads base bins before was closed new after holds state each c crash =
+    ⊎_elim
+    (λ is. inl (held_again (clean base bins) before c was is))
+    (λ is. inr (held_again (clean closed new) after c holds is))
+    (each c crash)

@@ -1,10 +1,10 @@
 -- Bytes of which the pages with a marked sector are copied.
-use Rattle.std.proofs.Common.{◌≡◌, ◌<◌, ◌≤◌, ◌+◌, ◌*◌, ◌/◌, ◌%◌, ◌^◌, ◌==◌, ◌++◌, [], ◌-◌, ℕ, Bool, false, List, Result, Ok, Err, length, take, drop, get_or, refl, sym, ◌∙◌, ap, arith, length-take, append_assoc, take-append-drop}
+use Rattle.std.proofs.Common.{◌≡◌, ◌<◌, ◌≤◌, ◌+◌, ◌*◌, ◌/◌, ◌%◌, ◌^◌, ◌==◌, ◌++◌, [], ◌-◌, ℕ, false, List, Result, Ok, Err, length, take, drop, get_or, refl, sym, ◌∙◌, ap, arith, length-take, append_assoc, take-append-drop}
 use Rattle.std.proofs.Math.Nat.{zero-div}
 use Rattle.std.proofs.Math.Seq.{take-add, take-length, drop-length, drop-append-add}
 use Rattle.std.proofs.lemmas.List.{append-nil, drop-drop, take-append-le}
 use Rattle.nt_bytes.specs.declared.fault.HiveFault.{HiveFault}
-use Rattle.hive_model.specs.Recovery.{Sectors, bit, sector, gathered}
+use Rattle.hive_model.specs.Recovery.{Sectors, bit, sector}
 use Rattle.hive_model.specs.Log.{dirty}
 use Rattle.hive_log.proofs.Runs.{gathered_is, sector_front, sector_back}
 use Rattle.hive_log.proofs.Same.{off_same}

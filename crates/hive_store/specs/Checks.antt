@@ -16,9 +16,9 @@ use Rattle.hive_store.specs.Session.{AreCarried}
 abbrev pub held_state : Recovered → Tree → HiveState
 held_state found tree = state_of tree found.base.first (version_of found.base.minor)
 
--- of what was recovered: the tree that it holds, or its first fault
-abbrev pub HoldsAs : Recovered → Result Tree ReadStop → Type 0
-HoldsAs found (Ok tree) = Holds found (held_state found tree)
+-- of what was recovered: the tree that it holds, with its bins data given back, or its first fault
+abbrev pub HoldsAs : Recovered → Result (Tree × List ℕ) ReadStop → Type 0
+HoldsAs found (Ok x) = Holds found (held_state found x.0) × (x.1 ≡ found.bins)
 HoldsAs found (Err (read.Fault f)) = HeldFault found f
 HoldsAs found (Err read.Memory) = Unit {0}
 

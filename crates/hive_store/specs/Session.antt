@@ -48,7 +48,7 @@ pub record IsSession (base : Base) (bins : List ℕ) (cells : HiveCells) (change
   pub version : cells.version ≡ version_of base.minor
   pub kept : changed ≡ false → AreCarried base bins cells
 
--- a base block and a session as the logic codes them
+-- a base block as the logic codes it
 abbrev pub coded_base : Coded Base
 coded_base =
     code_by (ℕ × (ℕ × (ℕ × (ℕ × (ℕ × (ℕ × (ℕ × (ℕ × (List ℕ × List ℕ)))))))))
@@ -70,6 +70,7 @@ coded_base =
     })
     (λ _. refl)
 
+-- and a session
 abbrev pub coded_session : Coded Session
 coded_session =
     code_by (Base × (List ℕ × (HiveCells × (Tree × Bool)))) (coded× coded_base (coded× (coded_list coded_ℕ) (coded× coded_hive (coded× coded_tree coded_bool))))

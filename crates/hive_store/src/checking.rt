@@ -11,19 +11,21 @@ use hive_cells::read_cells;
 use hive_edit::HiveBytes;
 use hive_log::{Recovered, recovered};
 use hive_read::{judge, read_tree};
-use nt_bytes::{HiveVersion, ReadStop};
+use nt_bytes::{Bytes, HiveVersion, ReadStop};
 use reg_tree::Key;
 use std::alloc::Global;
 
-/// The tree of what was recovered, or the first fault of its bins, and then of the tree in them.
-fn tree_in(alloc: Global, found: Recovered) -> Result<Key, ReadStop>
+/// The tree of what was recovered, with the bins data given back, or the first fault of its bins, and then
+/// of the tree in them. The bins data are not copied. Out of memory alone is free.
+pub fn tree_in(alloc: Global, found: Recovered) -> Result<(Key, Bytes), ReadStop>
     requires sized { is_bins_size (length found.bins) ≡ true }
     ensures exact { HoldsAs found result }
-    ensures valid { IfOk result IsValid }
+    ensures valid { IfOk result (λ x. IsValid x.0) }
 {
     let base = found.base;
     let cells = read_cells(alloc, found.bins)?;
-    read_tree(alloc, &cells, base.root, base.version())
+    let tree = read_tree(alloc, &cells, base.root, base.version())?;
+    Ok((tree, cells.into_bytes()))
 }
 
 /// Judges what was recovered: its bins, and then the tree in them. No tree is made.
@@ -62,7 +64,7 @@ pub fn check_images(
 {
     let found = recovered(alloc, primary, log)?;
     let base = found.base;
-    let tree = tree_in(alloc, found)?;
+    let (tree, _bins) = tree_in(alloc, found)?;
     Ok((tree, base.first, base.version()))
 }
 

@@ -13,6 +13,6 @@ mod loading;
 mod room;
 mod same;
 
-pub use checking::{check_images, judge_images};
+pub use checking::{check_images, judge_images, tree_in};
 pub use hive::Hive;
 pub use hive_commit::{CommitStop, LoadStop};

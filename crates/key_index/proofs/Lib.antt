@@ -4,7 +4,6 @@ pub mod Nodes
 pub mod Names
 pub mod Finding
 pub mod Below
-pub mod Texts
 pub mod Runs
 pub mod Meeting
 pub mod Fresh

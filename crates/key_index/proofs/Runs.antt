@@ -37,10 +37,6 @@ use Rattle.key_index.proofs.Entered.{drop_drop}
 
 -- ---- a run is its cells
 
-unfolding cell_text
-packed_bytes [] = refl
-packed_bytes (p ∷ ps) = ap (λ (t : List ℕ). cell_text p ++ t) (packed_bytes ps)
-
 cells_sound : (ps : List (List ℕ)) → space ps ≤ 16777216 → AllByRecursion IsCell (map allocated_cell ps)
 cells_sound [] h = tt
 cells_sound (p ∷ ps) h = (

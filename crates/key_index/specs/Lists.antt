@@ -5,8 +5,6 @@ use Rattle.std.specs.Ordering.{is_gt}
 use Rattle.std.specs.List.{All, AllPairs, flat_map, position_or_len}
 use Rattle.nt_bytes.specs.Fields.{u16_in}
 use Rattle.nt_bytes.specs.Folding.{folds_same, folded_order}
-use Rattle.nt_bytes.specs.declared.version.HiveVersion.{HiveVersion}
-use Rattle.nt_bytes.specs.declared.version.HiveVersion.TheVariants.{V3, V5}
 use Rattle.hive_model.specs.Bins.{Cells}
 use Rattle.hive_model.specs.KeyNode.{key_node_at}
 use Rattle.hive_model.specs.Lists.{list_at}
@@ -108,8 +106,3 @@ hint_in cells at = name_hint cells.version (name_in cells at)
 -- the same of each of these
 abbrev pub hints_in : Cells → List ℕ → List (List ℕ)
 hints_in cells offsets = map (hint_in cells) offsets
-
--- the second letter of the lists that a version writes: `lf` and `lh`
-abbrev pub second_of : HiveVersion → ℕ
-second_of V3 = 0x66
-second_of V5 = 0x68

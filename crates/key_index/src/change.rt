@@ -15,11 +15,10 @@ ghost use Rattle.key_index.specs.Sources.{cells_of};
 
 use crate::children::{insert, read_children, read_list_cells, remove};
 use crate::hints::hints;
-use crate::lists::{first_part, write_lists};
 use crate::removal::Removal;
 use crate::source::Source;
 use hive_cells::OpenHeap;
-use hive_pack::{list_len, part_count};
+use hive_pack::{first_part, list_len, part_count, write_lists};
 use nt_bytes::{Bytes, HiveVersion};
 use std::alloc::{AllocError, Global};
 
@@ -28,15 +27,15 @@ fn offsets_fit(offsets: &[u32])
     ensures { (k : ℕ) → slice_index offsets.now k < 2 ^ 32 }
 {}
 
-/// The bins data have at most 16 MiB.
-fn bins_fit(heap: &OpenHeap)
+/// The bins data have at most 16,777,216 bytes.
+pub fn bins_fit(heap: &OpenHeap)
     ensures { bins_size heap.now ≤ 16777216 }
 {
     let _bins = heap.bytes();
 }
 
-/// Frees these cells.
-fn free_all(heap: &mut OpenHeap, cells: &[u32])
+/// Frees the cells at these offsets in bytes.
+pub fn free_all(heap: &mut OpenHeap, cells: &[u32])
     requires held { All (λ o. IsSome (held_at heap.old o)) cells.now }
     requires apart { AreApart cells.now }
     ensures gone { (o : ℕ) → Contains cells.now o → held_at heap.new o ≡ None }

@@ -13,12 +13,12 @@ mod entries;
 mod find;
 mod hints;
 mod laws;
-mod lists;
 mod node;
 mod removal;
 mod source;
 
-pub use change::{insert_child, remove_child};
+pub use change::{bins_fit, free_all, insert_child, remove_child};
 pub use find::find_child;
 pub use laws::{keys_list_siblings, lists_are_apart};
 pub use removal::Removal;
+pub use source::{Source, payload};

@@ -1,4 +1,4 @@
-//! What a search reads from.
+//! What a look into a hive reads from.
 
 ghost use Rattle.std.specs.Prelude.{◌≡◌};
 ghost use Rattle.key_index.specs.Lists.{payload_in};
@@ -14,9 +14,9 @@ pub struct Source<'a> {
     pub version: HiveVersion,
 }
 
-/// The payload of the cell at an offset, empty where there is none.
+/// The payload of the cell at an offset in bytes, empty where there is none.
 #[tactic(auto, unfolding(crate::specs::Lists::payload_in))]
-pub(crate) fn payload<'a>(cells: &Source<'a>, at: u32) -> &'a [u8]
+pub fn payload<'a>(cells: &Source<'a>, at: u32) -> &'a [u8]
     ensures { result.now ≡ payload_in (cells_of cells.now) at }
 {
     match cells.heap.payload(at) {

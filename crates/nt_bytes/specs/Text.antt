@@ -14,6 +14,7 @@ wide_of (low ∷ high ∷ rest) = (low + 256 * high) ∷ wide_of rest
 abbrev pub narrow_of : List ℕ → List ℕ
 narrow_of bytes = bytes
 
+-- a zero unit, which ends a string
 abbrev pub is_zero : ℕ → Bool
 is_zero unit = unit == 0
 
@@ -21,6 +22,7 @@ is_zero unit = unit == 0
 abbrev pub sz_of : List ℕ → List ℕ
 sz_of bytes = before_first is_zero (wide_of bytes)
 
+-- a string with at least one unit: an empty one ends a list of strings
 abbrev pub is_item : List ℕ → Bool
 is_item units = not (length units == 0)
 
@@ -36,9 +38,11 @@ multi_sz_of bytes = items_of (wide_of bytes)
 abbrev pub is_blank : ℕ → Bool
 is_blank c = c == 32 || c == 9
 
+-- the text without the blanks at its beginning
 abbrev pub without_front_blanks : List ℕ → List ℕ
 without_front_blanks text = drop (prefix_len is_blank text) text
 
+-- the text without the blanks at its end
 abbrev pub without_last_blanks : List ℕ → List ℕ
 without_last_blanks text = take (length text - suffix_len is_blank text) text
 

@@ -30,7 +30,7 @@ use Rattle.command_parts.specs.Saves.{Saves, no_saves}
 use Rattle.safe_command.specs.declared.inputs.SafeInputs.{SafeInputs}
 use Rattle.safe_command.specs.Answer.{DecidesSafe, EndsSafe}
 use Rattle.safe_command.specs.Inputs.{asks_safe, arguments_in as safe_arguments_in, inputs_in as safe_inputs_in}
-use Rattle.control_command.specs.declared.inputs.Inputs.{Inputs as ControlInputs}
+use Rattle.control_command.specs.declared.inputs.ControlInputs.{ControlInputs}
 use Rattle.control_command.specs.Answer.{DecidesControl, EndsControl}
 use Rattle.control_command.specs.Inputs.{asks_control, inputs_in as control_inputs_in}
 use Rattle.hive_alt.specs.Schemes.{Standing}

@@ -1,6 +1,5 @@
 mod DigitLemmas
 mod FitLemmas
-mod PathLemmas
 mod PairLemmas
 mod QuoteLemmas
 mod ReadLemmas

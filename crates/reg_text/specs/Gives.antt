@@ -7,8 +7,8 @@ use Rattle.reg_text.specs.declared.stop.RegKind.{RegKind}
 use Rattle.reg_text.specs.declared.stop.RegFault.{RegFault}
 use Rattle.reg_text.specs.declared.stop.RegStop.{RegStop}
 use Rattle.reg_text.specs.declared.stop.RegStop.TheVariants as stops
-use Rattle.reg_text.specs.declared.stop.LineStop.{LineStop}
-use Rattle.reg_text.specs.declared.stop.LineStop.TheVariants as line_stops
+use Rattle.reg_text.specs.declared.stop.RegLineStop.{RegLineStop}
+use Rattle.reg_text.specs.declared.stop.RegLineStop.TheVariants as line_stops
 
 -- ---- one line
 
@@ -34,12 +34,12 @@ Sees view (Ok x) read = read ≡ Ok (view x)
 Sees view (Err e) read = read ≡ Err e
 
 -- the line has this fault, or memory ran out
-abbrev pub Fails : {Y : Type 0} → LineStop → Result Y RegKind → Type 0
+abbrev pub Fails : {Y : Type 0} → RegLineStop → Result Y RegKind → Type 0
 Fails line_stops.Memory read = Unit {0}
 Fails (line_stops.Kind k) read = read ≡ Err k
 
 -- the same, unless memory ran out
-abbrev pub Gives : {X Y : Type 0} → (X → Y) → Result X LineStop → Result Y RegKind → Type 0
+abbrev pub Gives : {X Y : Type 0} → (X → Y) → Result X RegLineStop → Result Y RegKind → Type 0
 Gives view (Ok x) read = read ≡ Ok (view x)
 Gives view (Err e) read = Fails e read
 

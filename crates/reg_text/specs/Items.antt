@@ -11,10 +11,9 @@
 --
 -- NAME is `@` or a text in quotes. Digits stand in either case, key words and the prefix of KEY too. A line has no blanks
 -- at its ends here.
-use Rattle.std.specs.Prelude.{ℕ, ◌-◌, true, false, ◌&&◌, ◌||◌, ◌==◌, nat_lt, if◌then◌else◌, Bool, List, [], ◌∷◌, ◌++◌, length, take, drop, slice_index, codes, Option, Some, None, Result, Ok, Err}
+use Rattle.std.specs.Prelude.{ℕ, ◌-◌, false, ◌&&◌, ◌||◌, ◌==◌, nat_lt, if◌then◌else◌, Bool, List, [], ◌∷◌, ◌++◌, length, take, drop, slice_index, codes, Option, Some, None, Result, Ok, Err}
 use Rattle.std.specs.List.{flat_map, list_all, prefix_len, slice_split}
 use Rattle.std.specs.Option.{option_map_or}
-use Rattle.std.specs.Borrow.{Bor}
 use Rattle.std.specs.Int.{w32, to_le_bytes}
 use Rattle.std.specs.Str.Parse.{digits_value}
 use Rattle.nt_bytes.specs.Folding.{folded_unit}
@@ -46,11 +45,6 @@ behind (c ∷ word) [] = None
 behind (c ∷ word) (u ∷ text) = if folded_unit u == folded_unit c then behind word text else None
 
 -- ---- lines of keys
-
--- the parts behind a backslash, if there is one
-abbrev pub parts_after : Option (Bor (List ℕ)) → List (List ℕ)
-parts_after None = []
-parts_after (Some more) = slice_split is_backslash more.now
 
 -- the names behind the prefix of a path
 unfoldable pub parts_behind : List ℕ → Result (List (List ℕ)) RegKind

@@ -7,7 +7,7 @@ ghost use Rattle.std.specs.Str.Parse.{digits_value};
 ghost use Rattle.reg_text.specs.Gives.{Gives, Sees};
 ghost use Rattle.reg_text.specs.Digits.{is_hex, byte_of, pair_at, behind_comma, pairs_of, bytes_of};
 
-use crate::stop::{LineStop, RegKind};
+use crate::stop::{RegKind, RegLineStop};
 use nt_bytes::Bytes;
 use std::alloc::Global;
 
@@ -110,7 +110,7 @@ fn behind_comma(text: &[u16]) -> Result<Option<&[u16]>, RegKind>
     }
 }
 
-fn pairs(alloc: Global, text: &[u16]) -> Result<Bytes, LineStop>
+fn pairs(alloc: Global, text: &[u16]) -> Result<Bytes, RegLineStop>
     ensures { Gives (λ b. b) result (pairs_of text.now) }
 {
     let mut bytes = Bytes::new(alloc);
@@ -127,7 +127,7 @@ fn pairs(alloc: Global, text: &[u16]) -> Result<Bytes, LineStop>
 }
 
 /// No byte, or bytes with commas between them.
-pub fn bytes(alloc: Global, text: &[u16]) -> Result<Bytes, LineStop>
+pub fn bytes(alloc: Global, text: &[u16]) -> Result<Bytes, RegLineStop>
     ensures { Gives (λ b. b) result (bytes_of text.now) }
 {
     if text.is_empty() {

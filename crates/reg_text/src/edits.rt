@@ -11,7 +11,7 @@ ghost use Rattle.reg_text.specs.Takes.{path_of, AddsEdits, TakesItem, TakesLine}
 use crate::item::{Begun, LineItem};
 use crate::line::item;
 use crate::state::{State, number_of};
-use crate::stop::{LineStop, RegKind};
+use crate::stop::{RegKind, RegLineStop};
 use crate::units::trim;
 use nt_bytes::{Bytes, Names, Units};
 use reg_tree::{Steps, TreeStep};
@@ -51,12 +51,12 @@ fn push_making(
 }
 
 /// A copy of the key's path, if there is one.
-fn path_of(alloc: Global, key: &Option<Names>) -> Result<Names, LineStop>
+fn path_of(alloc: Global, key: &Option<Names>) -> Result<Names, RegLineStop>
     ensures { Gives (λ p. p) result (path_of key.now) }
 {
     match key {
         Some(path) => Ok(path.copy(alloc)?),
-        None => Err(LineStop::Kind(RegKind::Line)),
+        None => Err(RegLineStop::Kind(RegKind::Line)),
     }
 }
 
@@ -68,7 +68,7 @@ fn push_value(
     name: Units,
     kind: u32,
     bytes: Bytes,
-) -> Result<(), LineStop>
+) -> Result<(), RegLineStop>
     ensures taken { IfOk result (λ _. AddsEdits steps.old steps.new (edits_of key.now (items.Named name kind bytes))) }
     ensures refused { IfErr result (λ e. Fails e (edits_of key.now (items.Named name kind bytes))) }
 {
@@ -91,7 +91,7 @@ fn push_no_value(
     steps: &mut Steps,
     key: &Option<Names>,
     name: Units,
-) -> Result<(), LineStop>
+) -> Result<(), RegLineStop>
     ensures taken { IfOk result (λ _. AddsEdits steps.old steps.new (edits_of key.now (items.NoValue name))) }
     ensures refused { IfErr result (λ e. Fails e (edits_of key.now (items.NoValue name))) }
 {
@@ -124,7 +124,7 @@ fn take_item(
     steps: &mut Steps,
     key: Option<Names>,
     item: LineItem,
-) -> Result<(Option<Names>, Option<Begun>), LineStop>
+) -> Result<(Option<Names>, Option<Begun>), RegLineStop>
     ensures taken { IfOk result (TakesItem steps.old steps.new key item) }
     ensures refused { IfErr result (λ e. Fails e (edits_of key item)) }
 {
@@ -157,7 +157,7 @@ pub fn say_line(
     steps: &mut Steps,
     state: State,
     line: &[u16],
-) -> Result<State, LineStop>
+) -> Result<State, RegLineStop>
     ensures taken { IfOk result (λ s. TakesLine steps.old steps.new (line_said state line.now) s) }
     ensures refused { IfErr result (λ e. Fails e (line_said state line.now)) }
 {

@@ -5,13 +5,13 @@ ghost use Rattle.reg_text.specs.Items.{fresh_item, item_at};
 
 use crate::item::{Begun, LineItem};
 use crate::key_line::key_item;
-use crate::stop::LineStop;
+use crate::stop::RegLineStop;
 use crate::value_line::{bytes_item, value_item};
 use std::alloc::Global;
 
 /// A line that begins anew.
 #[tactic(auto, unfolding(crate::specs::Items::fresh_item))]
-fn fresh_item(alloc: Global, line: &[u16]) -> Result<LineItem, LineStop>
+fn fresh_item(alloc: Global, line: &[u16]) -> Result<LineItem, RegLineStop>
     ensures { Gives (λ i. i) result (fresh_item line.now) }
 {
     match line {
@@ -23,7 +23,7 @@ fn fresh_item(alloc: Global, line: &[u16]) -> Result<LineItem, LineStop>
 
 /// A line without blanks at its ends, in which the bytes of a value may go on.
 #[tactic(auto, unfolding(crate::specs::Items::item_at))]
-pub fn item(alloc: Global, begun: Option<Begun>, line: &[u16]) -> Result<LineItem, LineStop>
+pub fn item(alloc: Global, begun: Option<Begun>, line: &[u16]) -> Result<LineItem, RegLineStop>
     ensures { Gives (λ i. i) result (item_at begun line.now) }
 {
     match begun {

@@ -4,7 +4,7 @@ ghost use Rattle.std.specs.Prelude.{◌<◌, false, length, IfOk};
 ghost use Rattle.reg_text.specs.Gives.{Gives, Sees};
 ghost use Rattle.reg_text.specs.Quotes.{quoted_from, escaped_unit, first_unit};
 
-use crate::stop::{LineStop, RegKind};
+use crate::stop::{RegKind, RegLineStop};
 use nt_bytes::Units;
 use std::alloc::Global;
 
@@ -42,7 +42,7 @@ fn first_unit(text: &[u16]) -> Result<(Option<u16>, &[u16]), RegKind>
 }
 
 /// The text up to its closing quote, and what follows that.
-pub fn quoted(alloc: Global, text: &[u16]) -> Result<(Units, &[u16]), LineStop>
+pub fn quoted(alloc: Global, text: &[u16]) -> Result<(Units, &[u16]), RegLineStop>
     ensures { Gives (λ q. (q.0, q.1.now)) result (quoted_from false text.now) }
 {
     let mut made = Units::new(alloc);

@@ -12,7 +12,7 @@ ghost use Rattle.reg_text.specs.Takes.{TakesLine, GivesBody, GivesLines};
 
 use crate::edits::say_line;
 use crate::state::{State, first_state, number_of, unended};
-use crate::stop::{LineStop, RegFault, RegKind, RegStop};
+use crate::stop::{RegFault, RegKind, RegLineStop, RegStop};
 use crate::units::{first_line, is_text, trim};
 use nt_bytes::{Row, wide};
 use reg_tree::Steps;
@@ -32,8 +32,8 @@ fn take_line(alloc: Global, steps: &mut Steps, state: State, line: &[u16]) -> Re
     let number = number_of(&state);
     match say_line(alloc, steps, state, line) {
         Ok(after) => Ok(after),
-        Err(LineStop::Memory) => Err(RegStop::Memory),
-        Err(LineStop::Kind(kind)) => Err(fault(kind, number)),
+        Err(RegLineStop::Memory) => Err(RegStop::Memory),
+        Err(RegLineStop::Kind(kind)) => Err(fault(kind, number)),
     }
 }
 

@@ -2,7 +2,7 @@
 
 ghost use Rattle.std.specs.Prelude.{◌≡◌};
 ghost use Rattle.reg_text.specs.declared.stop.RegStop.TheVariants as reg_stops;
-ghost use Rattle.reg_text.specs.declared.stop.LineStop.TheVariants as line_stops;
+ghost use Rattle.reg_text.specs.declared.stop.RegLineStop.TheVariants as line_stops;
 
 use std::alloc::{AllocError, AllocFailed};
 
@@ -40,7 +40,7 @@ pub enum RegStop {
 
 /// Why one line says nothing.
 #[derive(Clone, Copy, Debug, PartialEq, Eq)]
-pub enum LineStop {
+pub enum RegLineStop {
     Kind(RegKind),
     Memory,
 }
@@ -61,26 +61,26 @@ impl<T: Drop> From<AllocFailed<T>> for RegStop {
     }
 }
 
-impl From<AllocError> for LineStop {
+impl From<AllocError> for RegLineStop {
     ghost from_gives = { λ _ e. e ≡ line_stops.Memory };
 
-    fn from(_e: AllocError) -> LineStop {
-        LineStop::Memory
+    fn from(_e: AllocError) -> RegLineStop {
+        RegLineStop::Memory
     }
 }
 
-impl<T: Drop> From<AllocFailed<T>> for LineStop {
+impl<T: Drop> From<AllocFailed<T>> for RegLineStop {
     ghost from_gives = { λ _ e. e ≡ line_stops.Memory };
 
-    fn from(_e: AllocFailed<T>) -> LineStop {
-        LineStop::Memory
+    fn from(_e: AllocFailed<T>) -> RegLineStop {
+        RegLineStop::Memory
     }
 }
 
-impl From<RegKind> for LineStop {
+impl From<RegKind> for RegLineStop {
     ghost from_gives = { λ k e. e ≡ line_stops.Kind k };
 
-    fn from(kind: RegKind) -> LineStop {
-        LineStop::Kind(kind)
+    fn from(kind: RegKind) -> RegLineStop {
+        RegLineStop::Kind(kind)
     }
 }

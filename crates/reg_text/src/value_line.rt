@@ -8,25 +8,25 @@ ghost use Rattle.reg_text.specs.Items.{comma_ended, continued, named, name_at, s
 use crate::digits::{all_hex, bytes, hex_count, hex_number};
 use crate::item::{Begun, LineItem};
 use crate::quotes::quoted;
-use crate::stop::{LineStop, RegKind};
+use crate::stop::{RegKind, RegLineStop};
 use crate::units::behind;
 use nt_bytes::{Bytes, Units};
 use std::alloc::{AllocError, Global};
 
 /// The name with what follows the `=` behind it.
 #[tactic(auto, unfolding(crate::specs::Items::named))]
-fn named(name: Units, rest: &[u16]) -> Result<(Units, &[u16]), LineStop>
+fn named(name: Units, rest: &[u16]) -> Result<(Units, &[u16]), RegLineStop>
     ensures { Gives (λ n. (n.0, n.1.now)) result (named name rest.now) }
 {
     match rest {
         [0x3d, data @ ..] => Ok((name, data)),
-        _ => Err(LineStop::Kind(RegKind::Line)),
+        _ => Err(RegLineStop::Kind(RegKind::Line)),
     }
 }
 
 /// The name at the front of a line, and what follows the `=` behind it.
 #[tactic(auto, unfolding(crate::specs::Items::name_at))]
-fn name(alloc: Global, line: &[u16]) -> Result<(Units, &[u16]), LineStop>
+fn name(alloc: Global, line: &[u16]) -> Result<(Units, &[u16]), RegLineStop>
     ensures { Gives (λ n. (n.0, n.1.now)) result (name_at line.now) }
 {
     match line {
@@ -35,7 +35,7 @@ fn name(alloc: Global, line: &[u16]) -> Result<(Units, &[u16]), LineStop>
             let (name, rest) = quoted(alloc, text)?;
             named(name, rest)
         }
-        _ => Err(LineStop::Kind(RegKind::Line)),
+        _ => Err(RegLineStop::Kind(RegKind::Line)),
     }
 }
 
@@ -66,11 +66,11 @@ fn string_ended(
     name: Units,
     text: &[u16],
     rest: &[u16],
-) -> Result<LineItem, LineStop>
+) -> Result<LineItem, RegLineStop>
     ensures { Gives (λ i. i) result (string_ended name text.now rest.now) }
 {
     if !rest.is_empty() {
-        return Err(LineStop::Kind(RegKind::Line));
+        return Err(RegLineStop::Kind(RegKind::Line));
     }
     let bytes = string_bytes(alloc, text)?;
     Ok(LineItem::Named {
@@ -82,7 +82,7 @@ fn string_ended(
 
 /// A text in quotes, behind its first quote.
 #[tactic(auto, unfolding(crate::specs::Items::string_item))]
-fn string_item(alloc: Global, name: Units, text: &[u16]) -> Result<LineItem, LineStop>
+fn string_item(alloc: Global, name: Units, text: &[u16]) -> Result<LineItem, RegLineStop>
     ensures { Gives (λ i. i) result (string_item name text.now) }
 {
     let (text, rest) = quoted(alloc, text)?;
@@ -91,11 +91,11 @@ fn string_item(alloc: Global, name: Units, text: &[u16]) -> Result<LineItem, Lin
 
 /// Eight digits.
 #[tactic(auto, unfolding(crate::specs::Items::dword_item))]
-fn dword_item(alloc: Global, name: Units, text: &[u16]) -> Result<LineItem, LineStop>
+fn dword_item(alloc: Global, name: Units, text: &[u16]) -> Result<LineItem, RegLineStop>
     ensures { Gives (λ i. i) result (dword_item name text.now) }
 {
     if text.len() != 8 || !all_hex(text) {
-        return Err(LineStop::Kind(RegKind::Line));
+        return Err(RegLineStop::Kind(RegKind::Line));
     }
     let mut bytes = Bytes::new(alloc);
     bytes.put_u32(hex_number(text))?;
@@ -143,7 +143,7 @@ pub fn bytes_item(
     kind: u32,
     mut text: Units,
     line: &[u16],
-) -> Result<LineItem, LineStop>
+) -> Result<LineItem, RegLineStop>
     ensures { Gives (λ i. i) result (bytes_item name kind text line.now) }
 {
     match continued(line) {
@@ -206,7 +206,7 @@ fn kind(text: &[u16]) -> Result<(u32, &[u16]), RegKind>
 }
 
 #[tactic(auto, unfolding(crate::specs::Items::hex_item))]
-fn hex_item(alloc: Global, name: Units, text: &[u16]) -> Result<LineItem, LineStop>
+fn hex_item(alloc: Global, name: Units, text: &[u16]) -> Result<LineItem, RegLineStop>
     ensures { Gives (λ i. i) result (hex_item name text.now) }
 {
     let (kind, rest) = kind(text)?;
@@ -215,7 +215,7 @@ fn hex_item(alloc: Global, name: Units, text: &[u16]) -> Result<LineItem, LineSt
 
 /// A number or bytes.
 #[tactic(auto, unfolding(crate::specs::Items::number_item))]
-fn number_item(alloc: Global, name: Units, text: &[u16]) -> Result<LineItem, LineStop>
+fn number_item(alloc: Global, name: Units, text: &[u16]) -> Result<LineItem, RegLineStop>
     ensures { Gives (λ i. i) result (number_item name text.now) }
 {
     match behind(b"dword:", text) {
@@ -226,11 +226,11 @@ fn number_item(alloc: Global, name: Units, text: &[u16]) -> Result<LineItem, Lin
 
 /// The data behind the `=`.
 #[tactic(auto, unfolding(crate::specs::Items::data_item))]
-fn data_item(alloc: Global, name: Units, text: &[u16]) -> Result<LineItem, LineStop>
+fn data_item(alloc: Global, name: Units, text: &[u16]) -> Result<LineItem, RegLineStop>
     ensures { Gives (λ i. i) result (data_item name text.now) }
 {
     match text {
-        [] => Err(LineStop::Kind(RegKind::Line)),
+        [] => Err(RegLineStop::Kind(RegKind::Line)),
         [0x22, text @ ..] => string_item(alloc, name, text),
         [0x2d] => Ok(LineItem::NoValue { name }),
         _ => number_item(alloc, name, text),
@@ -239,7 +239,7 @@ fn data_item(alloc: Global, name: Units, text: &[u16]) -> Result<LineItem, LineS
 
 /// The line of a value.
 #[tactic(auto, unfolding(crate::specs::Items::value_item))]
-pub fn value_item(alloc: Global, line: &[u16]) -> Result<LineItem, LineStop>
+pub fn value_item(alloc: Global, line: &[u16]) -> Result<LineItem, RegLineStop>
     ensures { Gives (λ i. i) result (value_item line.now) }
 {
     let (name, data) = name(alloc, line)?;

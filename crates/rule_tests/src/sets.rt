@@ -3,7 +3,7 @@
 use nt_bytes::{Bytes, HiveVersion, Units, narrow};
 use reg_tree::{Key, Keys, Value, Values};
 use select_keys::{
-    SelectNumbers, SelectStop, SetPlan, Taken, plan_begin, plan_save, read_select, sets_in,
+    SelectNumbers, SelectStop, SetPlan, TakenNumbers, plan_begin, plan_save, read_select, sets_in,
 };
 use std::alloc::{AllocError, Global};
 use std::process::Abort;
@@ -188,7 +188,7 @@ fn a_save_leads_there(rt: HostRuntime) -> Result<(), Fail> {
 fn stop_of(
     alloc: Global,
     four: [u32; 4],
-    taken: &Taken,
+    taken: &TakenNumbers,
     last_known_good: bool,
 ) -> Option<SelectStop> {
     match plan_begin(alloc, numbers(four), taken, last_known_good) {
@@ -199,7 +199,7 @@ fn stop_of(
 
 #[test]
 fn a_number_names_no_set(rt: HostRuntime) -> Result<(), Fail> {
-    let mut taken = Taken::new();
+    let mut taken = TakenNumbers::new();
     taken.add(1);
     let cases = [
         ([1, 1, 0, 2], false, None),
@@ -216,7 +216,7 @@ fn a_number_names_no_set(rt: HostRuntime) -> Result<(), Fail> {
 
 #[test]
 fn no_number_is_free(rt: HostRuntime) -> Result<(), Fail> {
-    let mut taken = Taken::new();
+    let mut taken = TakenNumbers::new();
     for number in 1..1000 {
         taken.add(number);
     }

@@ -1,33 +1,20 @@
 -- Names of a list, and what they leave of the services.
-use Rattle.std.proofs.Common.{◌≡◌, ℕ, suc, ◌+◌, Bool, true, false, cond, not, ltb, ◌&&◌, ◌||◌, List, [], ◌∷◌, length, map, Option, Some, None, Result, Ok, Err, refl, sym, ap, ◌∙◌, arith}
+use Rattle.std.proofs.Common.{◌≡◌, ℕ, Bool, true, false, not, ◌&&◌, ◌||◌, List, [], ◌∷◌, map, Option, Some, None, Result, Ok, Err, refl, sym, ap, ◌∙◌}
 use Rattle.std.specs.Prelude.{position, ◌==◌, codes, IfOk}
-use Rattle.std.specs.List.{list_any, position_or_len}
+use Rattle.std.specs.List.{list_any}
 use Rattle.std.specs.Option.{is_some, option_map_or}
-use Rattle.std.proofs.lemmas.Bool.{lt-ltb}
 use Rattle.nt_bytes.specs.Folding.{folds_same}
 use Rattle.hive_model.specs.Tree.{Tree, head, is_named, find_text}
 use Rattle.start_model.specs.Entries.{Entry, named_group, entry_with}
+use Rattle.boot_phases.proofs.TriedLemmas.{some_place}
 use Rattle.safe_boot.specs.Listed.{has_name, is_among, is_left_out}
 use Rattle.boot_phases.proofs.TriedLemmas.{shorter}
 
 -- ---- a name that has a place is there
 
-within : {X : Type 0} (p : X → Bool) (xs : List X) → ltb (position_or_len p xs) (length xs) ≡ list_any p xs
-within p [] = refl
-within p (x ∷ xs) = by_case (p x) (within p xs)
-  where
-    by_case : (b : Bool) → ltb (position_or_len p xs) (length xs) ≡ list_any p xs
-        → ltb (cond (not b) (1 + position_or_len p xs) 0) (suc (length xs)) ≡ (b || list_any p xs)
-    by_case true rest = lt-ltb 0 (suc (length xs)) (omega arith)
-    by_case false rest = shorter (position_or_len p xs) (length xs) ∙ rest
-
-some_where : (b : Bool) (n : ℕ) → is_some (cond b (Some n) None) ≡ b
-some_where true n = refl
-some_where false n = refl
-
 pub has_place : (names : List (List ℕ)) (name : List ℕ)
     → is_some (position (folds_same name) names) ≡ has_name names name
-has_place names name = some_where _ (position_or_len (folds_same name) names) ∙ within (folds_same name) names
+has_place names name = some_place (folds_same name) names
 
 -- ---- the keys of a list, and their names
 

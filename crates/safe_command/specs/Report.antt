@@ -6,7 +6,7 @@ use Rattle.boot_ini.specs.declared.ini.OsEntry.{OsEntry}
 use Rattle.boot_ini.specs.declared.ini.BootIni.{BootIni}
 use Rattle.boot_ini.specs.declared.choosing.Chosen.{Chosen}
 use Rattle.boot_ini.specs.declared.choosing.Chosen.TheVariants as chosen
-use Rattle.boot_ini.specs.Choice.{entry_at, choice_of}
+use Rattle.boot_ini.specs.Choice.{entry_at, path_at, choice_of}
 use Rattle.hive_model.specs.Tree.{Tree}
 use Rattle.start_model.specs.Lines.{Line, Verdict, EntryLine, SetLine, VerdictLine, EndLine, NoEntry, OtherLoader, NoSystem, NoControlSet, text_of}
 use Rattle.start_model.specs.Sets.{select_numbers_of}
@@ -18,11 +18,7 @@ use Rattle.safe_boot.specs.Played.{safe_lines_of}
 
 -- ---- the entry of boot.ini
 
--- the path of an entry, by its number
-abbrev pub path_at : BootIni → ℕ → List ℕ
-path_at ini n = option_map_or (λ (e : OsEntry). e.path) (entry_at ini.entries n) []
-
--- the safe mode that its switches ask for
+-- the safe mode that the switches of an entry ask for, by its number
 abbrev pub mode_at : BootIni → ℕ → Option SafeMode
 mode_at ini n = option_map_or (λ (e : OsEntry). mode_asked e.switches) (entry_at ini.entries n) None
 

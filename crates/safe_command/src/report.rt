@@ -2,15 +2,16 @@
 
 ghost use Rattle.std.specs.Prelude.{◌≡◌, ◌++◌, [], map, IfOk, OnOk};
 ghost use Rattle.hive_model.specs.Valid.{HoldsKeys};
+ghost use Rattle.boot_ini.specs.Choice.{path_at};
 ghost use Rattle.boot_report.specs.Report.{line_of, verdict_of};
 ghost use Rattle.safe_boot.specs.Lines as safe;
 ghost use Rattle.start_model.specs.Lines.{EntryLine, line_text, text_of};
-ghost use Rattle.safe_command.specs.Report.{path_at, mode_at, mode_text, verdict_lines, set_lines, default_lines, system_text, other_text, report_of};
+ghost use Rattle.safe_command.specs.Report.{mode_at, mode_text, verdict_lines, set_lines, default_lines, system_text, other_text, report_of};
 
 use arc_path::Arc;
 use boot_ini::{BootIni, Chosen, choose};
-use boot_phases::Phase;
-use boot_report::{Line, PhaseWord, TryWord, Verdict, line_bytes};
+use boot_machine::phase_word;
+use boot_report::{Line, TryWord, Verdict, line_bytes};
 use nt_bytes::Bytes;
 use reg_tree::Key;
 use safe_boot::{SafeLine, SafeMode, safe_mode, safe_start};
@@ -194,16 +195,5 @@ fn reported(alloc: Global, line: &SafeLine) -> Result<Line, AllocError>
         SafeLine::Unmet(name) => Ok(Line::Unmet {
             name: name.copy(alloc)?,
         }),
-    }
-}
-
-fn phase_word(phase: Phase) -> PhaseWord
-    ensures { line_of (Line.Phase result) ≡ safe.line_of (SafeLine.Phase phase) }
-{
-    match phase {
-        Phase::Boot => PhaseWord::Boot,
-        Phase::System => PhaseWord::System,
-        Phase::Automatic => PhaseWord::Automatic,
-        Phase::Done => PhaseWord::Done,
     }
 }

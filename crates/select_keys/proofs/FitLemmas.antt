@@ -1,5 +1,5 @@
 -- A plan's steps bring no key along that a hive could not hold.
-use Rattle.std.proofs.Common.{◌≡◌, ℕ, Bool, true, false, cond, List, [], ◌∷◌, ◌++◌, map, refl}
+use Rattle.std.proofs.Common.{ℕ, Bool, true, false, cond, List, [], ◌∷◌, ◌++◌}
 use Rattle.std.specs.Prelude.{◌==◌, codes}
 use Rattle.std.specs.List.{All}
 use Rattle.std.specs.Int.{w32, to_le_bytes}

@@ -1,10 +1,10 @@
 -- Which set a number names.
-use Rattle.std.proofs.Common.{◌≡◌, ℕ, ◌+◌, ◌<◌, ◌≤◌, Bool, true, false, ◌&&◌, cond, List, [], ◌∷◌, Option, Some, None, refl, sym, ap, ◌∙◌, arith}
-use Rattle.std.specs.Prelude.{◌/◌, ◌%◌, find, nat_le, option_and_then}
+use Rattle.std.proofs.Common.{◌≡◌, ℕ, ◌<◌, ◌≤◌, cond, [], Option, Some, None, refl, sym, ◌∙◌, arith}
+use Rattle.std.specs.Prelude.{find, option_and_then}
 use Rattle.std.specs.Option.{is_some}
 use Rattle.std.proofs.lemmas.Bool.{le-leb}
 use Rattle.hive_model.specs.Tree.{Tree, find_key, children, is_named}
-use Rattle.start_model.specs.Sets.{set_of, set_name, is_usable}
+use Rattle.start_model.specs.Sets.{set_of, set_name}
 use Rattle.select_keys.specs.Sets.{usable_set}
 
 -- a path of one name leads to the child
@@ -25,12 +25,6 @@ usable_set-below t n low = grind (arith, low)
 pub usable_set-above : (t : Tree) (n : ℕ) → 999 < n → usable_set t n ≡ None
 usable_set-above t n high = grind (arith, high)
 
--- the child with the name of the number, in three digits, is the set
-pub named_set : (t : Tree) (n a b d : ℕ) → 1 ≤ n → n ≤ 999 → a ≡ 48 + n / 100 % 10 → b ≡ 48 + n / 10 % 10
-    → d ≡ 48 + n / 1 % 10
-    → find (is_named (0x43 ∷ 0x6f ∷ 0x6e ∷ 0x74 ∷ 0x72 ∷ 0x6f ∷ 0x6c ∷ 0x53 ∷ 0x65 ∷ 0x74 ∷ a ∷ b ∷ d ∷ []))
-    (children t) ≡ usable_set t n
-named_set t n a b d low high hundreds tens ones =
-    let x : a ≡ 48 + n / 100 = omega (arith, hundreds, high) in
-    let z : d ≡ 48 + n % 10 = omega (arith, ones) in
-    rw (x, tens, z) (sym (usable_set-within t n low high ∙ one_name (find (is_named (set_name n)) (children t))))
+-- the child with the name of the number is the set
+pub named_set : (t : Tree) (n : ℕ) → 1 ≤ n → n ≤ 999 → find (is_named (set_name n)) (children t) ≡ usable_set t n
+named_set t n low high = sym (usable_set-within t n low high ∙ one_name (find (is_named (set_name n)) (children t)))

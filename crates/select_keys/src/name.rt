@@ -18,11 +18,29 @@ pub fn set_name(alloc: Global, number: u32) -> Result<Units, AllocError>
     requires { number ≤ 999 }
     ensures { IfOk result (λ u. u ≡ set_name number) }
 {
-    let mut name = Units::from_slice(alloc, &CONTROL_SET)?;
-    name.push(digit(number / 100))?;
-    name.push(digit(number / 10 % 10))?;
-    name.push(digit(number % 10))?;
-    Ok(name)
+    Units::from_slice(alloc, &set_units(number))
+}
+
+/// The units of that name.
+pub(crate) fn set_units(number: u32) -> [u16; 13]
+    requires { number ≤ 999 }
+    ensures { result ≡ set_name number }
+{
+    [
+        0x43,
+        0x6f,
+        0x6e,
+        0x74,
+        0x72,
+        0x6f,
+        0x6c,
+        0x53,
+        0x65,
+        0x74,
+        digit(number / 100),
+        digit(number / 10 % 10),
+        digit(number % 10),
+    ]
 }
 
 /// The path from the root to the set of this number.

@@ -31,17 +31,20 @@ impl Model for SelectNumbers {
     ghost inverse = { λ n. record { current = n.current; default = n.default; failed = n.failed; good = n.good } };
 }
 
-/// `Current`.
-pub(crate) const CURRENT: [u16; 7] = [0x43, 0x75, 0x72, 0x72, 0x65, 0x6e, 0x74];
+/// `Select`.
+pub(crate) const SELECT: [u16; 6] = [0x53, 0x65, 0x6c, 0x65, 0x63, 0x74];
 
-/// `Default`.
-pub(crate) const DEFAULT: [u16; 7] = [0x44, 0x65, 0x66, 0x61, 0x75, 0x6c, 0x74];
+/// `Current`, the name of a number of `Select`.
+pub const CURRENT: [u16; 7] = [0x43, 0x75, 0x72, 0x72, 0x65, 0x6e, 0x74];
 
-/// `Failed`.
-pub(crate) const FAILED: [u16; 6] = [0x46, 0x61, 0x69, 0x6c, 0x65, 0x64];
+/// `Default`, the name of a number of `Select`.
+pub const DEFAULT: [u16; 7] = [0x44, 0x65, 0x66, 0x61, 0x75, 0x6c, 0x74];
 
-/// `LastKnownGood`.
-pub(crate) const GOOD: [u16; 13] = [
+/// `Failed`, the name of a number of `Select`.
+pub const FAILED: [u16; 6] = [0x46, 0x61, 0x69, 0x6c, 0x65, 0x64];
+
+/// `LastKnownGood`, the name of a number of `Select`.
+pub const GOOD: [u16; 13] = [
     0x4c, 0x61, 0x73, 0x74, 0x4b, 0x6e, 0x6f, 0x77, 0x6e, 0x47, 0x6f, 0x6f, 0x64,
 ];
 
@@ -89,7 +92,7 @@ impl SelectNumbers {
     }
 
     /// The number of the set that a start takes: LastKnownGood or Default.
-    pub(crate) fn taken(self, last_known_good: bool) -> u32
+    pub fn taken(self, last_known_good: bool) -> u32
         ensures { result ≡ taken_number self last_known_good }
     {
         if last_known_good {

@@ -12,7 +12,7 @@ use crate::name::set_name;
 use crate::numbers::SelectNumbers;
 use crate::steps::write_numbers;
 use crate::stop::SelectStop;
-use crate::taken::Taken;
+use crate::taken::TakenNumbers;
 use reg_tree::{Key, Steps, TreeStep};
 use std::alloc::{AllocError, Global};
 use std::marker::Model;
@@ -46,7 +46,7 @@ impl Model for SetPlan {
 pub fn plan_begin(
     alloc: Global,
     numbers: SelectNumbers,
-    taken: &Taken,
+    taken: &TakenNumbers,
     last_known_good: bool,
 ) -> Result<SetPlan, SelectStop>
     ensures plans { Plans result (begin_plan_of numbers taken.now last_known_good) }
@@ -68,7 +68,7 @@ pub fn plan_begin(
 pub fn plan_save(
     alloc: Global,
     numbers: SelectNumbers,
-    taken: &Taken,
+    taken: &TakenNumbers,
     clone: Key,
 ) -> Result<SetPlan, SelectStop>
     ensures plans { Plans result (save_plan_of numbers taken.now clone) }
@@ -104,7 +104,7 @@ fn not_there(last_known_good: bool) -> SelectStop
 fn plan_guarded(
     alloc: Global,
     old: SelectNumbers,
-    taken: &Taken,
+    taken: &TakenNumbers,
     last_known_good: bool,
 ) -> Result<SetPlan, SelectStop>
     requires { taken_number old last_known_good ≤ 999 }
@@ -131,7 +131,7 @@ fn plan_guarded(
 fn plan_with(
     alloc: Global,
     chosen: u32,
-    taken: &Taken,
+    taken: &TakenNumbers,
     old: SelectNumbers,
     new: SelectNumbers,
     first: Steps,

@@ -4,13 +4,10 @@ ghost use Rattle.std.specs.Prelude.{◌≡◌, ◌∷◌, [], ◌++◌, codes, m
 ghost use Rattle.reg_tree.specs.Makes.{step_of};
 ghost use Rattle.start_model.specs.Sets.{written, writes_of};
 
-use crate::numbers::{CURRENT, DEFAULT, FAILED, GOOD, SelectNumbers};
+use crate::numbers::{CURRENT, DEFAULT, FAILED, GOOD, SELECT, SelectNumbers};
 use nt_bytes::{Bytes, Names, Units};
 use reg_tree::{Steps, TreeStep};
 use std::alloc::{AllocError, Global};
-
-/// `Select`.
-const SELECT: [u16; 6] = [0x53, 0x65, 0x6c, 0x65, 0x63, 0x74];
 
 /// The type of a number of 32 bits.
 const DWORD: u32 = 4;

@@ -15,12 +15,12 @@ use std::marker::Model;
 
 /// The numbers from 1 to 999 whose set is there. Contracts see the rising list of them. Takes no memory.
 #[derive(Drop)]
-pub struct Taken {
+pub struct TakenNumbers {
     /// Whether the set is there, by its number. The place of 0 stays as it is.
     marks: [bool; 1000],
 }
 
-impl Model for Taken {
+impl Model for TakenNumbers {
     ghost use Rattle.std.specs.Prelude.{◌≡◌, ℕ, List, length};
     ghost use Rattle.select_keys.specs.Numbers.{numbers_marked};
 
@@ -31,12 +31,12 @@ impl Model for Taken {
     ghost invariant = { λ a. length a.marks ≡ 1000 };
 }
 
-impl Taken {
+impl TakenNumbers {
     /// No number.
-    pub fn new() -> Taken
+    pub fn new() -> TakenNumbers
         ensures { result ≡ [] }
     {
-        Taken {
+        TakenNumbers {
             marks: [false; 1000],
         }
     }
@@ -100,10 +100,10 @@ impl Taken {
 }
 
 /// The numbers of the sets of a tree, in one pass over the root's children.
-pub fn sets_in(root: &Key) -> Taken
+pub fn sets_in(root: &Key) -> TakenNumbers
     ensures { result ≡ usable_numbers_of root.now }
 {
-    let mut taken = Taken::new();
+    let mut taken = TakenNumbers::new();
     for child in root.subkeys() {
         if let Some(number) = set_number(child.name()) {
             taken.add(number);
@@ -113,10 +113,10 @@ pub fn sets_in(root: &Key) -> Taken
 }
 
 /// The numbers of the sets of a tree whose root's children have these names, in order.
-pub fn sets_named(names: &[Units]) -> Taken
+pub fn sets_named(names: &[Units]) -> TakenNumbers
     ensures { (t : Tree) → names.now ≡ map (λ key. (head key).name) (children t) → result ≡ usable_numbers_of t }
 {
-    let mut taken = Taken::new();
+    let mut taken = TakenNumbers::new();
     for name in names {
         if let Some(number) = set_number(name.as_slice()) {
             taken.add(number);

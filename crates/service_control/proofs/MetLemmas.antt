@@ -20,6 +20,7 @@ use Rattle.start_model.specs.Ready.{Label, has_name, has_group, is_ready}
 use Rattle.dependencies.specs.Waiting.{WaitingState, label_of, labels_at, next_place_in, after_trying}
 use Rattle.dependencies.specs.Work.{names_of}
 use Rattle.dependencies.proofs.PulledLemmas.{same_bool}
+use Rattle.boot_phases.proofs.TriedLemmas.{within}
 use Rattle.service_control.specs.declared.stop.ControlStop.{ControlStop}
 use Rattle.service_control.specs.declared.stop.ControlStop.TheVariants.{NoService, NotStarted, InUse}
 use Rattle.service_control.specs.State.{ControlState, labels_of, named}
@@ -30,7 +31,6 @@ use Rattle.service_control.specs.Calls.{start_refusal, stop_refusal, off_refusal
 use Rattle.service_control.specs.First.{after_phase, first_running, control_of}
 use Rattle.service_control.specs.Laws.{Call, start, stop, stop_all, after_call, after_calls, AreMet, AreStoppedInOrder}
 use Rattle.service_control.proofs.SpreadState.{none}
-use Rattle.service_control.proofs.StepLemmas.{within}
 use Rattle.service_control.proofs.WaitLemmas.{next_ready, no_place, none_passes}
 use Rattle.service_control.proofs.LeanLemmas.{folds_itself, folded_last, any_of_label, name_alike, group_at, has_by, has_all_by, due_is, lean_seed, lean_name, lean_service, lean_group}
 use Rattle.service_control.proofs.LeaningLaws.{leaning_closed}

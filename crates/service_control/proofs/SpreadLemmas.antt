@@ -18,12 +18,12 @@ use Rattle.start_model.specs.Demand.{Need, member, all_sets}
 use Rattle.start_model.specs.Ready.{Label, has_name, has_group, is_ready}
 use Rattle.dependencies.specs.Waiting.{WaitingState, label_of, labels_at, next_place_in, after_trying}
 use Rattle.dependencies.proofs.PulledLemmas.{same_bool, then_true, then_gives, all_true, all_below, sets_have}
+use Rattle.boot_phases.proofs.TriedLemmas.{within}
 use Rattle.service_control.specs.State.{labels_of}
 use Rattle.service_control.specs.Turns.{all_wait}
 use Rattle.service_control.specs.Leaning.{is_of_group, has, has_all, leans, is_due, IsClosed, is_closed, is_leaning, leaning_of}
 use Rattle.service_control.specs.Causes.{cause_of, by_name, by_group, own_causes, key_of, keys_of, names_at, is_first, group_cause, causes_of, causes_at, AreCauses}
 use Rattle.service_control.proofs.SpreadState.{none, IsDone, IsHad, IsSpread}
-use Rattle.service_control.proofs.StepLemmas.{within}
 use Rattle.service_control.proofs.WaitLemmas.{next_ready, none_ready, no_place}
 use Rattle.service_control.proofs.LeanLemmas.{folds_itself, folded_last, label_of_any, any_of_label, name_alike, group_alike, group_at, has_by, has_some, has_alike, has_all_alike, has_all_by, has_all_some, has_all_each, due_is, due_within, lean_seed, lean_name, lean_service, lean_group, mapped_from, mapped_to, alone_from, all_mapped, each_mapped, key_is, group_place, place_group, name_found, range_each}
 use Rattle.dependencies.proofs.MeetLemmas.{folded_first}
@@ -525,27 +525,6 @@ module _ (r : List Need) (s : List ℕ) (owners : List ℕ) (w : WaitingState) (
           ]
 
 -- ---- the least set
-
-and_left' : (a b : Bool) → (a && b) ≡ true → a ≡ true
-and_left' a b h = (and_parts a b h).0
-
-and_right' : (a b : Bool) → (a && b) ≡ true → b ≡ true
-and_right' a b h = (and_parts a b h).1
-
-unfolding all_sets
-sets_have p [] h = and_left' (p []) true h
-sets_have p (true ∷ t) h =
-    let us = map (λ s. true ∷ s) (all_sets (length t)) in
-    let vs = map (λ s. false ∷ s) (all_sets (length t)) in
-    let e : (list_all p us && list_all p vs) ≡ true = sym (list_all-append p us vs) ∙ h in
-    sets_have (λ s. p (true ∷ s)) t
-    (sym (list_all-map p (λ s. true ∷ s) (all_sets (length t))) ∙ and_left' (list_all p us) (list_all p vs) e)
-sets_have p (false ∷ t) h =
-    let us = map (λ s. true ∷ s) (all_sets (length t)) in
-    let vs = map (λ s. false ∷ s) (all_sets (length t)) in
-    let e : (list_all p us && list_all p vs) ≡ true = sym (list_all-append p us vs) ∙ h in
-    sets_have (λ s. p (false ∷ s)) t
-    (sym (list_all-map p (λ s. false ∷ s) (all_sets (length t))) ∙ and_right' (list_all p us) (list_all p vs) e)
 
 pub closed_passes : (r : List Need) (s : List ℕ) (set : ℕ → Bool) → IsClosed r s set → is_closed r s set ≡ true
 closed_passes r s set closed =

@@ -1,36 +1,21 @@
 -- Steps of the loops over entries and names.
-use Rattle.std.proofs.Common.{◌≡◌, ℕ, zero, suc, ◌+◌, ◌<◌, ◌≤◌, Bool, true, false, not, cond, ltb, ◌||◌, List, [], ◌∷◌, ◌++◌, length, take, get_or, Option, Some, None, refl, sym, ap, ◌∙◌, inl, inr, arith, zero-add}
+use Rattle.std.proofs.Common.{◌≡◌, ℕ, suc, ◌+◌, Bool, true, false, List, [], ◌∷◌, ◌++◌, length, take, get_or, Option, Some, None, refl, sym, ap, ◌∙◌, inl, inr, arith, zero-add}
 use Rattle.std.specs.Prelude.{position, slice_get}
-use Rattle.std.specs.List.{list_any, position_or_len, filter_map, cons_option, items_where_true, range_with_len}
+use Rattle.std.specs.List.{list_any, filter_map, cons_option, items_where_true, range_with_len}
 use Rattle.std.specs.Option.{is_some, option_and_then}
-use Rattle.std.proofs.lemmas.Bool.{lt-ltb}
 use Rattle.std.proofs.lemmas.List.{take_more, take_all, append-nil}
 use Rattle.std.proofs.lemmas.List.Elements.{filter_map-append}
 use Rattle.std.proofs.lemmas.Option.{slice_get_cases}
 use Rattle.nt_bytes.specs.Folding.{folds_same}
 use Rattle.start_model.specs.Demand.{Need}
-use Rattle.boot_phases.proofs.TriedLemmas.{shorter}
+use Rattle.boot_phases.proofs.TriedLemmas.{shorter, some_place}
 use Rattle.dependencies.proofs.KeptLemmas.{range_push}
 
 -- ---- names
 
--- the first place that passes is in the list where an item passes
-pub within : {X : Type 0} (p : X → Bool) (xs : List X) → ltb (position_or_len p xs) (length xs) ≡ list_any p xs
-within p [] = refl
-within p (x ∷ xs) = by_case (p x) (within p xs)
-  where
-    by_case : (b : Bool) → ltb (position_or_len p xs) (length xs) ≡ list_any p xs
-        → ltb (cond (not b) (1 + position_or_len p xs) 0) (suc (length xs)) ≡ (b || list_any p xs)
-    by_case true rest = lt-ltb 0 (suc (length xs)) (omega arith)
-    by_case false rest = shorter (position_or_len p xs) (length xs) ∙ rest
-
-some_where : (b : Bool) (n : ℕ) → is_some (cond b (Some n) None) ≡ b
-some_where true n = refl
-some_where false n = refl
-
 pub some_placed : (names : List (List ℕ)) (name : List ℕ)
     → is_some (position (folds_same name) names) ≡ list_any (folds_same name) names
-some_placed names name = some_where _ (position_or_len (folds_same name) names) ∙ within (folds_same name) names
+some_placed names name = some_place (folds_same name) names
 
 -- ---- items at places
 

@@ -1,9 +1,9 @@
 -- The next of those that wait, and those that wait when there is none.
-use Rattle.std.proofs.Common.{◌≡◌, ℕ, zero, suc, ◌+◌, ◌<◌, ◌≤◌, Bool, true, false, not, cond, ltb, ◌||◌, List, [], ◌∷◌, ◌++◌, length, get_or, set, replicate, Option, Some, None, refl, sym, ap, ◌∙◌, subst, inl, inr, ◌⊎◌, arith}
-use Rattle.std.specs.Prelude.{slice_get, position, count_by}
-use Rattle.std.specs.List.{items_where_true, range_with_len, list_any, position_or_len}
+use Rattle.std.proofs.Common.{◌≡◌, ℕ, zero, suc, ◌+◌, ◌<◌, Bool, true, false, cond, ltb, ◌||◌, List, [], ◌∷◌, ◌++◌, length, get_or, set, replicate, Option, Some, None, refl, sym, ap, ◌∙◌, arith}
+use Rattle.std.specs.Prelude.{slice_get, count_by}
+use Rattle.std.specs.List.{items_where_true, list_any, position_or_len}
 use Rattle.std.specs.Option.{option_and_then, option_map_or}
-use Rattle.std.proofs.lemmas.Bool.{false≢true, cases_Bool, ltb-true}
+use Rattle.std.proofs.lemmas.Bool.{false≢true}
 use Rattle.std.proofs.lemmas.List.{append_assoc, append-nil}
 use Rattle.std.proofs.lemmas.List.Sums.{sum_by-set, sum_by-cons}
 use Rattle.std.proofs.lemmas.List.Quantifiers.{position-Some}
@@ -11,40 +11,11 @@ use Rattle.std.proofs.lemmas.Option.{get_or_from_slice_get, slice_get-get_or}
 use Rattle.start_model.specs.Demand.{Need, member}
 use Rattle.start_model.specs.Ready.{Label, is_ready, next_of}
 use Rattle.dependencies.specs.Waiting.{WaitingState, waiting_in, places_in, next_place_in, after_trying}
+use Rattle.dependencies.proofs.PickedLemmas.{as_many, picked}
+use Rattle.boot_phases.proofs.TriedLemmas.{within}
 use Rattle.service_control.specs.Turns.{turns, all_wait}
 use Rattle.service_control.proofs.SpreadState.{none}
-use Rattle.service_control.proofs.StepLemmas.{within}
 use Rattle.dependencies.proofs.KeptLemmas.{within_waits}
-
-as_many : {X : Type 0} (bs : List Bool) (xs : List X) (i : ℕ)
-    → length (items_where_true bs (range_with_len i (length xs))) ≡ length (items_where_true bs xs)
-as_many [] xs i = refl
-as_many (b ∷ bs) [] i = refl
-as_many (true ∷ bs) (x ∷ xs) i = ap suc (as_many bs xs (i + 1))
-as_many (false ∷ bs) (x ∷ xs) i = as_many bs xs (i + 1)
-
--- the k-th of those that are picked
-record IsPicked {X : Type 0} (bs : List Bool) (xs : List X) (i k at : ℕ) : Type 0 where
-  j : ℕ
-  here : at ≡ i + j
-  inside : j < length xs
-  same : slice_get (items_where_true bs xs) k ≡ slice_get xs j
-
-some_is : (a b : ℕ) → Some a ≡ Some b → a ≡ b
-some_is a b e = cc
-
-picked : {X : Type 0} (bs : List Bool) (xs : List X) (i k at : ℕ)
-    → slice_get (items_where_true bs (range_with_len i (length xs))) k ≡ Some at → IsPicked bs xs i k at
-picked [] xs i k at h = absurd cc
-picked (b ∷ bs) [] i k at h = absurd cc
-picked (true ∷ bs) (x ∷ xs) i zero at h =
-    record { j = 0; here = (let e = some_is i at h in omega (arith, e)); inside = omega arith; same = refl }
-picked (true ∷ bs) (x ∷ xs) i (suc k) at h =
-    let p = picked bs xs (i + 1) k at h in
-    record { j = suc p.j; here = omega (arith, p.here); inside = omega (arith, p.inside); same = p.same }
-picked (false ∷ bs) (x ∷ xs) i k at h =
-    let p = picked bs xs (i + 1) k at h in
-    record { j = suc p.j; here = omega (arith, p.here); inside = omega (arith, p.inside); same = p.same }
 
 -- ---- the next one is ready
 
@@ -64,7 +35,7 @@ next_by w at (Some k) e h =
     let same : slice_get w.needs at ≡ Some (get_or (waiting_in w) k none) =
     ap (slice_get w.needs) (sym here) ∙ sym p.same ∙ item in
     record {
-      inside = omega (arith, p.inside, here);
+      inside = omega (arith, p.within, here);
       ready = ap (is_ready w.started) (get_or_from_slice_get w.needs at (get_or (waiting_in w) k none) none same)
           ∙ found.1;
     }

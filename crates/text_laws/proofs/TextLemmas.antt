@@ -177,11 +177,6 @@ no_edits : (read : Read) → with_edits [] read ≡ read
 no_edits (Ok r) = refl
 no_edits (Err f) = refl
 
-unfolding lines_said
-one_line state after line further edits read =
-    ap (λ (r : Result (List Step × State) RegKind). then_lines (at_line (number_of state) r)
-    (λ next. lines_said next further)) read
-
 item_said : (state : State) (line : List ℕ) (item : LineItem) (edits : List Step) → state.begun ≡ None
     → trimmed line ≡ line
     → fresh_item line ≡ Ok item → edits_of state.key item ≡ Ok edits

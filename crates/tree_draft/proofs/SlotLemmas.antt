@@ -84,11 +84,6 @@ changes_at key name old new u w is has updates =
 
 -- ---- values in slots
 
-pub held_push : (slots : List (Option Item)) (v : Item) → held (slots ++ Some v ∷ []) ≡ held slots ++ v ∷ []
-held_push [] v = refl
-held_push (None ∷ slots) v = held_push slots v
-held_push (Some u ∷ slots) v = ap (λ vs. u ∷ vs) (held_push slots v)
-
 -- a slot with a value is one of the slots
 inside : (slots : List (Option Item)) (k : ℕ) (v : Item) → get_or slots k None ≡ Some v → k < length slots
 inside [] k v there = absurd cc

@@ -1,5 +1,5 @@
 -- How are the values of a key kept while steps set and delete them? (this project's own)
-use Rattle.std.specs.Prelude.{◌≡◌, ℕ, List, [], ◌∷◌, Option, Some, None, get_or}
+use Rattle.std.specs.Prelude.{◌≡◌, ℕ, List, Option, Some, None, filter_map, get_or}
 use Rattle.std.specs.BTreeMap.{BTreeMap, get_by}
 use Rattle.std.specs.Ordering.{nat_cmp}
 use Rattle.std.specs.Cmp.Lexicographic.{slice_cmp}
@@ -9,9 +9,7 @@ use Rattle.hive_model.specs.Tree.{Item}
 
 -- the values in slots, in order; a slot whose value is deleted is empty
 abbrev pub held : List (Option Item) → List Item
-held [] = []
-held (None ∷ slots) = held slots
-held (Some v ∷ slots) = v ∷ held slots
+held slots = filter_map (λ slot. slot) slots
 
 -- the slot that the map names for a folded name
 abbrev pub place_in : BTreeMap (Vec ℕ) ℕ → List ℕ → Option ℕ

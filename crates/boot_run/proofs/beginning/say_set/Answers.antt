@@ -40,8 +40,8 @@ returns-in-Ok-say-clause-plays g c = λ m d tells up live.
     let rest : Act = begin_planned c.args.on_good m plan (stepped m.version m.live plan.steps) in
     let P : Line → Type 0 = λ l. Tells x y (l ∷ []) in
     let Q : Act → Type 0 = λ a. Goes (play a) (play rest) x y d d in
-    let line = set_line_is m c.args.hive.now.tree c.args.on_good c.taken_number.result c.in-Ok.numbers live.live
-    c.in-Ok.ensures c.taken_number.ensures in (
+    let line = set_line_is m c.args.hive.now.tree c.args.on_good c.taken.result c.in-Ok.numbers live.live
+    c.in-Ok.ensures c.taken.ensures in (
       rest,
       (
         subst Q (take_planned m c.args.hive.now.tree c.args.on_good plan live.live c.in-Ok-planned.ensures.plans)
@@ -59,8 +59,8 @@ returns-in-Err-clause-plays g c = λ m d tells up live.
     let rest : Act = begin_planned c.args.on_good m plan (stepped m.version m.live plan.steps) in
     let P : Line → Type 0 = λ l. SaysFront x.said y.said (line_text l) in
     let Q : Act → Type 0 = λ a. Breaks a x y.said d d in
-    let line = set_line_is m c.args.hive.now.tree c.args.on_good c.taken_number.result c.in-Ok.numbers live.live
-    c.in-Ok.ensures c.taken_number.ensures in
+    let line = set_line_is m c.args.hive.now.tree c.args.on_good c.taken.result c.in-Ok.numbers live.live
+    c.in-Ok.ensures c.taken.ensures in
     subst Q (take_planned m c.args.hive.now.tree c.args.on_good plan live.live c.in-Ok-planned.ensures.plans)
     (breaks-line (set_line c.args.on_good m) rest x y.said d d (still d) refl
     (subst P line (c.in-Err.ensures.tells tells))
@@ -74,8 +74,8 @@ returns-in-Ok-say-2-clause-plays g c = λ m d tells up live.
     let rest : Act = end_with book.NoNumber false m in
     let P : Line → Type 0 = λ l. Tells x y (l ∷ []) in
     let Q : Act → Type 0 = λ a. Goes (play a) (play rest) x y d d in
-    let line = set_line_is m c.args.hive.now.tree c.args.on_good c.taken_number.result c.in-Ok.numbers live.live
-    c.in-Ok.ensures c.taken_number.ensures in
+    let line = set_line_is m c.args.hive.now.tree c.args.on_good c.taken.result c.in-Ok.numbers live.live
+    c.in-Ok.ensures c.taken.ensures in
     let R : SelectStop → Type 0 =
     λ stop. Planned (Err stop)
     (begin_plan_of (select_numbers_of c.args.hive.now.tree) (usable_numbers_of c.args.hive.now.tree)
@@ -97,8 +97,8 @@ returns-in-Err-say-clause-plays g c = λ m d tells up live.
     let rest : Act = end_with book.NoNumber false m in
     let P : Line → Type 0 = λ l. SaysFront x.said y.said (line_text l) in
     let Q : Act → Type 0 = λ a. Breaks a x y.said d d in
-    let line = set_line_is m c.args.hive.now.tree c.args.on_good c.taken_number.result c.in-Ok.numbers live.live
-    c.in-Ok.ensures c.taken_number.ensures in
+    let line = set_line_is m c.args.hive.now.tree c.args.on_good c.taken.result c.in-Ok.numbers live.live
+    c.in-Ok.ensures c.taken.ensures in
     let R : SelectStop → Type 0 =
     λ stop. Planned (Err stop)
     (begin_plan_of (select_numbers_of c.args.hive.now.tree) (usable_numbers_of c.args.hive.now.tree)

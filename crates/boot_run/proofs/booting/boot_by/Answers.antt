@@ -1,12 +1,13 @@
 use Rattle.std.proofs.Common.{◌≡◌, ◌∙◌, Bool, false, ap, sym, refl}
 use Rattle.std.specs.Prelude.{◌||◌}
+use Rattle.boot_ini.specs.Choice.{path_at}
 use Rattle.boot_ini.specs.declared.choosing.Chosen.{Chosen}
 use Rattle.boot_ini.specs.declared.choosing.Chosen.TheVariants as code
 use Rattle.start_model.specs.Lines as lines
 use Rattle.start_model.specs.Act.{Act, end_with, wake}
 use Rattle.start_model.specs.Boot.{chosen, woken}
 use Rattle.boot_run.specs.Agrees.{TurnLeft}
-use Rattle.boot_run.specs.Choices.{choice_in, path_at, is_on_good}
+use Rattle.boot_run.specs.Choices.{choice_in, is_on_good}
 use Rattle.boot_run.specs.Views.{told_in, told_by}
 use Rattle.boot_run.proofs.PlayLemmas.{plays-as}
 use Rattle.boot_run.proofs.LineLemmas.{said_then, said_front}

@@ -1,4 +1,4 @@
-use Rattle.std.proofs.Common.{◌≡◌, ◌+◌, ◌/◌, false, ◌∙◌, arith, rules, length}
+use Rattle.std.proofs.Common.{◌≡◌, ◌+◌, ◌/◌, false, arith, rules, length}
 use Rattle.hive_model.specs.Recovery.{bit}
 use Rattle.nt_edge.specs.Disk.{now_of}
 use Rattle.nt_edge.proofs.Leaving.{goes_then, goes_ok, on_ok}

@@ -1,7 +1,7 @@
 use Rattle.std.proofs.Common.{◌≡◌, ◌+◌, ◌*◌, ◌++◌, take}
 use Rattle.std.specs.Prelude.{flat_map}
+use Rattle.key_index.specs.Sources.{cells_of}
 use Rattle.edit_laws.specs.Uses.{tree_uses}
-use Rattle.hive_edit.specs.Sources.{cells_of}
 use Rattle.hive_edit.proofs.uses.+uses.Given as goal
 
 abbrev pub decreases-push_key : goal.decreases-push_key

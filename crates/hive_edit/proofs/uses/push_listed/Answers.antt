@@ -1,9 +1,9 @@
 use Rattle.std.proofs.lemmas.List.{take_rest}
 use Rattle.hive_model.specs.Lists.{numbers_in}
+use Rattle.key_index.specs.Sources.{cells_of}
 use Rattle.edit_laws.specs.Revalues.{cells_of_values}
 use Rattle.edit_laws.specs.Uses.{plain}
 use Rattle.hive_edit.specs.Places.{IsItemHere}
-use Rattle.hive_edit.specs.Sources.{cells_of}
 use Rattle.hive_edit.proofs.ScanLemmas.{scan_rest, scan_room}
 use Rattle.hive_edit.proofs.UsesLemmas.{values_on}
 use Rattle.hive_edit.proofs.uses.push_listed.Goals as goal

@@ -1,8 +1,8 @@
 use Rattle.std.proofs.Common.{Bool, ap, List, ℕ, [], ◌∷◌, ◌++◌, ◌∙◌, false}
 use Rattle.hive_model.specs.Lists.{numbers_in}
+use Rattle.key_index.specs.Sources.{cells_of}
 use Rattle.edit_laws.specs.Revalues.{all_value_cells, cells_of_values}
 use Rattle.edit_laws.specs.Uses.{plain}
-use Rattle.hive_edit.specs.Sources.{cells_of}
 use Rattle.hive_edit.proofs.NodeLemmas.{values_here}
 use Rattle.hive_edit.proofs.UsesLemmas.{use_of, nothing_more, joined_uses, no_values, some_values}
 use Rattle.hive_edit.proofs.uses.push_values.Goals as goal

@@ -1,7 +1,7 @@
-use Rattle.std.proofs.Common.{◌≡◌, ◌+◌, ◌*◌, ◌++◌, List, ℕ, length, map, sym, ap, ◌∙◌, append_assoc, arith}
+use Rattle.std.proofs.Common.{◌≡◌, ◌+◌, ◌*◌, ◌++◌, List, ℕ, length, sym, ap, ◌∙◌, append_assoc, arith}
 use Rattle.hive_model.specs.Size.{cell, part_count}
 use Rattle.hive_model.specs.Lists.{ri_text}
-use Rattle.hive_model.specs.Packed.{cell_text, text, hint, part_places, parts}
+use Rattle.hive_model.specs.Packed.{cell_text, text, part_places, parts}
 use Rattle.hive_model.proofs.Spelling.{length_ri}
 use Rattle.hive_pack.proofs.Rows.{length_part_places, many_lists, lists_many}
 use Rattle.reg_tree.proofs.Outcomes.{on_ok}
@@ -11,7 +11,7 @@ pub part_starts-requires : goal.part_starts-requires
 part_starts-requires c =
     omega (
       arith,
-      c.cell_size.ensures,
+      c.first_part.ensures,
       c.part_count-count.ensures,
       many_lists (length c.args.places.now) c.requires.many,
       c.requires.room,
@@ -22,7 +22,7 @@ ri_bytes-requires c =
     omega (
       arith,
       ap (λ (x : List ℕ). length x) (c.deref.ensures.value ∙ c.in_ok-starts.ensures),
-      length_part_places c.part_count-count.result (c.args.at + c.cell_size.result),
+      length_part_places c.part_count-count.result (c.first_part.result),
       c.part_count-count.ensures,
       many_lists (length c.args.places.now) c.requires.many,
       c.requires.room,
@@ -35,7 +35,7 @@ put_cell-requires c =
       ap (λ (x : List ℕ). length x) (c.as_slice.ensures ∙ c.in_ok-list.ensures),
       length_ri c.deref.result.now,
       ap (λ (x : List ℕ). length x) (c.deref.ensures.value ∙ c.in_ok-starts.ensures),
-      length_part_places c.part_count-count.result (c.args.at + c.cell_size.result),
+      length_part_places c.part_count-count.result (c.first_part.result),
       c.part_count-count.ensures,
       many_lists (length c.args.places.now) c.requires.many,
       c.requires.room,
@@ -44,15 +44,14 @@ put_cell-requires c =
 pub returns : goal.returns
 returns c =
     let ps = c.args.places.now in
-    let ks = c.args.keys.now in
-    let hs = map (hint c.args.version) ks in
+    let hs = c.args.hints.now in
     let out = c.args.out.now in
     let n = c.part_count-count.ensures in
     let list : c.as_slice.result.now
     ≡ ri_text (part_places (part_count (length ps)) (c.args.at + cell (4 + 4 * part_count (length ps)))) =
     c.as_slice.ensures ∙ c.in_ok-list.ensures
     ∙ ap ri_text (c.deref.ensures.value ∙ c.in_ok-starts.ensures
-    ∙ (λ j. part_places (n j) (c.args.at + (c.cell_size.ensures ∙ ap (λ k. cell (4 + 4 * k)) n) j))) in
+    ∙ (λ j. part_places (n j) (c.first_part.ensures j))) in
     on_ok c.write_parts.result _ _
     (λ e. e ∙ (λ j. (c.in_ok-put_cell.ensures ∙ ap (λ (x : List ℕ). out ++ cell_text x) list) j
     ++ text (parts c.args.version (n j) ps hs))

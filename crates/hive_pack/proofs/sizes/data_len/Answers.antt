@@ -1,5 +1,6 @@
-use Rattle.hive_pack.proofs.Rows.{data_few}
+use Rattle.std.proofs.Common.{arith}
+use Rattle.hive_pack.proofs.Rows.{big_most}
 use Rattle.hive_pack.proofs.sizes.data_len.Goals as goal
 
-pub big_len-requires-clause-few : goal.big_len-requires-clause-few
-big_len-requires-clause-few c = data_few c.args.version c.args.bytes.now c.requires
+pub returns-then-is_big-clause-few : goal.returns-then-is_big-clause-few
+returns-then-is_big-clause-few c = omega (arith, c.big_len.ensures, big_most c.args.n c.requires)

@@ -1,4 +1,4 @@
-use Rattle.std.proofs.Common.{◌++◌, List, ℕ, length, ap, ◌∙◌, arith}
+use Rattle.std.proofs.Common.{◌++◌, List, ℕ, ap, ◌∙◌, arith}
 use Rattle.hive_model.specs.KeyValue.{key_value_text}
 use Rattle.hive_model.specs.Size.{data_size}
 use Rattle.hive_model.specs.Packed.{text, cell_text, item_form, data_cells}
@@ -22,6 +22,7 @@ write_data-requires c =
     ∙ ap key_value_text (c.in_ok-form.ensures ∙ ap (λ n. item_form n v) c.len.ensures) in
     omega (
       arith,
+      c.len-data.ensures,
       data_at out c.put_cell.new.out v (c.in_ok-put_cell.ensures ∙ ap (λ (p : List ℕ). out ++ cell_text p) cell),
       ap (λ (b : List ℕ). data_size c.args.version b) c.data.ensures,
       c.requires.room,
@@ -38,5 +39,5 @@ returns c =
     on_ok c.write_data.result _ _
     (λ e. value_written c.args.version out one c.write_data.new.out v
     (c.in_ok-put_cell.ensures ∙ ap (λ (p : List ℕ). out ++ cell_text p) cell)
-    (e ∙ ap (λ (b : List ℕ). one ++ text (data_cells c.args.version (length one) b)) c.data.ensures))
+    (e ∙ (λ j. one ++ text (data_cells c.args.version (c.len-data.ensures j) (c.data.ensures j)))))
     c.write_data.ensures

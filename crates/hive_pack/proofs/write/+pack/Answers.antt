@@ -74,16 +74,16 @@ write_key-write_children-requires m c =
       ),
     )
 
-pub write_key-write_lists-requires-clause-same : goal.write_key-write_lists-requires-clause-same
-write_key-write_lists-requires-clause-same m c =
+pub write_key-write_key_lists-requires-clause-same : goal.write_key-write_key_lists-requires-clause-same
+write_key-write_key_lists-requires-clause-same m c =
     let ks = c.subkeys-keys.result.now in
     let security = c.below_up-mine.result.security.now in
     let two = length c.append_zeros.new.self in
     ap (λ (x : List ℕ). length x) (c.deref.ensures.value ∙ c.in_ok-places.ensures.places)
     ∙ length_places c.args.version security two (trees ks) ∙ counted ks
 
-pub write_key-write_lists-requires-clause-room : goal.write_key-write_lists-requires-clause-room
-write_key-write_lists-requires-clause-room m c =
+pub write_key-write_key_lists-requires-clause-room : goal.write_key-write_key_lists-requires-clause-room
+write_key-write_key_lists-requires-clause-room m c =
     let t = c.args.key.now in
     let ks = c.subkeys-keys.result.now in
     let up = above c.args.up in
@@ -126,9 +126,9 @@ write_key-overwrite-requires m c =
     (c.subkeys-keys.ensures ∙ sym (listed_trees cs)) in
     let security = ap (λ (u : Above). u.security) c.below_up-mine.ensures in
     let list = lists_are c.args.version c.len-list_at.result (length two) c.below_up-mine.result.security.now
-    (head t).security ks cs c.new-lists.result c.write_lists.new.out c.as_slice.result.now c.deref.result.now
+    (head t).security ks cs c.new-lists.result c.write_key_lists.new.out c.as_slice.result.now c.deref.result.now
     c.subkeys-keys.ensures security (c.deref.ensures.value ∙ c.in_ok-places.ensures.places)
-    c.new-lists.ensures c.in_ok-write_lists.ensures c.as_slice.ensures in
+    c.new-lists.ensures c.in_ok-write_key_lists.ensures c.as_slice.ensures in
     let len : length c.as_slice.result.now ≡ list_size (count (trees cs)) =
     ap (λ (x : List ℕ). length x) list
     ∙ length_text (list_cells c.args.version c.len-list_at.result
@@ -165,9 +165,9 @@ write_key-returns m c =
     ∙ (λ j. two ++ text (cells_of_all c.args.version (mine j) (length two) (trees (c.subkeys-keys.ensures j)))) in
     let security = ap (λ (u : Above). u.security) c.below_up-mine.ensures in
     let list = lists_are c.args.version c.len-list_at.result (length two) c.below_up-mine.result.security.now
-    (head t).security ks cs c.new-lists.result c.write_lists.new.out c.as_slice.result.now c.deref.result.now
+    (head t).security ks cs c.new-lists.result c.write_key_lists.new.out c.as_slice.result.now c.deref.result.now
     c.subkeys-keys.ensures security (c.deref.ensures.value ∙ c.in_ok-places.ensures.places)
-    c.new-lists.ensures c.in_ok-write_lists.ensures c.as_slice.ensures in
+    c.new-lists.ensures c.in_ok-write_key_lists.ensures c.as_slice.ensures in
     key_written c.args.version up (head t) (trees cs)
     old c.write_head.new.out two c.write_children.new.out c.as_slice.result.now c.overwrite.new.self
     c.len-list_at.result c.list_len.result c.in_ok-write_head.ensures c.len-list_at.ensures n

@@ -11,4 +11,4 @@ returns-clause-exact c =
     let version = c.version.ensures ∙ ap (λ (r : Recovered). version_of r.base.minor) c.found.view_is in
     rw (number, version)
     (found_loads (image_of c.args.primary.now c.args.log.now)
-    c.in_ok-found.found c.in_ok-tree.tree c.in_ok-found.ensures.exact c.in_ok-tree.ensures.exact)
+    c.in_ok-found.found c.in_ok-tree.tree c.in_ok-found.ensures.exact c.in_ok-tree.ensures.exact.0)

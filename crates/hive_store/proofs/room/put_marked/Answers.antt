@@ -1,4 +1,4 @@
-use Rattle.std.proofs.Common.{◌*◌, ◌/◌, ◌≤◌, length, arith}
+use Rattle.std.proofs.Common.{length, arith}
 use Rattle.hive_log.proofs.Appending.{sized}
 use Rattle.hive_store.proofs.RoomLemmas.{page_waits, page_more, pages_done}
 use Rattle.hive_store.proofs.room.put_marked.Goals as goal

@@ -1,4 +1,4 @@
-use Rattle.std.proofs.Common.{◌≡◌, ◌++◌, ◌*◌, length, take, drop}
+use Rattle.std.proofs.Common.{◌≡◌, ◌++◌, ◌*◌, take, drop}
 use Rattle.hive_store.proofs.room.put_marked.Given as goal
 
 -- the pages below k are the new ones, and the others are as they were

@@ -1,5 +1,5 @@
 use Rattle.std.proofs.Common.{inl, refl, []}
-use Rattle.hive_mend.proofs.LoadingLemmas.{loads_or_fails}
+use Rattle.hive_store.proofs.LoadingLemmas.{loads_or_fails}
 use Rattle.mend_command.specs.declared.status.MendStatus.TheVariants.{Device}
 use Rattle.mend_command.specs.Lines.{device_text}
 use Rattle.mend_command.proofs.EndLemmas.{told_nothing}

@@ -1,4 +1,3 @@
-use Rattle.std.proofs.Common.{List, ℕ, Option, Ok, ap, ◌∙◌}
 use Rattle.std.proofs.lemmas.Result.{err_from_is_err_and}
 use Rattle.reg_text.specs.Digits.{pairs_of}
 use Rattle.reg_text.proofs.PairLemmas.{fails, stops, ends, goes_on}

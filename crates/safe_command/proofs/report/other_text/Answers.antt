@@ -1,6 +1,7 @@
 use Rattle.boot_report.specs.Report.{verdict_of}
 use Rattle.start_model.specs.Lines.{EntryLine}
-use Rattle.safe_command.specs.Report.{path_at, verdict_lines}
+use Rattle.boot_ini.specs.Choice.{path_at}
+use Rattle.safe_command.specs.Report.{verdict_lines}
 use Rattle.safe_command.proofs.TextLemmas.{two_parts}
 use Rattle.safe_command.proofs.report.other_text.Goals as goal
 

@@ -1,6 +1,7 @@
 use Rattle.std.proofs.Common.{[], ◌∷◌, ◌++◌, ap, ◌∙◌}
 use Rattle.start_model.specs.Lines.{EntryLine, text_of}
-use Rattle.safe_command.specs.Report.{path_at, mode_text, default_lines}
+use Rattle.boot_ini.specs.Choice.{path_at}
+use Rattle.safe_command.specs.Report.{mode_text, default_lines}
 use Rattle.safe_command.proofs.TextLemmas.{three_parts}
 use Rattle.safe_command.proofs.report.system_text.Goals as goal
 

@@ -1,14 +1,14 @@
 use Rattle.std.proofs.Common.{◌∙◌, refl, ap}
 use Rattle.hive_model.specs.Recovery.{Recovered}
 use Rattle.hive_mend.specs.Loaded.{Loaded, loaded_state}
-use Rattle.hive_mend.proofs.LoadingLemmas.{loads_or_fails, kept_loads, restored_loads, found_again}
+use Rattle.hive_store.proofs.LoadingLemmas.{loads_or_fails, kept_loads, restored_loads, found_again}
 use Rattle.hive_mend.proofs.hive.LoadedHive.load.Goals as goal
 use Rattle.hive_mend.proofs.hive.LoadedHive.load.Goals.{then-dirty+in_ok-restore, else-dirty}
 
 pub returns-in_err-hive-clause-crash : goal.returns-in_err-hive-clause-crash
 returns-in_err-hive-clause-crash g c = λ tells.
-    kept_loads (g.D.Disk.state c.args.disk.now) (g.D.Disk.state c.look.new.disk) (c.look.ensures.look.held tells)
-    (c.look.ensures.look.flight tells ∙ c.requires.still tells)
+    kept_loads (g.D.Disk.state c.args.disk.now) (g.D.Disk.state c.read_unmended.new.disk) (c.read_unmended.ensures.look.held tells)
+    (c.read_unmended.ensures.look.flight tells ∙ c.requires.still tells)
 
 pub returns-in_err-restore-clause-crash : goal.returns-in_err-restore-clause-crash
 returns-in_err-restore-clause-crash g c = λ tells.
@@ -31,8 +31,8 @@ returns-clause-crash g c = λ tells.
           (w.as_slice-then-dirty.ensures ∙ ap (λ (h : Loaded). h.bins) c.hive.view_is)
           (g.D.Disk.state w.restore.new.disk) (w.restore.ensures.crash tells))
       | else-dirty w ↦ rw w.disk-is
-          (kept_loads s0 (g.D.Disk.state c.look.new.disk) (c.look.ensures.look.held tells)
-          (c.look.ensures.look.flight tells ∙ c.requires.still tells))
+          (kept_loads s0 (g.D.Disk.state c.read_unmended.new.disk) (c.read_unmended.ensures.look.held tells)
+          (c.read_unmended.ensures.look.flight tells ∙ c.requires.still tells))
     ]
 
 pub returns-clause-loads : goal.returns-clause-loads
@@ -48,7 +48,7 @@ returns-clause-loads g c = λ tells.
           (found c.hive.inside.base w.as_slice-then-dirty.result.now (ap (λ (h : Loaded). h.base) c.hive.view_is)
           (w.as_slice-then-dirty.ensures ∙ ap (λ (h : Loaded). h.bins) c.hive.view_is)
           (g.D.Disk.state w.restore.new.disk).held (w.in_ok-restore.ensures.carries tells))
-      | else-dirty w ↦ rw (w.disk-is, c.look.ensures.look.held tells)
+      | else-dirty w ↦ rw (w.disk-is, c.read_unmended.ensures.look.held tells)
           (found looked.hive.base looked.hive.bins refl refl s0.held
           (c.in_ok-hive.ensures.carries tells w.if-dirty.false))
     ]

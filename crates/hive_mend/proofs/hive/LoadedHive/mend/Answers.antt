@@ -1,7 +1,8 @@
 use Rattle.std.proofs.Common.{subst}
+use Rattle.hive_store.proofs.Holding.{tree_loads}
 use Rattle.hive_mend.specs.Loaded.{Loaded}
 use Rattle.hive_mend.specs.Mending.{shorter}
-use Rattle.hive_mend.proofs.MendingLemmas.{HasItsTree, carried_state, crash_again, kept_crash, no_calls}
+use Rattle.hive_mend.proofs.MendingLemmas.{HasItsTree, crash_again, kept_crash, no_calls}
 use Rattle.hive_mend.proofs.hive.LoadedHive.mend.Goals as goal
 
 pub returns-in_err-hive-in-Ok-Some-clause-crash : goal.returns-in_err-hive-in-Ok-Some-clause-crash
@@ -19,7 +20,8 @@ returns-in_ok-hive-in-Ok-Some-clause-crash g c = λ tells.
 pub returns-in-Ok-None-clause-loads : goal.returns-in-Ok-None-clause-loads
 returns-in-Ok-None-clause-loads g c = λ tells.
     let has = subst (λ (v : Loaded). HasItsTree v v.bins v.base.root) c.self.view_is c.self.invariant.has in
-    carried_state c.args.self has (g.D.Disk.state c.args.disk.now).held (c.requires.carries tells)
+    let h = c.args.self in
+    tree_loads h.base h.bins h.tree has (g.D.Disk.state c.args.disk.now).held (c.requires.carries tells)
 
 pub returns-in-Ok-None-clause-crash : goal.returns-in-Ok-None-clause-crash
 returns-in-Ok-None-clause-crash g c = λ tells. kept_crash (g.D.Disk.state c.args.disk.now) (c.requires.still tells)

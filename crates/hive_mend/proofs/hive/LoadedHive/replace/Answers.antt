@@ -1,12 +1,14 @@
-use Rattle.std.proofs.Common.{false, sym, subst}
+use Rattle.std.proofs.Common.{false, refl, sym, subst}
 use Rattle.std.proofs.lemmas.Result.{err_from_is_err_and}
 use Rattle.hive_model.specs.Carries.{Carries}
 use Rattle.hive_model.specs.Load.{Loads}
 use Rattle.nt_edge.specs.Crash.{EachCrash}
 use Rattle.hive_commit.specs.Stages.{closed_of, IsBeforeOrAfter}
+use Rattle.hive_store.proofs.Holding.{tree_loads}
+use Rattle.hive_store.proofs.CommittingLemmas.{as_written, goes_again}
 use Rattle.hive_mend.specs.Loaded.{Loaded, loaded_state}
 use Rattle.hive_mend.specs.Mending.{next_state, LoadsAsOrNext}
-use Rattle.hive_mend.proofs.MendingLemmas.{HasItsTree, replaced_loads, replaced_crash, as_written, goes_again}
+use Rattle.hive_mend.proofs.MendingLemmas.{HasItsTree, replaced_crash}
 use Rattle.hive_mend.proofs.hive.LoadedHive.replace.Goals as goal
 
 pub returns-in_err-closed-clause-crash : goal.returns-in_err-closed-clause-crash
@@ -17,8 +19,8 @@ returns-in_err-closed-clause-crash g c = λ tells.
     let state = g.D.Disk.state c.commit.new.disk in
     subst (λ (v : Loaded). EachCrash state (LoadsAsOrNext (loaded_state v))) c.self.view_is
     (replaced_crash h c.self.invariant.has c.args.new ready state
-    (as_written (λ old new. EachCrash state (IsBeforeOrAfter h.base old (closed_of h.base new 32) new))
-    _ _ _ _ c.as_slice.ensures c.as_slice-2.ensures
+    (as_written (λ old new root. EachCrash state (IsBeforeOrAfter h.base old (closed_of h.base new root) new))
+    c.as_slice.ensures c.as_slice-2.ensures refl
     (c.commit.ensures.crash tells)))
 
 pub returns-in_err-closed-clause-goes : goal.returns-in_err-closed-clause-goes
@@ -34,7 +36,7 @@ returns-clause-loads g c = λ tells.
     let ready = subst (λ (v : Loaded). HasItsTree v c.args.new 32) (sym c.self.view_is) c.requires.ready in
     let held = (g.D.Disk.state c.commit.new.disk).held in
     subst (λ (v : Loaded). Loads held (next_state (loaded_state v)) false) c.self.view_is
-    (replaced_loads h c.args.new ready held
+    (tree_loads (closed_of h.base c.args.new 32) c.args.new h.tree ready held
     (subst (λ new. Carries held (closed_of h.base new 32) new) c.as_slice-2.ensures
     (c.in_ok-closed.ensures.carries tells)))
 
@@ -46,6 +48,6 @@ returns-clause-crash g c = λ tells.
     let state = g.D.Disk.state c.commit.new.disk in
     subst (λ (v : Loaded). EachCrash state (LoadsAsOrNext (loaded_state v))) c.self.view_is
     (replaced_crash h c.self.invariant.has c.args.new ready state
-    (as_written (λ old new. EachCrash state (IsBeforeOrAfter h.base old (closed_of h.base new 32) new))
-    _ _ _ _ c.as_slice.ensures c.as_slice-2.ensures
+    (as_written (λ old new root. EachCrash state (IsBeforeOrAfter h.base old (closed_of h.base new root) new))
+    c.as_slice.ensures c.as_slice-2.ensures refl
     (c.commit.ensures.crash tells)))

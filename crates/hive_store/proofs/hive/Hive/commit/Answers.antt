@@ -59,8 +59,8 @@ returns-clause-made g c =
     let before = g.D.Disk.calls c.args.disk.now in
     let after = g.D.Disk.calls c.commit.new.disk in
     subst (λ (v : Session). Makes before after (change_calls v.base v.bins (next_bins v) (next_root v))) c.self.view_is
-    (as_written s (λ old new root. Makes before after (change_calls s.base old new root))
-    _ _ _ c.as_slice.ensures c.bytes-new.ensures.exact c.root.ensures.root c.in_ok-closed.ensures.made)
+    (as_written (λ old new root. Makes before after (change_calls s.base old new root))
+    c.as_slice.ensures c.bytes-new.ensures.exact c.root.ensures.root c.in_ok-closed.ensures.made)
 
 pub returns-in_err-closed-clause-made : goal.returns-in_err-closed-clause-made
 returns-in_err-closed-clause-made g c =
@@ -72,8 +72,8 @@ returns-in_err-closed-clause-made g c =
     rw p.1
     (subst (λ (v : Session). MakesFront before after (change_calls v.base v.bins (next_bins v) (next_root v)))
     c.self.view_is
-    (as_written s (λ old new root. MakesFront before after (change_calls s.base old new root))
-    _ _ _ c.as_slice.ensures c.bytes-new.ensures.exact c.root.ensures.root c.in_err-closed.ensures.made))
+    (as_written (λ old new root. MakesFront before after (change_calls s.base old new root))
+    c.as_slice.ensures c.bytes-new.ensures.exact c.root.ensures.root c.in_err-closed.ensures.made))
 
 pub returns-clause-carries : goal.returns-clause-carries
 returns-clause-carries g c = λ tells.
@@ -81,8 +81,8 @@ returns-clause-carries g c = λ tells.
     let s : Session = session_of i.base i.bins i.cells i.changed in
     let held = (g.D.Disk.state c.commit.new.disk).held in
     subst (λ (v : Session). Carries held (next_base v) (next_bins v)) c.self.view_is
-    (as_written s (λ old new root. Carries held (closed_of s.base new root) new)
-    _ _ _ c.as_slice.ensures c.bytes-new.ensures.exact c.root.ensures.root (c.in_ok-closed.ensures.carries tells))
+    (as_written (λ old new root. Carries held (closed_of s.base new root) new)
+    c.as_slice.ensures c.bytes-new.ensures.exact c.root.ensures.root (c.in_ok-closed.ensures.carries tells))
 
 pub returns-clause-logged : goal.returns-clause-logged
 returns-clause-logged g c = λ tells.
@@ -90,8 +90,8 @@ returns-clause-logged g c = λ tells.
     let s : Session = session_of i.base i.bins i.cells i.changed in
     let held = (g.D.Disk.state c.commit.new.disk).held in
     subst (λ (v : Session). HasLog held (session_log v)) c.self.view_is
-    (as_written s (λ old new root. HasLog held (log_of (dirty old new) new (closed_of s.base new root)))
-    _ _ _ c.as_slice.ensures c.bytes-new.ensures.exact c.root.ensures.root
+    (as_written (λ old new root. HasLog held (log_of (dirty old new) new (closed_of s.base new root)))
+    c.as_slice.ensures c.bytes-new.ensures.exact c.root.ensures.root
     (c.in_ok-closed.ensures.logged tells))
 
 pub returns-clause-loads : goal.returns-clause-loads
@@ -103,8 +103,8 @@ returns-clause-loads g c = λ tells.
     let held = (g.D.Disk.state c.commit.new.disk).held in
     subst (λ (v : Session). Loads held (committed_state v) false) c.self.view_is
     (commit_loads s ready held
-    (as_written s (λ old new root. Carries held (closed_of s.base new root) new)
-    _ _ _ c.as_slice.ensures c.bytes-new.ensures.exact c.root.ensures.root (c.in_ok-closed.ensures.carries tells)))
+    (as_written (λ old new root. Carries held (closed_of s.base new root) new)
+    c.as_slice.ensures c.bytes-new.ensures.exact c.root.ensures.root (c.in_ok-closed.ensures.carries tells)))
 
 pub returns-clause-crash : goal.returns-clause-crash
 returns-clause-crash g c = λ tells.
@@ -119,8 +119,8 @@ returns-clause-crash g c = λ tells.
     subst (λ (v : Session). (before : HiveState) (was : Bool) → Loads start before was
     → EachCrash state (LoadsAsEither before (committed_state v))) c.self.view_is
     (commit_crash s ready c.self.invariant.carried.sized start state carries
-    (as_written s (λ old new root. EachCrash state (IsBeforeOrAfter s.base old (closed_of s.base new root) new))
-    _ _ _ c.as_slice.ensures c.bytes-new.ensures.exact c.root.ensures.root
+    (as_written (λ old new root. EachCrash state (IsBeforeOrAfter s.base old (closed_of s.base new root) new))
+    c.as_slice.ensures c.bytes-new.ensures.exact c.root.ensures.root
     (c.commit.ensures.crash tells)))
 
 pub returns-in_err-closed-clause-crash : goal.returns-in_err-closed-clause-crash
@@ -136,8 +136,8 @@ returns-in_err-closed-clause-crash g c = λ tells.
     subst (λ (v : Session). (before : HiveState) (was : Bool) → Loads start before was
     → EachCrash state (LoadsAsEither before (committed_state v))) c.self.view_is
     (commit_crash s ready c.self.invariant.carried.sized start state carries
-    (as_written s (λ old new root. EachCrash state (IsBeforeOrAfter s.base old (closed_of s.base new root) new))
-    _ _ _ c.as_slice.ensures c.bytes-new.ensures.exact c.root.ensures.root
+    (as_written (λ old new root. EachCrash state (IsBeforeOrAfter s.base old (closed_of s.base new root) new))
+    c.as_slice.ensures c.bytes-new.ensures.exact c.root.ensures.root
     (c.commit.ensures.crash tells)))
 
 pub returns-in_err-closed-clause-goes : goal.returns-in_err-closed-clause-goes

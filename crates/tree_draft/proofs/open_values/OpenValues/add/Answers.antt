@@ -1,9 +1,10 @@
-use Rattle.std.proofs.Common.{◌≡◌, length, Some, None, ap, ◌∙◌}
+use Rattle.std.proofs.Common.{◌≡◌, ◌∷◌, [], length, Some, None, ap, ◌∙◌}
 use Rattle.std.specs.Prelude.{find}
+use Rattle.std.proofs.lemmas.List.Elements.{filter_map-append}
 use Rattle.nt_bytes.specs.Folding.{folded}
 use Rattle.hive_model.specs.Tree.{is_item}
 use Rattle.tree_draft.specs.Slots.{held}
-use Rattle.tree_draft.proofs.SlotLemmas.{changes_at, unplaced, index_push, held_push}
+use Rattle.tree_draft.proofs.SlotLemmas.{changes_at, unplaced, index_push}
 use Rattle.tree_draft.proofs.open_values.OpenValues.add.Goals as goal
 
 pub invariant_of-self-2 : goal.invariant_of-self-2
@@ -24,4 +25,4 @@ invariant_of-self-2 c =
 
 pub returns : goal.returns
 returns c = rw (c.push_reserved.ensures.items, c.in_ok-reserve.ensures.items, ← c.self.view_is)
-    (held_push c.self.inside.slots.items c.args.value)
+    (filter_map-append (λ slot. slot) c.self.inside.slots.items (Some c.args.value ∷ []))

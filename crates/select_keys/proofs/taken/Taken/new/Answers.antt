@@ -1,5 +1,0 @@
-use Rattle.select_keys.proofs.NumberLemmas.{none_marked}
-use Rattle.select_keys.proofs.taken.Taken.new.Goals as goal
-
-pub returns : goal.returns
-returns c = none_marked
