@@ -24,7 +24,7 @@ prefix_whole p (c ∷ front) rest e = let q = and_parts (p c) (list_all p front)
 -- a list of which each passes is its own front
 pub whole_front : (p : ℕ → Bool) (text : List ℕ) → list_all p text ≡ true → prefix_len p text ≡ length text
 whole_front p [] e = refl
-whole_front p (c ∷ text) e = let q = and_parts (p c) (list_all p text) e in rw (q.0, whole_front p text q.1) (omega arith)
+whole_front p (c ∷ cs) e = let q = and_parts (p c) (list_all p cs) e in rw (q.0, whole_front p cs q.1) (omega arith)
 
 pub front_passes : (p : ℕ → Bool) (xs : List ℕ) → list_all p (take (prefix_len p xs) xs) ≡ true
 front_passes p xs =

@@ -14,7 +14,8 @@ use Rattle.std.proofs.lemmas.Bool.Decides.{nat_tests}
 use Rattle.arc_path.specs.declared.arc.Arc.{Arc}
 use Rattle.arc_path.specs.declared.arc.ArcKind.{ArcKind}
 use Rattle.arc_path.specs.declared.arc.ArcKind.TheVariants.{Multi, Scsi, Signature}
-use Rattle.arc_path.specs.Reading.{number_at, word_at, item_at, kind_at, partition_at, numbers_at, directory_at, parts_at, arc_of, is_printable, is_backslash, without_last_backslashes, radix_of, most_of}
+use Rattle.arc_path.specs.Reading.{number_at, word_at, item_at, kind_at, partition_at, numbers_at, directory_at, parts_at, arc_of, without_last_backslashes, radix_of, most_of}
+use Rattle.nt_bytes.specs.Text.{is_backslash, is_printable}
 use Rattle.arc_path.specs.Spelling.{IsNumeral, IsItem, word_of, IsDirectory, IsSpelled, IsPath, eight_digits, text_of, first_text, numbers_text, directory_text}
 use Rattle.arc_path.proofs.Ends.{all_from, whole_front, last_fails, end_dropped}
 use Rattle.arc_path.proofs.Found.{IsNamed, no_backslashes}

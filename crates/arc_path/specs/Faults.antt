@@ -11,7 +11,8 @@ use Rattle.arc_path.specs.declared.arc.ArcKind.{ArcKind}
 use Rattle.arc_path.specs.declared.arc.ArcFault.{ArcFault}
 use Rattle.arc_path.specs.declared.arc.ArcFaultKind.{ArcFaultKind}
 use Rattle.arc_path.specs.declared.arc.ArcFaultKind.TheVariants.{Kind, Word, Number, Partition, Tail}
-use Rattle.arc_path.specs.Reading.{is_printable, radix_of, most_of}
+use Rattle.arc_path.specs.Reading.{radix_of, most_of}
+use Rattle.nt_bytes.specs.Text.{is_printable}
 use Rattle.arc_path.specs.Spelling.{IsNumeral, word_of}
 
 -- what has to stand next: a word in either case, a number in so many digits at most, or a partition's number

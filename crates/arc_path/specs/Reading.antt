@@ -1,6 +1,6 @@
 -- An ARC path from left to right, with the first fault that is met (Microsoft's documentation of boot.ini; the faults and
 -- their places are this project's own). A fault is told by how many bytes of the text are left where it stands.
-use Rattle.std.specs.Prelude.{◌≡◌, ℕ, ◌-◌, min, Bool, ◌||◌, ◌&&◌, not, List, [], ◌∷◌, length, take, drop, Result, Ok, Err, nat_lt, nat_le, ◌==◌, if◌then◌else◌, codes}
+use Rattle.std.specs.Prelude.{◌≡◌, ℕ, ◌-◌, min, ◌||◌, not, List, [], ◌∷◌, length, take, drop, Result, Ok, Err, nat_lt, ◌==◌, if◌then◌else◌, codes}
 use Rattle.std.specs.Char.{is_digit}
 use Rattle.std.specs.List.{prefix_len, suffix_len}
 use Rattle.std.specs.Str.{str_eq_ignore_ascii_case}
@@ -15,6 +15,7 @@ use Rattle.arc_path.specs.declared.arc.ArcStop.{ArcStop}
 use Rattle.arc_path.specs.declared.arc.ArcStop.TheVariants as stops
 use Rattle.arc_path.specs.declared.reading.Early.{Early}
 use Rattle.arc_path.specs.declared.reading.Numbers.{Numbers}
+use Rattle.nt_bytes.specs.Text.{is_printable, is_backslash}
 
 -- one reader after the other; the first fault decides
 infixl 10 ◌>>=◌
@@ -82,13 +83,6 @@ numbers_at text = do
   rdisk ← item_at (codes "rdisk(") disk.1
   partition ← partition_at rdisk.1
   Ok (record { kind = kind.0; controller = controller.0; disk = disk.0; rdisk = rdisk.0; partition = partition.0 }, partition.1)
-
--- what a directory may have in it
-abbrev pub is_printable : ℕ → Bool
-is_printable c = nat_le 0x20 c && nat_le c 0x7e
-
-abbrev pub is_backslash : ℕ → Bool
-is_backslash c = c == 0x5c
 
 -- the text without the `\` at its very end
 abbrev pub without_last_backslashes : List ℕ → List ℕ

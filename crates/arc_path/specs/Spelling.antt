@@ -11,7 +11,8 @@ use Rattle.std.specs.Fmt.{decimal, digit_glyph}
 use Rattle.arc_path.specs.declared.arc.Arc.{Arc}
 use Rattle.arc_path.specs.declared.arc.ArcKind.{ArcKind}
 use Rattle.arc_path.specs.declared.arc.ArcKind.TheVariants.{Multi, Scsi, Signature}
-use Rattle.arc_path.specs.Reading.{is_printable, is_backslash, without_last_backslashes, radix_of, most_of}
+use Rattle.arc_path.specs.Reading.{without_last_backslashes, radix_of, most_of}
+use Rattle.nt_bytes.specs.Text.{is_backslash, is_printable}
 
 -- ---- every text of a path
 

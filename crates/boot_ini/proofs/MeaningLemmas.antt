@@ -6,11 +6,11 @@ use Rattle.std.proofs.lemmas.List.{take-append-drop, take_at, drop_at, append-ni
 use Rattle.std.proofs.Math.Seq.{drop-append-add}
 use Rattle.std.proofs.lemmas.List.Elements.{All-nil, All-cons}
 use Rattle.std.proofs.lemmas.List.Splits.{slice_split_at, slice_split_none}
-use Rattle.nt_bytes.specs.Text.{is_blank, trimmed, names_same}
+use Rattle.nt_bytes.specs.Text.{is_blank, trimmed, names_same, is_equals}
 use Rattle.boot_ini.specs.declared.keys.Section.TheVariants.{Loader, Systems, Other}
 use Rattle.boot_ini.specs.declared.ini.OsEntry.{OsEntry}
 use Rattle.boot_ini.specs.declared.ini.BootIni.{BootIni}
-use Rattle.boot_ini.specs.Keys.{is_equals, sides, value_beside, value_of, said_in, lines_in}
+use Rattle.boot_ini.specs.Keys.{sides, value_beside, value_of, said_in, lines_in}
 use Rattle.boot_ini.specs.Entries.{is_quote, is_slash, is_quoted, title_of, behind_title, is_switch, switches_in, entry_beside, entry_of}
 use Rattle.boot_ini.specs.Ini.{first_of, timeout_text, default_path, entries_in, ini_of}
 use Rattle.boot_ini.specs.Parts.{has_no, IsNothingOr, IsBetweenBlanks, lines_of}

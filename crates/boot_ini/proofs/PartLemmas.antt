@@ -64,7 +64,9 @@ named_so name = by_loader (names_same name (codes "boot loader")) refl
 lower_names : (name : List ℕ) → names_same name (codes "operating systems") ≡ true
     → names_same name (codes "boot loader") ≡ false
 lower_names [] e = refl
-lower_names (c ∷ name) e = rw (eqb-true (to_ascii_lowercase c) 111 (and_parts (eqb (to_ascii_lowercase c) 111) _ e).0) refl
+lower_names (c ∷ name) e =
+    let lower = to_ascii_lowercase c in
+    rw (eqb-true lower 111 (and_parts (eqb lower 111) _ e).0) refl
 
 section_is : (section : Section) (name : List ℕ) → IsNameOf section name → section_of_name name ≡ section
 section_is Loader name e = rw e refl

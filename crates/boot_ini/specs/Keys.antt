@@ -3,7 +3,7 @@
 use Rattle.std.specs.Prelude.{ℕ, Bool, true, false, not, List, [], ◌∷◌, length, map, filter, drop, Option, Some, None, nat_lt, ◌==◌, if◌then◌else◌, codes}
 use Rattle.std.specs.List.{position_or_len, before_first, after_first}
 use Rattle.std.specs.Str.Lines.{lines}
-use Rattle.nt_bytes.specs.Text.{trimmed, names_same}
+use Rattle.nt_bytes.specs.Text.{trimmed, names_same, is_equals}
 use Rattle.boot_ini.specs.declared.keys.Section.{Section}
 use Rattle.boot_ini.specs.declared.keys.Section.TheVariants.{Loader, Systems, Other}
 
@@ -55,9 +55,6 @@ lines_in wanted here (line ∷ more) =
     if opens_section line then lines_in wanted (section_named line) more
     else if same_section wanted here then line ∷ lines_in wanted here more
     else lines_in wanted here more
-
-abbrev pub is_equals : ℕ → Bool
-is_equals c = c == 61
 
 -- what stands before and behind the first `=`
 abbrev pub sides : List ℕ → Option (List ℕ × List ℕ)

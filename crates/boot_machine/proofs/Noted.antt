@@ -6,8 +6,7 @@ use Rattle.std.proofs.lemmas.Iterator.Adapters.{position_from-zero}
 use Rattle.std.proofs.Math.ListN.{set}
 use Rattle.nt_bytes.specs.Folding.{folded, folds_same}
 use Rattle.start_model.specs.Machine.{failures_of, one_failure_less, with_failures}
-use Rattle.boot_machine.proofs.Places.{here, there}
-use Rattle.reg_tree.proofs.Places.{place_of, no_place}
+use Rattle.reg_tree.proofs.Places.{here, there, place_of, no_place}
 
 abbrev Failing : Type 0
 Failing = List ℕ × ℕ

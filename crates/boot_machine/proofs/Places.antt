@@ -1,16 +1,8 @@
 -- The first place at which a test passes.
-use Rattle.std.proofs.Common.{◌≡◌, ℕ, ◌+◌, Bool, true, false, cond, List, [], ◌∷◌, map, Some, refl, sym, ap, ◌∙◌}
+use Rattle.std.proofs.Common.{◌≡◌, ℕ, ◌+◌, Bool, cond, List, [], ◌∷◌, map, Some, refl, sym, ap, ◌∙◌}
 use Rattle.std.specs.Prelude.{position}
 use Rattle.std.specs.List.{position_from}
 use Rattle.std.proofs.lemmas.Iterator.Adapters.{position_from-zero}
-
-some_is : (a b : ℕ) → Some a ≡ Some b → a ≡ b
-some_is a b e = cc
-
--- A first place at or after i: there, or in the rest.
-pub data Place {X : Type 0} (p : X → Bool) (i : ℕ) (x : X) (xs : List X) (at : ℕ) : Type 0 where
-  here : p x ≡ true → at ≡ i → Place p i x xs at
-  there : p x ≡ false → position_from p (i + 1) xs ≡ Some at → Place p i x xs at
 
 map_from : {X Y : Type 0} (f : X → Y) (p : Y → Bool) (i : ℕ) (xs : List X)
     → position_from p i (map f xs) ≡ position_from (λ x. p (f x)) i xs

@@ -1,7 +1,8 @@
 -- What the logic asks of a type that a model has as its value: a code that tells values apart (this project's own).
 use Rattle.std.specs.Prelude.{◌≡◌, ℕ, zero, suc, Bool, List, Option, refl}
 use Rattle.std.specs.Coded.{Coded, code_by, coded×, coded_ℕ, coded_bool, coded_list, coded_option}
-use Rattle.hive_model.specs.Tree.{Tree, coded_tree}
+use Rattle.hive_model.specs.Tree.{Tree}
+use Rattle.hive_model.specs.Codes.{coded_tree}
 use Rattle.start_model.specs.Ready.{Label}
 use Rattle.start_model.specs.Entries.{Entry, Phase, Boot, System, Automatic, Done}
 use Rattle.start_model.specs.Machine.{Start, MachineState}

@@ -27,13 +27,13 @@ event_in (script.CutNow keep) = book.CutNow (keep_of keep)
 event_in (script.ArmCut call n keep) = book.Arm (ArmedCut (call_of call) n (keep_of keep))
 event_in (script.ArmFault call n) = book.Arm (ArmedFault (call_of call) n)
 
-abbrev pub refusal_in : EventRefusal → RefusedWord
-refusal_in code.Off = OffReason
-refusal_in code.Running = RunningReason
-refusal_in code.Early = EarlyReason
-refusal_in code.Again = AgainReason
-refusal_in code.Idle = IdleReason
-refusal_in code.Protected = ProtectedReason
+abbrev pub word_of_refusal : EventRefusal → RefusedWord
+word_of_refusal code.Off = OffReason
+word_of_refusal code.Running = RunningReason
+word_of_refusal code.Early = EarlyReason
+word_of_refusal code.Again = AgainReason
+word_of_refusal code.Idle = IdleReason
+word_of_refusal code.Protected = ProtectedReason
 
 abbrev pub tried_in : Tried → machine.Tried
 tried_in t = record { name = t.name; ok = t.ok; judgement = judgement_in t.judgement }
@@ -41,4 +41,4 @@ tried_in t = record { name = t.name; ok = t.ok; judgement = judgement_in t.judge
 -- an event is taken where nothing refuses it, and refused for the stated reason otherwise
 abbrev pub Answers : Result (Unit {0}) EventRefusal → Option RefusedWord → Type 0
 Answers (Ok taken) why = why ≡ None
-Answers (Err refusal) why = why ≡ Some (refusal_in refusal)
+Answers (Err refusal) why = why ≡ Some (word_of_refusal refusal)

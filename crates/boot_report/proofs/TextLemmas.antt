@@ -8,7 +8,8 @@ use Rattle.std.proofs.lemmas.List.Splits.{length-slice_split}
 use Rattle.std.proofs.lemmas.Bool.{false≢true, ne_eqb, and_parts, and_from}
 use Rattle.std.proofs.lemmas.Bool.Decides.{nat_tests}
 use Rattle.start_model.specs.Lines as book
-use Rattle.start_model.specs.Lines.{Line, StartLine, EntryLine, LoadLine, SetLine, CommitLine, SelectLine, PhaseLine, TryLine, UnmetLine, LogonLine, SaveRefusedLine, EditOkLine, FlushNothingLine, RefusedLine, VerdictLine, EndLine, line_text, text_of, unit_text, name_text, path_text, shown_byte, is_printable, escaped, commit_word, phase_word, try_word, event_word, refused_word, verdict_word, load_word, set_word, save_word}
+use Rattle.start_model.specs.Lines.{Line, StartLine, EntryLine, LoadLine, SetLine, CommitLine, SelectLine, PhaseLine, TryLine, UnmetLine, LogonLine, SaveRefusedLine, EditOkLine, FlushNothingLine, RefusedLine, VerdictLine, EndLine, line_text, text_of, unit_text, name_text, path_text, shown_byte, escaped, commit_word, phase_word, try_word, event_word, refused_word, verdict_word, load_word, set_word, save_word}
+use Rattle.nt_bytes.specs.Text.{is_printable}
 use Rattle.start_model.specs.Possible.{Outcome}
 use Rattle.start_model.specs.Fits.{outcomes_in, outcomes_of, outcome_of, whole_lines, verdict_outcome}
 

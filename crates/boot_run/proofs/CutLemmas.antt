@@ -6,7 +6,7 @@ use Rattle.hive_model.specs.Image.{Image, Arming}
 use Rattle.nt_edge.specs.Disk.{DiskState, IsBounded, next}
 use Rattle.nt_edge.specs.Crash.{EachCrash}
 use Rattle.nt_edge.specs.Bench.{cut_off, turned_off, armed}
-use Rattle.nt_edge.specs.Host.{Rises}
+use Rattle.nt_bytes.specs.Counts.{Rises}
 use Rattle.hive_store.specs.Session.{Session}
 use Rattle.start_model.specs.Lines as book
 use Rattle.start_model.specs.Lines.{VerdictLine}

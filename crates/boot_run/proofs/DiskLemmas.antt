@@ -5,7 +5,7 @@ use Rattle.hive_model.specs.State.{HiveState}
 use Rattle.hive_model.specs.Load.{Loads, LoadsAs}
 use Rattle.nt_edge.specs.Disk.{DiskState, CountsGrow, History, Wake}
 use Rattle.nt_edge.specs.Crash.{EachCrash}
-use Rattle.nt_edge.specs.Host.{Rises}
+use Rattle.nt_bytes.specs.Counts.{Rises}
 use Rattle.nt_edge.specs.Bench.{turned_off, woken}
 use Rattle.start_model.specs.Causes.{Tally, HasCause}
 use Rattle.start_model.specs.Fits.{MayLoad}

@@ -2,7 +2,8 @@
 use Rattle.std.proofs.Common.{◌≡◌, ℕ, true, refl, sym, ap, ◌∙◌, subst}
 use Rattle.std.specs.Prelude.{Result, Ok, Err}
 use Rattle.std.specs.Result.{IsErrAnd}
-use Rattle.nt_edge.specs.Host.{HostState, Rises, KeepsHost, KeepsFiles, KeepsCounts, CountsWrite}
+use Rattle.nt_edge.specs.Host.{HostState, KeepsHost, KeepsFiles, KeepsCounts, CountsWrite}
+use Rattle.nt_bytes.specs.Counts.{Rises}
 use Rattle.boot_run.specs.declared.stop.RunStop.{RunStop}
 use Rattle.boot_run.specs.declared.stop.RunStop.TheVariants as stops
 use Rattle.boot_run.specs.Hosts.{LeavesHost, CountsStop, StillHost}

@@ -1,7 +1,8 @@
 //! The path of an edit, in which `CurrentControlSet` stands for the set that the start took.
 
 ghost use Rattle.std.specs.Prelude.{◌≡◌, ◌≤◌, ◌∷◌, [], IfOk};
-ghost use Rattle.start_model.specs.Events.{resolved, without_last, last_of};
+ghost use Rattle.start_model.specs.Events.{resolved, last_of};
+ghost use Rattle.hive_model.specs.Footprint.{parent_of};
 
 use boot_machine::is_current;
 use nt_bytes::{Names, Units};
@@ -46,7 +47,7 @@ fn path_of(alloc: Global, first: Units, rest: &[Units]) -> Result<Names, AllocEr
 
 /// All but the last component of the path, and the last one, which is empty where the path has none.
 pub(crate) fn parted(alloc: Global, path: &[Units]) -> Result<(Names, Units), AllocError>
-    ensures parent { IfOk result (λ p. p.0 ≡ without_last path.now) }
+    ensures parent { IfOk result (λ p. p.0 ≡ parent_of path.now) }
     ensures last { IfOk result (λ p. p.1 ≡ last_of path.now) }
 {
     let [front @ .., last] = path else {

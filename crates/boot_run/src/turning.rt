@@ -4,7 +4,7 @@ ghost use Rattle.std.specs.Prelude.{◌≡◌, ◌≤◌, true, ℕ, None, Some,
 ghost use Rattle.nt_edge.specs.Crash.{EachCrash};
 ghost use Rattle.nt_edge.specs.Host.{HostState};
 ghost use Rattle.boot_machine.specs.Steps.{is_there};
-ghost use Rattle.boot_machine.specs.Views.{event_in, refusal_in};
+ghost use Rattle.boot_machine.specs.Views.{event_in, word_of_refusal};
 ghost use Rattle.boot_script.specs.Script.{HasCounts};
 ghost use Rattle.reg_tree.specs.Fitting.{Fits};
 ghost use Rattle.reg_tree.specs.Makes.{step_of};
@@ -249,7 +249,7 @@ fn refuse<H: Host>(
     summary: &mut Summary,
     host: &mut H,
 ) -> Result<(), RunStop>
-    ensures tells { (H.state host.old).tells ≡ true → TellsOr (RefusedLine (event_word_of (event_in event.now)) (refusal_in refusal))
+    ensures tells { (H.state host.old).tells ≡ true → TellsOr (RefusedLine (event_word_of (event_in event.now)) (word_of_refusal refusal))
         (told_by (H.state host.old) summary.old) (told_by (H.state host.new) summary.new) result }
     ensures host { LeavesHost result (H.state host.old) (H.state host.new) }
 {

@@ -1,7 +1,7 @@
 //! The words of the report for what the machine, the tree and the script say.
 
 ghost use Rattle.std.specs.Prelude.{◌≡◌, option_map};
-ghost use Rattle.boot_machine.specs.Views.{event_in, refusal_in, tried_in};
+ghost use Rattle.boot_machine.specs.Views.{event_in, word_of_refusal, tried_in};
 ghost use Rattle.boot_report.specs.Report.{event_of, refused_of, try_of, verdict_of, line_of};
 ghost use Rattle.reg_tree.specs.Makes.{refusal_of};
 ghost use Rattle.start_model.specs.Commit.{select_line};
@@ -38,7 +38,7 @@ pub(crate) fn event_word(event: &Event) -> EventWord
 }
 
 pub(crate) fn refused_word(refusal: EventRefusal) -> RefusedWord
-    ensures { refused_of result ≡ refusal_in refusal }
+    ensures { refused_of result ≡ word_of_refusal refusal }
 {
     match refusal {
         EventRefusal::Off => RefusedWord::Off,

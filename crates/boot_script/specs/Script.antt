@@ -36,8 +36,8 @@ starts_in (e ∷ es) = starts (Some e) + starts_in es
 abbrev pub at_line : {A : Type 0} → ℕ → ScriptFaultKind → Result A ScriptFault
 at_line n kind = Err (record { kind = kind; line = n })
 
-abbrev pub put_before : List Event → Result (List Event) ScriptFault → Result (List Event) ScriptFault
-put_before front (Ok events) = Ok (front ++ events)
+abbrev pub put_before : {X : Type 0} → List X → Result (List X) ScriptFault → Result (List X) ScriptFault
+put_before front (Ok items) = Ok (front ++ items)
 put_before front (Err f) = Err f
 
 -- what a line gives, where so many starts were asked for before, and what follows it
@@ -74,7 +74,7 @@ pub record IsBounded (events : List Event) : Type 0 where
 
 -- ---- what the code returns
 
-abbrev pub FailsBy : ScriptStop → Result (List Event) ScriptFault → Type 0
+abbrev pub FailsBy : {X : Type 0} → ScriptStop → Result (List X) ScriptFault → Type 0
 FailsBy stops.Memory read = Unit {0}
 FailsBy (stops.Fault f) read = read ≡ Err f
 

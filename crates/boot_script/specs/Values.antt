@@ -8,9 +8,7 @@ use Rattle.std.specs.Str.{bytes_eq}
 use Rattle.boot_script.specs.declared.stop.ScriptFaultKind.{ScriptFaultKind}
 use Rattle.boot_script.specs.declared.stop.ScriptFaultKind.TheVariants.{Word, Number}
 use Rattle.boot_script.specs.Words.{◌>>=◌, number_from}
-
-abbrev pub is_backslash : ℕ → Bool
-is_backslash c = c == 92
+use Rattle.nt_bytes.specs.Text.{is_backslash}
 
 -- the names between backslashes, empty ones too
 abbrev pub path_of : List ℕ → List (List ℕ)

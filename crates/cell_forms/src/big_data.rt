@@ -6,7 +6,7 @@ ghost use Rattle.hive_model.specs.BigData.{big_data_at, big_data_text};
 ghost use Rattle.cell_forms.specs.Views.{big_data_of};
 
 use crate::names::fault;
-use nt_bytes::{Bytes, HiveKind, ReadStop, u16_at, u32_at};
+use nt_bytes::{Bytes, HiveFaultKind, ReadStop, u16_at, u32_at};
 use std::alloc::{AllocError, Global};
 
 /// A cell of big data: how many segments hold the data, and the offset of the list of their offsets
@@ -24,13 +24,13 @@ pub fn read_db(payload: &[u8], at: u32) -> Result<DbForm, ReadStop>
     ensures { Gives big_data_of at result (big_data_at payload.now) }
 {
     if payload.len() < 2 {
-        return Err(fault(HiveKind::FormShort, at));
+        return Err(fault(HiveFaultKind::FormShort, at));
     }
     if u16_at(payload, 0) != 0x6264 {
-        return Err(fault(HiveKind::FormSign, at));
+        return Err(fault(HiveFaultKind::FormSign, at));
     }
     if payload.len() < 8 {
-        return Err(fault(HiveKind::FormShort, at));
+        return Err(fault(HiveFaultKind::FormShort, at));
     }
     Ok(DbForm {
         segments: u16_at(payload, 2),

@@ -4,7 +4,7 @@ ghost use Rattle.std.specs.Prelude.{◌≡◌};
 ghost use Rattle.hive_model.specs.Forms.{Gives, bytes_in};
 
 use crate::names::fault;
-use nt_bytes::{Bytes, HiveKind, ReadStop};
+use nt_bytes::{Bytes, HiveFaultKind, ReadStop};
 use std::alloc::Global;
 
 /// The first `count` bytes of a payload, as of a class or of a value's data. `FormShort` at `at`
@@ -15,7 +15,7 @@ pub fn read_bytes(alloc: Global, payload: &[u8], count: u32, at: u32) -> Result<
 {
     let count = count as usize;
     if payload.len() < count {
-        return Err(fault(HiveKind::FormShort, at));
+        return Err(fault(HiveFaultKind::FormShort, at));
     }
     Ok(Bytes::from_slice(alloc, &payload[..count])?)
 }

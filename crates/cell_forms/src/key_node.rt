@@ -4,10 +4,11 @@ ghost use Rattle.std.specs.Prelude.{◌≡◌, ◌<◌, ◌≤◌, ℕ, true, le
 ghost use Rattle.hive_model.specs.Forms.{Gives};
 ghost use Rattle.hive_model.specs.KeyNode.{is_narrow_key, key_node_in, key_node_at, key_node_text};
 ghost use Rattle.cell_forms.specs.Views.{key_node_of, name_of};
+ghost use Rattle.hive_model.specs.Valid.{longest_key_name};
 
 use crate::names::{append_name, fault, name_size, see_key_name};
 use crate::stored::StoredName;
-use nt_bytes::{Bytes, HiveKind, ReadStop, Units, u16_at, u32_at, u64_at};
+use nt_bytes::{Bytes, HiveFaultKind, ReadStop, Units, u16_at, u32_at, u64_at};
 use std::alloc::{AllocError, Global};
 
 /// A key node, its numbers as they are stored. Offsets are bytes in the bins data, 0xFFFFFFFF is
@@ -54,17 +55,17 @@ fn see_name(payload: &[u8], at: u32) -> Result<StoredName<'_>, ReadStop>
     ensures long { IfOk result (λ _. 76 ≤ length payload.now) }
 {
     if payload.len() < 2 {
-        return Err(fault(HiveKind::FormShort, at));
+        return Err(fault(HiveFaultKind::FormShort, at));
     }
     if u16_at(payload, 0) != 0x6b6e {
-        return Err(fault(HiveKind::FormSign, at));
+        return Err(fault(HiveFaultKind::FormSign, at));
     }
     if payload.len() < 76 {
-        return Err(fault(HiveKind::FormShort, at));
+        return Err(fault(HiveFaultKind::FormShort, at));
     }
     let end = 76 + usize::from(u16_at(payload, 72));
     if payload.len() < end {
-        return Err(fault(HiveKind::FormShort, at));
+        return Err(fault(HiveFaultKind::FormShort, at));
     }
     let is_narrow = is_narrow(u16_at(payload, 2));
     let name = see_key_name(is_narrow, &payload[76..end], at)?;
@@ -124,7 +125,7 @@ fn fields(payload: &[u8], name: Units) -> NkForm
 /// The payload that a key node is spelled as. The two fields without a name are zero.
 #[tactic(auto, unfolding(hive_model::specs::KeyNode::key_node_text))]
 pub fn nk_bytes(alloc: Global, form: &NkForm) -> Result<Bytes, AllocError>
-    requires short { length form.now.name ≤ 255 }
+    requires short { length form.now.name ≤ longest_key_name }
     requires narrow { is_narrow_key form.now.flags ≡ true → (k : ℕ) → slice_index form.now.name k < 256 }
     ensures { IfOk result (λ b. b ≡ key_node_text (key_node_of form.now)) }
 {

@@ -5,10 +5,11 @@ ghost use Rattle.hive_model.specs.Forms.{Gives};
 ghost use Rattle.hive_model.specs.KeyValue.{is_narrow_value, key_value_at, key_value_text};
 ghost use Rattle.hive_model.specs.KeyValue.{data_inside as data_inside_of};
 ghost use Rattle.cell_forms.specs.Views.{key_value_of, value_seen};
+ghost use Rattle.hive_model.specs.Valid.{longest_value_name};
 
 use crate::names::{append_name, fault, name_size, see_value_name};
 use crate::stored::StoredName;
-use nt_bytes::{Bytes, HiveKind, ReadStop, Units, u16_at, u32_at};
+use nt_bytes::{Bytes, HiveFaultKind, ReadStop, Units, u16_at, u32_at};
 use std::alloc::{AllocError, Global};
 
 /// A value, its numbers as they are stored. `size` is bytes of data; with its top bit set the data
@@ -48,21 +49,21 @@ pub fn see_vk(payload: &[u8], at: u32) -> Result<VkSlice<'_>, ReadStop>
     ensures { Gives value_seen at result (key_value_at payload.now) }
 {
     if payload.len() < 2 {
-        return Err(fault(HiveKind::FormShort, at));
+        return Err(fault(HiveFaultKind::FormShort, at));
     }
     if u16_at(payload, 0) != 0x6b76 {
-        return Err(fault(HiveKind::FormSign, at));
+        return Err(fault(HiveFaultKind::FormSign, at));
     }
     if payload.len() < 20 {
-        return Err(fault(HiveKind::FormShort, at));
+        return Err(fault(HiveFaultKind::FormShort, at));
     }
     let end = 20 + usize::from(u16_at(payload, 2));
     if payload.len() < end {
-        return Err(fault(HiveKind::FormShort, at));
+        return Err(fault(HiveFaultKind::FormShort, at));
     }
     let size = u32_at(payload, 4);
     if size > 0x8000_0004 {
-        return Err(fault(HiveKind::FormLength, at));
+        return Err(fault(HiveFaultKind::FormLength, at));
     }
     let flags = u16_at(payload, 16);
     let name = see_value_name(is_narrow(flags), &payload[20..end], at)?;
@@ -117,7 +118,7 @@ pub fn data_inside(alloc: Global, form: &VkForm) -> Result<Option<Bytes>, AllocE
 /// The payload that a value is spelled as. The field without a name is zero.
 #[tactic(auto, unfolding(hive_model::specs::KeyValue::key_value_text))]
 pub fn vk_bytes(alloc: Global, form: &VkForm) -> Result<Bytes, AllocError>
-    requires short { length form.now.name ≤ 16383 }
+    requires short { length form.now.name ≤ longest_value_name }
     requires narrow { is_narrow_value form.now.flags ≡ true → (k : ℕ) → slice_index form.now.name k < 256 }
     ensures { IfOk result (λ b. b ≡ key_value_text (key_value_of form.now)) }
 {

@@ -6,7 +6,7 @@ ghost use Rattle.hive_model.specs.Lists.{list_at, list_of, numbers_in, offsets_i
 ghost use Rattle.cell_forms.specs.Views.{subkey_list_of, kind_of};
 
 use crate::names::fault;
-use nt_bytes::{HiveKind, ReadStop, Row, u16_at, u32_at};
+use nt_bytes::{HiveFaultKind, ReadStop, Row, u16_at, u32_at};
 use std::alloc::{AllocError, Global};
 
 /// Offsets in the bins data.
@@ -63,11 +63,11 @@ fn read_entries(
     ensures { Gives subkey_list_of at result (list_of (kind_of kind) step payload.now) }
 {
     if payload.len() < 4 {
-        return Err(fault(HiveKind::FormShort, at));
+        return Err(fault(HiveFaultKind::FormShort, at));
     }
     let count = usize::from(u16_at(payload, 2));
     if payload.len() < 4 + step * count {
-        return Err(fault(HiveKind::FormShort, at));
+        return Err(fault(HiveFaultKind::FormShort, at));
     }
     let offsets = numbers(alloc, step, count, &payload[4..])?;
     Ok(ListForm { kind, offsets })
@@ -80,7 +80,7 @@ pub fn read_list(alloc: Global, payload: &[u8], at: u32) -> Result<ListForm, Rea
     ensures { Gives subkey_list_of at result (list_at payload.now) }
 {
     if payload.len() < 2 {
-        return Err(fault(HiveKind::FormShort, at));
+        return Err(fault(HiveFaultKind::FormShort, at));
     }
     let sign = u16_at(payload, 0);
     if sign == 0x696c {
@@ -95,7 +95,7 @@ pub fn read_list(alloc: Global, payload: &[u8], at: u32) -> Result<ListForm, Rea
     if sign == 0x6972 {
         return read_entries(alloc, ListKind::Ri, 4, payload, at);
     }
-    Err(fault(HiveKind::FormSign, at))
+    Err(fault(HiveFaultKind::FormSign, at))
 }
 
 /// The offsets of a value list of `count` values. `FormShort` at `at` where the payload has fewer.
@@ -105,7 +105,7 @@ pub fn read_offsets(alloc: Global, payload: &[u8], count: u32, at: u32) -> Resul
 {
     let count = count as usize;
     if payload.len() < 4 * count {
-        return Err(fault(HiveKind::FormShort, at));
+        return Err(fault(HiveFaultKind::FormShort, at));
     }
     Ok(numbers(alloc, 4, count, payload)?)
 }

@@ -5,13 +5,14 @@ ghost use Rattle.nt_bytes.specs.declared.fault.ReadStop.TheVariants.{Fault};
 ghost use Rattle.hive_model.specs.Forms.{Gives};
 ghost use Rattle.cell_forms.specs.Views.{name_of};
 ghost use Rattle.hive_model.specs.StoredNames.{wide_text, name_text, key_name_at, value_name_at};
+ghost use Rattle.hive_model.specs.Valid.{longest_value_name};
 
 use crate::stored::StoredName;
-use nt_bytes::{Bytes, HiveFault, HiveKind, ReadStop};
+use nt_bytes::{Bytes, HiveFault, HiveFaultKind, ReadStop};
 use std::alloc::AllocError;
 
 /// A fault of this kind at this offset.
-pub(crate) fn fault(kind: HiveKind, at: u32) -> ReadStop
+pub(crate) fn fault(kind: HiveFaultKind, at: u32) -> ReadStop
     ensures { result ≡ Fault (record { kind = kind; at = at }) }
 {
     ReadStop::Fault(HiveFault { kind, at })
@@ -28,11 +29,11 @@ pub(crate) fn see_key_name(
     ensures { Gives name_of at result (key_name_at is_narrow bytes.now) }
 {
     if !is_narrow && bytes.len() % 2 == 1 {
-        return Err(fault(HiveKind::FormLength, at));
+        return Err(fault(HiveFaultKind::FormLength, at));
     }
     let name = StoredName { is_narrow, bytes };
     if name.len() > 255 || name.has_backslash() {
-        return Err(fault(HiveKind::FormName, at));
+        return Err(fault(HiveFaultKind::FormName, at));
     }
     Ok(name)
 }
@@ -48,11 +49,11 @@ pub(crate) fn see_value_name(
     ensures { Gives name_of at result (value_name_at is_narrow bytes.now) }
 {
     if !is_narrow && bytes.len() % 2 == 1 {
-        return Err(fault(HiveKind::FormLength, at));
+        return Err(fault(HiveFaultKind::FormLength, at));
     }
     let name = StoredName { is_narrow, bytes };
     if name.len() > 16_383 {
-        return Err(fault(HiveKind::FormName, at));
+        return Err(fault(HiveFaultKind::FormName, at));
     }
     Ok(name)
 }
@@ -85,7 +86,7 @@ pub(crate) fn append_name(out: &mut Bytes, is_narrow: bool, name: &[u16]) -> Res
 
 /// How many bytes a name is stored in.
 pub(crate) fn name_size(is_narrow: bool, name: &[u16]) -> usize
-    requires { length name.now ≤ 16383 }
+    requires { length name.now ≤ longest_value_name }
     ensures exact { result ≡ length (name_text is_narrow name.now) }
     ensures bounds { result ≤ 2 * length name.now }
 {

@@ -6,7 +6,7 @@ ghost use Rattle.hive_model.specs.Security.{security_at, security_text};
 ghost use Rattle.cell_forms.specs.Views.{security_of};
 
 use crate::names::fault;
-use nt_bytes::{Bytes, HiveKind, ReadStop, u16_at, u32_at};
+use nt_bytes::{Bytes, HiveFaultKind, ReadStop, u16_at, u32_at};
 use std::alloc::{AllocError, Global};
 
 /// A security cell. The links are offsets in the bins data, `uses` is its reference count.
@@ -25,17 +25,17 @@ pub fn read_sk(alloc: Global, payload: &[u8], at: u32) -> Result<SkForm, ReadSto
     ensures { Gives security_of at result (security_at payload.now) }
 {
     if payload.len() < 2 {
-        return Err(fault(HiveKind::FormShort, at));
+        return Err(fault(HiveFaultKind::FormShort, at));
     }
     if u16_at(payload, 0) != 0x6b73 {
-        return Err(fault(HiveKind::FormSign, at));
+        return Err(fault(HiveFaultKind::FormSign, at));
     }
     if payload.len() < 20 {
-        return Err(fault(HiveKind::FormShort, at));
+        return Err(fault(HiveFaultKind::FormShort, at));
     }
     let end = 20 + u32_at(payload, 16) as usize;
     if payload.len() < end {
-        return Err(fault(HiveKind::FormShort, at));
+        return Err(fault(HiveFaultKind::FormShort, at));
     }
     Ok(SkForm {
         forward: u32_at(payload, 4),

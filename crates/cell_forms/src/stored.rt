@@ -7,7 +7,7 @@ ghost use Rattle.std.specs.Prelude.{length};
 ghost use Rattle.nt_bytes.specs.Folding.{folded_order};
 ghost use Rattle.nt_bytes.specs.Text.{wide_of};
 ghost use Rattle.hive_model.specs.Size.{is_narrow};
-ghost use Rattle.hive_model.specs.Valid.{is_backslash};
+ghost use Rattle.nt_bytes.specs.Text.{is_backslash};
 ghost use Rattle.cell_forms.specs.Views.{name_of};
 
 use nt_bytes::{Units, fold, wide};

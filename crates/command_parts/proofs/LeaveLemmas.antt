@@ -1,7 +1,8 @@
 -- What two calls leave of a host, one behind the other.
 use Rattle.std.proofs.Common.{◌≡◌, ℕ, List, [], Option, Some, None, refl, sym, subst, ◌∙◌, append-nil}
 use Rattle.std.specs.Prelude.{Result, Ok, Err}
-use Rattle.nt_edge.specs.Host.{HostState, Rises, SaysFront, KeepsHost, KeepsFiles, KeepsCounts, Counts, CountsFault}
+use Rattle.nt_edge.specs.Host.{HostState, SaysFront, KeepsHost, KeepsFiles, KeepsCounts, Counts, CountsFault}
+use Rattle.nt_bytes.specs.Counts.{Rises}
 use Rattle.nt_edge.specs.declared.host.HostStop.{HostStop}
 use Rattle.nt_edge.specs.declared.host.HostStop.TheVariants.{Read, Write, Memory}
 use Rattle.command_parts.specs.Leaves.{CountsBy, stop_in, stopped_as}

@@ -1,7 +1,7 @@
 -- The words of the faults.
 use Rattle.std.specs.Prelude.{ℕ, List, codes}
-use Rattle.nt_bytes.specs.declared.fault.HiveKind.{HiveKind}
-use Rattle.nt_bytes.specs.declared.fault.HiveKind.TheVariants.{NotRegf, Checksum, Version, FileType, Size, BinSign, BinOffset, BinSize, CellSize, CellPastBin, OutOfRange, FreeCell, Shared, FormShort, FormSign, FormLength, FormName, FormKind, DoubleName, Count, TooDeep, LogAbsent, LogBase, LogSequence, LogDirt, LogShort, Unreadable, LogUnreadable}
+use Rattle.nt_bytes.specs.declared.fault.HiveFaultKind.{HiveFaultKind}
+use Rattle.nt_bytes.specs.declared.fault.HiveFaultKind.TheVariants.{NotRegf, Checksum, Version, FileType, Size, BinSign, BinOffset, BinSize, CellSize, CellPastBin, OutOfRange, FreeCell, Shared, FormShort, FormSign, FormLength, FormName, FormKind, DoubleName, Count, TooDeep, LogAbsent, LogBase, LogSequence, LogDirt, LogShort, Unreadable, LogUnreadable}
 use Rattle.boot_script.specs.declared.stop.ScriptFaultKind.{ScriptFaultKind}
 use Rattle.boot_script.specs.declared.stop.ScriptFaultKind.TheVariants as script
 
@@ -12,7 +12,7 @@ script_kind_word script.Word = codes "word"
 script_kind_word script.Number = codes "number"
 script_kind_word script.TooManyStarts = codes "too-many-starts"
 
-abbrev pub hive_kind_word : HiveKind → List ℕ
+abbrev pub hive_kind_word : HiveFaultKind → List ℕ
 hive_kind_word NotRegf = codes "not-regf"
 hive_kind_word Checksum = codes "checksum"
 hive_kind_word Version = codes "version"

@@ -1,5 +1,5 @@
 -- What a call leaves of the host, and which of its faults it had. This project's own.
-use Rattle.std.specs.Prelude.{◌≡◌, ◌⊎◌, ◌≤◌, ◌+◌, ℕ, zero, suc, true, min, List, Option, Some, None, Result, Ok, Err, IfErr}
+use Rattle.std.specs.Prelude.{◌≡◌, ◌⊎◌, ◌≤◌, ◌+◌, ℕ, zero, suc, true, min, List, [], Option, Some, None, Result, Ok, Err, IfErr}
 use Rattle.nt_edge.specs.Host.{HostState, KeepsHost, KeepsFiles, KeepsCounts, Counts, IsUnsaid}
 use Rattle.nt_edge.specs.declared.host.HostStop.{HostStop}
 use Rattle.nt_edge.specs.declared.host.HostStop.TheVariants.{Read, Write, Memory as NoMemory}
@@ -9,6 +9,8 @@ use Rattle.command_parts.specs.declared.refusal.Refusal.{Refusal}
 use Rattle.command_parts.specs.declared.refusal.Refusal.TheVariants.{Usage}
 use Rattle.command_parts.specs.declared.refusal.Obstacle.{Obstacle}
 use Rattle.command_parts.specs.declared.refusal.Obstacle.TheVariants.{Refused, Stopped}
+use Rattle.nt_edge.specs.Disk.{DiskState}
+use Rattle.command_parts.specs.declared.inputs.HiveFiles.{HiveFiles}
 
 -- the status of a call that the host stopped
 abbrev pub stopped_as : HostStop → Status
@@ -100,3 +102,10 @@ pub record Looks {A : Type 0} (wanted : Result A Refusal) (result : Result A Obs
   pub found : old.tells ≡ true → Gives wanted result
   pub counts : CountsObstacle result old new
   pub unwritten : IfErr result (λ obstacle. obstacle ≡ Stopped Write → ⊥)
+
+-- the disk where a command was stopped: no more files than these were placed and taken, and no stop was ordered
+pub record IsPartDone (files : HiveFiles) (most : ℕ) (disk : DiskState) : Type 0 where
+  pub placed : disk.history.placings ≤ 1 + named files.log
+  pub taken : disk.history.takings ≤ most
+  pub unordered : disk.history.armings ≡ []
+  pub uncut : disk.history.cut_calls ≡ 0

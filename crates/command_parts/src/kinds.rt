@@ -4,7 +4,7 @@ ghost use Rattle.std.specs.Prelude.{◌≡◌};
 ghost use Rattle.command_parts.specs.Kinds.{script_kind_word, hive_kind_word};
 
 use boot_script::ScriptFaultKind;
-use nt_bytes::HiveKind;
+use nt_bytes::HiveFaultKind;
 
 pub(crate) fn script_kind(kind: ScriptFaultKind) -> &'static str
     ensures { result.now ≡ script_kind_word kind }
@@ -18,37 +18,37 @@ pub(crate) fn script_kind(kind: ScriptFaultKind) -> &'static str
     }
 }
 
-pub(crate) fn hive_kind(kind: HiveKind) -> &'static str
+pub(crate) fn hive_kind(kind: HiveFaultKind) -> &'static str
     ensures { result.now ≡ hive_kind_word kind }
 {
     match kind {
-        HiveKind::NotRegf => "not-regf",
-        HiveKind::Checksum => "checksum",
-        HiveKind::Version => "version",
-        HiveKind::FileType => "type",
-        HiveKind::Size => "size",
-        HiveKind::BinSign => "bin-sign",
-        HiveKind::BinOffset => "bin-offset",
-        HiveKind::BinSize => "bin-size",
-        HiveKind::CellSize => "cell-size",
-        HiveKind::CellPastBin => "cell-past-bin",
-        HiveKind::OutOfRange => "out-of-range",
-        HiveKind::FreeCell => "free-cell",
-        HiveKind::Shared => "shared",
-        HiveKind::FormShort => "form-short",
-        HiveKind::FormSign => "form-sign",
-        HiveKind::FormLength => "form-length",
-        HiveKind::FormName => "form-name",
-        HiveKind::FormKind => "form-kind",
-        HiveKind::DoubleName => "double-name",
-        HiveKind::Count => "count",
-        HiveKind::TooDeep => "too-deep",
-        HiveKind::LogAbsent => "log-absent",
-        HiveKind::LogBase => "log-base",
-        HiveKind::LogSequence => "log-sequence",
-        HiveKind::LogDirt => "log-dirt",
-        HiveKind::LogShort => "log-short",
-        HiveKind::Unreadable => "unreadable",
-        HiveKind::LogUnreadable => "log-unreadable",
+        HiveFaultKind::NotRegf => "not-regf",
+        HiveFaultKind::Checksum => "checksum",
+        HiveFaultKind::Version => "version",
+        HiveFaultKind::FileType => "type",
+        HiveFaultKind::Size => "size",
+        HiveFaultKind::BinSign => "bin-sign",
+        HiveFaultKind::BinOffset => "bin-offset",
+        HiveFaultKind::BinSize => "bin-size",
+        HiveFaultKind::CellSize => "cell-size",
+        HiveFaultKind::CellPastBin => "cell-past-bin",
+        HiveFaultKind::OutOfRange => "out-of-range",
+        HiveFaultKind::FreeCell => "free-cell",
+        HiveFaultKind::Shared => "shared",
+        HiveFaultKind::FormShort => "form-short",
+        HiveFaultKind::FormSign => "form-sign",
+        HiveFaultKind::FormLength => "form-length",
+        HiveFaultKind::FormName => "form-name",
+        HiveFaultKind::FormKind => "form-kind",
+        HiveFaultKind::DoubleName => "double-name",
+        HiveFaultKind::Count => "count",
+        HiveFaultKind::TooDeep => "too-deep",
+        HiveFaultKind::LogAbsent => "log-absent",
+        HiveFaultKind::LogBase => "log-base",
+        HiveFaultKind::LogSequence => "log-sequence",
+        HiveFaultKind::LogDirt => "log-dirt",
+        HiveFaultKind::LogShort => "log-short",
+        HiveFaultKind::Unreadable => "unreadable",
+        HiveFaultKind::LogUnreadable => "log-unreadable",
     }
 }

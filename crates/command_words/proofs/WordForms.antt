@@ -3,7 +3,8 @@ use Rattle.std.proofs.Common.{◌≡◌, ◌∙◌, ◌||◌, ℕ, suc, Bool, tr
 use Rattle.std.specs.Prelude.{bytes_eq}
 use Rattle.std.specs.List.{after_first, list_any, position_or_len}
 use Rattle.clap.specs.Lexer.{long_of, short_of}
-use Rattle.command_words.specs.Words.{Text, behind_hyphens, attached_in, begins_with_hyphen, is_empty_text, is_equals, is_hyphen, name_in}
+use Rattle.command_words.specs.Words.{Text, behind_hyphens, attached_in, begins_with_hyphen, is_empty_text, is_hyphen, name_in}
+use Rattle.nt_bytes.specs.Text.{is_equals}
 use Rattle.command_words.specs.Clap.{is_empty_value, is_refused}
 
 -- the two forms of a word that is not refused

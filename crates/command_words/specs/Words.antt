@@ -6,9 +6,9 @@ use Rattle.std.specs.Prelude.{ℕ, ◌==◌, ◌&&◌, ◌++◌, Bool, true, fal
 use Rattle.std.specs.Prelude.{if◌then◌else◌, option_map, option_and_then, unwrap_or, find, length, nat_le, bytes_eq}
 use Rattle.std.specs.List.{list_any, before_first}
 use Rattle.std.specs.Str.Parse.{digits_value}
-use Rattle.nt_bytes.specs.Text.{is_digits}
-use Rattle.command_words.specs.declared.asked.TwinScheme.{TwinScheme}
-use Rattle.command_words.specs.declared.asked.TwinScheme.TheVariants.{Alt, Log}
+use Rattle.nt_bytes.specs.Text.{is_digits, is_equals}
+use Rattle.command_words.specs.declared.asked.AskedScheme.{AskedScheme}
+use Rattle.command_words.specs.declared.asked.AskedScheme.TheVariants.{Alt, Log}
 
 -- the bytes of a word
 abbrev pub Text : Type 0
@@ -24,10 +24,6 @@ is_empty_text (c ∷ cs) = false
 -- the byte is a hyphen
 abbrev pub is_hyphen : ℕ → Bool
 is_hyphen c = c == 45
-
--- the byte is an equals sign
-abbrev pub is_equals : ℕ → Bool
-is_equals c = c == 61
 
 -- the first byte is a hyphen
 abbrev pub begins_with_hyphen : Text → Bool
@@ -151,7 +147,7 @@ pub record ControlAsked : Type 0 where
 pub record TwinAsked : Type 0 where
   pub hive : Text
   pub alt : Option Text
-  pub scheme : TwinScheme
+  pub scheme : AskedScheme
   pub default : Option ℕ
   pub save_hive : Option Text
   pub save_alt : Option Text
@@ -245,7 +241,7 @@ control_by look =
     option_and_then (λ hive. option_map (λ commands. control (control_with look hive commands)) (look (codes "commands"))) (look (codes "hive"))
 
 -- what keeps the hive: `alt` or `log`, and a second copy where it is not said
-abbrev pub scheme_of : Option Text → Option TwinScheme
+abbrev pub scheme_of : Option Text → Option AskedScheme
 scheme_of None = Some Alt
 scheme_of (Some text) =
     if bytes_eq (codes "alt") text then Some Alt
@@ -258,7 +254,7 @@ default_of None = Some None
 default_of (Some text) = option_map (λ n. Some n) (number_of 3 999 text)
 
 -- what the values ask of `twin`, of this hive, kept so, with this number
-abbrev pub twin_with : Look → Text → TwinScheme → Option ℕ → TwinAsked
+abbrev pub twin_with : Look → Text → AskedScheme → Option ℕ → TwinAsked
 twin_with look hive scheme number = record {
   hive = hive;
   alt = look (codes "alt");

@@ -52,7 +52,7 @@ pub struct ControlWords<'a> {
 
 /// What keeps the hive: a second whole copy, or a log.
 #[derive(Clone, Copy, Debug, PartialEq, Eq)]
-pub enum TwinScheme {
+pub enum AskedScheme {
     Alt,
     Log,
 }
@@ -62,7 +62,7 @@ pub enum TwinScheme {
 pub struct TwinWords<'a> {
     pub hive: &'a str,
     pub alt: Option<&'a str>,
-    pub scheme: TwinScheme,
+    pub scheme: AskedScheme,
     pub default: Option<u32>,
     pub save_hive: Option<&'a str>,
     pub save_alt: Option<&'a str>,

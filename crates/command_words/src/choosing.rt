@@ -8,8 +8,8 @@ ghost use Rattle.command_words.specs.Clap.{asked_of, asked_of_rows};
 ghost use Rattle.command_words.specs.Views.{command_seen};
 
 use crate::asked::{
-    Command, ControlWords, ExportWords, ImportWords, MakeWords, RunWords, SafeWords, ShowWords,
-    TwinScheme, TwinWords, USUAL_SYSTEM,
+    AskedScheme, Command, ControlWords, ExportWords, ImportWords, MakeWords, RunWords, SafeWords,
+    ShowWords, TwinWords, USUAL_SYSTEM,
 };
 use crate::count::{count_in, set_number_in};
 use clap::ArgMatches;
@@ -92,25 +92,25 @@ fn control_words<'a>(matches: &ArgMatches<'a>) -> Option<Command<'a>>
     }))
 }
 
-fn scheme_named(name: &str) -> Option<TwinScheme>
+fn scheme_named(name: &str) -> Option<AskedScheme>
     ensures { result ≡ scheme_of (Some name.now) }
 {
     if name == "alt" {
-        return Some(TwinScheme::Alt);
+        return Some(AskedScheme::Alt);
     }
     if name == "log" {
-        return Some(TwinScheme::Log);
+        return Some(AskedScheme::Log);
     }
     None
 }
 
 /// What keeps the hive: a second copy, where it is not said.
-fn scheme_given<'a>(matches: &ArgMatches<'a>) -> Option<TwinScheme>
+fn scheme_given<'a>(matches: &ArgMatches<'a>) -> Option<AskedScheme>
     ensures { result ≡ scheme_of (first_of (codes "scheme") (rows_of (found_of matches.now))) }
 {
     match value(matches, "scheme") {
         Some(name) => scheme_named(name),
-        None => Some(TwinScheme::Alt),
+        None => Some(AskedScheme::Alt),
     }
 }
 

@@ -29,8 +29,8 @@ mod word_texts;
 mod words;
 
 pub use asked::{
-    Command, ControlWords, ExportWords, ImportWords, MakeWords, RunWords, SafeWords, ShowWords,
-    TwinScheme, TwinWords, USUAL_SYSTEM,
+    AskedScheme, Command, ControlWords, ExportWords, ImportWords, MakeWords, RunWords, SafeWords,
+    ShowWords, TwinWords, USUAL_SYSTEM,
 };
 pub use word_texts::texts;
 pub use words::{WordsStop, read_words};

@@ -3,7 +3,7 @@
 use super::*;
 use crate::files::{LOGGED, block, log, primary};
 use hive_log::{log_sectors, recovered};
-use nt_bytes::{HiveFault, HiveKind, ReadStop};
+use nt_bytes::{HiveFault, HiveFaultKind, ReadStop};
 use regf_base::BaseBlock;
 use std::alloc::Global;
 use std::process::Abort;
@@ -35,7 +35,13 @@ fn a_log_has_the_sectors_that_differ(rt: HostRuntime) -> Result<(), Fail> {
 }
 
 /// Two files whose primary is dirty stop at this fault.
-fn stops(rt: &impl Abort, alloc: Global, log: &[u8], kind: HiveKind, at: u32) -> Result<(), Fail> {
+fn stops(
+    rt: &impl Abort,
+    alloc: Global,
+    log: &[u8],
+    kind: HiveFaultKind,
+    at: u32,
+) -> Result<(), Fail> {
     let opened = primary(alloc, &block(6, 5, 0, 4096), 8)?;
     let stop = recovered(alloc, opened.as_slice(), log).err();
     assert_eq!(rt;
@@ -47,7 +53,7 @@ fn stops(rt: &impl Abort, alloc: Global, log: &[u8], kind: HiveKind, at: u32) ->
 }
 
 /// The base block of a log, the front of its bits, how many sectors it has, and the first fault.
-type Broken = (BaseBlock, &'static [u8], u32, HiveKind, u32);
+type Broken = (BaseBlock, &'static [u8], u32, HiveFaultKind, u32);
 
 fn broken(rt: &impl Abort, alloc: Global, rows: &[Broken]) -> Result<(), Fail> {
     for (base, front, run, kind, at) in rows {
@@ -60,40 +66,58 @@ fn broken(rt: &impl Abort, alloc: Global, rows: &[Broken]) -> Result<(), Fail> {
 #[test]
 fn the_first_fault_of_a_log_is_named(rt: HostRuntime) -> Result<(), Fail> {
     let rows: [Broken; 8] = [
-        (block(6, 6, 0, 4096), b"DIRT\x02", 1, HiveKind::LogBase, 28),
-        (block(6, 6, 1, 4097), b"DIRT\x02", 1, HiveKind::LogBase, 40),
+        (
+            block(6, 6, 0, 4096),
+            b"DIRT\x02",
+            1,
+            HiveFaultKind::LogBase,
+            28,
+        ),
+        (
+            block(6, 6, 1, 4097),
+            b"DIRT\x02",
+            1,
+            HiveFaultKind::LogBase,
+            40,
+        ),
         (
             block(7, 7, 1, 4096),
             b"DIRT\x02",
             1,
-            HiveKind::LogSequence,
+            HiveFaultKind::LogSequence,
             4,
         ),
         (
             block(6, 7, 1, 4096),
             b"DIRT\x02",
             1,
-            HiveKind::LogSequence,
+            HiveFaultKind::LogSequence,
             4,
         ),
-        (block(6, 6, 1, 4096), b"", 0, HiveKind::LogShort, 512),
-        (block(6, 6, 1, 4096), b"DIRU\x02", 1, HiveKind::LogDirt, 512),
+        (block(6, 6, 1, 4096), b"", 0, HiveFaultKind::LogShort, 512),
+        (
+            block(6, 6, 1, 4096),
+            b"DIRU\x02",
+            1,
+            HiveFaultKind::LogDirt,
+            512,
+        ),
         (
             block(6, 6, 1, 4096),
             b"DIRT\x02",
             0,
-            HiveKind::LogShort,
+            HiveFaultKind::LogShort,
             1024,
         ),
         (
             block(6, 6, 1, 4096),
             b"DIRT\x06",
             1,
-            HiveKind::LogShort,
+            HiveFaultKind::LogShort,
             1536,
         ),
     ];
-    stops(&rt, rt.alloc(), &[], HiveKind::LogAbsent, 0)?;
+    stops(&rt, rt.alloc(), &[], HiveFaultKind::LogAbsent, 0)?;
     broken(&rt, rt.alloc(), &rows)
 }
 
@@ -103,7 +127,7 @@ fn short(rt: &impl Abort, alloc: Global, second: u32, sectors: u32) -> Result<()
     let primary = primary(alloc, &block(6, second, 0, 4096), sectors)?;
     let stop = recovered(alloc, primary.as_slice(), whole.as_slice()).err();
     let size = ReadStop::Fault(HiveFault {
-        kind: HiveKind::Size,
+        kind: HiveFaultKind::Size,
         at: 40,
     });
     assert_eq!(rt; stop, Some(size), "{second} {sectors}");

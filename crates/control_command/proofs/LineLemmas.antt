@@ -7,7 +7,8 @@ use Rattle.boot_script.specs.declared.stop.ScriptFault.{ScriptFault}
 use Rattle.boot_script.specs.declared.stop.ScriptStop.{ScriptStop}
 use Rattle.boot_script.specs.declared.stop.ScriptStop.TheVariants as stops
 use Rattle.control_command.specs.declared.command.ControlCommand.{ControlCommand}
-use Rattle.control_command.specs.Commands.{put_before, commands_from, TakesLine, RefusesLine, FailsBy}
+use Rattle.control_command.specs.Commands.{commands_from, TakesLine, RefusesLine}
+use Rattle.boot_script.specs.Script.{FailsBy, put_before}
 
 regroup : (front adds : List ControlCommand) (read : Result (List ControlCommand) ScriptFault)
     → put_before front (put_before adds read) ≡ put_before (front ++ adds) read

@@ -14,6 +14,7 @@ use Rattle.boot_script.specs.declared.stop.ScriptStop.TheVariants as stops
 use Rattle.boot_script.specs.Words.{◌>>=◌, words_of, without_spaces}
 use Rattle.control_command.specs.declared.command.ControlCommand.{ControlCommand}
 use Rattle.control_command.specs.declared.command.ControlCommand.TheVariants.{Start, Stop, StopAll, Listing}
+use Rattle.boot_script.specs.Script.{at_line, put_before, FailsBy}
 
 -- the command of one word, or of a word and a name
 abbrev pub alone_of : List ℕ → Result ControlCommand ScriptFaultKind
@@ -41,13 +42,6 @@ trimmed_command (c ∷ line) = if c == 35 then Ok None else (words_of (c ∷ lin
 abbrev pub line_command : List ℕ → Result (Option ControlCommand) ScriptFaultKind
 line_command line = trimmed_command (without_spaces line)
 
-abbrev pub at_line : {A : Type 0} → ℕ → ScriptFaultKind → Result A ScriptFault
-at_line n kind = Err (record { kind = kind; line = n })
-
-abbrev pub put_before : List ControlCommand → Result (List ControlCommand) ScriptFault → Result (List ControlCommand) ScriptFault
-put_before front (Ok commands) = Ok (front ++ commands)
-put_before front (Err f) = Err f
-
 -- what a line gives, and what follows it
 abbrev pub after_line : ℕ → Result (Option ControlCommand) ScriptFaultKind → Result (List ControlCommand) ScriptFault → Result (List ControlCommand) ScriptFault
 after_line n (Err kind) next = at_line n kind
@@ -63,10 +57,6 @@ unfoldable pub commands_of : List ℕ → Result (List ControlCommand) ScriptFau
 commands_of text = if nat_lt 65536 (length text) then at_line 0 TooLong else commands_from 1 (lines text)
 
 -- ---- what a function of the code returned, against what the grammar gives
-
-abbrev pub FailsBy : ScriptStop → Result (List ControlCommand) ScriptFault → Type 0
-FailsBy stops.Memory read = Unit {0}
-FailsBy (stops.Fault f) read = read ≡ Err f
 
 -- the commands were read, or the first fault is this, or there was no memory
 abbrev pub GivesCommands : Result (List ControlCommand) ScriptStop → Result (List ControlCommand) ScriptFault → Type 0

@@ -1,7 +1,7 @@
 -- The services of a set have names that differ.
-use Rattle.std.proofs.Common.{◌≡◌, ℕ, zero, suc, ◌<◌, Bool, true, false, cond, List, [], ◌∷◌, length, get_or, map, Option, Some, None, refl, sym, ap, ◌∙◌, subst, arith}
+use Rattle.std.proofs.Common.{◌≡◌, ℕ, zero, suc, ◌<◌, Bool, true, false, cond, List, [], ◌∷◌, get_or, map, Option, Some, None, refl, sym, ap, ◌∙◌, subst, arith}
 use Rattle.std.specs.Prelude.{Contains, slice_get, codes}
-use Rattle.std.specs.List.{filter_map, cons_option}
+use Rattle.std.specs.List.{filter_map}
 use Rattle.std.specs.Option.{option_map_or}
 use Rattle.std.proofs.lemmas.Bool.{false≢true}
 use Rattle.std.proofs.lemmas.List.{get_or_default}
@@ -20,29 +20,11 @@ use Rattle.service_control.specs.First.{is_controlled, controlled, table_of, ran
 use Rattle.service_control.specs.Calls.{start_refusal, stop_refusal, off_refusal, after_start, after_stop, after_stop_all}
 use Rattle.service_control.specs.Laws.{Call, start, stop, stop_all, after_call, after_calls, NamesDiffer, IsLeast}
 use Rattle.service_control.specs.declared.stop.ControlStop.{ControlStop}
-use Rattle.service_control.proofs.LeastLemmas.{a_least_start, from_at}
+use Rattle.service_control.proofs.LeastLemmas.{a_least_start, from}
 use Rattle.control_command.specs.declared.command.ControlCommand.{ControlCommand}
 use Rattle.control_command.specs.Report.{default_set}
 use Rattle.control_laws.specs.Called.{all_calls_by, control_behind}
 use Rattle.hive_model.proofs.HeldLemmas.{held_key}
-
--- ---- where an entry comes from
-
-record From {X Y : Type 0} (h : X → Option Y) (xs : List X) (y : Y) : Type 0 where
-  item : X
-  there : Contains xs item
-  is : h item ≡ Some y
-
-    by : (o : Option Y) → h x ≡ o
-        → ((j : ℕ) → j < length (filter_map h xs) → get_or (filter_map h xs) j y ≡ y → From h xs y)
-        → (k : ℕ) → k < length (cons_option o (filter_map h xs)) → get_or (cons_option o (filter_map h xs)) k y ≡ y
-        → From h (x ∷ xs) y
-    by None is rest k lt e = further (rest k lt e)
-    by (Some z) is rest zero lt e = record { item = x; there = (0, omega arith, refl); is = is ∙ ap Some e }
-    by (Some z) is rest (suc k) lt e = further (rest k (omega (arith, lt)) e)
-
-from : {X Y : Type 0} (h : X → Option Y) (xs : List X) (y : Y) → Contains (filter_map h xs) y → From h xs y
-from h xs y c = from_at h xs y c.0 c.1 c.2
 
 -- a service of the table, by group, is one of the table
 of_table : (table : List Need) (places : List ℕ) (n : Need) → Contains (filter_map (slice_get table) places) n

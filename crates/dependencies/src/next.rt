@@ -14,8 +14,7 @@ use nt_bytes::Units;
 pub fn ready(needs: &Need, started: &Started) -> bool
     ensures { result ≡ is_ready started.now needs.now }
 {
-    services_met(needs.services.as_slice(), started)
-        && groups_met(needs.groups.as_slice(), started)
+    services_met(needs.services.as_slice(), started) && groups_met(needs.groups.as_slice(), started)
 }
 
 /// Whether each of these names was started.

@@ -4,8 +4,8 @@ use Rattle.std.specs.Prelude.{◌⊎◌, ◌==◌, if◌then◌else◌}
 use Rattle.std.specs.List.{list_any}
 use Rattle.std.proofs.lemmas.Bool.{eq-eqb, or_parts}
 use Rattle.nt_bytes.specs.Folding.{folds_same}
-use Rattle.nt_bytes.specs.declared.fault.HiveKind.{HiveKind}
-use Rattle.nt_bytes.specs.declared.fault.HiveKind.TheVariants.{Count, DoubleName}
+use Rattle.nt_bytes.specs.declared.fault.HiveFaultKind.{HiveFaultKind}
+use Rattle.nt_bytes.specs.declared.fault.HiveFaultKind.TheVariants.{Count, DoubleName}
 use Rattle.hive_model.specs.Bins.{Cells}
 use Rattle.hive_model.specs.KeyNode.{KeyNode, key_node_at}
 use Rattle.hive_model.specs.KeyValue.{KeyValue, key_value_at}
@@ -133,7 +133,7 @@ tag_append xs ys T U t u = record { used = used; apart = apart }
     apart before h p q r k o (inr a) (inl b) = inr (let m = mixed before h q p k r o b a in (m.1, m.0))
     apart before h p q r k o (inr a) (inr b) = u.apart (before ++ xs) (once_right before xs ys h) p q r k o a b
 
-tag_test : (at : ℕ) (w : Option HiveKind) (cs : List Check) (T : List (List ℕ) → Role → ℕ → Type 0) → IsTagged cs T
+tag_test : (at : ℕ) (w : Option HiveFaultKind) (cs : List Check) (T : List (List ℕ) → Role → ℕ → Type 0) → IsTagged cs T
     → IsTagged (tests at w ∷ cs) T
 tag_test at w cs T t = record {
   used = λ p r o h. let v = t.used p r o h in record { way = v.way; used = inr v.used; only = v.only };
@@ -146,17 +146,19 @@ tag_choice true cs T some t = tag_empty [] T (λ p r o h. let e = some p r o h i
 tag_choice false cs T some t = t
 
 -- what was read, and an entry by it
-abbrev Below : {F : Type 0} → Result F HiveKind → (F → List (List ℕ) → Role → ℕ → Type 0) → List (List ℕ) → Role → ℕ
+abbrev Below : {F : Type 0} → Result F HiveFaultKind → (F → List (List ℕ) → Role → ℕ → Type 0) → List (List ℕ) → Role
+    → ℕ
     → Type 0
 Below {F} read T p r o = (x : F) × (read ≡ Ok x) × T x p r o
 
-abbrev done : {F : Type 0} → F → Result F HiveKind
+abbrev done : {F : Type 0} → F → Result F HiveFaultKind
 done x = Ok x
 
 same_ok : {F : Type 0} (x y : F) → done x ≡ done y → x ≡ y
 same_ok x y e = cc
 
-tag_read : {F : Type 0} (read : Result F HiveKind) (below : F → List Check) (T : F → List (List ℕ) → Role → ℕ → Type 0)
+tag_read : {F : Type 0} (read : Result F HiveFaultKind) (below : F → List Check) (T : F → List (List ℕ) → Role → ℕ
+    → Type 0)
     → ((x : F) → IsTagged (below x) (T x)) → IsTagged (below_of read below) (Below read T)
 tag_read {F} (Ok x) below T t =
     tag_from (below x) (T x) (Below (Ok x) T) (λ p r o h. subst (λ (z : F). T z p r o) (sym (same_ok x h.0 h.1)) h.2)
@@ -358,13 +360,14 @@ tag_child_part left checks cells n at read each = go (n.child_count == 0) refl (
         (of_node_is cells at n (λ m. if m.child_count == 0 then [] else used_in (entries_checks cells m.child_list))
         read) h)
 
-    places : (b : Bool) (e : Result (List ℕ) HiveKind) → (n.child_count == 0) ≡ b → entries_at cells n.child_list ≡ e
+    places : (b : Bool) (e : Result (List ℕ) HiveFaultKind) → (n.child_count == 0) ≡ b
+        → entries_at cells n.child_list ≡ e
         → child_places cells at ≡ cond b [] (of_read e (λ os. os))
     places b e z w =
         of_node_is cells at n (λ m. if m.child_count == 0 then [] else of_read (entries_at cells m.child_list)
         (λ os. os)) read
         ∙ ap (λ (c : Bool). cond c [] (of_read (entries_at cells n.child_list) (λ os. os))) z
-        ∙ ap (λ (q : Result (List ℕ) HiveKind). cond b [] (of_read q (λ os. os))) w
+        ∙ ap (λ (q : Result (List ℕ) HiveFaultKind). cond b [] (of_read q (λ os. os))) w
 
     lists_only : (T : List (List ℕ) → Role → ℕ → Type 0) → (n.child_count == 0) ≡ false → (ys : List Check)
         → IsTagged ys T
@@ -385,7 +388,7 @@ tag_child_part left checks cells n at read each = go (n.child_count == 0) refl (
     never b e z p r o (inl h) = let w = (lists_there o h.2).0 in let f : true ≡ false = sym z ∙ w in cc
     never b e z p r o (inr h) = subst (λ (xs : List ℕ). In xs h.0) e h.2
 
-    go : (b : Bool) → (n.child_count == 0) ≡ b → (e : Result (List ℕ) HiveKind) → entries_at cells n.child_list ≡ e
+    go : (b : Bool) → (n.child_count == 0) ≡ b → (e : Result (List ℕ) HiveFaultKind) → entries_at cells n.child_list ≡ e
         → IsTagged (cond b [] (entries_checks cells n.child_list ++ below_of e (counted checks cells n at)))
         (ChildPart left cells at)
     go true z e w = tag_empty [] (ChildPart left cells at) (never true (places true e z w) z)
@@ -476,7 +479,7 @@ tag_walk (suc left) cells root names at n all read =
     let part1 : IsTagged (below_of (reading (node_at root) cells at) inside)
     (Either (Own (class_checks cells n) [] class)
     (Either (Own (security_checks cells n) [] security) (Either (ValuePart cells at) (ChildPart left cells at)))) =
-    subst (λ (q : Result KeyNode HiveKind). IsTagged (below_of q inside)
+    subst (λ (q : Result KeyNode HiveFaultKind). IsTagged (below_of q inside)
     (Either (Own (class_checks cells n) [] class)
     (Either (Own (security_checks cells n) [] security) (Either (ValuePart cells at) (ChildPart left cells at)))))
     (sym read)

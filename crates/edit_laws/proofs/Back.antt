@@ -4,8 +4,8 @@ use Rattle.std.specs.Prelude.{find, not, ◌==◌, if◌then◌else◌, option_a
 use Rattle.std.specs.List.{list_any}
 use Rattle.std.specs.Option.{option_map_or}
 use Rattle.nt_bytes.specs.Folding.{folds_same}
-use Rattle.nt_bytes.specs.declared.fault.HiveKind.{HiveKind}
-use Rattle.nt_bytes.specs.declared.fault.HiveKind.TheVariants.{Count}
+use Rattle.nt_bytes.specs.declared.fault.HiveFaultKind.{HiveFaultKind}
+use Rattle.nt_bytes.specs.declared.fault.HiveFaultKind.TheVariants.{Count}
 use Rattle.hive_model.specs.Bins.{Cells}
 use Rattle.hive_model.specs.KeyNode.{KeyNode, key_node_at}
 use Rattle.hive_model.specs.KeyValue.{KeyValue, key_value_at}
@@ -20,12 +20,12 @@ use Rattle.edit_laws.proofs.Out.{named_so, plain_node, of_node_is, value_told}
 
 -- ---- paths
 
-pub named_back : {F : Type 0} (name : List ℕ) (view : F → List ℕ) (r : Result F HiveKind) (x : F) → r ≡ Ok x
+pub named_back : {F : Type 0} (name : List ℕ) (view : F → List ℕ) (r : Result F HiveFaultKind) (x : F) → r ≡ Ok x
     → folds_same name (first_or_empty (names_of view r)) ≡ true → list_any (folds_same name) (names_of view r) ≡ true
 named_back {F} name view r x is e =
-    subst (λ (q : Result F HiveKind). list_any (folds_same name) (names_of view q) ≡ true) (sym is)
+    subst (λ (q : Result F HiveFaultKind). list_any (folds_same name) (names_of view q) ≡ true) (sym is)
     (go (folds_same name (view x))
-    (subst (λ (q : Result F HiveKind). folds_same name (first_or_empty (names_of view q)) ≡ true) is e))
+    (subst (λ (q : Result F HiveFaultKind). folds_same name (first_or_empty (names_of view q)) ≡ true) is e))
   where
     go : (b : Bool) → b ≡ true → list_any (λ (c : Bool). c) (b ∷ []) ≡ true
     go true e = refl
@@ -109,13 +109,13 @@ used_plain cs o role never h =
     let u = used_to cs o h in record { way = u.0; used = u.1; security = λ s. absurd (never s) }
 
 -- what is listed of children and of values is in a list that reads
-pub record IsListed (b : Bool) (r : Result (List ℕ) HiveKind) (x : ℕ) : Type 0 where
+pub record IsListed (b : Bool) (r : Result (List ℕ) HiveFaultKind) (x : ℕ) : Type 0 where
   pub some : b ≡ false
   pub offsets : List ℕ
   pub read : r ≡ Ok offsets
   pub listed : In offsets x
 
-listed_in : (b : Bool) (r : Result (List ℕ) HiveKind) (x : ℕ) → In (cond b [] (of_read r (λ offsets. offsets))) x
+listed_in : (b : Bool) (r : Result (List ℕ) HiveFaultKind) (x : ℕ) → In (cond b [] (of_read r (λ offsets. offsets))) x
     → IsListed b r x
 listed_in true r x h = absurd h
 listed_in false (Ok offsets) x h = record { some = refl; offsets = offsets; read = refl; listed = h }

@@ -1,7 +1,7 @@
 -- Values of a key go and others come in their place: the key gets the values that are then in its list.
 use Rattle.std.proofs.Common.{◌≡◌, ℕ, suc, ◌-◌, ◌<◌, Bool, true, false, cond, List, [], ◌∷◌, ◌++◌, length, refl, sym, ◌∙◌, ap, subst, inl, inr, ⊎_elim, Result, Ok, arith, append_assoc}
 use Rattle.std.specs.Prelude.{◌⊎◌, MatchBool, ◌==◌, if◌then◌else◌, flat_map}
-use Rattle.nt_bytes.specs.declared.fault.HiveKind.{HiveKind}
+use Rattle.nt_bytes.specs.declared.fault.HiveFaultKind.{HiveFaultKind}
 use Rattle.hive_model.specs.Bins.{Cells}
 use Rattle.hive_model.specs.Forms.{◌>>=◌}
 use Rattle.hive_model.specs.KeyNode.{KeyNode, key_node_at}
@@ -130,7 +130,7 @@ pub record ReadsBoth (cells : Cells) (xs ys : List ℕ) (items : List Item) : Ty
   pub second : items_at cells ys ≡ Ok right
   pub whole : items ≡ left ++ right
 
-abbrev done : {A : Type 0} → A → Result A HiveKind
+abbrev done : {A : Type 0} → A → Result A HiveFaultKind
 done x = Ok x
 
 pub items_both : (cells : Cells) (xs ys : List ℕ) (items : List Item) → items_at cells (xs ++ ys) ≡ Ok items
@@ -144,8 +144,8 @@ items_both cells (x ∷ xs) ys items e =
     record {
       left = one.0 ∷ r.left;
       right = r.right;
-      first = ap (λ (q : Result Item HiveKind). q >>= λ item. items_at cells xs >>= λ others. Ok (item ∷ others)) one.1
-          ∙ ap (λ (q : Result (List Item) HiveKind). q >>= λ others. Ok (one.0 ∷ others)) r.first;
+      first = ap (λ (q : Result Item HiveFaultKind). q >>= λ v. items_at cells xs >>= λ vs. Ok (v ∷ vs)) one.1
+          ∙ ap (λ (q : Result (List Item) HiveFaultKind). q >>= λ others. Ok (one.0 ∷ others)) r.first;
       second = r.second;
       whole = sym (ok_items (one.0 ∷ others.0) items others.2) ∙ ap (λ (l : List Item). one.0 ∷ l) r.whole;
     }
@@ -156,8 +156,9 @@ both_items cells [] ys left right e f = f ∙ ap (λ (l : List Item). done (l ++
 both_items cells (x ∷ xs) ys left right e f =
     let one = first_part (item_at cells x) (λ item. items_at cells xs >>= λ others. Ok (item ∷ others)) left e in
     let others = first_part (items_at cells xs) (λ others. Ok (one.0 ∷ others)) left one.2 in
-    ap (λ (q : Result Item HiveKind). q >>= λ item. items_at cells (xs ++ ys) >>= λ others. Ok (item ∷ others)) one.1
-    ∙ ap (λ (q : Result (List Item) HiveKind). q >>= λ others. Ok (one.0 ∷ others))
+    ap (λ (q : Result Item HiveFaultKind). q >>= λ item. items_at cells (xs
+    ++ ys) >>= λ others. Ok (item ∷ others)) one.1
+    ∙ ap (λ (q : Result (List Item) HiveFaultKind). q >>= λ others. Ok (one.0 ∷ others))
     (both_items cells xs ys others.0 right others.1 f)
     ∙ ap (λ (l : List Item). done (l ++ right)) (ok_items (one.0 ∷ others.0) left others.2)
 
@@ -171,7 +172,7 @@ listed_values cells n offsets l = go (n.value_count == 0) l
         → cond b (Ok []) (reading (offsets_in n.value_count) cells n.value_list >>= items_at cells)
         ≡ items_at cells offsets
     go true e = ap (items_at cells) (sym e)
-    go false e = ap (λ (q : Result (List ℕ) HiveKind). q >>= items_at cells) e
+    go false e = ap (λ (q : Result (List ℕ) HiveFaultKind). q >>= items_at cells) e
 
 pub listed_places : (cells : Cells) (at : ℕ) (n : KeyNode) (offsets : List ℕ) → reading key_node_at cells at ≡ Ok n
     → ListsValues cells n offsets → value_places cells at ≡ offsets
@@ -184,7 +185,7 @@ listed_places cells at n offsets read l =
     go : (b : Bool) → MatchBool b (offsets ≡ []) (reading (offsets_in n.value_count) cells n.value_list ≡ Ok offsets)
         → cond b [] (of_read (reading (offsets_in n.value_count) cells n.value_list) (λ os. os)) ≡ offsets
     go true e = sym e
-    go false e = ap (λ (q : Result (List ℕ) HiveKind). of_read q (λ os. os)) e
+    go false e = ap (λ (q : Result (List ℕ) HiveFaultKind). of_read q (λ os. os)) e
 
 -- ---- the change
 

@@ -2,7 +2,7 @@
 use Rattle.std.proofs.Common.{◌≡◌, ℕ, zero, suc, ◌+◌, ◌<◌, Bool, true, false, List, [], ◌∷◌, ◌++◌, length, refl, sym, ◌∙◌, ap, subst, inl, inr, ⊎_elim, Result, Ok, arith, append_assoc}
 use Rattle.std.specs.Prelude.{◌⊎◌, Contains, flat_map}
 use Rattle.nt_bytes.specs.Folding.{folds_same}
-use Rattle.nt_bytes.specs.declared.fault.HiveKind.{HiveKind}
+use Rattle.nt_bytes.specs.declared.fault.HiveFaultKind.{HiveFaultKind}
 use Rattle.hive_model.specs.Bins.{Cells}
 use Rattle.hive_model.specs.Tree.{Tree, Trees, key, listed, Head, head}
 use Rattle.hive_model.specs.KeyNode.{KeyNode}
@@ -120,9 +120,9 @@ come_keeps b c root t p x left front put back counted well h g q y k = go (cases
   where
     here : node_name c x ≡ node_name b x
     here =
-        ap (λ (r : Result KeyNode HiveKind). first_or_empty (names_of (λ (n : KeyNode). n.name) r)) g.read_new
+        ap (λ (r : Result KeyNode HiveFaultKind). first_or_empty (names_of (λ (n : KeyNode). n.name) r)) g.read_new
         ∙ ap (λ (m : List ℕ). first_or_empty (m ∷ [])) g.same.name
-        ∙ sym (ap (λ (r : Result KeyNode HiveKind). first_or_empty (names_of (λ (n : KeyNode). n.name) r)) g.read)
+        ∙ sym (ap (λ (r : Result KeyNode HiveFaultKind). first_or_empty (names_of (λ (n : KeyNode). n.name) r)) g.read)
 
     go : (y ≡ x) ⊎ (y ≡ x → ⊥) → node_name c y ≡ node_name b y
     go (inl e) = ap (node_name c) e ∙ here ∙ ap (node_name b) (sym e)

@@ -2,7 +2,7 @@
 use Rattle.std.proofs.Common.{◌≡◌, ℕ, suc, ◌+◌, Bool, true, false, List, [], ◌∷◌, ◌++◌, length, refl, sym, ◌∙◌, ap, subst, inl, inr, ⊎_elim, Result, Ok, arith, length-append}
 use Rattle.std.specs.Prelude.{◌⊎◌, Contains, flat_map}
 use Rattle.nt_bytes.specs.Folding.{folds_same}
-use Rattle.nt_bytes.specs.declared.fault.HiveKind.{HiveKind}
+use Rattle.nt_bytes.specs.declared.fault.HiveFaultKind.{HiveFaultKind}
 use Rattle.hive_model.specs.Bins.{Cells}
 use Rattle.hive_model.specs.Tree.{Tree, Trees, key, Head}
 use Rattle.hive_model.specs.KeyNode.{KeyNode}
@@ -118,9 +118,9 @@ module _ (b c : Cells) (root : ℕ) (tb : Tree) (parent p : List (List ℕ)) (na
 
   key_name : node_name c x ≡ node_name b x
   key_name =
-      ap (λ (r : Result KeyNode HiveKind). first_or_empty (names_of (λ (n : KeyNode). n.name) r)) d.changes.read_new
+      ap (λ (r : Result KeyNode HiveFaultKind). first_or_empty (names_of (λ n. n.name) r)) d.changes.read_new
       ∙ ap (λ (m : List ℕ). first_or_empty (m ∷ [])) d.changes.same.name
-      ∙ sym (ap (λ (r : Result KeyNode HiveKind). first_or_empty (names_of (λ (n : KeyNode). n.name) r)) d.changes.read)
+      ∙ sym (ap (λ (r : Result KeyNode HiveFaultKind). first_or_empty (names_of (λ n. n.name) r)) d.changes.read)
 
   -- a key that does not go keeps its name
   keeps_name : (q : List (List ℕ)) (w : ℕ) → Reaches b root q w → (IsGone b p (y ∷ []) q → ⊥)

@@ -3,7 +3,7 @@ use Rattle.std.proofs.Common.{◌≡◌, ℕ, suc, Bool, true, false, cond, List
 use Rattle.std.specs.Prelude.{◌⊎◌, MatchBool, ◌==◌, if◌then◌else◌, is_some}
 use Rattle.std.proofs.lemmas.List.{append-nil}
 use Rattle.std.proofs.lemmas.Bool.{ne_eqb}
-use Rattle.nt_bytes.specs.declared.fault.HiveKind.{HiveKind}
+use Rattle.nt_bytes.specs.declared.fault.HiveFaultKind.{HiveFaultKind}
 use Rattle.hive_model.specs.Bins.{Cells}
 use Rattle.hive_model.specs.Size.{is_big}
 use Rattle.hive_model.specs.Tree.{Tree, Item}
@@ -35,16 +35,16 @@ pub item_is : (cells : Cells) (v : ℕ) (k : KeyValue) (bytes : List ℕ) → re
     → data_of cells k ≡ Ok bytes → item_at cells v ≡ Ok (item k.name k.kind bytes)
 unfolding item_at
 item_is cells v k bytes read held =
-    ap (λ (r : Result KeyValue HiveKind). r >>= λ value. data_of cells value >>= λ d. Ok (item value.name value.kind d))
+    ap (λ (r : Result KeyValue HiveFaultKind). r >>= λ u. data_of cells u >>= λ d. Ok (item u.name u.kind d))
     read
-    ∙ ap (λ (r : Result (List ℕ) HiveKind). r >>= λ d. Ok (item k.name k.kind d)) held
+    ∙ ap (λ (r : Result (List ℕ) HiveFaultKind). r >>= λ d. Ok (item k.name k.kind d)) held
 
 -- a value's cell, then those of its data
 pub value_uses : (cells : Cells) (v : ℕ) (k : KeyValue) → reading key_value_at cells v ≡ Ok k
     → used_in (value_checks cells [] v) ≡ v ∷ used_in (data_checks cells k)
 unfolding value_checks
 value_uses cells v k read =
-    ap (λ (r : Result KeyValue HiveKind). v
+    ap (λ (r : Result KeyValue HiveFaultKind). v
     ∷ used_in (below_of r (λ value. name_check [] v value.name ∷ data_checks cells value))) read
 
 -- data that the value holds have no cell
@@ -97,11 +97,11 @@ data_in_segments cells k e large = (
 pub name_of_value : (cells : Cells) (v : ℕ) (k : KeyValue) → reading key_value_at cells v ≡ Ok k
     → value_name cells v ≡ k.name
 name_of_value cells v k read =
-    ap (λ (r : Result KeyValue HiveKind). first_or_empty (names_of (λ (n : KeyValue). n.name) r)) read
+    ap (λ (r : Result KeyValue HiveFaultKind). first_or_empty (names_of (λ (n : KeyValue). n.name) r)) read
 
 one_item : (cells : Cells) (v : ℕ) (i : Item) → item_at cells v ≡ Ok i → items_at cells (v ∷ []) ≡ Ok (i ∷ [])
 one_item cells v i e =
-    ap (λ (r : Result Item HiveKind). r >>= λ one. items_at cells [] >>= λ others. Ok (one ∷ others)) e
+    ap (λ (r : Result Item HiveFaultKind). r >>= λ one. items_at cells [] >>= λ others. Ok (one ∷ others)) e
 
 -- ---- a list of values
 
@@ -120,12 +120,12 @@ lists_some cells at n front back v read places =
     not_empty [] e = cc
     not_empty (x ∷ front) e = cc
 
-    go : (b : Bool) (r : Result (List ℕ) HiveKind) → cond b [] (of_read r (λ os. os)) ≡ front ++ v ∷ back
+    go : (b : Bool) (r : Result (List ℕ) HiveFaultKind) → cond b [] (of_read r (λ os. os)) ≡ front ++ v ∷ back
         → (b ≡ false) × (r ≡ Ok (front ++ v ∷ back))
     go true r e = absurd (not_empty front e)
     go false (Ok os) e = (refl, ap (λ (l : List ℕ). ok l) e)
       where
-        ok : List ℕ → Result (List ℕ) HiveKind
+        ok : List ℕ → Result (List ℕ) HiveFaultKind
         ok l = Ok l
     go false (Err k) e = absurd (not_empty front e)
 
@@ -302,7 +302,7 @@ module _ (b c : Cells) (root : ℕ) (t : Tree) (p : List (List ℕ)) (x : ℕ) (
       old = n;
       new = g.node.new;
       read = read;
-      read_new = ap (λ (r : Result (List ℕ) HiveKind). r >>= key_node_at) g.there ∙ g.node.read;
+      read_new = ap (λ (r : Result (List ℕ) HiveFaultKind). r >>= key_node_at) g.there ∙ g.node.read;
       same = g.node.same;
       listed = places;
       listed_new = lists (front ++ back) refl;
@@ -315,7 +315,7 @@ module _ (b c : Cells) (root : ℕ) (t : Tree) (p : List (List ℕ)) (x : ℕ) (
     }
       where
         read_new : reading key_node_at c x ≡ Ok g.node.new
-        read_new = ap (λ (r : Result (List ℕ) HiveKind). r >>= key_node_at) g.there ∙ g.node.read
+        read_new = ap (λ (r : Result (List ℕ) HiveFaultKind). r >>= key_node_at) g.there ∙ g.node.read
 
         none : (os : List ℕ) → os ≡ [] → front ++ back ≡ os → (g.node.new.value_count == 0) ≡ true
         none os e f = ap (λ (m : ℕ). m == 0) (g.node.count_is ∙ ap (λ (l : List ℕ). length l) (f ∙ e))
@@ -384,7 +384,7 @@ module _ (b c : Cells) (root : ℕ) (t : Tree) (p : List (List ℕ)) (x : ℕ) (
   }
     where
       read_new : reading key_node_at c x ≡ Ok g.node.new
-      read_new = ap (λ (r : Result (List ℕ) HiveKind). r >>= key_node_at) g.there ∙ g.node.read
+      read_new = ap (λ (r : Result (List ℕ) HiveFaultKind). r >>= key_node_at) g.there ∙ g.node.read
 
       some : (g.node.new.value_count == 0) ≡ false
       some = counted_some g.node.new.value_count (length offsets) g.node.count_is

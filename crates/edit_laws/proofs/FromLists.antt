@@ -3,7 +3,7 @@ use Rattle.std.proofs.Common.{◌≡◌, ℕ, suc, ◌+◌, ◌<◌, ◌≤◌, 
 use Rattle.std.specs.Prelude.{◌⊎◌, MatchBool, ◌==◌, slice_range, if◌then◌else◌, flat_map}
 use Rattle.std.specs.Int.{w16, w32, w64, from_le_bytes}
 use Rattle.std.proofs.lemmas.List.{append-nil}
-use Rattle.nt_bytes.specs.declared.fault.HiveKind.{HiveKind}
+use Rattle.nt_bytes.specs.declared.fault.HiveFaultKind.{HiveFaultKind}
 use Rattle.hive_model.specs.Bins.{Cells}
 use Rattle.hive_model.specs.Tree.{Tree, head}
 use Rattle.hive_model.specs.Edit.{new_key}
@@ -101,7 +101,8 @@ children_written p n count volatile list e c l =
           (in_part 20 (three_numbers count volatile list) p 0 4 (omega (arith, t)) (omega arith))
           ∙ from_le_bytes-to_le_bytes_4 count c;
       list_is = ap (from_le_bytes w32)
-          (in_part 20 (three_numbers count volatile list) p 8 4 (omega (arith, t)) (omega arith)) ∙ from_le_bytes-to_le_bytes_4 list l;
+          (in_part 20 (three_numbers count volatile list) p 8 4 (omega (arith, t)) (omega arith))
+          ∙ from_le_bytes-to_le_bytes_4 list l;
     }
 
 -- ---- the lists
@@ -149,7 +150,7 @@ inserts_child b c root x left n front back y q list counted read places g = reco
 }
   where
     read_new : reading key_node_at c x ≡ Ok g.node.new
-    read_new = ap (λ (r : Result (List ℕ) HiveKind). r >>= key_node_at) g.there ∙ g.node.read
+    read_new = ap (λ (r : Result (List ℕ) HiveFaultKind). r >>= key_node_at) g.there ∙ g.node.read
 
     some : (g.node.new.child_count == 0) ≡ false
     some = counted_some g.node.new.child_count (length (front ++ back)) (g.node.count_is ∙ length_more front y back)
@@ -184,7 +185,7 @@ removes_child b c root x left n front back y q list counted read places g = reco
 }
   where
     read_new : reading key_node_at c x ≡ Ok g.node.new
-    read_new = ap (λ (r : Result (List ℕ) HiveKind). r >>= key_node_at) g.there ∙ g.node.read
+    read_new = ap (λ (r : Result (List ℕ) HiveFaultKind). r >>= key_node_at) g.there ∙ g.node.read
 
     none : (os : List ℕ) → os ≡ [] → front ++ back ≡ os → (g.node.new.child_count == 0) ≡ true
     none os e f = ap (λ (m : ℕ). m == 0) (g.node.count_is ∙ ap (λ (l : List ℕ). length l) (f ∙ e))
@@ -235,8 +236,8 @@ kept_descriptor b c root t changes well keeps o s =
     (subst (λ (l : List (ℕ × Bool)). In l (o, true)) (sym e) (secure_there b root t o well s)) in
     let k = keeps o (contains_from (security_used_in (key_checks 512 b true [] root)) o
     (security_from (key_checks 512 b true [] root) o i)) in
-    ap (λ (r : Result SecurityCell HiveKind). r >>= λ d. Ok d.descriptor) k.stays
-    ∙ sym (ap (λ (r : Result SecurityCell HiveKind). r >>= λ d. Ok d.descriptor) k.was)
+    ap (λ (r : Result SecurityCell HiveFaultKind). r >>= λ d. Ok d.descriptor) k.stays
+    ∙ sym (ap (λ (r : Result SecurityCell HiveFaultKind). r >>= λ d. Ok d.descriptor) k.was)
 
 -- ---- a key without values and children
 

@@ -1,7 +1,7 @@
 -- Each cell that is owned in well-formed cells is held.
 use Rattle.std.proofs.Common.{◌≡◌, ℕ, Bool, true, false, cond, List, [], ◌∷◌, ◌++◌, length, subst, inl, inr, ⊎_elim, Option, Some, None, Result, Ok}
 use Rattle.std.specs.Prelude.{◌-◌, MatchBool, ◌==◌, if◌then◌else◌, is_some}
-use Rattle.nt_bytes.specs.declared.fault.HiveKind.{HiveKind}
+use Rattle.nt_bytes.specs.declared.fault.HiveFaultKind.{HiveFaultKind}
 use Rattle.hive_model.specs.Bins.{Cells}
 use Rattle.hive_model.specs.Size.{segment_bytes, is_big, segment_part}
 use Rattle.hive_model.specs.Forms.{◌>>=◌, bytes_in}
@@ -23,7 +23,7 @@ use Rattle.edit_laws.proofs.Untouched.{AreHeld}
 abbrev pub Held : Cells → ℕ → Type 0
 Held cells o = (q : List ℕ) × (cells.payload o ≡ Ok q)
 
-pub held_by : {F : Type 0} (form : List ℕ → Result F HiveKind) (cells : Cells) (at o : ℕ) (x : F)
+pub held_by : {F : Type 0} (form : List ℕ → Result F HiveFaultKind) (cells : Cells) (at o : ℕ) (x : F)
     → reading form cells at ≡ Ok x → at ≡ o → Held cells o
 held_by form cells at o x read e =
     let p = first_part (cells.payload at) form x read in subst (λ (z : ℕ). Held cells z) e (p.0, p.1)
@@ -80,7 +80,7 @@ segments_held cells n (at ∷ rest) b o r h =
     ⊎_elim (λ e. held_by (bytes_in (segment_part n)) cells at o one.0 one.1 e)
     (λ i. segments_held cells (n - segment_bytes) rest others.0 o others.1 i) h
 
-abbrev segments_read : Cells → ℕ → BigData → Result (List ℕ) HiveKind
+abbrev segments_read : Cells → ℕ → BigData → Result (List ℕ) HiveFaultKind
 segments_read cells n big = reading (offsets_in big.segments) cells big.list >>= joined_segments cells n
 
 big_held : (cells : Cells) (n at : ℕ) (b : List ℕ) (o : ℕ) → big_bytes_at cells n at ≡ Ok b
@@ -94,8 +94,8 @@ big_held cells n at b o r (inr h) =
     let l = first_part (reading (offsets_in p.0.segments) cells p.0.list) (joined_segments cells n) b p.2 in
     ⊎_elim (λ e. held_by (offsets_in p.0.segments) cells p.0.list o l.0 l.1 e)
     (λ i. segments_held cells n l.0 b o l.2
-    (subst (λ (q : Result (List ℕ) HiveKind). In (used_in (below_of q (segments_checks cells n))) o) l.1 i))
-    (subst (λ (q : Result BigData HiveKind). In (used_in (below_of q (behind_big cells n))) o) p.1 h)
+    (subst (λ (q : Result (List ℕ) HiveFaultKind). In (used_in (below_of q (segments_checks cells n))) o) l.1 i))
+    (subst (λ (q : Result BigData HiveFaultKind). In (used_in (below_of q (behind_big cells n))) o) p.1 h)
 
 data_held : (cells : Cells) (k : KeyValue) (b : List ℕ) (o : ℕ) → data_of cells k ≡ Ok b
     → In (used_in (data_checks cells k)) o → Held cells o
@@ -124,7 +124,7 @@ item_held cells v o item r (inr h) =
     (λ value. data_of cells value >>= λ bytes. Ok (item_from value bytes)) item r in
     let d = first_part (data_of cells p.0) (λ bytes. Ok (item_from p.0 bytes)) item p.2 in
     data_held cells p.0 d.0 o d.1
-    (subst (λ (q : Result KeyValue HiveKind). In
+    (subst (λ (q : Result KeyValue HiveFaultKind). In
     (used_in (below_of q (λ value. name_check [] v value.name ∷ data_checks cells value))) o) p.1 h)
 
 one_item : (cells : Cells) (offsets : List ℕ) (items : List Item) (v : ℕ) → items_at cells offsets ≡ Ok items
@@ -152,7 +152,7 @@ entries_held cells at offsets o r (inl e) =
 entries_held cells at offsets o r (inr h) =
     let p = first_part (reading list_at cells at) (entries_of cells) offsets r in
     go p.0 (is_list_of_lists p.0.kind) p.2
-    (subst (λ (q : Result SubkeyList HiveKind). In
+    (subst (λ (q : Result SubkeyList HiveFaultKind). In
     (used_in (below_of q (λ list. if is_list_of_lists list.kind then leaves_checks cells list.offsets else []))) o)
     p.1 h)
   where

@@ -5,13 +5,14 @@ use Rattle.std.specs.Prelude.{find, option_and_then}
 use Rattle.std.specs.Option.{option_map_or}
 use Rattle.hive_model.specs.Bins.{Cells}
 use Rattle.hive_model.specs.Tree.{Tree, key, trees, listed, is_named, find_key}
-use Rattle.hive_model.specs.Edit.{Step, Refusal, make_key, at_first, of_children, at_key, has_child, with_key, placed, new_key, then_edit, after_steps}
+use Rattle.hive_model.specs.Edit.{Step, Refusal, make_key, at_first, of_children, at_key, has_child, with_key, placed, new_key, after_steps}
 use Rattle.hive_model.specs.Footprint.{has_key, IsInFootprint}
 use Rattle.hive_model.specs.Stands.{IsWellFormed}
 use Rattle.edit_laws.specs.Framed.{Edits}
 use Rattle.edit_laws.specs.Done.{IsDone, AreDone}
 use Rattle.edit_laws.proofs.Whole.{edited_outside}
 use Rattle.edit_laws.proofs.Replaced.{trees_listed}
+use Rattle.hive_model.specs.Forms.{◌>>=◌}
 
 -- ---- steps in order
 
@@ -27,7 +28,7 @@ tree_done root [] b c t u d = ap (λ (v : Tree). done v) d.1
     done : Tree → Result Tree Refusal
     done v = Ok v
 tree_done root (step ∷ steps) b c t u d =
-    ap (λ (r : Result Tree Refusal). then_edit r (λ v. after_steps v steps)) d.2
+    ap (λ (r : Result Tree Refusal). r >>= λ v. after_steps v steps) d.2
     ∙ tree_done root steps d.1 c d.0 u d.4
 
 pub stands_done : (root : ℕ) (steps : List Step) (b c : Cells) (t u : Tree) → IsWellFormed b root t

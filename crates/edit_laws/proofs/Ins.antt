@@ -1,7 +1,7 @@
 -- Elements of lists, and uses among checks.
 use Rattle.std.proofs.Common.{◌≡◌, ℕ, zero, suc, ◌<◌, Bool, true, false, cond, List, [], ◌∷◌, ◌++◌, length, refl, sym, ◌∙◌, ap, subst, inl, inr, ⊎_elim, Option, Some, Result, Ok, Err, arith}
 use Rattle.std.specs.Prelude.{◌⊎◌, Contains, find, slice_index_or, flat_map}
-use Rattle.nt_bytes.specs.declared.fault.HiveKind.{HiveKind}
+use Rattle.nt_bytes.specs.declared.fault.HiveFaultKind.{HiveFaultKind}
 use Rattle.hive_model.specs.Bins.{Cells}
 use Rattle.hive_model.specs.Walk.{Check, uses, tests, reading, found, use_as, below_of}
 use Rattle.hive_model.specs.Footprint.{used_in, security_used_in}
@@ -80,7 +80,7 @@ used_to (tests at k ∷ cs) o h = let r = used_to cs o h in (r.0, inr r.1)
 pub same_use : (a o : ℕ) (b s : Bool) → uses a b ≡ uses o s → (a ≡ o) × (b ≡ s)
 same_use a o b s e = (cc, cc)
 
-pub no_test : (a o : ℕ) (k : Option HiveKind) (s : Bool) → tests a k ≡ uses o s → ⊥
+pub no_test : (a o : ℕ) (k : Option HiveFaultKind) (s : Bool) → tests a k ≡ uses o s → ⊥
 no_test a o k s e = cc
 
 pub used_from : (cs : List Check) (o : ℕ) (s : Bool) → In cs (uses o s) → In (used_in cs) o
@@ -106,18 +106,18 @@ security_from (uses at false ∷ cs) o (inr h) = security_from cs o h
 security_from (tests at k ∷ cs) o (inl e) = absurd (no_test at o k true e)
 security_from (tests at k ∷ cs) o (inr h) = security_from cs o h
 
-pub use_one : {F : Type 0} (b : Bool) (form : List ℕ → Result F HiveKind) (cells : Cells) (at o : ℕ) (s : Bool)
+pub use_one : {F : Type 0} (b : Bool) (form : List ℕ → Result F HiveFaultKind) (cells : Cells) (at o : ℕ) (s : Bool)
     → In (use_as b form cells at) (uses o s) → (at ≡ o) × (b ≡ s)
 use_one b form cells at o s (inl e) = same_use at o b s e
 use_one b form cells at o s (inr (inl e)) = absurd (no_test at o (found (reading form cells at)) s e)
 use_one b form cells at o s (inr (inr h)) = absurd h
 
 -- below what was read
-pub in_read : {F : Type 0} (r : Result F HiveKind) (below : F → List Check) (c : Check) → In (below_of r below) c
+pub in_read : {F : Type 0} (r : Result F HiveFaultKind) (below : F → List Check) (c : Check) → In (below_of r below) c
     → (x : F) × (r ≡ Ok x) × In (below x) c
 in_read (Ok x) below c h = (x, refl, h)
 in_read (Err k) below c h = absurd h
 
-pub in_read_from : {F : Type 0} (r : Result F HiveKind) (below : F → List Check) (c : Check) (x : F) → r ≡ Ok x
+pub in_read_from : {F : Type 0} (r : Result F HiveFaultKind) (below : F → List Check) (c : Check) (x : F) → r ≡ Ok x
     → In (below x) c → In (below_of r below) c
-in_read_from {F} r below c x e h = subst (λ (q : Result F HiveKind). In (below_of q below) c) (sym e) h
+in_read_from {F} r below c x e h = subst (λ (q : Result F HiveFaultKind). In (below_of q below) c) (sym e) h

@@ -1,17 +1,17 @@
 -- At most one tree stands at an offset.
 use Rattle.std.proofs.Common.{◌≡◌, ℕ, Bool, true, false, List, [], ◌∷◌, length, Result, Ok, refl, sym, ap, subst, ◌∙◌}
 use Rattle.std.specs.Prelude.{MatchBool, ◌==◌}
-use Rattle.nt_bytes.specs.declared.fault.HiveKind.{HiveKind}
+use Rattle.nt_bytes.specs.declared.fault.HiveFaultKind.{HiveFaultKind}
 use Rattle.hive_model.specs.KeyNode.{KeyNode, key_node_at}
 use Rattle.hive_model.specs.Bins.{Cells}
 use Rattle.hive_model.specs.Tree.{Tree, Trees, key, none, more, Head}
 use Rattle.hive_model.specs.Walk.{reading, entries_at}
 use Rattle.hive_model.specs.Stands.{tree_flags, class_of, security_of, values_of, ListsChildren, KeyStands, Stands, AllStand}
 
-abbrev done : {A : Type 0} → A → Result A HiveKind
+abbrev done : {A : Type 0} → A → Result A HiveFaultKind
 done x = Ok x
 
-ok_one : {A : Type 0} (r : Result A HiveKind) (x y : A) → r ≡ done x → r ≡ done y → x ≡ y
+ok_one : {A : Type 0} (r : Result A HiveFaultKind) (x y : A) → r ≡ done x → r ≡ done y → x ≡ y
 ok_one r x y e d = cc
 
 lists_one : (cells : Cells) (node : KeyNode) (xs ys : List ℕ) (b : Bool)

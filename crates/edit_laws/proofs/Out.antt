@@ -4,8 +4,8 @@ use Rattle.std.specs.Prelude.{◌-◌, find, not, ◌==◌, ◌&&◌, if◌then�
 use Rattle.std.specs.List.{list_any}
 use Rattle.std.specs.Option.{option_map_or}
 use Rattle.nt_bytes.specs.Folding.{folds_same}
-use Rattle.nt_bytes.specs.declared.fault.HiveKind.{HiveKind}
-use Rattle.nt_bytes.specs.declared.fault.HiveKind.TheVariants.{TooDeep, FormName, Count, DoubleName}
+use Rattle.nt_bytes.specs.declared.fault.HiveFaultKind.{HiveFaultKind}
+use Rattle.nt_bytes.specs.declared.fault.HiveFaultKind.TheVariants.{TooDeep, FormName, Count, DoubleName}
 use Rattle.hive_model.specs.Bins.{Cells}
 use Rattle.hive_model.specs.Size.{segment_bytes, is_big, segment_part}
 use Rattle.hive_model.specs.Forms.{◌>>=◌, bytes_in}
@@ -20,7 +20,7 @@ use Rattle.edit_laws.proofs.Ins.{in_left, in_right, in_cases, found_in, used_fro
 
 -- ---- paths
 
-pub named_so : {F : Type 0} (name : List ℕ) (view : F → List ℕ) (r : Result F HiveKind)
+pub named_so : {F : Type 0} (name : List ℕ) (view : F → List ℕ) (r : Result F HiveFaultKind)
     → list_any (folds_same name) (names_of view r) ≡ true → folds_same name (first_or_empty (names_of view r)) ≡ true
 named_so name view (Ok x) e = go (folds_same name (view x)) e
   where
@@ -74,31 +74,31 @@ plain_node root cells at n e = go (cells.payload at) e
     inner k true e = absurd cc
     inner k false e = cc
 
-    mid : (r : Result KeyNode HiveKind)
+    mid : (r : Result KeyNode HiveFaultKind)
         → (r >>= λ k. if (length k.name == 0) && not root then Err FormName else Ok k) ≡ Ok n → r ≡ Ok n
     mid (Ok k) e = ap (λ (z : KeyNode). Ok z) (inner k ((length k.name == 0) && not root) e)
     mid (Err k) e = absurd cc
 
-    go : (r : Result (List ℕ) HiveKind) → (r >>= node_at root) ≡ Ok n → (r >>= key_node_at) ≡ Ok n
+    go : (r : Result (List ℕ) HiveFaultKind) → (r >>= node_at root) ≡ Ok n → (r >>= key_node_at) ≡ Ok n
     go (Ok p) e = mid (key_node_at p) e
     go (Err k) e = absurd cc
 
 pub of_node_is : (cells : Cells) (at : ℕ) (n : KeyNode) (listing : KeyNode → List ℕ)
     → reading key_node_at cells at ≡ Ok n → of_node cells at listing ≡ listing n
-of_node_is cells at n listing e = ap (λ (r : Result KeyNode HiveKind). of_read r listing) e
+of_node_is cells at n listing e = ap (λ (r : Result KeyNode HiveFaultKind). of_read r listing) e
 
 -- no use as security
 abbrev pub IsPlain : List Check → Type 0
 IsPlain cs = (o : ℕ) → In cs (uses o true) → ⊥
 
-pub plain_use : {F : Type 0} (form : List ℕ → Result F HiveKind) (cells : Cells) (at : ℕ)
+pub plain_use : {F : Type 0} (form : List ℕ → Result F HiveFaultKind) (cells : Cells) (at : ℕ)
     → IsPlain (use_as false form cells at)
 plain_use form cells at o h = let d = (use_one false form cells at o true h).1 in absurd cc
 
 pub plain_append : (xs ys : List Check) → IsPlain xs → IsPlain ys → IsPlain (xs ++ ys)
 plain_append xs ys p q o h = ⊎_elim (p o) (q o) (in_cases xs ys (uses o true) h)
 
-pub plain_read : {F : Type 0} (r : Result F HiveKind) (below : F → List Check) → ((x : F) → IsPlain (below x))
+pub plain_read : {F : Type 0} (r : Result F HiveFaultKind) (below : F → List Check) → ((x : F) → IsPlain (below x))
     → IsPlain (below_of r below)
 plain_read r below p o h = let x = in_read r below (uses o true) h in p x.0 o x.2
 
@@ -153,7 +153,7 @@ data_plain cells v =
     (use_as false (bytes_in v.size) cells v.offset)
     (big_plain cells v.size v.offset) (plain_use (bytes_in v.size) cells v.offset))
 
-plain_test : (at : ℕ) (k : Option HiveKind) (xs : List Check) → IsPlain xs → IsPlain (tests at k ∷ xs)
+plain_test : (at : ℕ) (k : Option HiveFaultKind) (xs : List Check) → IsPlain xs → IsPlain (tests at k ∷ xs)
 plain_test at k xs p o (inl e) = no_test at o k true e
 plain_test at k xs p o (inr h) = p o h
 
@@ -182,7 +182,7 @@ value_told cells names others at o s h = ⊎_elim
     (in_cases (use_as false key_value_at cells at)
     (below_of (reading key_value_at cells at) (behind_value cells names at)) (uses o s) h)
   where
-    go : (r : Result KeyValue HiveKind) → In (below_of r (behind_value cells names at)) (uses o s)
+    go : (r : Result KeyValue HiveFaultKind) → In (below_of r (behind_value cells names at)) (uses o s)
         → In (below_of r (behind_value cells others at)) (uses o s)
     go (Ok v) (inl e) = absurd (no_test at o (failing (list_any (folds_same v.name) names) DoubleName) s e)
     go (Ok v) (inr h) = inr h
@@ -244,7 +244,7 @@ values_below : (cells : Cells) (n : KeyNode) (at o : ℕ) (s : Bool) → reading
 unfolding values_checks value_places value_list_at
 values_below cells n at o s read h = go (n.value_count == 0) refl h
   where
-    r : Result (List ℕ) HiveKind
+    r : Result (List ℕ) HiveFaultKind
     r = reading (offsets_in n.value_count) cells n.value_list
 
     go : (b : Bool) → (n.value_count == 0) ≡ b
@@ -271,7 +271,7 @@ values_below cells n at o s read h = go (n.value_count == 0) refl h
               (reading (offsets_in k.value_count) cells k.value_list) (λ offsets. offsets)) read
               ∙ ap (λ (c : Bool). cond c []
               (of_read (reading (offsets_in n.value_count) cells n.value_list) (λ offsets. offsets))) z
-              ∙ ap (λ (q : Result (List ℕ) HiveKind). of_read q (λ offsets. offsets)) x.1)) v.1;
+              ∙ ap (λ (q : Result (List ℕ) HiveFaultKind). of_read q (λ offsets. offsets)) x.1)) v.1;
           named = refl;
           used = used_from (value_checks cells [] v.0) o s v.2;
         })
@@ -310,7 +310,7 @@ children_below checks cells n at o s each read h = go (n.child_count == 0) refl 
         (sym (of_node_is cells at n
         (λ m. if m.child_count == 0 then [] else of_read (entries_at cells m.child_list) (λ offsets. offsets)) read
         ∙ ap (λ (c : Bool). cond c [] (of_read (entries_at cells n.child_list) (λ offsets. offsets))) z
-        ∙ ap (λ (q : Result (List ℕ) HiveKind). of_read q (λ offsets. offsets)) is)) k.2)
+        ∙ ap (λ (q : Result (List ℕ) HiveFaultKind). of_read q (λ offsets. offsets)) is)) k.2)
         (each k.1 k.0 k.3)
 
     go : (b : Bool) → (n.child_count == 0) ≡ b

@@ -6,8 +6,8 @@ use Rattle.std.proofs.lemmas.Bool.{ltb-false, eqb-true}
 use Rattle.std.proofs.lemmas.List.{take-append-drop, length-take}
 use Rattle.std.proofs.lemmas.Nat.{from_le_bytes-to_le_bytes_4}
 use Rattle.nt_bytes.specs.Fields.{u16_in, u32_in}
-use Rattle.nt_bytes.specs.declared.fault.HiveKind.{HiveKind}
-use Rattle.nt_bytes.specs.declared.fault.HiveKind.TheVariants.{FormShort, FormSign, FormLength}
+use Rattle.nt_bytes.specs.declared.fault.HiveFaultKind.{HiveFaultKind}
+use Rattle.nt_bytes.specs.declared.fault.HiveFaultKind.TheVariants.{FormShort, FormSign, FormLength}
 use Rattle.hive_model.specs.Forms.{◌>>=◌}
 use Rattle.hive_model.specs.StoredNames.{key_name_at, value_name_at}
 use Rattle.hive_model.specs.KeyNode.{KeyNode, is_narrow_key, key_node_in, key_node_at}
@@ -117,32 +117,32 @@ pub record IsNodeText (p : List ℕ) (n : KeyNode) : Type 0 where
   pub name : key_name_at (is_narrow_key (u16_in p 2)) (slice_range p 76 (76 + u16_in p 72)) ≡ Ok n.name
   pub fields : n ≡ key_node_in p n.name
 
-abbrev done : {A : Type 0} → A → Result A HiveKind
+abbrev done : {A : Type 0} → A → Result A HiveFaultKind
 done x = Ok x
 
 one_node : (x y : KeyNode) → done x ≡ done y → x ≡ y
 one_node x y e = cc
 
 -- a test that fails leads on, as one that passes does where it has to
-past : {A : Type 0} (b : Bool) (k : HiveKind) (r : Result A HiveKind) (x : A) → cond b (Err k) r ≡ Ok x
+past : {A : Type 0} (b : Bool) (k : HiveFaultKind) (r : Result A HiveFaultKind) (x : A) → cond b (Err k) r ≡ Ok x
     → (b ≡ false) × (r ≡ Ok x)
 past true k r x e = absurd cc
 past false k r x e = (refl, e)
 
-then_on : {A : Type 0} (b : Bool) (k : HiveKind) (r : Result A HiveKind) (x : A) → cond b r (Err k) ≡ Ok x
+then_on : {A : Type 0} (b : Bool) (k : HiveFaultKind) (r : Result A HiveFaultKind) (x : A) → cond b r (Err k) ≡ Ok x
     → (b ≡ true) × (r ≡ Ok x)
 then_on true k r x e = (refl, e)
 then_on false k r x e = absurd cc
 
 -- the name that a node has, and its fields
-abbrev named_node : List ℕ → Result KeyNode HiveKind
+abbrev named_node : List ℕ → Result KeyNode HiveFaultKind
 named_node p =
     key_name_at (is_narrow_key (u16_in p 2)) (slice_range p 76 (76 + u16_in p 72)) >>= λ name. Ok (key_node_in p name)
 
-abbrev long_node : List ℕ → Result KeyNode HiveKind
+abbrev long_node : List ℕ → Result KeyNode HiveFaultKind
 long_node p = if nat_lt (length p) (76 + u16_in p 72) then Err FormShort else named_node p
 
-abbrev signed_node : List ℕ → Result KeyNode HiveKind
+abbrev signed_node : List ℕ → Result KeyNode HiveFaultKind
 signed_node p = if nat_lt (length p) 76 then Err FormShort else long_node p
 
 pub node_text : (p : List ℕ) (n : KeyNode) → key_node_at p ≡ Ok n → IsNodeText p n
@@ -268,18 +268,18 @@ pub record IsValueText (p : List ℕ) (v : KeyValue) : Type 0 where
 one_value : (x y : KeyValue) → done x ≡ done y → x ≡ y
 one_value x y e = cc
 
-abbrev named_value : List ℕ → Result KeyValue HiveKind
+abbrev named_value : List ℕ → Result KeyValue HiveFaultKind
 named_value p =
     value_name_at (is_narrow_value (u16_in p 16)) (slice_range p 20 (20 + u16_in p 2)) >>= λ name. Ok
     (key_value_in p name)
 
-abbrev sized_value : List ℕ → Result KeyValue HiveKind
+abbrev sized_value : List ℕ → Result KeyValue HiveFaultKind
 sized_value p = if is_overfull (u32_in p 4) then Err FormLength else named_value p
 
-abbrev long_value : List ℕ → Result KeyValue HiveKind
+abbrev long_value : List ℕ → Result KeyValue HiveFaultKind
 long_value p = if nat_lt (length p) (20 + u16_in p 2) then Err FormShort else sized_value p
 
-abbrev signed_value : List ℕ → Result KeyValue HiveKind
+abbrev signed_value : List ℕ → Result KeyValue HiveFaultKind
 signed_value p = if nat_lt (length p) 20 then Err FormShort else long_value p
 
 pub value_text : (p : List ℕ) (v : KeyValue) → key_value_at p ≡ Ok v → IsValueText p v

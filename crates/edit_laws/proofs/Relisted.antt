@@ -1,7 +1,7 @@
 -- A touched key is kept: its node names other lists of children, or other values.
 use Rattle.std.proofs.Common.{◌≡◌, ℕ, Bool, true, false, cond, List, [], ◌∷◌, refl, sym, ◌∙◌, ap, subst, inl, inr, Result, Ok}
 use Rattle.std.specs.Prelude.{◌⊎◌, ◌==◌, if◌then◌else◌}
-use Rattle.nt_bytes.specs.declared.fault.HiveKind.{HiveKind}
+use Rattle.nt_bytes.specs.declared.fault.HiveFaultKind.{HiveFaultKind}
 use Rattle.hive_model.specs.Bins.{Cells}
 use Rattle.hive_model.specs.Forms.{bytes_in}
 use Rattle.hive_model.specs.KeyNode.{KeyNode, key_node_at}
@@ -95,7 +95,7 @@ value_places_kept b c x k v =
         ≡ cond t [] (of_read (reading (offsets_in k.old.value_count) b k.old.value_list) (λ os. os))
     go true h = refl
     go false h =
-        ap (λ (q : Result (List ℕ) HiveKind). of_read q (λ os. os))
+        ap (λ (q : Result (List ℕ) HiveFaultKind). of_read q (λ os. os))
         (same_reading (offsets_in k.old.value_count) b c k.old.value_list (h k.old.value_list (inl refl)))
 
 -- where a child is made, removed, copied or added, its parent: the children are listed anew
@@ -188,7 +188,7 @@ children_kept b c x k d =
         → cond t [] (of_read (entries_at c k.old.child_list) (λ os. os))
         ≡ cond t [] (of_read (entries_at b k.old.child_list) (λ os. os))
     go true h = refl
-    go false h = ap (λ (q : Result (List ℕ) HiveKind). of_read q (λ os. os)) (entries_same b c k.old.child_list h)
+    go false h = ap (λ (q : Result (List ℕ) HiveFaultKind). of_read q (λ os. os)) (entries_same b c k.old.child_list h)
 
 pub revalued_kept : (b c : Cells) (New : ℕ → Type 0) (x : ℕ) → IsRevalued b c New x → IsKept b c New x
 revalued_kept b c New x k = record {

@@ -3,7 +3,7 @@
 use Rattle.std.proofs.Common.{◌≡◌, ℕ, zero, suc, ◌<◌, Bool, true, false, cond, List, [], ◌∷◌, ◌++◌, length, refl, sym, ◌∙◌, ap, subst, inl, inr, ⊎_elim, Result, Ok, arith}
 use Rattle.std.specs.Prelude.{MatchBool, ◌==◌, if◌then◌else◌, flat_map}
 use Rattle.nt_bytes.specs.Folding.{folds_same}
-use Rattle.nt_bytes.specs.declared.fault.HiveKind.{HiveKind}
+use Rattle.nt_bytes.specs.declared.fault.HiveFaultKind.{HiveFaultKind}
 use Rattle.hive_model.specs.Bins.{Cells}
 use Rattle.hive_model.specs.Forms.{◌>>=◌, bytes_in}
 use Rattle.hive_model.specs.KeyNode.{KeyNode, key_node_at}
@@ -281,7 +281,7 @@ values_rest c old new same =
     ∙ ap (λ (o : ℕ). cond (old.value_count == 0) (Ok []) (reading (offsets_in old.value_count) c o >>= items_at c))
     same.value_list
 
-abbrev done : {A : Type 0} → A → Result A HiveKind
+abbrev done : {A : Type 0} → A → Result A HiveFaultKind
 done x = Ok x
 
 -- what the children were, and that the key stands with others in their place
@@ -393,4 +393,4 @@ places_listed cells at n offsets read l =
         → MatchBool b (offsets ≡ []) ((entries_at cells n.child_list ≡ Ok offsets) × (length offsets ≡ n.child_count))
         → cond b [] (of_read (entries_at cells n.child_list) (λ os. os)) ≡ offsets
     go true e = sym e
-    go false e = ap (λ (q : Result (List ℕ) HiveKind). of_read q (λ os. os)) e.0
+    go false e = ap (λ (q : Result (List ℕ) HiveFaultKind). of_read q (λ os. os)) e.0

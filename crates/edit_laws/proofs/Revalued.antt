@@ -1,7 +1,7 @@
 -- A key gets other values: the cells are well-formed again, and the tree with those values stands in them.
 use Rattle.std.proofs.Common.{◌≡◌, ℕ, suc, ◌+◌, ◌-◌, ◌<◌, ◌≤◌, Bool, false, cond, List, [], ◌∷◌, ◌++◌, length, refl, sym, ◌∙◌, ap, subst, inl, inr, ⊎_elim, Option, Some, None, Result, Ok, arith}
 use Rattle.std.specs.Prelude.{MatchBool, ◌==◌, find, flat_map, option_and_then}
-use Rattle.nt_bytes.specs.declared.fault.HiveKind.{HiveKind}
+use Rattle.nt_bytes.specs.declared.fault.HiveFaultKind.{HiveFaultKind}
 use Rattle.hive_model.specs.Bins.{Cells}
 use Rattle.hive_model.specs.Forms.{◌>>=◌, bytes_in}
 use Rattle.hive_model.specs.KeyNode.{KeyNode, key_node_at}
@@ -30,10 +30,10 @@ use Rattle.edit_laws.proofs.Replaced.{replaced_stands, replaced_names, replaced_
 
 -- ---- paths
 
-abbrev done : {A : Type 0} → A → Result A HiveKind
+abbrev done : {A : Type 0} → A → Result A HiveFaultKind
 done x = Ok x
 
-pub one_node : (r : Result KeyNode HiveKind) (x y : KeyNode) → r ≡ done x → r ≡ done y → x ≡ y
+pub one_node : (r : Result KeyNode HiveFaultKind) (x y : KeyNode) → r ≡ done x → r ≡ done y → x ≡ y
 one_node r x y e d = cc
 
 pub folds_length : (a b : List (List ℕ)) → Folds a b → length a ≡ length b
@@ -132,7 +132,7 @@ elsewhere b c root t p q x z items well h g k apart = record {
     version = g.version;
     each = λ r o plain i. other_same b c root t p q x z r o items well h g k i (λ e. absurd (apart e));
   };
-  security = λ o i. ap (λ (r : Result (List ℕ) HiveKind). (r >>= security_at) >>= λ s. Ok s.descriptor)
+  security = λ o i. ap (λ (r : Result (List ℕ) HiveFaultKind). (r >>= security_at) >>= λ s. Ok s.descriptor)
       (other_same b c root t p q x z security o items well h g k i (λ e. tt));
 }
 
@@ -178,7 +178,7 @@ with_values b c root t p x items well h g (key hd ts) s = (
         ∙ subst (λ (n : KeyNode). class_of b n ≡ Ok hd.class) old s.1.class;
     security = security_as c g.old g.new g.same
         ∙ security_of_same b c g.old
-        (λ some. ap (λ (r : Result (List ℕ) HiveKind). (r >>= security_at) >>= λ d. Ok d.descriptor)
+        (λ some. ap (λ (r : Result (List ℕ) HiveFaultKind). (r >>= security_at) >>= λ d. Ok d.descriptor)
         (here security g.old.security (security_is b x g.old g.read some) tt))
         ∙ subst (λ (n : KeyNode). security_of b n ≡ Ok hd.security) old s.1.security;
     values = g.values;

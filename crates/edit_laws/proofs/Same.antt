@@ -1,7 +1,7 @@
 -- A key whose own cells are the same lists the same; and what is owned after a step, key by key.
 use Rattle.std.proofs.Common.{◌≡◌, ℕ, Bool, true, false, cond, List, [], ◌∷◌, ◌++◌, refl, sym, ◌∙◌, ap, subst, inl, inr, ⊎_elim, Result, Ok, Err}
 use Rattle.std.specs.Prelude.{◌-◌, ◌⊎◌, ◌==◌, if◌then◌else◌, is_some}
-use Rattle.nt_bytes.specs.declared.fault.HiveKind.{HiveKind}
+use Rattle.nt_bytes.specs.declared.fault.HiveFaultKind.{HiveFaultKind}
 use Rattle.nt_bytes.specs.declared.version.HiveVersion.{HiveVersion}
 use Rattle.hive_model.specs.Bins.{Cells}
 use Rattle.hive_model.specs.Size.{segment_bytes, is_big}
@@ -21,18 +21,18 @@ pub record IsSame (b c : Cells) (at : ℕ) : Type 0 where
   pub version : c.version ≡ b.version
   pub each : (r : Role) (o : ℕ) → (IsSecurity r → ⊥) → HasRole b at r o → c.payload o ≡ b.payload o
 
-pub same_reading : {F : Type 0} (form : List ℕ → Result F HiveKind) (b c : Cells) (at : ℕ)
+pub same_reading : {F : Type 0} (form : List ℕ → Result F HiveFaultKind) (b c : Cells) (at : ℕ)
     → c.payload at ≡ b.payload at → reading form c at ≡ reading form b at
 same_reading form b c at e = ap (λ r. r >>= form) e
 
 pub same_name : (b c : Cells) (at : ℕ) → c.payload at ≡ b.payload at → node_name c at ≡ node_name b at
 same_name b c at e =
-    ap (λ (r : Result KeyNode HiveKind). first_or_empty (names_of (λ (n : KeyNode). n.name) r))
+    ap (λ (r : Result KeyNode HiveFaultKind). first_or_empty (names_of (λ (n : KeyNode). n.name) r))
     (same_reading key_node_at b c at e)
 
 pub same_value_name : (b c : Cells) (at : ℕ) → c.payload at ≡ b.payload at → value_name c at ≡ value_name b at
 same_value_name b c at e =
-    ap (λ (r : Result KeyValue HiveKind). first_or_empty (names_of (λ (v : KeyValue). v.name) r))
+    ap (λ (r : Result KeyValue HiveFaultKind). first_or_empty (names_of (λ (v : KeyValue). v.name) r))
     (same_reading key_value_at b c at e)
 
 -- the cells that are used as a form do not matter to which they are
@@ -67,21 +67,21 @@ big_used : (b c : Cells) (n at : ℕ) → ((o : ℕ) → In (used_in (big_checks
 unfolding big_checks
 big_used b c n at h =
     ap (λ (l : List ℕ). at ∷ l)
-    (ap (λ (q : Result BigData HiveKind). used_in (below_of q (behind_big c n)))
+    (ap (λ (q : Result BigData HiveFaultKind). used_in (below_of q (behind_big c n)))
     (same_reading (big_data_of n) b c at (h at (inl refl)))
     ∙ one (reading (big_data_of n) b at) (λ o i. h o (inr i)))
   where
-    two : (q : Result (List ℕ) HiveKind)
+    two : (q : Result (List ℕ) HiveFaultKind)
         → used_in (below_of q (segments_checks c n)) ≡ used_in (below_of q (segments_checks b n))
     two (Ok offsets) = segments_used b c n offsets
     two (Err k) = refl
 
-    one : (q : Result BigData HiveKind)
+    one : (q : Result BigData HiveFaultKind)
         → ((o : ℕ) → In (used_in (below_of q (behind_big b n))) o → c.payload o ≡ b.payload o)
         → used_in (below_of q (behind_big c n)) ≡ used_in (below_of q (behind_big b n))
     one (Ok big) h =
         ap (λ (l : List ℕ). big.list ∷ l)
-        (ap (λ (q : Result (List ℕ) HiveKind). used_in (below_of q (segments_checks c n)))
+        (ap (λ (q : Result (List ℕ) HiveFaultKind). used_in (below_of q (segments_checks c n)))
         (same_reading (offsets_in big.segments) b c big.list (h big.list (inl refl)))
         ∙ two (reading (offsets_in big.segments) b big.list))
     one (Err k) h = refl
@@ -121,12 +121,12 @@ pub value_used_same : (b c : Cells) (v : ℕ) → c.version ≡ b.version → Is
 unfolding value_checks
 value_used_same b c v e h =
     ap (λ (l : List ℕ). v ∷ l)
-    (ap (λ (q : Result KeyValue HiveKind). used_in
+    (ap (λ (q : Result KeyValue HiveFaultKind). used_in
     (below_of q (λ value. name_check [] v value.name ∷ data_checks c value)))
     (same_reading key_value_at b c v (h v (inl refl)))
     ∙ one (reading key_value_at b v) (λ o i. h o (inr i)))
   where
-    one : (q : Result KeyValue HiveKind)
+    one : (q : Result KeyValue HiveFaultKind)
         → ((o : ℕ) → In (used_in (below_of q (λ value. name_check [] v value.name ∷ data_checks b value))) o
         → c.payload o ≡ b.payload o)
         → used_in (below_of q (λ value. name_check [] v value.name ∷ data_checks c value))
@@ -139,7 +139,7 @@ pub entries_used : (b c : Cells) (at : ℕ) → c.payload at ≡ b.payload at
 unfolding entries_checks
 entries_used b c at e =
     ap (λ (l : List ℕ). at ∷ l)
-    (ap (λ (q : Result SubkeyList HiveKind). used_in
+    (ap (λ (q : Result SubkeyList HiveFaultKind). used_in
     (below_of q (λ list. if is_list_of_lists list.kind then leaves_checks c list.offsets else [])))
     (same_reading list_at b c at e)
     ∙ one (reading list_at b at))
@@ -149,7 +149,7 @@ entries_used b c at e =
     two list true = leaves_used b c list.offsets
     two list false = refl
 
-    one : (q : Result SubkeyList HiveKind)
+    one : (q : Result SubkeyList HiveFaultKind)
         → used_in (below_of q (λ list. if is_list_of_lists list.kind then leaves_checks c list.offsets else []))
         ≡ used_in (below_of q (λ list. if is_list_of_lists list.kind then leaves_checks b list.offsets else []))
     one (Ok list) = two list (is_list_of_lists list.kind)
@@ -159,9 +159,9 @@ joined_same : (b c : Cells) (offsets : List ℕ) → ((o : ℕ) → In offsets o
     → joined_at c offsets ≡ joined_at b offsets
 joined_same b c [] h = refl
 joined_same b c (at ∷ rest) h =
-    ap (λ (q : Result (List ℕ) HiveKind). q >>= λ xs. joined_at c rest >>= λ ys. Ok (xs ++ ys))
+    ap (λ (q : Result (List ℕ) HiveFaultKind). q >>= λ xs. joined_at c rest >>= λ ys. Ok (xs ++ ys))
     (same_reading leaf_at b c at (h at (inl refl)))
-    ∙ ap (λ (q : Result (List ℕ) HiveKind). reading leaf_at b at >>= λ xs. q >>= λ ys. Ok (xs ++ ys))
+    ∙ ap (λ (q : Result (List ℕ) HiveFaultKind). reading leaf_at b at >>= λ xs. q >>= λ ys. Ok (xs ++ ys))
     (joined_same b c rest (λ o i. h o (inr i)))
 
 leaf_in : (cells : Cells) (offsets : List ℕ) (o : ℕ) → In offsets o → In (used_in (leaves_checks cells offsets)) o
@@ -173,7 +173,7 @@ pub entries_same : (b c : Cells) (at : ℕ)
     → ((o : ℕ) → In (used_in (entries_checks b at)) o → c.payload o ≡ b.payload o) → entries_at c at ≡ entries_at b at
 unfolding entries_at entries_checks
 entries_same b c at h =
-    ap (λ (q : Result SubkeyList HiveKind). q >>= entries_of c) (same_reading list_at b c at (h at (inl refl)))
+    ap (λ (q : Result SubkeyList HiveFaultKind). q >>= entries_of c) (same_reading list_at b c at (h at (inl refl)))
     ∙ go (reading list_at b at) (λ o i. h o (inr i))
   where
     two : (list : SubkeyList) (t : Bool)
@@ -182,7 +182,7 @@ entries_same b c at h =
     two list true h = joined_same b c list.offsets (λ o i. h o (leaf_in b list.offsets o i))
     two list false h = refl
 
-    go : (q : Result SubkeyList HiveKind)
+    go : (q : Result SubkeyList HiveFaultKind)
         → ((o : ℕ) → In (used_in (below_of q
         (λ list. if is_list_of_lists list.kind then leaves_checks b list.offsets else []))) o
         → c.payload o ≡ b.payload o)
@@ -195,10 +195,10 @@ entries_same b c at h =
 both_nodes : (b c : Cells) (at : ℕ) (f g : KeyNode → List ℕ) → c.payload at ≡ b.payload at
     → ((n : KeyNode) → reading key_node_at b at ≡ Ok n → f n ≡ g n) → of_node c at f ≡ of_node b at g
 both_nodes b c at f g e same =
-    ap (λ (q : Result KeyNode HiveKind). of_read q f) (same_reading key_node_at b c at e)
+    ap (λ (q : Result KeyNode HiveFaultKind). of_read q f) (same_reading key_node_at b c at e)
     ∙ go (reading key_node_at b at) refl
   where
-    go : (q : Result KeyNode HiveKind) → reading key_node_at b at ≡ q → of_read q f ≡ of_read q g
+    go : (q : Result KeyNode HiveFaultKind) → reading key_node_at b at ≡ q → of_read q f ≡ of_read q g
     go (Ok n) e = same n e
     go (Err k) e = refl
 
@@ -253,7 +253,7 @@ places_same b c at e h =
         → cond t [] (of_read (entries_at c n.child_list) (λ os. os))
         ≡ cond t [] (of_read (entries_at b n.child_list) (λ os. os))
     go n true h = refl
-    go n false h = ap (λ (q : Result (List ℕ) HiveKind). of_read q (λ os. os)) (entries_same b c n.child_list h)
+    go n false h = ap (λ (q : Result (List ℕ) HiveFaultKind). of_read q (λ os. os)) (entries_same b c n.child_list h)
 
 pub value_places_same : (b c : Cells) (at : ℕ) → c.payload at ≡ b.payload at
     → ((o : ℕ) → In (value_list_at b at) o → c.payload o ≡ b.payload o) → value_places c at ≡ value_places b at
@@ -272,7 +272,7 @@ value_places_same b c at e h =
         ≡ cond t [] (of_read (reading (offsets_in n.value_count) b n.value_list) (λ os. os))
     go n true h = refl
     go n false h =
-        ap (λ (q : Result (List ℕ) HiveKind). of_read q (λ os. os))
+        ap (λ (q : Result (List ℕ) HiveFaultKind). of_read q (λ os. os))
         (same_reading (offsets_in n.value_count) b c n.value_list (h n.value_list (inl refl)))
 
 pub first_used : (cells : Cells) (v : ℕ) → In (used_in (value_checks cells [] v)) v

@@ -2,7 +2,7 @@
 -- what it used.
 use Rattle.std.proofs.Common.{◌≡◌, ℕ, zero, suc, Bool, true, false, cond, List, [], ◌∷◌, ◌++◌, length, refl, sym, ◌∙◌, ap, subst, inl, inr, Option, Some, None, Result, Ok, Err}
 use Rattle.std.specs.Prelude.{◌-◌, MatchBool, ◌==◌, if◌then◌else◌, is_some, flat_map}
-use Rattle.nt_bytes.specs.declared.fault.HiveKind.{HiveKind}
+use Rattle.nt_bytes.specs.declared.fault.HiveFaultKind.{HiveFaultKind}
 use Rattle.nt_bytes.specs.declared.version.HiveVersion.{HiveVersion}
 use Rattle.hive_model.specs.Bins.{Cells}
 use Rattle.hive_model.specs.Size.{segment_bytes, is_big, segment_part}
@@ -30,33 +30,31 @@ segments_same : (b c : Cells) (n : ℕ) (offsets : List ℕ)
     → joined_segments c n offsets ≡ joined_segments b n offsets
 segments_same b c n [] h = refl
 segments_same b c n (at ∷ rest) h =
-    ap (λ (r : Result (List ℕ) HiveKind). r >>= λ bytes. joined_segments c (n - segment_bytes) rest >>= λ others. Ok
-    (bytes ++ others))
+    ap (λ (r : Result _ HiveFaultKind). r >>= λ x. joined_segments c (n - segment_bytes) rest >>= λ y. Ok (x ++ y))
     (same_reading (bytes_in (segment_part n)) b c at (h at (inl refl)))
-    ∙ ap (λ (r : Result (List ℕ) HiveKind). reading (bytes_in (segment_part n)) b at >>= λ bytes. r >>= λ others. Ok
-    (bytes ++ others))
+    ∙ ap (λ (r : Result _ HiveFaultKind). reading (bytes_in (segment_part n)) b at >>= λ x. r >>= λ y. Ok (x ++ y))
     (segments_same b c (n - segment_bytes) rest (λ o i. h o (inr i)))
 
 big_same : (b c : Cells) (n at : ℕ) → ((o : ℕ) → In (used_in (big_checks b n at)) o → c.payload o ≡ b.payload o)
     → big_bytes_at c n at ≡ big_bytes_at b n at
 unfolding big_checks big_bytes_at
 big_same b c n at h =
-    ap (λ (r : Result BigData HiveKind). r >>= λ big. reading (offsets_in big.segments)
+    ap (λ (r : Result BigData HiveFaultKind). r >>= λ big. reading (offsets_in big.segments)
     c big.list >>= joined_segments c n) (same_reading (big_data_of n) b c at (h at (inl refl)))
     ∙ one (reading (big_data_of n) b at) (λ o i. h o (inr i))
   where
-    two : (r : Result (List ℕ) HiveKind)
+    two : (r : Result (List ℕ) HiveFaultKind)
         → ((o : ℕ) → In (used_in (below_of r (segments_checks b n))) o → c.payload o ≡ b.payload o)
         → (r >>= joined_segments c n) ≡ (r >>= joined_segments b n)
     two (Ok offsets) h = segments_same b c n offsets h
     two (Err k) h = refl
 
-    one : (r : Result BigData HiveKind)
+    one : (r : Result BigData HiveFaultKind)
         → ((o : ℕ) → In (used_in (below_of r (behind_big b n))) o → c.payload o ≡ b.payload o)
         → (r >>= λ big. reading (offsets_in big.segments) c big.list >>= joined_segments c n)
         ≡ (r >>= λ big. reading (offsets_in big.segments) b big.list >>= joined_segments b n)
     one (Ok big) h =
-        ap (λ (r : Result (List ℕ) HiveKind). r >>= joined_segments c n)
+        ap (λ (r : Result (List ℕ) HiveFaultKind). r >>= joined_segments c n)
         (same_reading (offsets_in big.segments) b c big.list (h big.list (inl refl)))
         ∙ two (reading (offsets_in big.segments) b big.list) (λ o i. h o (inr i))
     one (Err k) h = refl
@@ -66,7 +64,7 @@ data_same : (b c : Cells) (v : KeyValue) → c.version ≡ b.version
 unfolding data_checks data_of
 data_same b c v e h = ap (λ (n : HiveVersion). by_version n) e ∙ go (data_inside v) (is_big b.version v.size) h
   where
-    by_version : HiveVersion → Result (List ℕ) HiveKind
+    by_version : HiveVersion → Result (List ℕ) HiveFaultKind
     by_version n =
         data_or (data_inside v) (cond (is_big n v.size) (big_bytes_at c v.size v.offset)
         (reading (bytes_in v.size) c v.offset))
@@ -81,22 +79,22 @@ data_same b c v e h = ap (λ (n : HiveVersion). by_version n) e ∙ go (data_ins
     go None true h = big_same b c v.size v.offset h
     go None false h = same_reading (bytes_in v.size) b c v.offset (h v.offset (inl refl))
 
-abbrev of_value : Cells → KeyValue → Result Item HiveKind
+abbrev of_value : Cells → KeyValue → Result Item HiveFaultKind
 of_value cells v = data_of cells v >>= λ bytes. Ok (record { name = v.name; kind = v.kind; bytes = bytes })
 
 -- a value whose cells are the same is the same
 pub item_same : (b c : Cells) (v : ℕ) → c.version ≡ b.version → IsValueSame b c v → item_at c v ≡ item_at b v
 unfolding value_checks item_at
 item_same b c v e h =
-    ap (λ (r : Result KeyValue HiveKind). r >>= of_value c) (same_reading key_value_at b c v (h v (inl refl)))
+    ap (λ (r : Result KeyValue HiveFaultKind). r >>= of_value c) (same_reading key_value_at b c v (h v (inl refl)))
     ∙ one (reading key_value_at b v) (λ o i. h o (inr i))
   where
-    one : (r : Result KeyValue HiveKind)
+    one : (r : Result KeyValue HiveFaultKind)
         → ((o : ℕ) → In (used_in (below_of r (λ value. name_check [] v value.name ∷ data_checks b value))) o
         → c.payload o ≡ b.payload o)
         → (r >>= of_value c) ≡ (r >>= of_value b)
     one (Ok x) h =
-        ap (λ (r : Result (List ℕ) HiveKind). r >>= λ bytes. Ok
+        ap (λ (r : Result (List ℕ) HiveFaultKind). r >>= λ bytes. Ok
         (record { name = x.name; kind = x.kind; bytes = bytes })) (data_same b c x e h)
     one (Err k) h = refl
 
@@ -104,9 +102,9 @@ pub items_same : (b c : Cells) (offsets : List ℕ) → c.version ≡ b.version
     → ((v : ℕ) → In offsets v → IsValueSame b c v) → items_at c offsets ≡ items_at b offsets
 items_same b c [] e h = refl
 items_same b c (at ∷ rest) e h =
-    ap (λ (r : Result Item HiveKind). r >>= λ item. items_at c rest >>= λ items. Ok (item ∷ items))
+    ap (λ (r : Result Item HiveFaultKind). r >>= λ item. items_at c rest >>= λ items. Ok (item ∷ items))
     (item_same b c at e (h at (inl refl)))
-    ∙ ap (λ (r : Result (List Item) HiveKind). item_at b at >>= λ item. r >>= λ items. Ok (item ∷ items))
+    ∙ ap (λ (r : Result (List Item) HiveFaultKind). item_at b at >>= λ item. r >>= λ items. Ok (item ∷ items))
     (items_same b c rest e (λ v i. h v (inr i)))
 
 -- ---- a key
@@ -161,7 +159,7 @@ unfolding value_places
 values_are cells at n offsets read some list =
     of_node_is cells at n (λ k. if k.value_count == 0 then [] else of_read_list k) read
     ∙ ap (λ (b : Bool). cond b [] (of_read_list n)) some
-    ∙ ap (λ (r : Result (List ℕ) HiveKind). of_read r (λ os. os)) list
+    ∙ ap (λ (r : Result (List ℕ) HiveFaultKind). of_read r (λ os. os)) list
   where
     of_read_list : KeyNode → List ℕ
     of_read_list k = of_read (reading (offsets_in k.value_count) cells k.value_list) (λ offsets. offsets)
@@ -201,7 +199,7 @@ pub values_of_same : (b c : Cells) (n : KeyNode) → c.version ≡ b.version
 unfolding values_of
 values_of_same b c n e h each = go (n.value_count == 0) h each
   where
-    some : (r : Result (List ℕ) HiveKind)
+    some : (r : Result (List ℕ) HiveFaultKind)
         → ((offsets : List ℕ) (v : ℕ) → r ≡ Ok offsets → In offsets v → IsValueSame b c v)
         → (r >>= items_at c) ≡ (r >>= items_at b)
     some (Ok offsets) each = items_same b c offsets e (λ v i. each offsets v refl i)
@@ -214,7 +212,7 @@ values_of_same b c n e h each = go (n.value_count == 0) h each
         ≡ cond t (Ok []) (reading (offsets_in n.value_count) b n.value_list >>= items_at b)
     go true h each = refl
     go false h each =
-        ap (λ (r : Result (List ℕ) HiveKind). r >>= items_at c)
+        ap (λ (r : Result (List ℕ) HiveFaultKind). r >>= items_at c)
         (same_reading (offsets_in n.value_count) b c n.value_list (h refl))
         ∙ some (reading (offsets_in n.value_count) b n.value_list) (λ offsets v r i. each offsets v refl r i)
 

@@ -3,7 +3,7 @@
 use Rattle.std.proofs.Common.{◌≡◌, ℕ, ◌<◌, ◌^◌, true, false, List, [], ◌∷◌, ◌++◌, sym, ◌∙◌, ap, subst, inl, inr, ⊎_elim, Some, None, Result, Ok}
 use Rattle.std.specs.Prelude.{◌⊎◌, find}
 use Rattle.nt_bytes.specs.Folding.{folds_same}
-use Rattle.nt_bytes.specs.declared.fault.HiveKind.{HiveKind}
+use Rattle.nt_bytes.specs.declared.fault.HiveFaultKind.{HiveFaultKind}
 use Rattle.hive_model.specs.Bins.{Cells}
 use Rattle.hive_model.specs.Size.{is_big}
 use Rattle.hive_model.specs.Tree.{Tree, key}
@@ -64,7 +64,7 @@ is_found b root t path name x v p well at found held = record {
   named = named_so name (λ (n : KeyValue). n.name) (reading key_value_at b v) one.1;
   value = there.value;
   there = there.read;
-  form = sym (ap (λ (r : Result (List ℕ) HiveKind). r >>= key_value_at) held) ∙ there.read;
+  form = sym (ap (λ (r : Result (List ℕ) HiveFaultKind). r >>= key_value_at) held) ∙ there.read;
 }
   where
     w : IsPlaced b root path x
@@ -106,7 +106,7 @@ set_inside b c root t u path name kind bytes x v size offset p well ok at found 
 
     read_new : reading key_value_at c v ≡ Ok (with_numbers f.value size offset kind)
     read_new =
-        ap (λ (r : Result (List ℕ) HiveKind). r >>= key_value_at) new
+        ap (λ (r : Result (List ℕ) HiveFaultKind). r >>= key_value_at) new
         ∙ value_written p f.value size offset kind f.form ls lo lk fits
 
     data_there : (used_in (data_checks c (with_numbers f.value size offset kind)) ≡ [])
@@ -150,7 +150,7 @@ set_in_cell b c root t u path name kind bytes x v y size p d well ok at found he
 
     read_new : reading key_value_at c v ≡ Ok (with_numbers f.value size y kind)
     read_new =
-        ap (λ (r : Result (List ℕ) HiveKind). r >>= key_value_at) new
+        ap (λ (r : Result (List ℕ) HiveFaultKind). r >>= key_value_at) new
         ∙ value_written p f.value size y kind f.form ls lo lk fits
 
     data_there : (used_in (data_checks c (with_numbers f.value size y kind)) ≡ y ∷ [])
@@ -171,7 +171,7 @@ set_in_cell b c root t u path name kind bytes x v y size p d well ok at found he
       version = version;
       reads =
           item_is c v (with_numbers f.value size y kind) bytes read_new
-          (data_there.1 ∙ ap (λ (r : Result (List ℕ) HiveKind). r >>= bytes_in size) there ∙ data_read)
+          (data_there.1 ∙ ap (λ (r : Result (List ℕ) HiveFaultKind). r >>= bytes_in size) there ∙ data_read)
           ∙ (λ i. Ok (item (sym (name_of_value b v f.value f.there) i) kind bytes));
       others = others;
       used = λ o i. either o (subst (λ (l : List ℕ). In l o) uses_new i);

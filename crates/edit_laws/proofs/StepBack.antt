@@ -4,7 +4,7 @@ use Rattle.std.proofs.Common.{◌≡◌, ℕ, ◌-◌, Bool, true, false, cond, 
 use Rattle.std.specs.Prelude.{Contains, find, ◌==◌, if◌then◌else◌}
 use Rattle.std.specs.Option.{option_map_or}
 use Rattle.nt_bytes.specs.Folding.{folds_same}
-use Rattle.nt_bytes.specs.declared.fault.HiveKind.{HiveKind}
+use Rattle.nt_bytes.specs.declared.fault.HiveFaultKind.{HiveFaultKind}
 use Rattle.hive_model.specs.Bins.{Cells}
 use Rattle.hive_model.specs.Tree.{Tree}
 use Rattle.hive_model.specs.Edit.{Step, set_value, delete_value, make_key, delete_key, copy_child, add_child, after_step}
@@ -76,7 +76,7 @@ value_found cells name n x o sound i h = go (reading key_node_at cells x) refl h
         (named_so name (λ (v : KeyValue). v.name) (reading key_value_at cells z) t) folds) in
         subst (λ (f : Option ℕ). In (option_map_or (λ at. used_in (value_checks cells [] at)) f []) o) (sym is) h.used
 
-    listed : (k : KeyNode) (r : Result (List ℕ) HiveKind)
+    listed : (k : KeyNode) (r : Result (List ℕ) HiveFaultKind)
         → ((w : ℕ) → In (of_read r (λ offsets. offsets)) w → In (value_places cells x) w)
         → In (of_read r (λ offsets. offsets)) h.place
         → In (of_read r (λ offsets. option_map_or (λ at. used_in (value_checks cells [] at))
@@ -96,7 +96,7 @@ value_found cells name n x o sound i h = go (reading key_node_at cells x) refl h
     some k true all here = absurd here
     some k false all here = inr (listed k (reading (offsets_in k.value_count) cells k.value_list) all here)
 
-    go : (q : Result KeyNode HiveKind) → reading key_node_at cells x ≡ q
+    go : (q : Result KeyNode HiveFaultKind) → reading key_node_at cells x ≡ q
         → In (of_read q (λ k. if k.value_count == 0 then [] else of_read
         (reading (offsets_in k.value_count) cells k.value_list) (λ offsets. offsets))) h.place
         → In (of_read q (λ k. if k.value_count == 0 then [] else k.value_list
@@ -104,7 +104,7 @@ value_found cells name n x o sound i h = go (reading key_node_at cells x) refl h
         (λ offsets. option_map_or (λ at. used_in (value_checks cells [] at))
         (find (is_value_named cells name) offsets) []))) o
     go (Ok k) e here = some k (k.value_count == 0)
-        (λ w i. subst (λ (q : Result KeyNode HiveKind). In
+        (λ w i. subst (λ (q : Result KeyNode HiveFaultKind). In
         (of_read q (λ m. if m.value_count == 0 then [] else of_read
         (reading (offsets_in m.value_count) cells m.value_list) (λ offsets. offsets))) w) (sym e) i) here
     go (Err k) e here = absurd here
@@ -121,7 +121,8 @@ value_list_found cells name x o h = go (reading key_node_at cells x) h
     some k false (inl e) = inl e
     some k false (inr h) = absurd h
 
-    go : (q : Result KeyNode HiveKind) → In (of_read q (λ k. if k.value_count == 0 then [] else k.value_list ∷ [])) o
+    go : (q : Result KeyNode HiveFaultKind)
+        → In (of_read q (λ k. if k.value_count == 0 then [] else k.value_list ∷ [])) o
         → In (of_read q (λ k. if k.value_count == 0 then [] else k.value_list
         ∷ of_read (reading (offsets_in k.value_count) cells k.value_list) (named_value_cells cells name))) o
     go (Ok k) h = some k (k.value_count == 0) h

@@ -2,7 +2,7 @@
 use Rattle.std.proofs.Common.{◌≡◌, ℕ, ◌-◌, Bool, true, false, cond, List, [], ◌∷◌, ◌++◌, length, refl, sym, ◌∙◌, ap, subst, inl, inr, ⊎_elim, Option, Some, None, Result, Ok, Err}
 use Rattle.std.specs.Prelude.{◌⊎◌, Contains, find, ◌==◌, if◌then◌else◌}
 use Rattle.std.specs.Option.{option_map_or}
-use Rattle.nt_bytes.specs.declared.fault.HiveKind.{HiveKind}
+use Rattle.nt_bytes.specs.declared.fault.HiveFaultKind.{HiveFaultKind}
 use Rattle.hive_model.specs.Bins.{Cells}
 use Rattle.hive_model.specs.Tree.{Tree}
 use Rattle.hive_model.specs.Edit.{Step, set_value, delete_value, make_key, delete_key, copy_child, add_child}
@@ -57,7 +57,7 @@ value_out cells name x o h = go (reading key_node_at cells x) refl h
         → In (n.value_list ∷ []) o → In (value_list_at cells x) o
     in_list n e z h =
         subst (λ (xs : List ℕ). In xs o)
-        (sym (ap (λ (q : Result KeyNode HiveKind). of_read q
+        (sym (ap (λ (q : Result KeyNode HiveFaultKind). of_read q
         (λ k. if k.value_count == 0 then [] else k.value_list ∷ [])) e
         ∙ ap (λ (c : Bool). cond c [] (n.value_list ∷ [])) z)) h
 
@@ -66,11 +66,11 @@ value_out cells name x o h = go (reading key_node_at cells x) refl h
         → In offsets v → In (value_places cells x) v
     in_places n offsets v e z l h =
         subst (λ (xs : List ℕ). In xs v)
-        (sym (ap (λ (q : Result KeyNode HiveKind). of_read q
+        (sym (ap (λ (q : Result KeyNode HiveFaultKind). of_read q
         (λ k. if k.value_count == 0 then [] else of_read (reading (offsets_in k.value_count) cells k.value_list)
         (λ os. os))) e
         ∙ ap (λ (c : Bool). cond c [] (of_read (reading (offsets_in n.value_count) cells n.value_list) (λ os. os))) z
-        ∙ ap (λ (q : Result (List ℕ) HiveKind). of_read q (λ os. os)) l)) h
+        ∙ ap (λ (q : Result (List ℕ) HiveFaultKind). of_read q (λ os. os)) l)) h
 
     found : (n : KeyNode) (offsets : List ℕ) → reading key_node_at cells x ≡ Ok n → (n.value_count == 0) ≡ false
         → reading (offsets_in n.value_count) cells n.value_list ≡ Ok offsets → (f : Option ℕ)
@@ -86,7 +86,7 @@ value_out cells name x o h = go (reading key_node_at cells x) refl h
         )
 
     listed : (n : KeyNode) → reading key_node_at cells x ≡ Ok n → (n.value_count == 0) ≡ false
-        → (l : Result (List ℕ) HiveKind) → reading (offsets_in n.value_count) cells n.value_list ≡ l
+        → (l : Result (List ℕ) HiveFaultKind) → reading (offsets_in n.value_count) cells n.value_list ≡ l
         → In (of_read l (λ offsets. option_map_or (λ at. used_in (value_checks cells [] at))
         (find (is_value_named cells name) offsets) [])) o
         → (r : Role) × HasRole cells x r o × IsOfValue name r
@@ -103,7 +103,7 @@ value_out cells name x o h = go (reading key_node_at cells x) refl h
     some n e false z (inl s) = (value_list, in_list n e z (inl s), tt)
     some n e false z (inr h) = listed n e z (reading (offsets_in n.value_count) cells n.value_list) refl h
 
-    go : (q : Result KeyNode HiveKind) → reading key_node_at cells x ≡ q
+    go : (q : Result KeyNode HiveFaultKind) → reading key_node_at cells x ≡ q
         → In (of_read q (λ n. if n.value_count == 0 then [] else n.value_list
         ∷ of_read (reading (offsets_in n.value_count) cells n.value_list)
         (λ offsets. option_map_or (λ at. used_in (value_checks cells [] at))

@@ -2,7 +2,7 @@
 use Rattle.std.proofs.Common.{◌≡◌, ℕ, suc, ◌+◌, Bool, true, false, cond, List, [], ◌∷◌, ◌++◌, length, refl, sym, ◌∙◌, ap, subst, inl, inr, ⊎_elim, Some, Result, Ok}
 use Rattle.std.specs.Prelude.{◌⊎◌, flat_map}
 use Rattle.nt_bytes.specs.Folding.{folds_same}
-use Rattle.nt_bytes.specs.declared.fault.HiveKind.{HiveKind}
+use Rattle.nt_bytes.specs.declared.fault.HiveFaultKind.{HiveFaultKind}
 use Rattle.hive_model.specs.Bins.{Cells}
 use Rattle.hive_model.specs.Tree.{Tree}
 use Rattle.hive_model.specs.Edit.{delete_key, after_step}
@@ -177,7 +177,7 @@ module _ (b l c : Cells) (root : ℕ) (t : Tree) (p : List (List ℕ)) (x left :
           let listed = g.relisted o q.0 q.1 (λ i. clash o (own_in (o, false) (list_used b x o i)) there) in
           let stays = g.others o q.0 listed (λ e. clash o (own_in (o, false) (inl (λ i. (sym e i, false)))) there)
           (not_used none) in
-          ap (λ (r : Result (List ℕ) HiveKind). r >>= security_at >>= λ z. Ok z.descriptor) (stays ∙ sym q.1)
+          ap (λ (r : Result (List ℕ) HiveFaultKind). r >>= security_at >>= λ z. Ok z.descriptor) (stays ∙ sym q.1)
         where
           not_used : (In recounted o → ⊥) → (s : Bool) → In (tree_uses left b y) (o, s) → ⊥
           not_used none true i = none (secured_from (tree_uses left b y) o i)

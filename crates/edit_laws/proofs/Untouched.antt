@@ -1,7 +1,7 @@
 -- The frame of a step, from what it does to the keys that it names.
 use Rattle.std.proofs.Common.{◌≡◌, ℕ, Bool, true, false, cond, List, length, refl, sym, ◌∙◌, ap, subst, inl, inr, Ok, Err}
 use Rattle.std.specs.Prelude.{◌⊎◌, Contains, ◌==◌, not, ◌&&◌, if◌then◌else◌}
-use Rattle.nt_bytes.specs.declared.fault.HiveKind.TheVariants.{FormName}
+use Rattle.nt_bytes.specs.declared.fault.HiveFaultKind.TheVariants.{FormName}
 use Rattle.hive_model.specs.Bins.{Cells}
 use Rattle.hive_model.specs.Tree.{Tree, key}
 use Rattle.hive_model.specs.Edit.{Step}

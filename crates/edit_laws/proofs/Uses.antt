@@ -2,8 +2,8 @@
 use Rattle.std.proofs.Common.{◌≡◌, ℕ, zero, suc, ◌&&◌, Bool, true, false, not, cond, eqb, List, [], ◌∷◌, ◌++◌, length, refl, sym, ◌∙◌, ap, subst, inl, inr, Result, Ok, Err}
 use Rattle.std.specs.Prelude.{◌==◌, if◌then◌else◌, flat_map}
 use Rattle.std.proofs.lemmas.Bool.{eqb-true, eq-eqb}
-use Rattle.nt_bytes.specs.declared.fault.HiveKind.{HiveKind}
-use Rattle.nt_bytes.specs.declared.fault.HiveKind.TheVariants.{Count}
+use Rattle.nt_bytes.specs.declared.fault.HiveFaultKind.{HiveFaultKind}
+use Rattle.nt_bytes.specs.declared.fault.HiveFaultKind.TheVariants.{Count}
 use Rattle.hive_model.specs.Bins.{Cells}
 use Rattle.hive_model.specs.KeyNode.{KeyNode, key_node_at}
 use Rattle.hive_model.specs.KeyValue.{KeyValue, key_value_at}
@@ -136,7 +136,7 @@ told_none : (cells : Cells) (names : List (List ℕ)) (at : ℕ)
 unfolding value_checks
 told_none cells names at = ap (λ (l : List ℕ). at ∷ l) (go (reading key_value_at cells at))
   where
-    go : (r : Result KeyValue HiveKind)
+    go : (r : Result KeyValue HiveFaultKind)
         → used_in (below_of r (λ value. name_check names at value.name ∷ data_checks cells value))
         ≡ used_in (below_of r (λ value. name_check [] at value.name ∷ data_checks cells value))
     go (Ok v) = refl
@@ -189,7 +189,7 @@ marks_values cells n at read =
     (λ k. if k.value_count == 0 then [] else of_read (reading (offsets_in k.value_count) cells k.value_list)
     (λ os. os)) read)))
   where
-    some : (r : Result (List ℕ) HiveKind)
+    some : (r : Result (List ℕ) HiveFaultKind)
         → used_in (below_of r (values_in_turn cells []))
         ≡ flat_map (λ v. used_in (value_checks cells [] v)) (of_read r (λ os. os))
     some (Ok offsets) = used_values cells [] offsets
@@ -236,7 +236,7 @@ marks_children left checks cells n at read each =
         of_node_is cells at n (λ m. if m.child_count == 0 then [] else of_read (entries_at cells m.child_list)
         (λ os. os)) read
 
-    some : (r : Result (List ℕ) HiveKind)
+    some : (r : Result (List ℕ) HiveFaultKind)
         → ((told : List (List ℕ)) (y : ℕ) → In (of_read r (λ os. os)) y
         → marks (checks told y) ≡ tree_uses left cells y)
         → marks (below_of r (λ offsets. tests at (failing (not (length offsets == n.child_count)) Count)
@@ -281,7 +281,7 @@ unfolding key_checks
 walk_uses zero cells root names at n all read = refl
 walk_uses (suc left) cells root names at n all read =
     ap (λ (l : List (ℕ × Bool)). (at, false) ∷ l)
-    (ap (λ (r : Result KeyNode HiveKind). marks (below_of r inside)) read
+    (ap (λ (r : Result KeyNode HiveFaultKind). marks (below_of r inside)) read
     ∙ marks_append (class_checks cells n)
     (security_checks cells n ++ (values_checks cells n ++ children_checks (key_checks left cells false) cells n at))
     ∙ ap (λ (l : List (ℕ × Bool)). l

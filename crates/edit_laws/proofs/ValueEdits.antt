@@ -3,7 +3,7 @@
 use Rattle.std.proofs.Common.{◌≡◌, ℕ, Bool, true, false, cond, List, [], ◌∷◌, ◌++◌, refl, sym, ◌∙◌, ap, subst, inl, inr, Some, Result, Ok}
 use Rattle.std.specs.Prelude.{find, is_some}
 use Rattle.nt_bytes.specs.Folding.{folds_same}
-use Rattle.nt_bytes.specs.declared.fault.HiveKind.{HiveKind}
+use Rattle.nt_bytes.specs.declared.fault.HiveFaultKind.{HiveFaultKind}
 use Rattle.hive_model.specs.Bins.{Cells}
 use Rattle.hive_model.specs.Forms.{◌>>=◌}
 use Rattle.hive_model.specs.KeyValue.{KeyValue}
@@ -19,7 +19,7 @@ use Rattle.edit_laws.proofs.Wellformed.{first_part, item_value, not_named, ok_it
 use Rattle.edit_laws.proofs.ChangedValues.{HasChanged, changed}
 use Rattle.edit_laws.proofs.Items.{found_items, value_is_set, value_is_deleted}
 
-abbrev done : {A : Type 0} → A → Result A HiveKind
+abbrev done : {A : Type 0} → A → Result A HiveFaultKind
 done x = Ok x
 
 -- ---- the item of a name
@@ -59,7 +59,7 @@ went_named b name v values before went behind read whole differ named =
     name_is item e =
         let k = item_value b v item e in
         sym k.2
-        ∙ sym (ap (λ (r : Result KeyValue HiveKind). first_or_empty (names_of (λ (n : KeyValue). n.name) r)) k.1)
+        ∙ sym (ap (λ (r : Result KeyValue HiveFaultKind). first_or_empty (names_of (λ (n : KeyValue). n.name) r)) k.1)
 
 first_behind : (p : Item → Bool) (f : Item → Item) (before behind : List Item) (item : Item)
     → ((u : Item) → In before u → p u ≡ false) → p item ≡ true

@@ -4,8 +4,8 @@ use Rattle.std.specs.Prelude.{MatchBool, ◌==◌, if◌then◌else◌, max}
 use Rattle.std.specs.List.{All}
 use Rattle.std.proofs.lemmas.Bool.{eqb-true, eq-eqb, and_parts, and_from}
 use Rattle.nt_bytes.specs.Folding.{folded_unit, folds_same}
-use Rattle.nt_bytes.specs.declared.fault.HiveKind.{HiveKind}
-use Rattle.nt_bytes.specs.declared.fault.HiveKind.TheVariants.{FormName}
+use Rattle.nt_bytes.specs.declared.fault.HiveFaultKind.{HiveFaultKind}
+use Rattle.nt_bytes.specs.declared.fault.HiveFaultKind.TheVariants.{FormName}
 use Rattle.hive_model.specs.Forms.{◌>>=◌}
 use Rattle.hive_model.specs.KeyNode.{KeyNode, key_node_at}
 use Rattle.hive_model.specs.KeyValue.{KeyValue, key_value_at}
@@ -79,17 +79,17 @@ places_are cells at h offsets k =
         ((entries_at cells k.node.child_list ≡ Ok offsets) × (length offsets ≡ k.node.child_count))
         → cond b [] (of_read (entries_at cells k.node.child_list) (λ os. os)) ≡ offsets
     go true e = sym e
-    go false e = ap (λ (r : Result (List ℕ) HiveKind). of_read r (λ os. os)) e.0
+    go false e = ap (λ (r : Result (List ℕ) HiveFaultKind). of_read r (λ os. os)) e.0
 
 pub name_is : (cells : Cells) (at : ℕ) (h : Head) (offsets : List ℕ) → KeyStands cells at h offsets
     → node_name cells at ≡ h.name
 name_is cells at h offsets k =
-    ap (λ (r : Result KeyNode HiveKind). first_or_empty (names_of (λ (n : KeyNode). n.name) r)) k.read ∙ sym k.name
+    ap (λ (r : Result KeyNode HiveFaultKind). first_or_empty (names_of (λ (n : KeyNode). n.name) r)) k.read ∙ sym k.name
 
 pub tree_name : (cells : Cells) (at : ℕ) (t : Tree) → Stands cells at t → node_name cells at ≡ (head t).name
 tree_name cells at (key h ts) s = name_is cells at h s.0 s.1
 
-pub first_part : {A B : Type 0} (r : Result A HiveKind) (f : A → Result B HiveKind) (y : B) → (r >>= f) ≡ Ok y
+pub first_part : {A B : Type 0} (r : Result A HiveFaultKind) (f : A → Result B HiveFaultKind) (y : B) → (r >>= f) ≡ Ok y
     → (x : A) × (r ≡ Ok x) × (f x ≡ Ok y)
 first_part (Ok x) f y e = (x, refl, e)
 first_part (Err k) f y e = absurd cc
@@ -182,7 +182,7 @@ pub record HasItem (cells : Cells) (v : ℕ) (items : List Item) : Type 0 where
 abbrev pub item_from : KeyValue → List ℕ → Item
 item_from v bytes = record { name = v.name; kind = v.kind; bytes = bytes }
 
-abbrev done : {A : Type 0} → A → Result A HiveKind
+abbrev done : {A : Type 0} → A → Result A HiveFaultKind
 done x = Ok x
 
 ok_item : (x y : Item) → done x ≡ done y → x ≡ y
@@ -237,7 +237,7 @@ item_of cells (at ∷ rest) items v e h = go (item_of cells rest others.0 v othe
 value_named : (cells : Cells) (v : ℕ) (items : List Item) (i : HasItem cells v items)
     → value_name cells v ≡ i.item.name
 value_named cells v items i =
-    ap (λ (r : Result KeyValue HiveKind). first_or_empty (names_of (λ (k : KeyValue). k.name) r)) i.read ∙ i.name
+    ap (λ (r : Result KeyValue HiveFaultKind). first_or_empty (names_of (λ (k : KeyValue). k.name) r)) i.read ∙ i.name
 
 items_in : (P : Item → Type 0) (xs : List Item) (x : Item) → All P xs → In xs x → P x
 items_in P [] x a h = absurd h
@@ -257,7 +257,7 @@ items_distinct cells (at ∷ rest) items e d =
           let other = item_of cells rest others.0 z others.1 h in
           ap (λ (m : List ℕ). folds_same m (value_name cells at)) (value_named cells z others.0 other)
           ∙ ap (folds_same other.item.name)
-          (ap (λ (r : Result KeyValue HiveKind). first_or_empty (names_of (λ (w : KeyValue). w.name) r)) k.1 ∙ k.2)
+          (ap (λ (r : Result KeyValue HiveFaultKind). first_or_empty (names_of (λ (w : KeyValue). w.name) r)) k.1 ∙ k.2)
           ∙ items_in (λ i. folds_same i.name one.0.name ≡ false) others.0 other.item
           (λ j w within. p 0 (suc j) w (omega arith) (omega arith)) other.listed_there,
       items_distinct cells rest others.0 others.1 (λ i j w lt within. p (suc i) (suc j) w (omega arith) (omega arith)),
@@ -296,7 +296,11 @@ items_are cells at h offsets k =
     go false e =
         let p = first_part (reading (offsets_in k.node.value_count) cells k.node.value_list) (items_at cells)
         h.values e in
-        record { offsets = p.0; places = ap (λ (r : Result (List ℕ) HiveKind). of_read r (λ os. os)) p.1; read = p.2 }
+        record {
+          offsets = p.0;
+          places = ap (λ (r : Result (List ℕ) HiveFaultKind). of_read r (λ os. os)) p.1;
+          read = p.2;
+        }
 
 -- ---- the whole
 

@@ -2,7 +2,7 @@
 use Rattle.std.specs.Prelude.{◌≡◌, ◌⊎◌, ℕ, Bool, true, false, List, [], ◌∷◌, ◌++◌, map, flat_map, Result, Ok}
 use Rattle.std.specs.Ordering.{is_gt}
 use Rattle.nt_bytes.specs.Folding.{folds_same, folded_order}
-use Rattle.nt_bytes.specs.declared.fault.HiveKind.{HiveKind}
+use Rattle.nt_bytes.specs.declared.fault.HiveFaultKind.{HiveFaultKind}
 use Rattle.hive_model.specs.Bins.{Cells}
 use Rattle.hive_model.specs.Forms.{◌>>=◌}
 use Rattle.hive_model.specs.KeyNode.{KeyNode, key_node_at}
@@ -15,7 +15,7 @@ use Rattle.edit_laws.specs.Framed.{IsUnheld}
 use Rattle.edit_laws.specs.Uses.{Once, plain, tree_uses}
 
 -- the descriptor in the security cell at an offset
-abbrev pub descriptor_at : Cells → ℕ → Result (List ℕ) HiveKind
+abbrev pub descriptor_at : Cells → ℕ → Result (List ℕ) HiveFaultKind
 descriptor_at cells o = reading security_at cells o >>= λ s. Ok s.descriptor
 
 -- some key of the tree at a root uses the cell as security

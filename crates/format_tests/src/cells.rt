@@ -1,7 +1,7 @@
 //! A hive with one key, packed: one bin with the key node's cell and a free one behind it.
 
 use hive_cells::read_cells;
-use nt_bytes::{Bytes, HiveFault, HiveKind, ReadStop};
+use nt_bytes::{Bytes, HiveFault, HiveFaultKind, ReadStop};
 use std::alloc::{AllocError, Global};
 use std::test::Fail;
 
@@ -29,11 +29,11 @@ fn cells_are_looked_up(rt: HostRuntime) -> Result<(), Fail> {
     assert_eq!(rt; node.len(), 84);
     assert_eq!(rt; node[..4], [0x6e, 0x6b, 0x2c, 0][..]);
     let cases = [
-        (0, HiveKind::OutOfRange),
-        (40, HiveKind::OutOfRange),
-        (4096, HiveKind::OutOfRange),
-        (0xffff_ffff, HiveKind::OutOfRange),
-        (120, HiveKind::FreeCell),
+        (0, HiveFaultKind::OutOfRange),
+        (40, HiveFaultKind::OutOfRange),
+        (4096, HiveFaultKind::OutOfRange),
+        (0xffff_ffff, HiveFaultKind::OutOfRange),
+        (120, HiveFaultKind::FreeCell),
     ];
     for (at, kind) in cases {
         let refused = match heap.payload(at) {
@@ -48,15 +48,15 @@ fn cells_are_looked_up(rt: HostRuntime) -> Result<(), Fail> {
 #[test]
 fn the_first_fault_is_named(rt: HostRuntime) -> Result<(), Fail> {
     let cases = [
-        (0, 0x69, HiveKind::BinSign, 0),
-        (7, 1, HiveKind::BinOffset, 0),
-        (8, 8, HiveKind::BinSize, 0),
-        (9, 0, HiveKind::BinSize, 0),
-        (9, 0x20, HiveKind::BinSize, 0),
-        (32, 0xac, HiveKind::CellSize, 32),
-        (120, 0x90, HiveKind::CellPastBin, 120),
-        (123, 0x80, HiveKind::CellPastBin, 120),
-        (121, 0, HiveKind::CellSize, 256),
+        (0, 0x69, HiveFaultKind::BinSign, 0),
+        (7, 1, HiveFaultKind::BinOffset, 0),
+        (8, 8, HiveFaultKind::BinSize, 0),
+        (9, 0, HiveFaultKind::BinSize, 0),
+        (9, 0x20, HiveFaultKind::BinSize, 0),
+        (32, 0xac, HiveFaultKind::CellSize, 32),
+        (120, 0x90, HiveFaultKind::CellPastBin, 120),
+        (123, 0x80, HiveFaultKind::CellPastBin, 120),
+        (121, 0, HiveFaultKind::CellSize, 256),
     ];
     for (broken, byte, kind, at) in cases {
         let mut bytes = one_key(rt.alloc())?;

@@ -5,7 +5,7 @@ use cell_forms::{
     nk_bytes, offsets_bytes, read_bytes, read_db, read_list, read_nk, read_offsets, read_sk,
     read_vk, ri_bytes, sk_bytes, vk_bytes,
 };
-use nt_bytes::{HiveFault, HiveKind, ReadStop, Units};
+use nt_bytes::{HiveFault, HiveFaultKind, ReadStop, Units};
 use std::alloc::{AllocError, Global};
 use std::process::Abort;
 use std::test::Fail;
@@ -58,7 +58,7 @@ fn wide_node(alloc: Global) -> Result<NkForm, AllocError> {
 }
 
 /// The fault of this kind at 7.
-fn is_fault(rt: &impl Abort, stop: Option<ReadStop>, kind: HiveKind, length: usize) {
+fn is_fault(rt: &impl Abort, stop: Option<ReadStop>, kind: HiveFaultKind, length: usize) {
     let fault = HiveFault { kind, at: 7 };
     assert_eq!(rt; stop, Some(ReadStop::Fault(fault)), "{length} bytes");
 }
@@ -100,13 +100,13 @@ fn a_name_is_read_by_its_flag(rt: HostRuntime) -> Result<(), Fail> {
 }
 
 /// How many bytes of the node stand, which of them is broken, and how; and the first fault.
-static BROKEN_NODES: [(usize, usize, u8, HiveKind); 6] = [
-    (1, 2, 0, HiveKind::FormShort),
-    (2, 0, 0x6f, HiveKind::FormSign),
-    (75, 2, 0, HiveKind::FormShort),
-    (77, 2, 0, HiveKind::FormShort),
-    (78, 72, 1, HiveKind::FormLength),
-    (78, 76, 0x5c, HiveKind::FormName),
+static BROKEN_NODES: [(usize, usize, u8, HiveFaultKind); 6] = [
+    (1, 2, 0, HiveFaultKind::FormShort),
+    (2, 0, 0x6f, HiveFaultKind::FormSign),
+    (75, 2, 0, HiveFaultKind::FormShort),
+    (77, 2, 0, HiveFaultKind::FormShort),
+    (78, 72, 1, HiveFaultKind::FormLength),
+    (78, 76, 0x5c, HiveFaultKind::FormName),
 ];
 
 fn node_stop(
@@ -156,7 +156,7 @@ fn long_value_is_refused(rt: &impl Abort, alloc: Global) {
     let mut payload = VALUE;
     payload[4] = 5;
     let stop = read_vk(alloc, &payload, 7).err();
-    is_fault(rt, stop, HiveKind::FormLength, 25);
+    is_fault(rt, stop, HiveFaultKind::FormLength, 25);
 }
 
 #[test]
@@ -276,10 +276,10 @@ fn big_data_is_written(rt: &impl Abort, alloc: Global) -> Result<(), Fail> {
 }
 
 /// How many bytes stand, the first of them, and the first fault.
-static BROKEN_DATA: [(usize, u8, HiveKind); 3] = [
-    (1, 0x64, HiveKind::FormShort),
-    (2, 0x65, HiveKind::FormSign),
-    (7, 0x64, HiveKind::FormShort),
+static BROKEN_DATA: [(usize, u8, HiveFaultKind); 3] = [
+    (1, 0x64, HiveFaultKind::FormShort),
+    (2, 0x65, HiveFaultKind::FormSign),
+    (7, 0x64, HiveFaultKind::FormShort),
 ];
 
 fn data_stop(rt: &impl Abort, length: usize, first: u8) -> Option<ReadStop> {

@@ -10,13 +10,14 @@ use Rattle.hive_model.specs.Bins.{Bin, IsBins, look_up}
 use Rattle.hive_model.specs.Carries.{Carries}
 use Rattle.hive_model.specs.Image.{Bytes, padded, sector_of, image_of}
 use Rattle.hive_model.specs.Load.{Loads, state_of}
-use Rattle.hive_model.specs.Recovery.{primary_in, and_then, sector, base_at, base_in}
+use Rattle.hive_model.specs.Recovery.{primary_in, sector, base_at, base_in}
 use Rattle.hive_model.specs.Stands.{IsWellFormed}
 use Rattle.hive_model.specs.Tree.{Tree}
 use Rattle.hive_model.proofs.BaseLemmas.{base_back, text_long}
 use Rattle.hive_log.proofs.Appending.{sized}
 use Rattle.hive_log.proofs.Finding.{carries_recovered}
 use Rattle.generated_hive.specs.File.{clean_base, clean_file}
+use Rattle.hive_model.specs.Forms.{◌>>=◌}
 
 -- ---- sectors of a file
 
@@ -99,7 +100,7 @@ module _ (bins : List ℕ) (is : is_bins_size (length bins) ≡ true) (small : l
   has_block =
       ap base_at (file_sector (clean_file bins) 0 (omega arith) (omega (arith, file_long))
       ∙ ap (λ b. Some (Bytes b)) first_sector)
-      ∙ ap (λ r. and_then r (λ b. Ok (Some b))) (base_back base (is_base (length bins) is))
+      ∙ ap (λ r. r >>= λ b. Ok (Some b)) (base_back base (is_base (length bins) is))
 
   carried : Carries (image_of (clean_file bins) []) base bins
   carried = record {

@@ -6,7 +6,7 @@ use Rattle.std.proofs.lemmas.Bool.{and_parts, ne_eqb, lt-ltb}
 use Rattle.std.proofs.lemmas.Bool.Decides.{nat_tests}
 use Rattle.nt_bytes.specs.Folding.{folded_unit, folds_same}
 use Rattle.hive_model.specs.Size.{is_narrow}
-use Rattle.hive_model.specs.Valid.{is_backslash}
+use Rattle.nt_bytes.specs.Text.{is_backslash}
 use Rattle.generated_hive.specs.Generated.{service_name}
 
 -- ---- digits

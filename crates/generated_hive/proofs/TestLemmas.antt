@@ -5,7 +5,8 @@ use Rattle.std.specs.List.{list_all, list_any}
 use Rattle.std.proofs.lemmas.Bool.{and_parts, not-true, ltb-true, leb-true}
 use Rattle.nt_bytes.specs.Folding.{folds_same}
 use Rattle.hive_model.specs.Tree.{Item, Tree}
-use Rattle.hive_model.specs.Valid.{IsItem, is_backslash}
+use Rattle.hive_model.specs.Valid.{IsItem}
+use Rattle.nt_bytes.specs.Text.{is_backslash}
 use Rattle.reg_tree.proofs.Unlike.{Each, Lacks, Unlike}
 use Rattle.reg_tree.proofs.Sound.{key_name, item_name, IsNamed, IsHead, Sound, whole}
 use Rattle.generated_hive.specs.Generated.{flagged_head, plain_key}

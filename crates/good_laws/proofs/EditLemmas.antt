@@ -10,7 +10,8 @@ use Rattle.nt_bytes.specs.declared.version.HiveVersion.{HiveVersion}
 use Rattle.hive_model.specs.Tree.{Item, Tree, key, head, children, is_named, is_item, find_key}
 use Rattle.hive_model.specs.Edit.{Step, no_key, no_value, too_deep, name_too_long, data_too_long, has_item, has_child, at_first, without_first, of_items, of_children, at_key, with_item, placed, new_key, with_key, without_key, name_tests, after_step, edited}
 use Rattle.start_model.specs.Sets.{set_name, set_of}
-use Rattle.start_model.specs.Events.{Edit, Set, Delete, Make, Remove, is_current, is_digit_unit, names_a_set, is_protected_child, begins_protected, is_current_alone, is_protected, resolved, without_last, last_of, step_of}
+use Rattle.start_model.specs.Events.{Edit, Set, Delete, Make, Remove, is_current, is_digit_unit, names_a_set, is_protected_child, begins_protected, is_current_alone, is_protected, resolved, last_of, step_of}
+use Rattle.hive_model.specs.Footprint.{parent_of}
 use Rattle.start_laws.proofs.NameLemmas.{and_left, and_right, apart, other_number, select_is_no_set}
 use Rattle.start_laws.proofs.FindLemmas.{find-at_first_other, find-without_first, find-placed_other}
 use Rattle.start_laws.proofs.StepLemmas.{set_found, select_found, children-of_children, name_of-of_items, KeepsOthers, unless_ok, single, steps_made}
@@ -256,33 +257,33 @@ at_path n (first ∷ path) change t le free names root = split (is_current first
 items_changed : (n : ℕ) (change : List Item → List Item) (t : Tree) → KeepsSets n t (of_items change t)
 items_changed n change (key h ts) = by_children n (key h ts) (of_items change (key h ts)) (λ m le ne. refl) refl refl
 
-all_but_last : (a b : List ℕ) (path : List (List ℕ)) → without_last (a ∷ b ∷ path) ≡ a ∷ without_last (b ∷ path)
+all_but_last : (a b : List ℕ) (path : List (List ℕ)) → parent_of (a ∷ b ∷ path) ≡ a ∷ parent_of (b ∷ path)
 all_but_last a b path = let e : length (a ∷ b ∷ path) - 1 ≡ suc (length (b ∷ path) - 1) = omega arith in
     ap (λ k. take k (a ∷ b ∷ path)) e
 
 key_comes : (n : ℕ) (path : List (List ℕ)) (t : Tree) → n ≤ 999 → begins_protected path ≡ false
     → is_current_alone path ≡ false
-    → KeepsSets n t (at_key (without_last (resolved n path)) (with_key (last_of (resolved n path))) t)
+    → KeepsSets n t (at_key (parent_of (resolved n path)) (with_key (last_of (resolved n path))) t)
 key_comes n [] t le free whole = child_made n [] t (empty_apart n)
 key_comes n (first ∷ []) t le free whole =
     let P : Bool → Type 0 = λ b. KeepsSets n t
-    (at_key (without_last (cond b (set_name n ∷ []) (first ∷ [])))
+    (at_key (parent_of (cond b (set_name n ∷ []) (first ∷ [])))
     (with_key (last_of (cond b (set_name n ∷ []) (first ∷ [])))) t) in
     subst P (sym whole) (child_made n first t (unprotected n first le free))
 key_comes n (first ∷ second ∷ path) t le free whole = split (is_current first)
   where
     below : (name : List ℕ) → IsApart n name
-        → KeepsSets n t (at_key (without_last (name ∷ second ∷ path)) (with_key (last_of (second ∷ path))) t)
+        → KeepsSets n t (at_key (parent_of (name ∷ second ∷ path)) (with_key (last_of (second ∷ path))) t)
     below name a =
         let P : List (List ℕ) → Type 0 = λ l. KeepsSets n t (at_key l (with_key (last_of (second ∷ path))) t) in
-        let change : Tree → Tree = at_key (without_last (second ∷ path)) (with_key (last_of (second ∷ path))) in
+        let change : Tree → Tree = at_key (parent_of (second ∷ path)) (with_key (last_of (second ∷ path))) in
         subst P (sym (all_but_last name second path))
         (child_changed n name change t a
-        (at_key_keeps (without_last (second ∷ path)) (with_key (last_of (second ∷ path)))
+        (at_key_keeps (parent_of (second ∷ path)) (with_key (last_of (second ∷ path)))
         (with_key_keeps (last_of (second ∷ path)))))
 
     split : (b : Bool) → KeepsSets n t
-        (at_key (without_last (cond b (set_name n ∷ second ∷ path) (first ∷ second ∷ path)))
+        (at_key (parent_of (cond b (set_name n ∷ second ∷ path) (first ∷ second ∷ path)))
         (with_key (last_of (cond b (set_name n ∷ second ∷ path) (first ∷ second ∷ path)))) t)
     split true = below (set_name n) (taken_apart n le)
     split false = below first (unprotected n first le free).others
@@ -321,10 +322,10 @@ edit_keeps n (Delete path name) t u le free e =
 edit_keeps n (Make path) t u le free e =
     let P : Tree → Type 0 = KeepsSets n t in
     subst P
-    (unless_ok (((is_none (find_key (without_last (resolved n path)) t), no_key)
-    ∷ name_tests (last_of (resolved n path))) ++ (ltb 512 (length (without_last (resolved n path)) + 2), too_deep)
+    (unless_ok (((is_none (find_key (parent_of (resolved n path)) t), no_key)
+    ∷ name_tests (last_of (resolved n path))) ++ (ltb 512 (length (parent_of (resolved n path)) + 2), too_deep)
     ∷ [])
-    (at_key (without_last (resolved n path)) (with_key (last_of (resolved n path))) t) u e)
+    (at_key (parent_of (resolved n path)) (with_key (last_of (resolved n path))) t) u e)
     (key_comes n path t le (or_parts (begins_protected path) (is_current_alone path) free).0
     (or_parts (begins_protected path) (is_current_alone path) free).1)
 edit_keeps n (Remove path) t u le free e =

@@ -26,7 +26,8 @@ impl<'a> Model for TagLists<'a> {
     ghost use Rattle.std.specs.Prelude.{◌≡◌, Option, map};
     ghost use Rattle.std.specs.Coded.{coded_option};
     ghost use Rattle.std.specs.Option.{option_copied};
-    ghost use Rattle.hive_model.specs.Tree.{Tree, coded_tree};
+    ghost use Rattle.hive_model.specs.Tree.{Tree};
+    ghost use Rattle.hive_model.specs.Codes.{coded_tree};
     ghost use Rattle.group_order.specs.Values.{values_in};
 
     ghost Value = { Option Tree };

@@ -6,7 +6,8 @@ ghost use Rattle.std.specs.Option.{option_copied};
 ghost use Rattle.hive_model.specs.Tree.{find_key};
 ghost use Rattle.hive_model.specs.Valid.{HoldsKeys};
 ghost use Rattle.nt_bytes.specs.Folding.{folds_same};
-ghost use Rattle.start_model.specs.Order.{first_names, listed_groups, number_in, order_of, orders_of, tags_of};
+ghost use Rattle.start_model.specs.Order.{first_names, listed_groups, order_of, orders_of, tags_of};
+ghost use Rattle.nt_bytes.specs.Fields.{u32_in};
 ghost use Rattle.group_order.specs.Few.{AreFew};
 
 use crate::lists::TagLists;
@@ -184,7 +185,7 @@ fn read_tags(alloc: Global, bytes: &[u8]) -> Result<Tags, AllocError>
 /// This many numbers behind the count.
 fn numbers(alloc: Global, bytes: &[u8], count: usize) -> Result<Vec<u32>, AllocError>
     requires within { 4 + 4 * count ≤ length bytes.now }
-    ensures numbers { IfOk result (λ v. v.items ≡ map (λ k. number_in bytes.now (4 + 4 * k)) (range_with_len 0 count)) }
+    ensures numbers { IfOk result (λ v. v.items ≡ map (λ k. u32_in bytes.now (4 + 4 * k)) (range_with_len 0 count)) }
     ensures len { IfOk result (λ v. length v.items ≡ count) }
 {
     let mut items = Vec::new(alloc);

@@ -12,7 +12,7 @@ use Rattle.hive_model.specs.Stands.{IsWellFormed}
 use Rattle.hive_cells.proofs.Again.{one_list}
 use Rattle.hive_read.proofs.One.{one_stands}
 use Rattle.hive_log.specs.Stops.{ReadsFiles}
-use Rattle.hive_model.specs.Edit.{Step, Refusal, no_key, name_too_long, data_too_long, full, unless, then_edit, most_bulk, edited}
+use Rattle.hive_model.specs.Edit.{Step, Refusal, no_key, name_too_long, data_too_long, full, unless, most_bulk, edited}
 use Rattle.hive_model.specs.Image.{Image}
 use Rattle.hive_model.specs.Load.{Holds}
 use Rattle.hive_model.specs.Recovery.{Recovered}
@@ -31,6 +31,7 @@ use Rattle.hive_alt.specs.declared.change.Changed.{Changed}
 use Rattle.hive_alt.specs.declared.change.ChangeStop.{ChangeStop}
 use Rattle.hive_alt.specs.declared.change.ChangeStop.TheVariants as stops
 use Rattle.hive_alt.specs.Schemes.{Standing, IsKeptAs, IsKeptAsEither, StandsFor}
+use Rattle.hive_model.specs.Forms.{◌>>=◌}
 
 -- ---- the edit
 
@@ -38,9 +39,9 @@ abbrev by_bulk : HiveVersion → Tree → Result Tree Refusal
 by_bulk version u = cond (nat_lt most_bulk (bulk_of version u)) (Err full) (Ok u)
 
 set_there : (version : HiveVersion) (number : ℕ) (u : Tree) (k : Option Tree) → is_some k ≡ true
-    → then_edit (then_edit (unless
+    → (((unless
     ((is_none k, no_key) ∷ (nat_lt longest_value_name (length default_name), name_too_long)
-    ∷ (nat_lt 1048576 (length (to_le_bytes w32 number)), data_too_long) ∷ []) u) (λ v. Ok v)) (by_bulk version)
+    ∷ (nat_lt 1048576 (length (to_le_bytes w32 number)), data_too_long) ∷ []) u) >>= λ v. Ok v) >>= by_bulk version)
     ≡ by_bulk version u
 set_there version number u None is = absurd (cc)
 set_there version number u (Some select) is = refl

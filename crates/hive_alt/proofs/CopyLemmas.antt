@@ -4,7 +4,7 @@ use Rattle.std.specs.Prelude.{nat_lt, nat_le, OnOk}
 use Rattle.std.proofs.lemmas.Bool.{ne_eqb, le-leb, lt-ltb, and_from, and_right, cases_Bool}
 use Rattle.hive_model.specs.Base.{Base, IsBase, base_of, base_text}
 use Rattle.hive_model.specs.Image.{Image, File, Primary, Log, Address, Bytes, put, same_file}
-use Rattle.hive_model.specs.Recovery.{sector, and_then, base_at}
+use Rattle.hive_model.specs.Recovery.{sector, base_at}
 use Rattle.hive_model.specs.Carries.{HasBins}
 use Rattle.hive_model.proofs.BaseLemmas.{base_back}
 use Rattle.nt_edge.specs.Crash.{AgreeOutside}
@@ -14,6 +14,7 @@ use Rattle.hive_commit.specs.Growing.{HasMarkedBelow}
 use Rattle.hive_commit.specs.Stages.{HasMarked}
 use Rattle.hive_alt.specs.Copies.{copy_in, HasCopy, in_copy, is_block, is_bin, BlockIsBeforeOr, IsWritten, IsRewriting}
 use Rattle.hive_alt.specs.Twin.{copy_at}
+use Rattle.hive_model.specs.Forms.{◌>>=◌}
 
 file_same : (f : File) → same_file f f ≡ true
 file_same Primary = refl
@@ -86,7 +87,7 @@ copy_along file before after base bins same is =
 pub block_written : (base : Base) → IsBase base → base.kind ≡ 0
     → base_at (Some (Bytes (base_text base))) ≡ Ok (Some base)
 block_written base fits kind =
-    ap (λ r. and_then r (λ (b : Base). Ok (Some b))) (ap (base_of (base_text base)) (sym kind) ∙ base_back base fits)
+    ap (λ r. r >>= λ (b : Base). Ok (Some b)) (ap (base_of (base_text base)) (sym kind) ∙ base_back base fits)
 
 pub copy_written : (file : File) (image : Image) (base : Base) (bins : List ℕ) → IsBase base → base.kind ≡ 0
     → base.first ≡ base.second → base.size ≡ length bins → IsWritten file image base bins → HasCopy file image base bins

@@ -5,7 +5,8 @@ use Rattle.std.proofs.lemmas.Bool.{ltb-false}
 use Rattle.nt_bytes.specs.declared.version.HiveVersion.{HiveVersion}
 use Rattle.hive_model.specs.Tree.{Tree}
 use Rattle.hive_model.specs.Size.{bulk_of}
-use Rattle.hive_model.specs.Edit.{Step, Refusal, full, then_edit, after_steps, most_bulk, edited}
+use Rattle.hive_model.specs.Edit.{Step, Refusal, full, after_steps, most_bulk, edited}
+use Rattle.hive_model.specs.Forms.{◌>>=◌}
 
 abbrev made : Tree → Result Tree Refusal
 made t = Ok t
@@ -18,7 +19,7 @@ within version false v u test e =
     subst (λ (t : Tree). bulk_of version t ≤ 16773120) same (ltb-false most_bulk (bulk_of version v) test)
 
 within_after : (version : HiveVersion) (edit : Result Tree Refusal) (u : Tree)
-    → then_edit edit (λ v. cond (nat_lt most_bulk (bulk_of version v)) (Err full) (Ok v)) ≡ made u
+    → (edit >>= λ v. cond (nat_lt most_bulk (bulk_of version v)) (Err full) (Ok v)) ≡ made u
     → bulk_of version u ≤ 16773120
 within_after version (Ok v) u e = within version (nat_lt most_bulk (bulk_of version v)) v u refl e
 within_after version (Err why) u e = absurd cc

@@ -2,10 +2,10 @@
 use Rattle.std.proofs.Common.{◌≡◌, ◌<◌, ◌+◌, ◌*◌, ◌/◌, ℕ, Bool, true, false, cond, List, length, Option, Some, Result, Ok, Err, refl, sym, ◌∙◌, ap, arith}
 use Rattle.std.specs.Prelude.{not}
 use Rattle.nt_bytes.specs.declared.fault.HiveFault.{HiveFault}
-use Rattle.nt_bytes.specs.declared.fault.HiveKind.TheVariants.{LogSequence}
+use Rattle.nt_bytes.specs.declared.fault.HiveFaultKind.TheVariants.{LogSequence}
 use Rattle.hive_model.specs.Base.{Base, fault_at, is_bins_size}
 use Rattle.hive_model.specs.Image.{Image, File, Primary, Log, Bytes}
-use Rattle.hive_model.specs.Recovery.{sector, log_in, and_then, gathered, recovered_with, goes_with, base_in}
+use Rattle.hive_model.specs.Recovery.{sector, log_in, gathered, recovered_with, goes_with, base_in}
 use Rattle.hive_model.specs.Carries.{HasBase}
 use Rattle.hive_log.specs.Found.{IsUnfinished}
 use Rattle.hive_log.proofs.Appending.{sized}
@@ -14,6 +14,7 @@ use Rattle.hive_log.proofs.Looked.{bytes_back}
 use Rattle.hive_alt.specs.Copies.{HasCopy, IsBehind, StandsBy}
 use Rattle.hive_alt.specs.Twin.{copy_at, absent_at, torn_at, read_in, second_in, is_second, standing, by_second_block, twin_of}
 use Rattle.hive_alt.proofs.TwinLemmas.{by_clean, by_unfinished, block_back, first_stands, second_block_stands, second_stands, true_is_second}
+use Rattle.hive_model.specs.Forms.{◌>>=◌}
 
 -- a sector that was read is there
 read_back : (file : File) (image : Image) (i : ℕ) (bytes : List ℕ) → read_in file image i ≡ Ok bytes
@@ -70,13 +71,13 @@ module _ (h : Image) (base : Base) (has : HasBase h base) (even : base.first ≡
 
 module _ (h : Image) (opened : Option Base) (block : base_in h ≡ Ok opened) (unfinished : IsUnfinished opened) where
   pub no_second : (f : HiveFault) → second_in h ≡ Err f → twin_of h ≡ Err f
-  no_second f is = by_unfinished h opened block unfinished ∙ ap (λ r. and_then r (by_second_block h opened)) is
+  no_second f is = by_unfinished h opened block unfinished ∙ ap (λ r. r >>= by_second_block h opened) is
 
   module _ (second : Base) (there : second_in h ≡ Ok second) where
     pub other_numbers : goes_with opened second ≡ false → twin_of h ≡ Err (fault_at LogSequence 4)
     other_numbers differ =
         by_unfinished h opened block unfinished
-        ∙ ap (λ r. and_then r (by_second_block h opened)) there
+        ∙ ap (λ r. r >>= by_second_block h opened) there
         ∙ ap (λ t. cond t (recovered_with true second (gathered (read_in Log h) 0 (second.size / 512)))
         (Err (fault_at LogSequence 4))) differ
 

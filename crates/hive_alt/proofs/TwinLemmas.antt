@@ -4,10 +4,10 @@ use Rattle.std.specs.Prelude.{not, bytes_eq}
 use Rattle.std.proofs.lemmas.Bool.{eq-eqb, eqb-true, ne_eqb, lt-leb, and_right, and_parts}
 use Rattle.std.proofs.lemmas.Slice.Eq.{bytes_eq-Decides}
 use Rattle.nt_bytes.specs.declared.fault.HiveFault.{HiveFault}
-use Rattle.nt_bytes.specs.declared.fault.HiveKind.TheVariants.{LogAbsent, LogUnreadable, LogSequence}
+use Rattle.nt_bytes.specs.declared.fault.HiveFaultKind.TheVariants.{LogAbsent, LogUnreadable, LogSequence}
 use Rattle.hive_model.specs.Base.{Base, base_of, fault_at, is_bins_size}
 use Rattle.hive_model.specs.Image.{Image, File, Primary, Log, Content, Bytes, Unreadable}
-use Rattle.hive_model.specs.Recovery.{log_in, sector, and_then, bytes_or, gathered, recovered_with, goes_with, as_log_base, base_at, base_in}
+use Rattle.hive_model.specs.Recovery.{log_in, sector, bytes_or, gathered, recovered_with, goes_with, as_log_base, base_at, base_in}
 use Rattle.hive_model.specs.Carries.{HasBase}
 use Rattle.hive_model.specs.Log.{dirty}
 use Rattle.hive_model.proofs.BaseLemmas.{log_base_back}
@@ -18,6 +18,7 @@ use Rattle.hive_log.proofs.Runs.{gathered_whole}
 use Rattle.hive_alt.specs.Copies.{HasCopy, IsPair, IsBehind}
 use Rattle.hive_alt.specs.Twin.{copy_at, absent_at, torn_at, read_in, second_in, same_fields, has_fields, has_bytes, second_has, is_second, standing, by_first, by_second, by_second_block, by_copies, twin_of}
 use Rattle.hive_read.proofs.TakenLemmas.{same-bytes}
+use Rattle.hive_model.specs.Forms.{◌>>=◌}
 
 -- whole sectors
 pub whole_of : (n : ℕ) → is_bins_size n ≡ true → 512 * (n / 512) ≡ n
@@ -28,11 +29,11 @@ whole_of n is = omega (arith, (sized n is).pages)
 pub by_block : (image : Image) (opened : Option Base) → base_in image ≡ Ok opened
     → twin_of image ≡ by_copies image opened
 unfolding twin_of
-by_block image opened has = ap (λ r. and_then r (by_copies image)) has
+by_block image opened has = ap (λ r. r >>= by_copies image) has
 
 pub by_fault : (image : Image) (f : HiveFault) → base_in image ≡ Err f → twin_of image ≡ Err f
 unfolding twin_of
-by_fault image f is = ap (λ r. and_then r (by_copies image)) is
+by_fault image f is = ap (λ r. r >>= by_copies image) is
 
 pub by_clean : (image : Image) (base : Base) → HasBase image base → base.first ≡ base.second
     → twin_of image ≡ by_first image base
@@ -52,12 +53,12 @@ by_unfinished image opened has is = by_block image opened has ∙ to_second imag
 
 -- ---- the second copy's base block
 
-base_back_at : (r : Result Base HiveFault) (b : Base) → and_then r (λ base. Ok (Some base)) ≡ Ok (Some b) → r ≡ Ok b
+base_back_at : (r : Result Base HiveFault) (b : Base) → (r >>= λ base. Ok (Some base)) ≡ Ok (Some b) → r ≡ Ok b
 base_back_at (Ok x) b is = cc
 base_back_at (Err f) b is = absurd (cc)
 
 abbrev second_at : Option Content → Result Base HiveFault
-second_at c = and_then (bytes_or (fault_at LogAbsent 0) (fault_at LogUnreadable 0) c)
+second_at c = bytes_or (fault_at LogAbsent 0) (fault_at LogUnreadable 0) c >>=
     (λ block. as_log_base (base_of block 0))
 
 block_there : (c : Option Content) (b : Base) → base_at c ≡ Ok (Some b) → second_at c ≡ Ok b
@@ -69,7 +70,7 @@ pub block_back : (c : Option Content) (b : Base) → second_at c ≡ Ok b → ba
 block_back None b is = absurd (cc)
 block_back (Some Unreadable) b is = absurd (cc)
 block_back (Some (Bytes block)) b is =
-    ap (λ r. and_then r (λ (base : Base). Ok (Some base))) (log_base_back (base_of block 0) b is)
+    ap (λ r. r >>= λ (base : Base). Ok (Some base)) (log_base_back (base_of block 0) b is)
 
 pub second_there : (image : Image) (base : Base) (bins : List ℕ) → HasCopy Log image base bins
     → second_in image ≡ Ok base
@@ -101,7 +102,7 @@ pub second_block_stands : (image : Image) (opened : Option Base) (base : Base) �
     → twin_of image ≡ recovered_with true base (gathered (read_in Log image) 0 (base.size / 512))
 second_block_stands image opened base block unfinished second goes =
     by_unfinished image opened block unfinished
-    ∙ ap (λ r. and_then r (by_second_block image opened)) second
+    ∙ ap (λ r. r >>= by_second_block image opened) second
     ∙ ap (λ t. cond t (recovered_with true base (gathered (read_in Log image) 0 (base.size / 512)))
     (Err (fault_at LogSequence 4))) goes
 

@@ -12,10 +12,11 @@
 --        numbers which are the primary's first one where that could be read, and its bins sectors have to be readable
 use Rattle.std.specs.Prelude.{◌+◌, ◌*◌, ◌/◌, ◌==◌, ◌&&◌, Bool, true, false, not, bytes_eq, if◌then◌else◌, ℕ, zero, suc, List, length, Option, Some, None, Result, Ok, Err}
 use Rattle.nt_bytes.specs.declared.fault.HiveFault.{HiveFault}
-use Rattle.nt_bytes.specs.declared.fault.HiveKind.TheVariants as kinds
+use Rattle.nt_bytes.specs.declared.fault.HiveFaultKind.TheVariants as kinds
 use Rattle.hive_model.specs.Base.{Base, base_of, fault_at}
 use Rattle.hive_model.specs.Image.{Image, File, Primary, Log, Address, Content, Bytes, Unreadable}
-use Rattle.hive_model.specs.Recovery.{Recovered, Sectors, log_in, sector, and_then, bytes_or, gathered, recovered_with, goes_with, as_log_base, base_in}
+use Rattle.hive_model.specs.Recovery.{Recovered, Sectors, log_in, sector, bytes_or, gathered, recovered_with, goes_with, as_log_base, base_in}
+use Rattle.hive_model.specs.Forms.{◌>>=◌}
 
 -- sector n of a copy
 abbrev pub copy_at : File → ℕ → Address
@@ -38,7 +39,7 @@ read_in file image i = bytes_or (absent_at file i) (torn_at file i) (image (copy
 -- the second copy's base block; a fault of it keeps its place
 abbrev pub second_in : Image → Result Base HiveFault
 second_in image =
-    and_then (bytes_or (fault_at kinds.LogAbsent 0) (fault_at kinds.LogUnreadable 0) (log_in image 0)) (λ block. as_log_base (base_of block 0))
+    bytes_or (fault_at kinds.LogAbsent 0) (fault_at kinds.LogUnreadable 0) (log_in image 0) >>= (λ block. as_log_base (base_of block 0))
 
 -- two base blocks have the same fields
 abbrev pub same_fields : Base → Base → Bool
@@ -84,7 +85,7 @@ by_second_block image opened second =
 
 -- rule 3
 abbrev pub by_second : Image → Option Base → Result Recovered HiveFault
-by_second image opened = and_then (second_in image) (by_second_block image opened)
+by_second image opened = second_in image >>= by_second_block image opened
 
 -- behind rule 1: the primary's base block, none where it can't be read
 abbrev pub by_copies : Image → Option Base → Result Recovered HiveFault
@@ -93,4 +94,4 @@ by_copies image (Some base) = if base.first == base.second then by_first image b
 
 -- what an image with two copies stands for, and whether a load mends something; or the first check that fails
 unfoldable pub twin_of : Image → Result Recovered HiveFault
-twin_of image = and_then (base_in image) (by_copies image)
+twin_of image = base_in image >>= by_copies image

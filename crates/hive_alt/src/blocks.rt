@@ -9,7 +9,7 @@ ghost use Rattle.hive_alt.specs.Twin as twin;
 ghost use Rattle.hive_alt.specs.Twin.{second_in, has_fields, has_bytes, second_has, is_second};
 
 use hive_log::{LoadStop, copy_sector, read_logged, read_sector};
-use nt_bytes::{HiveFault, HiveKind};
+use nt_bytes::{HiveFault, HiveFaultKind};
 use nt_edge::{Address, Disk, HiveFile, Presence};
 use regf_base::{BaseBlock, read_base};
 
@@ -28,11 +28,11 @@ pub(crate) fn read_second_block<D: Disk>(disk: &mut D) -> Result<BaseBlock, Load
         sector: 0,
     };
     let absent = HiveFault {
-        kind: HiveKind::LogAbsent,
+        kind: HiveFaultKind::LogAbsent,
         at: 0,
     };
     let unreadable = HiveFault {
-        kind: HiveKind::LogUnreadable,
+        kind: HiveFaultKind::LogUnreadable,
         at: 0,
     };
     read_sector(disk, at, absent, unreadable, &mut sector)?;

@@ -4,7 +4,7 @@ ghost use Rattle.std.specs.Prelude.{◌≡◌, true, [], length, IfOk, OnOk, IsO
 ghost use Rattle.hive_model.specs.Base.{is_bins_size};
 ghost use Rattle.nt_edge.specs.Crash.{EachCrash};
 ghost use Rattle.nt_edge.specs.Frames.{Goes};
-ghost use Rattle.nt_edge.specs.Host.{Rises};
+ghost use Rattle.nt_bytes.specs.Counts.{Rises};
 ghost use Rattle.hive_commit.specs.Stages.{closed_of};
 ghost use Rattle.hive_alt.specs.Copies.{IsPair};
 ghost use Rattle.hive_alt.specs.Schemes.{IsKeptAsEither};

@@ -9,7 +9,7 @@ ghost use Rattle.hive_alt.specs.Schemes.{OnlyReads};
 ghost use Rattle.hive_alt.specs.Twin.{copy_at, absent_at, torn_at, read_in};
 
 use hive_log::{LoadStop, read_sector};
-use nt_bytes::{Bytes, HiveFault, HiveKind};
+use nt_bytes::{Bytes, HiveFault, HiveFaultKind};
 use nt_edge::{Address, Disk, HiveFile};
 use std::alloc::Global;
 
@@ -20,11 +20,11 @@ fn absent_in(file: HiveFile, i: u32) -> HiveFault
 {
     match file {
         HiveFile::Primary => HiveFault {
-            kind: HiveKind::Size,
+            kind: HiveFaultKind::Size,
             at: 40,
         },
         HiveFile::Log => HiveFault {
-            kind: HiveKind::LogShort,
+            kind: HiveFaultKind::LogShort,
             at: 512 * (8 + i),
         },
     }
@@ -37,11 +37,11 @@ fn torn_in(file: HiveFile, i: u32) -> HiveFault
 {
     match file {
         HiveFile::Primary => HiveFault {
-            kind: HiveKind::Unreadable,
+            kind: HiveFaultKind::Unreadable,
             at: 512 * (8 + i),
         },
         HiveFile::Log => HiveFault {
-            kind: HiveKind::LogUnreadable,
+            kind: HiveFaultKind::LogUnreadable,
             at: 512 * (8 + i),
         },
     }

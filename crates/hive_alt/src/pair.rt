@@ -13,7 +13,7 @@ ghost use Rattle.hive_alt.specs.Twin.{twin_of};
 use crate::blocks::{read_second_block, second_is};
 use crate::gathering::read_run;
 use hive_log::{LoadStop, Recovered, goes_with, read_primary_block};
-use nt_bytes::{HiveFault, HiveKind};
+use nt_bytes::{HiveFault, HiveFaultKind};
 use nt_edge::{Disk, HiveFile};
 use regf_base::BaseBlock;
 use std::alloc::Global;
@@ -111,7 +111,7 @@ fn read_second<D: Disk>(
     let second = read_second_block(disk)?;
     if !goes_with(opened, &second) {
         return Err(LoadStop::Fault(HiveFault {
-            kind: HiveKind::LogSequence,
+            kind: HiveFaultKind::LogSequence,
             at: 4,
         }));
     }

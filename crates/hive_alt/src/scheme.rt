@@ -5,7 +5,7 @@ ghost use Rattle.nt_bytes.specs.declared.fault.HiveFault.{HiveFault};
 ghost use Rattle.hive_model.specs.Base.{Base, is_bins_size};
 ghost use Rattle.hive_model.specs.Image.{Image, image_of};
 ghost use Rattle.nt_edge.specs.Crash.{EachCrash};
-ghost use Rattle.nt_edge.specs.Host.{Rises};
+ghost use Rattle.nt_bytes.specs.Counts.{Rises};
 ghost use Rattle.hive_log.specs.Stops.{Reads, ReadsFiles, IsLookAt, IsLoadOn};
 ghost use Rattle.hive_commit.specs.Stages.{closed_of};
 ghost use Rattle.hive_commit.specs.Stops.{IsCommitOn};

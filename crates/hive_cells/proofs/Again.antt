@@ -5,7 +5,7 @@ use Rattle.std.specs.Prelude.{slice_range}
 use Rattle.std.specs.Int.{w32, to_le_bytes}
 use Rattle.std.proofs.lemmas.Bool.{le-ltb, lt-ltb, eq-eqb}
 use Rattle.std.proofs.lemmas.List.{take_at, drop_at, length-append, append-nil}
-use Rattle.nt_bytes.specs.declared.fault.HiveKind.{HiveKind}
+use Rattle.nt_bytes.specs.declared.fault.HiveFaultKind.{HiveFaultKind}
 use Rattle.nt_bytes.specs.declared.fault.HiveFault.{HiveFault}
 use Rattle.nt_bytes.specs.Fields.{u32_in}
 use Rattle.hive_model.specs.Forms.{◌>>=◌}
@@ -66,7 +66,8 @@ unfolding cells_in
 cells_step fuel zero at size bytes lt e = absurd (omega (arith, lt))
 cells_step fuel (suc room) at size bytes lt e = rw e refl
 
-cells_stop : (fuel room at : ℕ) (bytes : List ℕ) (k : HiveKind) → 0 < room → room ≤ fuel → size_at room bytes ≡ Err k
+cells_stop : (fuel room at : ℕ) (bytes : List ℕ) (k : HiveFaultKind) → 0 < room → room ≤ fuel
+    → size_at room bytes ≡ Err k
     → cells_in fuel room at bytes ≡ Err (record { kind = k; at = at })
 unfolding cells_in
 cells_stop fuel zero at bytes k lt le e = absurd (omega (arith, lt))

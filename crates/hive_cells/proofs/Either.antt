@@ -2,10 +2,10 @@
 use Rattle.std.proofs.Common.{◌≡◌, ◌⊎◌, ℕ, zero, suc, ◌+◌, ◌-◌, ◌/◌, ◌%◌, ◌<◌, ◌≤◌, Bool, false, true, List, [], ◌∷◌, ◌++◌, length, drop, replicate, Result, Ok, Err, refl, ap, arith, inl, inr}
 use Rattle.std.proofs.lemmas.Bool.{cases_lt}
 use Rattle.std.proofs.lemmas.List.{length-drop}
-use Rattle.nt_bytes.specs.declared.fault.HiveKind.{HiveKind}
+use Rattle.nt_bytes.specs.declared.fault.HiveFaultKind.{HiveFaultKind}
 use Rattle.nt_bytes.specs.declared.fault.HiveFault.{HiveFault}
 use Rattle.nt_bytes.specs.Fields.{u32_in}
-use Rattle.hive_model.specs.Bins.{Bin, IsBins, header_at, size_at, BinFails, BinsFault, placed}
+use Rattle.hive_model.specs.Bins.{Bin, IsBins, header_at, size_at, BinFails, BinsFault, with_place}
 use Rattle.hive_cells.specs.Reading.{CellsRead, BinsRead, BinRead, IsKept}
 use Rattle.hive_cells.proofs.Tools.{IsBytes, IsBytes-drop}
 use Rattle.hive_cells.proofs.Taken.{header_taken, size_passed}
@@ -20,12 +20,12 @@ one_cell : (fuel at : ℕ) (bytes : List ℕ) (old new : List Bool) (size cell :
     → cell % 8 ≡ 0 → size - cell ≤ suc fuel
     → ((m : List Bool) (next : ℕ) → CellsRead at bytes old m size next → next ≤ size → next % 8 ≡ 0 → size - next ≤ fuel
     → BinRead_or_fails at bytes old size)
-    → (a : Result ℕ HiveKind) → size_at (size - cell) (drop cell bytes) ≡ a → BinRead_or_fails at bytes old size
+    → (a : Result ℕ HiveFaultKind) → size_at (size - cell) (drop cell bytes) ≡ a → BinRead_or_fails at bytes old size
 one_cell fuel at bytes old new size cell fits small header r lt aligned enough go (Err k) e =
     inr (
       record { kind = k; at = at + cell },
       cells_fail at bytes old new size cell (record { kind = k; at = at + cell }) fits header r lt
-          (ap (placed (at + cell)) e),
+          (ap (with_place (at + cell)) e),
     )
 one_cell fuel at bytes old new size cell fits small header r lt aligned enough go (Ok found) e =
     let n = cells_next at bytes old new ((new ++ true ∷ []) ++ replicate (found / 8 - 1) false)
@@ -55,7 +55,7 @@ one_bin : (fuel : ℕ) (text : List ℕ) (at : ℕ) (starts : List Bool) → IsB
     → BinsRead text at starts → at < length text → length text - at ≤ suc fuel
     → ((m : List Bool) (next : ℕ) → BinsRead text next m → next ≤ length text → length text - next ≤ fuel
     → List_or_fault text)
-    → (a : Result ℕ HiveKind) → header_at at (drop at text) ≡ a → List_or_fault text
+    → (a : Result ℕ HiveFaultKind) → header_at at (drop at text) ≡ a → List_or_fault text
 one_bin fuel text at starts fits small r lt enough go (Err k) e =
     let f : HiveFault = record { kind = k; at = at } in
     inr (

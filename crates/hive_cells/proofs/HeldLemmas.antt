@@ -1,10 +1,10 @@
 -- What is held at an offset, and what a lookup answers there.
 use Rattle.std.proofs.Common.{◌≡◌, ℕ, Bool, true, false, cond, List, Option, Some, None, Result, Ok, Err, ◌∙◌}
 use Rattle.std.specs.Prelude.{IfOk}
-use Rattle.nt_bytes.specs.declared.fault.HiveKind.{HiveKind}
-use Rattle.nt_bytes.specs.declared.fault.HiveKind.TheVariants.{FreeCell}
+use Rattle.nt_bytes.specs.declared.fault.HiveFaultKind.{HiveFaultKind}
+use Rattle.nt_bytes.specs.declared.fault.HiveFaultKind.TheVariants.{FreeCell}
 use Rattle.nt_bytes.specs.declared.fault.HiveFault.{HiveFault}
-use Rattle.hive_model.specs.Bins.{Cell, Bin, cell_at, payload_of, payload_at, placed, Sees}
+use Rattle.hive_model.specs.Bins.{Cell, Bin, cell_at, payload_of, payload_at, with_place, Sees}
 use Rattle.hive_cells.specs.Held.{allocated_payload, held_at}
 
 -- what was looked up is held
@@ -36,12 +36,12 @@ pub payload_kept : (old new : List Bin) (o : ℕ) (p : List ℕ) → held_at new
     → payload_at new o ≡ Ok p
 payload_kept old new o p same e = held_payload new o p (same ∙ payload_held old o p e)
 
-placed_ok : (at : ℕ) (r : Result (List ℕ) HiveKind) (p : List ℕ) → placed at r ≡ Ok p → r ≡ Ok p
+placed_ok : (at : ℕ) (r : Result (List ℕ) HiveFaultKind) (p : List ℕ) → with_place at r ≡ Ok p → r ≡ Ok p
 placed_ok at (Ok q) p e = cc
 placed_ok at (Err k) p e = absurd cc
 
 -- what a lookup answered is held
 pub seen_held : {X : Type 0} (view : X → List ℕ) (bins : List Bin) (at : ℕ) (r : Result X HiveFault)
-    → Sees view r (placed at (payload_at bins at)) → IfOk r (λ p. held_at bins at ≡ Some (view p))
+    → Sees view r (with_place at (payload_at bins at)) → IfOk r (λ p. held_at bins at ≡ Some (view p))
 seen_held view bins at (Ok x) e = payload_held bins at (view x) (placed_ok at (payload_at bins at) (view x) e)
 seen_held view bins at (Err e) seen = tt

@@ -7,9 +7,9 @@ use Rattle.std.proofs.lemmas.Bool.{cases_lt, cases_eq, eq-eqb, ne_eqb}
 use Rattle.std.proofs.lemmas.List.{drop_at, drop-drop, length-append, length-replicate, get_or-replicate, get_or_append_left, get_or-append_right}
 use Rattle.std.proofs.lemmas.List.Concat.{flat_map-append}
 use Rattle.nt_bytes.specs.Fields.{u32_in}
-use Rattle.hive_model.specs.Bins.{Cell, Bin, cell_size, cells_size, bin_size, bins_size, head_number, head_bytes, cell_bytes, spelled, IsCell, IsBin, in_cells, in_bins, or_else, cell_at, payload_of, placed}
-use Rattle.nt_bytes.specs.declared.fault.HiveKind.{HiveKind}
-use Rattle.nt_bytes.specs.declared.fault.HiveKind.TheVariants.{FreeCell}
+use Rattle.hive_model.specs.Bins.{Cell, Bin, cell_size, cells_size, bin_size, bins_size, head_number, head_bytes, cell_bytes, spelled, IsCell, IsBin, in_cells, in_bins, or_else, cell_at, payload_of, with_place}
+use Rattle.nt_bytes.specs.declared.fault.HiveFaultKind.{HiveFaultKind}
+use Rattle.nt_bytes.specs.declared.fault.HiveFaultKind.TheVariants.{FreeCell}
 use Rattle.hive_cells.specs.Reading.{cell_marks, marks, bins_of, IsKept, head_of}
 use Rattle.hive_cells.proofs.Tools.{word_at, length_cell, length_cells, length_head, length_spelled, spelled-append}
 use Rattle.hive_cells.proofs.Steps.{kept_seen}
@@ -370,10 +370,10 @@ payload_there text starts at size k e = by_cell (cell_at (bins_of text) at) refl
 
 pub payload_placed : (text : List ℕ) (starts : List Bool) (at size : ℕ) → IsKept text starts
     → Some (true, size) ≡ option_map head_of (cell_at (bins_of text) at)
-    → placed at (payload_of (cell_at (bins_of text) at)) ≡ Ok (slice_range text (at + 4) (at + size))
+    → with_place at (payload_of (cell_at (bins_of text) at)) ≡ Ok (slice_range text (at + 4) (at + size))
 payload_placed text starts at size k e =
-    let y : Result (List ℕ) HiveKind = Ok (slice_range text (at + 4) (at + size)) in
-    ap (placed at) {y = y} (payload_there text starts at size k e)
+    let y : Result (List ℕ) HiveFaultKind = Ok (slice_range text (at + 4) (at + size)) in
+    ap (with_place at) {y = y} (payload_there text starts at size k e)
 
 pub head_payload : (o : Option Cell) (allocated : Bool) (size : ℕ) → Some (allocated, size) ≡ option_map head_of o
     → allocated ≡ false → payload_of o ≡ Err FreeCell

@@ -4,11 +4,11 @@ use Rattle.std.specs.List.{flat_map}
 use Rattle.std.specs.Prelude.{slice_range}
 use Rattle.std.proofs.lemmas.List.{drop_at, length-drop, append-nil, drop-drop}
 use Rattle.std.proofs.lemmas.List.Concat.{flat_map-append}
-use Rattle.nt_bytes.specs.declared.fault.HiveKind.{HiveKind}
+use Rattle.nt_bytes.specs.declared.fault.HiveFaultKind.{HiveFaultKind}
 use Rattle.nt_bytes.specs.declared.fault.HiveFault.{HiveFault}
 use Rattle.nt_bytes.specs.declared.fault.ReadStop.{ReadStop}
 use Rattle.nt_bytes.specs.declared.fault.ReadStop.TheVariants.{Fault, Memory}
-use Rattle.hive_model.specs.Bins.{Cell, cell_size, cells_size, bins_size, head_bytes, cell_bytes, bin_bytes, spelled, IsCell, IsBin, IsHeap, header_at, size_at, BinFails, BinsFault, placed}
+use Rattle.hive_model.specs.Bins.{Cell, cell_size, cells_size, bins_size, head_bytes, cell_bytes, bin_bytes, spelled, IsCell, IsBin, IsHeap, header_at, size_at, BinFails, BinsFault, with_place}
 use Rattle.hive_cells.specs.Reading.{Stops, cell_in, bins_of, cell_marks, bin_marks, marks, IsKept, BinRead, CellsRead, BinsRead}
 use Rattle.hive_cells.proofs.Tools.{IsBytes, IsBytes-drop, length_bin, length_spelled, both_hold, cells_size-append, bins_size-append, spelled-append}
 use Rattle.hive_cells.proofs.Again.{bins_of_again}
@@ -26,11 +26,11 @@ ok_same y x e = cc
 err_same : (A : Type 0) (f g : HiveFault) → failed A f ≡ failed A g → f ≡ g
 err_same A f g e = cc
 
-pub placed_ok : {A : Type 0} (at : ℕ) (r : Result A HiveKind) (x : A) → placed at r ≡ Ok x → r ≡ Ok x
+pub placed_ok : {A : Type 0} (at : ℕ) (r : Result A HiveFaultKind) (x : A) → with_place at r ≡ Ok x → r ≡ Ok x
 placed_ok at (Ok y) x e = ap (λ z. Ok z) (ok_same y x e)
 placed_ok at (Err k) x e = absurd cc
 
-pub placed_err : {A : Type 0} (at : ℕ) (r : Result A HiveKind) (f : HiveFault) → placed at r ≡ Err f
+pub placed_err : {A : Type 0} (at : ℕ) (r : Result A HiveFaultKind) (f : HiveFault) → with_place at r ≡ Err f
     → (r ≡ Err f.kind) × (f.at ≡ at)
 placed_err at (Ok y) f e = absurd cc
 placed_err {A = A} at (Err k) f e = let p = err_same A (record { kind = k; at = at }) f e in
@@ -112,7 +112,7 @@ cells_end at bytes old new size cell fits header r le within =
 
 pub cells_fail : (at : ℕ) (bytes : List ℕ) (old new : List Bool) (size cell : ℕ) (fault : HiveFault) → IsBytes bytes
     → header_at at bytes ≡ Ok size → CellsRead at bytes old new size cell → cell < size
-    → placed (at + cell) (size_at (size - cell) (drop cell bytes)) ≡ Err fault → BinFails at bytes fault
+    → with_place (at + cell) (size_at (size - cell) (drop cell bytes)) ≡ Err fault → BinFails at bytes fault
 cells_fail at bytes old new size cell fault fits header r lt e =
     let h = header_taken at size bytes fits header in
     let p = placed_err (at + cell) (size_at (size - cell) (drop cell bytes)) fault e in

@@ -4,8 +4,8 @@ use Rattle.std.specs.Prelude.{slice_range}
 use Rattle.std.specs.Int.{w32, to_le_bytes}
 use Rattle.std.proofs.lemmas.Bool.{cases_lt, ltb-false, le-ltb, lt-ltb, eqb-true}
 use Rattle.std.proofs.lemmas.List.{take-append-drop, length-take, length-drop, drop-drop}
-use Rattle.nt_bytes.specs.declared.fault.HiveKind.{HiveKind}
-use Rattle.nt_bytes.specs.declared.fault.HiveKind.TheVariants.{BinSign, BinOffset, BinSize, CellSize, CellPastBin}
+use Rattle.nt_bytes.specs.declared.fault.HiveFaultKind.{HiveFaultKind}
+use Rattle.nt_bytes.specs.declared.fault.HiveFaultKind.TheVariants.{BinSign, BinOffset, BinSize, CellSize, CellPastBin}
 use Rattle.nt_bytes.specs.Fields.{u32_in}
 use Rattle.hive_model.specs.Bins.{cell_size, head_number, magnitude, head_bytes, cell_bytes, IsCell, header_at, size_at}
 use Rattle.hive_cells.specs.Reading.{cell_in}
@@ -28,7 +28,7 @@ size_passed room size n bytes is e =
     size f in
     let g2 = pass (eqb (m % 8) 0) CellSize (cond (ltb room m) (Err CellPastBin) (Ok m)) size g1.1 in
     let g3 = guard (ltb room m) CellPastBin (Ok m) size g2.1 in
-    let same : m ≡ size = ok_is {E = HiveKind} m size g3.1 in
+    let same : m ≡ size = ok_is {E = HiveFaultKind} m size g3.1 in
     rw (← same) (ltb-false m 8 g1.0, eqb-true (m % 8) 0 g2.0, ltb-false room m g3.0, refl)
 
 number_of : (n size : ℕ) → n < 4294967296 → magnitude n ≡ size → size < 2147483648 → 0 < size
@@ -96,7 +96,7 @@ header_passed at size bytes e =
     let g4 = guard (ltb n 4096) BinSize x5 size g3.1 in
     let g5 = guard (ltb l n) BinSize x6 size g4.1 in
     let g6 = pass (eqb (n % 4096) 0) BinSize (Ok n) size g5.1 in
-    let same : n ≡ size = ok_is {E = HiveKind} n size g6.1 in (
+    let same : n ≡ size = ok_is {E = HiveFaultKind} n size g6.1 in (
       eqb-true _ _ g0.0,
       eqb-true _ _ g2.0,
       same,

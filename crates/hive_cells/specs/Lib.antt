@@ -3,3 +3,4 @@ pub mod Held
 pub mod Holes
 pub mod Changes
 pub mod Frees
+pub mod Sources

@@ -6,7 +6,7 @@ use Rattle.nt_bytes.specs.declared.fault.ReadStop.{ReadStop}
 use Rattle.nt_bytes.specs.declared.fault.ReadStop.TheVariants.{Fault, Memory}
 use Rattle.nt_bytes.specs.Fields.{u32_in}
 use Rattle.hive_model.specs.Forms.{◌>>=◌}
-use Rattle.hive_model.specs.Bins.{Cell, Bin, cell_size, cells_size, bin_size, bins_size, head_bytes, cell_bytes, bin_bytes, spelled, IsCell, IsBin, IsHeap, header_at, size_at, placed}
+use Rattle.hive_model.specs.Bins.{Cell, Bin, cell_size, cells_size, bin_size, bins_size, head_bytes, cell_bytes, bin_bytes, spelled, IsCell, IsBin, IsHeap, header_at, size_at, with_place}
 
 -- is the cell allocated, and its size
 abbrev pub head_of : Cell → Bool × ℕ
@@ -20,7 +20,7 @@ unfoldable pub cells_in : ℕ → ℕ → ℕ → List ℕ → Result (List Cell
 cells_in fuel zero at bytes = Ok []
 cells_in zero (suc room) at bytes = Ok []
 cells_in (suc fuel) (suc room) at bytes =
-    placed at (size_at (suc room) bytes) >>= λ size.
+    with_place at (size_at (suc room) bytes) >>= λ size.
     cells_in fuel (suc room - size) (at + size) (drop size bytes) >>= λ cells.
     Ok (cell_in size bytes ∷ cells)
 
@@ -29,7 +29,7 @@ unfoldable pub bins_in : ℕ → ℕ → List ℕ → Result (List Bin) HiveFaul
 bins_in fuel at [] = Ok []
 bins_in zero at (x ∷ xs) = Ok []
 bins_in (suc fuel) at (x ∷ xs) =
-    placed at (header_at at (x ∷ xs)) >>= λ size.
+    with_place at (header_at at (x ∷ xs)) >>= λ size.
     cells_in size (size - 32) (at + 32) (drop 32 (x ∷ xs)) >>= λ cells.
     bins_in fuel (at + size) (drop size (x ∷ xs)) >>= λ bins.
     Ok (record { ignored = slice_range (x ∷ xs) 12 32; cells = cells } ∷ bins)

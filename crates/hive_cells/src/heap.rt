@@ -1,10 +1,10 @@
 //! The heap of cells.
 
 ghost use Rattle.std.specs.Prelude.{◌≡◌, ◌%◌, IfOk};
-ghost use Rattle.hive_model.specs.Bins.{cell_at, payload_at, payload_of, placed, spelled, Sees};
+ghost use Rattle.hive_model.specs.Bins.{cell_at, payload_at, payload_of, with_place, spelled, Sees};
 
 use crate::lookup::head;
-use nt_bytes::{Bytes, HiveFault, HiveKind};
+use nt_bytes::{Bytes, HiveFault, HiveFaultKind};
 use std::marker::Model;
 
 /// Cells, in the bytes of their bins: at most 16,777,216 bytes. One flag for eight bytes says
@@ -18,7 +18,8 @@ pub struct CellHeap {
 impl Model for CellHeap {
     ghost use Rattle.std.specs.Prelude.{List};
     ghost use Rattle.std.specs.Coded.{coded_list};
-    ghost use Rattle.hive_model.specs.Bins.{Bin, coded_bin};
+    ghost use Rattle.hive_model.specs.Bins.{Bin};
+    ghost use Rattle.hive_model.specs.Codes.{coded_bin};
     ghost use Rattle.hive_cells.specs.Reading.{bins_of, IsKept};
 
     ghost Value = { List Bin };
@@ -35,18 +36,18 @@ impl CellHeap {
     /// begins there, `FreeCell` where that cell is free, both at the offset. A cell begins at whole
     /// eight bytes.
     pub fn payload(&self, at: u32) -> Result<&[u8], HiveFault>
-        ensures exact { Sees (λ p. p.now) result (placed at (payload_at self.now at)) }
+        ensures exact { Sees (λ p. p.now) result (with_place at (payload_at self.now at)) }
         ensures whole { IfOk result (λ p. at % 8 ≡ 0) }
     {
         let bytes = self.bytes.as_slice();
         let place = at as usize;
         match head(bytes, self.starts.as_slice(), place) {
             None => Err(HiveFault {
-                kind: HiveKind::OutOfRange,
+                kind: HiveFaultKind::OutOfRange,
                 at,
             }),
             Some((false, _size)) => Err(HiveFault {
-                kind: HiveKind::FreeCell,
+                kind: HiveFaultKind::FreeCell,
                 at,
             }),
             Some((true, size)) => Ok(&bytes[place + 4..place + size]),

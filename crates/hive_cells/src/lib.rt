@@ -15,8 +15,10 @@ mod marks;
 mod open;
 mod pushes;
 mod read;
+mod source;
 
 pub use heap::CellHeap;
 pub use laws::{list_or_fault, one_fault, one_list, one_of_the_two};
 pub use open::OpenHeap;
 pub use read::read_cells;
+pub use source::Source;

@@ -2,7 +2,7 @@
 
 ghost use Rattle.std.specs.Prelude.{◌≡◌, ℕ, ◌+◌, ◌-◌, ◌%◌, ◌<◌, ◌≤◌, length, replicate, Some, None, IfOk, OnErr};
 ghost use Rattle.std.specs.Option.{IfSome, IsSome, IsSomeAnd, option_map};
-ghost use Rattle.hive_model.specs.Bins.{spelled, or_else, bins_size, payload_at, placed, IsHeap, Sees};
+ghost use Rattle.hive_model.specs.Bins.{spelled, or_else, bins_size, payload_at, with_place, IsHeap, Sees};
 ghost use Rattle.hive_model.specs.Size.{cell};
 ghost use Rattle.hive_cells.specs.Held.{held_at, held_among, patched, run_cells, IsRun};
 ghost use Rattle.hive_cells.specs.Holes.{new_bin_size, FindsHole, Grows, IsHole, MakesRoom};
@@ -28,7 +28,8 @@ pub struct OpenHeap {
 impl Model for OpenHeap {
     ghost use Rattle.std.specs.Prelude.{◌≡◌, List};
     ghost use Rattle.std.specs.Coded.{coded_list};
-    ghost use Rattle.hive_model.specs.Bins.{Bin, coded_bin};
+    ghost use Rattle.hive_model.specs.Bins.{Bin};
+    ghost use Rattle.hive_model.specs.Codes.{coded_bin};
     ghost use Rattle.hive_cells.specs.Holes.{free_sizes};
 
     ghost Value = { List Bin };
@@ -79,7 +80,7 @@ impl OpenHeap {
     /// eight bytes.
     #[tactic(auto, using(crate::proofs::HeldLemmas::seen_held))]
     pub fn payload(&self, at: u32) -> Result<&[u8], HiveFault>
-        ensures exact { Sees (λ p. p.now) result (placed at (payload_at self.now at)) }
+        ensures exact { Sees (λ p. p.now) result (with_place at (payload_at self.now at)) }
         ensures held { IfOk result (λ p. held_at self.now at ≡ Some p.now) }
         ensures whole { IfOk result (λ p. at % 8 ≡ 0) }
     {

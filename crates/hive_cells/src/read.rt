@@ -1,65 +1,65 @@
 //! Bins and cells checked.
 
 ghost use Rattle.std.specs.Prelude.{◌≡◌, ℕ, ◌+◌, ◌%◌, ◌<◌, ◌≤◌, ◌++◌, false, length, replicate, IfOk, OnOk, MatchResult};
-ghost use Rattle.hive_model.specs.Bins.{header_at, size_at, placed, Sees, BinFails, BinsFault, IsBins};
+ghost use Rattle.hive_model.specs.Bins.{header_at, size_at, with_place, Sees, BinFails, BinsFault, IsBins};
 ghost use Rattle.hive_cells.specs.Reading.{BinRead, Stops};
 
 use crate::heap::CellHeap;
-use nt_bytes::{Bytes, HiveFault, HiveKind, ReadStop, u32_at};
+use nt_bytes::{Bytes, HiveFault, HiveFaultKind, ReadStop, u32_at};
 use std::alloc::{AllocError, Global};
 
 /// The size in a bin's header.
 #[tactic(auto, unfolding(hive_model::specs::Bins::header_at))]
 fn header(rest: &[u8], at: u32) -> Result<u32, HiveFault>
-    ensures exact { Sees (λ size. size) result (placed at (header_at at rest.now)) }
+    ensures exact { Sees (λ size. size) result (with_place at (header_at at rest.now)) }
     ensures bounds { IfOk result (λ size. (4096 ≤ size) × (size ≤ length rest.now) × (size % 4096 ≡ 0)) }
 {
     if rest.len() < 4 {
         return Err(HiveFault {
-            kind: HiveKind::BinSign,
+            kind: HiveFaultKind::BinSign,
             at,
         });
     }
     if u32_at(rest, 0) != 0x6e69_6268 {
         return Err(HiveFault {
-            kind: HiveKind::BinSign,
+            kind: HiveFaultKind::BinSign,
             at,
         });
     }
     if rest.len() < 8 {
         return Err(HiveFault {
-            kind: HiveKind::BinOffset,
+            kind: HiveFaultKind::BinOffset,
             at,
         });
     }
     if u32_at(rest, 4) != at {
         return Err(HiveFault {
-            kind: HiveKind::BinOffset,
+            kind: HiveFaultKind::BinOffset,
             at,
         });
     }
     if rest.len() < 12 {
         return Err(HiveFault {
-            kind: HiveKind::BinSize,
+            kind: HiveFaultKind::BinSize,
             at,
         });
     }
     let size = u32_at(rest, 8);
     if size < 4096 {
         return Err(HiveFault {
-            kind: HiveKind::BinSize,
+            kind: HiveFaultKind::BinSize,
             at,
         });
     }
     if rest.len() < size as usize {
         return Err(HiveFault {
-            kind: HiveKind::BinSize,
+            kind: HiveFaultKind::BinSize,
             at,
         });
     }
     if size % 4096 != 0 {
         return Err(HiveFault {
-            kind: HiveKind::BinSize,
+            kind: HiveFaultKind::BinSize,
             at,
         });
     }
@@ -70,7 +70,7 @@ fn header(rest: &[u8], at: u32) -> Result<u32, HiveFault>
 #[tactic(auto, unfolding(hive_model::specs::Bins::size_at))]
 fn size(rest: &[u8], room: usize, at: u32) -> Result<usize, HiveFault>
     requires { 4 ≤ length rest.now }
-    ensures exact { Sees (λ size. size) result (placed at (size_at room rest.now)) }
+    ensures exact { Sees (λ size. size) result (with_place at (size_at room rest.now)) }
     ensures bounds { IfOk result (λ size. (8 ≤ size) × (size ≤ room)) }
 {
     let head = u32_at(rest, 0);
@@ -81,19 +81,19 @@ fn size(rest: &[u8], room: usize, at: u32) -> Result<usize, HiveFault>
     };
     if size < 8 {
         return Err(HiveFault {
-            kind: HiveKind::CellSize,
+            kind: HiveFaultKind::CellSize,
             at,
         });
     }
     if size % 8 != 0 {
         return Err(HiveFault {
-            kind: HiveKind::CellSize,
+            kind: HiveFaultKind::CellSize,
             at,
         });
     }
     if (room as u64) < size {
         return Err(HiveFault {
-            kind: HiveKind::CellPastBin,
+            kind: HiveFaultKind::CellPastBin,
             at,
         });
     }

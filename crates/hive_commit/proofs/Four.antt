@@ -3,7 +3,7 @@ use Rattle.std.proofs.Common.{◌≡◌, ◌⊎◌, ◌<◌, ◌+◌, ◌*◌, �
 use Rattle.std.proofs.lemmas.Bool.{ne_eqb, cases_Bool}
 use Rattle.hive_model.specs.Base.{Base, IsBase, base_of, base_text, is_bins_size}
 use Rattle.hive_model.specs.Image.{Address, Image, Bytes, Unreadable, IsCrashImage, IsLeftBy}
-use Rattle.hive_model.specs.Recovery.{primary_in, sector, bit, and_then, base_at}
+use Rattle.hive_model.specs.Recovery.{primary_in, sector, bit, base_at}
 use Rattle.hive_model.specs.Carries.{HasBase, HasBins, HasLog, Carries, IsRecoveredAs}
 use Rattle.hive_model.specs.Log.{dirty, log_of}
 use Rattle.hive_model.proofs.BaseLemmas.{base_back, IsChecked, base_in_checked}
@@ -18,6 +18,7 @@ use Rattle.hive_commit.specs.Stages.{in_log, is_base, is_marked, BlockIsBeforeOr
 use Rattle.regf_base.specs.Fitting.{NumbersFit, TextsFit}
 use Rattle.hive_model.specs.Asked.{bin_at, log_at, primary_at}
 use Rattle.hive_commit.proofs.Growth.{unmarked_at}
+use Rattle.hive_model.specs.Forms.{◌>>=◌}
 
 -- what is held may be left
 pub held_left : (s : DiskState) → IsCrashImage s.held s.flight s.held
@@ -56,7 +57,7 @@ module _ (p : Address → Bool) (before after : Image) (agree : AgreeOutside p b
 pub written_base : (image : Image) (base : Base) → IsBase base → base.kind ≡ 0
     → primary_in image 0 ≡ Some (Bytes (base_text base)) → HasBase image base
 written_base image base fits kind there =
-    ap base_at there ∙ ap (λ r. and_then r (λ (b : Base). Ok (Some b)))
+    ap base_at there ∙ ap (λ r. r >>= λ (b : Base). Ok (Some b))
     (ap (base_of (base_text base)) (sym kind) ∙ base_back base fits)
 
 -- whole sectors

@@ -55,7 +55,8 @@ module _ {first : Image} {base : Base} {old new : List ℕ} {root : ℕ} {bits :
   log_fits made same is = subst (λ (b : Base). IsBase (record b { kind = 1 })) (sym same)
       (logged_fits base old new root bits (change_asked first base old new root bits is))
 
-  pub log_written : (s : DiskState) (made : Base) → made ≡ closed_of base new root → IsChange first base old new root bits
+  pub log_written : (s : DiskState) (made : Base) → made ≡ closed_of base new root
+      → IsChange first base old new root bits
       → EachCrash s (AgreeOutside in_log first) → HasLog s.held (log_of bits new made)
       → IsLogWritten first base old new root bits s.held
   log_written s made same is alone has = record {
@@ -101,8 +102,9 @@ module _ {first : Image} {base : Base} {old new : List ℕ} {root : ℕ} {bits :
         let bins = is.stage in
         let opened = bins.stage in
         let log = opened.stage in
+        let block = opened.block in
         closed_carries base old new root bits (change_asked first base old new root bits log.change) first
-        log.change.carries opened.before log.log.alone log.log.log_there bins.before opened.block.alone opened.block.block
+        log.change.carries opened.before log.log.alone log.log.log_there bins.before block.alone block.block
         is.before bins.bins.alone bins.bins.bins_there now is.block.alone is.block.block
 
     pub still_logged : HasLog now (log_of bits new (closed_of base new root))
@@ -110,6 +112,7 @@ module _ {first : Image} {base : Base} {old new : List ℕ} {root : ℕ} {bits :
         let bins = is.stage in
         let opened = bins.stage in
         let log = opened.stage in
+        let block = opened.block in
         closed_logged base old new root bits (change_asked first base old new root bits log.change) first
-        log.change.carries opened.before log.log.alone log.log.log_there bins.before opened.block.alone opened.block.block
+        log.change.carries opened.before log.log.alone log.log.log_there bins.before block.alone block.block
         is.before bins.bins.alone bins.bins.bins_there now is.block.alone

@@ -1,7 +1,7 @@
 -- When a recovery has written nothing. (This project's own.)
 use Rattle.std.specs.Prelude.{◌≡◌, Result, Ok, Err}
 use Rattle.nt_edge.specs.Disk.{DiskState}
-use Rattle.nt_edge.specs.Host.{Rises}
+use Rattle.nt_bytes.specs.Counts.{Rises}
 use Rattle.hive_log.specs.declared.stops.LoadStop.{LoadStop}
 use Rattle.hive_log.specs.declared.stops.LoadStop.TheVariants as load
 

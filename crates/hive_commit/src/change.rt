@@ -5,7 +5,7 @@ ghost use Rattle.hive_model.specs.Recovery.{bit};
 ghost use Rattle.hive_model.specs.Base.{is_bins_size};
 ghost use Rattle.hive_model.specs.Carries.{Carries, HasLog};
 ghost use Rattle.hive_model.specs.Log.{dirty, log_of};
-ghost use Rattle.nt_edge.specs.Host.{Rises};
+ghost use Rattle.nt_bytes.specs.Counts.{Rises};
 ghost use Rattle.nt_edge.specs.Calls.{MakesUntil};
 ghost use Rattle.nt_edge.specs.Crash.{EachCrash};
 ghost use Rattle.hive_commit.specs.Alone.{KeepsRest};

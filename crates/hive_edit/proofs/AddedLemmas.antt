@@ -3,7 +3,7 @@ use Rattle.std.proofs.Common.{◌≡◌, ◌<◌, ◌^◌, ℕ, suc, ◌+◌, Bo
 use Rattle.std.specs.Prelude.{◌==◌, ◌⊎◌, Contains}
 use Rattle.std.specs.Int.{w32, to_le_bytes}
 use Rattle.std.proofs.lemmas.Bool.{eqb-true, eqb-false}
-use Rattle.nt_bytes.specs.declared.fault.HiveKind.{HiveKind}
+use Rattle.nt_bytes.specs.declared.fault.HiveFaultKind.{HiveFaultKind}
 use Rattle.hive_model.specs.Bins.{Cells}
 use Rattle.hive_model.specs.Forms.{◌>>=◌}
 use Rattle.hive_model.specs.KeyNode.{KeyNode, key_node_at, key_node_text}
@@ -105,7 +105,7 @@ module _ (b m l c : Cells) (root : ℕ) (t : Tree) (p : List (List ℕ)) (x : �
   -- the node of the new key
   new_read : reading key_node_at c y ≡ done (new_node x n.stamp n.security name)
   new_read =
-      ap (λ (q : Result (List ℕ) HiveKind). q >>= key_node_at)
+      ap (λ (q : Result (List ℕ) HiveFaultKind). q >>= key_node_at)
       (stays y (key_node_text (new_node x n.stamp n.security name) ++ g.slack) g.here
       (λ i. let q = list_held b root t p x k n y g.parent (g.gone_is y i) in g.fresh q.0 q.1) apart_x
       (λ some e. apart_s some e))
@@ -138,9 +138,10 @@ module _ (b m l c : Cells) (root : ℕ) (t : Tree) (p : List (List ℕ)) (x : �
       let listed = g.kept_l n.security q.0 (g.kept_m.held n.security q.0 q.1)
       (λ j. list_no_security b root t p x k n p x n.security g.parent g.parent.reached i (g.gone_is n.security j)) in
       let w = g.secure_c q.0 some listed in
-      let now = ap (λ (r : Result (List ℕ) HiveKind). r >>= security_at) w.2 ∙ security_counted q.0 s.0 w.0 q.2 w.1 in
-      ap (λ (r : Result SecurityCell HiveKind). r >>= λ z. Ok z.descriptor) now
-      ∙ sym (ap (λ (r : Result SecurityCell HiveKind). r >>= λ z. Ok z.descriptor) s.1)
+      let now = ap (λ (r : Result (List ℕ) HiveFaultKind). r >>= security_at) w.2
+      ∙ security_counted q.0 s.0 w.0 q.2 w.1 in
+      ap (λ (r : Result SecurityCell HiveFaultKind). r >>= λ z. Ok z.descriptor) now
+      ∙ sym (ap (λ (r : Result SecurityCell HiveFaultKind). r >>= λ z. Ok z.descriptor) s.1)
 
   descriptors : (o : ℕ) → IsSecurityCell b root o → descriptor_at c o ≡ descriptor_at b o
   descriptors o s = go (n.security == nowhere) refl (eqb o n.security) refl
@@ -153,7 +154,7 @@ module _ (b m l c : Cells) (root : ℕ) (t : Tree) (p : List (List ℕ)) (x : �
           (λ e. node_no_security b root t p x k n s.path s.key g.parent s.reached
           (subst (In (security_cell_at b s.key)) e s.uses))
           (λ i. list_no_security b root t p x k n s.path s.key o g.parent s.reached s.uses i) none ∙ sym q.1 in
-          ap (λ (r : Result (List ℕ) HiveKind). r >>= security_at >>= λ z. Ok z.descriptor) same
+          ap (λ (r : Result (List ℕ) HiveFaultKind). r >>= security_at >>= λ z. Ok z.descriptor) same
 
       is_not : (In (security_listed n.security) o → ⊥) → In (security_cell_at b x) o → ⊥
       is_not none i = none (subst (λ (l : List ℕ). In l o) (security_at_node b x n g.parent.read) i)

@@ -5,8 +5,8 @@ use Rattle.std.specs.Result.{IsOk}
 use Rattle.std.specs.Int.{w32, to_le_bytes}
 use Rattle.std.proofs.lemmas.Bool.{eqb-true, ltb-false, lt-leb}
 use Rattle.std.proofs.lemmas.List.{length-append, length-take}
-use Rattle.nt_bytes.specs.declared.fault.HiveKind.{HiveKind}
-use Rattle.nt_bytes.specs.declared.fault.HiveKind.TheVariants.{FormLength, FormShort}
+use Rattle.nt_bytes.specs.declared.fault.HiveFaultKind.{HiveFaultKind}
+use Rattle.nt_bytes.specs.declared.fault.HiveFaultKind.TheVariants.{FormLength, FormShort}
 use Rattle.nt_bytes.specs.declared.version.HiveVersion.{HiveVersion}
 use Rattle.nt_bytes.specs.Fields.{u32_in}
 use Rattle.hive_model.specs.Bins.{Cells}
@@ -68,10 +68,10 @@ pub big_used : (cells : Cells) (n at : ℕ) (big : BigData) (os : List ℕ) → 
     → used_in (big_checks cells n at) ≡ at ∷ big.list ∷ os
 unfolding big_checks
 big_used cells n at big os b o =
-    ap (λ (r : Result BigData HiveKind). at
+    ap (λ (r : Result BigData HiveFaultKind). at
     ∷ used_in (below_of r (λ big. use_as false (offsets_in big.segments) cells big.list
     ++ below_of (reading (offsets_in big.segments) cells big.list) (segments_checks cells n)))) b
-    ∙ ap (λ (r : Result (List ℕ) HiveKind). at ∷ big.list ∷ used_in (below_of r (segments_checks cells n))) o
+    ∙ ap (λ (r : Result (List ℕ) HiveFaultKind). at ∷ big.list ∷ used_in (below_of r (segments_checks cells n))) o
     ∙ ap (λ (l : List ℕ). at ∷ big.list ∷ l) (segments_used cells n os)
 
 -- what big data consist of
@@ -252,7 +252,7 @@ places_by cells at p size place h e s q =
     ap (λ (v : KeyValue). v.size) f.facts.is ∙ ap (λ (x : List ℕ). u32_in x 4) (sym e) ∙ sym s in
     let is_place : f.value.offset ≡ place =
     ap (λ (v : KeyValue). v.offset) f.facts.is ∙ ap (λ (x : List ℕ). u32_in x 8) (sym e) ∙ sym q in
-    ap (λ (r : Result KeyValue HiveKind). of_read r (λ value. used_in (data_checks cells value))) f.read
+    ap (λ (r : Result KeyValue HiveFaultKind). of_read r (λ value. used_in (data_checks cells value))) f.read
     ∙ (data_facts cells f.value f.item.bytes f.bytes).used ∙ (λ i. data_places_by cells (is_size i) (is_place i))
 
 pub room_at : (cells : Cells) (at : ℕ) (p : List ℕ) (size : ℕ) → IsItemHere cells at → p ≡ payload_in cells at

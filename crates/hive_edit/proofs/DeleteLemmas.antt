@@ -6,7 +6,7 @@ use Rattle.nt_bytes.specs.declared.version.HiveVersion.{HiveVersion}
 use Rattle.hive_model.specs.Bins.{bins_size}
 use Rattle.hive_model.specs.Tree.{Tree, find_key}
 use Rattle.hive_model.specs.Size.{bulk_of}
-use Rattle.hive_model.specs.Edit.{Step, Refusal, no_key, full, delete_key, without_key, unless, then_edit, after_step, most_bulk, edited}
+use Rattle.hive_model.specs.Edit.{Step, Refusal, no_key, full, delete_key, without_key, unless, after_step, most_bulk, edited}
 use Rattle.hive_model.specs.Footprint.{needed_sizes, room_of, strain_of, unless_refused}
 use Rattle.reg_tree.specs.declared.stop.EditStop.{EditStop}
 use Rattle.reg_tree.specs.Makes.{refusal_of, IsRefused, Makes}
@@ -17,11 +17,12 @@ use Rattle.hive_edit.specs.Deleting.{DropsUses, IsDeletedInPlace}
 use Rattle.hive_edit.proofs.EditLemmas.{the_tree}
 use Rattle.hive_edit.proofs.SteppedLemmas.{packed_for_room, step_within, step_full}
 use Rattle.hive_edit.proofs.DeletingLemmas.{stepped_in_place}
+use Rattle.hive_model.specs.Forms.{◌>>=◌}
 
 -- ---- one step as an edit
 
 abbrev edit_of : HiveVersion → Result Tree Refusal → Result Tree Refusal
-edit_of version r = then_edit (then_edit r (λ u. Ok u))
+edit_of version r = (r >>= λ u. Ok u) >>=
     (λ u. cond (nat_lt most_bulk (bulk_of version u)) (Err full) (Ok u))
 
 one_edit : (version : HiveVersion) (t : Tree) (step : Step)

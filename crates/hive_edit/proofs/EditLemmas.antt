@@ -4,15 +4,16 @@ use Rattle.std.specs.Prelude.{nat_lt, find, is_some, ◌&&◌}
 use Rattle.std.specs.Option.{is_none, option_map_or}
 use Rattle.std.proofs.lemmas.Bool.{ltb-false, le-ltb, eqb-true, eqb-false}
 use Rattle.std.proofs.lemmas.List.Elements.{Contains-append_left, Contains-append_right}
-use Rattle.nt_bytes.specs.declared.fault.HiveKind.{HiveKind}
+use Rattle.nt_bytes.specs.declared.fault.HiveFaultKind.{HiveFaultKind}
 use Rattle.nt_bytes.specs.declared.version.HiveVersion.{HiveVersion}
 use Rattle.nt_bytes.specs.Folding.{folded_unit, folds_same}
 use Rattle.hive_model.specs.Bins.{Bin, Cells, bins_size, look_up, IsBins}
 use Rattle.hive_model.specs.KeyNode.{KeyNode, key_node_at}
 use Rattle.hive_model.specs.Lists.{offsets_in}
-use Rattle.hive_model.specs.Size.{cell, name_bytes, segment_count, segment_sizes, data_sizes, cells_sum, item_size, items_sum, items_size, size, bulk_of, capped}
+use Rattle.hive_model.specs.Size.{cell, name_bytes, segment_count, segment_sizes, data_sizes, cells_sum, item_size, items_sum, items_size, size, bulk_of}
+use Rattle.nt_bytes.specs.Counts.{capped}
 use Rattle.hive_model.specs.Tree.{Tree, Item, head, find_key, find_item, is_item}
-use Rattle.hive_model.specs.Edit.{Step, set_value, Refusal, no_key, name_too_long, data_too_long, full, unless, then_edit, at_first, with_item, of_items, at_key, value_set, after_step, after_steps, most_bulk, edited}
+use Rattle.hive_model.specs.Edit.{Step, set_value, Refusal, no_key, name_too_long, data_too_long, full, unless, at_first, with_item, of_items, at_key, value_set, after_step, after_steps, most_bulk, edited}
 use Rattle.hive_model.specs.Walk.{reading, value_checks}
 use Rattle.hive_model.specs.Footprint.{of_read, of_node, used_in, key_place, is_value_named, named_value_cells, value_cells_at, named_nodes, changed_cells, step_cells, unless_refused, IsInFootprint}
 use Rattle.hive_model.specs.Stands.{IsWellFormed}
@@ -27,6 +28,7 @@ use Rattle.hive_edit.specs.Edits.{IsEditedInPlace}
 use Rattle.hive_edit.specs.Places.{value_places, value_place}
 use Rattle.hive_edit.proofs.ResultLemmas.{done, some, some_same}
 use Rattle.hive_edit.proofs.InPlaceLemmas.{found_among, ListedValues, listed_values, value_first}
+use Rattle.hive_model.specs.Forms.{◌>>=◌}
 
 -- ---- names
 
@@ -61,8 +63,8 @@ pub set_edited : (version : HiveVersion) (t k : Tree) (path : List (List ℕ)) (
     (Ok (set_tree path name kind bytes t))
 unfolding edited
 set_edited version t k path name kind bytes found short few =
-    ap (λ (r : Result Tree Refusal). then_edit (then_edit r (λ u. after_steps u []))
-    (λ u. cond (nat_lt most_bulk (bulk_of version u)) (Err full) (Ok u)))
+    ap (λ (r : Result Tree Refusal). ((r >>= λ u. after_steps u []) >>=
+    (λ u. cond (nat_lt most_bulk (bulk_of version u)) (Err full) (Ok u))))
     (made path name kind bytes t (ap is_none found) (le-ltb 16383 (length name) short)
     (le-ltb 1048576 (length bytes) few))
 
@@ -149,12 +151,12 @@ named_cells b name key v node front back r l e =
     (λ n. cond (eqb n.value_count 0) [] (n.value_list ∷ of_read (reading (offsets_in n.value_count) b n.value_list)
     (λ os. option_map_or (λ at. used_in (value_checks b [] at)) (find (is_value_named b name) os) [])))
     ≡ node.value_list ∷ used_in (value_checks b [] v) =
-    ap (λ (q : Result KeyNode HiveKind). of_read q
+    ap (λ (q : Result KeyNode HiveFaultKind). of_read q
     (λ n. cond (eqb n.value_count 0) [] (n.value_list ∷ of_read (reading (offsets_in n.value_count) b n.value_list)
     (λ os. option_map_or (λ at. used_in (value_checks b [] at)) (find (is_value_named b name) os) [])))) r
     ∙ ap (λ (t : Bool). cond t [] (node.value_list ∷ of_read (reading (offsets_in node.value_count) b node.value_list)
     (λ os. option_map_or (λ at. used_in (value_checks b [] at)) (find (is_value_named b name) os) []))) l.some_values
-    ∙ ap (λ (q : Result (List ℕ) HiveKind). node.value_list
+    ∙ ap (λ (q : Result (List ℕ) HiveFaultKind). node.value_list
     ∷ of_read q (λ os. option_map_or (λ at. used_in (value_checks b [] at)) (find (is_value_named b name) os) []))
     l.offsets
     ∙ ap (λ (o : Option ℕ). node.value_list ∷ option_map_or (λ at. used_in (value_checks b [] at)) o []) e in
@@ -209,7 +211,7 @@ within version false v u test e =
     subst (λ (t : Tree). bulk_of version t ≤ 16773120) same (ltb-false most_bulk (bulk_of version v) test)
 
 within_after : (version : HiveVersion) (edit : Result Tree Refusal) (u : Tree)
-    → then_edit edit (λ v. cond (nat_lt most_bulk (bulk_of version v)) (Err full) (Ok v)) ≡ the_tree u
+    → (edit >>= λ v. cond (nat_lt most_bulk (bulk_of version v)) (Err full) (Ok v)) ≡ the_tree u
     → bulk_of version u ≤ 16773120
 within_after version (Ok v) u e = within version (nat_lt most_bulk (bulk_of version v)) v u refl e
 within_after version (Err why) u e = absurd cc

@@ -27,7 +27,7 @@ use Rattle.edit_laws.specs.Pairs.{Pairwise}
 use Rattle.edit_laws.proofs.FromCells.{data_held_inside, data_in_cell, data_in_segments}
 use Rattle.hive_edit.specs.Edits.{value_fields}
 use Rattle.hive_edit.specs.Given.{with_fields, IsGiven}
-use Rattle.hive_edit.specs.Runs.{IsPutAt}
+use Rattle.hive_edit.specs.Runs.{IsRunPutAt}
 use Rattle.hive_edit.proofs.ResultLemmas.{done}
 use Rattle.hive_edit.proofs.InPlaceLemmas.{inside_size, inside_again, inside_data}
 use Rattle.hive_edit.proofs.DataLemmas.{big_used}
@@ -145,7 +145,7 @@ data_total : (version : HiveVersion) (place : ℕ) (bytes : List ℕ)
 data_total version place bytes = used_size (data_cells version place bytes) ∙ space_data version place bytes
 
 pub put_unheld : (version : HiveVersion) (place : ℕ) (bytes : List ℕ) (old mid : List Bin)
-    → IsPutAt (data_size version bytes) place (data_run version place bytes) old mid
+    → IsRunPutAt (data_size version bytes) place (data_run version place bytes) old mid
     → (o : ℕ) (p : List ℕ) → held_among o place (data_run version place bytes) ≡ Some p → held_at old o ≡ None
 put_unheld version place bytes old mid put o p h =
     let r = among_from o place (data_run version place bytes) p h in
@@ -153,7 +153,7 @@ put_unheld version place bytes old mid put o p h =
 
 -- what was held is held as before
 pub put_stays : (version : HiveVersion) (place : ℕ) (bytes : List ℕ) (old mid : List Bin)
-    → IsPutAt (data_size version bytes) place (data_run version place bytes) old mid
+    → IsRunPutAt (data_size version bytes) place (data_run version place bytes) old mid
     → (o : ℕ) → IsSome (held_at old o) → held_at mid o ≡ held_at old o
 put_stays version place bytes old mid put o s = put.held o ∙ go (held_among o place (data_run version place bytes)) refl
   where
@@ -197,11 +197,11 @@ run_of version place bytes run long room e =
 -- what was put is the run's cells
 pub put_cells : (version : HiveVersion) (place : ℕ) (bytes run : List ℕ) (old mid : List Bin)
     → IsRunOf version place bytes run
-    → IsPutAt (length run) place (run_cells run) old mid
-    → IsPutAt (data_size version bytes) place (data_run version place bytes) old mid
+    → IsRunPutAt (length run) place (run_cells run) old mid
+    → IsRunPutAt (data_size version bytes) place (data_run version place bytes) old mid
 put_cells version place bytes run old mid r p =
-    subst (λ (n : ℕ). IsPutAt n place (data_run version place bytes) old mid) r.long
-    (subst (λ (cs : List Cell). IsPutAt (length run) place cs old mid) r.cells p)
+    subst (λ (n : ℕ). IsRunPutAt n place (data_run version place bytes) old mid) r.long
+    (subst (λ (cs : List Cell). IsRunPutAt (length run) place cs old mid) r.cells p)
 
 -- what is asked of the cells that go, behind what was put
 pub room_stays : (old mid : List Bin) (v : ℕ) → held_at mid v ≡ held_at old v
@@ -215,7 +215,7 @@ some_of (Some p) P h = refl
 pub given_run : (version : HiveVersion) (v kind place : ℕ) (bytes gone : List ℕ) (old mid new : List Bin)
     → 4 < length bytes → length bytes ≤ 1048576
     → place + data_size version bytes ≤ 16777216
-    → IsPutAt (data_size version bytes) place (map allocated_cell (data_cells version place bytes)) old mid
+    → IsRunPutAt (data_size version bytes) place (map allocated_cell (data_cells version place bytes)) old mid
     → IsSome (held_at old v) → All (λ o. IsSome (held_at old o)) gone
     → held_at new v ≡ option_map (patched 4 (value_fields (length bytes) place kind)) (held_at mid v)
     → ((o : ℕ) → Contains gone o → held_at new o ≡ None)

@@ -8,8 +8,8 @@ use Rattle.std.proofs.lemmas.Bool.{eqb-true, eqb-false}
 use Rattle.std.proofs.lemmas.List.{drop-drop}
 use Rattle.nt_bytes.specs.Fields.{u16_in, u32_in}
 use Rattle.nt_bytes.specs.declared.fault.HiveFault.{HiveFault}
-use Rattle.nt_bytes.specs.declared.fault.HiveKind.TheVariants.{FormShort, FormSign}
-use Rattle.hive_model.specs.Bins.{Bin, Cell, cell_size, cells_size, bin_size, bins_size, in_cells, in_bins, cell_at, or_else, payload_at, placed, Sees}
+use Rattle.nt_bytes.specs.declared.fault.HiveFaultKind.TheVariants.{FormShort, FormSign}
+use Rattle.hive_model.specs.Bins.{Bin, Cell, cell_size, cells_size, bin_size, bins_size, in_cells, in_bins, cell_at, or_else, payload_at, with_place, Sees}
 use Rattle.hive_model.specs.BigData.{BigData, big_data_in, big_data_at}
 use Rattle.hive_model.specs.Lists.{numbers_in, offsets_in}
 use Rattle.hive_cells.specs.Held.{allocated_payload, held_at, patched}
@@ -41,11 +41,11 @@ held_of (Some p) h = (p, refl)
 -- a lookup of what is held does not fail
 pub no_error : {X : Type 0} (view : X → List ℕ) (bins : List Bin) (at : ℕ) (p : List ℕ) (r : Result X HiveFault)
     (f : HiveFault) → held_at bins at ≡ Some p
-    → r ≡ Err f → Sees view r (placed at (payload_at bins at)) → ⊥
+    → r ≡ Err f → Sees view r (with_place at (payload_at bins at)) → ⊥
 no_error {X} view bins at p r f h e seen =
-    let lost : Sees view (Err f) (placed at (payload_at bins at)) =
-    subst (λ (q : Result X HiveFault). Sees view q (placed at (payload_at bins at))) e seen in
-    let there : placed at (payload_at bins at) ≡ Ok p = ap (placed at) (held_payload bins at p h) in
+    let lost : Sees view (Err f) (with_place at (payload_at bins at)) =
+    subst (λ (q : Result X HiveFault). Sees view q (with_place at (payload_at bins at))) e seen in
+    let there : with_place at (payload_at bins at) ≡ Ok p = ap (with_place at) (held_payload bins at p h) in
     cc
 
 -- ---- numbers in a row

@@ -3,7 +3,7 @@ use Rattle.std.proofs.Common.{◌≡◌, ◌≤◌, ◌<◌, ◌^◌, ℕ, ◌+�
 use Rattle.std.specs.Prelude.{◌==◌, ◌⊎◌, Contains}
 use Rattle.std.specs.Int.{w32, to_le_bytes}
 use Rattle.std.proofs.lemmas.Bool.{eqb-true, eqb-false, ne_eqb}
-use Rattle.nt_bytes.specs.declared.fault.HiveKind.{HiveKind}
+use Rattle.nt_bytes.specs.declared.fault.HiveFaultKind.{HiveFaultKind}
 use Rattle.hive_model.specs.Bins.{Cells}
 use Rattle.hive_model.specs.Forms.{◌>>=◌}
 use Rattle.hive_model.specs.KeyNode.{KeyNode, key_node_at}
@@ -117,9 +117,10 @@ module _ (b m l c : Cells) (root : ℕ) (t : Tree) (n : KeyNode) (k : Tree) (y s
       let listed = g.kept_l sp q.0 (g.kept_m.held sp q.0 q.1)
       (λ j. list_no_security b root t [] root t n u.path u.key sp g.parent u.reached u.uses (g.gone_is sp j)) in
       let w = g.secure_c q.0 some listed in
-      let now = ap (λ (r : Result (List ℕ) HiveKind). r >>= security_at) w.2 ∙ security_counted q.0 z.0 w.0 q.2 w.1 in
-      ap (λ (r : Result SecurityCell HiveKind). r >>= λ d. Ok d.descriptor) now
-      ∙ sym (ap (λ (r : Result SecurityCell HiveKind). r >>= λ d. Ok d.descriptor) z.1)
+      let now = ap (λ (r : Result (List ℕ) HiveFaultKind). r >>= security_at) w.2
+      ∙ security_counted q.0 z.0 w.0 q.2 w.1 in
+      ap (λ (r : Result SecurityCell HiveFaultKind). r >>= λ d. Ok d.descriptor) now
+      ∙ sym (ap (λ (r : Result SecurityCell HiveFaultKind). r >>= λ d. Ok d.descriptor) z.1)
 
   descriptors : (o : ℕ) → IsSecurityCell b root o → descriptor_at c o ≡ descriptor_at b o
   descriptors o z = go (sp == nowhere) refl (eqb o sp) refl
@@ -131,7 +132,7 @@ module _ (b m l c : Cells) (root : ℕ) (t : Tree) (n : KeyNode) (k : Tree) (y s
           (λ e. node_no_security b root t [] root t n z.path z.key g.parent z.reached
           (subst (In (security_cell_at b z.key)) e z.uses))
           (λ i. list_no_security b root t [] root t n z.path z.key o g.parent z.reached z.uses i) none ∙ sym q.1 in
-          ap (λ (r : Result (List ℕ) HiveKind). r >>= security_at >>= λ d. Ok d.descriptor) same
+          ap (λ (r : Result (List ℕ) HiveFaultKind). r >>= security_at >>= λ d. Ok d.descriptor) same
 
       go : (v : Bool) → (sp == nowhere) ≡ v → (w : Bool) → eqb o sp ≡ w → descriptor_at c o ≡ descriptor_at b o
       go true e w f = plain_one (λ i. (security_some sp o i).1 (eqb-true sp nowhere e))
@@ -154,7 +155,7 @@ module _ (b m l c : Cells) (root : ℕ) (t : Tree) (n : KeyNode) (k : Tree) (y s
   kept_descriptor : (sp ≡ nowhere → ⊥) → descriptor_at m sp ≡ descriptor_at b sp
   kept_descriptor some =
       let h = secure_held sp (security_in_list sp some) in
-      ap (λ (r : Result (List ℕ) HiveKind). r >>= security_at >>= λ d. Ok d.descriptor)
+      ap (λ (r : Result (List ℕ) HiveFaultKind). r >>= security_at >>= λ d. Ok d.descriptor)
       (g.kept_m.held sp h.0 h.1 ∙ sym h.1)
 
   range : KeepsRange m c y (y + size) sp

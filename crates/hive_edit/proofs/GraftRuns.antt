@@ -1,7 +1,7 @@
 -- The run of a key and of all below it, put into cells: it stands there, and what it uses is in the run, or the
 -- security that it shares.
 use Rattle.std.proofs.Common.{◌≡◌, ◌≤◌, ◌<◌, ◌⊎◌, inl, inr, ⊎_elim, ℕ, ◌+◌, Bool, true, List, [], ◌∷◌, length, map, Option, Some, None, Result, Ok, refl, sym, ap, subst, ◌∙◌, arith}
-use Rattle.nt_bytes.specs.declared.fault.HiveKind.{HiveKind}
+use Rattle.nt_bytes.specs.declared.fault.HiveFaultKind.{HiveFaultKind}
 use Rattle.nt_bytes.specs.declared.version.HiveVersion.{HiveVersion}
 use Rattle.hive_model.specs.Bins.{Cell, Bin, Cells, look_up, or_else}
 use Rattle.hive_model.specs.Forms.{◌>>=◌}
@@ -35,7 +35,7 @@ use Rattle.edit_laws.proofs.ChildFrames.{owned_used}
 use Rattle.edit_laws.proofs.Relisting.{uses_below}
 use Rattle.edit_laws.proofs.SameTree.{IsSameKey, tree_same, uses_same}
 use Rattle.key_index.proofs.Runs.{among_from, has_held, run_is}
-use Rattle.hive_edit.specs.Runs.{IsPutAt}
+use Rattle.hive_edit.specs.Runs.{IsRunPutAt}
 use Rattle.hive_edit.proofs.ResultLemmas.{done, some}
 use Rattle.hive_edit.proofs.ParentLemmas.{Keeps}
 use Rattle.hive_edit.proofs.AddedLemmas.{no_some}
@@ -67,7 +67,7 @@ pub record IsRunThere (b m : Cells) (up : Above) (at : ℕ) (k : Tree) : Type 0 
 
 pub run_there : (version : HiveVersion) (up : Above) (at : ℕ) (k : Tree) (run : List ℕ) (old mid : List Bin)
     → run ≡ text (cells_of version up at k)
-    → size version up.security k ≤ 16777216 → IsPutAt (length run) at (run_cells run) old mid
+    → size version up.security k ≤ 16777216 → IsRunPutAt (length run) at (run_cells run) old mid
     → IsRunThere (look_up version old) (look_up version mid) up at k
 run_there version up at k run old mid e few put = record {
   kept = record {
@@ -211,7 +211,7 @@ module _ (m c : Cells) (at size : ℕ) (k : Tree) (sp : ℕ) (f : IsFormed m at 
           go : (q : List ℕ) {s : Bool} → m.payload o ≡ done q
               → ((at ≤ o) × (o < at + size)) ⊎ ((s ≡ true) × (o ≡ sp) × (sp < nowhere))
               → descriptor_at c o ≡ descriptor_at m o
-          go q e (inl r) = ap (λ (z : Result (List ℕ) HiveKind). z >>= security_at >>= λ d. Ok d.descriptor)
+          go q e (inl r) = ap (λ (z : Result (List ℕ) HiveFaultKind). z >>= security_at >>= λ d. Ok d.descriptor)
               (in_range o q r e)
           go q e (inr r) = subst (λ (z : ℕ). descriptor_at c z ≡ descriptor_at m z) (sym r.1) (keeps.security r.2)
 

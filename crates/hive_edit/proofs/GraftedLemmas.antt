@@ -8,7 +8,7 @@ use Rattle.std.specs.Ordering.{is_gt}
 use Rattle.std.specs.Int.{w32, to_le_bytes}
 use Rattle.std.proofs.lemmas.Bool.{eqb-true, eqb-false, ltb-false, cases_lt}
 use Rattle.std.proofs.lemmas.List.{take-append-drop}
-use Rattle.nt_bytes.specs.declared.fault.HiveKind.{HiveKind}
+use Rattle.nt_bytes.specs.declared.fault.HiveFaultKind.{HiveFaultKind}
 use Rattle.nt_bytes.specs.declared.version.HiveVersion.{HiveVersion}
 use Rattle.nt_bytes.specs.Fields.{u32_in}
 use Rattle.nt_bytes.specs.Folding.{folded_order}
@@ -105,7 +105,7 @@ module _ (version : HiveVersion) (old mid : List Bin) (root : ℕ) (t : Tree) (n
       go false e =
           let h = cell_held above.security (r.shares.used (λ z. absurd (eqb-false above.security nowhere e z))) in
           ap (λ (v : Bool). cond v (Ok []) (descriptor_at (look_up version mid) above.security)) e
-          ∙ ap (λ (q : Result (List ℕ) HiveKind). q >>= security_at >>= λ d. Ok d.descriptor)
+          ∙ ap (λ (q : Result (List ℕ) HiveFaultKind). q >>= security_at >>= λ d. Ok d.descriptor)
           (there.kept.held above.security h.0 h.1 ∙ sym h.1)
           ∙ sym (ap (λ (v : Bool). cond v (Ok []) (descriptor_at (look_up version old) above.security)) e)
           ∙ r.shares.descriptor
@@ -181,7 +181,7 @@ module _ (version : HiveVersion) (old mid : List Bin) (root : ℕ) (t : Tree) (n
   unfolding payload_in
   key_there =
       let m = key_node in
-      subst (λ (q : Result (List ℕ) HiveKind). IsOk (key_node_at (of_read q (λ z. z)))) (sym m.2)
+      subst (λ (q : Result (List ℕ) HiveFaultKind). IsOk (key_node_at (of_read q (λ z. z)))) (sym m.2)
       (is_ok_of (key_node_at m.1) m.0 m.3)
 
   secure_long : (above.security ≡ nowhere → ⊥) → IsSomeAnd (held_at mid above.security) (λ z. 20 ≤ length z)
@@ -257,7 +257,7 @@ module _ (version : HiveVersion) (old mid : List Bin) (root : ℕ) (t : Tree) (n
           let read = plain_node false (look_up version old) o s.node s.read in
           let q = then-so ((look_up version old).payload o) key_node_at s.node read in
           name_read (look_up version mid) o s.node
-          (ap (λ (z : Result (List ℕ) HiveKind). z >>= key_node_at) (there.kept.held o q.0 q.1) ∙ q.2)
+          (ap (λ (z : Result (List ℕ) HiveFaultKind). z >>= key_node_at) (there.kept.held o q.0 q.1) ∙ q.2)
           ∙ sym (node_name_read (look_up version old) o s.node read)
 
       same : (o : ℕ) → In (children_at (look_up version mid) above.list above.count) o

@@ -5,7 +5,7 @@ use Rattle.std.specs.Option.{option_map}
 use Rattle.std.specs.List.{list_any}
 use Rattle.std.specs.Int.{w32, from_le_bytes, to_le_bytes}
 use Rattle.std.proofs.lemmas.Nat.{le_bytes_4}
-use Rattle.nt_bytes.specs.declared.fault.HiveKind.{HiveKind}
+use Rattle.nt_bytes.specs.declared.fault.HiveFaultKind.{HiveFaultKind}
 use Rattle.nt_bytes.specs.declared.version.HiveVersion.{HiveVersion}
 use Rattle.nt_bytes.specs.Folding.{folds_same}
 use Rattle.hive_model.specs.Bins.{Bin, Cells, look_up}
@@ -60,16 +60,16 @@ patched_at version old new at place part here others = record {
 
 -- ---- forms read again
 
-read_payload : {F : Type 0} (form : List ℕ → Result F HiveKind) (cells : Cells) (at : ℕ) (x : F)
+read_payload : {F : Type 0} (form : List ℕ → Result F HiveFaultKind) (cells : Cells) (at : ℕ) (x : F)
     → reading form cells at ≡ done x → (p : List ℕ) × (cells.payload at ≡ done p) × (form p ≡ done x)
 read_payload form cells at x r = then-so (cells.payload at) form x r
 
-reads_so : {F : Type 0} (form : List ℕ → Result F HiveKind) (cells : Cells) (at : ℕ) (p : List ℕ) (x : F)
+reads_so : {F : Type 0} (form : List ℕ → Result F HiveFaultKind) (cells : Cells) (at : ℕ) (p : List ℕ) (x : F)
     → cells.payload at ≡ done p → form p ≡ done x → reading form cells at ≡ done x
-reads_so form cells at p x e f = ap (λ (r : Result (List ℕ) HiveKind). r >>= form) e ∙ f
+reads_so form cells at p x e f = ap (λ (r : Result (List ℕ) HiveFaultKind). r >>= form) e ∙ f
 
 -- a form elsewhere is read as before
-read_still : {F : Type 0} (form : List ℕ → Result F HiveKind) (b c : Cells) (at place : ℕ) (part : List ℕ) (o : ℕ)
+read_still : {F : Type 0} (form : List ℕ → Result F HiveFaultKind) (b c : Cells) (at place : ℕ) (part : List ℕ) (o : ℕ)
     (x : F) → IsPatchedAt b c at place part → (o ≡ at → ⊥)
     → reading form b o ≡ done x → reading form c o ≡ done x
 read_still form b c at place part o x h apart r =
@@ -178,8 +178,8 @@ value_only : (cells : Cells) (v : ℕ) (value : KeyValue) → reading key_value_
     → is_some (data_inside value) ≡ true → used_in (value_checks cells [] v) ≡ v ∷ []
 unfolding value_checks data_checks
 value_only cells v value r s =
-    ap (λ (q : Result KeyValue HiveKind). v ∷ used_in (below_of q (λ u. name_check [] v u.name ∷ data_checks cells u)))
-    r
+    let below = λ (u : KeyValue). name_check [] v u.name ∷ data_checks cells u in
+    ap (λ (q : Result KeyValue HiveFaultKind). v ∷ used_in (below_of q below)) r
     ∙ ap (λ (b : Bool). v ∷ used_in
     (cond b [] (cond (is_big cells.version value.size) (big_checks cells value.size value.offset)
     (use_as false (bytes_in value.size) cells value.offset)))) s
@@ -193,14 +193,14 @@ list_at_node : (cells : Cells) (x : ℕ) (node : KeyNode) → reading key_node_a
     → value_list_at cells x ≡ cond (eqb node.value_count 0) [] (node.value_list ∷ [])
 unfolding value_list_at
 list_at_node cells x node r =
-    ap (λ (q : Result KeyNode HiveKind). of_read q (λ n. cond (eqb n.value_count 0) [] (n.value_list ∷ []))) r
+    ap (λ (q : Result KeyNode HiveFaultKind). of_read q (λ n. cond (eqb n.value_count 0) [] (n.value_list ∷ []))) r
 
 pub places_at_node : (cells : Cells) (x : ℕ) (node : KeyNode) → reading key_node_at cells x ≡ done node
     → value_places cells x ≡ cond (eqb node.value_count 0) []
     (of_read (reading (offsets_in node.value_count) cells node.value_list) (λ os. os))
 unfolding value_places
 places_at_node cells x node r =
-    ap (λ (q : Result KeyNode HiveKind). of_read q
+    ap (λ (q : Result KeyNode HiveFaultKind). of_read q
     (λ n. cond (eqb n.value_count 0) []
     (of_read (reading (offsets_in n.value_count) cells n.value_list) (λ os. os)))) r
 
@@ -219,7 +219,8 @@ pub listed_values : (b : Cells) (x : ℕ) (node : KeyNode) (front back : List �
     → ListedValues b x node front back v
 listed_values b x node front back v r e = go (eqb node.value_count 0) refl
   where
-    read : (q : Result (List ℕ) HiveKind) → of_read q (λ os. os) ≡ front ++ (v ∷ back) → q ≡ done (front ++ (v ∷ back))
+    read : (q : Result (List ℕ) HiveFaultKind) → of_read q (λ os. os) ≡ front ++ (v ∷ back)
+        → q ≡ done (front ++ (v ∷ back))
     read (Ok os) f = ap done f
     read (Err k) f = absurd (no_cons front v back (sym f))
 
@@ -296,7 +297,7 @@ rewritten b c v kind bytes value h r short small k =
 name_there : (cells : Cells) (v : ℕ) (value : KeyValue) → reading key_value_at cells v ≡ done value
     → value_name cells v ≡ value.name
 name_there cells v value r =
-    ap (λ (q : Result KeyValue HiveKind). first_or_empty (names_of (λ (n : KeyValue). n.name) q)) r
+    ap (λ (q : Result KeyValue HiveFaultKind). first_or_empty (names_of (λ (n : KeyValue). n.name) q)) r
 
 item_there : (c : Cells) (v kind : ℕ) (bytes : List ℕ) (value : KeyValue)
     → reading key_value_at c v ≡ done (inside_value value kind bytes)
@@ -304,9 +305,9 @@ item_there : (c : Cells) (v kind : ℕ) (bytes : List ℕ) (value : KeyValue)
     → item_at c v ≡ done (record { name = value.name; kind = kind; bytes = bytes })
 unfolding item_at
 item_there c v kind bytes value r i =
-    ap (λ (q : Result KeyValue HiveKind). q >>= λ u. data_of c u >>= λ d. Ok
+    ap (λ (q : Result KeyValue HiveFaultKind). q >>= λ u. data_of c u >>= λ d. Ok
     (record { name = u.name; kind = u.kind; bytes = d })) r
-    ∙ ap (λ (q : Result (List ℕ) HiveKind). q >>= λ d. Ok (record { name = value.name; kind = kind; bytes = d }))
+    ∙ ap (λ (q : Result (List ℕ) HiveFaultKind). q >>= λ d. Ok (record { name = value.name; kind = kind; bytes = d }))
     (inside_data c (inside_value value kind bytes) bytes i)
 
 -- a value that was rewritten is one that its key got in place of itself
@@ -326,7 +327,7 @@ changes_value b c root t p x v kind bytes front back node well reaches r places 
     list_at_node c x node read_new ∙ ap (λ (q : Bool). cond q [] (node.value_list ∷ [])) l.some_values in
     let item = item_there c v kind bytes w.value w.read_new w.inside in
     let named : items_at c (v ∷ []) ≡ done (record { name = value_name b v; kind = kind; bytes = bytes } ∷ []) =
-    ap (λ (q : Result Item HiveKind). q >>= λ i. Ok (i ∷ [])) item
+    ap (λ (q : Result Item HiveFaultKind). q >>= λ i. Ok (i ∷ [])) item
     ∙ ap (λ (n : List ℕ). done (record { name = n; kind = kind; bytes = bytes } ∷ []))
     (sym (name_there b v w.value w.read)) in
     let own : cells_of_values c (v ∷ []) ≡ v ∷ [] =
@@ -382,7 +383,7 @@ pub named_folds : (cells : Cells) (n : List ℕ) (u : ℕ) (f : KeyValue) → re
     → is_value_named cells n u ≡ true → folds_same n f.name ≡ true
 named_folds cells n u f read passes =
     sym (or-false (folds_same n f.name))
-    ∙ sym (ap (λ (q : Result KeyValue HiveKind). list_any (folds_same n) (names_of (λ (z : KeyValue). z.name) q))
+    ∙ sym (ap (λ (q : Result KeyValue HiveFaultKind). list_any (folds_same n) (names_of (λ (z : KeyValue). z.name) q))
     read) ∙ passes
 
 -- the cells stand for the tree with the value set

@@ -7,8 +7,8 @@ use Rattle.std.specs.Int.{w32, from_le_bytes, to_le_bytes}
 use Rattle.std.proofs.lemmas.Bool.{ltb-false, eqb-true, eqb-false, ne_eqb}
 use Rattle.std.proofs.lemmas.List.{length-append, length-take}
 use Rattle.std.proofs.lemmas.Nat.{from_le_bytes-to_le_bytes_4}
-use Rattle.nt_bytes.specs.declared.fault.HiveKind.{HiveKind}
-use Rattle.nt_bytes.specs.declared.fault.HiveKind.TheVariants.{FormShort, FormSign, FormLength, FormName}
+use Rattle.nt_bytes.specs.declared.fault.HiveFaultKind.{HiveFaultKind}
+use Rattle.nt_bytes.specs.declared.fault.HiveFaultKind.TheVariants.{FormShort, FormSign, FormLength, FormName}
 use Rattle.nt_bytes.specs.declared.version.HiveVersion.{HiveVersion}
 use Rattle.nt_bytes.specs.declared.version.HiveVersion.TheVariants.{V3, V5}
 use Rattle.nt_bytes.specs.Fields.{u16_in, u32_in}
@@ -87,7 +87,7 @@ pub value_name_is : (p : List ℕ) → IsOk (key_value_at p)
 unfolding value_name_of
 value_name_is p h =
     let v = value_of (key_value_at p) h in
-    ap (λ (r : Result KeyValue HiveKind). of_read r (λ value. value.name)) v.1 ∙ sym (value_facts p v.0 v.1).name
+    ap (λ (r : Result KeyValue HiveFaultKind). of_read r (λ value. value.name)) v.1 ∙ sym (value_facts p v.0 v.1).name
 
 -- ---- a value that stands
 
@@ -136,9 +136,9 @@ pub named_here : (cells : Cells) (name : List ℕ) (at : ℕ) (p : List ℕ) →
 unfolding value_name_of
 named_here cells name at p h e =
     let f = item_facts cells at h in
-    ap (λ (r : Result KeyValue HiveKind). list_any (folds_same name) (names_of (λ value. value.name) r)) f.read
+    ap (λ (r : Result KeyValue HiveFaultKind). list_any (folds_same name) (names_of (λ value. value.name) r)) f.read
     ∙ or-false (folds_same name f.value.name)
-    ∙ sym (ap (λ (r : Result KeyValue HiveKind). folds_same name (of_read r (λ value. value.name)))
+    ∙ sym (ap (λ (r : Result KeyValue HiveFaultKind). folds_same name (of_read r (λ value. value.name)))
     (ap key_value_at e ∙ f.here))
 
 -- ---- data of four bytes
@@ -282,7 +282,7 @@ dword_is : (cells : Cells) (at : ℕ) (f : ItemFacts cells at)
     → dword_at cells at ≡ cond (eqb f.value.kind 4 && eqb (length f.item.bytes) 4)
     (Some (from_le_bytes w32 f.item.bytes)) None
 dword_is cells at f =
-    ap (λ (r : Result Item HiveKind). option_and_then dword_in (item_read r)) f.stands
+    ap (λ (r : Result Item HiveFaultKind). option_and_then dword_in (item_read r)) f.stands
     ∙ ap (λ (k : ℕ). cond (eqb k 4 && eqb (length f.item.bytes) 4) (Some (from_le_bytes w32 f.item.bytes)) None) f.kind
 
 -- a value of another type is none

@@ -6,7 +6,7 @@ use Rattle.std.specs.Result.{IsOk}
 use Rattle.std.specs.List.{list_any, position_or_len}
 use Rattle.std.proofs.lemmas.Bool.{ltb-false}
 use Rattle.std.proofs.lemmas.List.{take-append-drop}
-use Rattle.nt_bytes.specs.declared.fault.HiveKind.{HiveKind}
+use Rattle.nt_bytes.specs.declared.fault.HiveFaultKind.{HiveFaultKind}
 use Rattle.nt_bytes.specs.Fields.{u32_in, u64_in}
 use Rattle.nt_bytes.specs.declared.version.HiveVersion.{HiveVersion}
 use Rattle.hive_model.specs.Bins.{Bin, Cells, look_up, spelled}
@@ -14,7 +14,7 @@ use Rattle.hive_model.specs.KeyNode.{KeyNode, key_node_at, key_node_text, is_nar
 use Rattle.hive_model.specs.Security.{security_at}
 use Rattle.hive_model.specs.Tree.{Tree, key, head, children}
 use Rattle.hive_model.specs.Size.{cell, is_narrow, name_bytes, bulk_of}
-use Rattle.hive_model.specs.Valid.{is_backslash}
+use Rattle.nt_bytes.specs.Text.{is_backslash}
 use Rattle.hive_model.specs.Edit.{make_key, is_bad_name}
 use Rattle.hive_model.specs.Packed.{rounded}
 use Rattle.hive_model.specs.Walk.{reading, nowhere}
@@ -128,7 +128,7 @@ node_here : (version : HiveVersion) (bins : List Bin) (at : ℕ) (p : List ℕ) 
     → key_node_at p ≡ done n → IsNode (look_up version bins) at
 unfolding payload_in
 node_here version bins at p n e f =
-    subst (λ (r : Result (List ℕ) HiveKind). IsOk (key_node_at (Rattle.hive_model.specs.Footprint.of_read r (λ q. q))))
+    subst (λ (r : Result _ HiveFaultKind). IsOk (key_node_at (Rattle.hive_model.specs.Footprint.of_read r (λ q. q))))
     (sym (held_payload bins at p e)) (is_ok_of (key_node_at p) n f)
 
 -- the node's text, as the code spells it

@@ -4,7 +4,7 @@ use Rattle.std.specs.List.{position_or_len}
 use Rattle.std.specs.Ordering.{is_gt}
 use Rattle.std.specs.Int.{w32, to_le_bytes}
 use Rattle.std.proofs.lemmas.List.{take-append-drop}
-use Rattle.nt_bytes.specs.declared.fault.HiveKind.{HiveKind}
+use Rattle.nt_bytes.specs.declared.fault.HiveFaultKind.{HiveFaultKind}
 use Rattle.nt_bytes.specs.declared.version.HiveVersion.{HiveVersion}
 use Rattle.nt_bytes.specs.Fields.{u32_in}
 use Rattle.nt_bytes.specs.Folding.{folded_order}
@@ -176,7 +176,7 @@ placed_there version old mid root t p x k n above name y h says may put =
     name_new : name_in (look_up version mid) y ≡ name
     name_new =
         name_read (look_up version mid) y (new_node x n.stamp n.security name)
-        (ap (λ (q : Result (List ℕ) HiveKind). q >>= key_node_at)
+        (ap (λ (q : Result (List ℕ) HiveFaultKind). q >>= key_node_at)
         (held_payload mid y (key_node_text (new_node x n.stamp n.security name) ++ put.slack) put.here)
         ∙ node_again x n.stamp n.security name put.slack may)
 
@@ -187,7 +187,7 @@ placed_there version old mid root t p x k n above name y h says may put =
         let read = plain_node false (look_up version old) o s.node s.read in
         let q = then-so ((look_up version old).payload o) key_node_at s.node read in
         name_read (look_up version mid) o s.node
-        (ap (λ (r : Result (List ℕ) HiveKind). r >>= key_node_at) (keeps.held o q.0 q.1) ∙ q.2)
+        (ap (λ (r : Result (List ℕ) HiveFaultKind). r >>= key_node_at) (keeps.held o q.0 q.1) ∙ q.2)
         ∙ sym (node_name_read (look_up version old) o s.node read)
 
     same : (o : ℕ) → In (children_at (look_up version mid) above.list above.count) o

@@ -6,8 +6,8 @@ use Rattle.std.specs.Int.{w16, w32, to_le_bytes, from_le_bytes}
 use Rattle.std.specs.List.{list_all}
 use Rattle.std.proofs.lemmas.Bool.{lt-ltb, eqb-true, eqb-false}
 use Rattle.std.proofs.lemmas.Bool.Decides.{nat_tests}
-use Rattle.nt_bytes.specs.declared.fault.HiveKind.{HiveKind}
-use Rattle.nt_bytes.specs.declared.fault.HiveKind.TheVariants.{FormLength, FormName}
+use Rattle.nt_bytes.specs.declared.fault.HiveFaultKind.{HiveFaultKind}
+use Rattle.nt_bytes.specs.declared.fault.HiveFaultKind.TheVariants.{FormLength, FormName}
 use Rattle.nt_bytes.specs.declared.version.HiveVersion.{HiveVersion}
 use Rattle.nt_bytes.specs.Fields.{u16_in, u32_in}
 use Rattle.nt_bytes.specs.Text.{wide_of}
@@ -137,7 +137,7 @@ measures cells at p size v h i e s =
         (λ bytes. Ok (record { name = one.0.name; kind = one.0.kind; bytes = bytes })) v one.2 in
         sym (ap (λ (w : Item). w.name) (ok_same (record { name = one.0.name; kind = one.0.kind; bytes = d.0 }) v d.2))
         ∙ ap (λ (k : KeyValue). k.name) (ok_same one.0 value (sym one.1 ∙ r))
-        ∙ ap (λ (q : Result KeyValue HiveKind). Rattle.hive_model.specs.Footprint.of_read q (λ k. k.name)) (sym here)
+        ∙ ap (λ (q : Result _ HiveFaultKind). Rattle.hive_model.specs.Footprint.of_read q (λ k. k.name)) (sym here)
         ∙ ap value_name_of (sym e)
 
 -- ---- how a name is stored

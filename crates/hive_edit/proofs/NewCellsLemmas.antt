@@ -34,7 +34,7 @@ use Rattle.edit_laws.proofs.Patches.{node_text, values_written}
 use Rattle.hive_edit.specs.Given.{with_fields}
 use Rattle.hive_edit.specs.NewValue.{behind_list, added_cells, added_size, CanAdd, IsRelistedAt, LacksRoomForValue, ListsThese, PutsValue}
 use Rattle.hive_cells.specs.Holes.{new_bin_size}
-use Rattle.hive_edit.specs.Runs.{IsPutAt}
+use Rattle.hive_edit.specs.Runs.{IsRunPutAt}
 use Rattle.hive_edit.proofs.GiveLemmas.{data_run_stands}
 use Rattle.hive_edit.proofs.GoneLemmas.{is_held, and_some}
 use Rattle.hive_edit.proofs.NewRunLemmas.{more_fit, more_long, added_space}
@@ -291,7 +291,7 @@ node_held version old x n read =
 
 -- what was held is held behind a run that was put
 pub kept_behind : (at : ℕ) (run : List ℕ) (old mid : List Bin) → IsRun run
-    → IsPutAt (length run) at (run_cells run) old mid
+    → IsRunPutAt (length run) at (run_cells run) old mid
     → (o : ℕ) → IsSome (held_at old o) → held_at mid o ≡ held_at old o
 kept_behind at run old mid sound put o s = put.held o ∙ go (held_among o at (run_cells run)) refl
   where
@@ -306,7 +306,7 @@ some_of_node (Some p) h = refl
 
 -- the key's node has room for two numbers, and its list is still held, behind the run
 pub node_room : (at x n : ℕ) (run : List ℕ) (old mid : List Bin) → IsRun run
-    → IsPutAt (length run) at (run_cells run) old mid
+    → IsRunPutAt (length run) at (run_cells run) old mid
     → IsSomeAnd (held_at old x) (λ p. 76 ≤ length p) → n ≡ 8 → IsSomeAnd (held_at mid x) (λ p. 36 + n ≤ length p)
 node_room at x n run old mid sound put h s =
     subst (λ (o : Option (List ℕ)). IsSomeAnd o (λ p. 36 + n ≤ length p))

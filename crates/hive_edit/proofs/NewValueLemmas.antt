@@ -3,7 +3,7 @@ use Rattle.std.proofs.Common.{◌≡◌, ◌≤◌, ◌<◌, inl, ℕ, zero, suc
 use Rattle.std.specs.Prelude.{nat_lt, find, is_some}
 use Rattle.std.specs.Option.{is_none, option_and_then, option_map_or}
 use Rattle.std.proofs.lemmas.Bool.{ltb-false, le-ltb, lt-ltb, ne_eqb, eqb-true, eqb-false}
-use Rattle.nt_bytes.specs.declared.fault.HiveKind.{HiveKind}
+use Rattle.nt_bytes.specs.declared.fault.HiveFaultKind.{HiveFaultKind}
 use Rattle.nt_bytes.specs.declared.version.HiveVersion.{HiveVersion}
 use Rattle.hive_model.specs.Bins.{Bin, Cells, bins_size, look_up, spelled}
 use Rattle.hive_model.specs.Forms.{◌>>=◌}
@@ -12,7 +12,7 @@ use Rattle.hive_model.specs.Lists.{offsets_in}
 use Rattle.hive_model.specs.Size.{cell, item_size, items_sum, items_size, size, bulk_of}
 use Rattle.hive_model.specs.Tree.{Tree, Item, head, find_key, find_item, is_item}
 use Rattle.hive_model.specs.Tree.{key as tree_key}
-use Rattle.hive_model.specs.Edit.{set_value, Refusal, no_key, name_too_long, data_too_long, full, unless, then_edit, with_item, of_items, has_item, after_step, after_steps, most_bulk, edited}
+use Rattle.hive_model.specs.Edit.{set_value, Refusal, no_key, name_too_long, data_too_long, full, unless, with_item, of_items, has_item, after_step, after_steps, most_bulk, edited}
 use Rattle.hive_model.specs.Packed.{rounded}
 use Rattle.hive_model.specs.Walk.{reading}
 use Rattle.hive_model.specs.Footprint.{of_read, key_place, value_list_sizes, item_sizes, needed_sizes, room_of}
@@ -68,7 +68,7 @@ values_listed b x (tree_key h ts) s = go (eqb n.value_count 0) refl s.1.values
 
     at_node : value_places b x
         ≡ cond (eqb n.value_count 0) [] (of_read (reading (offsets_in n.value_count) b n.value_list) (λ os. os))
-    at_node = ap (λ (q : Result KeyNode HiveKind). of_read q
+    at_node = ap (λ (q : Result KeyNode HiveFaultKind). of_read q
         (λ m. cond (eqb m.value_count 0) [] (of_read (reading (offsets_in m.value_count) b m.value_list) (λ os. os))))
         s.1.read
 
@@ -92,7 +92,7 @@ values_listed b x (tree_key h ts) s = go (eqb n.value_count 0) refl s.1.values
           read = s.1.read;
           places = at_node ∙ ap (λ (t : Bool). cond t []
               (of_read (reading (offsets_in n.value_count) b n.value_list) (λ os. os))) e
-              ∙ ap (λ (q : Result (List ℕ) HiveKind). of_read q (λ os. os)) l.1;
+              ∙ ap (λ (q : Result (List ℕ) HiveFaultKind). of_read q (λ os. os)) l.1;
           lists = λ z. l.1;
           none = λ z. absurd (eqb-false n.value_count 0 e z);
         }
@@ -104,8 +104,8 @@ unfolding value_list_at
 list_owned b x n r some_values =
     let is : cond (eqb n.value_count 0) [] (n.value_list ∷ []) ≡ n.value_list ∷ [] =
     ap (λ (t : Bool). cond t [] (n.value_list ∷ [])) (ne_eqb n.value_count 0 some_values) in
-    let whole = ap (λ (q : Result KeyNode HiveKind). of_read q (λ m. cond (eqb m.value_count 0) [] (m.value_list ∷ [])))
-    r ∙ is in
+    let listed = λ (m : KeyNode). cond (eqb m.value_count 0) [] (m.value_list ∷ []) in
+    let whole = ap (λ (q : Result KeyNode HiveFaultKind). of_read q listed) r ∙ is in
     subst (λ (l : List ℕ). In l n.value_list) (sym whole) (inl refl)
 
 -- a value can be put behind those of a key that is there
@@ -180,10 +180,10 @@ unfolding edited
 set_made version t u path name kind bytes e = go (is_none (find_key path t)) (nat_lt 16383 (length name)) refl refl e
   where
     go : (a b : Bool) → is_none (find_key path t) ≡ a → nat_lt 16383 (length name) ≡ b
-        → then_edit (then_edit (unless
+        → (((unless
         ((a, no_key) ∷ (b, name_too_long) ∷ (nat_lt 1048576 (length bytes), data_too_long) ∷ [])
-        (set_tree path name kind bytes t)) (λ w. after_steps w []))
-        (λ w. cond (nat_lt most_bulk (bulk_of version w)) (Err full) (Ok w)) ≡ the_tree u
+        (set_tree path name kind bytes t)) >>= λ w. after_steps w []) >>=
+        (λ w. cond (nat_lt most_bulk (bulk_of version w)) (Err full) (Ok w))) ≡ the_tree u
         → IsSetIn t path name
     go true b p q f = absurd cc
     go false true p q f = absurd cc

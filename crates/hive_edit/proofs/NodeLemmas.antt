@@ -4,8 +4,8 @@ use Rattle.std.specs.Prelude.{◌==◌, nat_lt, slice_range}
 use Rattle.std.specs.List.{All}
 use Rattle.std.proofs.lemmas.Bool.{ltb-false, eqb-true}
 use Rattle.std.proofs.lemmas.List.Elements.{All-cons, All-nil}
-use Rattle.nt_bytes.specs.declared.fault.HiveKind.{HiveKind}
-use Rattle.nt_bytes.specs.declared.fault.HiveKind.TheVariants.{FormShort, FormSign}
+use Rattle.nt_bytes.specs.declared.fault.HiveFaultKind.{HiveFaultKind}
+use Rattle.nt_bytes.specs.declared.fault.HiveFaultKind.TheVariants.{FormShort, FormSign}
 use Rattle.nt_bytes.specs.Fields.{u16_in, u32_in}
 use Rattle.hive_model.specs.Bins.{Cells}
 use Rattle.hive_model.specs.Forms.{◌>>=◌}
@@ -92,7 +92,7 @@ children_here cells at p list count k e l c =
     let n = node_here cells at p k e in
     let a : n.node.child_list ≡ list = ap (λ (m : KeyNode). m.child_list) n.is ∙ sym l in
     let b : n.node.child_count ≡ count = ap (λ (m : KeyNode). m.child_count) n.is ∙ sym c in
-    sym (ap (λ (r : Result KeyNode HiveKind). of_read r
+    sym (ap (λ (r : Result KeyNode HiveFaultKind). of_read r
     (λ m. cond (eqb m.child_count 0) [] (of_read (entries_at cells m.child_list) (λ os. os)))) n.read
     ∙ (λ i. cond (eqb (b i) 0) [] (of_read (entries_at cells (a i)) (λ os. os))))
 
@@ -103,7 +103,7 @@ unfolding name_of
 node_stands cells at (key h ts) s =
     let read = in_payload key_node_at cells at s.1.node s.1.read in (
       is_ok_of (key_node_at (payload_in cells at)) s.1.node read,
-      ap (λ (r : Result KeyNode HiveKind). of_read r (λ node. node.name)) read ∙ sym s.1.name,
+      ap (λ (r : Result KeyNode HiveFaultKind). of_read r (λ node. node.name)) read ∙ sym s.1.name,
     )
 
 -- a key node is at each child
@@ -176,7 +176,7 @@ listed_values cells at (key h ts) node w r some =
           places_at_node cells at node r
           ∙ ap (λ (b : Bool). cond b []
           (of_read (reading (offsets_in node.value_count) cells node.value_list) (λ os. os))) some
-          ∙ ap (λ (q : Result (List ℕ) HiveKind). of_read q (λ os. os)) l.1 ∙ there.1;
+          ∙ ap (λ (q : Result (List ℕ) HiveFaultKind). of_read q (λ os. os)) l.1 ∙ there.1;
       values = subst (All (IsItemHere cells)) there.1 (item_each cells l.0 h.values l.2);
     }
 

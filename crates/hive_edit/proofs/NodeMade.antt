@@ -5,9 +5,9 @@ use Rattle.std.specs.Prelude.{nat_lt, ◌==◌, slice_range, slice_index, if◌t
 use Rattle.std.specs.List.{list_any, list_all}
 use Rattle.std.specs.Int.{w32, to_le_bytes, from_le_bytes}
 use Rattle.nt_bytes.specs.Fields.{u16_in, u32_in}
-use Rattle.nt_bytes.specs.declared.fault.HiveKind.{HiveKind}
-use Rattle.nt_bytes.specs.declared.fault.HiveKind.TheVariants.{FormShort, FormSign}
-use Rattle.hive_model.specs.Valid.{is_backslash}
+use Rattle.nt_bytes.specs.declared.fault.HiveFaultKind.{HiveFaultKind}
+use Rattle.nt_bytes.specs.declared.fault.HiveFaultKind.TheVariants.{FormShort, FormSign}
+use Rattle.nt_bytes.specs.Text.{is_backslash}
 use Rattle.hive_model.specs.Size.{is_narrow}
 use Rattle.hive_model.specs.KeyNode.{IsKeyNode, key_node_at, key_node_text}
 use Rattle.hive_model.specs.Security.{SecurityCell, security_in, security_at}
@@ -95,10 +95,10 @@ no_flags parent stamp security name = go (is_narrow name) refl
 
 -- ---- security
 
-abbrev long_cell : List ℕ → Result SecurityCell HiveKind
+abbrev long_cell : List ℕ → Result SecurityCell HiveFaultKind
 long_cell p = if nat_lt (length p) (20 + u32_in p 16) then Err FormShort else Ok (security_in p)
 
-abbrev signed_cell : List ℕ → Result SecurityCell HiveKind
+abbrev signed_cell : List ℕ → Result SecurityCell HiveFaultKind
 signed_cell p = if nat_lt (length p) 20 then Err FormShort else long_cell p
 
 -- what a payload has that reads as a cell of security

@@ -5,8 +5,8 @@ use Rattle.std.specs.List.{All}
 use Rattle.std.proofs.lemmas.Bool.{eqb-true}
 use Rattle.std.proofs.lemmas.List.Kept.{AllPairs-cons}
 use Rattle.std.proofs.lemmas.List.Elements.{All-cons, All-nil}
-use Rattle.nt_bytes.specs.declared.fault.HiveKind.{HiveKind}
-use Rattle.nt_bytes.specs.declared.fault.HiveKind.TheVariants.{FormName, Count}
+use Rattle.nt_bytes.specs.declared.fault.HiveFaultKind.{HiveFaultKind}
+use Rattle.nt_bytes.specs.declared.fault.HiveFaultKind.TheVariants.{FormName, Count}
 use Rattle.hive_model.specs.Bins.{Cells}
 use Rattle.hive_model.specs.Forms.{◌>>=◌}
 use Rattle.hive_model.specs.KeyNode.{KeyNode, key_node_at}
@@ -70,7 +70,7 @@ used_clear c [] h = tt
 used_clear c (uses at security ∷ cs) h = (h.0, used_clear c cs h.1)
 used_clear c (tests at kind ∷ cs) h = (refl, used_clear c cs h)
 
-tests_clear : (at : ℕ) (kind : Option HiveKind) (cs : List Check) → Clear (tests at kind) cs
+tests_clear : (at : ℕ) (kind : Option HiveFaultKind) (cs : List Check) → Clear (tests at kind) cs
 tests_clear at kind [] = tt
 tests_clear at kind (uses b s ∷ cs) = (refl, tests_clear at kind cs)
 tests_clear at kind (tests b k ∷ cs) = (refl, tests_clear at kind cs)
@@ -148,7 +148,7 @@ key_used : (left : ℕ) (cells : Cells) (root : Bool) (names : List (List ℕ)) 
 unfolding key_checks
 key_used left cells root names at node r named =
     let e = named_node root cells at node r named in
-    ap (λ (q : Result KeyNode HiveKind). uses at false
+    ap (λ (q : Result KeyNode HiveFaultKind). uses at false
     ∷ used (below_of q (λ n. name_check names at n.name ∷ below_node (key_checks left cells false) cells n at))) e
     ∙ ap (λ (cs : List Check). uses at false ∷ cs) (below_used (key_checks left cells false) cells node at)
 
@@ -171,7 +171,7 @@ kids_used checks cells node at offsets l = go (eqb node.child_count 0) l
         used_append (entries_checks cells node.child_list)
         (below_of (entries_at cells node.child_list)
         (λ os. tests at (failing (not (eqb (length os) node.child_count)) Count) ∷ keys_in_turn checks cells [] os))
-        ∙ ap (λ (r : Result (List ℕ) HiveKind). used (entries_checks cells node.child_list)
+        ∙ ap (λ (r : Result (List ℕ) HiveFaultKind). used (entries_checks cells node.child_list)
         ++ used (below_of r (λ os. tests at (failing (not (eqb (length os) node.child_count)) Count)
         ∷ keys_in_turn checks cells [] os))) e.0
 

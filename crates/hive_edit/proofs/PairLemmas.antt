@@ -6,7 +6,7 @@ use Rattle.nt_bytes.specs.Folding.{folds_same}
 use Rattle.nt_bytes.specs.declared.version.HiveVersion.{HiveVersion}
 use Rattle.hive_model.specs.Bins.{Bin, Cells, look_up}
 use Rattle.hive_model.specs.KeyNode.{KeyNode, key_node_at}
-use Rattle.nt_bytes.specs.declared.fault.HiveKind.{HiveKind}
+use Rattle.nt_bytes.specs.declared.fault.HiveFaultKind.{HiveFaultKind}
 use Rattle.nt_bytes.specs.Fields.{u16_in, u32_in}
 use Rattle.hive_model.specs.Forms.{◌>>=◌}
 use Rattle.hive_model.specs.Security.{SecurityCell, security_at}
@@ -424,7 +424,7 @@ descriptor_here cells at p q place k e pl some f =
           let off : (n.node.security == nowhere) ≡ false = ne_eqb n.node.security nowhere there in
           ap (λ (z : SecurityCell). z.descriptor) text.fields
           ∙ ok_same s.0.descriptor (head t).security
-          (sym (ap (λ (r : Result SecurityCell HiveKind). r >>= λ z. Ok z.descriptor) s.1)
+          (sym (ap (λ (r : Result SecurityCell HiveFaultKind). r >>= λ z. Ok z.descriptor) s.1)
           ∙ sym (ap (λ (b : Bool). cond b (Ok []) (reading security_at cells n.node.security >>= λ z. Ok z.descriptor))
           off) ∙ d);
     }

@@ -2,7 +2,7 @@
 -- cells are kept.
 use Rattle.std.proofs.Common.{◌≡◌, ℕ, Bool, true, false, cond, List, [], ◌∷◌, ◌++◌, Result, Ok, refl, sym, ap, subst, ◌∙◌, inl, inr}
 use Rattle.std.specs.Prelude.{◌==◌, if◌then◌else◌}
-use Rattle.nt_bytes.specs.declared.fault.HiveKind.{HiveKind}
+use Rattle.nt_bytes.specs.declared.fault.HiveFaultKind.{HiveFaultKind}
 use Rattle.hive_model.specs.Bins.{Cells}
 use Rattle.hive_model.specs.Forms.{◌>>=◌}
 use Rattle.hive_model.specs.KeyNode.{KeyNode, key_node_at}
@@ -40,7 +40,7 @@ pub kept_key : (b c : Cells) (root : ℕ) (t : Tree) (p : List (List ℕ)) (x : 
     → Reaches b root p x → IsSameKey b c x
 kept_key b c root t p x w k h = record {
   same = record { version = k.version; each = λ r o not_secure has. same r o has };
-  security = λ o i. ap (λ (r : Result (List ℕ) HiveKind). r >>= security_at >>= λ s. Ok s.descriptor)
+  security = λ o i. ap (λ (r : Result (List ℕ) HiveFaultKind). r >>= security_at >>= λ s. Ok s.descriptor)
       (same security o i);
 }
   where
@@ -93,7 +93,7 @@ kept_parent b c root t p x k n h keeps = record {
   below = kept_well b c x k h.below keeps;
   read =
       let r = then-so (b.payload x) key_node_at n h.read in
-      ap (λ (q : Result (List ℕ) HiveKind). q >>= key_node_at) (keeps.held x r.0 r.1) ∙ r.2;
+      ap (λ (q : Result (List ℕ) HiveFaultKind). q >>= key_node_at) (keeps.held x r.0 r.1) ∙ r.2;
 }
 
 pub parent_held : (b : Cells) (root : ℕ) (t : Tree) (p : List (List ℕ)) (x : ℕ) (k : Tree) (n : KeyNode)
@@ -121,8 +121,6 @@ pub siblings_are : (b : Cells) (root : ℕ) (t : Tree) (p : List (List ℕ)) (x 
     → IsParent b root t p x k n
     → ListsSiblings b n.child_list n.child_count
 siblings_are b root t p x k n h = siblings_stand b x k n h.below.stands h.below.names h.read
-
-)
 
 pub lists_apart : (b : Cells) (root : ℕ) (t : Tree) (p : List (List ℕ)) (x : ℕ) (k : Tree) (n : KeyNode)
     → IsParent b root t p x k n

@@ -3,7 +3,7 @@ use Rattle.std.proofs.Common.{◌≡◌, ◌<◌, ℕ, Bool, true, false, eqb, c
 use Rattle.std.specs.Prelude.{find, option_and_then}
 use Rattle.std.specs.Option.{IfSome, is_some}
 use Rattle.std.specs.List.{list_any}
-use Rattle.nt_bytes.specs.declared.fault.HiveKind.{HiveKind}
+use Rattle.nt_bytes.specs.declared.fault.HiveFaultKind.{HiveFaultKind}
 use Rattle.nt_bytes.specs.Folding.{folds_same}
 use Rattle.hive_model.specs.Bins.{Cells}
 use Rattle.hive_model.specs.Forms.{◌>>=◌}
@@ -38,7 +38,7 @@ IsPlaceOf cells (Some at) (Some t) = IsWellFormed cells at t
 node_named : (cells : Cells) (at : ℕ) (t : Tree) (name : List ℕ) → Stands cells at t
     → is_node_named cells name at ≡ is_named name t
 node_named cells at (key h ts) name s =
-    ap (λ (r : Result KeyNode HiveKind). list_any (folds_same name) (names_of (λ node. node.name) r)) s.1.read
+    ap (λ (r : Result KeyNode HiveFaultKind). list_any (folds_same name) (names_of (λ node. node.name) r)) s.1.read
     ∙ or-false (folds_same name s.1.node.name) ∙ ap (folds_same name) (sym s.1.name)
 
 child_found : (cells : Cells) (name offsets : List ℕ) (ts : Trees) → AllWellFormed cells offsets ts
@@ -161,12 +161,12 @@ values_stand : (cells : Cells) (at : ℕ) (h : Head) (offsets : List ℕ) → Ke
     → items_at cells (value_places cells at) ≡ done h.values
 unfolding value_places values_of
 values_stand cells at h offsets s =
-    ap (λ (r : Result KeyNode HiveKind). items_at cells
+    ap (λ (r : Result KeyNode HiveFaultKind). items_at cells
     (of_read r (λ node. cond (eqb node.value_count 0) []
     (of_read (reading (offsets_in node.value_count) cells node.value_list) (λ os. os))))) s.read
     ∙ go (eqb s.node.value_count 0) s.values
   where
-    listed_values : (r : Result (List ℕ) HiveKind) → (r >>= items_at cells) ≡ done h.values
+    listed_values : (r : Result (List ℕ) HiveFaultKind) → (r >>= items_at cells) ≡ done h.values
         → items_at cells (of_read r (λ os. os)) ≡ done h.values
     listed_values (Ok os) e = e
     listed_values (Err k) e = absurd cc
@@ -201,7 +201,7 @@ value_named cells at v name e =
     (λ value. data_of cells value >>= λ bytes. Ok (item_with value bytes)) v e in
     let bytes = then-so (data_of cells read.0) (λ bytes. Ok (item_with read.0 bytes)) v read.2 in
     let same : read.0.name ≡ v.name = ap (λ (i : Item). i.name) (ok_same (item_with read.0 bytes.0) v bytes.2) in
-    ap (λ (r : Result KeyValue HiveKind). list_any (folds_same name) (names_of (λ value. value.name) r)) read.1
+    ap (λ (r : Result KeyValue HiveFaultKind). list_any (folds_same name) (names_of (λ value. value.name) r)) read.1
     ∙ or-false (folds_same name read.0.name) ∙ ap (folds_same name) same
 
 item_found : (cells : Cells) (name offsets : List ℕ) (items : List Item) → items_at cells offsets ≡ done items
@@ -241,7 +241,7 @@ dword_there cells name at t w = go (value_place cells name at) (find_item name t
     go None None p = refl
     go None (Some v) p = absurd p
     go (Some b) None p = absurd p
-    go (Some b) (Some v) p = ap (λ (r : Result Item HiveKind). option_and_then dword_in (item_read r)) p
+    go (Some b) (Some v) p = ap (λ (r : Result Item HiveFaultKind). option_and_then dword_in (item_read r)) p
 
 -- the number under a name in the key at a path
 pub dword_found : (cells : Cells) (path : List (List ℕ)) (name : List ℕ) (root : ℕ) (t : Tree)

@@ -3,7 +3,7 @@ use Rattle.std.proofs.Common.{◌≡◌, ℕ, suc, ◌+◌, Bool, true, false, n
 use Rattle.std.specs.Prelude.{if◌then◌else◌}
 use Rattle.std.specs.List.{position_or_len}
 use Rattle.std.specs.Ordering.{is_gt}
-use Rattle.nt_bytes.specs.declared.fault.HiveKind.{HiveKind}
+use Rattle.nt_bytes.specs.declared.fault.HiveFaultKind.{HiveFaultKind}
 use Rattle.nt_bytes.specs.Folding.{folded_order}
 use Rattle.hive_model.specs.Bins.{Cells}
 use Rattle.hive_model.specs.Forms.{◌>>=◌}
@@ -25,13 +25,13 @@ pub name_read : (cells : Cells) (at : ℕ) (n : KeyNode) → reading key_node_at
 unfolding payload_in name_of
 name_read cells at n r =
     let p = then-so (cells.payload at) key_node_at n r in
-    ap (λ (q : Result (List ℕ) HiveKind). of_read (key_node_at (of_read q (λ z. z))) (λ m. m.name)) p.1
-    ∙ ap (λ (q : Result KeyNode HiveKind). of_read q (λ m. m.name)) p.2
+    ap (λ (q : Result (List ℕ) HiveFaultKind). of_read (key_node_at (of_read q (λ z. z))) (λ m. m.name)) p.1
+    ∙ ap (λ (q : Result KeyNode HiveFaultKind). of_read q (λ m. m.name)) p.2
 
 pub node_name_read : (cells : Cells) (at : ℕ) (n : KeyNode) → reading key_node_at cells at ≡ done n
     → node_name cells at ≡ n.name
 node_name_read cells at n r =
-    ap (λ (q : Result KeyNode HiveKind). first_or_empty (names_of (λ (m : KeyNode). m.name) q)) r
+    ap (λ (q : Result KeyNode HiveFaultKind). first_or_empty (names_of (λ (m : KeyNode). m.name) q)) r
 
 -- ---- the place
 
@@ -67,7 +67,7 @@ has_place b name f (o ∷ os) same = go (f o) refl (has_place b name f os (λ z 
 abbrev pub Held : Cells → ℕ → Type 0
 Held cells o = (q : List ℕ) × (cells.payload o ≡ done q)
 
-held_by : {F : Type 0} (form : List ℕ → Result F HiveKind) (cells : Cells) (at o : ℕ) (x : F)
+held_by : {F : Type 0} (form : List ℕ → Result F HiveFaultKind) (cells : Cells) (at o : ℕ) (x : F)
     → reading form cells at ≡ done x → at ≡ o → Held cells o
 held_by form cells at o x r e =
     let p = then-so (cells.payload at) form x r in
@@ -89,7 +89,7 @@ entries_held cells at offsets o r (inl e) =
 entries_held cells at offsets o r (inr h) =
     let p = then-so (reading list_at cells at) (entries_of cells) offsets r in
     go p.0 (is_list_of_lists p.0.kind) p.2
-    (subst (λ (q : Result SubkeyList HiveKind). In
+    (subst (λ (q : Result SubkeyList HiveFaultKind). In
     (used_in (below_of q (λ list. if is_list_of_lists list.kind then leaves_checks cells list.offsets else []))) o)
     p.1 h)
   where

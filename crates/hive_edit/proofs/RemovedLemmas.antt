@@ -2,7 +2,7 @@
 use Rattle.std.proofs.Common.{◌≡◌, ◌<◌, ◌^◌, ℕ, suc, ◌-◌, Bool, true, false, not, cond, List, [], ◌∷◌, ◌++◌, length, Some, Result, Ok, inl, inr, ⊎_elim, refl, sym, ap, subst, ◌∙◌, arith}
 use Rattle.std.specs.Prelude.{Contains}
 use Rattle.std.proofs.lemmas.Bool.{ne_eqb, eq-eqb}
-use Rattle.nt_bytes.specs.declared.fault.HiveKind.{HiveKind}
+use Rattle.nt_bytes.specs.declared.fault.HiveFaultKind.{HiveFaultKind}
 use Rattle.nt_bytes.specs.declared.version.HiveVersion.{HiveVersion}
 use Rattle.nt_bytes.specs.Folding.{folds_same}
 use Rattle.hive_model.specs.Bins.{Bin, Cells, look_up}
@@ -197,7 +197,7 @@ module _ (version : HiveVersion) (old new : List Bin) (root : ℕ) (t : Tree) (p
           ∙ shortened_keeps version above y old r.listed r.list r.lists o q.0 held (no_list o (no_secure_list o i)) in
           let now = r.dropped.counted o q.0 (used_there o true i) noted in
           let says = now.2.says z.0 q.2 in
-          ap (λ (w : Result (List ℕ) HiveKind). w >>= security_at >>= λ c. Ok c.descriptor)
+          ap (λ (w : Result (List ℕ) HiveFaultKind). w >>= security_at >>= λ c. Ok c.descriptor)
           (held_payload new o now.0 now.1)
-          ∙ ap (λ (w : Result SecurityCell HiveKind). w >>= λ c. Ok c.descriptor) says
-          ∙ sym (ap (λ (w : Result SecurityCell HiveKind). w >>= λ c. Ok c.descriptor) z.1)
+          ∙ ap (λ (w : Result SecurityCell HiveFaultKind). w >>= λ c. Ok c.descriptor) says
+          ∙ sym (ap (λ (w : Result SecurityCell HiveFaultKind). w >>= λ c. Ok c.descriptor) z.1)

@@ -1,14 +1,15 @@
 -- What a reading that was no fault has passed.
 use Rattle.std.proofs.Common.{◌≡◌, Bool, true, false, Option, Some, Result, Ok, Err, cond, refl}
-use Rattle.nt_bytes.specs.declared.fault.HiveKind.{HiveKind}
+use Rattle.nt_bytes.specs.declared.fault.HiveFaultKind.{HiveFaultKind}
 
-abbrev pub done : {A : Type 0} → A → Result A HiveKind
+abbrev pub done : {A : Type 0} → A → Result A HiveFaultKind
 done x = Ok x
 
 abbrev pub some : {A : Type 0} → A → Option A
 some x = Some x
 
-pub only_if : {A : Type 0} (b : Bool) (k : HiveKind) (r : Result A HiveKind) (x : A) → cond b r (Err k) ≡ done x
+pub only_if : {A : Type 0} (b : Bool) (k : HiveFaultKind) (r : Result A HiveFaultKind) (x : A)
+    → cond b r (Err k) ≡ done x
     → (b ≡ true) × (r ≡ done x)
 only_if true k r x e = (refl, e)
 only_if false k r x e = absurd cc

@@ -5,7 +5,7 @@ use Rattle.hive_cells.specs.Held.{held_at, held_among}
 use Rattle.hive_cells.specs.Holes.{new_bin_size, IsHole, IsLowestHole, NoneFits, HasGrown}
 use Rattle.hive_cells.proofs.GrowLemmas.{new_long}
 use Rattle.key_index.proofs.Runs.{hole_inside}
-use Rattle.hive_edit.specs.Runs.{IsNewPlace, IsPlace, IsPutAt}
+use Rattle.hive_edit.specs.Runs.{IsNewPlace, IsPlace, IsRunPutAt}
 
 pub hole_place : (size at : ℕ) (bins : List Bin) → IsLowestHole size bins at → bins_size bins ≤ 16777216
     → IsPlace size bins at
@@ -40,7 +40,7 @@ is_hole size at bins p inside = go p.room
 pub put_in_hole : (size at : ℕ) (run : List Cell) (old new : List Bin)
     → ((o : ℕ) → held_at new o ≡ or_else (held_among o at run) (held_at old o))
     → ((o : ℕ) → at ≤ o → o < at + size → held_at old o ≡ None) → bins_size new ≡ bins_size old
-    → IsPutAt size at run old new
+    → IsRunPutAt size at run old new
 put_in_hole size at run old new held fresh long =
     record { held = held; fresh = fresh; least = omega (arith, long); long = omega (arith, long) }
 
@@ -49,7 +49,7 @@ pub put_in_new : (size at place : ℕ) (run : List Cell) (old mid new : List Bin
     → ((o : ℕ) → held_at mid o ≡ held_at old o)
     → ((o : ℕ) → held_at new o ≡ or_else (held_among o place run) (held_at mid o))
     → ((o : ℕ) → place ≤ o → o < place + size → held_at mid o ≡ None) → bins_size new ≡ bins_size mid
-    → IsPutAt size at run old new
+    → IsRunPutAt size at run old new
 put_in_new size at place run old mid new p g same held fresh long =
     let here : place ≡ at = g.place ∙ sym p.place in
     let more : bins_size mid ≡ bins_size old + new_bin_size size = ap bins_size g.bins ∙ new_long old size in

@@ -6,7 +6,7 @@ use Rattle.std.specs.Int.{w32, to_le_bytes}
 use Rattle.std.proofs.lemmas.Bool.{le-ltb, lt-ltb, ne_eqb}
 use Rattle.std.proofs.lemmas.Bool.Decides.{nat_tests}
 use Rattle.std.proofs.lemmas.List.Elements.{All-cons, All-nil}
-use Rattle.nt_bytes.specs.declared.fault.HiveKind.{HiveKind}
+use Rattle.nt_bytes.specs.declared.fault.HiveFaultKind.{HiveFaultKind}
 use Rattle.nt_bytes.specs.declared.version.HiveVersion.{HiveVersion}
 use Rattle.nt_bytes.specs.Fields.{u32_in}
 use Rattle.hive_model.specs.Bins.{Bin, Cells, bins_size, look_up}
@@ -57,7 +57,7 @@ pub inside_there : (b : Cells) (path : List (List ℕ)) (name : List ℕ) (root 
 inside_there b path name root v e = at_key (key_place b path root) refl e
   where
     at_value : (key w : ℕ) → key_place b path root ≡ some key → value_place b name key ≡ some w
-        → (r : Result KeyValue HiveKind) → reading key_value_at b w ≡ r
+        → (r : Result KeyValue HiveFaultKind) → reading key_value_at b w ≡ r
         → cond (held_itself r) (Some w) None ≡ some v → InsideThere b path name root v
     at_value key w k n (Ok value) r e = by_test (is_some (data_inside value)) refl e
       where

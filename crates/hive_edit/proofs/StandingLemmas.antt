@@ -1,13 +1,12 @@
 -- The tree that stands in cells is the one that the function of them gives.
-use Rattle.std.proofs.Common.{◌≡◌, ◌≤◌, ℕ, zero, suc, Bool, true, false, eqb, cond, List, [], length, map, Result, Ok, sym, ap, ◌∙◌, arith}
-use Rattle.std.specs.Prelude.{MatchBool}
-use Rattle.nt_bytes.specs.declared.fault.HiveKind.{HiveKind}
+use Rattle.std.proofs.Common.{◌≡◌, ◌≤◌, ℕ, zero, suc, List, map, sym, ap, ◌∙◌, arith}
+use Rattle.nt_bytes.specs.declared.fault.HiveFaultKind.{HiveFaultKind}
 use Rattle.hive_model.specs.Bins.{Cells}
-use Rattle.hive_model.specs.KeyNode.{KeyNode, key_node_at}
+use Rattle.hive_model.specs.KeyNode.{key_node_at}
 use Rattle.hive_model.specs.Tree.{Head, Tree, Trees, key, none, more, trees}
 use Rattle.hive_model.specs.Valid.{levels, most_levels}
-use Rattle.hive_model.specs.Walk.{reading, entries_at}
-use Rattle.hive_model.specs.Footprint.{of_read, child_places}
+use Rattle.hive_model.specs.Walk.{reading}
+use Rattle.hive_model.specs.Footprint.{child_places}
 use Rattle.hive_model.specs.Stands.{KeyStands, Stands, AllStand, IsWellFormed}
 use Rattle.hive_edit.specs.Standing.{list_read, head_of, tree_at, tree_of}
 use Rattle.edit_laws.proofs.Wellformed.{places_are}

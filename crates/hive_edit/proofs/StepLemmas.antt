@@ -3,7 +3,7 @@ use Rattle.std.proofs.Common.{◌≡◌, ◌≤◌, ℕ, List, [], ◌∷◌, �
 use Rattle.std.specs.Option.{IsSome}
 use Rattle.std.specs.List.{All}
 use Rattle.std.proofs.lemmas.List.Elements.{All-cons, All-nil, Contains-append_left}
-use Rattle.nt_bytes.specs.declared.fault.HiveKind.{HiveKind}
+use Rattle.nt_bytes.specs.declared.fault.HiveFaultKind.{HiveFaultKind}
 use Rattle.nt_bytes.specs.declared.version.HiveVersion.{HiveVersion}
 use Rattle.hive_model.specs.Bins.{Bin, Cells, bins_size, look_up}
 use Rattle.hive_model.specs.KeyValue.{KeyValue, key_value_at}
@@ -109,7 +109,7 @@ value_own b root t path name key v value well k e r =
     let mine = one_of_them b among.front among.back v
     (subst (λ (os : List ℕ). Pairwise (λ p q. p ≡ q → ⊥) (cells_of_values b os)) whole of_values) in
     let uses : used_in (value_checks b [] v) ≡ v ∷ data_places b v =
-    value_uses b v value r ∙ ap (λ (q : Result KeyValue HiveKind). v ∷ of_read q (λ u. used_in (data_checks b u)))
+    value_uses b v value r ∙ ap (λ (q : Result KeyValue HiveFaultKind). v ∷ of_read q (λ u. used_in (data_checks b u)))
     (sym r) in
     record {
       value = value;

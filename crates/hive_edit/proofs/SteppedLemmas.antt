@@ -10,7 +10,7 @@ use Rattle.nt_bytes.specs.declared.version.HiveVersion.{HiveVersion}
 use Rattle.hive_model.specs.Bins.{Bin, bins_size, look_up, spelled}
 use Rattle.hive_model.specs.Size.{bulk_of}
 use Rattle.hive_model.specs.Tree.{Tree}
-use Rattle.hive_model.specs.Edit.{Step, Refusal, full, then_edit, after_step, after_steps, most_bulk, edited}
+use Rattle.hive_model.specs.Edit.{Step, Refusal, full, after_step, after_steps, most_bulk, edited}
 use Rattle.hive_model.specs.Footprint.{step_cells, unless_refused, needed_sizes, room_of, strain_of}
 use Rattle.hive_model.specs.Stands.{IsWellFormed}
 use Rattle.hive_cells.proofs.HeldLemmas.{payload_held, held_payload}
@@ -31,6 +31,7 @@ use Rattle.hive_edit.specs.Steps.{AreStepped, AreStrained}
 use Rattle.hive_edit.proofs.EditLemmas.{the_tree}
 use Rattle.hive_edit.proofs.HiveLemmas.{hive_opened}
 use Rattle.hive_edit.proofs.StandingLemmas.{tree_is}
+use Rattle.hive_model.specs.Forms.{◌>>=◌}
 
 -- ---- one step
 
@@ -97,7 +98,7 @@ lacks_room bins root version h u step view ok over =
 -- ---- the edit of one step
 
 abbrev judged : HiveVersion → Result Tree Refusal → Result Tree Refusal
-judged version r = then_edit r (λ u. cond (nat_lt most_bulk (bulk_of version u)) (Err full) (Ok u))
+judged version r = r >>= (λ u. cond (nat_lt most_bulk (bulk_of version u)) (Err full) (Ok u))
 
 pub all_edit : (version : HiveVersion) (t : Tree) (steps : List Step)
     → edited version t steps ≡ judged version (after_steps t steps)
@@ -107,7 +108,7 @@ all_edit version t steps = refl
 one_step : (t : Tree) (step : Step) → after_steps t (step ∷ []) ≡ after_step step t
 one_step t step = go (after_step step t)
   where
-    go : (r : Result Tree Refusal) → then_edit r (λ u. Ok u) ≡ r
+    go : (r : Result Tree Refusal) → (r >>= λ u. Ok u) ≡ r
     go (Ok u) = refl
     go (Err e) = refl
 
@@ -127,12 +128,12 @@ steps_full version t u steps ok over =
 
 -- a refusal of a result is one of what is made of it
 refused_then : (r : Result Tree Refusal) (f : Tree → Result Tree Refusal) (stop : EditStop) → IsRefused r stop
-    → IsRefused (then_edit r f) stop
+    → IsRefused (r >>= f) stop
 refused_then r f stop h = go (refusal_of stop) h
   where
-    go : (o : Option Refusal) → IfSome o (λ why. r ≡ Err why) → IfSome o (λ why. then_edit r f ≡ Err why)
+    go : (o : Option Refusal) → IfSome o (λ why. r ≡ Err why) → IfSome o (λ why. (r >>= f) ≡ Err why)
     go None h = tt
-    go (Some why) h = ap (λ (q : Result Tree Refusal). then_edit q f) h
+    go (Some why) h = ap (λ (q : Result Tree Refusal). q >>= f) h
 
 pub steps_refused : (version : HiveVersion) (t : Tree) (steps : List Step) (stop : EditStop)
     → IsRefused (after_steps t steps) stop
@@ -159,7 +160,7 @@ step_refused version t step stop h =
     (subst (λ (r : Result Tree Refusal). IsRefused r stop) (sym (one_step t step)) h)
 
 -- an edit that is made
-then_ok : (r : Result Tree Refusal) (f : Tree → Result Tree Refusal) (u : Tree) → then_edit r f ≡ the_tree u
+then_ok : (r : Result Tree Refusal) (f : Tree → Result Tree Refusal) (u : Tree) → (r >>= f) ≡ the_tree u
     → (v : Tree) × (r ≡ the_tree v) × (f v ≡ the_tree u)
 then_ok (Ok v) f u e = (v, refl, e)
 then_ok (Err why) f u e = absurd cc
@@ -307,7 +308,7 @@ after_both [] back t u e = ap (λ (w : Tree). after_steps w back) (same t u e)
     same a b e = cc
 after_both (step ∷ front) back t u e =
     let v = then_ok (after_step step t) (λ w. after_steps w front) u e in
-    ap (λ (r : Result Tree Refusal). then_edit r (λ w. after_steps w (front ++ back))) v.1
+    ap (λ (r : Result Tree Refusal). r >>= λ w. after_steps w (front ++ back)) v.1
     ∙ after_both front back v.0 u v.2
 
 -- it is refused, and so are all

@@ -8,7 +8,7 @@ use Rattle.hive_model.specs.Bins.{Bin, Cells, bins_size, look_up, spelled}
 use Rattle.hive_model.specs.Size.{cell, name_bytes, data_sizes, data_size, bulk_of}
 use Rattle.hive_model.specs.Tree.{Tree, Item, head, is_item, find_key, find_item}
 use Rattle.hive_model.specs.Tree.{key as tree_key}
-use Rattle.hive_model.specs.Edit.{set_value, no_key, name_too_long, data_too_long, full, unless, then_edit, at_first, with_item, of_items, after_steps, most_bulk, edited}
+use Rattle.hive_model.specs.Edit.{set_value, no_key, name_too_long, data_too_long, full, unless, at_first, with_item, of_items, after_steps, most_bulk, edited}
 use Rattle.hive_model.specs.Packed.{rounded}
 use Rattle.hive_model.specs.Footprint.{value_list_sizes, item_sizes, needed_sizes, room_of}
 use Rattle.hive_cells.specs.Holes.{new_bin_size}
@@ -30,6 +30,7 @@ use Rattle.hive_edit.proofs.GiveLemmas.{some_size}
 use Rattle.hive_edit.proofs.SteppedLemmas.{IsStepMade, IsWithinRoom, stepped, lacks_room}
 use Rattle.hive_edit.proofs.ThereLemmas.{ThereIs, there_in, edit_there, there_done}
 use Rattle.hive_edit.proofs.NewValueLemmas.{kept_name}
+use Rattle.hive_model.specs.Forms.{◌>>=◌}
 
 abbrev become : ℕ → List ℕ → Item → Item
 become kind bytes v = record v { kind = kind; bytes = bytes }
@@ -155,9 +156,9 @@ few_made version t u path name kind bytes e =
     go (is_none (find_key path t)) (nat_lt 16383 (length name)) (nat_lt 1048576 (length bytes)) refl e
   where
     go : (a b c : Bool) → nat_lt 1048576 (length bytes) ≡ c
-        → then_edit (then_edit (unless ((a, no_key) ∷ (b, name_too_long) ∷ (c, data_too_long) ∷ [])
-        (set_tree path name kind bytes t)) (λ w. after_steps w []))
-        (λ w. cond (nat_lt most_bulk (bulk_of version w)) (Err full) (Ok w)) ≡ the_tree u
+        → (((unless ((a, no_key) ∷ (b, name_too_long) ∷ (c, data_too_long) ∷ [])
+        (set_tree path name kind bytes t)) >>= λ w. after_steps w []) >>=
+        (λ w. cond (nat_lt most_bulk (bulk_of version w)) (Err full) (Ok w))) ≡ the_tree u
         → length bytes ≤ 1048576
     go true b c q f = absurd cc
     go false true c q f = absurd cc

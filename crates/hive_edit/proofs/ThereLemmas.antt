@@ -3,7 +3,7 @@ use Rattle.std.proofs.Common.{◌≡◌, ◌≤◌, ◌<◌, ◌^◌, ◌⊎◌,
 use Rattle.std.specs.Option.{is_none, option_and_then, option_map, IsSome, IsSomeAnd}
 use Rattle.std.specs.List.{All, Contains}
 use Rattle.std.proofs.lemmas.Bool.{le-ltb}
-use Rattle.nt_bytes.specs.declared.fault.HiveKind.{HiveKind}
+use Rattle.nt_bytes.specs.declared.fault.HiveFaultKind.{HiveFaultKind}
 use Rattle.nt_bytes.specs.declared.version.HiveVersion.{HiveVersion}
 use Rattle.nt_bytes.specs.Folding.{folds_same}
 use Rattle.hive_model.specs.Bins.{Bin, Cells, bins_size, look_up}
@@ -208,7 +208,7 @@ given_gets version v kind bytes old new own g kind_fits = record {
 
     read_new : reading key_value_at c v ≡ done after
     read_new =
-        ap (λ (r : Result (List ℕ) HiveKind). r >>= key_value_at)
+        ap (λ (r : Result (List ℕ) HiveFaultKind). r >>= key_value_at)
         (held_payload new v (patched 4 (value_fields g.size g.offset kind) p.0)
         (g.here ∙ ap (option_map (patched 4 (value_fields g.size g.offset kind))) (payload_held old v p.0 p.1)))
         ∙ value_written p.0 own.value g.size g.offset kind p.2 g.size_fits g.offset_fits kind_fits g.not_over

@@ -6,8 +6,8 @@ use Rattle.std.specs.Int.{w32, to_le_bytes}
 use Rattle.std.proofs.lemmas.Bool.{ne_eqb}
 use Rattle.std.proofs.lemmas.Bool.Decides.{nat_tests}
 use Rattle.std.proofs.lemmas.List.Elements.{Contains-append_left}
-use Rattle.nt_bytes.specs.declared.fault.HiveKind.{HiveKind}
-use Rattle.nt_bytes.specs.declared.fault.HiveKind.TheVariants.{FormLength}
+use Rattle.nt_bytes.specs.declared.fault.HiveFaultKind.{HiveFaultKind}
+use Rattle.nt_bytes.specs.declared.fault.HiveFaultKind.TheVariants.{FormLength}
 use Rattle.nt_bytes.specs.declared.version.HiveVersion.{HiveVersion}
 use Rattle.nt_bytes.specs.Fields.{u32_in}
 use Rattle.nt_bytes.specs.Folding.{folds_same}
@@ -162,10 +162,10 @@ big_here version bins size place small some_bytes big h =
         listed = held_offsets version bins form.0.segments form.0.list list.0 list.1;
       };
       cells_are = d.0
-          ∙ ap (λ (r : Result BigData HiveKind). place
+          ∙ ap (λ (r : Result BigData HiveFaultKind). place
           ∷ used_in (below_of r (λ b. use_as false (offsets_in b.segments) cells b.list
           ++ below_of (reading (offsets_in b.segments) cells b.list) (segments_checks cells size)))) form.1
-          ∙ ap (λ (r : Result (List ℕ) HiveKind). place ∷ form.0.list
+          ∙ ap (λ (r : Result (List ℕ) HiveFaultKind). place ∷ form.0.list
           ∷ used_in (below_of r (segments_checks cells size))) list.1
           ∙ ap (λ (l : List ℕ). place ∷ form.0.list ∷ l) (segments_used cells size list.0);
     }
@@ -337,7 +337,7 @@ takes_out version old m1 m2 new x v count now fields t g u c small fits is here 
         let kept : held_at new t.node.value_list ≡ Some l.text =
         others t.node.value_list (t.node_apart t.node.value_list (inl refl)) ∙ l.there in
         ap (λ (o : ℕ). reading (offsets_in (length (u.front ++ u.back))) (look_up version new) o) (u.stays n)
-        ∙ ap (λ (r : Result (List ℕ) HiveKind). r >>= offsets_in (length (u.front ++ u.back)))
+        ∙ ap (λ (r : Result (List ℕ) HiveFaultKind). r >>= offsets_in (length (u.front ++ u.back)))
         (held_payload new t.node.value_list l.text kept) ∙ l.read
 
 -- ---- the edit

@@ -5,7 +5,7 @@ use Rattle.std.specs.List.{All}
 use Rattle.std.proofs.lemmas.Bool.{ne_eqb}
 use Rattle.std.proofs.lemmas.List.{append-nil}
 use Rattle.std.proofs.lemmas.List.Elements.{All-cons, All-nil}
-use Rattle.nt_bytes.specs.declared.fault.HiveKind.{HiveKind}
+use Rattle.nt_bytes.specs.declared.fault.HiveFaultKind.{HiveFaultKind}
 use Rattle.nt_bytes.specs.Fields.{u16_in, u32_in}
 use Rattle.hive_model.specs.Bins.{Cells}
 use Rattle.hive_model.specs.Forms.{bytes_in}
@@ -101,7 +101,7 @@ value_with_data cells at h =
     let f = item_facts cells at h in
     value_uses cells at f.value f.read
     ∙ ap (λ (l : List ℕ). at ∷ l)
-    (sym (ap (λ (r : Result KeyValue HiveKind). of_read r (λ v. used_in (data_checks cells v))) f.read))
+    (sym (ap (λ (r : Result KeyValue HiveFaultKind). of_read r (λ v. used_in (data_checks cells v))) f.read))
 
 pub plain_append : (xs ys : List ℕ) → plain (xs ++ ys) ≡ plain xs ++ plain ys
 plain_append [] ys = refl

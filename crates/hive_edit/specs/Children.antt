@@ -3,7 +3,7 @@ use Rattle.std.specs.Prelude.{◌≡◌, ◌≤◌, ◌<◌, ℕ, ◌+◌, ◌==
 use Rattle.std.specs.Option.{IfSome}
 use Rattle.hive_model.specs.Bins.{bins_size}
 use Rattle.hive_model.specs.Tree.{Tree, head, children}
-use Rattle.hive_model.specs.Valid.{HoldsKeys, levels}
+use Rattle.hive_model.specs.Valid.{HoldsKeys, levels, longest_key_name}
 use Rattle.hive_model.specs.Size.{size}
 use Rattle.hive_model.specs.Edit.{Refusal, exists, unless, has_child, is_bad_name, name_tests, with_child}
 use Rattle.hive_model.specs.KeyNode.{KeyNode, key_node_at}
@@ -24,7 +24,7 @@ use Rattle.hive_edit.specs.Hive.{HiveCells, cells_in}
 -- a child may have this name: it is good, not too long, and no child of the root has it
 pub record IsFreeName (h : HiveCells) (name : List ℕ) : Type 0 where
   pub good : is_bad_name name ≡ false
-  pub short : length name ≤ 255
+  pub short : length name ≤ longest_key_name
   pub absent : has_child name h.tree ≡ false
 
 -- a child may not, whatever it is otherwise judged by

@@ -2,7 +2,7 @@
 use Rattle.std.specs.Prelude.{◌≡◌, ◌≤◌, ◌<◌, ◌++◌, ℕ, Bool, false, if◌then◌else◌, List, is_some, Option, Some, None, Result, Ok, Err}
 use Rattle.std.specs.Option.{option_and_then}
 use Rattle.std.specs.Int.{w32, to_le_bytes}
-use Rattle.nt_bytes.specs.declared.fault.HiveKind.{HiveKind}
+use Rattle.nt_bytes.specs.declared.fault.HiveFaultKind.{HiveFaultKind}
 use Rattle.hive_model.specs.Bins.{Bin, Cells, bins_size}
 use Rattle.hive_model.specs.KeyValue.{KeyValue, key_value_at, data_inside}
 use Rattle.hive_model.specs.Walk.{reading}
@@ -33,7 +33,7 @@ pub record IsPackedForRoom (old : HiveCells) (steps : List Step) (new : HiveCell
   pub strained : 16777216 < strain_of old.version (bins_size old.bins) old.tree steps
 
 -- the value that was read holds its data itself
-abbrev pub held_itself : Result KeyValue HiveKind → Bool
+abbrev pub held_itself : Result KeyValue HiveFaultKind → Bool
 held_itself (Ok value) = is_some (data_inside value)
 held_itself (Err kind) = false
 

@@ -4,7 +4,7 @@ use Rattle.std.specs.Prelude.{◌≡◌, ◌<◌, ◌^◌, ℕ, ◌+◌, min, �
 use Rattle.std.specs.Int.{w32, to_le_bytes}
 use Rattle.nt_bytes.specs.Fields.{u32_in}
 use Rattle.nt_bytes.specs.declared.version.HiveVersion.{HiveVersion}
-use Rattle.nt_bytes.specs.declared.fault.HiveKind.{HiveKind}
+use Rattle.nt_bytes.specs.declared.fault.HiveFaultKind.{HiveFaultKind}
 use Rattle.edit_laws.specs.Relists.{descriptor_at, IsSecurityCell}
 use Rattle.hive_model.specs.Bins.{Bin, Cells, bins_size, look_up}
 use Rattle.hive_model.specs.Tree.{Tree}
@@ -20,7 +20,7 @@ use Rattle.hive_pack.specs.Below.{beside}
 use Rattle.hive_pack.specs.Numbers.{HasNumbers}
 use Rattle.hive_edit.specs.declared.making.Above.{Above}
 use Rattle.hive_edit.specs.Making.{above_lists, above_children, child_fields, IsLinkable, IsWritten}
-use Rattle.hive_edit.specs.Runs.{IsPlace, IsPutAt}
+use Rattle.hive_edit.specs.Runs.{IsPlace, IsRunPutAt}
 
 -- how many keys of a tree use the cell of a descriptor that is shared with the key above them; an empty one has no cell
 abbrev pub sharing : List ℕ → Tree → ℕ
@@ -57,7 +57,7 @@ run_of version parent above shared k at = text (cells_of version (beside version
 pub record IsRunPut (version : HiveVersion) (parent : ℕ) (above : Above) (shared : List ℕ) (k : Tree) (at : ℕ) (old new : List Bin) : Type 0 where
   pub run : List ℕ
   pub is : run ≡ run_of version parent above shared k at
-  pub put : IsPutAt (length run) at (run_cells run) old new
+  pub put : IsRunPutAt (length run) at (run_cells run) old new
 
 -- what is asked of a key and a place for its run, and of the parent: with the run put there, the key can be named
 pub record CanGraft (version : HiveVersion) (parent : ℕ) (above : Above) (shared : List ℕ) (k : Tree) (at : ℕ) (bins : List Bin) : Type 0 where
@@ -81,7 +81,7 @@ pub record LacksGraftLists (version : HiveVersion) (parent : ℕ) (above : Above
 -- ---- the security that is shared
 
 -- the descriptor at an offset, none where that names nothing
-abbrev pub descriptor_of : Cells → ℕ → Result (List ℕ) HiveKind
+abbrev pub descriptor_of : Cells → ℕ → Result (List ℕ) HiveFaultKind
 descriptor_of cells at = if at == nowhere then Ok [] else descriptor_at cells at
 
 -- a descriptor that a key below the root may share: some key of the tree has it, in the cell of security at an offset, or it is empty,

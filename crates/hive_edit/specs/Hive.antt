@@ -3,8 +3,9 @@ use Rattle.std.specs.Prelude.{◌≡◌, ℕ, Bool, true, false, List, Some, Non
 use Rattle.std.specs.Coded.{Coded, code_by, coded×, coded_ℕ, coded_bool, coded_list}
 use Rattle.nt_bytes.specs.declared.version.HiveVersion.{HiveVersion}
 use Rattle.nt_bytes.specs.declared.version.HiveVersion.TheVariants.{V3, V5}
-use Rattle.hive_model.specs.Bins.{Bin, Cells, coded_bin, look_up}
-use Rattle.hive_model.specs.Tree.{Tree, coded_tree}
+use Rattle.hive_model.specs.Bins.{Bin, Cells, look_up}
+use Rattle.hive_model.specs.Codes.{coded_bin, coded_tree}
+use Rattle.hive_model.specs.Tree.{Tree}
 use Rattle.hive_model.specs.Size.{bulk_of}
 use Rattle.hive_model.specs.Valid.{IsValid}
 use Rattle.nt_bytes.specs.declared.fault.ReadStop.{ReadStop}

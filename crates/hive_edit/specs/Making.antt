@@ -13,6 +13,7 @@ use Rattle.hive_model.specs.Edit.{with_key, at_key, is_bad_name}
 use Rattle.hive_model.specs.Walk.{reading, nowhere}
 use Rattle.hive_model.specs.Footprint.{key_place, has_key, list_sizes, list_strain_of, room_of}
 use Rattle.hive_model.specs.InPlace.{recounted}
+use Rattle.hive_model.specs.Valid.{longest_key_name}
 use Rattle.hive_cells.specs.Held.{held_at, patched}
 use Rattle.hive_cells.specs.Holes.{new_bin_size}
 use Rattle.key_index.specs.Lists.{children_at, hints_in, lists_at, with_child, IsNode, ListsSiblings}
@@ -156,7 +157,7 @@ made_tree parent name t = at_key parent (with_key name) t
 pub record IsOpen (h : HiveCells) (parent : List (List ℕ)) (name : List ℕ) (at : ℕ) : Type 0 where
   pub place : key_place (cells_in h) parent h.root ≡ Some at
   pub absent : has_key parent name h.tree ≡ false
-  pub short : length name ≤ 255
+  pub short : length name ≤ longest_key_name
   pub good : is_bad_name name ≡ false
   pub deep : length parent ≤ 510
 

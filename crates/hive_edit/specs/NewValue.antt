@@ -11,6 +11,7 @@ use Rattle.hive_model.specs.Packed.{item_cells}
 use Rattle.hive_model.specs.Edit.{at_key, of_items, with_item, edited, set_value}
 use Rattle.hive_model.specs.Walk.{reading}
 use Rattle.hive_model.specs.Footprint.{key_place}
+use Rattle.hive_model.specs.Valid.{longest_value_name}
 use Rattle.hive_cells.specs.Held.{held_at, patched, run_cells}
 use Rattle.hive_cells.specs.Holes.{new_bin_size}
 use Rattle.edit_laws.specs.Owned.{In, value_places, value_list_at}
@@ -19,7 +20,7 @@ use Rattle.edit_laws.specs.Written.{two_numbers}
 use Rattle.hive_edit.specs.Gone.{HasOffsets}
 use Rattle.hive_edit.specs.Hive.{HiveCells, cells_in}
 use Rattle.hive_edit.specs.Places.{value_place}
-use Rattle.hive_edit.specs.Runs.{IsPutAt}
+use Rattle.hive_edit.specs.Runs.{IsRunPutAt}
 
 -- where the value stands in a run at a place, behind the list of so many and itself
 abbrev pub behind_list : ℕ → ℕ → ℕ
@@ -53,7 +54,7 @@ pub record CanAdd (cells : Cells) (bins : List Bin) (x : ℕ) : Type 0 where
 -- was one, is freed.
 pub record IsRelistedAt (x list count place : ℕ) (run : List ℕ) (old new : List Bin) : Type 0 where
   pub mid : List Bin
-  pub put : IsPutAt (length run) place (run_cells run) old mid
+  pub put : IsRunPutAt (length run) place (run_cells run) old mid
   pub here : held_at new x ≡ option_map (patched 36 (two_numbers (count + 1) place)) (held_at mid x)
   pub freed : (count ≡ 0 → ⊥) → held_at new list ≡ None
   pub others : (o : ℕ) → (o ≡ x → ⊥) → ((count ≡ 0 → ⊥) → o ≡ list → ⊥) → held_at new o ≡ held_at mid o
@@ -82,7 +83,7 @@ pub record LacksRoomForValue (version : HiveVersion) (bins : List Bin) (x : ℕ)
 pub record IsNewIn (h : HiveCells) (path : List (List ℕ)) (name : List ℕ) (x : ℕ) : Type 0 where
   pub key : key_place (cells_in h) path h.root ≡ Some x
   pub absent : value_place (cells_in h) name x ≡ None
-  pub short : length name ≤ 16383
+  pub short : length name ≤ longest_value_name
 
 -- the tree with a value of this type and data
 abbrev pub set_tree : List (List ℕ) → List ℕ → ℕ → List ℕ → Tree → Tree

@@ -1,7 +1,7 @@
 -- Where the keys and values of a tree stand in cells. (This project's own.)
 use Rattle.std.specs.Prelude.{◌==◌, ℕ, if◌then◌else◌, List, [], ◌∷◌, find, Option, Some, None, Result, Ok, Err}
 use Rattle.std.specs.Option.{option_and_then}
-use Rattle.nt_bytes.specs.declared.fault.HiveKind.{HiveKind}
+use Rattle.nt_bytes.specs.declared.fault.HiveFaultKind.{HiveFaultKind}
 use Rattle.hive_model.specs.Bins.{Cells}
 use Rattle.std.specs.Result.{IsOk}
 use Rattle.nt_bytes.specs.declared.version.HiveVersion.{HiveVersion}
@@ -27,7 +27,7 @@ abbrev pub value_place : Cells → List ℕ → ℕ → Option ℕ
 value_place cells name at = find (is_value_named cells name) (value_places cells at)
 
 -- the value that was read, if one was
-abbrev pub item_read : Result Item HiveKind → Option Item
+abbrev pub item_read : Result Item HiveFaultKind → Option Item
 item_read (Ok v) = Some v
 item_read (Err kind) = None
 
@@ -57,7 +57,7 @@ abbrev pub room_by : HiveVersion → ℕ → ℕ
 room_by version size = if is_in_place size then 0 else cells_sum (data_sizes version size)
 
 -- how many bytes packed cells for the data of a value take
-abbrev pub room_for_item : HiveVersion → Result Item HiveKind → ℕ
+abbrev pub room_for_item : HiveVersion → Result Item HiveFaultKind → ℕ
 room_for_item version (Ok item) = data_size version item.bytes
 room_for_item version (Err kind) = 0
 

@@ -21,7 +21,7 @@ LacksPlace size bins = NoneFits size bins × (16777216 < bins_size bins + new_bi
 
 -- A run of so many bytes was put here: its cells are held, where nothing was, and each other one as before. The bins data are as
 -- long as before, or longer by a new bin for the run.
-pub record IsPutAt (size at : ℕ) (run : List Cell) (old new : List Bin) : Type 0 where
+pub record IsRunPutAt (size at : ℕ) (run : List Cell) (old new : List Bin) : Type 0 where
   pub held : (o : ℕ) → held_at new o ≡ or_else (held_among o at run) (held_at old o)
   pub fresh : (o : ℕ) → at ≤ o → o < at + size → held_at old o ≡ None
   pub least : bins_size old ≤ bins_size new

@@ -1,7 +1,7 @@
 -- The tree that stands in cells, as a function of them. (Regf format 1.3 and 1.5, key node; that the function answers an empty key
 -- where nothing stands is this project's own.)
 use Rattle.std.specs.Prelude.{ℕ, zero, suc, List, [], map, Result, Ok, Err}
-use Rattle.nt_bytes.specs.declared.fault.HiveKind.{HiveKind}
+use Rattle.nt_bytes.specs.declared.fault.HiveFaultKind.{HiveFaultKind}
 use Rattle.hive_model.specs.Bins.{Cells}
 use Rattle.hive_model.specs.KeyNode.{KeyNode, key_node_at}
 use Rattle.hive_model.specs.Tree.{Head, Tree, key, none, trees}
@@ -11,12 +11,12 @@ use Rattle.hive_model.specs.Stands.{tree_flags, class_of, security_of, values_of
 use Rattle.hive_model.specs.Footprint.{child_places}
 
 -- what was read, and nothing where it was not
-abbrev pub list_read : {A : Type 0} → Result (List A) HiveKind → List A
+abbrev pub list_read : {A : Type 0} → Result (List A) HiveFaultKind → List A
 list_read (Ok xs) = xs
 list_read (Err kind) = []
 
 -- what a key node and the cells that it names say of the key, but for its children; an empty key where none is read
-abbrev pub head_of : Cells → Result KeyNode HiveKind → Head
+abbrev pub head_of : Cells → Result KeyNode HiveFaultKind → Head
 head_of cells (Ok node) = record {
   name = node.name;
   flags = tree_flags node.flags;

@@ -7,20 +7,22 @@ ghost use Rattle.hive_model.specs.Size.{cell, list_size, name_bytes};
 ghost use Rattle.reg_tree.specs.Makes.{IsRefused};
 ghost use Rattle.hive_model.specs.KeyNode.{KeyNode, key_node_at};
 ghost use Rattle.hive_model.specs.Walk.{reading};
-ghost use Rattle.key_index.specs.Sources.{cells_of};
+ghost use Rattle.hive_cells.specs.Sources.{cells_of};
 ghost use Rattle.hive_edit.specs.Hive.{cells_in};
 ghost use Rattle.hive_edit.specs.Making.{AboveIs, IsOpen, MayMake};
 ghost use Rattle.hive_edit.specs.Places.{IsKeyAt};
 ghost use Rattle.hive_edit.specs.Stepped.{IsStepped, LacksStepRoom};
+ghost use Rattle.hive_model.specs.Valid.{longest_key_name};
 
 use crate::cells::are_bytes;
 use crate::hive::HiveBytes;
 use crate::making::{Above, add_node, new_node, node_fits};
 use crate::path::{child_at, key_at};
+use hive_cells::Source;
 use hive_pack::{cell_size, list_len, name_len};
-use key_index::{Source, bins_fit, payload};
+use key_index::{bins_fit, payload};
 use nt_bytes::{Names, u32_at, u64_at};
-use reg_tree::{EditStop, is_bad_name};
+use reg_tree::{EditStop, LONGEST_KEY_NAME, MOST_PARENTS, is_bad_name};
 use std::alloc::{AllocError, Global};
 
 /// Where a key may be made, and the bulk of the tree with it.
@@ -33,7 +35,7 @@ pub(crate) struct NewPlace {
 /// The bulk of a tree in which a key of so many children gets one of this name.
 fn grown_bulk(bulk: u64, count: u32, name: &[u16]) -> u64
     requires few { count ≤ 2097150 }
-    requires short { length name.now ≤ 255 }
+    requires short { length name.now ≤ longest_key_name }
     requires less { list_size count ≤ bulk + (cell (76 + name_bytes name.now) + list_size (count + 1)) }
     requires low { bulk ≤ 1152921504606846976 }
     ensures { result ≡ bulk + (cell (76 + name_bytes name.now) + list_size (count + 1)) - list_size count }
@@ -84,10 +86,10 @@ impl HiveBytes {
         if is_bad_name(name) {
             return Err(EditStop::BadName);
         }
-        if name.len() > 255 {
+        if name.len() > LONGEST_KEY_NAME {
             return Err(EditStop::NameTooLong);
         }
-        if parent.as_slice().len() > 510 {
+        if parent.as_slice().len() > MOST_PARENTS {
             return Err(EditStop::TooDeep);
         }
         if child_at(&source, at, name).is_some() {

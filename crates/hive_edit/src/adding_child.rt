@@ -10,7 +10,7 @@ ghost use Rattle.hive_model.specs.Size.{list_size, security_size, size};
 ghost use Rattle.hive_model.specs.Edit.{add_child, after_step, is_bad_name, renamed};
 ghost use Rattle.reg_tree.specs.Fitting.{Fits};
 ghost use Rattle.reg_tree.specs.Makes.{IsRefused};
-ghost use Rattle.key_index.specs.Sources.{cells_of};
+ghost use Rattle.hive_cells.specs.Sources.{cells_of};
 ghost use Rattle.hive_edit.specs.Children.{IsAddedIn, IsFreeName, IsGraftedIn, IsNewChild, LacksGraftRoom, MayGraft, RefusesName};
 ghost use Rattle.hive_edit.specs.Grafted.{descriptor_of};
 ghost use Rattle.hive_edit.specs.Runs.{IsPlace};
@@ -23,11 +23,11 @@ use crate::hive::HiveBytes;
 use crate::making::Above;
 use crate::path::child_at;
 use cell_forms::read_sk;
-use hive_cells::OpenHeap;
+use hive_cells::{OpenHeap, Source};
 use hive_pack::{NOWHERE, list_len};
-use key_index::{Source, payload};
+use key_index::payload;
 use nt_bytes::{Bytes, HiveVersion, ReadStop, Units};
-use reg_tree::{EditStop, Key, is_bad_name};
+use reg_tree::{EditStop, Key, LONGEST_KEY_NAME, is_bad_name};
 use std::alloc::{AllocError, Global};
 
 /// How many bytes a key takes less that shares its descriptor, than it takes with a cell of its own for it.
@@ -110,7 +110,7 @@ impl HiveBytes {
         if is_bad_name(name) {
             return Err(EditStop::BadName);
         }
-        if name.len() > 255 {
+        if name.len() > LONGEST_KEY_NAME {
             return Err(EditStop::NameTooLong);
         }
         if child_at(&source, self.root, name).is_some() {

@@ -3,7 +3,7 @@
 ghost use Rattle.std.specs.Prelude.{◌≡◌, ◌≤◌, ◌<◌, ℕ, length, slice_index, OnOk, OnErr, MatchOption};
 ghost use Rattle.hive_model.specs.Bins.{bins_size, spelled};
 ghost use Rattle.hive_cells.specs.Held.{run_cells, IsRun};
-ghost use Rattle.hive_edit.specs.Runs.{IsNewPlace, IsPlace, IsPutAt, LacksPlace};
+ghost use Rattle.hive_edit.specs.Runs.{IsNewPlace, IsPlace, IsRunPutAt, LacksPlace};
 
 use hive_cells::OpenHeap;
 use std::alloc::AllocError;
@@ -56,7 +56,7 @@ fn put_behind(heap: &mut OpenHeap, at: u32, run: &[u8]) -> Result<(), AllocError
     requires few { length run.now ≤ 16777216 }
     requires place { IsNewPlace (length run.now) heap.old at }
     requires run { IsRun run.now }
-    ensures put { OnOk result (IsPutAt (length run.now) at (run_cells run.now) heap.old heap.new) }
+    ensures put { OnOk result (IsRunPutAt (length run.now) at (run_cells run.now) heap.old heap.new) }
     ensures refused { OnErr result (heap.new ≡ heap.old) }
 {
     match heap.grow(run.len() as u32)? {
@@ -73,7 +73,7 @@ fn put_behind(heap: &mut OpenHeap, at: u32, run: &[u8]) -> Result<(), AllocError
 pub(crate) fn put_run(heap: &mut OpenHeap, at: u32, run: &[u8]) -> Result<(), AllocError>
     requires place { IsPlace (length run.now) heap.old at }
     requires run { IsRun run.now }
-    ensures put { OnOk result (IsPutAt (length run.now) at (run_cells run.now) heap.old heap.new) }
+    ensures put { OnOk result (IsRunPutAt (length run.now) at (run_cells run.now) heap.old heap.new) }
     ensures refused { OnErr result (heap.new ≡ heap.old) }
 {
     if at > long(heap) {

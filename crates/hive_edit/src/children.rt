@@ -6,11 +6,12 @@ ghost use Rattle.std.specs.List.{All};
 ghost use Rattle.hive_model.specs.Lists.{list_at};
 ghost use Rattle.hive_model.specs.Footprint.{child_places};
 ghost use Rattle.key_index.specs.Lists.{AreRead, IsNode, ListsSiblings, children_at, lists_lists, name_in, offsets_of, offsets_in_lists};
-ghost use Rattle.key_index.specs.Sources.{cells_of};
+ghost use Rattle.hive_cells.specs.Sources.{cells_of};
 ghost use Rattle.hive_edit.specs.Places.{IsKeyAt};
 
 use cell_forms::{Offsets, read_list, read_nk};
-use key_index::{Source, payload};
+use hive_cells::Source;
+use key_index::payload;
 use nt_bytes::{Names, ReadStop, Units, u16_at, u32_at};
 use std::alloc::{AllocError, Global};
 

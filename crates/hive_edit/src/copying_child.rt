@@ -15,7 +15,7 @@ use crate::adding_child::{descriptor, offset_fits, renamed, size_below};
 use crate::hive::HiveBytes;
 use crate::making::Above;
 use crate::path::child_at;
-use key_index::Source;
+use hive_cells::Source;
 use nt_bytes::{Names, Units};
 use reg_tree::{EditStop, Key};
 use std::alloc::{AllocError, Global};

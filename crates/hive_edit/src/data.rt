@@ -9,12 +9,13 @@ ghost use Rattle.hive_model.specs.Lists.{offsets_in};
 ghost use Rattle.hive_model.specs.Walk.{big_checks};
 ghost use Rattle.hive_model.specs.Footprint.{used_in};
 ghost use Rattle.hive_model.specs.Stands.{big_bytes_at};
-ghost use Rattle.key_index.specs.Sources.{cells_of};
+ghost use Rattle.hive_cells.specs.Sources.{cells_of};
 ghost use Rattle.hive_edit.specs.Places.{IsItemHere, data_places, data_room, data_places_by, room_by};
 
 use cell_forms::{DbForm, Offsets, read_db, read_offsets};
+use hive_cells::Source;
 use hive_pack::{data_len, is_big};
-use key_index::{Source, payload};
+use key_index::payload;
 use nt_bytes::{HiveVersion, ReadStop, u32_at};
 use std::alloc::{AllocError, Global};
 

@@ -9,7 +9,7 @@ ghost use Rattle.hive_model.specs.Footprint.{strain_of};
 ghost use Rattle.hive_model.specs.Tree.{Tree};
 ghost use Rattle.reg_tree.specs.Fitting.{Fits};
 ghost use Rattle.hive_model.specs.Size.{bulk_of};
-ghost use Rattle.hive_model.specs.Valid.{IsValid};
+ghost use Rattle.hive_model.specs.Valid.{IsValid, longest_data};
 ghost use Rattle.hive_model.specs.Stands.{IsWellFormed};
 ghost use Rattle.reg_tree.specs.Makes.{IsRefused, Makes, step_of};
 ghost use Rattle.reg_tree.specs.declared.stop.EditStop.TheVariants.{Full, Memory};
@@ -20,17 +20,13 @@ use crate::give::inside_fields;
 use crate::hive::HiveBytes;
 use crate::path::key_at;
 use crate::values::{if_inside, value_at};
-use hive_cells::read_cells;
+use hive_cells::{Source, read_cells};
 use hive_pack::pack;
 use hive_read::read_tree;
-use key_index::Source;
 use nt_bytes::{Bytes, HiveVersion, Names, ReadStop, Row, Units};
-use reg_tree::{EditStop, Key, MOST_BULK, Steps, TreeStep};
+use reg_tree::{EditStop, Key, LONGEST_DATA, MOST_BULK, Steps, TreeStep};
 use std::alloc::{AllocError, Global};
 use tree_draft::apply;
-
-/// The greatest number of bytes that a value's data have.
-pub(crate) const MOST_DATA: usize = 1_048_576;
 
 /// Where the packed form has the root.
 const ROOT: u32 = 32;
@@ -201,7 +197,7 @@ impl HiveBytes {
         kind: u32,
         bytes: &[u8],
     ) -> Result<bool, EditStop>
-        requires few { length bytes.now ≤ 1048576 }
+        requires few { length bytes.now ≤ longest_data }
         ensures made { MatchResult result
             (λ done. done ≡ true → edited self.old.version self.old.tree (set_value path.now name.now kind bytes.now ∷ []) ≡ Ok self.new.tree)
             (IsRefused (edited self.old.version self.old.tree (set_value path.now name.now kind bytes.now ∷ []))) }
@@ -234,7 +230,7 @@ impl HiveBytes {
         ensures room { OnOk result (IsEditedInPlace self.old (set_value path.now name.now kind bytes.now ∷ []) self.new
             ⊎ IsPackedForRoom self.old (set_value path.now name.now kind bytes.now ∷ []) self.new) }
     {
-        if bytes.len() > MOST_DATA {
+        if bytes.len() > LONGEST_DATA {
             return self.set_anew(alloc, path, name, kind, bytes);
         }
         if self.set_in_place(alloc, path, name, kind, bytes)? {

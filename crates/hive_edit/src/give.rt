@@ -12,6 +12,7 @@ ghost use Rattle.key_index.specs.Relists.{AreApart};
 ghost use Rattle.hive_edit.specs.Edits.{value_fields};
 ghost use Rattle.hive_edit.specs.Given.{Gives, IsGiven};
 ghost use Rattle.hive_edit.specs.Runs.{IsPlace};
+ghost use Rattle.hive_model.specs.Valid.{longest_data};
 
 use crate::cells::{place_for, put_run};
 use hive_cells::OpenHeap;
@@ -95,7 +96,7 @@ fn give_at(
     place: u32,
 ) -> Result<(), AllocError>
     requires some { 4 < length bytes.now }
-    requires few { length bytes.now ≤ 1048576 }
+    requires few { length bytes.now ≤ longest_data }
     requires room { IsSomeAnd (held_at heap.old at) (λ p. 16 ≤ length p) }
     requires held { All (λ o. IsSome (held_at heap.old o)) gone.now }
     requires apart { AreApart gone.now }
@@ -122,7 +123,7 @@ pub(crate) fn give(
     bytes: &[u8],
     gone: &[u32],
 ) -> Result<bool, AllocError>
-    requires few { length bytes.now ≤ 1048576 }
+    requires few { length bytes.now ≤ longest_data }
     requires room { IsSomeAnd (held_at heap.old at) (λ p. 16 ≤ length p) }
     requires held { All (λ o. IsSome (held_at heap.old o)) gone.now }
     requires apart { AreApart gone.now }

@@ -6,14 +6,14 @@ ghost use Rattle.hive_model.specs.Bins.{look_up};
 ghost use Rattle.hive_model.specs.Tree.{Tree, head};
 ghost use Rattle.hive_model.specs.Stands.{IsWellFormed};
 ghost use Rattle.hive_model.specs.Size.{bulk_of, list_size, security_size, size};
-ghost use Rattle.key_index.specs.Sources.{cells_of};
+ghost use Rattle.hive_cells.specs.Sources.{cells_of};
 ghost use Rattle.hive_edit.specs.Places.{IsKeyAt};
 
 use crate::measure::cell_len;
-use hive_cells::OpenHeap;
+use hive_cells::{OpenHeap, Source};
 use hive_pack::NOWHERE;
 use hive_read::judge;
-use key_index::{Source, payload};
+use key_index::payload;
 use nt_bytes::{HiveVersion, ReadStop, u32_at};
 use std::alloc::{AllocError, Global};
 

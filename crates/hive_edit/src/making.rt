@@ -11,6 +11,7 @@ ghost use Rattle.hive_model.specs.KeyNode.{key_node_text};
 ghost use Rattle.hive_model.specs.Walk.{nowhere};
 ghost use Rattle.hive_cells.specs.Held.{held_at};
 ghost use Rattle.hive_edit.specs.Making.{child_fields, new_node, above_children, IsAddable, IsAdded, IsAlike, IsFreedAgain, IsLinkable, IsLinked, IsPutAt, IsRaised, IsWritten, LacksNodeRoom, LacksRoomFor, LacksListRoom};
+ghost use Rattle.hive_model.specs.Valid.{longest_key_name};
 
 use cell_forms::{NkForm, nk_bytes};
 use hive_cells::OpenHeap;
@@ -51,7 +52,7 @@ pub(crate) fn new_node(
     security: u32,
     name: &[u16],
 ) -> Result<Bytes, AllocError>
-    requires short { length name.now ≤ 255 }
+    requires short { length name.now ≤ longest_key_name }
     ensures { IfOk result (λ b. b ≡ key_node_text (new_node parent stamp security name.now)) }
 {
     let form = NkForm {

@@ -8,12 +8,13 @@ ghost use Rattle.hive_model.specs.KeyValue.{key_value_at};
 ghost use Rattle.hive_model.specs.Size.{cell, cells_sum, data_sizes, is_narrow, item_size, name_bytes, segment_count, segment_sizes};
 ghost use Rattle.hive_model.specs.Stands.{item_at};
 ghost use Rattle.hive_model.specs.Tree.{Item};
-ghost use Rattle.key_index.specs.Sources.{cells_of};
+ghost use Rattle.hive_cells.specs.Sources.{cells_of};
 ghost use Rattle.hive_edit.specs.Places.{IsItemHere, value_name_of};
 
 use crate::values::{is_narrow, stored_bytes};
+use hive_cells::Source;
 use hive_pack::is_big;
-use key_index::{Source, payload};
+use key_index::payload;
 use nt_bytes::{HiveVersion, u32_at};
 
 /// The cell of a payload of so many bytes.

@@ -25,9 +25,9 @@ ghost use Rattle.hive_edit.specs.NewValue.{added_cells, added_size, CanAdd, IsNe
 ghost use Rattle.hive_edit.specs.Places.{value_place};
 ghost use Rattle.hive_edit.specs.Runs.{IsPlace};
 ghost use Rattle.hive_edit.specs.Stepped.{IsStepped, LacksStepRoom};
+ghost use Rattle.hive_model.specs.Valid.{longest_data, longest_value_name};
 
 use crate::cells::{MOST_BINS, are_bytes, place_for, put_run};
-use crate::edit::MOST_DATA;
 use crate::give::own_number;
 use crate::hive::HiveBytes;
 use crate::making::cell_bytes;
@@ -36,11 +36,11 @@ use crate::path::key_at;
 use crate::unset::{list_len, two_fields, values_of};
 use crate::values::value_at;
 use cell_forms::{VkForm, vk_bytes};
-use hive_cells::OpenHeap;
+use hive_cells::{OpenHeap, Source};
 use hive_pack::{cell_size, is_narrow, name_len, put_cell, write_data};
-use key_index::{Source, bins_fit};
+use key_index::bins_fit;
 use nt_bytes::{Bytes, HiveVersion, Names, Units};
-use reg_tree::{EditStop, MOST_BULK};
+use reg_tree::{EditStop, LONGEST_DATA, LONGEST_VALUE_NAME, MOST_BULK};
 use std::alloc::{AllocError, Global};
 
 // ---- the run
@@ -88,7 +88,7 @@ fn longer_list(alloc: Global, list: &[u8], count: u32, more: u32) -> Result<Byte
 
 /// The size field of a value with these data.
 fn size_field(bytes: &[u8]) -> u32
-    requires { length bytes.now ≤ 1048576 }
+    requires { length bytes.now ≤ longest_data }
     ensures { result ≡ (if nat_lt 4 (length bytes.now) then length bytes.now else 2147483648 + length bytes.now) }
 {
     let size = bytes.len() as u32;
@@ -115,8 +115,8 @@ fn value_form(
     bytes: &[u8],
 ) -> Result<VkForm, AllocError>
     requires place { at ≤ 16777216 }
-    requires short { length name.now ≤ 16383 }
-    requires few { length bytes.now ≤ 1048576 }
+    requires short { length name.now ≤ longest_value_name }
+    requires few { length bytes.now ≤ longest_data }
     ensures { IfOk result (λ f. key_value_of f ≡ item_form at (item name.now kind bytes.now)) }
 {
     let data = at + cell_size(20 + name_len(name)) as u32;
@@ -138,8 +138,8 @@ fn value_bytes(
     bytes: &[u8],
 ) -> Result<Bytes, AllocError>
     requires place { at ≤ 16777216 }
-    requires short { length name.now ≤ 16383 }
-    requires few { length bytes.now ≤ 1048576 }
+    requires short { length name.now ≤ longest_value_name }
+    requires few { length bytes.now ≤ longest_data }
     ensures { IfOk result (λ b. b ≡ key_value_text (item_form at (item name.now kind bytes.now))) }
 {
     let form = value_form(alloc, at, name, kind, bytes)?;
@@ -157,8 +157,8 @@ fn write_value(
     bytes: &[u8],
 ) -> Result<(), AllocError>
     requires room { at + item_size version (item name.now kind bytes.now) ≤ 16777216 }
-    requires short { length name.now ≤ 16383 }
-    requires few { length bytes.now ≤ 1048576 }
+    requires short { length name.now ≤ longest_value_name }
+    requires few { length bytes.now ≤ longest_data }
     ensures { OnOk result (out.new ≡ out.old ++ text (item_cells version at (item name.now kind bytes.now))) }
 {
     let value = value_bytes(alloc, at, name, kind, bytes)?;
@@ -180,8 +180,8 @@ fn added_run(
 ) -> Result<Bytes, AllocError>
     requires list { 4 * count ≤ length old.now }
     requires room { place + added_size version count (item name.now kind bytes.now) ≤ 16777216 }
-    requires short { length name.now ≤ 16383 }
-    requires few { length bytes.now ≤ 1048576 }
+    requires short { length name.now ≤ longest_value_name }
+    requires few { length bytes.now ≤ longest_data }
     ensures { IfOk result (λ b. b ≡ text (added_cells version place (numbers_in 4 count old.now) (item name.now kind bytes.now))) }
 {
     let at = place + cell_size(4 * (count as usize + 1)) as u32;
@@ -193,7 +193,7 @@ fn added_run(
 
 /// How many bytes the run takes.
 fn added_len(version: HiveVersion, count: u32, name: &[u16], size: u32) -> u64
-    requires { length name.now ≤ 16383 }
+    requires { length name.now ≤ longest_value_name }
     ensures exact { result ≡ cell (4 * suc count) + (cell (20 + name_bytes name.now) + cells_sum (data_sizes version size)) }
     ensures few { result ≤ 68719476736 }
 {
@@ -254,8 +254,8 @@ fn add_at(
     requires can { CanAdd (look_up version heap.old) heap.old key }
     requires place { (n : KeyNode) → reading key_node_at (look_up version heap.old) key ≡ Ok n
         → IsPlace (added_size version n.value_count (item name.now kind bytes.now)) heap.old place }
-    requires short { length name.now ≤ 16383 }
-    requires few { length bytes.now ≤ 1048576 }
+    requires short { length name.now ≤ longest_value_name }
+    requires few { length bytes.now ≤ longest_data }
     ensures put { OnOk result (PutsValue version heap.old heap.new key (item name.now kind bytes.now)) }
     ensures refused { OnErr result (heap.new ≡ heap.old) }
 {
@@ -279,8 +279,8 @@ fn add_value(
     bytes: &[u8],
 ) -> Result<bool, AllocError>
     requires can { CanAdd (look_up version heap.old) heap.old key }
-    requires short { length name.now ≤ 16383 }
-    requires few { length bytes.now ≤ 1048576 }
+    requires short { length name.now ≤ longest_value_name }
+    requires few { length bytes.now ≤ longest_data }
     ensures put { IfOk result (λ done. MatchBool done (PutsValue version heap.old heap.new key (item name.now kind bytes.now))
         (LacksRoomForValue version heap.old key (item name.now kind bytes.now) × (heap.new ≡ heap.old))) }
     ensures refused { OnErr result (heap.new ≡ heap.old) }
@@ -307,7 +307,7 @@ impl HiveBytes {
         ensures new { IfSome result (IsNewIn self.now path.now name.now) }
         ensures none { result ≡ None → place_in (cells_in self.now) path.now name.now self.now.root ≡ None → NeverSets self.now path.now name.now }
     {
-        if name.len() > 16383 {
+        if name.len() > LONGEST_VALUE_NAME {
             return None;
         }
         let source = Source {
@@ -326,7 +326,7 @@ impl HiveBytes {
     /// The bulk with a value of a new name in a key.
     fn bulk_with(&self, path: &Names, name: &[u16], key: u32, kind: u32, bytes: &[u8]) -> u64
         requires new { IsNewIn self.now path.now name.now key }
-        requires few { length bytes.now ≤ 1048576 }
+        requires few { length bytes.now ≤ longest_data }
         ensures bulk { result ≡ bulk_of self.now.version (set_tree path.now name.now kind bytes.now self.now.tree) }
         ensures step { after_step (set_value path.now name.now kind bytes.now) self.now.tree ≡ Ok (set_tree path.now name.now kind bytes.now self.now.tree) }
     {
@@ -349,7 +349,7 @@ impl HiveBytes {
         bulk: u64,
     ) -> Result<bool, AllocError>
         requires new { IsNewIn self.old path.now name.now key }
-        requires few { length bytes.now ≤ 1048576 }
+        requires few { length bytes.now ≤ longest_data }
         requires bulk { bulk ≡ bulk_of self.old.version (set_tree path.now name.now kind bytes.now self.old.tree) }
         ensures stepped { IfOk result (λ done. MatchBool done (IsStepped self.old (set_value path.now name.now kind bytes.now) self.new)
             (LacksStepRoom self.old (set_value path.now name.now kind bytes.now) × (self.new ≡ self.old))) }
@@ -377,7 +377,7 @@ impl HiveBytes {
         bytes: &[u8],
     ) -> Result<bool, EditStop>
         requires new { IsNewIn self.old path.now name.now key }
-        requires few { length bytes.now ≤ 1048576 }
+        requires few { length bytes.now ≤ longest_data }
         ensures made { MatchResult result
             (λ done. done ≡ true → edited self.old.version self.old.tree (set_value path.now name.now kind bytes.now ∷ []) ≡ Ok self.new.tree)
             (IsRefused (edited self.old.version self.old.tree (set_value path.now name.now kind bytes.now ∷ []))) }
@@ -408,7 +408,7 @@ impl HiveBytes {
         kind: u32,
         bytes: &[u8],
     ) -> Result<bool, EditStop>
-        requires few { length bytes.now ≤ 1048576 }
+        requires few { length bytes.now ≤ longest_data }
         ensures made { MatchResult result
             (λ done. done ≡ true → edited self.old.version self.old.tree (set_value path.now name.now kind bytes.now ∷ []) ≡ Ok self.new.tree)
             (IsRefused (edited self.old.version self.old.tree (set_value path.now name.now kind bytes.now ∷ []))) }
@@ -429,8 +429,8 @@ impl HiveBytes {
     /// The key that gets the value, or why it is refused: that there is no key, or that the name or the data are too long.
     fn settable(&self, path: &Names, name: &[u16], bytes: &[u8]) -> Result<u32, EditStop>
         ensures key { IfOk result (λ key. key_place (cells_in self.now) path.now self.now.root ≡ Some key) }
-        ensures short { IfOk result (λ key. length name.now ≤ 16383) }
-        ensures few { IfOk result (λ key. length bytes.now ≤ 1048576) }
+        ensures short { IfOk result (λ key. length name.now ≤ longest_value_name) }
+        ensures few { IfOk result (λ key. length bytes.now ≤ longest_data) }
         ensures refused { IfErr result (λ stop. (kind : ℕ) → IsRefused (after_step (set_value path.now name.now kind bytes.now) self.now.tree) stop) }
     {
         let source = Source {
@@ -440,10 +440,10 @@ impl HiveBytes {
         match key_at(&source, self.root, path) {
             None => Err(EditStop::NoKey),
             Some(key) => {
-                if name.len() > 16383 {
+                if name.len() > LONGEST_VALUE_NAME {
                     return Err(EditStop::NameTooLong);
                 }
-                if bytes.len() > MOST_DATA {
+                if bytes.len() > LONGEST_DATA {
                     return Err(EditStop::DataTooLong);
                 }
                 Ok(key)
@@ -474,8 +474,8 @@ impl HiveBytes {
         bytes: &[u8],
     ) -> Result<bool, AllocError>
         requires key { key_place (cells_in self.old) path.now self.old.root ≡ Some key }
-        requires short { length name.now ≤ 16383 }
-        requires few { length bytes.now ≤ 1048576 }
+        requires short { length name.now ≤ longest_value_name }
+        requires few { length bytes.now ≤ longest_data }
         ensures { IfOk result (λ done. MatchBool done (IsStepped self.old (set_value path.now name.now kind bytes.now) self.new)
             (LacksStepRoom self.old (set_value path.now name.now kind bytes.now) × (self.new ≡ self.old))) }
     {

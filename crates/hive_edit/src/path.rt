@@ -3,10 +3,11 @@
 ghost use Rattle.std.specs.Prelude.{◌≡◌, find};
 ghost use Rattle.std.specs.Option.{IfSome};
 ghost use Rattle.hive_model.specs.Footprint.{child_places, is_node_named, key_place};
-ghost use Rattle.key_index.specs.Sources.{cells_of};
+ghost use Rattle.hive_cells.specs.Sources.{cells_of};
 ghost use Rattle.hive_edit.specs.Places.{IsKeyAt};
 
-use key_index::{Source, find_child, payload};
+use hive_cells::Source;
+use key_index::{find_child, payload};
 use nt_bytes::{Names, Units, u32_at};
 
 /// The offset of the child that has a name, of the key at an offset.

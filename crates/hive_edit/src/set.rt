@@ -11,6 +11,7 @@ ghost use Rattle.hive_edit.specs.Edits.{IsEditedInPlace};
 ghost use Rattle.hive_edit.specs.Given.{place_in};
 ghost use Rattle.hive_edit.specs.NewValue.{set_tree};
 ghost use Rattle.hive_edit.specs.Stepped.{IsStepped, LacksStepRoom};
+ghost use Rattle.hive_model.specs.Valid.{longest_data};
 
 use crate::cells::are_bytes;
 use crate::data::{data_places, data_room};
@@ -18,8 +19,9 @@ use crate::give::give;
 use crate::hive::HiveBytes;
 use crate::path::key_at;
 use crate::values::value_at;
+use hive_cells::Source;
 use hive_pack::data_len;
-use key_index::{Source, bins_fit};
+use key_index::bins_fit;
 use nt_bytes::Names;
 use reg_tree::{EditStop, MOST_BULK};
 use std::alloc::{AllocError, Global};
@@ -49,7 +51,7 @@ impl HiveBytes {
         bytes: &[u8],
     ) -> u64
         requires there { place_in (cells_in self.now) path.now name.now self.now.root ≡ Some at }
-        requires few { length bytes.now ≤ 1048576 }
+        requires few { length bytes.now ≤ longest_data }
         ensures bulk { result ≡ bulk_of self.now.version (set_tree path.now name.now kind bytes.now self.now.tree) }
         ensures step { after_step (set_value path.now name.now kind bytes.now) self.now.tree ≡ Ok (set_tree path.now name.now kind bytes.now self.now.tree) }
     {
@@ -76,7 +78,7 @@ impl HiveBytes {
         bulk: u64,
     ) -> Result<bool, AllocError>
         requires there { place_in (cells_in self.old) path.now name.now self.old.root ≡ Some at }
-        requires few { length bytes.now ≤ 1048576 }
+        requires few { length bytes.now ≤ longest_data }
         requires bulk { bulk ≡ bulk_of self.old.version (set_tree path.now name.now kind bytes.now self.old.tree) }
         ensures stepped { IfOk result (λ done. MatchBool done (IsStepped self.old (set_value path.now name.now kind bytes.now) self.new)
             (LacksStepRoom self.old (set_value path.now name.now kind bytes.now) × (self.new ≡ self.old))) }
@@ -115,7 +117,7 @@ impl HiveBytes {
         kind: u32,
         bytes: &[u8],
     ) -> Result<bool, EditStop>
-        requires few { length bytes.now ≤ 1048576 }
+        requires few { length bytes.now ≤ longest_data }
         ensures made { MatchResult result
             (λ done. done ≡ true → edited self.old.version self.old.tree (set_value path.now name.now kind bytes.now ∷ []) ≡ Ok self.new.tree)
             (IsRefused (edited self.old.version self.old.tree (set_value path.now name.now kind bytes.now ∷ []))) }

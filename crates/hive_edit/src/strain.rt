@@ -6,7 +6,7 @@ ghost use Rattle.hive_model.specs.KeyNode.{KeyNode, key_node_at};
 ghost use Rattle.hive_model.specs.Size.{bulk_of};
 ghost use Rattle.hive_model.specs.Walk.{reading};
 ghost use Rattle.reg_tree.specs.Makes.{step_of};
-ghost use Rattle.key_index.specs.Sources.{cells_of};
+ghost use Rattle.hive_cells.specs.Sources.{cells_of};
 ghost use Rattle.hive_edit.specs.Places.{IsKeyAt};
 ghost use Rattle.hive_edit.specs.Stepped.{IsStepped};
 ghost use Rattle.hive_edit.specs.Steps.{IsLeastRoom, children_in, values_in};
@@ -15,7 +15,8 @@ ghost use Rattle.hive_edit.specs.Hive.{HiveCells};
 use crate::adding::above_at;
 use crate::hive::HiveBytes;
 use crate::path::{key_along, key_at};
-use key_index::{Source, payload};
+use hive_cells::Source;
+use key_index::payload;
 use nt_bytes::{Names, Units, u32_at};
 use reg_tree::TreeStep;
 

@@ -26,9 +26,9 @@ use crate::hive::HiveBytes;
 use crate::measure::{cell_len, value_len};
 use crate::path::key_at;
 use crate::values::value_at;
-use hive_cells::OpenHeap;
+use hive_cells::{OpenHeap, Source};
 use hive_pack::{NOWHERE, is_big};
-use key_index::{Source, bins_fit, payload};
+use key_index::{bins_fit, payload};
 use nt_bytes::{HiveVersion, Names, put_u32, u16_at, u32_at};
 use reg_tree::{EditStop, MOST_BULK};
 

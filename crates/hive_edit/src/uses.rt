@@ -6,7 +6,7 @@ ghost use Rattle.hive_model.specs.Lists.{numbers_in};
 ghost use Rattle.hive_model.specs.Walk.{value_checks};
 ghost use Rattle.hive_model.specs.Footprint.{used_in, security_cell_at, list_cells_at};
 ghost use Rattle.key_index.specs.Lists.{payload_in};
-ghost use Rattle.key_index.specs.Sources.{cells_of};
+ghost use Rattle.hive_cells.specs.Sources.{cells_of};
 ghost use Rattle.edit_laws.specs.Owned.{class_cell_at};
 ghost use Rattle.edit_laws.specs.Revalues.{all_value_cells, cells_of_values};
 ghost use Rattle.edit_laws.specs.Uses.{own_uses, plain, secure, tree_uses};
@@ -14,8 +14,9 @@ ghost use Rattle.hive_edit.specs.Places.{IsItemHere, IsKeyAt};
 
 use crate::children::{children, entries_in, is_list_of_lists};
 use crate::data::data_places;
+use hive_cells::Source;
 use hive_pack::NOWHERE;
-use key_index::{Source, payload};
+use key_index::payload;
 use nt_bytes::{u16_at, u32_at};
 use std::alloc::{AllocError, Global};
 

@@ -11,11 +11,12 @@ ghost use Rattle.hive_model.specs.StoredNames.{stored_name};
 ghost use Rattle.hive_model.specs.KeyValue.{is_narrow_value, key_value_at};
 ghost use Rattle.hive_model.specs.Lists.{numbers_in};
 ghost use Rattle.hive_model.specs.Footprint.{is_value_named};
-ghost use Rattle.key_index.specs.Sources.{cells_of};
+ghost use Rattle.hive_cells.specs.Sources.{cells_of};
 ghost use Rattle.hive_edit.specs.Edits.{if_inside};
 ghost use Rattle.hive_edit.specs.Places.{IsKeyAt, IsItemHere, dword_at, value_name_of, value_place};
 
-use key_index::{Source, payload};
+use hive_cells::Source;
+use key_index::payload;
 use nt_bytes::{fold, u16_at, u32_at};
 
 // ---- names, compared where they are stored

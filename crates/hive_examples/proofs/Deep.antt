@@ -6,8 +6,8 @@ use Rattle.std.proofs.lemmas.Bool.{ne_eqb, ltb-false}
 use Rattle.std.proofs.lemmas.List.Folds.{list_any-append}
 use Rattle.nt_bytes.specs.declared.version.HiveVersion.{HiveVersion}
 use Rattle.nt_bytes.specs.declared.fault.HiveFault.{HiveFault}
-use Rattle.nt_bytes.specs.declared.fault.HiveKind.{HiveKind}
-use Rattle.nt_bytes.specs.declared.fault.HiveKind.TheVariants.{Shared, TooDeep}
+use Rattle.nt_bytes.specs.declared.fault.HiveFaultKind.{HiveFaultKind}
+use Rattle.nt_bytes.specs.declared.fault.HiveFaultKind.TheVariants.{Shared, TooDeep}
 use Rattle.hive_model.specs.Base.{fault_at}
 use Rattle.hive_model.specs.Bins.{Cells, or_else}
 use Rattle.hive_model.specs.StoredNames.{key_name_at}
@@ -40,8 +40,8 @@ used_behind : (q at : ℕ) (security kept : Bool) → at < q → clash q securit
 used_behind q at security kept less = ap (λ b. b && not (security && kept)) (ne_eqb q at (λ e. omega arith))
 
 -- one use of a cell: without a fault of its own, and not shared, the next fault decides
-turn : (b : Bool) (p : Result (List ℕ) HiveKind) (shared : Bool) (next rest : Option HiveFault) (at : ℕ) (f : HiveFault)
-    → (if b then None else or_else (at_place at (found p)) next) ≡ Some f → (b ≡ false → shared ≡ false)
+turn : (b : Bool) (p : Result (List ℕ) HiveFaultKind) (shared : Bool) (next rest : Option HiveFault) (at : ℕ)
+    (f : HiveFault) → (if b then None else or_else (at_place at (found p)) next) ≡ Some f → (b ≡ false → shared ≡ false)
     → (b ≡ false → next ≡ Some f → rest ≡ Some f)
     → or_else (or_else (at_place at (found p)) (at_place at (failing shared Shared))) rest ≡ Some f
 turn true p shared next rest at f e fresh more = absurd cc

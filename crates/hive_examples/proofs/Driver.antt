@@ -8,8 +8,8 @@ use Rattle.std.proofs.lemmas.List.Kept.{AllPairs-cons}
 use Rattle.nt_bytes.specs.Folding.{folds_same}
 use Rattle.nt_bytes.specs.declared.version.HiveVersion.TheVariants.{V3}
 use Rattle.nt_bytes.specs.declared.fault.HiveFault.{HiveFault}
-use Rattle.nt_bytes.specs.declared.fault.HiveKind.{HiveKind}
-use Rattle.nt_bytes.specs.declared.fault.HiveKind.TheVariants.{Shared}
+use Rattle.nt_bytes.specs.declared.fault.HiveFaultKind.{HiveFaultKind}
+use Rattle.nt_bytes.specs.declared.fault.HiveFaultKind.TheVariants.{Shared}
 use Rattle.hive_model.specs.Forms.{bytes_in}
 use Rattle.hive_model.specs.StoredNames.{key_name_at, value_name_at}
 use Rattle.hive_model.specs.KeyNode.{KeyNode, key_node_in, key_node_at}
@@ -72,7 +72,7 @@ once cells before (uses at s ∷ cs) e =
     e in
     (two.0, once cells (before ++ uses at s ∷ []) cs two.1)
   where
-    parts : (p : Result (List ℕ) HiveKind) (b : Bool) (rest : Option HiveFault)
+    parts : (p : Result (List ℕ) HiveFaultKind) (b : Bool) (rest : Option HiveFault)
         → or_else (or_else (at_place at (found p)) (at_place at (failing b Shared))) rest ≡ None
         → (b ≡ false) × (rest ≡ None)
     parts (Err k) b rest e = absurd cc
@@ -109,7 +109,7 @@ named keys h = all_of (λ t. 0 < length (head t).name) keys h
 
 -- ---- the hive of one driver
 
-payload_in : Result (List ℕ) HiveKind → List ℕ
+payload_in : Result (List ℕ) HiveFaultKind → List ℕ
 payload_in (Ok p) = p
 payload_in (Err kind) = []
 

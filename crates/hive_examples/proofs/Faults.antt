@@ -5,7 +5,7 @@ use Rattle.std.specs.List.{list_all}
 use Rattle.std.proofs.Common.{◌≡◌, ◌<◌, ◌++◌, ℕ, true, false, List, [], length, Some, Ok, Err, refl, sym, subst, inl, inr, lit<}
 use Rattle.nt_bytes.specs.declared.version.HiveVersion.TheVariants.{V3}
 use Rattle.nt_bytes.specs.declared.fault.HiveFault.{HiveFault}
-use Rattle.nt_bytes.specs.declared.fault.HiveKind.{HiveKind}
+use Rattle.nt_bytes.specs.declared.fault.HiveFaultKind.{HiveFaultKind}
 use Rattle.hive_model.specs.Base.{fault_at}
 use Rattle.hive_model.specs.Bins.{bins_size, spelled, head_bytes, header_at, size_at, look_up}
 use Rattle.hive_model.specs.Recovery.{Recovered, recovered_of}
@@ -58,7 +58,7 @@ walk_fault edits fault read each long same first =
     )
 
 -- the header of the one bin fails
-pub header_fault : (edits : List (ℕ × ℕ)) (kind : HiveKind) → recovered_of (driver_with edits) ≡ Ok (found edits)
+pub header_fault : (edits : List (ℕ × ℕ)) (kind : HiveFaultKind) → recovered_of (driver_with edits) ≡ Ok (found edits)
     → length (changed edits driver_bin) ≡ 4096 → header_at 0 (changed edits driver_bin) ≡ Err kind
     → LoadFault (driver_with edits) (fault_at kind 0)
 header_fault edits kind read long fails =
@@ -75,7 +75,7 @@ header_fault edits kind read long fails =
     )
 
 -- the first cell fails
-pub cell_fault : (edits : List (ℕ × ℕ)) (kind : HiveKind) → recovered_of (driver_with edits) ≡ Ok (found edits)
+pub cell_fault : (edits : List (ℕ × ℕ)) (kind : HiveFaultKind) → recovered_of (driver_with edits) ≡ Ok (found edits)
     → changed edits driver_bin ≡ head_bytes 0 4096 (replicate 20 0) ++ drop 32 (changed edits driver_bin)
     → header_at 0 (changed edits driver_bin) ≡ Ok 4096
     → size_at 4064 (drop 32 (changed edits driver_bin)) ≡ Err kind → LoadFault (driver_with edits) (fault_at kind 32)

@@ -4,8 +4,9 @@ use Rattle.std.proofs.Common.{◌≡◌, ℕ, Bool, true, false, List, [], ◌�
 use Rattle.nt_bytes.specs.declared.version.HiveVersion.{HiveVersion}
 use Rattle.hive_model.specs.Tree.{Tree}
 use Rattle.hive_model.specs.Size.{bulk_of}
-use Rattle.hive_model.specs.Edit.{Refusal, most_bulk, set_value, after_step, after_steps, then_edit, data_too_long, full}
+use Rattle.hive_model.specs.Edit.{Refusal, most_bulk, set_value, after_step, after_steps, data_too_long, full}
 use Rattle.hive_laws.specs.Trees.{full_root}
+use Rattle.hive_model.specs.Forms.{◌>>=◌}
 
 pub passed : {A : Type 0} (b : Bool) (x y : A) → b ≡ false → (if b then x else y) ≡ y
 passed false x y e = refl
@@ -28,5 +29,5 @@ set block last n long few =
 
 -- the judgement of a step's tree by its bulk
 unfoldable pub judged : HiveVersion → Result Tree Refusal → Result Tree Refusal
-judged version step = then_edit (then_edit step (λ u. after_steps u []))
+judged version step = (step >>= λ u. after_steps u []) >>=
     (λ u. if nat_lt most_bulk (bulk_of version u) then Err full else Ok u)

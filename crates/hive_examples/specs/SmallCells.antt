@@ -2,7 +2,7 @@
 use Rattle.std.specs.Prelude.{ℕ, ◌+◌, ◌%◌, ◌==◌, if◌then◌else◌, false, List, [], ◌∷◌, codes, replicate, Option, Ok, Err}
 use Rattle.nt_bytes.specs.declared.version.HiveVersion.{HiveVersion}
 use Rattle.nt_bytes.specs.declared.fault.HiveFault.{HiveFault}
-use Rattle.nt_bytes.specs.declared.fault.HiveKind.TheVariants.{OutOfRange}
+use Rattle.nt_bytes.specs.declared.fault.HiveFaultKind.TheVariants.{OutOfRange}
 use Rattle.hive_model.specs.Bins.{Bin, Cells}
 use Rattle.hive_model.specs.KeyNode.{KeyNode, key_node_text}
 use Rattle.hive_model.specs.KeyValue.{KeyValue}

@@ -1,7 +1,7 @@
 //! The first check of a cell's form that fails.
 
 ghost use Rattle.std.specs.Prelude.{◌≡◌, [], ◌∷◌, codes, replicate, take, slice_set, Ok, Err, true, false};
-ghost use Rattle.nt_bytes.specs.declared.fault.HiveKind.TheVariants.{FormShort, FormSign, FormLength, FormName, FormKind, BinSign, BinOffset, BinSize, CellSize, CellPastBin};
+ghost use Rattle.nt_bytes.specs.declared.fault.HiveFaultKind.TheVariants.{FormShort, FormSign, FormLength, FormName, FormKind, BinSign, BinOffset, BinSize, CellSize, CellPastBin};
 ghost use Rattle.hive_model.specs.Bins.{header_at, size_at};
 ghost use Rattle.hive_model.specs.KeyNode.{key_node_at, key_node_text};
 ghost use Rattle.hive_model.specs.KeyValue.{key_value_at, key_value_text};

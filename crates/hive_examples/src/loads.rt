@@ -1,7 +1,7 @@
 //! What the hive of one driver loads as, which another program wrote, and its first fault where a few bytes are changed.
 
 ghost use Rattle.std.specs.Prelude.{[], ◌∷◌, false};
-ghost use Rattle.nt_bytes.specs.declared.fault.HiveKind.TheVariants.{BinOffset, BinSign, BinSize, CellPastBin, CellSize, DoubleName, FormKind, FormLength, FormName, FormShort, FormSign, FreeCell, OutOfRange, Shared};
+ghost use Rattle.nt_bytes.specs.declared.fault.HiveFaultKind.TheVariants.{BinOffset, BinSign, BinSize, CellPastBin, CellSize, DoubleName, FormKind, FormLength, FormName, FormShort, FormSign, FreeCell, OutOfRange, Shared};
 ghost use Rattle.nt_bytes.specs.declared.version.HiveVersion.TheVariants.{V3};
 ghost use Rattle.hive_model.specs.Base.{fault_at};
 ghost use Rattle.hive_model.specs.Load.{Loads, LoadFault};

@@ -2,7 +2,7 @@
 //! files of a small one, with sectors that can't be read among them.
 
 ghost use Rattle.std.specs.Prelude.{◌≡◌, [], ◌∷◌, ◌++◌, codes, take, slice_set, Ok, Err, true, false};
-ghost use Rattle.nt_bytes.specs.declared.fault.HiveKind.TheVariants.{NotRegf, Checksum, Version, FileType, Size, Unreadable, LogAbsent, LogBase, LogSequence, LogShort, LogDirt, LogUnreadable};
+ghost use Rattle.nt_bytes.specs.declared.fault.HiveFaultKind.TheVariants.{NotRegf, Checksum, Version, FileType, Size, Unreadable, LogAbsent, LogBase, LogSequence, LogShort, LogDirt, LogUnreadable};
 ghost use Rattle.hive_model.specs.Base.{fault_at, base_text};
 ghost use Rattle.hive_model.specs.Image.{image_of};
 ghost use Rattle.hive_model.specs.Asked.{primary_at, log_at};

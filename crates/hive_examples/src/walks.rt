@@ -1,7 +1,7 @@
 //! The first fault of a root with two children, and the tree that stands there; data in segments.
 
 ghost use Rattle.std.specs.Prelude.{◌≡◌, ◌*◌, [], ◌∷◌, ◌++◌, codes, replicate, None, Some, Ok, Err};
-ghost use Rattle.nt_bytes.specs.declared.fault.HiveKind.TheVariants.{OutOfRange, FreeCell, Shared, DoubleName, Count, FormShort, FormSign, FormLength, TooDeep};
+ghost use Rattle.nt_bytes.specs.declared.fault.HiveFaultKind.TheVariants.{OutOfRange, FreeCell, Shared, DoubleName, Count, FormShort, FormSign, FormLength, TooDeep};
 ghost use Rattle.nt_bytes.specs.declared.version.HiveVersion.{HiveVersion as Version};
 ghost use Rattle.nt_bytes.specs.declared.version.HiveVersion.TheVariants.{V3, V5};
 ghost use Rattle.hive_model.specs.Base.{fault_at};

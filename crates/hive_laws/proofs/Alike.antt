@@ -4,15 +4,16 @@ use Rattle.std.specs.List.{starts_with}
 use Rattle.std.proofs.Common.{◌≡◌, ◌⊎◌, ◌<◌, ◌≤◌, ◌+◌, ◌-◌, ◌*◌, ◌==◌, ℕ, zero, suc, Bool, true, false, List, drop, Option, Some, None, Result, Ok, Err, refl, sym, ◌∙◌, ap, subst, ⊎_elim, arith}
 use Rattle.std.proofs.lemmas.Bool.{eqb-true, eqb-false}
 use Rattle.nt_bytes.specs.declared.fault.HiveFault.{HiveFault}
-use Rattle.nt_bytes.specs.declared.fault.HiveKind.TheVariants as kinds
+use Rattle.nt_bytes.specs.declared.fault.HiveFaultKind.TheVariants as kinds
 use Rattle.hive_model.specs.Asked.{primary_at, log_at, bin_at}
 use Rattle.hive_model.specs.Base.{Base, base_of, fault_at}
 use Rattle.hive_model.specs.Image.{Image, Address}
 use Rattle.hive_model.specs.Carries.{HasBase}
-use Rattle.hive_model.specs.Recovery.{Recovered, Sectors, and_then, bytes_or, read_bin, read_log, joined, gathered, recovered_with, by_primary, bit, rank, bitmap_sectors, first_dirty, by_bits, front_in, bitmap_in, closed_by, goes_with, by_logged, as_log_base, logged_in, by_log, base_at, base_in, by_base, recovered_of}
+use Rattle.hive_model.specs.Recovery.{Recovered, Sectors, bytes_or, read_bin, read_log, joined, gathered, recovered_with, by_primary, bit, rank, bitmap_sectors, first_dirty, by_bits, front_in, bitmap_in, closed_by, goes_with, by_logged, as_log_base, logged_in, by_log, base_at, base_in, by_base, recovered_of}
 use Rattle.hive_laws.specs.Looking.{AreRead, IsOpen, HasLogBase, HasBits, bits_of, bins_sectors, marks, marked_in, bins_by, LooksAt}
 use Rattle.hive_laws.specs.Looking.LooksAt.{at_the_block, at_a_clean_one, at_the_log, at_the_sign, at_more_bits, at_a_marked_one, at_another_one}
 use Rattle.hive_log.proofs.Ranks.{split, rank_below}
+use Rattle.hive_model.specs.Forms.{◌>>=◌}
 
 -- ---- runs of sectors
 
@@ -107,12 +108,12 @@ module _ (x y : Image) (same : (a : Address) → LooksAt x a → x a ≡ y a) wh
 
   logged_same : (opened : Option Base) → IsOpen x opened → logged_in x ≡ logged_in y
   logged_same opened is =
-      ap (λ s. and_then (bytes_or (fault_at kinds.LogAbsent 0) (fault_at kinds.LogUnreadable 0) s)
-      (λ block. as_log_base (base_of block 1))) (same (log_at 0) (at_the_log opened is))
+      ap (λ s. (bytes_or (fault_at kinds.LogAbsent 0) (fault_at kinds.LogUnreadable 0) s >>=
+      (λ block. as_log_base (base_of block 1)))) (same (log_at 0) (at_the_log opened is))
 
   module _ (opened : Option Base) (logged : Base) (has : HasLogBase x opened logged) where
     front_same : front_in x ≡ front_in y
-    front_same = ap (λ s. and_then s signed) (log_same 1 (at_the_sign opened logged has))
+    front_same = ap (λ s. s >>= signed) (log_same 1 (at_the_sign opened logged has))
 
     further : Image → Result (List ℕ) HiveFault
     further image = gathered (read_log image) 2 (bitmap_sectors logged.size - 1)
@@ -168,7 +169,7 @@ module _ (x y : Image) (same : (a : Address) → LooksAt x a → x a ≡ y a) wh
           (gathered (bins_by image logged text) 0 (bins_sectors logged))
 
       with_marked : (r : Result (List ℕ) HiveFault) → marked x ≡ r
-          → and_then r (behind_marked x) ≡ and_then r (behind_marked y)
+          → (r >>= behind_marked x) ≡ (r >>= behind_marked y)
       unfolding marked behind_marked
       with_marked (Err f) e = refl
       with_marked (Ok dirty) e =
@@ -181,25 +182,25 @@ module _ (x y : Image) (same : (a : Address) → LooksAt x a → x a ≡ y a) wh
 
       by_bits_same : by_bits x (closed_by logged) (bits_of text) ≡ by_bits y (closed_by logged) (bits_of text)
       unfolding marked behind_marked
-      by_bits_same = with_marked (marked x) refl ∙ ap (λ r. and_then r (behind_marked y)) marked_same
+      by_bits_same = with_marked (marked x) refl ∙ ap (λ r. r >>= behind_marked y) marked_same
 
     -- what follows the bits
     by_text : Image → List ℕ → Result Recovered HiveFault
     by_text image text = by_bits image (closed_by logged) (bits_of text)
 
     with_text : (r : Result (List ℕ) HiveFault) → bitmap_in x logged.size ≡ r
-        → and_then r (by_text x) ≡ and_then r (by_text y)
+        → (r >>= by_text x) ≡ (r >>= by_text y)
     unfolding by_text
     with_text (Err f) e = refl
     with_text (Ok text) e = by_bits_same text e
 
-    text_same : and_then (bitmap_in x logged.size) (by_text x) ≡ and_then (bitmap_in y logged.size) (by_text y)
-    text_same = with_text (bitmap_in x logged.size) refl ∙ ap (λ r. and_then r (by_text y)) bits_same
+    text_same : (bitmap_in x logged.size >>= by_text x) ≡ (bitmap_in y logged.size >>= by_text y)
+    text_same = with_text (bitmap_in x logged.size) refl ∙ ap (λ r. r >>= by_text y) bits_same
 
   -- the log's base block goes with the primary's, or not
   if_goes : Image → Base → Bool → Result Recovered HiveFault
   if_goes image logged b =
-      if b then and_then (bitmap_in image logged.size) (λ text. by_bits image (closed_by logged) (bit (drop 4 text)))
+      if b then (bitmap_in image logged.size >>= λ text. by_bits image (closed_by logged) (bit (drop 4 text)))
       else Err (fault_at kinds.LogSequence 4)
 
   numbered : (opened : Option Base) (logged : Base) → IsOpen x opened → logged_in x ≡ Ok logged
@@ -212,13 +213,13 @@ module _ (x y : Image) (same : (a : Address) → LooksAt x a → x a ≡ y a) wh
       ∙ sym (ap (if_goes y logged) ours)
 
   with_logged : (opened : Option Base) → IsOpen x opened → (r : Result Base HiveFault) → logged_in x ≡ r
-      → and_then r (by_logged x opened) ≡ and_then r (by_logged y opened)
+      → (r >>= by_logged x opened) ≡ (r >>= by_logged y opened)
   with_logged opened is (Err f) e = refl
   with_logged opened is (Ok logged) e = numbered opened logged is e (goes_with opened logged) refl
 
   open_same : (opened : Option Base) → IsOpen x opened → by_log x opened ≡ by_log y opened
   open_same opened is =
-      with_logged opened is (logged_in x) refl ∙ ap (λ r. and_then r (by_logged y opened)) (logged_same opened is)
+      with_logged opened is (logged_in x) refl ∙ ap (λ r. r >>= by_logged y opened) (logged_same opened is)
 
   -- a primary is clean, or not
   if_clean : Image → Base → Bool → Result Recovered HiveFault
@@ -235,11 +236,11 @@ module _ (x y : Image) (same : (a : Address) → LooksAt x a → x a ≡ y a) wh
       ∙ open_same (Some base) (record { block = has; odd = eqb-false base.first base.second odd })
       ∙ sym (ap (if_clean y base) odd)
 
-  with_base : (r : Result (Option Base) HiveFault) → base_in x ≡ r → and_then r (by_base x) ≡ and_then r (by_base y)
+  with_base : (r : Result (Option Base) HiveFault) → base_in x ≡ r → (r >>= by_base x) ≡ (r >>= by_base y)
   with_base (Err f) e = refl
   with_base (Ok None) e = open_same None (record { block = e; odd = tt })
   with_base (Ok (Some base)) e = by_numbers base e (base.first == base.second) refl
 
   pub recovered_alike : recovered_of x ≡ recovered_of y
   unfolding recovered_of
-  recovered_alike = with_base (base_in x) refl ∙ ap (λ r. and_then r (by_base y)) base_same
+  recovered_alike = with_base (base_in x) refl ∙ ap (λ r. r >>= by_base y) base_same

@@ -4,8 +4,8 @@ use Rattle.std.proofs.Common.{◌≡◌, ◌<◌, ◌+◌, ◌-◌, ◌*◌, ◌
 use Rattle.std.proofs.lemmas.Bool.{eqb-true, eqb-false, eq-eqb, ne_eqb, not-true}
 use Rattle.std.proofs.lemmas.List.Elements.{All-nil, All-cons}
 use Rattle.nt_bytes.specs.declared.fault.HiveFault.{HiveFault}
-use Rattle.nt_bytes.specs.declared.fault.HiveKind.TheVariants as kinds
-use Rattle.hive_model.specs.Asked.{primary_at, log_at, bin_at, is_readable, run_at, unmarked_at, one_by_one, unless_fault, asked_bins, asked_behind_sign, asked_bits, asked_behind_log, asked_log, asked_behind_base, asked_of}
+use Rattle.nt_bytes.specs.declared.fault.HiveFaultKind.TheVariants as kinds
+use Rattle.hive_model.specs.Asked.{primary_at, log_at, bin_at, is_readable, run_at, unmarked_at, one_by_one, asked_if_read, asked_bins, asked_behind_sign, asked_bits, asked_behind_log, asked_log, asked_behind_base, asked_of}
 use Rattle.hive_model.specs.Base.{Base, fault_at}
 use Rattle.hive_model.specs.Image.{Image, Address, Primary, Log}
 use Rattle.hive_model.specs.Carries.{HasBase}
@@ -22,7 +22,7 @@ use Rattle.hive_log.proofs.Ranks.{rank_below}
 
 -- behind the primary's base block
 abbrev pub past_block : Image → List Address
-past_block x = unless_fault (base_in x) (asked_behind_base x)
+past_block x = asked_if_read (base_in x) (asked_behind_base x)
 
 -- of a clean primary
 abbrev pub clean_part : Image → ℕ → List Address
@@ -30,15 +30,15 @@ clean_part x count = one_by_one x (run_at Primary 8 count) []
 
 -- behind the log's base block
 abbrev pub past_log : Image → Option Base → List Address
-past_log x opened = unless_fault (logged_in x) (asked_behind_log x opened)
+past_log x opened = asked_if_read (logged_in x) (asked_behind_log x opened)
 
 -- behind the first sector of the bits
 abbrev pub past_sign : Image → ℕ → List Address
-past_sign x size = unless_fault (front_in x) (λ front. asked_behind_sign x size)
+past_sign x size = asked_if_read (front_in x) (λ front. asked_behind_sign x size)
 
 -- behind the bits
 abbrev pub past_bits : Image → ℕ → List Address
-past_bits x size = unless_fault (bitmap_in x size) (asked_bins x size)
+past_bits x size = asked_if_read (bitmap_in x size) (asked_bins x size)
 
 -- behind the log's sectors
 abbrev pub unmarked_part : Image → ℕ → List ℕ → List Address
@@ -103,7 +103,7 @@ module _ (x : Image) where
           (λ all. others_looked (λ j low. log_read x (first_dirty logged.size + j) (all j low)))
 
     text_looked : (r : Result (List ℕ) HiveFault) → bitmap_in x logged.size ≡ r
-        → All (LooksAt x) (unless_fault r (asked_bins x logged.size))
+        → All (LooksAt x) (asked_if_read r (asked_bins x logged.size))
     text_looked (Err f) e = All-nil (LooksAt x)
     text_looked (Ok text) e = bins_looked text (record { base = has; read = e })
 
@@ -116,7 +116,7 @@ module _ (x : Image) where
         (λ all. text_looked (bitmap_in x logged.size) refl)
 
     front_looked : (r : Result (List ℕ) HiveFault) → front_in x ≡ r
-        → All (LooksAt x) (unless_fault r (λ front. asked_behind_sign x logged.size))
+        → All (LooksAt x) (asked_if_read r (λ front. asked_behind_sign x logged.size))
     front_looked (Err f) e = All-nil (LooksAt x)
     front_looked (Ok front) e = sign_looked front e
 
@@ -133,7 +133,7 @@ module _ (x : Image) where
       bits_looked opened logged (record { primary = is; block = read; goes = ours })
 
   logged_looked : (opened : Option Base) → IsOpen x opened → (r : Result Base HiveFault) → logged_in x ≡ r
-      → All (LooksAt x) (unless_fault r (asked_behind_log x opened))
+      → All (LooksAt x) (asked_if_read r (asked_behind_log x opened))
   logged_looked opened is (Err f) e = All-nil (LooksAt x)
   logged_looked opened is (Ok logged) e = goes_looked opened logged is e (goes_with opened logged) refl
 
@@ -150,7 +150,7 @@ module _ (x : Image) where
       open_looked (Some base) (record { block = has; odd = eqb-false base.first base.second odd })
 
   base_looked : (r : Result (Option Base) HiveFault) → base_in x ≡ r
-      → All (LooksAt x) (unless_fault r (asked_behind_base x))
+      → All (LooksAt x) (asked_if_read r (asked_behind_base x))
   base_looked (Err f) e = All-nil (LooksAt x)
   base_looked (Ok None) e = open_looked None (record { block = e; odd = tt })
   base_looked (Ok (Some base)) e = by_numbers base e (base.first == base.second) refl
@@ -172,7 +172,7 @@ module _ (x : Image) where
   unfolding asked_of
   after_base opened has a c =
       contains_later (primary_at 0) (past_block x) a
-      (subst (λ r. Contains (unless_fault r (asked_behind_base x)) a) (sym has) c)
+      (subst (λ r. Contains (asked_if_read r (asked_behind_base x)) a) (sym has) c)
 
   -- a primary is clean, or not
   by_evenness : (base : Base) → HasBase x base → (b : Bool) → (base.first == base.second) ≡ b → (a : Address)
@@ -198,7 +198,7 @@ module _ (x : Image) where
   after_logged opened logged has a c =
       after_open opened has.primary a
       (contains_later (log_at 0) (past_log x opened) a
-      (subst (λ r. Contains (unless_fault r (asked_behind_log x opened)) a) (sym has.block)
+      (subst (λ r. Contains (asked_if_read r (asked_behind_log x opened)) a) (sym has.block)
       (subst (λ b. Contains (if b then asked_bits x logged.size else []) a) (sym has.goes) c)))
 
   after_sign : (opened : Option Base) (logged : Base) → HasLogBase x opened logged → (front : List ℕ)
@@ -206,7 +206,7 @@ module _ (x : Image) where
   after_sign opened logged has front e a c =
       after_logged opened logged has a
       (contains_later (log_at 1) (past_sign x logged.size) a
-      (subst (λ r. Contains (unless_fault r (λ f. asked_behind_sign x logged.size)) a) (sym e) c))
+      (subst (λ r. Contains (asked_if_read r (λ f. asked_behind_sign x logged.size)) a) (sym e) c))
 
   after_bits : (opened : Option Base) (logged : Base) (text : List ℕ) → HasBits x opened logged text → (a : Address)
       → Contains (asked_bins x logged.size text) a → IsAskedFor a
@@ -218,7 +218,7 @@ module _ (x : Image) where
       after_sign opened logged has.base front.0 front.1 a
       (behind_run x Log 2 count (past_bits x size) a
       (λ k below. log_readable x (2 + k) (there (read_log x) 2 count rest.0 rest.1 (2 + k) (omega arith) (omega arith)))
-      (subst (λ r. Contains (unless_fault r (asked_bins x size)) a) (sym has.read) c))
+      (subst (λ r. Contains (asked_if_read r (asked_bins x size)) a) (sym has.read) c))
 
   after_marked : (opened : Option Base) (logged : Base) (text : List ℕ) → HasBits x opened logged text
       → AreRead (marked_in x logged) (marks logged text) → (a : Address)

@@ -8,7 +8,7 @@ use Rattle.nt_bytes.specs.declared.fault.HiveFault.{HiveFault}
 use Rattle.hive_model.specs.Base.{Base}
 use Rattle.hive_model.specs.Image.{Image, Address, Log}
 use Rattle.hive_model.specs.Recovery.{rank, bitmap_sectors, first_dirty, front_in, bitmap_in, goes_with, logged_in, base_in}
-use Rattle.hive_model.specs.Asked.{primary_at, log_at, bin_at, is_readable, run_at, one_by_one, unless_fault, asked_bins, asked_behind_sign, asked_bits, asked_behind_log, asked_log, asked_behind_base, asked_of}
+use Rattle.hive_model.specs.Asked.{primary_at, log_at, bin_at, is_readable, run_at, one_by_one, asked_if_read, asked_bins, asked_behind_sign, asked_bits, asked_behind_log, asked_log, asked_behind_base, asked_of}
 use Rattle.hive_laws.specs.Looking.{bits_of, bins_sectors, IsInOrder}
 use Rattle.hive_laws.proofs.Asked.{clean_part, past_log, past_sign, past_bits, unmarked_part}
 use Rattle.hive_laws.proofs.OneByOne.{no_pairs, every_number}
@@ -134,7 +134,7 @@ module _ (x : Image) where
       (those_rising x (λ i. not (bits_of text i)) 0 (size / 512)))
 
   text_in_turn : (size : ℕ) (r : Result (List ℕ) HiveFault)
-      → AreInTurn (first_dirty size) (unless_fault r (asked_bins x size))
+      → AreInTurn (first_dirty size) (asked_if_read r (asked_bins x size))
   text_in_turn size (Err f) = nothing (first_dirty size)
   text_in_turn size (Ok text) = bins_in_turn size text
 
@@ -147,7 +147,7 @@ module _ (x : Image) where
       (text_in_turn size (bitmap_in x size)))
 
   front_in_turn : (size : ℕ) (r : Result (List ℕ) HiveFault)
-      → AreInTurn 2 (unless_fault r (λ front. asked_behind_sign x size))
+      → AreInTurn 2 (asked_if_read r (λ front. asked_behind_sign x size))
   front_in_turn size (Err f) = nothing 2
   front_in_turn size (Ok front) = sign_in_turn size
 
@@ -159,7 +159,7 @@ module _ (x : Image) where
   numbers_in_turn size false = nothing 1
 
   logged_in_turn : (opened : Option Base) (r : Result Base HiveFault)
-      → AreInTurn 1 (unless_fault r (asked_behind_log x opened))
+      → AreInTurn 1 (asked_if_read r (asked_behind_log x opened))
   logged_in_turn opened (Err f) = nothing 1
   logged_in_turn opened (Ok logged) =
       numbers_in_turn logged.size (goes_with opened logged)
@@ -178,7 +178,7 @@ module _ (x : Image) where
   one_in_turn base true = clean_in_turn (bins_sectors base)
   one_in_turn base false = log_in_turn (Some base)
 
-  base_in_turn : (r : Result (Option Base) HiveFault) → AreInTurn 0 (unless_fault r (asked_behind_base x))
+  base_in_turn : (r : Result (Option Base) HiveFault) → AreInTurn 0 (asked_if_read r (asked_behind_base x))
   base_in_turn (Err f) = nothing 0
   base_in_turn (Ok None) = log_in_turn None
   base_in_turn (Ok (Some base)) = one_in_turn base (base.first == base.second)

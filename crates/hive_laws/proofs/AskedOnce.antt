@@ -8,7 +8,7 @@ use Rattle.nt_bytes.specs.declared.fault.HiveFault.{HiveFault}
 use Rattle.hive_model.specs.Base.{Base}
 use Rattle.hive_model.specs.Image.{Image, Address, File, Primary, Log, of_file, same_address}
 use Rattle.hive_model.specs.Recovery.{rank, bitmap_sectors, first_dirty, front_in, bitmap_in, goes_with, logged_in, base_in}
-use Rattle.hive_model.specs.Asked.{primary_at, log_at, bin_at, unless_fault, asked_bins, asked_behind_sign, asked_bits, asked_behind_log, asked_log, asked_behind_base, asked_of}
+use Rattle.hive_model.specs.Asked.{primary_at, log_at, bin_at, asked_if_read, asked_bins, asked_behind_sign, asked_bits, asked_behind_log, asked_log, asked_behind_base, asked_of}
 use Rattle.hive_laws.specs.Looking.{bits_of, bins_sectors}
 use Rattle.hive_laws.proofs.Asked.{past_block, clean_part, past_log, past_sign, past_bits, unmarked_part}
 use Rattle.hive_laws.proofs.OneByOne.{no_pairs, all_those, pairs_of_those, all_run, pairs_of_run}
@@ -54,7 +54,7 @@ module _ (x : Image) where
       (λ all. unmarked_past size m text)
 
   text_past : (size m : ℕ) → m ≤ first_dirty size → (r : Result (List ℕ) HiveFault)
-      → All (IsPast m) (unless_fault r (asked_bins x size))
+      → All (IsPast m) (asked_if_read r (asked_bins x size))
   text_past size m low (Err f) = All-nil (IsPast m)
   text_past size m low (Ok text) = bins_past size m text low
 
@@ -66,7 +66,7 @@ module _ (x : Image) where
       (λ all. text_past size m (omega arith) (bitmap_in x size))
 
   front_past : (size m : ℕ) → m ≤ 2 → (r : Result (List ℕ) HiveFault)
-      → All (IsPast m) (unless_fault r (λ front. asked_behind_sign x size))
+      → All (IsPast m) (asked_if_read r (λ front. asked_behind_sign x size))
   front_past size m low (Err f) = All-nil (IsPast m)
   front_past size m low (Ok front) = sign_past size m low
 
@@ -80,7 +80,7 @@ module _ (x : Image) where
   numbers_past size m low false = All-nil (IsPast m)
 
   logged_past : (opened : Option Base) (m : ℕ) → m ≤ 1 → (r : Result Base HiveFault)
-      → All (IsPast m) (unless_fault r (asked_behind_log x opened))
+      → All (IsPast m) (asked_if_read r (asked_behind_log x opened))
   logged_past opened m low (Err f) = All-nil (IsPast m)
   logged_past opened m low (Ok logged) =
       numbers_past logged.size m low (goes_with opened logged)
@@ -99,7 +99,7 @@ module _ (x : Image) where
   one_past base true = clean_past (bins_sectors base)
   one_past base false = log_past (Some base)
 
-  base_past : (r : Result (Option Base) HiveFault) → All (IsPast 0) (unless_fault r (asked_behind_base x))
+  base_past : (r : Result (Option Base) HiveFault) → All (IsPast 0) (asked_if_read r (asked_behind_base x))
   base_past (Err f) = All-nil (IsPast 0)
   base_past (Ok None) = log_past None
   base_past (Ok (Some base)) = one_past base (base.first == base.second)
@@ -122,7 +122,7 @@ module _ (x : Image) where
       (λ j k low above high. differ Primary (8 + j) (8 + k) (λ e. omega arith))
       (λ j low high. All-nil (Differ (primary_at (8 + j)))) (no_pairs Differ))
 
-  text_once : (size : ℕ) (r : Result (List ℕ) HiveFault) → AllPairs Differ (unless_fault r (asked_bins x size))
+  text_once : (size : ℕ) (r : Result (List ℕ) HiveFault) → AllPairs Differ (asked_if_read r (asked_bins x size))
   text_once size (Err f) = no_pairs Differ
   text_once size (Ok text) = bins_once size text
 
@@ -135,7 +135,7 @@ module _ (x : Image) where
       (text_once size (bitmap_in x size))
 
   front_once : (size : ℕ) (r : Result (List ℕ) HiveFault)
-      → AllPairs Differ (unless_fault r (λ front. asked_behind_sign x size))
+      → AllPairs Differ (asked_if_read r (λ front. asked_behind_sign x size))
   front_once size (Err f) = no_pairs Differ
   front_once size (Ok front) = sign_once size
 
@@ -151,7 +151,7 @@ module _ (x : Image) where
   numbers_once size false = no_pairs Differ
 
   logged_once : (opened : Option Base) (r : Result Base HiveFault)
-      → AllPairs Differ (unless_fault r (asked_behind_log x opened))
+      → AllPairs Differ (asked_if_read r (asked_behind_log x opened))
   logged_once opened (Err f) = no_pairs Differ
   logged_once opened (Ok logged) =
       numbers_once logged.size (goes_with opened logged)
@@ -174,7 +174,7 @@ module _ (x : Image) where
   one_once base true = clean_once (bins_sectors base)
   one_once base false = log_once (Some base)
 
-  base_once : (r : Result (Option Base) HiveFault) → AllPairs Differ (unless_fault r (asked_behind_base x))
+  base_once : (r : Result (Option Base) HiveFault) → AllPairs Differ (asked_if_read r (asked_behind_base x))
   base_once (Err f) = no_pairs Differ
   base_once (Ok None) = log_once None
   base_once (Ok (Some base)) = one_once base (base.first == base.second)

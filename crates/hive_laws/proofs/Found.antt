@@ -3,19 +3,20 @@ use Rattle.std.specs.Prelude.{IsSome, IsOk, if◌then◌else◌}
 use Rattle.std.proofs.Common.{◌≡◌, ◌⊎◌, ◌+◌, ◌-◌, ◌*◌, ℕ, Bool, true, false, List, drop, Option, Some, None, Result, Ok, Err, refl, sym, ◌∙◌, ap, subst, inl, inr, arith}
 use Rattle.std.proofs.lemmas.Bool.{eq-eqb, ne_eqb}
 use Rattle.nt_bytes.specs.declared.fault.HiveFault.{HiveFault}
-use Rattle.nt_bytes.specs.declared.fault.HiveKind.TheVariants as kinds
+use Rattle.nt_bytes.specs.declared.fault.HiveFaultKind.TheVariants as kinds
 use Rattle.hive_model.specs.Asked.{primary_at, is_readable}
 use Rattle.hive_model.specs.Base.{Base, base_of, fault_at}
 use Rattle.hive_model.specs.Image.{Image, Address, Content, Bytes, Unreadable}
 use Rattle.hive_model.specs.Carries.{HasBase}
-use Rattle.hive_model.specs.Recovery.{Recovered, primary_in, log_in, and_then, bytes_or, read_bin, read_log, gathered, recovered_with, by_primary, bit, rank, bitmap_sectors, first_dirty, by_bits, front_in, bitmap_in, closed_by, by_logged, as_log_base, logged_in, by_log, base_at, base_in, by_base, recovered_of}
+use Rattle.hive_model.specs.Recovery.{Recovered, primary_in, log_in, bytes_or, read_bin, read_log, gathered, recovered_with, by_primary, bit, rank, bitmap_sectors, first_dirty, by_bits, front_in, bitmap_in, closed_by, by_logged, as_log_base, logged_in, by_log, base_at, base_in, by_base, recovered_of}
 use Rattle.hive_log.specs.Found.{IsUnfinished}
 use Rattle.hive_laws.specs.Looking.{IsOpen, HasLogBase, HasBits, bits_of, bins_sectors, marks, marked_in, bins_by, LooksAt}
 use Rattle.hive_laws.specs.Looking.LooksAt.{at_the_block, at_a_clean_one, at_the_log, at_the_sign, at_more_bits, at_a_marked_one, at_another_one}
 use Rattle.hive_laws.proofs.Alike.{rest_there, first_there, is_ok_by, signed, there}
+use Rattle.hive_model.specs.Forms.{◌>>=◌}
 
 -- a step without a fault had something to go on with
-pub went_on : {A B : Type 0} (s : Result A HiveFault) (next : A → Result B HiveFault) (b : B) → and_then s next ≡ Ok b
+pub went_on : {A B : Type 0} (s : Result A HiveFault) (next : A → Result B HiveFault) (b : B) → (s >>= next) ≡ Ok b
     → (a : A) × (s ≡ Ok a) × (next a ≡ Ok b)
 went_on (Ok a) next b e = (a, refl, e)
 went_on (Err f) next b e = absurd cc
@@ -44,7 +45,7 @@ had_bins dirty base (Ok bins) r e = (bins, refl)
 module _ (x : Image) (r : Recovered) (ok : recovered_of x ≡ Ok r) where
   after_base : (opened : Option Base) → base_in x ≡ Ok opened → by_base x opened ≡ Ok r
   unfolding recovered_of
-  after_base opened has = sym (ap (λ s. and_then s (by_base x)) has) ∙ ok
+  after_base opened has = sym (ap (λ s. s >>= by_base x) has) ∙ ok
 
   if_clean : Base → Bool → Result Recovered HiveFault
   if_clean base b = if b then by_primary x base else by_log x (Some base)
@@ -66,21 +67,21 @@ module _ (x : Image) (r : Recovered) (ok : recovered_of x ≡ Ok r) where
   by_text logged text = by_bits x (closed_by logged) (bit (drop 4 text))
 
   if_goes : Base → Bool → Result Recovered HiveFault
-  if_goes logged b = if b then and_then (bitmap_in x logged.size) (by_text logged) else Err
+  if_goes logged b = if b then (bitmap_in x logged.size >>= by_text logged) else Err
       (fault_at kinds.LogSequence 4)
 
   after_logged : (opened : Option Base) (logged : Base) → HasLogBase x opened logged
-      → and_then (bitmap_in x logged.size) (by_text logged) ≡ Ok r
+      → (bitmap_in x logged.size >>= by_text logged) ≡ Ok r
   unfolding by_text if_goes
   after_logged opened logged has =
-      sym (ap (if_goes logged) has.goes) ∙ sym (ap (λ s. and_then s (by_logged x opened)) has.block)
+      sym (ap (if_goes logged) has.goes) ∙ sym (ap (λ s. s >>= by_logged x opened) has.block)
       ∙ after_open opened has.primary
 
   after_bits : (opened : Option Base) (logged : Base) (text : List ℕ) → HasBits x opened logged text
       → by_bits x (closed_by logged) (bits_of text) ≡ Ok r
   unfolding by_text
   after_bits opened logged text has =
-      sym (ap (λ s. and_then s (by_text logged)) has.read) ∙ after_logged opened logged has.base
+      sym (ap (λ s. s >>= by_text logged) has.read) ∙ after_logged opened logged has.base
 
   -- the whole bitmap was there
   whole_bits : (opened : Option Base) (logged : Base) → HasLogBase x opened logged

@@ -4,13 +4,14 @@ use Rattle.std.proofs.lemmas.Bool.{eqb-true, and_parts}
 use Rattle.nt_bytes.specs.declared.fault.HiveFault.{HiveFault}
 use Rattle.hive_model.specs.Base.{Base, IsBase, is_bins_size, base_of}
 use Rattle.hive_model.specs.Image.{Image, Content, Bytes, Unreadable}
-use Rattle.hive_model.specs.Recovery.{primary_in, and_then, base_at, recovered_of}
+use Rattle.hive_model.specs.Recovery.{primary_in, base_at, recovered_of}
 use Rattle.hive_model.specs.Carries.{Carries}
 use Rattle.hive_model.proofs.BaseLemmas.{base_in_checked}
 use Rattle.hive_log.proofs.Appending.{sized}
 use Rattle.hive_log.proofs.Finding.{carries_recovered}
 use Rattle.hive_log.proofs.Opened.{IsCommitOf, opened_recovered}
 use Rattle.hive_laws.specs.Opened.{IsClosing, IsUnderWay}
+use Rattle.hive_model.specs.Forms.{◌>>=◌}
 
 -- bins data of a size that a base block may have are whole bins
 pages : (size : ℕ) (bins : List ℕ) → size ≡ length bins → is_bins_size size ≡ true
@@ -41,7 +42,7 @@ logged_block closed is = record {
   rest_bytes = is.rest_bytes;
 }
 
-unreadable_base : (r : Result Base HiveFault) → and_then r (λ base. Ok (Some base)) ≡ Ok None → ⊥
+unreadable_base : (r : Result Base HiveFault) → (r >>= λ base. Ok (Some base)) ≡ Ok None → ⊥
 unreadable_base (Ok base) e = cc
 unreadable_base (Err f) e = cc
 

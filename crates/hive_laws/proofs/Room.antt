@@ -9,10 +9,11 @@ use Rattle.std.proofs.lemmas.List.Elements.{Contains-append_left}
 use Rattle.nt_bytes.specs.declared.version.HiveVersion.{HiveVersion}
 use Rattle.hive_model.specs.Tree.{Item, Head, Tree, Trees, key, none, more}
 use Rattle.hive_model.specs.Size.{cell, name_bytes, cells_sum, data_sizes, item_size, items_sum, items_size, class_size, security_size, node_size, head_size, part_count, list_size, count, size, size_of_all}
-use Rattle.hive_model.specs.Edit.{Step, Refusal, after_step, after_steps, then_edit}
+use Rattle.hive_model.specs.Edit.{Step, Refusal, after_step, after_steps}
 use Rattle.hive_model.specs.Bins.{Cells}
 use Rattle.hive_model.specs.Packed.{rounded}
 use Rattle.hive_model.specs.Footprint.{unless_refused, step_cells, footprint_of, some_cell, item_sizes, value_list_sizes, head_sizes, list_sizes, sizes, sizes_of_all, room_of, needed_sizes, strain_of, list_strain_of}
+use Rattle.hive_model.specs.Forms.{◌>>=◌}
 
 -- ---- sums of sizes
 
@@ -153,7 +154,7 @@ after_both P (Err why) x y next onward stays goes = stays
 -- the same where the steps from there on lead to a tree
 after_all : {A : Type 0} (P : A → A → Type 0) (r : Result Tree Refusal) (steps : Tree → Result Tree Refusal) (u : Tree)
     (x y : A) (next onward : Tree → A)
-    → then_edit r steps ≡ Ok u → ((v : Tree) → steps v ≡ Ok u → P (next v) (onward v))
+    → (r >>= steps) ≡ Ok u → ((v : Tree) → steps v ≡ Ok u → P (next v) (onward v))
     → P (unless_refused x r next) (unless_refused y r onward)
 after_all P (Ok v) steps u x y next onward e goes = goes v e
 after_all P (Err why) steps u x y next onward e goes = absurd cc
@@ -161,7 +162,7 @@ after_all P (Err why) steps u x y next onward e goes = absurd cc
 -- the same where one of them is refused
 after_none : {A : Type 0} (r : Result Tree Refusal) (steps : Tree → Result Tree Refusal) (why : Refusal) (x : A)
     (next onward : Tree → A)
-    → then_edit r steps ≡ Err why → ((v : Tree) → steps v ≡ Err why → next v ≡ onward v)
+    → (r >>= steps) ≡ Err why → ((v : Tree) → steps v ≡ Err why → next v ≡ onward v)
     → unless_refused x r next ≡ unless_refused x r onward
 after_none (Ok v) steps why x next onward e goes = goes v e
 after_none (Err other) steps why x next onward e goes = refl

@@ -2,8 +2,8 @@
 use Rattle.std.specs.List.{All}
 use Rattle.std.proofs.Common.{◌≡◌, ◌-◌, ◌==◌, ℕ, zero, suc, Bool, true, false, cond, List, [], ◌∷◌, ◌++◌, length, not, is_some, Option, Some, None, Result, Ok, Err, refl, arith}
 use Rattle.std.proofs.lemmas.List.Elements.{All-cons, All-contains}
-use Rattle.nt_bytes.specs.declared.fault.HiveKind.{HiveKind}
-use Rattle.nt_bytes.specs.declared.fault.HiveKind.TheVariants.{Count}
+use Rattle.nt_bytes.specs.declared.fault.HiveFaultKind.{HiveFaultKind}
+use Rattle.nt_bytes.specs.declared.fault.HiveFaultKind.TheVariants.{Count}
 use Rattle.nt_bytes.specs.declared.fault.HiveFault.{HiveFault}
 use Rattle.hive_model.specs.Forms.{bytes_in}
 use Rattle.hive_model.specs.KeyNode.{KeyNode}
@@ -71,17 +71,18 @@ choice cells true one other p q = p
 choice cells false one other p q = q
 
 -- what is below a form, whatever the form says
-below : {F : Type 0} (cells : Cells) (r : Result F HiveKind) (next : F → List Check) → ((x : F) → Reads cells (next x))
+below : {F : Type 0} (cells : Cells) (r : Result F HiveFaultKind) (next : F → List Check)
+    → ((x : F) → Reads cells (next x))
     → Reads cells (below_of r next)
 below cells (Ok x) next p = p x
 below cells (Err kind) next p = λ _. tt
 
 -- a cell of any form that is not used as security
-plain : {F : Type 0} (form : List ℕ → Result F HiveKind) (cells : Cells) (at : ℕ)
+plain : {F : Type 0} (form : List ℕ → Result F HiveFaultKind) (cells : Cells) (at : ℕ)
     → Reads cells (use_as false form cells at)
 plain form cells at = λ _. tt
 
-read_of : (r : Result SecurityCell HiveKind) → found r ≡ None → (s : SecurityCell) × (r ≡ Ok s)
+read_of : (r : Result SecurityCell HiveFaultKind) → found r ≡ None → (s : SecurityCell) × (r ≡ Ok s)
 read_of (Ok s) e = (s, refl)
 read_of (Err kind) e = absurd cc
 

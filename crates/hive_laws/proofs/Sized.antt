@@ -4,14 +4,15 @@ use Rattle.std.proofs.Common.{◌≡◌, ◌≤◌, ◌<◌, ◌+◌, ◌*◌, �
 use Rattle.std.specs.Prelude.{nat_le}
 use Rattle.std.proofs.lemmas.Bool.{leb-true}
 use Rattle.nt_bytes.specs.declared.fault.HiveFault.{HiveFault}
-use Rattle.nt_bytes.specs.declared.fault.HiveKind.TheVariants as kinds
+use Rattle.nt_bytes.specs.declared.fault.HiveFaultKind.TheVariants as kinds
 use Rattle.hive_model.specs.Base.{Base, fault_at, is_bins_size}
 use Rattle.hive_model.specs.Image.{Image, Address, Content, Bytes, Unreadable}
 use Rattle.hive_model.specs.Asked.{log_at, bin_at}
-use Rattle.hive_model.specs.Recovery.{Recovered, Sectors, and_then, bytes_or, read_bin, read_log, joined, gathered, recovered_with, by_primary, bit, rank, first_dirty, picked, by_bits, bitmap_in, closed_by, goes_with, by_logged, logged_in, by_log, base_in, by_base, recovered_of}
+use Rattle.hive_model.specs.Recovery.{Recovered, Sectors, bytes_or, read_bin, read_log, joined, gathered, recovered_with, by_primary, bit, rank, first_dirty, picked, by_bits, bitmap_in, closed_by, goes_with, by_logged, logged_in, by_log, base_in, by_base, recovered_of}
 use Rattle.hive_model.proofs.BaseLemmas.{base_in_checked, logged_in_checked}
 use Rattle.hive_laws.specs.Whole.{HasWholeSectors, HasBytes}
 use Rattle.hive_laws.proofs.Found.{went_on}
+use Rattle.hive_model.specs.Forms.{◌>>=◌}
 
 -- ---- a run of sectors
 
@@ -133,7 +134,7 @@ module _ (image : Image) (r : Recovered) where
       let logged = l.0 in
       let base = closed_by logged in
       let by_text : List ℕ → Result Recovered HiveFault = λ text. by_bits image base (bit (drop 4 text)) in
-      let goes = passed (goes_with opened logged) (and_then (bitmap_in image logged.size) by_text)
+      let goes = passed (goes_with opened logged) (bitmap_in image logged.size >>= by_text)
       (fault_at kinds.LogSequence 4) r l.2 in
       let t = went_on (bitmap_in image logged.size) by_text r goes in
       let bits : ℕ → Bool = bit (drop 4 t.0) in

@@ -6,7 +6,7 @@ use Rattle.nt_edge.specs.declared.disk.DiskStop.{DiskStop}
 use Rattle.nt_edge.specs.declared.disk.DiskStop.TheVariants as disk
 use Rattle.hive_model.specs.Image.{Address}
 use Rattle.nt_bytes.specs.Front.{IsFront}
-use Rattle.hive_model.specs.Asked.{unless_fault}
+use Rattle.hive_model.specs.Asked.{asked_if_read}
 use Rattle.hive_log.specs.declared.stops.LoadStop.{LoadStop}
 use Rattle.hive_log.specs.declared.stops.LoadStop.TheVariants as load
 use Rattle.hive_log.specs.Stops.{IsFaultOf, Reads, load_stop_of}
@@ -16,11 +16,11 @@ use Rattle.hive_log.proofs.Asking.{reads_in_turn}
 -- one sector, by what it is read as
 sector_first : {A : Type 0} (at : Address) (read : Result A HiveFault) (result : Result A LoadStop) → Reads result read
     → IsAskedFirst (asked_sector at read) result (at ∷ [])
-sector_first at read (Ok x) is = λ more. ap (λ r. at ∷ unless_fault r (λ x. more)) is
-sector_first at read (Err (load.Fault f)) is = λ more. sym (ap (λ r. at ∷ unless_fault r (λ x. more)) is)
-sector_first at read (Err load.PowerLost) is = λ more. record { rest = unless_fault read (λ x. more); cut = refl }
-sector_first at read (Err load.Device) is = λ more. record { rest = unless_fault read (λ x. more); cut = refl }
-sector_first at read (Err load.Memory) is = λ more. record { rest = unless_fault read (λ x. more); cut = refl }
+sector_first at read (Ok x) is = λ more. ap (λ r. at ∷ asked_if_read r (λ x. more)) is
+sector_first at read (Err (load.Fault f)) is = λ more. sym (ap (λ r. at ∷ asked_if_read r (λ x. more)) is)
+sector_first at read (Err load.PowerLost) is = λ more. record { rest = asked_if_read read (λ x. more); cut = refl }
+sector_first at read (Err load.Device) is = λ more. record { rest = asked_if_read read (λ x. more); cut = refl }
+sector_first at read (Err load.Memory) is = λ more. record { rest = asked_if_read read (λ x. more); cut = refl }
 
 pub asks_sector : {A : Type 0} (before after : List Made → Type 0) (tells : Bool) (at : Address)
     (read : Result A HiveFault) (result : Result A LoadStop) → Makes before after (ReadAt at ∷ [])

@@ -3,7 +3,7 @@ use Rattle.std.proofs.Common.{◌≡◌, ◌/◌, ◌==◌, ◌∷◌, ℕ, Bool
 use Rattle.std.specs.Prelude.{map, filter, not}
 use Rattle.std.specs.List.{range_with_len}
 use Rattle.nt_bytes.specs.declared.fault.HiveFault.{HiveFault}
-use Rattle.hive_model.specs.Asked.{log_at, primary_at, bin_at, run_at, unmarked_at, unless_fault, asked_bins, asked_behind_log, asked_log, asked_behind_base, asked_of}
+use Rattle.hive_model.specs.Asked.{log_at, primary_at, bin_at, run_at, unmarked_at, asked_if_read, asked_bins, asked_behind_log, asked_log, asked_behind_base, asked_of}
 use Rattle.hive_model.specs.Base.{Base}
 use Rattle.hive_model.specs.Image.{Address, Image, Primary}
 use Rattle.hive_model.specs.Recovery.{base_in, goes_with, logged_in, bitmap_in, bit}
@@ -13,14 +13,14 @@ use Rattle.hive_log.proofs.Looked.{none_on}
 
 -- a sector with what stands behind it
 sector_and_more : {A : Type 0} (at : Address) (read : Result A HiveFault) (behind : A → List Address)
-    → asked_sector at read (unless_fault read behind) ≡ at ∷ unless_fault read behind
+    → asked_sector at read (asked_if_read read behind) ≡ at ∷ asked_if_read read behind
 sector_and_more at (Ok x) behind = refl
 sector_and_more at (Err f) behind = refl
 
 sector_read : {A : Type 0} (at : Address) (read : Result A HiveFault) (x : A) (behind : A → List Address) → read ≡ Ok x
-    → asked_sector at read (behind x) ≡ at ∷ unless_fault read behind
+    → asked_sector at read (behind x) ≡ at ∷ asked_if_read read behind
 sector_read at read x behind is =
-    ap (λ r. at ∷ unless_fault r (λ y. behind x)) is ∙ sym (ap (λ r. at ∷ unless_fault r behind) is)
+    ap (λ r. at ∷ asked_if_read r (λ y. behind x)) is ∙ sym (ap (λ r. at ∷ asked_if_read r behind) is)
 
 -- without bits it is all of the primary
 all_kept : (p : ℕ → Bool) (numbers : List ℕ) → ((i : ℕ) → p i ≡ true) → filter p numbers ≡ numbers
@@ -35,7 +35,7 @@ module _ (image : Image) where
   abbrev pub base_part : List Address → List Address
   base_part = asked_sector (primary_at 0) (base_in image)
 
-  pub base_refused : base_part (unless_fault (base_in image) (asked_behind_base image)) ≡ asked_of image
+  pub base_refused : base_part (asked_if_read (base_in image) (asked_behind_base image)) ≡ asked_of image
   unfolding asked_of
   base_refused = sector_and_more (primary_at 0) (base_in image) (asked_behind_base image)
 
@@ -54,7 +54,7 @@ module _ (image : Image) where
     behind_block more logged = cond (goes_with opened logged) (asked_bitmap image logged.size more) []
 
     pub block_refused : (more : List Address)
-        → log_part (unless_fault (logged_in image) (behind_block more)) ≡ asked_log_bits image opened more
+        → log_part (asked_if_read (logged_in image) (behind_block more)) ≡ asked_log_bits image opened more
     block_refused more = sector_and_more (log_at 0) (logged_in image) (behind_block more)
 
     module _ (logged : Base) (l : logged_in image ≡ Ok logged) where
@@ -72,16 +72,16 @@ module _ (image : Image) where
 
     -- what the bits tell of
     abbrev pub behind_bits : List Address
-    behind_bits = unless_fault (logged_in image)
-        (λ logged. unless_fault (bitmap_in image logged.size) (asked_bins image logged.size))
+    behind_bits = asked_if_read (logged_in image)
+        (λ logged. asked_if_read (bitmap_in image logged.size) (asked_bins image logged.size))
 
     pub log_asked : asked_log_bits image opened behind_bits ≡ asked_log image opened
     log_asked =
         let more : Result Base HiveFault → List Address =
-        λ r. unless_fault r (λ logged. unless_fault (bitmap_in image logged.size) (asked_bins image logged.size)) in
+        λ r. asked_if_read r (λ logged. asked_if_read (bitmap_in image logged.size) (asked_bins image logged.size)) in
         let here : (r : Result Base HiveFault)
-        → log_at 0 ∷ unless_fault r (behind_block (more r)) ≡ log_at 0
-        ∷ unless_fault r (asked_behind_log image opened) =
+        → log_at 0 ∷ asked_if_read r (behind_block (more r)) ≡ log_at 0
+        ∷ asked_if_read r (asked_behind_log image opened) =
         elim [ Ok logged ↦ refl | Err f ↦ refl ] in
         here (logged_in image)
 
@@ -90,7 +90,7 @@ module _ (image : Image) where
     all_asked logged bits has =
         ap (asked_log_bits image opened)
         (ap (λ (l : List ℕ). asked_by_bits image logged.size (bit l) []) has.bits_are
-        ∙ sym (ap (λ r. unless_fault r (asked_bins image logged.size)) has.text_there)
-        ∙ sym (ap (λ r. unless_fault r (λ x. unless_fault (bitmap_in image x.size) (asked_bins image x.size)))
+        ∙ sym (ap (λ r. asked_if_read r (asked_bins image logged.size)) has.text_there)
+        ∙ sym (ap (λ r. asked_if_read r (λ x. asked_if_read (bitmap_in image x.size) (asked_bins image x.size)))
         has.log_block))
         ∙ log_asked

@@ -4,13 +4,14 @@ use Rattle.std.specs.Prelude.{nat_eq, codes}
 use Rattle.std.specs.List.{starts_with}
 use Rattle.std.proofs.lemmas.Bool.{eq-eqb, eqb-true, ne_eqb, and_parts}
 use Rattle.nt_bytes.specs.declared.fault.HiveFault.{HiveFault}
-use Rattle.nt_bytes.specs.declared.fault.HiveKind.TheVariants.{LogAbsent, LogUnreadable, LogShort, LogDirt, LogSequence, Size, Unreadable as UnreadableKind}
+use Rattle.nt_bytes.specs.declared.fault.HiveFaultKind.TheVariants.{LogAbsent, LogUnreadable, LogShort, LogDirt, LogSequence, Size, Unreadable as UnreadableKind}
 use Rattle.hive_model.specs.Base.{Base, base_of, fault_at}
 use Rattle.hive_model.specs.Image.{Image, Bytes, Unreadable}
-use Rattle.hive_model.specs.Recovery.{Recovered, Sectors, primary_in, log_in, sector, and_then, bytes_or, read_log, read_bin, joined, gathered, recovered_with, by_primary, bit, rank, bitmap_sectors, first_dirty, picked, by_bits, bitmap_in, closed_by, goes_with, by_logged, as_log_base, logged_in, by_log, base_at, base_in, by_base, recovered_of}
+use Rattle.hive_model.specs.Recovery.{Recovered, Sectors, primary_in, log_in, sector, bytes_or, read_log, read_bin, joined, gathered, recovered_with, by_primary, bit, rank, bitmap_sectors, first_dirty, picked, by_bits, bitmap_in, closed_by, goes_with, by_logged, as_log_base, logged_in, by_log, base_at, base_in, by_base, recovered_of}
 use Rattle.hive_model.specs.Carries.{HasBase, Carries}
 use Rattle.hive_log.specs.Found.{IsUnfinished, HasLogBits, bins_by, Found}
 use Rattle.hive_log.proofs.Runs.{gathered_whole, gathered_same}
+use Rattle.hive_model.specs.Forms.{◌>>=◌}
 
 -- bytes that are there are read
 pub bin_read : (image : Image) (i : ℕ) (bytes : List ℕ) → primary_in image (8 + i) ≡ Some (Bytes bytes)
@@ -25,11 +26,11 @@ log_read image n bytes is = ap (bytes_or (fault_at LogShort (512 * n)) (fault_at
 pub by_block : (image : Image) (opened : Option Base) → base_in image ≡ Ok opened
     → recovered_of image ≡ by_base image opened
 unfolding recovered_of
-by_block image opened has = ap (λ r. and_then r (by_base image)) has
+by_block image opened has = ap (λ r. r >>= by_base image) has
 
 pub by_fault : (image : Image) (f : HiveFault) → base_in image ≡ Err f → recovered_of image ≡ Err f
 unfolding recovered_of
-by_fault image f is = ap (λ r. and_then r (by_base image)) is
+by_fault image f is = ap (λ r. r >>= by_base image) is
 
 pub by_clean : (image : Image) (base : Base) → HasBase image base → base.first ≡ base.second
     → recovered_of image ≡ by_primary image base
@@ -53,18 +54,18 @@ pub by_bins : (image : Image) (base : Base) (bits : ℕ → Bool)
 by_bins image base bits =
     let bins = gathered (picked image (first_dirty base.size) bits) 0 (base.size / 512) in
     let here : (r : Result (List ℕ) HiveFault)
-    → and_then r (λ _. recovered_with true base bins) ≡ recovered_with true base (and_then r (λ _. bins)) =
+    → (r >>= λ _. recovered_with true base bins) ≡ recovered_with true base (r >>= λ _. bins) =
     elim [ Ok run ↦ refl | Err f ↦ refl ] in
     here (gathered (read_log image) (first_dirty base.size) (rank bits (base.size / 512)))
 
 module _ (image : Image) (opened : Option Base) (logged : Base) (bits : List ℕ)
     (has : HasLogBits image opened logged bits) where
   abbrev by_text : Result (List ℕ) HiveFault → Result Recovered HiveFault
-  by_text r = and_then r (λ text. by_bits image (closed_by logged) (bit (drop 4 text)))
+  by_text r = r >>= (λ text. by_bits image (closed_by logged) (bit (drop 4 text)))
 
   pub by_log_bits : by_log image opened ≡ recovered_with true (closed_by logged) (bins_by image logged.size (bit bits))
   by_log_bits =
-      ap (λ r. and_then r (by_logged image opened)) has.log_block
+      ap (λ r. r >>= by_logged image opened) has.log_block
       ∙ ap (λ t. cond t (by_text (bitmap_in image logged.size)) (Err (fault_at LogSequence 4))) has.goes
       ∙ ap by_text has.text_there
       ∙ ap (λ (l : List ℕ). by_bits image (closed_by logged) (bit l)) (sym has.bits_are)
@@ -127,23 +128,23 @@ module _ (x y : Image) (closed : Base) (bitmap bins : List ℕ) (f : Found x clo
   bins_along =
       let count = f.logged.size / 512 in
       let marked = rank (bit bitmap) count in
-      ap (λ (s : Sectors). and_then (gathered s first marked) (λ _. gathered (picked y first (bit bitmap)) 0 count))
+      ap (λ (s : Sectors). gathered s first marked >>= λ _. gathered (picked y first (bit bitmap)) 0 count)
       one_log
-      ∙ ap (λ r. and_then (gathered (read_log x) first marked) (λ _. r))
+      ∙ ap (λ r. gathered (read_log x) first marked >>= λ _. r)
       (gathered_same (picked y first (bit bitmap)) (picked x first (bit bitmap)) 0 count
       (λ i low high. picked_along i))
 
   text_along : bitmap_in y f.logged.size ≡ bitmap_in x f.logged.size
   text_along =
       ap (λ (s : Sectors). joined
-      (and_then (s 1) (λ front. cond (starts_with nat_eq front (codes "DIRT")) (Ok front)
+      (s 1 >>= (λ front. cond (starts_with nat_eq front (codes "DIRT")) (Ok front)
       (Err (fault_at LogDirt 512)))) (gathered s 2 (bitmap_sectors f.logged.size - 1))) one_log
 
   log_along : (opened : Option Base) → goes_with opened f.logged ≡ true → HasLogBits y opened f.logged bitmap
   log_along opened goes = record {
     text = f.log.text;
-    log_block = ap (λ c. and_then (bytes_or (fault_at LogAbsent 0) (fault_at LogUnreadable 0) c)
-        (λ block. as_log_base (base_of block 1))) (logs 0) ∙ f.log.log_block;
+    log_block = ap (λ c. (bytes_or (fault_at LogAbsent 0) (fault_at LogUnreadable 0) c >>=
+        (λ block. as_log_base (base_of block 1)))) (logs 0) ∙ f.log.log_block;
     goes = goes;
     text_there = text_along ∙ f.log.text_there;
     bits_are = f.log.bits_are;

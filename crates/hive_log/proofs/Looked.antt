@@ -1,10 +1,10 @@
 -- What an image is recovered as, step by step as it is read.
 use Rattle.std.proofs.Common.{◌≡◌, ◌<◌, ◌+◌, ◌*◌, ◌/◌, ◌%◌, ◌^◌, ◌==◌, ℕ, zero, suc, Bool, true, false, cond, List, [], length, drop, Option, None, Some, Result, Ok, Err, refl, sym, ◌∙◌, ap, arith}
 use Rattle.nt_bytes.specs.declared.fault.HiveFault.{HiveFault}
-use Rattle.nt_bytes.specs.declared.fault.HiveKind.TheVariants.{LogSequence, Size, Unreadable as UnreadableKind}
+use Rattle.nt_bytes.specs.declared.fault.HiveFaultKind.TheVariants.{LogSequence, Size, Unreadable as UnreadableKind}
 use Rattle.hive_model.specs.Base.{Base, fault_at, is_bins_size}
 use Rattle.hive_model.specs.Image.{Image, Content, Bytes, Unreadable}
-use Rattle.hive_model.specs.Recovery.{Recovered, Sectors, primary_in, sector, and_then, bytes_or, read_log, read_bin, gathered, recovered_with, bit, rank, first_dirty, picked, by_bits, closed_by, goes_with, by_logged, bitmap_in, logged_in, by_log, base_in, recovered_of}
+use Rattle.hive_model.specs.Recovery.{Recovered, Sectors, primary_in, sector, bytes_or, read_log, read_bin, gathered, recovered_with, bit, rank, first_dirty, picked, by_bits, closed_by, goes_with, by_logged, bitmap_in, logged_in, by_log, base_in, recovered_of}
 use Rattle.hive_model.specs.Carries.{HasBase, Carries}
 use Rattle.hive_log.specs.Found.{IsUnfinished, HasLogBits, bins_by, Found}
 use Rattle.hive_log.specs.Mixing.{mixed}
@@ -12,6 +12,7 @@ use Rattle.hive_log.proofs.Appending.{sized}
 use Rattle.hive_log.proofs.Ranks.{rank_below}
 use Rattle.hive_log.proofs.Runs.{gathered_same}
 use Rattle.hive_log.proofs.Finding.{by_clean, by_unfinished, by_log_bits}
+use Rattle.hive_model.specs.Forms.{◌>>=◌}
 
 -- bytes that were read are there
 pub bytes_back : (absent unreadable : HiveFault) (c : Option Content) (bytes : List ℕ)
@@ -93,16 +94,16 @@ sized_bins size bins is long =
 -- the log of an unfinished commit
 module _ (image : Image) (opened : Option Base) where
   pub no_log : (f : HiveFault) → logged_in image ≡ Err f → by_log image opened ≡ Err f
-  no_log f is = ap (λ r. and_then r (by_logged image opened)) is
+  no_log f is = ap (λ r. r >>= by_logged image opened) is
 
   module _ (logged : Base) (l : logged_in image ≡ Ok logged) where
     abbrev by_text : Result (List ℕ) HiveFault → Result Recovered HiveFault
-    by_text r = and_then r (λ text. by_bits image (closed_by logged) (bit (drop 4 text)))
+    by_text r = r >>= (λ text. by_bits image (closed_by logged) (bit (drop 4 text)))
 
     by_numbers : (goes : Bool) → goes_with opened logged ≡ goes
         → by_log image opened ≡ cond goes (by_text (bitmap_in image logged.size)) (Err (fault_at LogSequence 4))
     by_numbers goes is =
-        ap (λ r. and_then r (by_logged image opened)) l
+        ap (λ r. r >>= by_logged image opened) l
         ∙ ap (λ t. cond t (by_text (bitmap_in image logged.size)) (Err (fault_at LogSequence 4))) is
 
     pub other_numbers : goes_with opened logged ≡ false → by_log image opened ≡ Err (fault_at LogSequence 4)
@@ -122,7 +123,7 @@ module _ (image : Image) (size : ℕ) (bits : ℕ → Bool) where
 
   pub no_run_there : (f : HiveFault) → gathered (read_log image) first (rank bits count) ≡ Err f
       → bins_by image size bits ≡ Err f
-  no_run_there f is = ap (λ r. and_then r (λ _. gathered (picked image first bits) 0 count)) is
+  no_run_there f is = ap (λ r. r >>= λ _. gathered (picked image first bits) 0 count) is
 
   module _ (run : List ℕ) (r : gathered (read_log image) first (rank bits count) ≡ Ok run)
       (pieces : (k : ℕ) → k < rank bits count → read_log image (first + k) ≡ Ok (sector run k)) where
@@ -136,7 +137,7 @@ module _ (image : Image) (size : ℕ) (bits : ℕ → Bool) where
 
     pub bins_mixed : bins_by image size bits ≡ gathered (mixed image run bits) 0 count
     bins_mixed =
-        ap (λ r. and_then r (λ _. gathered (picked image first bits) 0 count)) r
+        ap (λ r. r >>= λ _. gathered (picked image first bits) 0 count) r
         ∙ gathered_same (picked image first bits) (mixed image run bits) 0 count
         (λ i low high. picked_is i (omega arith))
 

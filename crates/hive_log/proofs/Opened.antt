@@ -4,10 +4,10 @@ use Rattle.std.specs.Prelude.{codes, nat_eq}
 use Rattle.std.specs.List.{starts_with}
 use Rattle.std.proofs.lemmas.List.{take-append-drop, drop-drop}
 use Rattle.std.proofs.lemmas.Bool.{eq-eqb, ne_eqb, and_from}
-use Rattle.nt_bytes.specs.declared.fault.HiveKind.TheVariants.{LogAbsent, LogUnreadable, LogDirt}
+use Rattle.nt_bytes.specs.declared.fault.HiveFaultKind.TheVariants.{LogAbsent, LogUnreadable, LogDirt}
 use Rattle.hive_model.specs.Base.{Base, IsBase, base_of, fault_at}
 use Rattle.hive_model.specs.Image.{Image, Bytes, Unreadable}
-use Rattle.hive_model.specs.Recovery.{primary_in, log_in, sector, read_log, read_bin, gathered, bit, rank, bitmap_sectors, first_dirty, picked, closed_by, goes_with, and_then, bytes_or, joined, as_log_base, front_in, bitmap_in, logged_in, base_at, base_in, recovered_of}
+use Rattle.hive_model.specs.Recovery.{primary_in, log_in, sector, read_log, read_bin, gathered, bit, rank, bitmap_sectors, first_dirty, picked, closed_by, goes_with, bytes_or, joined, as_log_base, front_in, bitmap_in, logged_in, base_at, base_in, recovered_of}
 use Rattle.hive_model.specs.Carries.{HasBase, HasLog}
 use Rattle.hive_model.specs.Log.{bitmap_text, marked_sectors, log_of}
 use Rattle.hive_model.proofs.BaseLemmas.{base_back}
@@ -17,6 +17,7 @@ use Rattle.hive_log.proofs.Ranks.{rank_same, rank_below}
 use Rattle.hive_log.proofs.Runs.{gathered_whole, run_counted}
 use Rattle.hive_log.proofs.LogParts.{bitmap_long, run_long, log_long, log_block, log_bitmap, log_run, log_marked}
 use Rattle.hive_log.proofs.Finding.{bin_read, log_read, found_recovered}
+use Rattle.hive_model.specs.Forms.{◌>>=◌}
 
 -- the base block is another or can't be read, the log is whole, and the sectors whose bit is off are there
 pub record IsOpened (image : Image) (opened closed : Base) (bits : ℕ → Bool) (bins : List ℕ) : Type 0 where
@@ -86,8 +87,8 @@ module _ (image : Image) (opened closed : Base) (bits : ℕ → Bool) (bins : Li
 
   front_there : front_in image ≡ Ok (sector text 0)
   front_there =
-      ap (λ r. and_then r (λ front. cond (starts_with nat_eq front (codes "DIRT")) (Ok front)
-      (Err (fault_at LogDirt 512))))
+      ap (λ r. (r >>= (λ front. cond (starts_with nat_eq front (codes "DIRT")) (Ok front)
+      (Err (fault_at LogDirt 512)))))
       (log_read image 1 (sector text 0)
       (log_is 1 (omega arith) ∙ ap (λ b. Some (Bytes b))
       (log_bitmap bits bins closed of.fits whole 0 (omega arith))))
@@ -144,13 +145,13 @@ module _ (image : Image) (opened closed : Base) (bits : ℕ → Bool) (bins : Li
 
   bins_there : bins_by image size (bit read) ≡ Ok bins
   bins_there =
-      ap (λ r. and_then r (λ _. gathered (picked image (first_dirty size) (bit read)) 0 count)) marked_there
+      ap (λ r. r >>= λ _. gathered (picked image (first_dirty size) (bit read)) 0 count) marked_there
       ∙ gathered_whole (picked image (first_dirty size) (bit read)) bins count (omega (arith, whole)) picked_is
 
   log_there : logged_in image ≡ Ok logged
   log_there =
-      ap (λ c. and_then (bytes_or (fault_at LogAbsent 0) (fault_at LogUnreadable 0) c)
-      (λ block. as_log_base (base_of block 1)))
+      ap (λ c. (bytes_or (fault_at LogAbsent 0) (fault_at LogUnreadable 0) c >>=
+      (λ block. as_log_base (base_of block 1))))
       (log_is 0 (omega arith) ∙ ap (λ b. Some (Bytes b)) (log_block bits bins closed of.fits whole))
       ∙ ap as_log_base (base_back logged of.fits)
 

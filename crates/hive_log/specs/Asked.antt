@@ -3,7 +3,7 @@
 use Rattle.std.specs.Prelude.{◌≡◌, ◌-◌, ◌/◌, Bool, true, ℕ, List, [], ◌∷◌, ◌++◌, if◌then◌else◌, Option, Result, Ok, Err}
 use Rattle.nt_bytes.specs.Front.{IsFront}
 use Rattle.nt_bytes.specs.declared.fault.HiveFault.{HiveFault}
-use Rattle.hive_model.specs.Asked.{log_at, run_at, unmarked_at, one_by_one, unless_fault}
+use Rattle.hive_model.specs.Asked.{log_at, run_at, unmarked_at, one_by_one, asked_if_read}
 use Rattle.hive_model.specs.Image.{Image, Address, Log}
 use Rattle.hive_model.specs.Base.{Base}
 use Rattle.hive_model.specs.Recovery.{bitmap_sectors, front_in, rank, first_dirty, goes_with, logged_in}
@@ -44,7 +44,7 @@ pub record AsksFirst {T : Type 0} (before after : List Made → Type 0) (tells :
 
 -- a sector, and more unless what it is read as is a fault
 abbrev pub asked_sector : {A : Type 0} → Address → Result A HiveFault → List Address → List Address
-asked_sector at read more = at ∷ unless_fault read (λ x. more)
+asked_sector at read more = at ∷ asked_if_read read (λ x. more)
 
 -- the sectors of the bits, and more
 abbrev pub asked_bitmap : Image → ℕ → List Address → List Address
@@ -54,7 +54,7 @@ asked_bitmap image size more =
 -- the log's base block and, where it goes with the primary's, the sectors of the bits, and more
 abbrev pub asked_log_bits : Image → Option Base → List Address → List Address
 asked_log_bits image opened more =
-    log_at 0 ∷ unless_fault (logged_in image) (λ logged. if goes_with opened logged then asked_bitmap image logged.size more else [])
+    log_at 0 ∷ asked_if_read (logged_in image) (λ logged. if goes_with opened logged then asked_bitmap image logged.size more else [])
 
 -- for bins data of this size and these bits the log's sectors, the primary's, and more
 abbrev pub asked_by_bits : Image → ℕ → (ℕ → Bool) → List Address → List Address

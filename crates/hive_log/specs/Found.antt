@@ -3,7 +3,8 @@ use Rattle.std.specs.Prelude.{◌≡◌, ◌<◌, ◌+◌, ◌*◌, ◌/◌, Boo
 use Rattle.nt_bytes.specs.declared.fault.HiveFault.{HiveFault}
 use Rattle.hive_model.specs.Base.{Base}
 use Rattle.hive_model.specs.Image.{Image, Bytes}
-use Rattle.hive_model.specs.Recovery.{primary_in, read_log, sector, and_then, gathered, bit, rank, first_dirty, picked, closed_by, goes_with, logged_in, bitmap_in, base_in}
+use Rattle.hive_model.specs.Recovery.{primary_in, read_log, sector, gathered, bit, rank, first_dirty, picked, closed_by, goes_with, logged_in, bitmap_in, base_in}
+use Rattle.hive_model.specs.Forms.{◌>>=◌}
 
 -- the primary's base block, which can't be read or has two numbers, is that of an unfinished commit
 abbrev pub IsUnfinished : Option Base → Type 0
@@ -23,7 +24,7 @@ abbrev pub bins_by : Image → ℕ → (ℕ → Bool) → Result (List ℕ) Hive
 bins_by image size bits =
     let first = first_dirty size in
     let count = size / 512 in
-    and_then (gathered (read_log image) first (rank bits count)) (λ _. gathered (picked image first bits) 0 count)
+    (gathered (read_log image) first (rank bits count) >>= λ _. gathered (picked image first bits) 0 count)
 
 -- The base block that closes the recovery, the bitmap behind `DIRT`, and the bins data. Each step of recovery has gone
 -- well: the primary's base block is that of an unfinished commit, the log's goes with it, its bitmap and its sectors can

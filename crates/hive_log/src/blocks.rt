@@ -10,7 +10,7 @@ ghost use Rattle.hive_log.specs.Stops.{Reads, IsLookAt};
 
 use crate::gathering::{read_log_run, read_log_sector, read_sector};
 use crate::{LoadStop, bitmap_sectors, has_bit};
-use nt_bytes::{Bytes, HiveFault, HiveKind};
+use nt_bytes::{Bytes, HiveFault, HiveFaultKind};
 use nt_edge::{Address, Disk, HiveFile, Presence};
 use regf_base::{BaseBlock, read_base};
 use std::alloc::{AllocError, Global};
@@ -35,7 +35,7 @@ pub fn read_primary_block<D: Disk>(disk: &mut D) -> Result<Option<BaseBlock>, Lo
         Presence::Whole => Ok(Some(read_base(&sector, 0)?)),
         Presence::Unreadable => Ok(None),
         Presence::Absent => Err(LoadStop::Fault(HiveFault {
-            kind: HiveKind::NotRegf,
+            kind: HiveFaultKind::NotRegf,
             at: 0,
         })),
     }
@@ -57,11 +57,11 @@ pub(crate) fn read_log_block<D: Disk>(disk: &mut D) -> Result<BaseBlock, LoadSto
         sector: 0,
     };
     let absent = HiveFault {
-        kind: HiveKind::LogAbsent,
+        kind: HiveFaultKind::LogAbsent,
         at: 0,
     };
     let unreadable = HiveFault {
-        kind: HiveKind::LogUnreadable,
+        kind: HiveFaultKind::LogUnreadable,
         at: 0,
     };
     read_sector(disk, at, absent, unreadable, &mut sector)?;
@@ -76,7 +76,7 @@ pub fn read_logged(sector: &[u8; 512], kind: u32) -> Result<BaseBlock, HiveFault
     match read_base(sector, kind) {
         Ok(base) => Ok(base),
         Err(fault) => Err(HiveFault {
-            kind: HiveKind::LogBase,
+            kind: HiveFaultKind::LogBase,
             at: fault.at,
         }),
     }
@@ -96,7 +96,7 @@ fn read_bitmap_front<D: Disk>(alloc: Global, disk: &mut D) -> Result<Bytes, Load
     read_log_sector(disk, 1, &mut sector)?;
     if !sector.starts_with(b"DIRT") {
         return Err(LoadStop::Fault(HiveFault {
-            kind: HiveKind::LogDirt,
+            kind: HiveFaultKind::LogDirt,
             at: 512,
         }));
     }

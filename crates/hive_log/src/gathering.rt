@@ -11,7 +11,7 @@ ghost use Rattle.hive_log.specs.Stops.{Reads, ReadsAs, IsLookAt};
 
 use crate::sectors::sector_of;
 use crate::{LoadStop, has_bit};
-use nt_bytes::{Bytes, HiveFault, HiveKind};
+use nt_bytes::{Bytes, HiveFault, HiveFaultKind};
 use nt_edge::{Address, Disk, HiveFile, Presence};
 use std::alloc::Global;
 
@@ -55,11 +55,11 @@ pub(crate) fn read_log_sector<D: Disk>(
         sector: n,
     };
     let absent = HiveFault {
-        kind: HiveKind::LogShort,
+        kind: HiveFaultKind::LogShort,
         at: 512 * n,
     };
     let unreadable = HiveFault {
-        kind: HiveKind::LogUnreadable,
+        kind: HiveFaultKind::LogUnreadable,
         at: 512 * n,
     };
     read_sector(disk, at, absent, unreadable, into)
@@ -80,11 +80,11 @@ fn read_bin_sector<D: Disk>(disk: &mut D, i: u32, into: &mut [u8; 512]) -> Resul
         sector: 8 + i,
     };
     let absent = HiveFault {
-        kind: HiveKind::Size,
+        kind: HiveFaultKind::Size,
         at: 40,
     };
     let unreadable = HiveFault {
-        kind: HiveKind::Unreadable,
+        kind: HiveFaultKind::Unreadable,
         at: 512 * (8 + i),
     };
     read_sector(disk, at, absent, unreadable, into)

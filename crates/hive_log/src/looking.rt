@@ -17,7 +17,7 @@ use crate::blocks::{
 };
 use crate::gathering::{read_bins, read_log_run};
 use crate::{LoadStop, Recovered, first_dirty};
-use nt_bytes::{Bytes, HiveFault, HiveKind};
+use nt_bytes::{Bytes, HiveFault, HiveFaultKind};
 use nt_edge::Disk;
 use regf_base::BaseBlock;
 use std::alloc::Global;
@@ -155,7 +155,7 @@ fn read_log_bits<D: Disk>(
     let logged = read_log_block(disk)?;
     if !goes_with(opened, &logged) {
         return Err(LoadStop::Fault(HiveFault {
-            kind: HiveKind::LogSequence,
+            kind: HiveFaultKind::LogSequence,
             at: 4,
         }));
     }

@@ -2,7 +2,8 @@
 use Rattle.std.specs.Prelude.{ℕ, List, refl}
 use Rattle.std.specs.Coded.{Coded, code_by, coded×, coded_ℕ, coded_list}
 use Rattle.hive_model.specs.Base.{Base, version_of}
-use Rattle.hive_model.specs.Tree.{Tree, coded_tree}
+use Rattle.hive_model.specs.Tree.{Tree}
+use Rattle.hive_model.specs.Codes.{coded_tree}
 use Rattle.hive_model.specs.Valid.{IsValid}
 use Rattle.hive_model.specs.State.{HiveState}
 use Rattle.hive_model.specs.Load.{state_of}

@@ -10,10 +10,11 @@ use Rattle.std.proofs.Math.Seq.{drop-append_seam, take-append_seam}
 use Rattle.std.proofs.Math.Nat.{mod-lt}
 use Rattle.nt_bytes.specs.declared.fault.HiveFault.{HiveFault}
 use Rattle.nt_bytes.specs.Fields.{u32_in, u64_in}
-use Rattle.nt_bytes.specs.declared.fault.HiveKind.TheVariants.{LogAbsent, LogUnreadable}
+use Rattle.nt_bytes.specs.declared.fault.HiveFaultKind.TheVariants.{LogAbsent, LogUnreadable}
 use Rattle.hive_model.specs.Image.{Image, Content, Bytes, Unreadable}
-use Rattle.hive_model.specs.Recovery.{log_in, primary_in, and_then, bytes_or, as_log_base, base_at, base_in, logged_in}
+use Rattle.hive_model.specs.Recovery.{log_in, primary_in, bytes_or, as_log_base, base_at, base_in, logged_in}
 use Rattle.hive_model.specs.Base.{Base, IsBase, fault_at, mixed_words, moved_off, checksum_of, is_bins_size, is_minor, base_checks, first_failing, fields_of, unless_fault, base_of, head_text, summed_text, base_text}
+use Rattle.hive_model.specs.Forms.{◌>>=◌}
 
 -- each is a byte
 pub record AreBytes (bytes : List ℕ) : Type 0 where
@@ -293,7 +294,7 @@ base_checked sector kind b reads =
       size_is = ap (λ (x : Base). is_bins_size x.size) (sym fields) ∙ holds.1.1.1.1.1.1.0;
     }
 
-base_back_at : (r : Result Base HiveFault) (b : Base) → and_then r (λ base. Ok (Some base)) ≡ Ok (Some b) → r ≡ Ok b
+base_back_at : (r : Result Base HiveFault) (b : Base) → (r >>= λ base. Ok (Some base)) ≡ Ok (Some b) → r ≡ Ok b
 base_back_at (Ok x) b is = cc
 base_back_at (Err f) b is = absurd (cc)
 
@@ -310,7 +311,7 @@ pub log_base_back : (r : Result Base HiveFault) (b : Base) → as_log_base r ≡
 log_base_back (Ok x) b is = is
 log_base_back (Err f) b is = absurd (cc)
 
-log_block_back : (r : Result (List ℕ) HiveFault) (b : Base) → and_then r (λ block. as_log_base (base_of block 1)) ≡ Ok b
+log_block_back : (r : Result (List ℕ) HiveFault) (b : Base) → (r >>= λ block. as_log_base (base_of block 1)) ≡ Ok b
     → IsChecked 1 b
 log_block_back (Ok block) b is = base_checked block 1 b (log_base_back (base_of block 1) b is)
 log_block_back (Err f) b is = absurd (cc)

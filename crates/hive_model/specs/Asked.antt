@@ -45,9 +45,9 @@ one_by_one image [] more = more
 one_by_one image (at ∷ sectors) more = at ∷ (if is_readable (image at) then one_by_one image sectors more else [])
 
 -- nothing more behind a fault
-abbrev pub unless_fault : {A : Type 0} → Result A HiveFault → (A → List Address) → List Address
-unless_fault (Ok x) more = more x
-unless_fault (Err fault) more = []
+abbrev pub asked_if_read : {A : Type 0} → Result A HiveFault → (A → List Address) → List Address
+asked_if_read (Ok x) more = more x
+asked_if_read (Err fault) more = []
 
 -- for bins data of this size and these bits behind their signature: the log's sectors, and then the primary's
 abbrev pub asked_bins : Image → ℕ → List ℕ → List Address
@@ -59,11 +59,11 @@ asked_bins image size text =
 -- behind the first sector of the bits: the others, and what they tell of
 abbrev pub asked_behind_sign : Image → ℕ → List Address
 asked_behind_sign image size =
-    one_by_one image (run_at Log 2 (bitmap_sectors size - 1)) (unless_fault (bitmap_in image size) (asked_bins image size))
+    one_by_one image (run_at Log 2 (bitmap_sectors size - 1)) (asked_if_read (bitmap_in image size) (asked_bins image size))
 
 -- the bits, and what they tell of
 abbrev pub asked_bits : Image → ℕ → List Address
-asked_bits image size = log_at 1 ∷ unless_fault (front_in image) (λ front. asked_behind_sign image size)
+asked_bits image size = log_at 1 ∷ asked_if_read (front_in image) (λ front. asked_behind_sign image size)
 
 -- behind the log's base block, which has to go with the primary's
 abbrev pub asked_behind_log : Image → Option Base → Base → List Address
@@ -71,7 +71,7 @@ asked_behind_log image opened logged = if goes_with opened logged then asked_bit
 
 -- the log of an unfinished commit
 abbrev pub asked_log : Image → Option Base → List Address
-asked_log image opened = log_at 0 ∷ unless_fault (logged_in image) (asked_behind_log image opened)
+asked_log image opened = log_at 0 ∷ asked_if_read (logged_in image) (asked_behind_log image opened)
 
 -- behind the primary's base block; of one that can't be read the log is asked
 abbrev pub asked_behind_base : Image → Option Base → List Address
@@ -81,4 +81,4 @@ asked_behind_base image (Some base) =
 
 -- all sectors that recovery of the image asks for
 unfoldable pub asked_of : Image → List Address
-asked_of image = primary_at 0 ∷ unless_fault (base_in image) (asked_behind_base image)
+asked_of image = primary_at 0 ∷ asked_if_read (base_in image) (asked_behind_base image)

@@ -22,8 +22,8 @@ use Rattle.nt_bytes.specs.Fields.{u32_in, u64_in}
 use Rattle.nt_bytes.specs.declared.version.HiveVersion.{HiveVersion}
 use Rattle.nt_bytes.specs.declared.version.HiveVersion.TheVariants.{V3, V5}
 use Rattle.nt_bytes.specs.declared.fault.HiveFault.{HiveFault}
-use Rattle.nt_bytes.specs.declared.fault.HiveKind.{HiveKind}
-use Rattle.nt_bytes.specs.declared.fault.HiveKind.TheVariants.{NotRegf, Checksum, Version, FileType, Size}
+use Rattle.nt_bytes.specs.declared.fault.HiveFaultKind.{HiveFaultKind}
+use Rattle.nt_bytes.specs.declared.fault.HiveFaultKind.TheVariants.{NotRegf, Checksum, Version, FileType, Size}
 
 -- the fields of a base block that are kept
 pub record Base : Type 0 where
@@ -64,7 +64,7 @@ abbrev pub version_of : ℕ → HiveVersion
 version_of minor = if minor == 5 then V5 else V3
 
 -- a fault of this kind at this byte
-abbrev pub fault_at : HiveKind → ℕ → HiveFault
+abbrev pub fault_at : HiveFaultKind → ℕ → HiveFault
 fault_at kind at = record { kind = kind; at = at }
 
 -- what a sector has to be, in the order in which it is judged, with the fault that it is otherwise

@@ -7,8 +7,8 @@
 use Rattle.std.specs.Prelude.{◌<◌, ℕ, ◌^◌, ◌==◌, nat_lt, if◌then◌else◌, List, ◌∷◌, ◌++◌, length, Result, Ok, Err}
 use Rattle.std.specs.Int.{w16, w32, to_le_bytes}
 use Rattle.nt_bytes.specs.Fields.{u16_in, u32_in}
-use Rattle.nt_bytes.specs.declared.fault.HiveKind.{HiveKind}
-use Rattle.nt_bytes.specs.declared.fault.HiveKind.TheVariants.{FormShort, FormSign}
+use Rattle.nt_bytes.specs.declared.fault.HiveFaultKind.{HiveFaultKind}
+use Rattle.nt_bytes.specs.declared.fault.HiveFaultKind.TheVariants.{FormShort, FormSign}
 
 -- the fields of a cell of big data
 pub record BigData : Type 0 where
@@ -20,7 +20,7 @@ abbrev pub big_data_in : List ℕ → BigData
 big_data_in p = record { segments = u16_in p 2; list = u32_in p 4 }
 
 -- the cell of big data that a payload holds, or the first check that fails
-unfoldable pub big_data_at : List ℕ → Result BigData HiveKind
+unfoldable pub big_data_at : List ℕ → Result BigData HiveFaultKind
 big_data_at p =
     if nat_lt (length p) 2 then Err FormShort
     else if u16_in p 0 == 0x6264 then (

@@ -1,13 +1,12 @@
 -- Bins and cells, their bytes, and the first check that fails (regf format 1.3 and 1.5, hive bins and hive bin
 -- cells; that the bins data have at most 16 MiB, and the order of the checks, are this project's own).
-use Rattle.std.specs.Prelude.{◌≡◌, ◌⊎◌, ℕ, ◌+◌, ◌-◌, ◌%◌, ◌<◌, ◌≤◌, ◌==◌, nat_lt, Bool, if◌then◌else◌, List, [], ◌∷◌, ◌++◌, length, Option, Some, None, Result, Ok, Err, refl}
+use Rattle.std.specs.Prelude.{◌≡◌, ◌⊎◌, ℕ, ◌+◌, ◌-◌, ◌%◌, ◌<◌, ◌≤◌, ◌==◌, nat_lt, Bool, if◌then◌else◌, List, [], ◌∷◌, ◌++◌, length, Option, Some, None, Result, Ok, Err}
 use Rattle.std.specs.List.{AllByRecursion, flat_map}
 use Rattle.std.specs.Int.{w32, to_le_bytes}
-use Rattle.std.specs.Coded.{Coded, code_by, coded×, coded_ℕ, coded_bool, coded_list}
 use Rattle.nt_bytes.specs.Fields.{u32_in}
 use Rattle.nt_bytes.specs.declared.version.HiveVersion.{HiveVersion}
-use Rattle.nt_bytes.specs.declared.fault.HiveKind.{HiveKind}
-use Rattle.nt_bytes.specs.declared.fault.HiveKind.TheVariants.{BinSign, BinOffset, BinSize, CellSize, CellPastBin, OutOfRange, FreeCell}
+use Rattle.nt_bytes.specs.declared.fault.HiveFaultKind.{HiveFaultKind}
+use Rattle.nt_bytes.specs.declared.fault.HiveFaultKind.TheVariants.{BinSign, BinOffset, BinSize, CellSize, CellPastBin, OutOfRange, FreeCell}
 use Rattle.nt_bytes.specs.declared.fault.HiveFault.{HiveFault}
 
 -- a cell: is it allocated, and its bytes behind the size
@@ -88,7 +87,7 @@ IsBins text bins = IsHeap bins × (text ≡ spelled 0 bins)
 
 -- the size in the header at the front of bytes, of a bin at this place, or the first check of it that fails; a field
 -- that is not wholly there fails its check
-unfoldable pub header_at : ℕ → List ℕ → Result ℕ HiveKind
+unfoldable pub header_at : ℕ → List ℕ → Result ℕ HiveFaultKind
 header_at at bytes =
     if nat_lt (length bytes) 4 then Err BinSign
     else if u32_in bytes 0 == 0x6e696268 then (
@@ -107,7 +106,7 @@ abbrev pub magnitude : ℕ → ℕ
 magnitude n = if nat_lt n 2147483648 then n else 4294967296 - n
 
 -- the size of the cell at the front of bytes, where a bin has this much room left, or the first check of it that fails
-unfoldable pub size_at : ℕ → List ℕ → Result ℕ HiveKind
+unfoldable pub size_at : ℕ → List ℕ → Result ℕ HiveFaultKind
 size_at room bytes =
     if nat_lt (magnitude (u32_in bytes 0)) 8 then Err CellSize
     else if magnitude (u32_in bytes 0) % 8 == 0 then (
@@ -171,17 +170,17 @@ abbrev pub cell_at : List Bin → ℕ → Option Cell
 cell_at bins o = in_bins o 0 bins
 
 -- the payload of an allocated cell, or why there is none
-abbrev pub payload_of : Option Cell → Result (List ℕ) HiveKind
+abbrev pub payload_of : Option Cell → Result (List ℕ) HiveFaultKind
 payload_of None = Err OutOfRange
 payload_of (Some c) = if c.allocated then Ok c.payload else Err FreeCell
 
 -- cells that a tree of this version may stand in: at an offset a payload, or why there is none
 pub record Cells : Type 0 where
   pub version : HiveVersion
-  pub payload : ℕ → Result (List ℕ) HiveKind
+  pub payload : ℕ → Result (List ℕ) HiveFaultKind
 
 -- the payload of the allocated cell of these bins at an offset, or why there is none
-abbrev pub payload_at : List Bin → ℕ → Result (List ℕ) HiveKind
+abbrev pub payload_at : List Bin → ℕ → Result (List ℕ) HiveFaultKind
 payload_at bins at = payload_of (cell_at bins at)
 
 -- the allocated cells of these bins, as those of a hive of this version
@@ -189,23 +188,11 @@ abbrev pub look_up : HiveVersion → List Bin → Cells
 look_up version bins = record { version = version; payload = payload_at bins }
 
 -- a check's kind of fault, at this place
-abbrev pub placed : {A : Type 0} → ℕ → Result A HiveKind → Result A HiveFault
-placed at (Ok x) = Ok x
-placed at (Err k) = Err (record { kind = k; at = at })
+abbrev pub with_place : {A : Type 0} → ℕ → Result A HiveFaultKind → Result A HiveFault
+with_place at (Ok x) = Ok x
+with_place at (Err k) = Err (record { kind = k; at = at })
 
 -- what a function answered, seen by view, is this
 abbrev pub Sees : {X Y E : Type 0} → (X → Y) → Result X E → Result Y E → Type 0
 Sees view (Ok x) answer = answer ≡ Ok (view x)
 Sees view (Err e) answer = answer ≡ Err e
-
--- ---- cells and bins as the logic codes them
-
--- a cell as the pair of its flag and its payload, by which the logic tells cells apart
-abbrev pub coded_cell : Coded Cell
-coded_cell = code_by (Bool × List ℕ) (coded× coded_bool (coded_list coded_ℕ)) (λ c. (c.allocated, c.payload))
-    (λ p. record { allocated = p.0; payload = p.1 }) (λ _. refl)
-
--- a bin as the pair of its ignored bytes and its cells, by which the logic tells bins apart
-abbrev pub coded_bin : Coded Bin
-coded_bin = code_by (List ℕ × List Cell) (coded× (coded_list coded_ℕ) (coded_list coded_cell)) (λ b. (b.ignored, b.cells))
-    (λ p. record { ignored = p.0; cells = p.1 }) (λ _. refl)

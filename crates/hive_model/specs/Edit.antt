@@ -7,8 +7,10 @@ use Rattle.std.specs.Ordering.{is_gt}
 use Rattle.nt_bytes.specs.Folding.{folded_order}
 use Rattle.nt_bytes.specs.declared.version.HiveVersion.{HiveVersion}
 use Rattle.hive_model.specs.Tree.{Item, Tree, key, none, trees, listed, head, children, is_named, is_item, find_key, find_item}
-use Rattle.hive_model.specs.Valid.{longest_key_name, longest_value_name, deepest_level, is_backslash, levels}
+use Rattle.hive_model.specs.Valid.{longest_key_name, longest_value_name, deepest_level, levels, longest_data}
+use Rattle.nt_bytes.specs.Text.{is_backslash}
 use Rattle.hive_model.specs.Size.{bulk_of}
+use Rattle.hive_model.specs.Forms.{◌>>=◌}
 
 -- one edit: of a value of the key at a path, of a key at a path, or of a child of the root
 pub data Step : Type 0 where
@@ -73,7 +75,7 @@ abbrev pub value_set : List (List ℕ) → List ℕ → ℕ → List ℕ → Tre
 value_set path name kind bytes t = unless
     ((is_none (find_key path t), no_key)
     ∷ (nat_lt longest_value_name (length name), name_too_long)
-    ∷ (nat_lt 1048576 (length bytes), data_too_long)
+    ∷ (nat_lt longest_data (length bytes), data_too_long)
     ∷ [])
     (at_key path (of_items (with_item name kind bytes)) t)
 
@@ -178,15 +180,10 @@ after_step (delete_key path) t = key_deleted path t
 after_step (copy_child from to) t = child_copied from to t
 after_step (add_child name k) t = child_added name k t
 
--- what a result leads to, or its refusal
-abbrev pub then_edit : Result Tree Refusal → (Tree → Result Tree Refusal) → Result Tree Refusal
-then_edit (Ok t) more = more t
-then_edit (Err e) more = Err e
-
 -- the tree after the steps in order, or the refusal of the first that is refused
 abbrev pub after_steps : Tree → List Step → Result Tree Refusal
 after_steps t [] = Ok t
-after_steps t (step ∷ steps) = then_edit (after_step step t) (λ u. after_steps u steps)
+after_steps t (step ∷ steps) = after_step step t >>= (λ u. after_steps u steps)
 
 -- the greatest bulk of an edited tree, 4096 bytes below the greatest size of bins data; so its packed form has at most
 -- 16,773,120 bytes
@@ -195,4 +192,4 @@ most_bulk = 16773120
 
 -- the tree of a hive of this version after all steps, or why not: the first refusal, or that the result is too large
 unfoldable pub edited : HiveVersion → Tree → List Step → Result Tree Refusal
-edited version t steps = then_edit (after_steps t steps) (λ u. if nat_lt most_bulk (bulk_of version u) then Err full else Ok u)
+edited version t steps = after_steps t steps >>= (λ u. if nat_lt most_bulk (bulk_of version u) then Err full else Ok u)

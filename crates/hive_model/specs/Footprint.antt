@@ -10,7 +10,7 @@ use Rattle.std.specs.Option.{option_map_or}
 use lib.ListN.{replicate}
 use Rattle.nt_bytes.specs.Folding.{folds_same}
 use Rattle.nt_bytes.specs.declared.version.HiveVersion.{HiveVersion}
-use Rattle.nt_bytes.specs.declared.fault.HiveKind.{HiveKind}
+use Rattle.nt_bytes.specs.declared.fault.HiveFaultKind.{HiveFaultKind}
 use Rattle.hive_model.specs.Tree.{Item, Head, Tree, Trees, key, none, more, head, children, is_named, find_key, find_item}
 use Rattle.hive_model.specs.Valid.{deepest_level}
 use Rattle.hive_model.specs.Size.{cell, name_bytes, data_sizes, class_size, security_size, node_size, part_count, count}
@@ -40,7 +40,7 @@ has_key parent name t = option_map_or (has_child name) (find_key parent t) false
 -- ---- cells from before the edit
 
 -- what is listed of something that was read; nothing where it was not
-abbrev pub of_read : {F : Type 0} → Result F HiveKind → (F → List ℕ) → List ℕ
+abbrev pub of_read : {F : Type 0} → Result F HiveFaultKind → (F → List ℕ) → List ℕ
 of_read (Ok x) listing = listing x
 of_read (Err kind) listing = []
 

@@ -18,9 +18,10 @@ use Rattle.std.specs.Prelude.{◌≡◌, ◌<◌, ◌≤◌, ℕ, ◌+◌, ◌/�
 use Rattle.std.specs.List.{list_any}
 use Rattle.std.specs.Int.{w16, w32, w64, to_le_bytes}
 use Rattle.nt_bytes.specs.Fields.{u16_in, u32_in, u64_in}
-use Rattle.nt_bytes.specs.declared.fault.HiveKind.{HiveKind}
-use Rattle.nt_bytes.specs.declared.fault.HiveKind.TheVariants.{FormShort, FormSign}
-use Rattle.hive_model.specs.Valid.{longest_key_name, is_backslash}
+use Rattle.nt_bytes.specs.declared.fault.HiveFaultKind.{HiveFaultKind}
+use Rattle.nt_bytes.specs.declared.fault.HiveFaultKind.TheVariants.{FormShort, FormSign}
+use Rattle.hive_model.specs.Valid.{longest_key_name}
+use Rattle.nt_bytes.specs.Text.{is_backslash}
 use Rattle.hive_model.specs.Forms.{◌>>=◌}
 use Rattle.hive_model.specs.StoredNames.{name_text, key_name_at, UnitsFit}
 
@@ -71,7 +72,7 @@ key_node_in p name = record {
 }
 
 -- the key node that a payload holds, its name empty or not, or the first check that fails
-unfoldable pub key_node_at : List ℕ → Result KeyNode HiveKind
+unfoldable pub key_node_at : List ℕ → Result KeyNode HiveFaultKind
 key_node_at p =
     if nat_lt (length p) 2 then Err FormShort
     else if u16_in p 0 == 0x6b6e then (

@@ -11,8 +11,8 @@
 use Rattle.std.specs.Prelude.{◌≡◌, ◌<◌, ◌≤◌, ℕ, ◌+◌, ◌-◌, ◌%◌, ◌^◌, ◌==◌, nat_lt, nat_le, Bool, false, if◌then◌else◌, List, [], ◌∷◌, ◌++◌, length, take, Option, Some, None, Result, Ok, Err, slice_range}
 use Rattle.std.specs.Int.{w16, w32, to_le_bytes}
 use Rattle.nt_bytes.specs.Fields.{u16_in, u32_in}
-use Rattle.nt_bytes.specs.declared.fault.HiveKind.{HiveKind}
-use Rattle.nt_bytes.specs.declared.fault.HiveKind.TheVariants.{FormShort, FormSign, FormLength}
+use Rattle.nt_bytes.specs.declared.fault.HiveFaultKind.{HiveFaultKind}
+use Rattle.nt_bytes.specs.declared.fault.HiveFaultKind.TheVariants.{FormShort, FormSign, FormLength}
 use Rattle.hive_model.specs.Valid.{longest_value_name}
 use Rattle.hive_model.specs.Forms.{◌>>=◌}
 use Rattle.hive_model.specs.StoredNames.{name_text, value_name_at, UnitsFit}
@@ -42,7 +42,7 @@ abbrev pub key_value_in : List ℕ → List ℕ → KeyValue
 key_value_in p name = record { size = u32_in p 4; offset = u32_in p 8; kind = u32_in p 12; flags = u16_in p 16; name = name }
 
 -- the value that a payload holds, or the first check that fails
-unfoldable pub key_value_at : List ℕ → Result KeyValue HiveKind
+unfoldable pub key_value_at : List ℕ → Result KeyValue HiveFaultKind
 key_value_at p =
     if nat_lt (length p) 2 then Err FormShort
     else if u16_in p 0 == 0x6b76 then (

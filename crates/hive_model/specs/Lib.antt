@@ -7,6 +7,7 @@ pub mod BigData
 pub mod Security
 pub mod Lists
 pub mod Bins
+pub mod Codes
 pub mod Walk
 pub mod Stands
 pub mod Packed

@@ -11,8 +11,8 @@ use Rattle.std.specs.List.{AllByRecursion}
 use Rattle.std.specs.Int.{w16, w32, to_le_bytes}
 use Rattle.nt_bytes.specs.Fields.{u16_in, u32_in}
 use Rattle.nt_bytes.specs.Folding.{folded_unit}
-use Rattle.nt_bytes.specs.declared.fault.HiveKind.{HiveKind}
-use Rattle.nt_bytes.specs.declared.fault.HiveKind.TheVariants.{FormShort, FormSign}
+use Rattle.nt_bytes.specs.declared.fault.HiveFaultKind.{HiveFaultKind}
+use Rattle.nt_bytes.specs.declared.fault.HiveFaultKind.TheVariants.{FormShort, FormSign}
 
 -- which of the four lists a cell holds; each is read in both versions
 pub data ListKind : Type 0 where
@@ -32,14 +32,14 @@ numbers_in step zero p = []
 numbers_in step (suc n) p = u32_in p 0 ∷ numbers_in step n (drop step p)
 
 -- the list of this kind in a payload, whose entries have this many bytes
-unfoldable pub list_of : ListKind → ℕ → List ℕ → Result SubkeyList HiveKind
+unfoldable pub list_of : ListKind → ℕ → List ℕ → Result SubkeyList HiveFaultKind
 list_of kind step p =
     if nat_lt (length p) 4 then Err FormShort
     else if nat_lt (length p) (4 + step * u16_in p 2) then Err FormShort
     else Ok (record { kind = kind; offsets = numbers_in step (u16_in p 2) (drop 4 p) })
 
 -- the subkey list that a payload holds, or the first check that fails
-unfoldable pub list_at : List ℕ → Result SubkeyList HiveKind
+unfoldable pub list_at : List ℕ → Result SubkeyList HiveFaultKind
 list_at p =
     if nat_lt (length p) 2 then Err FormShort
     else if u16_in p 0 == 0x696c then list_of Li 4 p
@@ -99,5 +99,5 @@ hash_of name = hash_from 0 name
 -- ---- value list: offsets in a row
 
 -- the n offsets of a value list, or its fault
-unfoldable pub offsets_in : ℕ → List ℕ → Result (List ℕ) HiveKind
+unfoldable pub offsets_in : ℕ → List ℕ → Result (List ℕ) HiveFaultKind
 offsets_in n p = if nat_lt (length p) (4 * n) then Err FormShort else Ok (numbers_in 4 n p)

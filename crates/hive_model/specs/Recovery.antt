@@ -11,9 +11,10 @@
 use Rattle.std.specs.Prelude.{◌+◌, ◌-◌, ◌*◌, ◌/◌, ◌%◌, ◌^◌, ◌==◌, ◌&&◌, Bool, true, false, nat_eq, if◌then◌else◌, ℕ, zero, suc, List, [], ◌++◌, take, drop, slice_index, codes, Option, Some, None, Result, Ok, Err}
 use Rattle.std.specs.List.{starts_with}
 use Rattle.nt_bytes.specs.declared.fault.HiveFault.{HiveFault}
-use Rattle.nt_bytes.specs.declared.fault.HiveKind.TheVariants as kinds
+use Rattle.nt_bytes.specs.declared.fault.HiveFaultKind.TheVariants as kinds
 use Rattle.hive_model.specs.Base.{Base, base_of, fault_at}
 use Rattle.hive_model.specs.Image.{Image, Primary, Log, Content, Bytes, Unreadable}
+use Rattle.hive_model.specs.Forms.{◌>>=◌}
 
 -- what an image is recovered as: the base block, the bins data, and whether the log was needed
 pub record Recovered : Type 0 where
@@ -32,11 +33,6 @@ log_in image n = image (record { file = Log; sector = n })
 -- sector i of bytes
 unfoldable pub sector : List ℕ → ℕ → List ℕ
 sector bytes i = take 512 (drop (512 * i) bytes)
-
--- what follows, unless there was a fault before
-abbrev pub and_then : {A B : Type 0} → Result A HiveFault → (A → Result B HiveFault) → Result B HiveFault
-and_then (Ok x) next = next x
-and_then (Err fault) next = Err fault
 
 -- sectors by their numbers, each as it is read: its bytes, or the fault that it has none
 abbrev pub Sectors : Type 0
@@ -107,11 +103,11 @@ abbrev pub by_bits : Image → Base → (ℕ → Bool) → Result Recovered Hive
 by_bits image base bits =
     let first = first_dirty base.size in
     let count = base.size / 512 in
-    and_then (gathered (read_log image) first (rank bits count)) (λ _. recovered_with true base (gathered (picked image first bits) 0 count))
+    (gathered (read_log image) first (rank bits count) >>= λ _. recovered_with true base (gathered (picked image first bits) 0 count))
 
 -- the first sector of the bitmap, which has to have its signature
 abbrev pub front_in : Image → Result (List ℕ) HiveFault
-front_in image = and_then (read_log image 1) (λ front. if starts_with nat_eq front (codes "DIRT") then Ok front else Err (fault_at kinds.LogDirt 512))
+front_in image = read_log image 1 >>= (λ front. if starts_with nat_eq front (codes "DIRT") then Ok front else Err (fault_at kinds.LogDirt 512))
 
 -- the whole bitmap of the log, with its signature, for bins data of this size
 abbrev pub bitmap_in : Image → ℕ → Result (List ℕ) HiveFault
@@ -130,7 +126,7 @@ goes_with (Some opened) logged = (logged.first == opened.first) && (logged.secon
 abbrev pub by_logged : Image → Option Base → Base → Result Recovered HiveFault
 by_logged image opened logged =
     if goes_with opened logged
-    then and_then (bitmap_in image logged.size) (λ text. by_bits image (closed_by logged) (bit (drop 4 text)))
+    then (bitmap_in image logged.size >>= λ text. by_bits image (closed_by logged) (bit (drop 4 text)))
     else Err (fault_at kinds.LogSequence 4)
 
 -- a fault of the log's base block keeps its place
@@ -141,17 +137,17 @@ as_log_base (Err fault) = Err (fault_at kinds.LogBase fault.at)
 -- the log's base block
 abbrev pub logged_in : Image → Result Base HiveFault
 logged_in image =
-    and_then (bytes_or (fault_at kinds.LogAbsent 0) (fault_at kinds.LogUnreadable 0) (log_in image 0)) (λ block. as_log_base (base_of block 1))
+    bytes_or (fault_at kinds.LogAbsent 0) (fault_at kinds.LogUnreadable 0) (log_in image 0) >>= (λ block. as_log_base (base_of block 1))
 
 -- the log of an unfinished commit
 abbrev pub by_log : Image → Option Base → Result Recovered HiveFault
-by_log image opened = and_then (logged_in image) (by_logged image opened)
+by_log image opened = logged_in image >>= by_logged image opened
 
 -- the base block that the primary's sector 0 has; none where it can't be read
 abbrev pub base_at : Option Content → Result (Option Base) HiveFault
 base_at None = Err (fault_at kinds.NotRegf 0)
 base_at (Some Unreadable) = Ok None
-base_at (Some (Bytes block)) = and_then (base_of block 0) (λ base. Ok (Some base))
+base_at (Some (Bytes block)) = base_of block 0 >>= (λ base. Ok (Some base))
 
 -- the primary's base block, none where it can't be read
 abbrev pub base_in : Image → Result (Option Base) HiveFault
@@ -164,4 +160,4 @@ by_base image (Some base) = if base.first == base.second then by_primary image b
 
 -- what an image is recovered as, or the first check that fails
 unfoldable pub recovered_of : Image → Result Recovered HiveFault
-recovered_of image = and_then (base_in image) (by_base image)
+recovered_of image = base_in image >>= by_base image

@@ -8,8 +8,8 @@
 use Rattle.std.specs.Prelude.{◌<◌, ℕ, ◌+◌, ◌^◌, ◌==◌, nat_lt, if◌then◌else◌, List, ◌∷◌, ◌++◌, length, Result, Ok, Err, slice_range}
 use Rattle.std.specs.Int.{w16, w32, to_le_bytes}
 use Rattle.nt_bytes.specs.Fields.{u16_in, u32_in}
-use Rattle.nt_bytes.specs.declared.fault.HiveKind.{HiveKind}
-use Rattle.nt_bytes.specs.declared.fault.HiveKind.TheVariants.{FormShort, FormSign}
+use Rattle.nt_bytes.specs.declared.fault.HiveFaultKind.{HiveFaultKind}
+use Rattle.nt_bytes.specs.declared.fault.HiveFaultKind.TheVariants.{FormShort, FormSign}
 
 -- the fields of a security cell; its links and its count of uses are not looked at by a reader of the tree
 pub record SecurityCell : Type 0 where
@@ -23,7 +23,7 @@ abbrev pub security_in : List ℕ → SecurityCell
 security_in p = record { forward = u32_in p 4; backward = u32_in p 8; uses = u32_in p 12; descriptor = slice_range p 20 (20 + u32_in p 16) }
 
 -- the security cell that a payload holds, or the first check that fails
-unfoldable pub security_at : List ℕ → Result SecurityCell HiveKind
+unfoldable pub security_at : List ℕ → Result SecurityCell HiveFaultKind
 security_at p =
     if nat_lt (length p) 2 then Err FormShort
     else if u16_in p 0 == 0x6b73 then (

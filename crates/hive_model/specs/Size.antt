@@ -6,6 +6,7 @@ use lib.Pointwise.{pointwise}
 use Rattle.nt_bytes.specs.declared.version.HiveVersion.{HiveVersion}
 use Rattle.nt_bytes.specs.declared.version.HiveVersion.TheVariants.{V3, V5}
 use Rattle.hive_model.specs.Tree.{Item, Head, Tree, Trees, key, none, more, listed}
+use Rattle.nt_bytes.specs.Counts.{capped}
 
 -- a cell's size: the payload behind four bytes for the size, up to a multiple of eight (regf format, Hive bin cell)
 abbrev pub cell : ℕ → ℕ
@@ -124,10 +125,6 @@ abbrev mutual
   pub size_of_all : HiveVersion → List ℕ → Trees → ℕ
   size_of_all version shared none = 0
   size_of_all version shared (more t ts) = size version shared t + size_of_all version shared ts
-
--- a sum as 64 bits hold it: past the greatest number it is that one
-abbrev pub capped : ℕ → ℕ
-capped n = min n 18446744073709551615
 
 -- the bulk of a tree: the bin's header of 32 bytes and all cells (this project's own)
 abbrev pub bulk_of : HiveVersion → Tree → ℕ

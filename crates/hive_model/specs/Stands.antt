@@ -1,7 +1,7 @@
 -- Which tree stands in cells (regf format 1.3 and 1.5, key node and what it names).
 use Rattle.std.specs.Prelude.{◌≡◌, ◌≤◌, ◌<◌, ℕ, ◌-◌, ◌==◌, if◌then◌else◌, MatchBool, List, [], ◌∷◌, ◌++◌, length, Option, Some, None, Result, Ok}
 use Rattle.std.specs.List.{All}
-use Rattle.nt_bytes.specs.declared.fault.HiveKind.{HiveKind}
+use Rattle.nt_bytes.specs.declared.fault.HiveFaultKind.{HiveFaultKind}
 use Rattle.hive_model.specs.Forms.{◌>>=◌, bytes_in}
 use Rattle.hive_model.specs.KeyNode.{KeyNode, key_node_at, is_narrow_key}
 use Rattle.hive_model.specs.KeyValue.{KeyValue, key_value_at, data_inside}
@@ -20,50 +20,50 @@ abbrev pub tree_flags : ℕ → ℕ
 tree_flags flags = if is_narrow_key flags then flags - 32 else flags
 
 -- a key's class: the first bytes of its cell, and none where the length is 0
-unfoldable pub class_of : Cells → KeyNode → Result (List ℕ) HiveKind
+unfoldable pub class_of : Cells → KeyNode → Result (List ℕ) HiveFaultKind
 class_of cells node = if node.class_length == 0 then Ok [] else reading (bytes_in node.class_length) cells node.class
 
 -- a key's descriptor, empty where it has none
-unfoldable pub security_of : Cells → KeyNode → Result (List ℕ) HiveKind
+unfoldable pub security_of : Cells → KeyNode → Result (List ℕ) HiveFaultKind
 security_of cells node = if node.security == nowhere then Ok [] else reading security_at cells node.security >>= λ s. Ok s.descriptor
 
 -- data that the value holds, or else those of cells
-abbrev pub data_or : Option (List ℕ) → Result (List ℕ) HiveKind → Result (List ℕ) HiveKind
+abbrev pub data_or : Option (List ℕ) → Result (List ℕ) HiveFaultKind → Result (List ℕ) HiveFaultKind
 data_or (Some bytes) other = Ok bytes
 data_or None other = other
 
 -- the n bytes that the segments at these offsets hold, joined in order
-abbrev pub joined_segments : Cells → ℕ → List ℕ → Result (List ℕ) HiveKind
+abbrev pub joined_segments : Cells → ℕ → List ℕ → Result (List ℕ) HiveFaultKind
 joined_segments cells n [] = Ok []
 joined_segments cells n (at ∷ rest) =
     reading (bytes_in (segment_part n)) cells at >>= λ bytes. joined_segments cells (n - segment_bytes) rest >>= λ others.
     Ok (bytes ++ others)
 
 -- big data of n bytes, whose cell `db` is at an offset
-unfoldable pub big_bytes_at : Cells → ℕ → ℕ → Result (List ℕ) HiveKind
+unfoldable pub big_bytes_at : Cells → ℕ → ℕ → Result (List ℕ) HiveFaultKind
 big_bytes_at cells n at =
     reading (big_data_of n) cells at >>= λ big. reading (offsets_in big.segments) cells big.list >>= joined_segments cells n
 
 -- a value's data
-unfoldable pub data_of : Cells → KeyValue → Result (List ℕ) HiveKind
+unfoldable pub data_of : Cells → KeyValue → Result (List ℕ) HiveFaultKind
 data_of cells value =
     data_or (data_inside value)
     (if is_big cells.version value.size then big_bytes_at cells value.size value.offset
     else reading (bytes_in value.size) cells value.offset)
 
 -- the value that stands at an offset
-unfoldable pub item_at : Cells → ℕ → Result Item HiveKind
+unfoldable pub item_at : Cells → ℕ → Result Item HiveFaultKind
 item_at cells at =
     reading key_value_at cells at >>= λ value. data_of cells value >>= λ bytes.
     Ok (record { name = value.name; kind = value.kind; bytes = bytes })
 
 -- the values that stand at these offsets, in order
-abbrev pub items_at : Cells → List ℕ → Result (List Item) HiveKind
+abbrev pub items_at : Cells → List ℕ → Result (List Item) HiveFaultKind
 items_at cells [] = Ok []
 items_at cells (at ∷ rest) = item_at cells at >>= λ item. items_at cells rest >>= λ items. Ok (item ∷ items)
 
 -- a key's values
-unfoldable pub values_of : Cells → KeyNode → Result (List Item) HiveKind
+unfoldable pub values_of : Cells → KeyNode → Result (List Item) HiveFaultKind
 values_of cells node =
     if node.value_count == 0 then Ok [] else reading (offsets_in node.value_count) cells node.value_list >>= items_at cells
 

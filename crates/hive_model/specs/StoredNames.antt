@@ -2,10 +2,10 @@
 use Rattle.std.specs.Prelude.{◌<◌, ℕ, ◌%◌, ◌==◌, nat_lt, Bool, not, ◌&&◌, ◌||◌, if◌then◌else◌, List, [], ◌∷◌, ◌++◌, length, Result, Ok, Err, slice_index}
 use Rattle.std.specs.List.{list_any}
 use Rattle.std.specs.Int.{w16, to_le_bytes}
-use Rattle.nt_bytes.specs.Text.{wide_of}
-use Rattle.nt_bytes.specs.declared.fault.HiveKind.{HiveKind}
-use Rattle.nt_bytes.specs.declared.fault.HiveKind.TheVariants.{FormLength, FormName}
-use Rattle.hive_model.specs.Valid.{longest_key_name, longest_value_name, is_backslash}
+use Rattle.nt_bytes.specs.Text.{wide_of, is_backslash}
+use Rattle.nt_bytes.specs.declared.fault.HiveFaultKind.{HiveFaultKind}
+use Rattle.nt_bytes.specs.declared.fault.HiveFaultKind.TheVariants.{FormLength, FormName}
+use Rattle.hive_model.specs.Valid.{longest_key_name, longest_value_name}
 
 -- the pairs of bytes of units
 abbrev pub wide_text : List ℕ → List ℕ
@@ -33,14 +33,14 @@ abbrev pub is_bad_value_name : List ℕ → Bool
 is_bad_value_name name = nat_lt longest_value_name (length name)
 
 -- the name of a key, empty or not, or its fault
-unfoldable pub key_name_at : Bool → List ℕ → Result (List ℕ) HiveKind
+unfoldable pub key_name_at : Bool → List ℕ → Result (List ℕ) HiveFaultKind
 key_name_at narrow bytes =
     if has_half_unit narrow bytes then Err FormLength
     else if is_bad_key_name (stored_name narrow bytes) then Err FormName
     else Ok (stored_name narrow bytes)
 
 -- the name of a value, or its fault
-unfoldable pub value_name_at : Bool → List ℕ → Result (List ℕ) HiveKind
+unfoldable pub value_name_at : Bool → List ℕ → Result (List ℕ) HiveFaultKind
 value_name_at narrow bytes =
     if has_half_unit narrow bytes then Err FormLength
     else if is_bad_value_name (stored_name narrow bytes) then Err FormName

@@ -1,10 +1,6 @@
 -- Registry trees: keys with their values and children, and what is found in them by name.
-use Rattle.std.specs.Prelude.{◌≡◌, ℕ, ◌+◌, ◌≤◌, Bool, true, false, ◌&&◌, ◌||◌, ◌==◌, if◌then◌else◌, List, [], ◌∷◌, length, refl, find, bytes_eq, Option, Some, None, option_and_then}
+use Rattle.std.specs.Prelude.{ℕ, ◌+◌, Bool, true, false, ◌&&◌, ◌||◌, ◌==◌, if◌then◌else◌, List, [], ◌∷◌, length, find, bytes_eq, Option, Some, None, option_and_then}
 use Rattle.std.specs.Int.{w32, from_le_bytes}
-use Rattle.std.proofs.Common.{ap, arith}
-use Rattle.std.specs.Coded.{Coded, code_by, coded×, coded_ℕ, coded_list}
-use base.Stored.{Gv, gnil, gcons}
-use denote.Param.Weighed.{most}
 use Rattle.std.specs.Option.{option_map_or}
 use Rattle.nt_bytes.specs.Folding.{folds_same}
 use Rattle.nt_bytes.specs.Text.{sz_of, multi_sz_of}
@@ -82,12 +78,12 @@ abbrev pub find_dword : List ℕ → Tree → Option ℕ
 find_dword name t = option_and_then dword_in (find_item name t)
 
 -- the string that a value of type 1 or 2 (REG_SZ, REG_EXPAND_SZ) is (Microsoft's documentation of registry value types)
-abbrev pub text_in : Item → Option (List ℕ)
-text_in v = if (v.kind == 1) || (v.kind == 2) then Some (sz_of v.bytes) else None
+abbrev pub string_in : Item → Option (List ℕ)
+string_in v = if (v.kind == 1) || (v.kind == 2) then Some (sz_of v.bytes) else None
 
 -- the string under this name in the topmost key (Microsoft's documentation of registry value types)
-abbrev pub find_text : List ℕ → Tree → Option (List ℕ)
-find_text name t = option_and_then text_in (find_item name t)
+abbrev pub find_string : List ℕ → Tree → Option (List ℕ)
+find_string name t = option_and_then string_in (find_item name t)
 
 -- the strings that a value of type 7 (REG_MULTI_SZ) is (Microsoft's documentation of registry value types)
 abbrev pub strings_in : Item → List (List ℕ)
@@ -138,89 +134,12 @@ abbrev mutual
   keys_count none = 0
   keys_count (more t ts) = key_count t + keys_count ts
 
--- ---- what the logic asks of a type that a model has as its value: a code that tells values apart, and a weight
-
--- a value as the tuple of its fields (this project's own)
-abbrev pub coded_item : Coded Item
-coded_item =
-    code_by (List ℕ × (ℕ × List ℕ)) (coded× (coded_list coded_ℕ) (coded× coded_ℕ (coded_list coded_ℕ))) (λ v. (v.name, (v.kind, v.bytes)))
-    (λ p. record { name = p.0; kind = p.1.0; bytes = p.1.1 }) (λ _. refl)
-
--- the values of a key (this project's own)
-abbrev pub coded_items : Coded (List Item)
-coded_items = coded_list coded_item
-
--- a head as the tuple of its fields (this project's own)
-abbrev pub coded_head : Coded Head
-coded_head =
-    code_by (List ℕ × (ℕ × (ℕ × (List ℕ × (List ℕ × List Item)))))
-    (coded× (coded_list coded_ℕ) (coded× coded_ℕ (coded× coded_ℕ (coded× (coded_list coded_ℕ) (coded× (coded_list coded_ℕ) (coded_list coded_item))))))
-    (λ h. (h.name, (h.flags, (h.stamp, (h.class, (h.security, h.values))))))
-    (λ p. record { name = p.0; flags = p.1.0; stamp = p.1.1.0; class = p.1.1.1.0; security = p.1.1.1.1.0; values = p.1.1.1.1.1 }) (λ _. refl)
-
--- the first part of a pair of codes (this project's own)
-abbrev first_code : Gv → Gv
-first_code gnil = gnil
-first_code (Gv.gnum n) = gnil
-first_code (gcons a b) = a
-
--- the second part of a pair of codes (this project's own)
-abbrev second_code : Gv → Gv
-second_code gnil = gnil
-second_code (Gv.gnum n) = gnil
-second_code (gcons a b) = b
-
--- a tree as the pair of its head and its children (this project's own)
+-- how many values a tree has (this project's own)
 abbrev mutual
-  pub tree_code : Tree → Gv
-  tree_code (key h ts) = gcons (coded_head.code h) (trees_code ts)
+  pub item_count : Tree → ℕ
+  item_count (key h ts) = length h.values + items_count ts
 
-  -- trees as pairs of the first and the rest, and nil for none (this project's own)
-  pub trees_code : Trees → Gv
-  trees_code none = gnil
-  trees_code (more t ts) = gcons (tree_code t) (trees_code ts)
-
--- trees with one code are one
-mutual
-  pub tree_code-inj : (x y : Tree) → tree_code x ≡ tree_code y → x ≡ y
-  tree_code-inj (key h ts) (key i us) p = λ j. key (coded_head.inj h i (ap first_code p) j) (trees_code-inj ts us (ap second_code p) j)
-
-  -- lists of children with one code are one
-  pub trees_code-inj : (x y : Trees) → trees_code x ≡ trees_code y → x ≡ y
-  trees_code-inj none none p = refl
-  trees_code-inj none (more u us) p = absurd cc
-  trees_code-inj (more t ts) none p = absurd cc
-  trees_code-inj (more t ts) (more u us) p = λ j. more (tree_code-inj t u (ap first_code p) j) (trees_code-inj ts us (ap second_code p) j)
-
--- the code of trees (this project's own)
-abbrev pub coded_tree : Coded Tree
-coded_tree = record { code = tree_code; inj = tree_code-inj }
-
--- the code of lists of trees (this project's own)
-abbrev pub coded_trees : Coded (List Tree)
-coded_trees = coded_list coded_tree
-
--- more than the weight of each key inside (this project's own)
-abbrev mutual
-  pub weight : Tree → ℕ
-  weight (key h ts) = 1 + weight_of_all ts
-
-  -- the weights of the children of a key together, and one more for each (this project's own)
-  pub weight_of_all : Trees → ℕ
-  weight_of_all none = 0
-  weight_of_all (more t ts) = weight t + 1 + weight_of_all ts
-
--- more than the weight of each key of the list (this project's own)
-abbrev pub weights : List Tree → ℕ
-weights [] = 0
-weights (t ∷ ts) = weight t + 1 + weights ts
-
--- a list of trees weighs as much as the children that it makes
-pub weights-trees : (ts : List Tree) → weight_of_all (trees ts) ≡ weights ts
-weights-trees [] = refl
-weights-trees (t ∷ ts) = ap (λ n. weight t + 1 + n) (weights-trees ts)
-
--- the greatest weight in a list, and one, is at most the weight of the list
-pub most_le-weights : (ts : List Tree) → most (λ t. weight t + 1) ts ≤ weights ts
-most_le-weights [] = omega arith
-most_le-weights (t ∷ ts) = omega (arith, most_le-weights ts)
+  -- how many values trees have together
+  pub items_count : Trees → ℕ
+  items_count none = 0
+  items_count (more t ts) = item_count t + items_count ts

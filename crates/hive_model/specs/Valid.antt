@@ -1,8 +1,9 @@
 -- Which trees a hive can hold: names, lengths and levels as the cells of keys and values have room for.
-use Rattle.std.specs.Prelude.{◌≡◌, ◌≤◌, ◌<◌, ℕ, ◌+◌, ◌/◌, ◌%◌, ◌^◌, ◌==◌, max, Bool, false, List, length}
+use Rattle.std.specs.Prelude.{◌≡◌, ◌≤◌, ◌<◌, ℕ, ◌+◌, ◌/◌, ◌%◌, ◌^◌, max, false, List, length}
 use Rattle.std.specs.List.{All, AllPairs, list_any}
 use Rattle.nt_bytes.specs.Folding.{folds_same}
 use Rattle.hive_model.specs.Tree.{Item, Head, Tree, Trees, key, none, more, head, listed}
+use Rattle.nt_bytes.specs.Text.{is_backslash}
 
 -- how many units a key's name may have (Windows Internals 4th edition, the registry)
 abbrev pub longest_key_name : ℕ
@@ -12,13 +13,13 @@ longest_key_name = 255
 abbrev pub longest_value_name : ℕ
 longest_value_name = 16383
 
+-- how many bytes an edit may give a value (this project's own)
+abbrev pub longest_data : ℕ
+longest_data = 1048576
+
 -- how many levels a tree may have, the root's being the first (Windows Internals 4th edition, the registry)
 abbrev pub deepest_level : ℕ
 deepest_level = 512
-
--- a backslash, which parts the names of a path
-abbrev pub is_backslash : ℕ → Bool
-is_backslash unit = unit == 0x5C
 
 -- a value that a cell can hold (regf format, Key value: a name length of two bytes for wide names, a data size of 31 bits)
 pub record IsItem (v : Item) : Type 0 where

@@ -14,8 +14,8 @@
 use Rattle.std.specs.Prelude.{◌≡◌, ℕ, zero, suc, ◌-◌, Bool, true, false, ◌&&◌, not, ◌==◌, is_some, if◌then◌else◌, List, [], ◌∷◌, ◌++◌, length, Option, Some, None, Result, Ok, Err}
 use Rattle.std.specs.List.{AllPairs, list_any}
 use Rattle.nt_bytes.specs.Folding.{folds_same}
-use Rattle.nt_bytes.specs.declared.fault.HiveKind.{HiveKind}
-use Rattle.nt_bytes.specs.declared.fault.HiveKind.TheVariants.{Shared, FormLength, FormName, FormKind, DoubleName, Count, TooDeep}
+use Rattle.nt_bytes.specs.declared.fault.HiveFaultKind.{HiveFaultKind}
+use Rattle.nt_bytes.specs.declared.fault.HiveFaultKind.TheVariants.{Shared, FormLength, FormName, FormKind, DoubleName, Count, TooDeep}
 use Rattle.nt_bytes.specs.declared.fault.HiveFault.{HiveFault}
 use Rattle.hive_model.specs.Forms.{◌>>=◌, bytes_in}
 use Rattle.hive_model.specs.KeyNode.{KeyNode, key_node_at}
@@ -30,7 +30,7 @@ use Rattle.hive_model.specs.Bins.{Cells, or_else}
 -- ---- cells, and what stands in them
 
 -- the form that stands in the cell at an offset, or why none does
-abbrev pub reading : {F : Type 0} → (List ℕ → Result F HiveKind) → Cells → ℕ → Result F HiveKind
+abbrev pub reading : {F : Type 0} → (List ℕ → Result F HiveFaultKind) → Cells → ℕ → Result F HiveFaultKind
 reading form cells at = cells.payload at >>= form
 
 -- an offset that names nothing (regf format 1.3)
@@ -38,11 +38,11 @@ abbrev pub nowhere : ℕ
 nowhere = 4294967295
 
 -- a key node; only the root's name may be empty
-unfoldable pub node_at : Bool → List ℕ → Result KeyNode HiveKind
+unfoldable pub node_at : Bool → List ℕ → Result KeyNode HiveFaultKind
 node_at root p = key_node_at p >>= λ node. if (length node.name == 0) && not root then Err FormName else Ok node
 
 -- a cell of big data for n bytes: it has as many segments as these fill
-unfoldable pub big_data_of : ℕ → List ℕ → Result BigData HiveKind
+unfoldable pub big_data_of : ℕ → List ℕ → Result BigData HiveFaultKind
 big_data_of n p = big_data_at p >>= λ big. if big.segments == segment_count n then Ok big else Err FormLength
 
 -- it lists lists
@@ -53,20 +53,20 @@ is_list_of_lists Lh = false
 is_list_of_lists Ri = true
 
 -- the entries of a list that is no list of lists
-unfoldable pub leaf_at : List ℕ → Result (List ℕ) HiveKind
+unfoldable pub leaf_at : List ℕ → Result (List ℕ) HiveFaultKind
 leaf_at p = list_at p >>= λ list. if is_list_of_lists list.kind then Err FormKind else Ok list.offsets
 
 -- the entries of the lists at these offsets, joined in order
-abbrev pub joined_at : Cells → List ℕ → Result (List ℕ) HiveKind
+abbrev pub joined_at : Cells → List ℕ → Result (List ℕ) HiveFaultKind
 joined_at cells [] = Ok []
 joined_at cells (at ∷ more) = reading leaf_at cells at >>= λ offsets. joined_at cells more >>= λ others. Ok (offsets ++ others)
 
 -- the entries of a list: its own, or those of its lists
-abbrev pub entries_of : Cells → SubkeyList → Result (List ℕ) HiveKind
+abbrev pub entries_of : Cells → SubkeyList → Result (List ℕ) HiveFaultKind
 entries_of cells list = if is_list_of_lists list.kind then joined_at cells list.offsets else Ok list.offsets
 
 -- the offsets of children that the list at an offset names, in order
-unfoldable pub entries_at : Cells → ℕ → Result (List ℕ) HiveKind
+unfoldable pub entries_at : Cells → ℕ → Result (List ℕ) HiveFaultKind
 entries_at cells at = reading list_at cells at >>= entries_of cells
 
 -- ---- which checks there are
@@ -74,24 +74,24 @@ entries_at cells at = reading list_at cells at >>= entries_of cells
 -- a check at an offset: that a cell can be used there, perhaps as security, or any other, with what it found
 pub data Check : Type 0 where
   uses : (at : ℕ) → (security : Bool) → Check
-  tests : (at : ℕ) → Option HiveKind → Check
+  tests : (at : ℕ) → Option HiveFaultKind → Check
 
 -- what a reading found wrong
-abbrev pub found : {F : Type 0} → Result F HiveKind → Option HiveKind
+abbrev pub found : {F : Type 0} → Result F HiveFaultKind → Option HiveFaultKind
 found (Ok x) = None
 found (Err kind) = Some kind
 
 -- what is judged below something that was read; nothing where it was not
-abbrev pub below_of : {F : Type 0} → Result F HiveKind → (F → List Check) → List Check
+abbrev pub below_of : {F : Type 0} → Result F HiveFaultKind → (F → List Check) → List Check
 below_of (Ok x) below = below x
 below_of (Err kind) below = []
 
 -- a cell is used, perhaps as security, and is to have a form
-abbrev pub use_as : {F : Type 0} → Bool → (List ℕ → Result F HiveKind) → Cells → ℕ → List Check
+abbrev pub use_as : {F : Type 0} → Bool → (List ℕ → Result F HiveFaultKind) → Cells → ℕ → List Check
 use_as security form cells at = uses at security ∷ tests at (found (reading form cells at)) ∷ []
 
 -- a fault where the test holds
-abbrev pub failing : Bool → HiveKind → Option HiveKind
+abbrev pub failing : Bool → HiveFaultKind → Option HiveFaultKind
 failing b kind = if b then Some kind else None
 
 -- no earlier one folds to this name
@@ -99,7 +99,7 @@ abbrev pub name_check : List (List ℕ) → ℕ → List ℕ → Check
 name_check names at name = tests at (failing (list_any (folds_same name) names) DoubleName)
 
 -- the name of what was read, if anything was
-abbrev pub names_of : {F : Type 0} → (F → List ℕ) → Result F HiveKind → List (List ℕ)
+abbrev pub names_of : {F : Type 0} → (F → List ℕ) → Result F HiveFaultKind → List (List ℕ)
 names_of name (Ok x) = name x ∷ []
 names_of name (Err kind) = []
 
@@ -199,7 +199,7 @@ clash at security (uses before kept) = (at == before) && not (security && kept)
 clash at security (tests before kind) = false
 
 -- a fault at an offset
-abbrev pub at_place : ℕ → Option HiveKind → Option HiveFault
+abbrev pub at_place : ℕ → Option HiveFaultKind → Option HiveFault
 at_place at None = None
 at_place at (Some kind) = Some (record { kind = kind; at = at })
 

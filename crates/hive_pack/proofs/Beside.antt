@@ -5,7 +5,7 @@ use Rattle.std.specs.Prelude.{not, ◌&&◌}
 use Rattle.std.specs.List.{list_any, AllByRecursion}
 use Rattle.std.proofs.lemmas.Bool.{ne_eqb}
 use Rattle.std.proofs.lemmas.List.{append-nil}
-use Rattle.nt_bytes.specs.declared.fault.HiveKind.{HiveKind}
+use Rattle.nt_bytes.specs.declared.fault.HiveFaultKind.{HiveFaultKind}
 use Rattle.hive_model.specs.Bins.{Cells}
 use Rattle.std.proofs.Common.{Option, None}
 use Rattle.hive_model.specs.Walk.{reading, found, below_of, use_as, Check, uses, tests, clash}
@@ -168,7 +168,7 @@ good_append {most} lo mid hi s a b l h o g k = record {
       (clean_within most lo mid hi s a o l h g.within)));
 }
 
-pub good_tests : {most : ℕ} (lo hi s at : ℕ) (kind : Option HiveKind) (cs : List Check) → Good most lo hi s cs
+pub good_tests : {most : ℕ} (lo hi s at : ℕ) (kind : Option HiveFaultKind) (cs : List Check) → Good most lo hi s cs
     → Good most lo hi s (tests at kind ∷ cs)
 good_tests {most} lo hi s at kind cs g = record {
   within = (tt, g.within);
@@ -226,7 +226,8 @@ good_own {most} lo mid hi s d cs l m h g = record {
 }
 
 -- a use of a cell in the range
-pub use_only : {most : ℕ} {F : Type 0} (form : List ℕ → Result F HiveKind) (cells : Cells) (lo hi s at : ℕ) → lo ≤ at
+pub use_only : {most : ℕ} {F : Type 0} (form : List ℕ → Result F HiveFaultKind) (cells : Cells) (lo hi s at : ℕ)
+    → lo ≤ at
     → at < hi
     → Outside s lo hi → Good most lo hi s (use_as false form cells at)
 use_only form cells lo hi s at l h o =
@@ -234,10 +235,12 @@ use_only form cells lo hi s at l h o =
     (good_tests hi hi s at (found (reading form cells at)) [] (good_none hi hi s))
 
 -- and what is read there asks for more
-pub use_then : {most : ℕ} {F : Type 0} (form : List ℕ → Result F HiveKind) (cells : Cells) (lo mid hi s at : ℕ) (x : F)
+pub use_then : {most : ℕ} {F : Type 0} (form : List ℕ
+    → Result F HiveFaultKind) (cells : Cells) (lo mid hi s at : ℕ) (x : F)
     (below : F → List Check) → reading form cells at ≡ Ok x → lo ≤ at → at < mid → mid ≤ hi → Outside s lo hi
     → Good most mid hi s (below x)
     → Good most lo hi s (use_as false form cells at ++ below_of (reading form cells at) below)
 use_then {most} form cells lo mid hi s at x below e l m h o g =
-    subst (λ (r : Result _ HiveKind). Good most lo hi s (uses at false ∷ tests at (found r) ∷ below_of r below)) (sym e)
+    subst (λ (r : Result _ HiveFaultKind). Good most lo hi s (uses at false ∷ tests at (found r) ∷ below_of r below))
+    (sym e)
     (good_use lo mid hi s at (tests at None ∷ below x) l m h o (good_tests mid hi s at None (below x) g))

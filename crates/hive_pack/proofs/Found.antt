@@ -2,7 +2,7 @@
 use Rattle.std.proofs.Common.{◌≡◌, ◌≤◌, ℕ, ◌+◌, ◌-◌, true, false, eqb, List, [], ◌∷◌, ◌++◌, length, map, None, Result, Ok, refl, sym, ap, subst, ◌∙◌, eq-eqb, arith}
 use lib.ListN.{replicate}
 use Rattle.std.proofs.lemmas.Bool.{ne_eqb}
-use Rattle.nt_bytes.specs.declared.fault.HiveKind.{HiveKind}
+use Rattle.nt_bytes.specs.declared.fault.HiveFaultKind.{HiveFaultKind}
 use Rattle.nt_bytes.specs.declared.version.HiveVersion.{HiveVersion}
 use Rattle.hive_model.specs.Tree.{Tree}
 use Rattle.hive_model.specs.Size.{cell}
@@ -71,7 +71,7 @@ has_all version t = has_seen version 32 (packed_cells version t)
     (free_cells (rounded (whole version t) - whole version t))
 
 -- a form that is read, whatever fills the cell behind it, is read in its cell
-pub reads_in : {F : Type 0} (form : List ℕ → Result F HiveKind) (cells : Cells) (at : ℕ) (p : List ℕ) (x : F)
+pub reads_in : {F : Type 0} (form : List ℕ → Result F HiveFaultKind) (cells : Cells) (at : ℕ) (p : List ℕ) (x : F)
     → cells.payload at ≡ Ok (filled p) → ((slack : List ℕ) → form (p ++ slack) ≡ Ok x) → reading form cells at ≡ Ok x
 unfolding filled
 reads_in form cells at p x h r = ap (λ c. c >>= form) h ∙ r (replicate (cell (length p) - 4 - length p) 0)

@@ -4,7 +4,7 @@ use Rattle.std.specs.Prelude.{nat_eq, if◌then◌else◌}
 use lib.Pointwise.{pointwise}
 use Rattle.std.proofs.lemmas.Bool.{ne_eqb}
 use Rattle.std.proofs.lemmas.Slice.Eq.{bytes_eq-Decides}
-use Rattle.nt_bytes.specs.declared.fault.HiveKind.{HiveKind}
+use Rattle.nt_bytes.specs.declared.fault.HiveFaultKind.{HiveFaultKind}
 use Rattle.nt_bytes.specs.declared.version.HiveVersion.{HiveVersion}
 use Rattle.hive_model.specs.Tree.{Head, Tree, Trees, key, none, more, listed, trees}
 use Rattle.hive_model.specs.Valid.{IsKey, HoldsKeys, AllHoldKeys}
@@ -54,7 +54,7 @@ ahead_fits o (x ∷ xs) at h f = if_fits (eqb x at) o (ahead x xs at) h (ahead_f
 -- ---- descriptors
 
 -- the descriptor at an offset, which may be nowhere
-abbrev pub descriptor_at : Cells → ℕ → Result (List ℕ) HiveKind
+abbrev pub descriptor_at : Cells → ℕ → Result (List ℕ) HiveFaultKind
 descriptor_at cells at = if eqb at nowhere then Ok [] else reading security_at cells at >>= λ s. Ok s.descriptor
 
 -- what holds of a key above

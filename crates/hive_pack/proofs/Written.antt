@@ -4,7 +4,8 @@ use Rattle.std.proofs.lemmas.Grind.{flat_map-append}
 use Rattle.std.proofs.lemmas.List.{take_at, drop_at, length-append, length-replicate}
 use lib.ListN.{replicate}
 use Rattle.nt_bytes.specs.declared.version.HiveVersion.{HiveVersion}
-use Rattle.hive_model.specs.Tree.{Item, Head, Tree, Trees, key, more, listed, trees, head, children, weight, weights, weights-trees}
+use Rattle.hive_model.specs.Tree.{Item, Head, Tree, Trees, key, more, listed, trees, head, children}
+use Rattle.hive_model.specs.Codes.{weight, weights, weights-trees}
 use Rattle.hive_model.specs.Valid.{IsKey, HoldsKeys, AllHoldKeys}
 use Rattle.hive_model.specs.Size.{cell, item_size, items_sum, items_size, head_size, list_size, count, size, size_of_all}
 use Rattle.hive_model.specs.KeyNode.{key_node_text}

@@ -6,11 +6,11 @@ use Rattle.std.specs.Cmp.{nat_cmp_total, unsigned_ties}
 use Rattle.std.proofs.lemmas.List.Folds.{list_any-append}
 use Rattle.std.proofs.lemmas.Bool.{eqb-true}
 use Rattle.std.specs.FinMap as map
-use Rattle.nt_bytes.specs.declared.fault.HiveKind.{HiveKind}
-use Rattle.nt_bytes.specs.declared.fault.HiveKind.TheVariants.{Shared}
+use Rattle.nt_bytes.specs.declared.fault.HiveFaultKind.{HiveFaultKind}
+use Rattle.nt_bytes.specs.declared.fault.HiveFaultKind.TheVariants.{Shared}
 use Rattle.nt_bytes.specs.declared.fault.HiveFault.{HiveFault}
 use Rattle.hive_model.specs.Forms.{◌>>=◌}
-use Rattle.hive_model.specs.Bins.{Cells, placed, or_else}
+use Rattle.hive_model.specs.Bins.{Cells, with_place, or_else}
 use Rattle.hive_model.specs.Walk.{Check, uses, tests, found, failing, clash, at_place, first_among}
 use Rattle.hive_read.specs.Walked.{Seen, clashes, marked, walk}
 use Rattle.std.proofs.Math.Bool.{or-false, or-true}
@@ -29,7 +29,7 @@ pub remembers-none : Remembers map.empty []
 remembers-none at s = ap (λ o. clashes o s) (map.get-empty nat_cmp at)
 
 -- a test uses no cell, so the used cells stay
-remembers-tests : (seen : Seen) (before : List Check) (at : ℕ) (k : Option HiveKind) → Remembers seen before
+remembers-tests : (seen : Seen) (before : List Check) (at : ℕ) (k : Option HiveFaultKind) → Remembers seen before
     → Remembers seen (before ++ tests at k ∷ [])
 remembers-tests seen before at k h q s =
     h q s ∙ sym (any-push q s before (tests at k) ∙ or-false (list_any (clash q s) before))
@@ -76,11 +76,11 @@ walk-first cells seen before (uses at s ∷ cs) h =
     (λ fresh. walk-first cells (map.insert seen at s) (before ++ uses at s ∷ []) cs
     (remembers-uses seen before at s fresh h))
   where
-    turn : (p : Result (List ℕ) HiveKind) (b : Bool) → clashes (map.get seen at) s ≡ b
+    turn : (p : Result (List ℕ) HiveFaultKind) (b : Bool) → clashes (map.get seen at) s ≡ b
         → list_any (clash at s) before ≡ clashes (map.get seen at) s
         → (clashes (map.get seen at) s ≡ false
         → Agrees (walk cells (map.insert seen at s) cs) (first_among cells (before ++ uses at s ∷ []) cs))
-        → Agrees ((placed at p >>= marked seen at s) >>= λ after. walk cells after cs)
+        → Agrees ((with_place at p >>= marked seen at s) >>= λ after. walk cells after cs)
         (or_else (or_else (at_place at (found p)) (at_place at (failing (list_any (clash at s) before) Shared)))
         (first_among cells (before ++ uses at s ∷ []) cs))
     turn (Err k) b e l next = refl

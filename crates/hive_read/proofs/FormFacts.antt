@@ -5,8 +5,8 @@ use Rattle.std.specs.List.{list_any}
 use Rattle.std.specs.Int.{w16, w32, from_le_bytes, to_le_bytes}
 use Rattle.std.proofs.lemmas.Bool.Decides.{nat_tests}
 use Rattle.std.proofs.lemmas.Bool.{eqb-true, eqb-false, or_parts}
-use Rattle.nt_bytes.specs.declared.fault.HiveKind.{HiveKind}
-use Rattle.nt_bytes.specs.declared.fault.HiveKind.TheVariants.{FormShort, FormSign, FormLength, FormName}
+use Rattle.nt_bytes.specs.declared.fault.HiveFaultKind.{HiveFaultKind}
+use Rattle.nt_bytes.specs.declared.fault.HiveFaultKind.TheVariants.{FormShort, FormSign, FormLength, FormName}
 use Rattle.nt_bytes.specs.Fields.{u16_in, u32_in}
 use Rattle.hive_model.specs.Forms.{◌>>=◌, bytes_in}
 use Rattle.hive_model.specs.StoredNames.{stored_name, has_half_unit, is_bad_key_name, is_bad_value_name, key_name_at, value_name_at}
@@ -14,7 +14,7 @@ use Rattle.hive_model.specs.KeyNode.{KeyNode, is_narrow_key, key_node_in, key_no
 use Rattle.hive_model.specs.KeyValue.{KeyValue, is_in_place, is_overfull, is_narrow_value, key_value_in, key_value_at, data_inside}
 use Rattle.hive_model.specs.Security.{SecurityCell, security_in, security_at}
 use Rattle.hive_model.specs.Lists.{numbers_in, offsets_in}
-use Rattle.hive_model.specs.Valid.{is_backslash}
+use Rattle.nt_bytes.specs.Text.{is_backslash}
 use Rattle.hive_model.specs.Stands.{tree_flags}
 
 -- ---- bytes
@@ -62,22 +62,23 @@ take-short (suc n) (x ∷ xs) = omega (arith, take-short n xs)
 
 -- ---- tests that were passed
 
-abbrev pub done : {A : Type 0} → A → Result A HiveKind
+abbrev pub done : {A : Type 0} → A → Result A HiveFaultKind
 done x = Ok x
 
 -- a test that was passed did not hold, and what followed it was done
-pub unless : {A : Type 0} (b : Bool) (k : HiveKind) (r : Result A HiveKind) (x : A) → cond b (Err k) r ≡ done x
+pub unless : {A : Type 0} (b : Bool) (k : HiveFaultKind) (r : Result A HiveFaultKind) (x : A)
+    → cond b (Err k) r ≡ done x
     → (b ≡ false) × (r ≡ done x)
 unless true k r x e = absurd cc
 unless false k r x e = (refl, e)
 
-only-if : {A : Type 0} (b : Bool) (k : HiveKind) (r : Result A HiveKind) (x : A) → cond b r (Err k) ≡ done x
+only-if : {A : Type 0} (b : Bool) (k : HiveFaultKind) (r : Result A HiveFaultKind) (x : A) → cond b r (Err k) ≡ done x
     → r ≡ done x
 only-if true k r x e = e
 only-if false k r x e = absurd cc
 
 -- what was done in two steps was done in each
-pub then-so : {A B : Type 0} (r : Result A HiveKind) (f : A → Result B HiveKind) (y : B) → (r >>= f) ≡ done y
+pub then-so : {A B : Type 0} (r : Result A HiveFaultKind) (f : A → Result B HiveFaultKind) (y : B) → (r >>= f) ≡ done y
     → (x : A) × (r ≡ done x) × (f x ≡ done y)
 then-so (Ok x) f y e = (x, refl, e)
 then-so (Err k) f y e = absurd cc

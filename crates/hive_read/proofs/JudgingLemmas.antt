@@ -10,7 +10,8 @@ use Rattle.nt_bytes.specs.declared.fault.ReadStop.{ReadStop}
 use Rattle.nt_bytes.specs.declared.fault.ReadStop.TheVariants as stops
 use Rattle.hive_model.specs.KeyNode.{KeyNode, key_node_at}
 use Rattle.hive_model.specs.Bins.{Cells}
-use Rattle.hive_model.specs.Size.{capped, cell, name_bytes, class_size, security_size, items_size, head_size, list_size, size, size_of_all}
+use Rattle.hive_model.specs.Size.{cell, name_bytes, class_size, security_size, items_size, head_size, list_size, size, size_of_all}
+use Rattle.nt_bytes.specs.Counts.{capped}
 use Rattle.hive_model.specs.Tree.{Item, Head, Tree, trees, key, head}
 use Rattle.hive_model.specs.Walk.{reading, node_at, names_of, key_checks, keys_in_turn, children_checks, Check}
 use Rattle.hive_model.specs.Stands.{tree_flags, class_of, security_of, values_of, ListsChildren, Stands, AllStand}

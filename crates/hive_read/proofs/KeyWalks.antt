@@ -2,8 +2,8 @@
 use Rattle.std.proofs.Common.{◌≡◌, ℕ, zero, suc, ◌-◌, ◌<◌, Bool, true, false, not, ◌&&◌, cond, List, [], ◌∷◌, ◌++◌, map, length, Result, Ok, Err, refl, sym, ap, subst, ◌∙◌, append_assoc, eq-eqb, arith}
 use Rattle.std.specs.Prelude.{◌==◌, if◌then◌else◌}
 use Rattle.std.proofs.lemmas.List.{map_push}
-use Rattle.nt_bytes.specs.declared.fault.HiveKind.{HiveKind}
-use Rattle.nt_bytes.specs.declared.fault.HiveKind.TheVariants.{FormName, TooDeep, Count}
+use Rattle.nt_bytes.specs.declared.fault.HiveFaultKind.{HiveFaultKind}
+use Rattle.nt_bytes.specs.declared.fault.HiveFaultKind.TheVariants.{FormName, TooDeep, Count}
 use Rattle.nt_bytes.specs.declared.fault.HiveFault.{HiveFault}
 use Rattle.hive_model.specs.Forms.{◌>>=◌}
 use Rattle.hive_model.specs.KeyNode.{KeyNode, key_node_at}
@@ -52,7 +52,7 @@ key-named (suc left) cells root seen after names at node h e r =
     (named left cells names at) node e r
     ∙ ap (λ n. walk cells after (named n cells names at node)) (sym one)
 
-abbrev done : KeyNode → Result KeyNode HiveKind
+abbrev done : KeyNode → Result KeyNode HiveFaultKind
 done n = Ok n
 
 -- a node that may stand where it does is a node
@@ -65,12 +65,12 @@ node-plain root cells at node e = payload (cells.payload at) e
     named-so true n e = absurd cc
     named-so false n e = e
 
-    formed : (r : Result KeyNode HiveKind)
+    formed : (r : Result KeyNode HiveFaultKind)
         → (r >>= λ n. if (length n.name == 0) && not root then Err FormName else Ok n) ≡ Ok node → r ≡ Ok node
     formed (Ok n) e = named-so ((length n.name == 0) && not root) n e
     formed (Err k) e = absurd cc
 
-    payload : (p : Result (List ℕ) HiveKind)
+    payload : (p : Result (List ℕ) HiveFaultKind)
         → (p >>= λ bytes. key_node_at bytes >>= λ n. if (length n.name == 0) && not root then Err FormName else Ok n)
         ≡ Ok node → (p >>= key_node_at) ≡ Ok node
     payload (Ok bytes) e = formed (key_node_at bytes) e

@@ -5,8 +5,8 @@ use Rattle.std.specs.List.{All, AllPairs, list_any}
 use Rattle.std.proofs.lemmas.List.Elements.{All-cons, All-nil}
 use Rattle.std.proofs.lemmas.Bool.{eqb-true}
 use Rattle.nt_bytes.specs.Folding.{folds_same}
-use Rattle.nt_bytes.specs.declared.fault.HiveKind.{HiveKind}
-use Rattle.nt_bytes.specs.declared.fault.HiveKind.TheVariants.{FormName, DoubleName, Count}
+use Rattle.nt_bytes.specs.declared.fault.HiveFaultKind.{HiveFaultKind}
+use Rattle.nt_bytes.specs.declared.fault.HiveFaultKind.TheVariants.{FormName, DoubleName, Count}
 use Rattle.hive_model.specs.Forms.{◌>>=◌, bytes_in}
 use Rattle.hive_model.specs.KeyNode.{KeyNode, key_node_at}
 use Rattle.hive_model.specs.KeyValue.{KeyValue, key_value_at, data_inside}
@@ -289,7 +289,7 @@ children-made left cells node at h p =
         (not-failing (not (length e.0 == node.child_count)) Count below.0) in
         (e.0, (e.1, eqb-true (length e.0) node.child_count count), keys-made left cells h [] e.0 below.1)
 
-abbrev done : KeyNode → Result KeyNode HiveKind
+abbrev done : KeyNode → Result KeyNode HiveFaultKind
 done n = Ok n
 
 above : (n : ℕ) → eqb n 0 ≡ false → 0 < n
@@ -311,12 +311,12 @@ node-named root cells at node e r = payload (cells.payload at) e
     filled n false z e = let same : n ≡ node = cc in
         subst (λ (m : KeyNode). 0 < length m.name) same (above (length n.name) z)
 
-    formed : (r : Result KeyNode HiveKind)
+    formed : (r : Result KeyNode HiveFaultKind)
         → (r >>= λ n. if (length n.name == 0) && not root then Err FormName else Ok n) ≡ Ok node → 0 < length node.name
     formed (Ok n) e = filled n (length n.name == 0) refl e
     formed (Err k) e = absurd cc
 
-    payload : (p : Result (List ℕ) HiveKind)
+    payload : (p : Result (List ℕ) HiveFaultKind)
         → (p >>= λ bytes. key_node_at bytes >>= λ n. if (length n.name == 0) && not root then Err FormName else Ok n)
         ≡ Ok node → 0 < length node.name
     payload (Ok bytes) e = formed (key_node_at bytes) e

@@ -1,8 +1,8 @@
 -- Checks that find nothing, whatever was used before.
 use Rattle.std.proofs.Common.{◌≡◌, ℕ, Bool, true, false, cond, List, [], ◌∷◌, ◌++◌, Option, Some, None, Result, Ok, Err, refl, sym, ap, subst}
 use Rattle.std.specs.List.{list_any}
-use Rattle.nt_bytes.specs.declared.fault.HiveKind.{HiveKind}
-use Rattle.nt_bytes.specs.declared.fault.HiveKind.TheVariants.{Shared}
+use Rattle.nt_bytes.specs.declared.fault.HiveFaultKind.{HiveFaultKind}
+use Rattle.nt_bytes.specs.declared.fault.HiveFaultKind.TheVariants.{Shared}
 use Rattle.nt_bytes.specs.declared.fault.HiveFault.{HiveFault}
 use Rattle.hive_model.specs.Forms.{◌>>=◌}
 use Rattle.hive_model.specs.Bins.{Cells, or_else}
@@ -39,7 +39,7 @@ passing cells before (uses at s ∷ cs) e =
     let h = passing cells (before ++ uses at s ∷ []) cs c.2 in
     ((c.0, h.0), (c.1, h.1))
   where
-    parts : (p : Result (List ℕ) HiveKind) (b : Bool) (rest : Option HiveFault)
+    parts : (p : Result (List ℕ) HiveFaultKind) (b : Bool) (rest : Option HiveFault)
         → or_else (or_else (at_place at (found p)) (at_place at (failing b Shared))) rest ≡ None
         → ((payload : List ℕ) × (p ≡ Ok payload)) × (b ≡ false) × (rest ≡ None)
     parts (Err k) b rest e = absurd cc
@@ -56,46 +56,48 @@ none-fails cells before (tests at (Some k) ∷ cs) p o = absurd cc
 
 -- ---- forms
 
-payload-read : {F : Type 0} (form : List ℕ → Result F HiveKind) (r : Result (List ℕ) HiveKind) (x : F)
+payload-read : {F : Type 0} (form : List ℕ → Result F HiveFaultKind) (r : Result (List ℕ) HiveFaultKind) (x : F)
     → (r >>= form) ≡ Ok x → (payload : List ℕ) × (r ≡ Ok payload)
 payload-read form (Ok p) x e = (p, refl)
 payload-read form (Err k) x e = absurd cc
 
 -- a form that stands passes, and where it passes one stands
-pub use-passes : {F : Type 0} (security : Bool) (form : List ℕ → Result F HiveKind) (cells : Cells) (at : ℕ) (x : F)
+pub use-passes : {F : Type 0} (security : Bool) (form : List ℕ
+    → Result F HiveFaultKind) (cells : Cells) (at : ℕ) (x : F)
     → reading form cells at ≡ Ok x → AllPass cells (use_as security form cells at)
 use-passes security form cells at x r = (payload-read form (cells.payload at) x r, (ap found r, tt))
 
-read-of : {F : Type 0} (r : Result F HiveKind) → found r ≡ None → (x : F) × (r ≡ Ok x)
+read-of : {F : Type 0} (r : Result F HiveFaultKind) → found r ≡ None → (x : F) × (r ≡ Ok x)
 read-of (Ok x) e = (x, refl)
 read-of (Err k) e = absurd cc
 
-pub use-made : {F : Type 0} (security : Bool) (form : List ℕ → Result F HiveKind) (cells : Cells) (at : ℕ)
+pub use-made : {F : Type 0} (security : Bool) (form : List ℕ → Result F HiveFaultKind) (cells : Cells) (at : ℕ)
     → AllPass cells (use_as security form cells at) → (x : F) × (reading form cells at ≡ Ok x)
 use-made security form cells at p = read-of (reading form cells at) p.1.0
 
 -- what is below passes where what was read is known
-pub below-made : {F : Type 0} (cells : Cells) (read : Result F HiveKind) (below : F → List Check) (x : F) → read ≡ Ok x
+pub below-made : {F : Type 0} (cells : Cells) (read : Result F HiveFaultKind) (below : F → List Check) (x : F)
+    → read ≡ Ok x
     → AllPass cells (below_of read below) → AllPass cells (below x)
 below-made cells read below x r p = subst (λ q. AllPass cells (below_of q below)) r p
 
-pub below-passes : {F : Type 0} (cells : Cells) (read : Result F HiveKind) (below : F → List Check) (x : F)
+pub below-passes : {F : Type 0} (cells : Cells) (read : Result F HiveFaultKind) (below : F → List Check) (x : F)
     → read ≡ Ok x → AllPass cells (below x) → AllPass cells (below_of read below)
 below-passes cells read below x r p = subst (λ q. AllPass cells (below_of q below)) (sym r) p
 
-pub not-failing : (b : Bool) (k : HiveKind) → failing b k ≡ None → b ≡ false
+pub not-failing : (b : Bool) (k : HiveFaultKind) → failing b k ≡ None → b ≡ false
 not-failing true k e = absurd cc
 not-failing false k e = refl
 
 -- a form that is looked for only where a test says no
-pub choice-made : {F : Type 0} (b security : Bool) (form : List ℕ → Result F HiveKind) (cells : Cells) (at : ℕ)
+pub choice-made : {F : Type 0} (b security : Bool) (form : List ℕ → Result F HiveFaultKind) (cells : Cells) (at : ℕ)
     (other : F) → AllPass cells (cond b [] (use_as security form cells at))
     → (x : F) × (cond b (Ok other) (reading form cells at) ≡ Ok x)
 choice-made true security form cells at other p = (other, refl)
 choice-made false security form cells at other p = use-made security form cells at p
 
 -- it passes where one or the other stands
-pub choice-passes : {F : Type 0} (b security : Bool) (form : List ℕ → Result F HiveKind) (cells : Cells) (at : ℕ)
+pub choice-passes : {F : Type 0} (b security : Bool) (form : List ℕ → Result F HiveFaultKind) (cells : Cells) (at : ℕ)
     (other x : F) → cond b (Ok other) (reading form cells at) ≡ Ok x
     → AllPass cells (cond b [] (use_as security form cells at))
 choice-passes true security form cells at other x r = tt

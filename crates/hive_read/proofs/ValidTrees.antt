@@ -4,9 +4,9 @@ use Rattle.std.specs.Prelude.{MatchBool, ◌==◌}
 use Rattle.std.specs.List.{All, list_any, flat_map}
 use Rattle.std.proofs.lemmas.List.Elements.{All-cons, All-nil}
 use Rattle.std.specs.Int.{w32, to_le_bytes}
-use Rattle.nt_bytes.specs.declared.fault.HiveKind.{HiveKind}
+use Rattle.nt_bytes.specs.declared.fault.HiveFaultKind.{HiveFaultKind}
 use Rattle.nt_bytes.specs.declared.version.HiveVersion.{HiveVersion}
-use Rattle.nt_bytes.specs.declared.fault.HiveKind.TheVariants.{FreeCell}
+use Rattle.nt_bytes.specs.declared.fault.HiveFaultKind.TheVariants.{FreeCell}
 use Rattle.hive_model.specs.Forms.{◌>>=◌, bytes_in}
 use Rattle.hive_model.specs.KeyNode.{KeyNode, key_node_at}
 use Rattle.hive_model.specs.KeyValue.{KeyValue, key_value_at, data_inside}
@@ -15,7 +15,8 @@ use Rattle.hive_model.specs.Lists.{offsets_in}
 use Rattle.hive_model.specs.Bins.{Cell, Bin, Cells, head_number, cell_size, bin_size, cell_bytes, head_bytes, bin_bytes, spelled, in_cells, in_bins, or_else, cell_at, payload_of, look_up}
 use Rattle.hive_model.specs.Tree.{Tree, Trees, key, none, more, listed, Item}
 use Rattle.hive_model.specs.Walk.{reading, nowhere, big_data_of, entries_at}
-use Rattle.hive_model.specs.Valid.{IsItem, HoldsKeys, AllHoldKeys, IsValid, is_backslash}
+use Rattle.hive_model.specs.Valid.{IsItem, HoldsKeys, AllHoldKeys, IsValid}
+use Rattle.nt_bytes.specs.Text.{is_backslash}
 use Rattle.hive_model.specs.Stands.{class_of, security_of, data_or, joined_segments, big_bytes_at, data_of, item_at, items_at, values_of, ListsChildren, Stands, AllStand, HasApartNames, HaveApartNames, IsWellFormed}
 use Rattle.hive_model.specs.Size.{segment_bytes, is_big, segment_part}
 use Rattle.hive_read.specs.Celled.{celled_bytes}
@@ -26,14 +27,14 @@ use Rattle.hive_read.proofs.ValueWalks.{item_of}
 abbrev pub AreBytes : Cells → Type 0
 AreBytes cells = (at : ℕ) (p : List ℕ) → cells.payload at ≡ Ok p → IsBytes p
 
-abbrev done : {A : Type 0} → A → Result A HiveKind
+abbrev done : {A : Type 0} → A → Result A HiveFaultKind
 done x = Ok x
 
 ok_same : {A : Type 0} (x y : A) → done x ≡ done y → x ≡ y
 ok_same x y e = cc
 
 -- a form that stands, in the payload in which it does
-payload : {F : Type 0} (form : List ℕ → Result F HiveKind) (cells : Cells) (at : ℕ) (x : F) → AreBytes cells
+payload : {F : Type 0} (form : List ℕ → Result F HiveFaultKind) (cells : Cells) (at : ℕ) (x : F) → AreBytes cells
     → reading form cells at ≡ done x → (p : List ℕ) × IsBytes p × (form p ≡ done x)
 payload form cells at x h r = let p = then-so (cells.payload at) form x r in (p.0, h at p.0 p.1, p.2)
 

@@ -2,7 +2,7 @@
 use Rattle.std.proofs.Common.{◌≡◌, ℕ, false, List, [], ◌∷◌, ◌++◌, map, Result, Ok, Err, refl, sym, ap, ◌∙◌, append_assoc}
 use Rattle.std.specs.Prelude.{◌==◌}
 use Rattle.std.proofs.lemmas.List.{map_push}
-use Rattle.nt_bytes.specs.declared.fault.HiveKind.{HiveKind}
+use Rattle.nt_bytes.specs.declared.fault.HiveFaultKind.{HiveFaultKind}
 use Rattle.nt_bytes.specs.declared.fault.HiveFault.{HiveFault}
 use Rattle.hive_model.specs.Forms.{◌>>=◌}
 use Rattle.hive_model.specs.KeyNode.{KeyNode}
@@ -42,7 +42,7 @@ pub item-stands : (cells : Cells) (at : ℕ) (v : KeyValue) (bytes : List ℕ) �
 unfolding item_at
 item-stands cells at v bytes r d = rw (r, d) refl
 
-abbrev done : Item → Result Item HiveKind
+abbrev done : Item → Result Item HiveFaultKind
 done x = Ok x
 
 pub ok_one : (x y : Item) → done x ≡ done y → x ≡ y
@@ -54,12 +54,12 @@ pub item-named : (cells : Cells) (at : ℕ) (item : Item) → item_at cells at �
 unfolding item_at
 item-named cells at item e = go (reading key_value_at cells at) e
   where
-    named : (v : KeyValue) (d : Result (List ℕ) HiveKind) → (d >>= λ bytes. Ok (item_of v bytes)) ≡ Ok item
+    named : (v : KeyValue) (d : Result (List ℕ) HiveFaultKind) → (d >>= λ bytes. Ok (item_of v bytes)) ≡ Ok item
         → v.name ≡ item.name
     named v (Ok bytes) e = ap (λ i. i.name) (ok_one (item_of v bytes) item e)
     named v (Err k) e = absurd cc
 
-    go : (r : Result KeyValue HiveKind) → (r >>= λ v. data_of cells v >>= λ bytes. Ok (item_of v bytes)) ≡ Ok item
+    go : (r : Result KeyValue HiveFaultKind) → (r >>= λ v. data_of cells v >>= λ bytes. Ok (item_of v bytes)) ≡ Ok item
         → names_of (λ (v : KeyValue). v.name) r ≡ item.name ∷ []
     go (Ok v) e = ap (λ n. n ∷ []) (named v (data_of cells v) e)
     go (Err k) e = absurd cc

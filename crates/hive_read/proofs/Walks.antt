@@ -4,7 +4,7 @@ use Rattle.std.proofs.Common.{eqb, ◌-◌, ◌<◌, ◌≤◌, length, get_or, 
 use Rattle.std.specs.Prelude.{IfOk}
 use Rattle.std.proofs.Math.Seq.{take-length}
 use Rattle.std.proofs.lemmas.Bool.{eqb-true}
-use Rattle.nt_bytes.specs.declared.fault.HiveKind.{HiveKind}
+use Rattle.nt_bytes.specs.declared.fault.HiveFaultKind.{HiveFaultKind}
 use Rattle.nt_bytes.specs.declared.fault.HiveFault.{HiveFault}
 use Rattle.nt_bytes.specs.declared.fault.ReadStop.{ReadStop}
 use Rattle.nt_bytes.specs.declared.fault.ReadStop.TheVariants as stops
@@ -43,7 +43,7 @@ pub walk-off : (cells : Cells) (seen : Seen) (a b : List Check) (f : HiveFault) 
 walk-off cells seen a b f e = walk-append cells seen a b ∙ ap (λ r. r >>= λ next. walk cells next b) e
 
 -- it goes on below what was read
-pub walk-below : {F : Type 0} (cells : Cells) (seen after : Seen) (a : List Check) (read : Result F HiveKind)
+pub walk-below : {F : Type 0} (cells : Cells) (seen after : Seen) (a : List Check) (read : Result F HiveFaultKind)
     (below : F → List Check) (x : F)
     → walk cells seen a ≡ Ok after → read ≡ Ok x
     → walk cells seen (a ++ below_of read below) ≡ walk cells after (below x)
@@ -66,14 +66,15 @@ steps-same P Q a b new (Err (stops.Fault f)) e h s = e ∙ s
 -- ---- a form
 
 -- a cell that cannot be used
-pub use-off : {F : Type 0} (security : Bool) (form : List ℕ → Result F HiveKind) (cells : Cells) (seen : Seen) (at : ℕ)
+pub use-off : {F : Type 0} (security : Bool) (form : List ℕ
+    → Result F HiveFaultKind) (cells : Cells) (seen : Seen) (at : ℕ)
     (f : HiveFault)
     → check cells seen (uses at security) ≡ Err f → walk cells seen (use_as security form cells at) ≡ Err f
 use-off security form cells seen at f e =
     ap (λ r. r >>= λ after. walk cells after (tests at (found (reading form cells at)) ∷ [])) e
 
 -- a cell whose payload has a form, or its first fault
-pub use-form : {X F : Type 0} (view : X → F) (security : Bool) (form : List ℕ → Result F HiveKind) (cells : Cells)
+pub use-form : {X F : Type 0} (view : X → F) (security : Bool) (form : List ℕ → Result F HiveFaultKind) (cells : Cells)
     (seen after : Seen) (at : ℕ) (payload : List ℕ) (r : Result X ReadStop)
     → check cells seen (uses at security) ≡ Ok after → cells.payload at ≡ Ok payload → Gives view at r (form payload)
     → Steps (λ x. reading form cells at ≡ Ok (view x)) (walk cells seen (use_as security form cells at)) after r
@@ -87,11 +88,11 @@ use-form view security form cells seen after at payload (Err (stops.Fault f)) u 
     rw (u, r) same
 
 -- a test that fails, and one that passes
-pub test-off : (cells : Cells) (seen : Seen) (at : ℕ) (kind : HiveKind) (k : Option HiveKind) (cs : List Check)
-    → k ≡ Some kind → walk cells seen (tests at k ∷ cs) ≡ fault kind at
+pub test-off : (cells : Cells) (seen : Seen) (at : ℕ) (kind : HiveFaultKind) (k : Option HiveFaultKind)
+    → (cs : List Check) → k ≡ Some kind → walk cells seen (tests at k ∷ cs) ≡ fault kind at
 test-off cells seen at kind k cs e = rw e refl
 
-pub test-on : (cells : Cells) (seen : Seen) (at : ℕ) (k : Option HiveKind) (cs : List Check) → k ≡ None
+pub test-on : (cells : Cells) (seen : Seen) (at : ℕ) (k : Option HiveFaultKind) (cs : List Check) → k ≡ None
     → walk cells seen (tests at k ∷ cs) ≡ walk cells seen cs
 test-on cells seen at k cs e = rw e refl
 

@@ -4,8 +4,8 @@ use Rattle.std.specs.Prelude.{MatchBool, ◌==◌, is_some, if◌then◌else◌}
 use Rattle.std.specs.List.{All, list_any}
 use Rattle.std.proofs.lemmas.Bool.{eqb-true}
 use Rattle.nt_bytes.specs.Folding.{folds_same}
-use Rattle.nt_bytes.specs.declared.fault.HiveKind.{HiveKind}
-use Rattle.nt_bytes.specs.declared.fault.HiveKind.TheVariants.{FormName, Count}
+use Rattle.nt_bytes.specs.declared.fault.HiveFaultKind.{HiveFaultKind}
+use Rattle.nt_bytes.specs.declared.fault.HiveFaultKind.TheVariants.{FormName, Count}
 use Rattle.hive_model.specs.Forms.{◌>>=◌, bytes_in}
 use Rattle.hive_model.specs.KeyNode.{KeyNode, key_node_at}
 use Rattle.hive_model.specs.KeyValue.{KeyValue, key_value_at, data_inside}
@@ -26,14 +26,14 @@ use Rattle.hive_read.proofs.KeyWalks.{key_name}
 use Rattle.hive_read.proofs.Making.{item_name}
 use Rattle.hive_read.proofs.Passing.{AllPass, pass-append, use-passes, below-passes, choice-passes, none-fails}
 
-abbrev done : {A : Type 0} → A → Result A HiveKind
+abbrev done : {A : Type 0} → A → Result A HiveFaultKind
 done x = Ok x
 
 ok_items : (x y : List Item) → done x ≡ done y → x ≡ y
 ok_items x y e = cc
 
 -- the parts of a reading that came about
-pub first-part : {A B : Type 0} (r : Result A HiveKind) (f : A → Result B HiveKind) (y : B) → (r >>= f) ≡ Ok y
+pub first-part : {A B : Type 0} (r : Result A HiveFaultKind) (f : A → Result B HiveFaultKind) (y : B) → (r >>= f) ≡ Ok y
     → (x : A) × (r ≡ Ok x) × (f x ≡ Ok y)
 first-part (Ok x) f y e = (x, refl, e)
 first-part (Err k) f y e = absurd cc

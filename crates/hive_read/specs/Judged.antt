@@ -1,6 +1,6 @@
 -- What does judging cells answer, that builds no tree of what stands in them?
 use Rattle.std.specs.Prelude.{◌≡◌, ◌||◌, ◌*◌, ℕ, zero, suc, List, length, None, Some, Result, Ok, Err}
-use Rattle.nt_bytes.specs.declared.fault.HiveKind.{HiveKind}
+use Rattle.nt_bytes.specs.declared.fault.HiveFaultKind.{HiveFaultKind}
 use Rattle.nt_bytes.specs.declared.fault.ReadStop.{ReadStop}
 use Rattle.nt_bytes.specs.declared.fault.ReadStop.TheVariants as stops
 use Rattle.nt_bytes.specs.Folding.{folds_same}
@@ -9,7 +9,8 @@ use Rattle.hive_model.specs.Security.{SecurityCell}
 use Rattle.cell_forms.specs.declared.key_node.NkSeen.{NkSeen}
 use Rattle.cell_forms.specs.Views.{key_node_of}
 use Rattle.hive_model.specs.Bins.{Cells}
-use Rattle.hive_model.specs.Size.{capped, cell, bulk_of}
+use Rattle.hive_model.specs.Size.{cell, bulk_of}
+use Rattle.nt_bytes.specs.Counts.{capped}
 use Rattle.hive_model.specs.Tree.{Tree}
 use Rattle.hive_model.specs.Valid.{IsValid}
 use Rattle.hive_model.specs.Walk.{first_fault}
@@ -40,7 +41,7 @@ pub record Counts {X : Type 0} (Means : X → Type 0) (bytes : X → ℕ) (n : �
   pub counted : n ≡ capped (bytes it)
 
 -- so many bytes were read
-abbrev pub HasLength : Result (List ℕ) HiveKind → ℕ → Type 0
+abbrev pub HasLength : Result (List ℕ) HiveFaultKind → ℕ → Type 0
 HasLength read n = (bytes : List ℕ) × (read ≡ Ok bytes) × (length bytes ≡ n)
 
 -- the names known now are those before and this one

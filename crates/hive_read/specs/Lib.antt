@@ -2,6 +2,5 @@ pub mod Taken
 pub mod Marks
 pub mod Walked
 pub mod Payloads
-pub mod Sources
 pub mod Celled
 pub mod Judged

@@ -2,14 +2,14 @@
 use Rattle.std.specs.Prelude.{◌≡◌, ℕ, Bool, false, ◌&&◌, not, if◌then◌else◌, List, [], ◌∷◌, Option, Some, None, Result, Ok, Err}
 use Rattle.std.specs.Ordering.{nat_cmp}
 use Rattle.std.specs.FinMap as map
-use Rattle.nt_bytes.specs.declared.fault.HiveKind.{HiveKind}
-use Rattle.nt_bytes.specs.declared.fault.HiveKind.TheVariants.{Shared}
+use Rattle.nt_bytes.specs.declared.fault.HiveFaultKind.{HiveFaultKind}
+use Rattle.nt_bytes.specs.declared.fault.HiveFaultKind.TheVariants.{Shared}
 use Rattle.nt_bytes.specs.declared.fault.HiveFault.{HiveFault}
 use Rattle.nt_bytes.specs.declared.fault.ReadStop.{ReadStop}
 use Rattle.nt_bytes.specs.declared.fault.ReadStop.TheVariants as stops
 use Rattle.hive_model.specs.Forms.{◌>>=◌}
 use Rattle.hive_model.specs.KeyNode.{KeyNode}
-use Rattle.hive_model.specs.Bins.{Cells, placed}
+use Rattle.hive_model.specs.Bins.{Cells, with_place}
 use Rattle.hive_model.specs.Tree.{Tree, trees, head}
 use Rattle.hive_model.specs.Walk.{Check, uses, tests, reading, use_as, node_at, names_of, first_fault}
 use Rattle.hive_model.specs.Stands.{Stands, AllStand, ListsChildren, IsWellFormed}
@@ -23,7 +23,7 @@ abbrev pub clashes : Option Bool → Bool → Bool
 clashes None security = false
 clashes (Some before) security = not (before && security)
 
-abbrev pub fault : {A : Type 0} → HiveKind → ℕ → Result A HiveFault
+abbrev pub fault : {A : Type 0} → HiveFaultKind → ℕ → Result A HiveFault
 fault kind at = Err (record { kind = kind; at = at })
 
 -- the cells that were used once this one is too
@@ -34,7 +34,7 @@ marked seen at security payload = if clashes (map.get seen at) security then fau
 abbrev pub check : Cells → Seen → Check → Result Seen HiveFault
 check cells seen (tests at None) = Ok seen
 check cells seen (tests at (Some kind)) = fault kind at
-check cells seen (uses at security) = placed at (cells.payload at) >>= marked seen at security
+check cells seen (uses at security) = with_place at (cells.payload at) >>= marked seen at security
 
 -- the same after checks
 abbrev pub walk : Cells → Seen → List Check → Result Seen HiveFault
@@ -52,7 +52,7 @@ Steps Means outcome new (Ok x) = (outcome ≡ Ok new) × Means x
 Steps Means outcome new (Err e) = Stops outcome e
 
 -- it used the cell at an offset, perhaps as security, and answered the form that stands there, seen by view
-abbrev pub Uses : {X F : Type 0} → Bool → (List ℕ → Result F HiveKind) → (X → F) → Cells → ℕ → Seen → Seen → Result X ReadStop → Type 0
+abbrev pub Uses : {X F : Type 0} → Bool → (List ℕ → Result F HiveFaultKind) → (X → F) → Cells → ℕ → Seen → Seen → Result X ReadStop → Type 0
 Uses security form view cells at old new result = Steps (λ x. reading form cells at ≡ Ok (view x)) (walk cells old (use_as security form cells at)) new result
 
 -- what reading the tree at a root answers: the tree that stands there in well-formed cells, or the first fault

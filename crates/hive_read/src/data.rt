@@ -6,13 +6,13 @@ ghost use Rattle.hive_model.specs.Walk.{big_checks, data_checks, segments_checks
 ghost use Rattle.hive_model.specs.Stands.{big_bytes_at, data_of, joined_segments};
 ghost use Rattle.cell_forms.specs.Views.{key_value_of};
 ghost use Rattle.hive_read.specs.Celled.{celled_bytes, celled_checks};
-ghost use Rattle.hive_read.specs.Sources.{cells_of};
+ghost use Rattle.hive_cells.specs.Sources.{cells_of};
 ghost use Rattle.hive_read.specs.Walked.{walk, Steps};
 
-use crate::source::Source;
 use crate::used::Used;
 use crate::uses::{stop, use_big_data, use_bytes, use_front, use_offsets};
 use cell_forms::{VkForm, data_inside};
+use hive_cells::Source;
 use nt_bytes::{Bytes, HiveVersion, ReadStop};
 use std::alloc::Global;
 

@@ -9,20 +9,19 @@ ghost use Rattle.hive_model.specs.Walk.{reading, children_checks, keys_in_turn, 
 ghost use Rattle.hive_model.specs.Stands.{Stands, AllStand};
 ghost use Rattle.cell_forms.specs.Views.{key_node_of};
 ghost use Rattle.hive_read.specs.Judged.{AddsName, Counts, Judges};
-ghost use Rattle.hive_read.specs.Sources.{cells_of};
+ghost use Rattle.hive_cells.specs.Sources.{cells_of};
 ghost use Rattle.hive_read.specs.Taken.{Knows};
 ghost use Rattle.hive_read.specs.Walked.{walk, Steps, KeyRead, ChildrenRead};
 
 use crate::key::are_bytes;
 use crate::list::read_entries;
-use crate::source::Source;
 use crate::taken::Taken;
 use crate::used::Used;
 use crate::uses::{stop, take_name, use_node};
 use crate::weighing::{judge_class, judge_security, judge_values};
 use cell_forms::NkForm;
-use hive_cells::CellHeap;
-use nt_bytes::{HiveKind, HiveVersion, ReadStop};
+use hive_cells::{CellHeap, Source};
+use nt_bytes::{HiveFaultKind, HiveVersion, ReadStop};
 use reg_tree::sizes::{list_size, named_size, security_size};
 use std::alloc::Global;
 
@@ -43,7 +42,7 @@ fn judge_key<'a>(
         (walk (cells_of cells.now) used.old (key_checks left (cells_of cells.now) root names at)) used.new result }
 {
     if left == 0 {
-        return Err(stop(HiveKind::TooDeep, at));
+        return Err(stop(HiveFaultKind::TooDeep, at));
     }
     let node = use_node(alloc, cells, used, root, at)?;
     take_name(alloc, taken, node.name, at)?;
@@ -104,7 +103,7 @@ fn judge_children(
     let offsets = read_entries(alloc, cells, used, node.child_list)?;
     let found = offsets.as_slice();
     if found.len() != node.child_count as usize {
-        return Err(stop(HiveKind::Count, at));
+        return Err(stop(HiveFaultKind::Count, at));
     }
     let children = judge_in_turn(alloc, cells, used, shared, left, found)?;
     let lists = list_size(found.len() as u64);

@@ -4,7 +4,7 @@ ghost use Rattle.std.specs.Prelude.{◌≡◌, ◌-◌, ◌<◌, ◌||◌, ℕ, 
 ghost use Rattle.nt_bytes.specs.Folding.{folds_same};
 ghost use Rattle.hive_model.specs.KeyNode.{key_node_at};
 ghost use Rattle.hive_model.specs.Bins.{look_up};
-ghost use Rattle.hive_read.specs.Sources.{cells_of};
+ghost use Rattle.hive_cells.specs.Sources.{cells_of};
 ghost use Rattle.hive_model.specs.Tree.{head, trees};
 ghost use Rattle.hive_model.specs.Valid.{IsValid};
 ghost use Rattle.hive_model.specs.Walk.{reading, class_checks, security_checks, children_checks, keys_in_turn, below_node, key_checks};
@@ -14,14 +14,13 @@ ghost use Rattle.hive_read.specs.Taken.{has_name, Knows};
 ghost use Rattle.hive_read.specs.Walked.{walk, Steps, Reads, KeyRead, ChildrenRead};
 
 use crate::list::read_entries;
-use crate::source::Source;
 use crate::taken::Taken;
 use crate::used::Used;
 use crate::uses::{stop, take_name, use_bytes, use_node, use_security};
 use crate::value::read_values;
 use cell_forms::NkForm;
-use hive_cells::CellHeap;
-use nt_bytes::{Bytes, HiveKind, HiveVersion, ReadStop};
+use hive_cells::{CellHeap, Source};
+use nt_bytes::{Bytes, HiveFaultKind, HiveVersion, ReadStop};
 use reg_tree::{Key, Keys};
 use std::alloc::Global;
 
@@ -85,7 +84,7 @@ fn read_key<'a>(
     ensures known { IfOk result (λ t. (n : List ℕ) → has_name taken.new n ≡ (has_name taken.old n || folds_same n (head t).name)) }
 {
     if left == 0 {
-        return Err(stop(HiveKind::TooDeep, at));
+        return Err(stop(HiveFaultKind::TooDeep, at));
     }
     let node = use_node(alloc, cells, used, root, at)?;
     take_name(alloc, taken, node.name, at)?;
@@ -143,7 +142,7 @@ fn read_children(
     let offsets = read_entries(alloc, cells, used, node.child_list)?;
     let found = offsets.as_slice();
     if found.len() != node.child_count as usize {
-        return Err(stop(HiveKind::Count, at));
+        return Err(stop(HiveFaultKind::Count, at));
     }
     read_in_turn(alloc, cells, used, left, found)
 }

@@ -14,7 +14,6 @@ mod key;
 mod laws;
 mod list;
 mod sizes;
-mod source;
 mod taken;
 mod used;
 mod uses;

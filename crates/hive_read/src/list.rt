@@ -1,15 +1,15 @@
 //! Subkey lists.
 
 ghost use Rattle.std.specs.Prelude.{◌≡◌, Ok};
-ghost use Rattle.hive_read.specs.Sources.{cells_of};
+ghost use Rattle.hive_cells.specs.Sources.{cells_of};
 ghost use Rattle.hive_model.specs.Walk.{is_list_of_lists, joined_at, entries_at, leaves_checks, entries_checks};
 ghost use Rattle.cell_forms.specs.Views.{kind_of};
 ghost use Rattle.hive_read.specs.Walked.{walk, Steps};
 
-use crate::source::Source;
 use crate::used::Used;
 use crate::uses::{use_leaf, use_list};
 use cell_forms::{ListKind, Offsets};
+use hive_cells::Source;
 use nt_bytes::ReadStop;
 use std::alloc::Global;
 

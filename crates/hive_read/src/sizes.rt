@@ -1,7 +1,8 @@
 //! How many bytes the packed cell takes of what has a name in a cell. Sums stay at the greatest number.
 
 ghost use Rattle.std.specs.Prelude.{◌≡◌, ◌+◌};
-ghost use Rattle.hive_model.specs.Size.{capped, cell, name_bytes};
+ghost use Rattle.hive_model.specs.Size.{cell, name_bytes};
+ghost use Rattle.nt_bytes.specs.Counts.{capped};
 ghost use Rattle.cell_forms.specs.Views.{name_of};
 
 use cell_forms::StoredName;

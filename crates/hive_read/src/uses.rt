@@ -8,7 +8,7 @@ ghost use Rattle.hive_model.specs.Security.{security_at};
 ghost use Rattle.hive_model.specs.Lists.{list_at, offsets_in};
 ghost use Rattle.nt_bytes.specs.Folding.{folds_same};
 ghost use Rattle.hive_model.specs.Bins.{Cells};
-ghost use Rattle.hive_read.specs.Sources.{cells_of};
+ghost use Rattle.hive_cells.specs.Sources.{cells_of};
 ghost use Rattle.hive_model.specs.Size.{segment_count as segments_of};
 ghost use Rattle.hive_model.specs.Walk.{uses, node_at, big_data_of, leaf_at, name_check};
 ghost use Rattle.cell_forms.specs.Views.{big_data_of as form_of, name_of, security_of, subkey_list_of, value_seen};
@@ -17,18 +17,18 @@ ghost use Rattle.hive_read.specs.Walked.{Seen, check, walk, Steps, Uses};
 ghost use Rattle.hive_read.specs.Judged.{node_of, security_seen};
 
 use crate::data::SEGMENT;
-use crate::source::Source;
 use crate::taken::Taken;
 use crate::used::Used;
 use cell_forms::{
     DbForm, ListForm, ListKind, NkSeen, Offsets, SkForm, StoredName, VkSlice, read_bytes, read_db,
     read_list, read_offsets, read_sk, see_nk, see_vk,
 };
-use nt_bytes::{Bytes, HiveFault, HiveKind, ReadStop, u16_at, u32_at};
+use hive_cells::Source;
+use nt_bytes::{Bytes, HiveFault, HiveFaultKind, ReadStop, u16_at, u32_at};
 use std::alloc::Global;
 
 /// A fault of this kind at this offset.
-pub(crate) fn stop(kind: HiveKind, at: u32) -> ReadStop
+pub(crate) fn stop(kind: HiveFaultKind, at: u32) -> ReadStop
     ensures { result ≡ Fault (record { kind = kind; at = at }) }
 {
     ReadStop::Fault(HiveFault { kind, at })
@@ -45,7 +45,7 @@ fn use_cell<'a>(
 {
     let payload = cells.heap.payload(at)?;
     if used.clashes(at, security) {
-        return Err(stop(HiveKind::Shared, at));
+        return Err(stop(HiveFaultKind::Shared, at));
     }
     used.mark(at, security)?;
     Ok(payload)
@@ -64,7 +64,7 @@ pub(crate) fn take_name<'a>(
     ensures known { OnOk result ((n : List ℕ) → has_name taken.new n ≡ (has_name taken.old n || folds_same n (name_of name.entry))) }
 {
     if !taken.add(alloc, name)? {
-        return Err(stop(HiveKind::DoubleName, at));
+        return Err(stop(HiveFaultKind::DoubleName, at));
     }
     Ok(())
 }
@@ -85,7 +85,7 @@ fn node_form(alloc: Global, payload: &[u8], root: bool, at: u32) -> Result<NkSee
 {
     let node = see_nk(alloc, payload, at)?;
     if node.form.name.len() == 0 && !root {
-        return Err(stop(HiveKind::FormName, at));
+        return Err(stop(HiveFaultKind::FormName, at));
     }
     Ok(node)
 }
@@ -97,7 +97,7 @@ fn leaf_form(alloc: Global, payload: &[u8], at: u32) -> Result<Offsets, ReadStop
 {
     let list = read_list(alloc, payload, at)?;
     match list.kind {
-        ListKind::Ri => Err(stop(HiveKind::FormKind, at)),
+        ListKind::Ri => Err(stop(HiveFaultKind::FormKind, at)),
         _ => Ok(list.offsets),
     }
 }
@@ -109,7 +109,7 @@ fn big_data_form(payload: &[u8], size: u32, at: u32) -> Result<DbForm, ReadStop>
 {
     let form = read_db(payload, at)?;
     if u64::from(form.segments) != segment_count(size) {
-        return Err(stop(HiveKind::FormLength, at));
+        return Err(stop(HiveFaultKind::FormLength, at));
     }
     Ok(form)
 }
@@ -121,7 +121,7 @@ fn front(payload: &[u8], count: u32, at: u32) -> Result<&[u8], ReadStop>
 {
     let count = count as usize;
     if payload.len() < count {
-        return Err(stop(HiveKind::FormShort, at));
+        return Err(stop(HiveFaultKind::FormShort, at));
     }
     Ok(&payload[..count])
 }
@@ -141,17 +141,17 @@ fn security_form(payload: &[u8], at: u32) -> Result<SkSlice<'_>, ReadStop>
     ensures { Gives security_seen at result (security_at payload.now) }
 {
     if payload.len() < 2 {
-        return Err(stop(HiveKind::FormShort, at));
+        return Err(stop(HiveFaultKind::FormShort, at));
     }
     if u16_at(payload, 0) != 0x6b73 {
-        return Err(stop(HiveKind::FormSign, at));
+        return Err(stop(HiveFaultKind::FormSign, at));
     }
     if payload.len() < 20 {
-        return Err(stop(HiveKind::FormShort, at));
+        return Err(stop(HiveFaultKind::FormShort, at));
     }
     let end = 20 + u32_at(payload, 16) as usize;
     if payload.len() < end {
-        return Err(stop(HiveKind::FormShort, at));
+        return Err(stop(HiveFaultKind::FormShort, at));
     }
     Ok(SkSlice {
         forward: u32_at(payload, 4),

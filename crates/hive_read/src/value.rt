@@ -2,7 +2,7 @@
 
 ghost use Rattle.std.specs.Prelude.{◌≡◌, ℕ, List, [], ◌||◌, Ok, IfOk};
 ghost use Rattle.nt_bytes.specs.Folding.{folds_same};
-ghost use Rattle.hive_read.specs.Sources.{cells_of};
+ghost use Rattle.hive_cells.specs.Sources.{cells_of};
 ghost use Rattle.hive_model.specs.Walk.{value_checks, values_in_turn, values_checks};
 ghost use Rattle.hive_model.specs.Stands.{item_at, items_at, values_of};
 ghost use Rattle.cell_forms.specs.Views.{key_node_of};
@@ -10,11 +10,11 @@ ghost use Rattle.hive_read.specs.Taken.{has_name, Knows};
 ghost use Rattle.hive_read.specs.Walked.{walk, Steps};
 
 use crate::data::read_data;
-use crate::source::Source;
 use crate::taken::Taken;
 use crate::used::Used;
 use crate::uses::{take_name, use_offsets, use_value};
 use cell_forms::NkForm;
+use hive_cells::Source;
 use nt_bytes::ReadStop;
 use reg_tree::{Value, Values};
 use std::alloc::Global;

@@ -2,23 +2,24 @@
 
 ghost use Rattle.std.specs.Prelude.{◌≡◌, ℕ, List, [], Ok, is_some, sum_by};
 ghost use Rattle.hive_model.specs.KeyValue.{data_inside};
-ghost use Rattle.hive_model.specs.Size.{capped, class_size, data_size, item_size, items_size};
+ghost use Rattle.hive_model.specs.Size.{class_size, data_size, item_size, items_size};
+ghost use Rattle.nt_bytes.specs.Counts.{capped};
 ghost use Rattle.hive_model.specs.Walk.{big_checks, class_checks, data_checks, security_checks, segments_checks, value_checks, values_in_turn, values_checks};
 ghost use Rattle.hive_model.specs.Stands.{big_bytes_at, class_of, data_of, item_at, items_at, joined_segments, security_of, values_of};
 ghost use Rattle.cell_forms.specs.Views.{key_node_of, value_seen};
 ghost use Rattle.hive_read.specs.Celled.{celled_bytes, celled_checks};
 ghost use Rattle.hive_read.specs.Judged.{AddsName, Counts, HasLength, value_list_size};
-ghost use Rattle.hive_read.specs.Sources.{cells_of};
+ghost use Rattle.hive_cells.specs.Sources.{cells_of};
 ghost use Rattle.hive_read.specs.Taken.{Knows};
 ghost use Rattle.hive_read.specs.Walked.{walk, Steps};
 
 use crate::data::{SEGMENT, is_big};
 use crate::sizes::stored_size;
-use crate::source::Source;
 use crate::taken::Taken;
 use crate::used::Used;
 use crate::uses::{take_name, use_big_data, use_front, use_offsets, use_security_slice, use_value};
 use cell_forms::{NkForm, VkSlice};
+use hive_cells::Source;
 use nt_bytes::ReadStop;
 use reg_tree::sizes::{cell_size, class_size, data_size};
 use std::alloc::Global;

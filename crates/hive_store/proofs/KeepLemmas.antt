@@ -10,10 +10,11 @@ use Rattle.nt_bytes.specs.declared.version.HiveVersion.{HiveVersion}
 use Rattle.hive_model.specs.Tree.{Item, Tree, Trees, key, trees, listed, head, children, is_named, is_item, find_key, find_item}
 use Rattle.hive_model.specs.Size.{bulk_of}
 use Rattle.hive_model.specs.Valid.{levels}
-use Rattle.hive_model.specs.Edit.{Step, Refusal, set_value, delete_value, make_key, delete_key, copy_child, add_child, no_key, no_value, full, exists, name_too_long, data_too_long, too_deep, unless, at_first, without_first, of_items, of_children, at_key, with_item, value_set, has_item, has_child, placed, name_tests, without_key, renamed, with_child, after_step, then_edit, most_bulk, edited}
+use Rattle.hive_model.specs.Edit.{Step, Refusal, set_value, delete_value, make_key, delete_key, copy_child, add_child, no_key, no_value, full, exists, name_too_long, data_too_long, too_deep, unless, at_first, without_first, of_items, of_children, at_key, with_item, value_set, has_item, has_child, placed, name_tests, without_key, renamed, with_child, after_step, most_bulk, edited}
 use Rattle.reg_tree.proofs.Trees.{listed_trees, trees_listed}
 use Rattle.hive_store.specs.Same.{Keep, HasValue}
 use Rattle.std.proofs.lemmas.Option.{same_Some}
+use Rattle.hive_model.specs.Forms.{◌>>=◌}
 
 abbrev made : Tree → Result Tree Refusal
 made t = Ok t
@@ -35,7 +36,7 @@ kept_one version t step e = go (after_step step t) refl e
         (same, ap (λ (u : Tree). nat_lt most_bulk (bulk_of version u)) (sym same) ∙ is)
 
     go : (r : Result Tree Refusal) → after_step step t ≡ r
-        → then_edit (then_edit r (λ u. Ok u)) (λ u. cond (nat_lt most_bulk (bulk_of version u)) (Err full) (Ok u))
+        → ((r >>= λ u. Ok u) >>= λ u. cond (nat_lt most_bulk (bulk_of version u)) (Err full) (Ok u))
         ≡ made t
         → IsKept version t step
     go (Ok v) is e = let p = within v (nat_lt most_bulk (bulk_of version v)) refl e in (is ∙ ap made p.0, p.1)
@@ -44,8 +45,8 @@ kept_one version t step e = go (after_step step t) refl e
 pub one_kept : (version : HiveVersion) (t : Tree) (step : Step) → IsKept version t step → Keep version t (step ∷ [])
 unfolding edited
 one_kept version t step is =
-    ap (λ (r : Result Tree Refusal). then_edit (then_edit r (λ u. Ok u))
-    (λ u. cond (nat_lt most_bulk (bulk_of version u)) (Err full) (Ok u))) is.0
+    ap (λ (r : Result Tree Refusal). ((r >>= λ u. Ok u) >>=
+    (λ u. cond (nat_lt most_bulk (bulk_of version u)) (Err full) (Ok u)))) is.0
     ∙ ap (λ (b : Bool). cond b (Err full) (made t)) is.1
 
 -- what the tests let pass is the result

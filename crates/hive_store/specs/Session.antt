@@ -4,7 +4,8 @@ use Rattle.std.specs.Coded.{Coded, code_by, coded×, coded_ℕ, coded_bool, code
 use Rattle.nt_bytes.specs.declared.version.HiveVersion.{HiveVersion}
 use Rattle.hive_model.specs.Base.{Base, is_bins_size, version_of}
 use Rattle.hive_model.specs.Bins.{Bin, IsBins, look_up, spelled}
-use Rattle.hive_model.specs.Tree.{Tree, coded_tree}
+use Rattle.hive_model.specs.Tree.{Tree}
+use Rattle.hive_model.specs.Codes.{coded_tree}
 use Rattle.hive_model.specs.Stands.{IsWellFormed}
 use Rattle.hive_edit.specs.Hive.{HiveCells, coded_hive}
 

@@ -4,7 +4,7 @@ ghost use Rattle.std.specs.Prelude.{◌≡◌, Bool, true, false, [], IfOk, OnOk
 ghost use Rattle.hive_model.specs.Carries.{Carries, HasLog};
 ghost use Rattle.hive_model.specs.State.{HiveState};
 ghost use Rattle.hive_model.specs.Load.{Loads};
-ghost use Rattle.nt_edge.specs.Host.{Rises};
+ghost use Rattle.nt_bytes.specs.Counts.{Rises};
 ghost use Rattle.nt_edge.specs.Calls.{MakesUntil};
 ghost use Rattle.nt_edge.specs.Crash.{EachCrash};
 ghost use Rattle.hive_commit.specs.Calls.{change_calls};

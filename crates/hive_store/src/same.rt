@@ -7,15 +7,11 @@ ghost use Rattle.hive_store.specs.Same.{Keep, HasValue};
 
 use hive_edit::HiveBytes;
 use nt_bytes::{Names, Row};
-use reg_tree::{EditStop, Key, MOST_BULK, Steps, TreeStep, Value};
+use reg_tree::{
+    EditStop, Key, LONGEST_DATA, LONGEST_VALUE_NAME, MOST_BULK, Steps, TreeStep, Value,
+};
 use std::alloc::{AllocError, Global};
 use tree_draft::apply;
-
-/// The longest name of a value, in units.
-const LONGEST_NAME: usize = 16_383;
-
-/// The most data of a value that is set, in bytes.
-const MOST_DATA: usize = 1_048_576;
 
 /// A step of its own.
 fn step_copied(alloc: Global, step: &TreeStep) -> Result<TreeStep, AllocError>
@@ -121,10 +117,10 @@ fn set_keeps(
     if cells.bulk() > MOST_BULK {
         return Ok(false);
     }
-    if name.len() > LONGEST_NAME {
+    if name.len() > LONGEST_VALUE_NAME {
         return Ok(false);
     }
-    if bytes.len() > MOST_DATA {
+    if bytes.len() > LONGEST_DATA {
         return Ok(false);
     }
     match cells.subtree(alloc, path)? {

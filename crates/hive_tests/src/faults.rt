@@ -3,7 +3,7 @@
 use crate::small::small_hive;
 use hive_cells::{CellHeap, read_cells};
 use hive_read::{judge, read_tree};
-use nt_bytes::{Bytes, HiveFault, HiveKind, HiveVersion, Names, ReadStop, narrow};
+use nt_bytes::{Bytes, HiveFault, HiveFaultKind, HiveVersion, Names, ReadStop, narrow};
 use std::alloc::{AllocError, Global};
 use std::process::Abort;
 use std::test::Fail;
@@ -103,7 +103,7 @@ fn stop_with(
     Ok(stop_in(rt, alloc, bins, root, HiveVersion::V3))
 }
 
-fn is_fault(rt: &impl Abort, stop: Option<ReadStop>, kind: HiveKind, at: u32) {
+fn is_fault(rt: &impl Abort, stop: Option<ReadStop>, kind: HiveFaultKind, at: u32) {
     assert_eq!(rt;
         stop,
         Some(ReadStop::Fault(HiveFault { kind, at })),
@@ -112,31 +112,31 @@ fn is_fault(rt: &impl Abort, stop: Option<ReadStop>, kind: HiveKind, at: u32) {
 }
 
 /// A field that is broken, and the first fault.
-type Broken = (usize, &'static [u8], HiveKind, u32);
+type Broken = (usize, &'static [u8], HiveFaultKind, u32);
 
 static BROKEN: [Broken; 22] = [
-    (128, &[32, 0, 0, 0], HiveKind::Shared, 32),
-    (136, &[144, 0, 0, 0], HiveKind::Shared, 144),
-    (136, &[8, 3, 0, 0], HiveKind::FreeCell, 776),
-    (136, &[148, 0, 0, 0], HiveKind::OutOfRange, 148),
-    (32, &[88, 0, 0, 0], HiveKind::FreeCell, 32),
-    (36, b"x", HiveKind::FormSign, 32),
-    (348, b"x", HiveKind::FormSign, 344),
-    (436, &[100, 0], HiveKind::FormShort, 360),
-    (436, &[0, 0], HiveKind::FormName, 360),
-    (440, &[0x5c], HiveKind::FormName, 360),
-    (400, &[3, 0, 0, 0], HiveKind::OutOfRange, 0),
-    (400, &[4, 0, 0, 0], HiveKind::FormShort, 448),
-    (472, &[5, 0, 0, 0x80], HiveKind::FormLength, 464),
-    (696, b"Current", HiveKind::DoubleName, 672),
-    (696, b"cURRENT", HiveKind::DoubleName, 672),
-    (350, &[2, 0], HiveKind::FormShort, 344),
-    (352, &[0, 1, 0, 0], HiveKind::Shared, 256),
-    (280, &[2, 0, 0, 0], HiveKind::Count, 256),
-    (124, b"ri", HiveKind::FormSign, 144),
-    (0, b"x", HiveKind::BinSign, 0),
-    (32, &[0, 0, 0, 0], HiveKind::CellSize, 32),
-    (8, &[0, 0x20, 0, 0], HiveKind::BinSize, 0),
+    (128, &[32, 0, 0, 0], HiveFaultKind::Shared, 32),
+    (136, &[144, 0, 0, 0], HiveFaultKind::Shared, 144),
+    (136, &[8, 3, 0, 0], HiveFaultKind::FreeCell, 776),
+    (136, &[148, 0, 0, 0], HiveFaultKind::OutOfRange, 148),
+    (32, &[88, 0, 0, 0], HiveFaultKind::FreeCell, 32),
+    (36, b"x", HiveFaultKind::FormSign, 32),
+    (348, b"x", HiveFaultKind::FormSign, 344),
+    (436, &[100, 0], HiveFaultKind::FormShort, 360),
+    (436, &[0, 0], HiveFaultKind::FormName, 360),
+    (440, &[0x5c], HiveFaultKind::FormName, 360),
+    (400, &[3, 0, 0, 0], HiveFaultKind::OutOfRange, 0),
+    (400, &[4, 0, 0, 0], HiveFaultKind::FormShort, 448),
+    (472, &[5, 0, 0, 0x80], HiveFaultKind::FormLength, 464),
+    (696, b"Current", HiveFaultKind::DoubleName, 672),
+    (696, b"cURRENT", HiveFaultKind::DoubleName, 672),
+    (350, &[2, 0], HiveFaultKind::FormShort, 344),
+    (352, &[0, 1, 0, 0], HiveFaultKind::Shared, 256),
+    (280, &[2, 0, 0, 0], HiveFaultKind::Count, 256),
+    (124, b"ri", HiveFaultKind::FormSign, 144),
+    (0, b"x", HiveFaultKind::BinSign, 0),
+    (32, &[0, 0, 0, 0], HiveFaultKind::CellSize, 32),
+    (8, &[0, 0x20, 0, 0], HiveFaultKind::BinSize, 0),
 ];
 
 fn broken(rt: &impl Abort, alloc: Global, rows: &[Broken]) -> Result<(), Fail> {
@@ -177,9 +177,9 @@ fn fields_that_do_not_count_are_not_looked_at(rt: HostRuntime) -> Result<(), Fai
 /// A root that is no cell is one of the two.
 fn structure(rt: &impl Abort, alloc: Global) -> Result<(), Fail> {
     let stop = stop_with(rt, alloc, &NESTED, 32)?;
-    is_fault(rt, stop, HiveKind::FormKind, 240);
+    is_fault(rt, stop, HiveFaultKind::FormKind, 240);
     let stop = stop_with(rt, alloc, &[], 0xffff_ffff)?;
-    is_fault(rt, stop, HiveKind::OutOfRange, 0xffff_ffff);
+    is_fault(rt, stop, HiveFaultKind::OutOfRange, 0xffff_ffff);
     Ok(())
 }
 
@@ -247,7 +247,7 @@ fn deep(rt: &impl Abort, alloc: Global) -> Result<(), Fail> {
     assert_eq!(rt; stop, None);
     let bins = chain(alloc, 513, 57_344)?;
     let stop = stop_in(rt, alloc, bins, 32, HiveVersion::V3);
-    is_fault(rt, stop, HiveKind::TooDeep, 53_280);
+    is_fault(rt, stop, HiveFaultKind::TooDeep, 53_280);
     Ok(())
 }
 

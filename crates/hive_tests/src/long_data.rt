@@ -3,7 +3,7 @@
 use crate::faults::stop_in;
 use hive_cells::read_cells;
 use hive_read::{judge, read_tree};
-use nt_bytes::{Bytes, HiveFault, HiveKind, HiveVersion, ReadStop};
+use nt_bytes::{Bytes, HiveFault, HiveFaultKind, HiveVersion, ReadStop};
 use std::alloc::{AllocError, Global};
 use std::process::Abort;
 use std::test::Fail;
@@ -152,17 +152,17 @@ fn a_full_segment_is_no_big_data(rt: HostRuntime) -> Result<(), Fail> {
 }
 
 /// The first fault, at 160.
-fn is_fault(rt: &impl Abort, stop: Option<ReadStop>, kind: HiveKind) {
+fn is_fault(rt: &impl Abort, stop: Option<ReadStop>, kind: HiveFaultKind) {
     assert_eq!(rt; stop, Some(ReadStop::Fault(HiveFault { kind, at: 160 })));
 }
 
 fn other_layouts(rt: &impl Abort, alloc: Global) -> Result<(), Fail> {
     let bins = in_one_cell(alloc)?;
     let stop = stop_in(rt, alloc, bins, 32, HiveVersion::V5);
-    is_fault(rt, stop, HiveKind::FormSign);
+    is_fault(rt, stop, HiveFaultKind::FormSign);
     let bins = in_segments(alloc)?;
     let stop = stop_in(rt, alloc, bins, 32, HiveVersion::V3);
-    is_fault(rt, stop, HiveKind::FormShort);
+    is_fault(rt, stop, HiveFaultKind::FormShort);
     Ok(())
 }
 
@@ -172,20 +172,20 @@ fn each_layout_is_faulty_in_the_other_version(rt: HostRuntime) -> Result<(), Fai
 }
 
 /// A field that is broken, and the first fault.
-type Broken = (usize, &'static [u8], HiveKind, u32);
+type Broken = (usize, &'static [u8], HiveFaultKind, u32);
 
 static BROKEN: [Broken; 11] = [
-    (140, &[164, 0], HiveKind::OutOfRange, 164),
-    (140, &[128, 0], HiveKind::Shared, 128),
-    (164, b"xx\x03", HiveKind::FormSign, 160),
-    (166, &[3, 0, 180], HiveKind::FormLength, 160),
-    (166, &[1, 0], HiveKind::FormLength, 160),
-    (168, &[0xa8, 0x40], HiveKind::FreeCell, 16_552),
-    (168, &[160, 0], HiveKind::Shared, 160),
-    (168, &[0xa0, 0x40], HiveKind::FormShort, 16_544),
-    (180, &[0xa0, 0x40], HiveKind::FormShort, 16_544),
-    (184, &[192, 0], HiveKind::Shared, 192),
-    (136, &[0xdd, 0x3f], HiveKind::FormShort, 16_544),
+    (140, &[164, 0], HiveFaultKind::OutOfRange, 164),
+    (140, &[128, 0], HiveFaultKind::Shared, 128),
+    (164, b"xx\x03", HiveFaultKind::FormSign, 160),
+    (166, &[3, 0, 180], HiveFaultKind::FormLength, 160),
+    (166, &[1, 0], HiveFaultKind::FormLength, 160),
+    (168, &[0xa8, 0x40], HiveFaultKind::FreeCell, 16_552),
+    (168, &[160, 0], HiveFaultKind::Shared, 160),
+    (168, &[0xa0, 0x40], HiveFaultKind::FormShort, 16_544),
+    (180, &[0xa0, 0x40], HiveFaultKind::FormShort, 16_544),
+    (184, &[192, 0], HiveFaultKind::Shared, 192),
+    (136, &[0xdd, 0x3f], HiveFaultKind::FormShort, 16_544),
 ];
 
 fn stop_with(

@@ -4,8 +4,8 @@ use Rattle.std.specs.Result.{IsOk}
 use Rattle.std.specs.List.{All}
 use Rattle.std.proofs.lemmas.List.Elements.{All-append, All-cons, All-nil}
 use Rattle.std.proofs.lemmas.Bool.{ne_eqb}
-use Rattle.nt_bytes.specs.declared.fault.HiveKind.{HiveKind}
-use Rattle.nt_bytes.specs.declared.fault.HiveKind.TheVariants.{FormKind}
+use Rattle.nt_bytes.specs.declared.fault.HiveFaultKind.{HiveFaultKind}
+use Rattle.nt_bytes.specs.declared.fault.HiveFaultKind.TheVariants.{FormKind}
 use Rattle.hive_model.specs.Bins.{Cells}
 use Rattle.hive_model.specs.Forms.{◌>>=◌}
 use Rattle.hive_model.specs.Lists.{SubkeyList, list_at}
@@ -18,13 +18,13 @@ use Rattle.key_index.proofs.Entered.{list_facts}
 -- ---- what is read from a payload
 
 -- a form that is read in the cell at an offset is read in its payload
-pub in_payload : {F : Type 0} (form : List ℕ → Result F HiveKind) (cells : Cells) (at : ℕ) (x : F)
+pub in_payload : {F : Type 0} (form : List ℕ → Result F HiveFaultKind) (cells : Cells) (at : ℕ) (x : F)
     → reading form cells at ≡ done x
     → form (payload_in cells at) ≡ done x
 unfolding payload_in
 in_payload form cells at x r = go (cells.payload at) r
   where
-    go : (p : Result (List ℕ) HiveKind) → (p >>= form) ≡ done x → form (of_read p (λ q. q)) ≡ done x
+    go : (p : Result (List ℕ) HiveFaultKind) → (p >>= form) ≡ done x → form (of_read p (λ q. q)) ≡ done x
     go (Ok q) e = e
     go (Err kind) e = absurd cc
 
@@ -35,7 +35,7 @@ leaf_list p offsets e =
     offsets e in
     let w = unless (is_list_of_lists v.0.kind) FormKind (done v.0.offsets) offsets v.2 in (
       is_ok_of (list_at p) v.0 v.1,
-      ap (λ (r : Result SubkeyList HiveKind). of_read r (λ list. list.offsets)) v.1
+      ap (λ (r : Result SubkeyList HiveFaultKind). of_read r (λ list. list.offsets)) v.1
           ∙ ok_same v.0.offsets offsets w.1,
     )
 
@@ -95,7 +95,7 @@ lists_of cells list l offsets e f =
     let p = payload_in cells list in
     let facts = list_facts p l e in
     let same : offsets_of p ≡ l.offsets =
-    ap (λ (r : Result SubkeyList HiveKind). of_read r (λ list. list.offsets)) e in (
+    ap (λ (r : Result SubkeyList HiveFaultKind). of_read r (λ list. list.offsets)) e in (
       λ plain.
           let g : done l.offsets ≡ done offsets =
           subst (λ (b : Bool). cond b (joined_at cells l.offsets) (done l.offsets) ≡ done offsets)
@@ -120,7 +120,7 @@ child_lists cells list count s some =
     let zero_no : eqb count 0 ≡ false = ne_eqb count 0 (λ z. omega arith) in
     let is : children_at cells list count ≡ v.0 =
     ap (λ (b : Bool). cond b [] (of_read (entries_at cells list) (λ offsets. offsets))) zero_no
-    ∙ ap (λ (r : Result (List ℕ) HiveKind). of_read r (λ offsets. offsets)) v.1 in
+    ∙ ap (λ (r : Result (List ℕ) HiveFaultKind). of_read r (λ offsets. offsets)) v.1 in
     record {
       read = is_ok_of (list_at (payload_in cells list)) w.0 read;
       single = λ plain. is ∙ l.0 plain;
@@ -181,12 +181,12 @@ used_lists cells list count s some =
     let read = in_payload list_at cells list w.0 w.1 in
     let facts = list_facts (payload_in cells list) w.0 read in
     let same : offsets_of (payload_in cells list) ≡ w.0.offsets =
-    ap (λ (r : Result SubkeyList HiveKind). of_read r (λ l. l.offsets)) read in
+    ap (λ (r : Result SubkeyList HiveFaultKind). of_read r (λ l. l.offsets)) read in
     let zero_no : eqb count 0 ≡ false = ne_eqb count 0 (λ z. omega arith) in
     let is : lists_at cells list count ≡ list
     ∷ used_in (cond (is_list_of_lists w.0.kind) (leaves_checks cells w.0.offsets) []) =
     ap (λ (b : Bool). cond b [] (used_in (entries_checks cells list))) zero_no
-    ∙ ap (λ (r : Result SubkeyList HiveKind). list
+    ∙ ap (λ (r : Result SubkeyList HiveFaultKind). list
     ∷ used_in (below_of r (λ l. cond (is_list_of_lists l.kind) (leaves_checks cells l.offsets) []))) w.1 in
     record {
       single = λ plain. is ∙ ap (λ (b : Bool). list ∷ used_in (cond b (leaves_checks cells w.0.offsets) []))

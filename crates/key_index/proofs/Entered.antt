@@ -4,8 +4,8 @@ use Rattle.std.specs.Prelude.{◌==◌, nat_lt}
 use Rattle.std.specs.Result.{IsOk}
 use Rattle.std.proofs.Math.Seq.{drop-nil}
 use Rattle.std.proofs.lemmas.Bool.{eqb-true, ltb-false}
-use Rattle.nt_bytes.specs.declared.fault.HiveKind.{HiveKind}
-use Rattle.nt_bytes.specs.declared.fault.HiveKind.TheVariants.{FormShort, FormSign}
+use Rattle.nt_bytes.specs.declared.fault.HiveFaultKind.{HiveFaultKind}
+use Rattle.nt_bytes.specs.declared.fault.HiveFaultKind.TheVariants.{FormShort, FormSign}
 use Rattle.nt_bytes.specs.Fields.{u16_in, u32_in}
 use Rattle.hive_model.specs.Lists.{ListKind, Li, Lf, Lh, Ri, SubkeyList, numbers_in, list_of, list_at}
 use Rattle.hive_model.specs.Walk.{is_list_of_lists}
@@ -89,7 +89,7 @@ has_head p h = let v = value_of (list_at p) h in (list_facts p v.0 v.1).long
 pub offsets_are : (p : List ℕ) → IsOk (list_at p) → offsets_of p ≡ numbers_in (entry_size p) (u16_in p 2) (drop 4 p)
 unfolding offsets_of
 offsets_are p h = let v = value_of (list_at p) h in
-    ap (λ (r : Result SubkeyList HiveKind). of_read r (λ list. list.offsets)) v.1 ∙ (list_facts p v.0 v.1).offsets
+    ap (λ (r : Result SubkeyList HiveFaultKind). of_read r (λ list. list.offsets)) v.1 ∙ (list_facts p v.0 v.1).offsets
 
 pub has_count : (p : List ℕ) → IsOk (list_at p) → length (offsets_of p) ≡ u16_in p 2
 has_count p h = ap length (offsets_are p h) ∙ length_numbers (entry_size p) (u16_in p 2) (drop 4 p)

@@ -4,7 +4,7 @@ use Rattle.std.specs.Prelude.{slice_index_or, MatchBool}
 use Rattle.std.specs.List.{All, AllPairs}
 use Rattle.std.proofs.lemmas.Bool.{eqb-true}
 use Rattle.std.proofs.lemmas.List.Elements.{All-cons, All-nil}
-use Rattle.nt_bytes.specs.declared.fault.HiveKind.{HiveKind}
+use Rattle.nt_bytes.specs.declared.fault.HiveFaultKind.{HiveFaultKind}
 use Rattle.nt_bytes.specs.Folding.{folds_same}
 use Rattle.hive_model.specs.Bins.{Cells}
 use Rattle.hive_model.specs.KeyNode.{KeyNode, key_node_at}
@@ -31,7 +31,7 @@ node_stands cells at (key h ts) s =
     let read = in_payload key_node_at cells at s.1.node s.1.read in
     record {
       node = is_ok_of (key_node_at (payload_in cells at)) s.1.node read;
-      name = ap (λ (r : Result KeyNode HiveKind). of_read r (λ node. node.name)) read ∙ sym s.1.name;
+      name = ap (λ (r : Result KeyNode HiveFaultKind). of_read r (λ node. node.name)) read ∙ sym s.1.name;
     }
 
 nodes_stand : (cells : Cells) (offsets : List ℕ) (ts : Trees) → AllStand cells offsets ts → All (IsNode cells) offsets
@@ -82,7 +82,7 @@ siblings_stand cells at (key h ts) node s names r =
     go list count false e c =
         let is : children_at cells list count ≡ s.0 =
         ap (λ (b : Bool). cond b [] (of_read (entries_at cells list) (λ os. os))) e
-        ∙ ap (λ (r : Result (List ℕ) HiveKind). of_read r (λ os. os)) c.0 in
+        ∙ ap (λ (r : Result (List ℕ) HiveFaultKind). of_read r (λ os. os)) c.0 in
         record {
           read = λ some. is_ok_of (entries_at cells list) s.0 c.0;
           number = ap length is ∙ c.1;
@@ -138,7 +138,7 @@ entries_alone cells list = go (reading list_at cells list)
     by_kind true lists = leaves_alone cells lists
     by_kind false lists = tt
 
-    go : (r : Result SubkeyList HiveKind)
+    go : (r : Result SubkeyList HiveFaultKind)
         → UsesAlone (below_of r (λ l. cond (is_list_of_lists l.kind) (leaves_checks cells l.offsets) []))
     go (Ok l) = by_kind (is_list_of_lists l.kind) l.offsets
     go (Err kind) = tt

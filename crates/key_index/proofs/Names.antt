@@ -6,7 +6,7 @@ use Rattle.std.specs.Ordering.{is_eq, nat_cmp}
 use Rattle.std.specs.Str.{bytes_eq}
 use Rattle.std.proofs.lemmas.Map.Text.{is_eq-slice_cmp}
 use Rattle.std.proofs.lemmas.Slice.Eq.{bytes_eq-Decides}
-use Rattle.nt_bytes.specs.declared.fault.HiveKind.{HiveKind}
+use Rattle.nt_bytes.specs.declared.fault.HiveFaultKind.{HiveFaultKind}
 use Rattle.nt_bytes.specs.Folding.{folded, folds_same, folded_order}
 use Rattle.hive_model.specs.Bins.{Cells}
 use Rattle.hive_model.specs.KeyNode.{KeyNode, key_node_at}
@@ -52,7 +52,7 @@ pub node_read : (cells : Cells) (at : ℕ) → IsNode cells at
 unfolding payload_in
 node_read cells at h = go (cells.payload at) refl h
   where
-    go : (r : Result (List ℕ) HiveKind) → cells.payload at ≡ r
+    go : (r : Result (List ℕ) HiveFaultKind) → cells.payload at ≡ r
         → IsOk (key_node_at (Rattle.hive_model.specs.Footprint.of_read r (λ p. p)))
         → Rattle.hive_model.specs.Forms.◌>>=◌ r key_node_at
         ≡ key_node_at (Rattle.hive_model.specs.Footprint.of_read r (λ p. p))
@@ -68,10 +68,10 @@ pub named_is : (cells : Cells) (name : List ℕ) (at : ℕ) → IsNode cells at
 unfolding name_of
 named_is cells name at h =
     let v = value_of (key_node_at (payload_in cells at)) h in
-    ap (λ (r : Result KeyNode HiveKind). list_any (folds_same name) (names_of (λ node. node.name) r))
+    ap (λ (r : Result KeyNode HiveFaultKind). list_any (folds_same name) (names_of (λ node. node.name) r))
     (node_read cells at h ∙ v.1)
     ∙ or_false (folds_same name v.0.name)
-    ∙ ap (λ (r : Result KeyNode HiveKind). folds_same name
+    ∙ ap (λ (r : Result KeyNode HiveFaultKind). folds_same name
     (Rattle.hive_model.specs.Footprint.of_read r (λ node. node.name))) (sym v.1)
 
 -- the order of the names tells whether the key node has the name

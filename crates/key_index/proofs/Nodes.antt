@@ -2,8 +2,8 @@
 use Rattle.std.proofs.Common.{◌≡◌, ℕ, ◌+◌, ◌≤◌, Bool, List, length, Result, Ok, Err, cond, sym, ap, ◌∙◌}
 use Rattle.std.specs.Prelude.{◌==◌, nat_lt, slice_range}
 use Rattle.std.specs.Result.{IsOk}
-use Rattle.nt_bytes.specs.declared.fault.HiveKind.{HiveKind}
-use Rattle.nt_bytes.specs.declared.fault.HiveKind.TheVariants.{FormShort, FormSign, FormLength, FormName}
+use Rattle.nt_bytes.specs.declared.fault.HiveFaultKind.{HiveFaultKind}
+use Rattle.nt_bytes.specs.declared.fault.HiveFaultKind.TheVariants.{FormShort, FormSign, FormLength, FormName}
 use Rattle.nt_bytes.specs.Fields.{u16_in}
 use Rattle.hive_model.specs.Forms.{◌>>=◌}
 use Rattle.hive_model.specs.StoredNames.{stored_name, has_half_unit, is_bad_key_name, key_name_at}
@@ -57,4 +57,4 @@ pub name_is : (p : List ℕ) → IsOk (key_node_at p)
 unfolding name_of
 name_is p h =
     let v = value_of (key_node_at p) h in
-    ap (λ (r : Result KeyNode HiveKind). of_read r (λ node. node.name)) v.1 ∙ sym (node_facts p v.0 v.1).name
+    ap (λ (r : Result KeyNode HiveFaultKind). of_read r (λ node. node.name)) v.1 ∙ sym (node_facts p v.0 v.1).name

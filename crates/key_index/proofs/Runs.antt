@@ -13,11 +13,11 @@ use Rattle.std.proofs.lemmas.List.Sums.{sum_by-append, sum_by-cons}
 use Rattle.std.proofs.lemmas.List.Folds.{sum_by-replicate}
 use Rattle.nt_bytes.specs.declared.version.HiveVersion.{HiveVersion}
 use Rattle.nt_bytes.specs.declared.version.HiveVersion.TheVariants.{V3, V5}
-use Rattle.nt_bytes.specs.declared.fault.HiveKind.{HiveKind}
+use Rattle.nt_bytes.specs.declared.fault.HiveFaultKind.{HiveFaultKind}
 use Rattle.hive_model.specs.Size.{cell, is_narrow, part_count, list_size}
 use Rattle.hive_model.specs.Bins.{Cell, Bin, Cells, cell_size, cells_size, bin_size, bins_size, IsCell, in_cells, in_bins, or_else, payload_at, look_up}
 use Rattle.hive_model.specs.Lists.{AreOffsets, AreHints, list_at, offsets_text, ri_text}
-use Rattle.hive_model.specs.Packed.{filled, allocated_cell, cell_text, text, rounded, part_places, list_cells, name_hint, parts}
+use Rattle.hive_model.specs.Packed.{filled, allocated_cell, text, rounded, part_places, list_cells, name_hint, parts}
 use Rattle.hive_model.specs.Footprint.{of_read, list_sizes, room_of, list_strain_of}
 use Rattle.hive_model.proofs.Spelling.{length_offsets}
 use Rattle.hive_pack.proofs.Rows.{space, length_filled, length_hint_of, space_list, cell_text_is, length_part_places, lists_many}
@@ -483,7 +483,7 @@ pub read_held : (version : HiveVersion) (bins : List Bin) (at : ℕ)
 unfolding payload_in list_at
 read_held version bins at h = go (payload_at bins at) refl h
   where
-    go : (r : Result (List ℕ) HiveKind) → payload_at bins at ≡ r → IsOk (list_at (of_read r (λ p. p)))
+    go : (r : Result (List ℕ) HiveFaultKind) → payload_at bins at ≡ r → IsOk (list_at (of_read r (λ p. p)))
         → IsSome (held_at bins at)
     go (Ok p) e k = subst IsSome (sym (payload_held bins at p e)) refl
     go (Err kind) e k = absurd cc

@@ -11,13 +11,12 @@ ghost use Rattle.hive_cells.specs.Held.{held_at};
 ghost use Rattle.hive_cells.specs.Holes.{IsHole};
 ghost use Rattle.key_index.specs.Lists.{IsNode, ListsSiblings, children_at, hints_in, lists_at, with_child, without_child};
 ghost use Rattle.key_index.specs.Relists.{AreApart, IsPut, Relists, Shortens};
-ghost use Rattle.key_index.specs.Sources.{cells_of};
+ghost use Rattle.hive_cells.specs.Sources.{cells_of};
 
 use crate::children::{insert, read_children, read_list_cells, remove};
 use crate::hints::hints;
 use crate::removal::Removal;
-use crate::source::Source;
-use hive_cells::OpenHeap;
+use hive_cells::{OpenHeap, Source};
 use hive_pack::{first_part, list_len, part_count, write_lists};
 use nt_bytes::{Bytes, HiveVersion};
 use std::alloc::{AllocError, Global};

@@ -5,11 +5,12 @@ ghost use Rattle.std.specs.Result.{IsOk};
 ghost use Rattle.std.specs.List.{All, position_or_len};
 ghost use Rattle.hive_model.specs.Lists.{list_at};
 ghost use Rattle.key_index.specs.Lists.{AreRead, IsNode, ListsSiblings, children_at, is_behind, lists_at, offsets_of, offsets_in_lists, with_child, without_child};
-ghost use Rattle.key_index.specs.Sources.{cells_of};
+ghost use Rattle.hive_cells.specs.Sources.{cells_of};
 
 use crate::entries::{entry, entry_count, is_list_of_lists};
 use crate::node::{compare_name, name};
-use crate::source::{Source, payload};
+use crate::source::payload;
+use hive_cells::Source;
 use std::alloc::{AllocError, Global};
 
 /// The entries of a list.

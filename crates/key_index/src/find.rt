@@ -9,12 +9,12 @@ ghost use Rattle.hive_model.specs.Bins.{look_up};
 ghost use Rattle.hive_model.specs.Lists.{list_at};
 ghost use Rattle.hive_model.specs.Footprint.{is_node_named};
 ghost use Rattle.key_index.specs.Lists.{AreLists, Finds, IsNode, ListsSiblings, NamesDiffer, children_at, offsets_of, offsets_in_lists};
-ghost use Rattle.key_index.specs.Sources.{cells_of};
+ghost use Rattle.hive_cells.specs.Sources.{cells_of};
 
 use crate::entries::{entry, entry_count, is_list_of_lists};
 use crate::node::compare_name;
-use crate::source::{Source, payload};
-use hive_cells::CellHeap;
+use crate::source::payload;
+use hive_cells::{CellHeap, Source};
 use nt_bytes::HiveVersion;
 use std::cmp::Ordering;
 

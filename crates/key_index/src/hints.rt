@@ -3,10 +3,10 @@
 ghost use Rattle.std.specs.Prelude.{◌≡◌, IfOk};
 ghost use Rattle.std.specs.List.{All};
 ghost use Rattle.key_index.specs.Lists.{IsNode, hint_in, hints_in};
-ghost use Rattle.key_index.specs.Sources.{cells_of};
+ghost use Rattle.hive_cells.specs.Sources.{cells_of};
 
 use crate::node::name;
-use crate::source::Source;
+use hive_cells::Source;
 use hive_pack::name_hint;
 use std::alloc::{AllocError, Global};
 

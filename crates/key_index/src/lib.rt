@@ -21,4 +21,4 @@ pub use change::{bins_fit, free_all, insert_child, remove_child};
 pub use find::find_child;
 pub use laws::{keys_list_siblings, lists_are_apart};
 pub use removal::Removal;
-pub use source::{Source, payload};
+pub use source::payload;

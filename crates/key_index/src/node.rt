@@ -8,9 +8,10 @@ ghost use Rattle.nt_bytes.specs.Text.{wide_of};
 ghost use Rattle.hive_model.specs.StoredNames.{stored_name};
 ghost use Rattle.hive_model.specs.KeyNode.{is_narrow_key, key_node_at};
 ghost use Rattle.key_index.specs.Lists.{IsNode, name_of, name_in};
-ghost use Rattle.key_index.specs.Sources.{cells_of};
+ghost use Rattle.hive_cells.specs.Sources.{cells_of};
 
-use crate::source::{Source, payload};
+use crate::source::payload;
+use hive_cells::Source;
 use nt_bytes::{Units, fold, narrow, u16_at, wide};
 use std::alloc::{AllocError, Global};
 use std::cmp::Ordering;

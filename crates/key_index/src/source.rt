@@ -1,18 +1,10 @@
-//! What a look into a hive reads from.
+//! The payload of a cell.
 
 ghost use Rattle.std.specs.Prelude.{◌≡◌};
 ghost use Rattle.key_index.specs.Lists.{payload_in};
-ghost use Rattle.key_index.specs.Sources.{cells_of};
+ghost use Rattle.hive_cells.specs.Sources.{cells_of};
 
-use hive_cells::CellHeap;
-use nt_bytes::HiveVersion;
-
-/// The cells of a hive, and the version that they are read in.
-#[derive(Drop)]
-pub struct Source<'a> {
-    pub heap: &'a CellHeap,
-    pub version: HiveVersion,
-}
+use hive_cells::Source;
 
 /// The payload of the cell at an offset in bytes, empty where there is none.
 #[tactic(auto, unfolding(crate::specs::Lists::payload_in))]

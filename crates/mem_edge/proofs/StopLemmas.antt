@@ -1,7 +1,7 @@
 -- A stop that comes has its cause, and nothing but it comes.
 use Rattle.std.proofs.Common.{◌≡◌, ◌≤◌, ◌&&◌, not, Bool, true, false, ℕ, cond, Some, None, Err, refl, subst, sym, arith}
 use Rattle.nt_edge.specs.Disk.{DiskState, HasCause, IsBounded, next}
-use Rattle.nt_edge.specs.Host.{Rises}
+use Rattle.nt_bytes.specs.Counts.{Rises}
 use Rattle.nt_edge.specs.declared.disk.DiskCall.{DiskCall}
 use Rattle.nt_edge.specs.declared.disk.DiskStop.{DiskStop}
 use Rattle.nt_edge.specs.declared.disk.DiskStop.TheVariants.{PowerLost, Failed, Memory}

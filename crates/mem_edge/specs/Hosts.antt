@@ -37,8 +37,8 @@ pub record FailsWrite {A : Type 0} (result : Result A HostStop) (old new : MemHo
   pub other : new.fail_read ≡ old.fail_read
 
 -- neither count of a host in memory is past its end
-abbrev pub bounded_law : (h : MemHost) → IsWithinEnds h.reads h.writes
-bounded_law h = h.ends
+abbrev pub ends_law : (h : MemHost) → IsWithinEnds h.reads h.writes
+ends_law h = h.ends
 
 -- the files of a host without failures
 abbrev pub quiet_files_of : QuietHost → Files

@@ -145,7 +145,7 @@ impl Host for MemHost {
     ghost use Rattle.std.specs.Prelude.{◌≡◌, ◌++◌, true, IfOk, OnOk, OnErr, IsErrOf};
     ghost use Rattle.nt_edge.specs.Host.{Puts, KeepsOthers, KeepsHost, KeepsFiles, IsUnsaid, Asks, AsksNone, SaysFront, CountsFault};
     ghost use Rattle.nt_edge.specs.declared.host.HostStop.TheVariants.{Read, Write};
-    ghost use Rattle.mem_edge.specs.Hosts.{host_of, FailsRead, FailsWrite, bounded_law};
+    ghost use Rattle.mem_edge.specs.Hosts.{host_of, FailsRead, FailsWrite, ends_law};
 
     ghost state = { host_of };
 
@@ -217,5 +217,5 @@ impl Host for MemHost {
         }
     }
 
-    ghost bounded = { bounded_law };
+    ghost bounded = { ends_law };
 }

@@ -5,7 +5,8 @@ use Rattle.hive_model.specs.Image.{Image}
 use Rattle.hive_model.specs.Carries.{Carries}
 use Rattle.hive_model.specs.Load.{Loads, LoadFault}
 use Rattle.nt_edge.specs.Disk.{DiskState, CountsGrow}
-use Rattle.nt_edge.specs.Host.{HostState, KeepsHost, KeepsFiles, AsksNone, SaysFront, Rises}
+use Rattle.nt_edge.specs.Host.{HostState, KeepsHost, KeepsFiles, AsksNone, SaysFront}
+use Rattle.nt_bytes.specs.Counts.{Rises}
 use Rattle.hive_mend.specs.Loaded.{Loaded, loaded_state}
 use Rattle.hive_mend.specs.Loading.{IsLoadOf}
 use Rattle.hive_mend.specs.Mending.{shorter, mended_by}

@@ -1,4 +1,4 @@
 mod FilterLemmas
 pub mod FoldLemmas
 pub mod PlaceLemmas
-mod OrderLemmas
+pub mod OrderLemmas

@@ -8,13 +8,13 @@ use Rattle.std.proofs.lemmas.List.Splits.{slice_split_first, slice_split_none}
 use Rattle.std.proofs.lemmas.Bool.{ltb-true, ltb-false, eqb-true, ne_eqb}
 use Rattle.std.proofs.lemmas.Bool.Decides.{nat_tests}
 use Rattle.std.proofs.lemmas.List.{append-nil}
-use Rattle.nt_bytes.specs.Text.{is_zero, is_item, items_of}
+use Rattle.nt_bytes.specs.Text.{is_zero, is_filled, items_of}
 
 -- the first part, and what the parts behind it give
 record Parts (units : List ℕ) : Type 0 where
   more : List (List ℕ)
   whole : slice_split is_zero units ≡ before_first is_zero units ∷ more
-  behind : take_while is_item more ≡ items_of (after_first is_zero units)
+  behind : take_while is_filled more ≡ items_of (after_first is_zero units)
 
 no_zero : (units : List ℕ) → length units ≤ position_or_len is_zero units → All (λ u. is_zero u ≡ false) units
 no_zero units all = All-from_get_or (λ u. is_zero u ≡ false) units 0
@@ -40,14 +40,14 @@ parts_at : (units : List ℕ) → Parts units
 parts_at units = parts_by units (ltb (position_or_len is_zero units) (length units)) refl
 
 first_stays : (x : List ℕ) (more : List (List ℕ)) → 0 < length x
-    → take_while is_item (x ∷ more) ≡ x ∷ take_while is_item more
+    → take_while is_filled (x ∷ more) ≡ x ∷ take_while is_filled more
 first_stays [] more some = absurd (omega arith)
 first_stays (c ∷ x) more some =
     let full : eqb (length (c ∷ x)) 0 ≡ false = ne_eqb _ 0 (λ e. absurd (omega arith)) in
-    let one : 1 + prefix_len is_item more ≡ suc (prefix_len is_item more) = omega arith in
+    let one : 1 + prefix_len is_filled more ≡ suc (prefix_len is_filled more) = omega arith in
     rw (full, one) refl
 
-first_ends : (x : List ℕ) (more : List (List ℕ)) → length x ≡ 0 → take_while is_item (x ∷ more) ≡ []
+first_ends : (x : List ℕ) (more : List (List ℕ)) → length x ≡ 0 → take_while is_filled (x ∷ more) ≡ []
 first_ends [] more none = refl
 first_ends (c ∷ x) more none = absurd (omega arith)
 
@@ -55,14 +55,14 @@ first_ends (c ∷ x) more none = absurd (omega arith)
 no_items : (units : List ℕ) → length (before_first is_zero units) ≡ 0 → items_of units ≡ []
 no_items units none =
     let p = parts_at units in
-    ap (take_while is_item) p.whole ∙ first_ends (before_first is_zero units) p.more none
+    ap (take_while is_filled) p.whole ∙ first_ends (before_first is_zero units) p.more none
 
 -- the first string, and those behind it
 more_items : (units : List ℕ) → 0 < length (before_first is_zero units)
     → items_of units ≡ before_first is_zero units ∷ items_of (after_first is_zero units)
 more_items units some =
     let p = parts_at units in
-    ap (take_while is_item) p.whole ∙ first_stays (before_first is_zero units) p.more some
+    ap (take_while is_filled) p.whole ∙ first_stays (before_first is_zero units) p.more some
     ∙ ap (λ (xs : List (List ℕ)). before_first is_zero units ∷ xs) p.behind
 
 -- at an empty string all are found

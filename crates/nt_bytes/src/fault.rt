@@ -7,7 +7,7 @@ use std::alloc::{AllocError, AllocFailed};
 
 /// What check failed. docs/format.md says when each comes.
 #[derive(Clone, Copy, Debug, PartialEq, Eq)]
-pub enum HiveKind {
+pub enum HiveFaultKind {
     /// The base block has no signature `regf`, or is absent.
     NotRegf,
     /// The base block's checksum is not that of its words.
@@ -69,7 +69,7 @@ pub enum HiveKind {
 /// The first check that fails, and where: a byte of the file or an offset in the bins data.
 #[derive(Clone, Copy, Debug, PartialEq, Eq)]
 pub struct HiveFault {
-    pub kind: HiveKind,
+    pub kind: HiveFaultKind,
     pub at: u32,
 }
 

@@ -14,7 +14,7 @@ mod units;
 mod version;
 
 pub use bytes::Bytes;
-pub use fault::{HiveFault, HiveKind, ReadStop};
+pub use fault::{HiveFault, HiveFaultKind, ReadStop};
 pub use fields::{put_u16, put_u32, put_u64, u16_at, u32_at, u64_at};
 pub use folding::{compare_folded, fold, same_folded};
 pub use names::Names;

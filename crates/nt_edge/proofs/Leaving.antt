@@ -3,7 +3,7 @@ use Rattle.std.proofs.Common.{◌≡◌, ◌∙◌, ℕ, Bool, true, Ok, subst, 
 use Rattle.std.specs.Prelude.{IsErrOf}
 use Rattle.nt_edge.specs.Disk.{DiskState}
 use Rattle.nt_edge.specs.Frames.{GoesOn, Goes, LeavesAsRead}
-use Rattle.nt_edge.specs.Host.{Rises}
+use Rattle.nt_bytes.specs.Counts.{Rises}
 use Rattle.nt_edge.specs.declared.disk.DiskStop.{DiskStop}
 
 -- what came first was not refused

@@ -1,7 +1,7 @@
 -- What a disk of sectors is at a moment, and what its calls owe. (This project's own disk model.)
 use Rattle.std.specs.Prelude.{◌≡◌, ◌≤◌, ◌+◌, Bool, true, false, ℕ, List, [], None, min, Result, IsErrOf}
 use Rattle.hive_model.specs.Image.{Image, Write, Arming, overlaid}
-use Rattle.nt_edge.specs.Host.{Rises}
+use Rattle.nt_bytes.specs.Counts.{Rises}
 use Rattle.nt_edge.specs.declared.disk.DiskStop.{DiskStop}
 use Rattle.nt_edge.specs.declared.disk.DiskStop.TheVariants.{PowerLost, Failed, Memory}
 

@@ -4,7 +4,7 @@
 -- A caller names what its answer tells: that the power was lost, that the device failed, that memory was lacking. Where
 -- its answer is the disk's own, these are `IsErrOf result PowerLost` and so on.
 use Rattle.std.specs.Prelude.{◌≡◌, Bool, true, false, Result, IsErrOf}
-use Rattle.nt_edge.specs.Host.{Rises}
+use Rattle.nt_bytes.specs.Counts.{Rises}
 use Rattle.nt_edge.specs.Disk.{DiskState, CountsGrow}
 use Rattle.nt_edge.specs.declared.disk.DiskStop.{DiskStop}
 use Rattle.nt_edge.specs.declared.disk.DiskStop.TheVariants.{PowerLost, Failed, Memory}

@@ -1,12 +1,9 @@
 -- What a host is at a moment: its files, and what was said to it; and what its calls leave. (This project's own.)
-use Rattle.std.specs.Prelude.{◌≡◌, ◌⊎◌, ◌<◌, ◌≤◌, ◌+◌, ◌++◌, min, ℕ, Bool, true, List, Option, Some, if◌then◌else◌}
+use Rattle.std.specs.Prelude.{◌≡◌, ◌≤◌, ◌+◌, ◌++◌, min, ℕ, Bool, true, List, Option, Some, if◌then◌else◌}
 use Rattle.std.specs.Prelude.{bytes_eq, Result, Ok, Err}
 use Rattle.nt_edge.specs.declared.host.HostStop.{HostStop}
 use Rattle.nt_edge.specs.declared.host.HostStop.TheVariants.{Read, Write, Memory}
-
--- a count rose in a call: it is greater, or it stands at its end
-abbrev pub Rises : ℕ → ℕ → Type 0
-Rises before after = (before < after) ⊎ (after ≡ 18446744073709551615)
+use Rattle.nt_bytes.specs.Counts.{Rises}
 
 -- a host's files: the bytes under each name that is there
 abbrev pub Files : Type 0

@@ -23,7 +23,7 @@ use Rattle.command_parts.specs.Decides.{Decides, Ending}
 use Rattle.ntboot_cli.specs.Answer.{AsksAs, EndsInputs, EndsShown, EndsMade, EndsWords, LeavesFiles, MakesAlone, TopDecides, saves_of}
 use Rattle.command_parts.specs.Inputs.{file_in, hive_in, asks_hive, AsksSoMany}
 use Rattle.ntboot_cli.specs.Inputs.{arguments_in, inputs_in, asks_run, asks_show}
-use Rattle.command_parts.specs.Leaves.{Leaves, stop_in}
+use Rattle.command_parts.specs.Leaves.{Leaves, stop_in, IsPartDone}
 use Rattle.ntboot_cli.specs.Made.{usual_in}
 use Rattle.command_parts.specs.Refusals.{Ends, IsToldAs, refusal, refusal_text}
 use Rattle.command_parts.specs.Saves.{Saves, no_saves}
@@ -36,7 +36,7 @@ use Rattle.control_command.specs.Inputs.{asks_control, inputs_in as control_inpu
 use Rattle.hive_alt.specs.Schemes.{Standing}
 use Rattle.twin_command.specs.Twinned.{DecidesTwin, EndsTwin, asks_twin, stands_by, twin_saves}
 use Rattle.text_commands.specs.Asks.{AsksImport, AsksText}
-use Rattle.text_commands.specs.Imported.{DecidesImport, EndsImport, IsPartImported, import_saves}
+use Rattle.text_commands.specs.Imported.{DecidesImport, EndsImport, import_saves}
 use Rattle.text_commands.specs.Exported.{DecidesExport, EndsExported, PutsAs, asks_export, export_of, path_in}
 use Rattle.command_parts.proofs.AskLemmas.{asks_on}
 use Rattle.command_parts.proofs.DecideLemmas.{untouched_by, refusal_decides, memory_decides, refused_unread, not_read, new_off, unrun}
@@ -262,8 +262,8 @@ unread_twin : (wanted : Result HiveFiles Refusal) (stands : Standing) (number : 
 unread_twin (Err r) stands number saves disk said fresh = (inr (no_front (refusal_text r) said said refl), fresh)
 unread_twin (Ok files) stands number saves disk said fresh = inl (inr (inr (refl, refl, unrun disk fresh)))
 
-part_imported : (files : HiveFiles) (disk : DiskState) → disk ≡ new_state → IsPartImported files 0 disk
-part_imported files disk fresh = subst (λ (d : DiskState). IsPartImported files 0 d) (sym fresh)
+part_imported : (files : HiveFiles) (disk : DiskState) → disk ≡ new_state → IsPartDone files 0 disk
+part_imported files disk fresh = subst (λ (d : DiskState). IsPartDone files 0 d) (sym fresh)
     (record { placed = omega arith; taken = omega arith; unordered = refl; uncut = refl })
 
 unread_import : (wanted : Result HiveFiles Refusal) (saves : Saves) (text : Result (List ℕ) Refusal) (disk : DiskState)

@@ -5,7 +5,8 @@ use Rattle.nt_edge.specs.Bench.{KeepsOrders}
 use Rattle.nt_edge.specs.Disk.{DiskState}
 use Rattle.start_model.specs.Lines.{text_of}
 use Rattle.start_model.specs.Summary.{with_lines}
-use Rattle.start_model.specs.Causes.{Tally, Rises, next_tally, Caused}
+use Rattle.start_model.specs.Causes.{Tally, next_tally, Caused}
+use Rattle.nt_bytes.specs.Counts.{Rises}
 use Rattle.start_model.specs.Events.{Event}
 use Rattle.start_model.specs.Possible.{Woken, Outcome, Finished, PowerCut, DeviceFault}
 use Rattle.start_model.specs.Act.{Note, Woke, Held, Saved, Ordered, Cuts, Ended}

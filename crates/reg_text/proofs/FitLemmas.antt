@@ -10,8 +10,8 @@ use Rattle.hive_model.specs.Edit.{Step, set_value, delete_value, make_key, delet
 use Rattle.reg_tree.specs.declared.steps.TreeStep.{TreeStep}
 use Rattle.reg_tree.specs.Makes.{step_of}
 use Rattle.reg_tree.specs.Fitting.{Fits}
-use Rattle.reg_text.specs.declared.stop.RegKind.{RegKind}
-use Rattle.reg_text.specs.declared.stop.RegKind.TheVariants.{Mark, Line}
+use Rattle.reg_text.specs.declared.stop.RegFaultKind.{RegFaultKind}
+use Rattle.reg_text.specs.declared.stop.RegFaultKind.TheVariants.{Mark, Line}
 use Rattle.reg_text.specs.declared.stop.RegFault.{RegFault}
 use Rattle.reg_text.specs.declared.stop.RegStop.{RegStop}
 use Rattle.reg_text.specs.declared.item.LineItem.{LineItem}
@@ -36,7 +36,7 @@ making_fit above (name ∷ path) =
     All-cons Fits (make_key above name) (making (above ++ name ∷ []) path) tt (making_fit (above ++ name ∷ []) path)
 
 -- the edits of a result, if it is one
-abbrev FitsRead : Result (List Step) RegKind → Type 0
+abbrev FitsRead : Result (List Step) RegFaultKind → Type 0
 FitsRead (Ok steps) = Fit steps
 FitsRead (Err kind) = Unit {0}
 
@@ -51,7 +51,7 @@ edits_fit (Some path) (NoValue name) = one_step (delete_value path name) tt
 edits_fit None (GoesOn begun) = tt
 edits_fit (Some path) (GoesOn begun) = no_step
 
-abbrev FitsLine : Result (List Step × State) RegKind → Type 0
+abbrev FitsLine : Result (List Step × State) RegFaultKind → Type 0
 FitsLine (Ok r) = Fit r.0
 FitsLine (Err kind) = Unit {0}
 
@@ -59,12 +59,12 @@ abbrev FitsLines : Result (List Step × State) RegFault → Type 0
 FitsLines (Ok r) = Fit r.0
 FitsLines (Err f) = Unit {0}
 
-edits_kept : (state : State) (item : LineItem) (r : Result (List Step) RegKind) → FitsRead r
+edits_kept : (state : State) (item : LineItem) (r : Result (List Step) RegFaultKind) → FitsRead r
     → FitsLine (r >>= λ edits. Ok (edits, state_after state item))
 edits_kept state item (Ok edits) fits = fits
 edits_kept state item (Err kind) fits = tt
 
-item_fits : (state : State) (r : Result LineItem RegKind)
+item_fits : (state : State) (r : Result LineItem RegFaultKind)
     → FitsLine (r >>= λ item. edits_of state.key item >>= λ edits. Ok (edits, state_after state item))
 item_fits state (Ok item) = edits_kept state item (edits_of state.key item) (edits_fit state.key item)
 item_fits state (Err kind) = tt
@@ -73,7 +73,7 @@ line_fits : (state : State) (line : List ℕ) → FitsLine (line_said state line
 unfolding line_said
 line_fits state line = item_fits state (item_at state.begun (trimmed line))
 
-placed_fits : (n : ℕ) (r : Result (List Step × State) RegKind) → FitsLine r → FitsLines (at_line n r)
+placed_fits : (n : ℕ) (r : Result (List Step × State) RegFaultKind) → FitsLine r → FitsLines (at_line n r)
 placed_fits n (Ok r) fits = fits
 placed_fits n (Err kind) fits = tt
 
@@ -94,7 +94,7 @@ lines_fit (line ∷ more) state =
     then_fits (at_line (number_of state) (line_said state line)) (λ next. lines_said next more)
     (placed_fits (number_of state) (line_said state line) (line_fits state line)) (lines_fit more)
 
-behind_fits : (body : Result (List (List ℕ)) RegKind) → FitsLines (lines_behind body)
+behind_fits : (body : Result (List (List ℕ)) RegFaultKind) → FitsLines (lines_behind body)
 behind_fits (Ok body) = lines_fit body first_state
 behind_fits (Err kind) = tt
 

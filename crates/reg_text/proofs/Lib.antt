@@ -2,4 +2,4 @@ mod DigitLemmas
 mod FitLemmas
 mod PairLemmas
 mod QuoteLemmas
-mod ReadLemmas
+pub mod ReadLemmas

@@ -3,7 +3,7 @@ use Rattle.std.specs.Prelude.{◌≡◌, ℕ, List, map, Option, Some, None, Res
 use Rattle.reg_tree.specs.declared.steps.TreeStep.{TreeStep}
 use Rattle.reg_tree.specs.Makes.{step_of}
 use Rattle.hive_model.specs.Edit.{Step}
-use Rattle.reg_text.specs.declared.stop.RegKind.{RegKind}
+use Rattle.reg_text.specs.declared.stop.RegFaultKind.{RegFaultKind}
 use Rattle.reg_text.specs.declared.stop.RegFault.{RegFault}
 use Rattle.reg_text.specs.declared.stop.RegStop.{RegStop}
 use Rattle.reg_text.specs.declared.stop.RegStop.TheVariants as stops
@@ -14,12 +14,12 @@ use Rattle.reg_text.specs.declared.stop.RegLineStop.TheVariants as line_stops
 
 infixl 10 ◌>>=◌
 -- what follows, unless there is a fault
-abbrev pub ◌>>=◌ : {A B : Type 0} → Result A RegKind → (A → Result B RegKind) → Result B RegKind
+abbrev pub ◌>>=◌ : {A B : Type 0} → Result A RegFaultKind → (A → Result B RegFaultKind) → Result B RegFaultKind
 (Ok x) >>= f = f x
 (Err e) >>= f = Err e
 
 -- the fault is in this line
-abbrev pub at_line : {A : Type 0} → ℕ → Result A RegKind → Result A RegFault
+abbrev pub at_line : {A : Type 0} → ℕ → Result A RegFaultKind → Result A RegFault
 at_line n (Ok x) = Ok x
 at_line n (Err kind) = Err (record { kind = kind; line = n })
 
@@ -29,17 +29,17 @@ Finds view (Some x) found = found ≡ Some (view x)
 Finds view None found = found ≡ None
 
 -- what was returned, seen by view, is what reading gives
-abbrev pub Sees : {X Y : Type 0} → (X → Y) → Result X RegKind → Result Y RegKind → Type 0
+abbrev pub Sees : {X Y : Type 0} → (X → Y) → Result X RegFaultKind → Result Y RegFaultKind → Type 0
 Sees view (Ok x) read = read ≡ Ok (view x)
 Sees view (Err e) read = read ≡ Err e
 
 -- the line has this fault, or memory ran out
-abbrev pub Fails : {Y : Type 0} → RegLineStop → Result Y RegKind → Type 0
+abbrev pub Fails : {Y : Type 0} → RegLineStop → Result Y RegFaultKind → Type 0
 Fails line_stops.Memory read = Unit {0}
 Fails (line_stops.Kind k) read = read ≡ Err k
 
 -- the same, unless memory ran out
-abbrev pub Gives : {X Y : Type 0} → (X → Y) → Result X RegLineStop → Result Y RegKind → Type 0
+abbrev pub Gives : {X Y : Type 0} → (X → Y) → Result X RegLineStop → Result Y RegFaultKind → Type 0
 Gives view (Ok x) read = read ≡ Ok (view x)
 Gives view (Err e) read = Fails e read
 

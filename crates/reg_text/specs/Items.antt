@@ -17,9 +17,9 @@ use Rattle.std.specs.Option.{option_map_or}
 use Rattle.std.specs.Int.{w32, to_le_bytes}
 use Rattle.std.specs.Str.Parse.{digits_value}
 use Rattle.nt_bytes.specs.Folding.{folded_unit}
-use Rattle.hive_model.specs.Valid.{is_backslash}
-use Rattle.reg_text.specs.declared.stop.RegKind.{RegKind}
-use Rattle.reg_text.specs.declared.stop.RegKind.TheVariants.{Line, Root}
+use Rattle.nt_bytes.specs.Text.{is_backslash}
+use Rattle.reg_text.specs.declared.stop.RegFaultKind.{RegFaultKind}
+use Rattle.reg_text.specs.declared.stop.RegFaultKind.TheVariants.{Line, Root}
 use Rattle.reg_text.specs.declared.item.Begun.{Begun}
 use Rattle.reg_text.specs.declared.item.LineItem.{LineItem}
 use Rattle.reg_text.specs.declared.item.LineItem.TheVariants.{Nothing, InKey, NoKey, Named, NoValue, GoesOn}
@@ -47,32 +47,32 @@ behind (c ∷ word) (u ∷ text) = if folded_unit u == folded_unit c then behind
 -- ---- lines of keys
 
 -- the names behind the prefix of a path
-unfoldable pub parts_behind : List ℕ → Result (List (List ℕ)) RegKind
+unfoldable pub parts_behind : List ℕ → Result (List (List ℕ)) RegFaultKind
 parts_behind [] = Ok []
 parts_behind (c ∷ rest) = if is_backslash c then Ok (slice_split is_backslash rest) else Err Root
 
 -- the path that a key's text names
-unfoldable pub path_at : List ℕ → Result (List (List ℕ)) RegKind
+unfoldable pub path_at : List ℕ → Result (List (List ℕ)) RegFaultKind
 path_at text = option_map_or parts_behind (behind system text) (Err Root)
 
 -- what stands between the brackets
-unfoldable pub bracketed : List ℕ → Result LineItem RegKind
+unfoldable pub bracketed : List ℕ → Result LineItem RegFaultKind
 bracketed [] = Err Root
 bracketed (c ∷ text) = if c == 45 then (path_at text >>= λ path. Ok (NoKey path)) else (path_at (c ∷ text) >>= λ path. Ok (InKey path))
 
 -- the line of a key behind its first bracket: it runs to its last bracket
-unfoldable pub key_item : List ℕ → Result LineItem RegKind
+unfoldable pub key_item : List ℕ → Result LineItem RegFaultKind
 key_item text = if ends_in 93 text then bracketed (front text) else Err Line
 
 -- ---- lines of values
 
 -- the name, and what follows the `=` behind it
-unfoldable pub named : List ℕ → List ℕ → Result (List ℕ × List ℕ) RegKind
+unfoldable pub named : List ℕ → List ℕ → Result (List ℕ × List ℕ) RegFaultKind
 named name [] = Err Line
 named name (c ∷ text) = if c == 61 then Ok (name, text) else Err Line
 
 -- the name at the front of a line
-unfoldable pub name_at : List ℕ → Result (List ℕ × List ℕ) RegKind
+unfoldable pub name_at : List ℕ → Result (List ℕ × List ℕ) RegFaultKind
 name_at [] = Err Line
 name_at (c ∷ line) =
     if c == 64 then named [] line
@@ -84,15 +84,15 @@ abbrev pub string_bytes : List ℕ → List ℕ
 string_bytes text = flat_map unit_bytes text ++ 0 ∷ 0 ∷ []
 
 -- a string, behind whose closing quote nothing may stand
-unfoldable pub string_ended : List ℕ → List ℕ → List ℕ → Result LineItem RegKind
+unfoldable pub string_ended : List ℕ → List ℕ → List ℕ → Result LineItem RegFaultKind
 string_ended name text rest = if length rest == 0 then Ok (Named name 1 (string_bytes text)) else Err Line
 
 -- a text in quotes, behind its first quote, is a value of type 1
-unfoldable pub string_item : List ℕ → List ℕ → Result LineItem RegKind
+unfoldable pub string_item : List ℕ → List ℕ → Result LineItem RegFaultKind
 string_item name text = quoted_from false text >>= λ q. string_ended name q.0 q.1
 
 -- eight digits are a value of type 4
-unfoldable pub dword_item : List ℕ → List ℕ → Result LineItem RegKind
+unfoldable pub dword_item : List ℕ → List ℕ → Result LineItem RegFaultKind
 dword_item name text =
     if (length text == 8) && list_all is_hex text then Ok (Named name 4 (to_le_bytes w32 (digits_value 16 text))) else Err Line
 
@@ -105,40 +105,40 @@ abbrev pub continued : List ℕ → Option (List ℕ)
 continued line = if ends_in 92 line then comma_ended (front line) else None
 
 -- bytes of a value, of which so much was written in earlier lines
-unfoldable pub bytes_item : List ℕ → ℕ → List ℕ → List ℕ → Result LineItem RegKind
+unfoldable pub bytes_item : List ℕ → ℕ → List ℕ → List ℕ → Result LineItem RegFaultKind
 bytes_item name kind text line = option_map_or
     (λ more. Ok (GoesOn (record { name = name; kind = kind; text = text ++ more })))
     (continued line)
     (bytes_of (text ++ line) >>= λ bytes. Ok (Named name kind bytes))
 
 -- the type, where `):` follows its digits, and what follows that
-unfoldable pub kind_ended : ℕ → List ℕ → Result (ℕ × List ℕ) RegKind
+unfoldable pub kind_ended : ℕ → List ℕ → Result (ℕ × List ℕ) RegFaultKind
 kind_ended kind rest = option_map_or (λ bytes. Ok (kind, bytes)) (behind (codes "):") rest) (Err Line)
 
 -- the type behind `hex(`, with one to eight digits, and what follows it
-unfoldable pub kind_in : List ℕ → Result (ℕ × List ℕ) RegKind
+unfoldable pub kind_in : List ℕ → Result (ℕ × List ℕ) RegFaultKind
 kind_in text =
     let n = prefix_len is_hex text in
     if (n == 0) || nat_lt 8 n then Err Line else kind_ended (digits_value 16 (take n text)) (drop n text)
 
 -- the type in brackets
-abbrev pub wide_kind : List ℕ → Result (ℕ × List ℕ) RegKind
+abbrev pub wide_kind : List ℕ → Result (ℕ × List ℕ) RegFaultKind
 wide_kind text = option_map_or kind_in (behind (codes "hex(") text) (Err Line)
 
 -- the type of bytes, and what follows it
-unfoldable pub kind_at : List ℕ → Result (ℕ × List ℕ) RegKind
+unfoldable pub kind_at : List ℕ → Result (ℕ × List ℕ) RegFaultKind
 kind_at text = option_map_or (λ rest. Ok (3, rest)) (behind (codes "hex:") text) (wide_kind text)
 
 -- bytes behind their type
-unfoldable pub hex_item : List ℕ → List ℕ → Result LineItem RegKind
+unfoldable pub hex_item : List ℕ → List ℕ → Result LineItem RegFaultKind
 hex_item name text = kind_at text >>= λ k. bytes_item name k.0 [] k.1
 
 -- a number or bytes
-unfoldable pub number_item : List ℕ → List ℕ → Result LineItem RegKind
+unfoldable pub number_item : List ℕ → List ℕ → Result LineItem RegFaultKind
 number_item name text = option_map_or (dword_item name) (behind (codes "dword:") text) (hex_item name text)
 
 -- the data behind the `=`
-unfoldable pub data_item : List ℕ → List ℕ → Result LineItem RegKind
+unfoldable pub data_item : List ℕ → List ℕ → Result LineItem RegFaultKind
 data_item name [] = Err Line
 data_item name (c ∷ text) =
     if c == 34 then string_item name text
@@ -146,13 +146,13 @@ data_item name (c ∷ text) =
     else number_item name (c ∷ text)
 
 -- the line of a value
-unfoldable pub value_item : List ℕ → Result LineItem RegKind
+unfoldable pub value_item : List ℕ → Result LineItem RegFaultKind
 value_item line = name_at line >>= λ n. data_item n.0 n.1
 
 -- ---- a line
 
 -- a line that begins anew; an empty one and one that begins with `;` say nothing
-unfoldable pub fresh_item : List ℕ → Result LineItem RegKind
+unfoldable pub fresh_item : List ℕ → Result LineItem RegFaultKind
 fresh_item [] = Ok Nothing
 fresh_item (c ∷ line) =
     if c == 59 then Ok Nothing
@@ -160,6 +160,6 @@ fresh_item (c ∷ line) =
     else value_item (c ∷ line)
 
 -- a line, where the bytes of a value may go on in it
-unfoldable pub item_at : Option Begun → List ℕ → Result LineItem RegKind
+unfoldable pub item_at : Option Begun → List ℕ → Result LineItem RegFaultKind
 item_at None line = fresh_item line
 item_at (Some begun) line = bytes_item begun.name begun.kind begun.text line

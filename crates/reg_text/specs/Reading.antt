@@ -9,8 +9,8 @@ use Rattle.std.specs.Str.{bytes_eq}
 use Rattle.std.specs.Str.Lines.{lines}
 use Rattle.nt_bytes.specs.Text.{wide_of, trimmed}
 use Rattle.hive_model.specs.Edit.{Step, set_value, delete_value, make_key, delete_key}
-use Rattle.reg_text.specs.declared.stop.RegKind.{RegKind}
-use Rattle.reg_text.specs.declared.stop.RegKind.TheVariants.{Mark, Header, Line}
+use Rattle.reg_text.specs.declared.stop.RegFaultKind.{RegFaultKind}
+use Rattle.reg_text.specs.declared.stop.RegFaultKind.TheVariants.{Mark, Header, Line}
 use Rattle.reg_text.specs.declared.stop.RegFault.{RegFault}
 use Rattle.reg_text.specs.declared.item.Begun.{Begun}
 use Rattle.reg_text.specs.declared.item.LineItem.{LineItem}
@@ -28,12 +28,12 @@ making above [] = []
 making above (name ∷ path) = make_key above name ∷ making (above ++ name ∷ []) path
 
 -- the edits of a value, which stands in a key
-abbrev pub in_key : Option (List (List ℕ)) → (List (List ℕ) → List Step) → Result (List Step) RegKind
+abbrev pub in_key : Option (List (List ℕ)) → (List (List ℕ) → List Step) → Result (List Step) RegFaultKind
 in_key None edits = Err Line
 in_key (Some path) edits = Ok (edits path)
 
 -- the edits of a line, where values stand in this key, if in any
-abbrev pub edits_of : Option (List (List ℕ)) → LineItem → Result (List Step) RegKind
+abbrev pub edits_of : Option (List (List ℕ)) → LineItem → Result (List Step) RegFaultKind
 edits_of key Nothing = Ok []
 edits_of key (InKey path) = Ok (making [] path)
 edits_of key (NoKey path) = Ok (delete_key path ∷ [])
@@ -68,7 +68,7 @@ state_after state item = record {
 }
 
 -- the edits of a line, and what is kept behind it
-unfoldable pub line_said : State → List ℕ → Result (List Step × State) RegKind
+unfoldable pub line_said : State → List ℕ → Result (List Step × State) RegFaultKind
 line_said state line = item_at state.begun (trimmed line) >>= λ item. edits_of state.key item >>= λ edits. Ok (edits, state_after state item)
 
 -- the edits before those of the lines that follow
@@ -93,7 +93,7 @@ abbrev pub first_state : State
 first_state = record { line = 2; last = 1; key = None; begun = None }
 
 -- the lines behind the header
-unfoldable pub body_of : List (List ℕ) → Result (List (List ℕ)) RegKind
+unfoldable pub body_of : List (List ℕ) → Result (List (List ℕ)) RegFaultKind
 body_of [] = Err Header
 body_of (line ∷ more) = if bytes_eq (trimmed line) header then Ok more else Err Header
 
@@ -114,7 +114,7 @@ closed units odd (Err f) = Err f
 closed units odd (Ok r) = option_map_or (λ n. Err (record { kind = Line; line = n })) (unended r.1 units odd) (Ok r.0)
 
 -- the lines behind the header, or its fault
-abbrev pub lines_behind : Result (List (List ℕ)) RegKind → Result (List Step × State) RegFault
+abbrev pub lines_behind : Result (List (List ℕ)) RegFaultKind → Result (List Step × State) RegFault
 lines_behind (Err kind) = Err (record { kind = kind; line = 1 })
 lines_behind (Ok body) = lines_said first_state body
 

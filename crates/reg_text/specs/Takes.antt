@@ -7,8 +7,8 @@ use Rattle.reg_tree.specs.Makes.{step_of}
 use Rattle.hive_model.specs.Edit.{Step}
 use Rattle.reg_text.specs.declared.stop.RegFault.{RegFault}
 use Rattle.reg_text.specs.declared.stop.RegStop.{RegStop}
-use Rattle.reg_text.specs.declared.stop.RegKind.{RegKind}
-use Rattle.reg_text.specs.declared.stop.RegKind.TheVariants.{Line}
+use Rattle.reg_text.specs.declared.stop.RegFaultKind.{RegFaultKind}
+use Rattle.reg_text.specs.declared.stop.RegFaultKind.TheVariants.{Line}
 use Rattle.reg_text.specs.declared.item.Begun.{Begun}
 use Rattle.reg_text.specs.declared.item.LineItem.{LineItem}
 use Rattle.reg_text.specs.declared.state.State.{State}
@@ -16,12 +16,12 @@ use Rattle.reg_text.specs.Gives.{FailsBy}
 use Rattle.reg_text.specs.Reading.{edits_of, key_after, begun_after}
 
 -- the path of the key in which values stand
-abbrev pub path_of : Option (List (List ℕ)) → Result (List (List ℕ)) RegKind
+abbrev pub path_of : Option (List (List ℕ)) → Result (List (List ℕ)) RegFaultKind
 path_of None = Err Line
 path_of (Some path) = Ok path
 
 -- the list has these edits more
-pub record AddsEdits (old new : List TreeStep) (said : Result (List Step) RegKind) : Type 0 where
+pub record AddsEdits (old new : List TreeStep) (said : Result (List Step) RegFaultKind) : Type 0 where
   pub edits : List Step
   pub reads : said ≡ Ok edits
   pub adds : map step_of new ≡ map step_of old ++ edits
@@ -33,13 +33,13 @@ pub record TakesItem (old new : List TreeStep) (key : Option (List (List ℕ))) 
   pub begun_is : kept.1 ≡ begun_after item
 
 -- the list has the edits of a line more, and this is kept behind it
-pub record TakesLine (old new : List TreeStep) (said : Result (List Step × State) RegKind) (after : State) : Type 0 where
+pub record TakesLine (old new : List TreeStep) (said : Result (List Step × State) RegFaultKind) (after : State) : Type 0 where
   pub edits : List Step
   pub reads : said ≡ Ok (edits, after)
   pub adds : map step_of new ≡ map step_of old ++ edits
 
 -- what follows the header, or its fault
-abbrev pub GivesBody : Result (Bor (List ℕ)) RegKind → Result (List (List ℕ)) RegKind → Type 0
+abbrev pub GivesBody : Result (Bor (List ℕ)) RegFaultKind → Result (List (List ℕ)) RegFaultKind → Type 0
 GivesBody (Ok rest) read = read ≡ Ok (lines rest.now)
 GivesBody (Err kind) read = read ≡ Err kind
 

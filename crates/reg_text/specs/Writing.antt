@@ -16,7 +16,7 @@ use Rattle.std.specs.Int.{w32, from_le_bytes}
 use Rattle.nt_bytes.specs.Text.{sz_of}
 use Rattle.hive_model.specs.Tree.{Item, Tree, Trees, key, none, more, head}
 use Rattle.reg_text.specs.declared.stop.RegFault.{RegFault}
-use Rattle.reg_text.specs.declared.stop.RegKind.TheVariants.{NotText}
+use Rattle.reg_text.specs.declared.stop.RegFaultKind.TheVariants.{NotText}
 
 -- the first line
 abbrev pub header : List ℕ

@@ -7,7 +7,7 @@ ghost use Rattle.std.specs.Str.Parse.{digits_value};
 ghost use Rattle.reg_text.specs.Gives.{Gives, Sees};
 ghost use Rattle.reg_text.specs.Digits.{is_hex, byte_of, pair_at, behind_comma, pairs_of, bytes_of};
 
-use crate::stop::{RegKind, RegLineStop};
+use crate::stop::{RegFaultKind, RegLineStop};
 use nt_bytes::Bytes;
 use std::alloc::Global;
 
@@ -84,29 +84,29 @@ fn byte_of(high: u16, low: u16) -> u8
 
 /// The byte that the first two units write, and what follows them.
 #[tactic(auto, unfolding(crate::specs::Digits::pair_at))]
-fn pair(text: &[u16]) -> Result<(u8, &[u16]), RegKind>
+fn pair(text: &[u16]) -> Result<(u8, &[u16]), RegFaultKind>
     ensures exact { Sees (λ p. (p.0, p.1.now)) result (pair_at text.now) }
     ensures shorter { IfOk result (λ p. length p.1.now < length text.now) }
 {
     let [high, low, more @ ..] = text else {
-        return Err(RegKind::Line);
+        return Err(RegFaultKind::Line);
     };
     if !is_hex(*high) || !is_hex(*low) {
-        return Err(RegKind::Line);
+        return Err(RegFaultKind::Line);
     }
     Ok((byte_of(*high, *low), more))
 }
 
 /// What follows a comma; none at the end of the text.
 #[tactic(auto, unfolding(crate::specs::Digits::behind_comma))]
-fn behind_comma(text: &[u16]) -> Result<Option<&[u16]>, RegKind>
+fn behind_comma(text: &[u16]) -> Result<Option<&[u16]>, RegFaultKind>
     ensures exact { Sees (λ more. option_map (λ m. m.now) more) result (behind_comma text.now) }
     ensures shorter { IfOk result (λ more. IfSome more (λ m. length m.now < length text.now)) }
 {
     match text {
         [] => Ok(None),
         [0x2c, more @ ..] => Ok(Some(more)),
-        _ => Err(RegKind::Line),
+        _ => Err(RegFaultKind::Line),
     }
 }
 

@@ -3,7 +3,7 @@
 ghost use Rattle.std.specs.Prelude.{◌≡◌, ◌++◌, [], ◌∷◌, map, IsSome, OnOk, IfOk, IfErr};
 ghost use Rattle.reg_tree.specs.Makes.{step_of};
 ghost use Rattle.reg_text.specs.declared.item.LineItem.TheVariants as items;
-ghost use Rattle.reg_text.specs.declared.stop.RegKind.TheVariants as kinds;
+ghost use Rattle.reg_text.specs.declared.stop.RegFaultKind.TheVariants as kinds;
 ghost use Rattle.reg_text.specs.Gives.{Fails, Gives};
 ghost use Rattle.reg_text.specs.Reading.{making, edits_of, line_said};
 ghost use Rattle.reg_text.specs.Takes.{path_of, AddsEdits, TakesItem, TakesLine};
@@ -11,7 +11,7 @@ ghost use Rattle.reg_text.specs.Takes.{path_of, AddsEdits, TakesItem, TakesLine}
 use crate::item::{Begun, LineItem};
 use crate::line::item;
 use crate::state::{State, number_of};
-use crate::stop::{RegKind, RegLineStop};
+use crate::stop::{RegFaultKind, RegLineStop};
 use crate::units::trim;
 use nt_bytes::{Bytes, Names, Units};
 use reg_tree::{Steps, TreeStep};
@@ -56,7 +56,7 @@ fn path_of(alloc: Global, key: &Option<Names>) -> Result<Names, RegLineStop>
 {
     match key {
         Some(path) => Ok(path.copy(alloc)?),
-        None => Err(RegLineStop::Kind(RegKind::Line)),
+        None => Err(RegLineStop::Kind(RegFaultKind::Line)),
     }
 }
 
@@ -107,12 +107,12 @@ fn push_in_key(alloc: Global, steps: &mut Steps, path: &Names) -> Result<(), All
 }
 
 /// The key, where there is one.
-fn in_key(key: Option<Names>) -> Result<Option<Names>, RegKind>
+fn in_key(key: Option<Names>) -> Result<Option<Names>, RegFaultKind>
     ensures taken { IfOk result (λ k. (k ≡ key) × IsSome key) }
     ensures refused { IfErr result (λ e. (e ≡ kinds.Line) × (key ≡ None)) }
 {
     if key.is_none() {
-        return Err(RegKind::Line);
+        return Err(RegFaultKind::Line);
     }
     Ok(key)
 }

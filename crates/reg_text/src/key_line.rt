@@ -2,12 +2,12 @@
 
 ghost use Rattle.std.specs.Prelude.{◌≡◌, IfOk};
 ghost use Rattle.std.specs.List.{slice_split};
-ghost use Rattle.hive_model.specs.Valid.{is_backslash};
+ghost use Rattle.nt_bytes.specs.Text.{is_backslash};
 ghost use Rattle.reg_text.specs.Gives.{Gives};
 ghost use Rattle.reg_text.specs.Items.{parts_behind, path_at, bracketed, key_item};
 
 use crate::item::LineItem;
-use crate::stop::{RegKind, RegLineStop};
+use crate::stop::{RegFaultKind, RegLineStop};
 use crate::units::behind;
 use nt_bytes::{Names, Units};
 use std::alloc::{AllocError, Global};
@@ -31,7 +31,7 @@ fn parts_behind(alloc: Global, rest: &[u16]) -> Result<Names, RegLineStop>
     match rest {
         [] => Ok(Names::new(alloc)),
         [0x5c, more @ ..] => Ok(split_path(alloc, more)?),
-        _ => Err(RegLineStop::Kind(RegKind::Root)),
+        _ => Err(RegLineStop::Kind(RegFaultKind::Root)),
     }
 }
 
@@ -42,7 +42,7 @@ fn path(alloc: Global, text: &[u16]) -> Result<Names, RegLineStop>
 {
     match behind(b"HKEY_LOCAL_MACHINE\\SYSTEM", text) {
         Some(rest) => parts_behind(alloc, rest),
-        None => Err(RegLineStop::Kind(RegKind::Root)),
+        None => Err(RegLineStop::Kind(RegFaultKind::Root)),
     }
 }
 
@@ -52,7 +52,7 @@ fn bracketed(alloc: Global, text: &[u16]) -> Result<LineItem, RegLineStop>
     ensures { Gives (λ i. i) result (bracketed text.now) }
 {
     match text {
-        [] => Err(RegLineStop::Kind(RegKind::Root)),
+        [] => Err(RegLineStop::Kind(RegFaultKind::Root)),
         [0x2d, rest @ ..] => {
             let path = path(alloc, rest)?;
             Ok(LineItem::NoKey { path })
@@ -71,6 +71,6 @@ pub fn key_item(alloc: Global, text: &[u16]) -> Result<LineItem, RegLineStop>
 {
     match text {
         [inside @ .., 0x5d] => bracketed(alloc, inside),
-        _ => Err(RegLineStop::Kind(RegKind::Line)),
+        _ => Err(RegLineStop::Kind(RegFaultKind::Line)),
     }
 }

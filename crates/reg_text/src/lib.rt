@@ -23,5 +23,5 @@ mod writing;
 
 pub use key_line::split_path;
 pub use reading::read_reg;
-pub use stop::{RegFault, RegKind, RegStop};
+pub use stop::{RegFault, RegFaultKind, RegStop};
 pub use writing::reg_text;

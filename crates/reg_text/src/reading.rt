@@ -12,13 +12,13 @@ ghost use Rattle.reg_text.specs.Takes.{TakesLine, GivesBody, GivesLines};
 
 use crate::edits::say_line;
 use crate::state::{State, first_state, number_of, unended};
-use crate::stop::{RegFault, RegKind, RegLineStop, RegStop};
+use crate::stop::{RegFault, RegFaultKind, RegLineStop, RegStop};
 use crate::units::{first_line, is_text, trim};
 use nt_bytes::{Row, wide};
 use reg_tree::Steps;
 use std::alloc::Global;
 
-fn fault(kind: RegKind, line: u32) -> RegStop
+fn fault(kind: RegFaultKind, line: u32) -> RegStop
     ensures { result ≡ stops.Fault (record { kind = kind; line = line }) }
 {
     RegStop::Fault(RegFault { kind, line })
@@ -39,15 +39,15 @@ fn take_line(alloc: Global, steps: &mut Steps, state: State, line: &[u16]) -> Re
 
 /// What follows the header.
 #[tactic(auto, unfolding(crate::specs::Reading::body_of))]
-fn body(units: &[u16]) -> Result<&[u16], RegKind>
+fn body(units: &[u16]) -> Result<&[u16], RegFaultKind>
     ensures { GivesBody result (body_of (lines units.now)) }
 {
     if units.is_empty() {
-        return Err(RegKind::Header);
+        return Err(RegFaultKind::Header);
     }
     let (line, rest) = first_line(units);
     if !is_text(trim(line), b"Windows Registry Editor Version 5.00") {
-        return Err(RegKind::Header);
+        return Err(RegFaultKind::Header);
     }
     Ok(rest)
 }
@@ -84,7 +84,7 @@ fn read_units(alloc: Global, units: &[u16], odd: bool) -> Result<Steps, RegStop>
 {
     let (steps, state) = read_behind(alloc, units)?;
     match unended(&state, units, odd) {
-        Some(line) => Err(fault(RegKind::Line, line)),
+        Some(line) => Err(fault(RegFaultKind::Line, line)),
         None => Ok(steps),
     }
 }
@@ -109,7 +109,7 @@ fn read_text(alloc: Global, text: &[u8]) -> Result<Steps, RegStop>
             let units = wide(alloc, bytes)?;
             read_units(alloc, units.as_slice(), bytes.len() % 2 == 1)
         }
-        None => Err(fault(RegKind::Mark, 0)),
+        None => Err(fault(RegFaultKind::Mark, 0)),
     }
 }
 

@@ -8,7 +8,7 @@ use std::alloc::{AllocError, AllocFailed};
 
 /// What is wrong with a text, or with a tree that is to be one.
 #[derive(Clone, Copy, Debug, PartialEq, Eq)]
-pub enum RegKind {
+pub enum RegFaultKind {
     /// The text doesn't begin with the bytes `ff fe`.
     Mark,
     /// The first line isn't the header.
@@ -25,7 +25,7 @@ pub enum RegKind {
 /// given as that number.
 #[derive(Clone, Copy, Debug, PartialEq, Eq)]
 pub struct RegFault {
-    pub kind: RegKind,
+    pub kind: RegFaultKind,
     pub line: u32,
 }
 
@@ -41,7 +41,7 @@ pub enum RegStop {
 /// Why one line says nothing.
 #[derive(Clone, Copy, Debug, PartialEq, Eq)]
 pub enum RegLineStop {
-    Kind(RegKind),
+    Kind(RegFaultKind),
     Memory,
 }
 
@@ -77,10 +77,10 @@ impl<T: Drop> From<AllocFailed<T>> for RegLineStop {
     }
 }
 
-impl From<RegKind> for RegLineStop {
+impl From<RegFaultKind> for RegLineStop {
     ghost from_gives = { λ k e. e ≡ line_stops.Kind k };
 
-    fn from(kind: RegKind) -> RegLineStop {
+    fn from(kind: RegFaultKind) -> RegLineStop {
         RegLineStop::Kind(kind)
     }
 }

@@ -8,7 +8,7 @@ ghost use Rattle.reg_text.specs.Items.{comma_ended, continued, named, name_at, s
 use crate::digits::{all_hex, bytes, hex_count, hex_number};
 use crate::item::{Begun, LineItem};
 use crate::quotes::quoted;
-use crate::stop::{RegKind, RegLineStop};
+use crate::stop::{RegFaultKind, RegLineStop};
 use crate::units::behind;
 use nt_bytes::{Bytes, Units};
 use std::alloc::{AllocError, Global};
@@ -20,7 +20,7 @@ fn named(name: Units, rest: &[u16]) -> Result<(Units, &[u16]), RegLineStop>
 {
     match rest {
         [0x3d, data @ ..] => Ok((name, data)),
-        _ => Err(RegLineStop::Kind(RegKind::Line)),
+        _ => Err(RegLineStop::Kind(RegFaultKind::Line)),
     }
 }
 
@@ -35,7 +35,7 @@ fn name(alloc: Global, line: &[u16]) -> Result<(Units, &[u16]), RegLineStop>
             let (name, rest) = quoted(alloc, text)?;
             named(name, rest)
         }
-        _ => Err(RegLineStop::Kind(RegKind::Line)),
+        _ => Err(RegLineStop::Kind(RegFaultKind::Line)),
     }
 }
 
@@ -70,7 +70,7 @@ fn string_ended(
     ensures { Gives (λ i. i) result (string_ended name text.now rest.now) }
 {
     if !rest.is_empty() {
-        return Err(RegLineStop::Kind(RegKind::Line));
+        return Err(RegLineStop::Kind(RegFaultKind::Line));
     }
     let bytes = string_bytes(alloc, text)?;
     Ok(LineItem::Named {
@@ -95,7 +95,7 @@ fn dword_item(alloc: Global, name: Units, text: &[u16]) -> Result<LineItem, RegL
     ensures { Gives (λ i. i) result (dword_item name text.now) }
 {
     if text.len() != 8 || !all_hex(text) {
-        return Err(RegLineStop::Kind(RegKind::Line));
+        return Err(RegLineStop::Kind(RegFaultKind::Line));
     }
     let mut bytes = Bytes::new(alloc);
     bytes.put_u32(hex_number(text))?;
@@ -163,40 +163,40 @@ pub fn bytes_item(
 
 /// The type, where `):` follows its digits, and what follows that.
 #[tactic(auto, unfolding(crate::specs::Items::kind_ended))]
-fn kind_ended(kind: u32, rest: &[u16]) -> Result<(u32, &[u16]), RegKind>
+fn kind_ended(kind: u32, rest: &[u16]) -> Result<(u32, &[u16]), RegFaultKind>
     ensures { Sees (λ k. (k.0, k.1.now)) result (kind_ended kind rest.now) }
 {
     match behind(b"):", rest) {
         Some(bytes) => Ok((kind, bytes)),
-        None => Err(RegKind::Line),
+        None => Err(RegFaultKind::Line),
     }
 }
 
 /// The type behind `hex(`, with one to eight digits, and what follows it.
 #[tactic(auto, unfolding(crate::specs::Items::kind_in))]
-fn kind_in(text: &[u16]) -> Result<(u32, &[u16]), RegKind>
+fn kind_in(text: &[u16]) -> Result<(u32, &[u16]), RegFaultKind>
     ensures { Sees (λ k. (k.0, k.1.now)) result (kind_in text.now) }
 {
     let count = hex_count(text);
     if count == 0 || 8 < count {
-        return Err(RegKind::Line);
+        return Err(RegFaultKind::Line);
     }
     let (digits, rest) = text.split_at(count);
     kind_ended(hex_number(digits), rest)
 }
 
-fn wide_kind(text: &[u16]) -> Result<(u32, &[u16]), RegKind>
+fn wide_kind(text: &[u16]) -> Result<(u32, &[u16]), RegFaultKind>
     ensures { Sees (λ k. (k.0, k.1.now)) result (wide_kind text.now) }
 {
     match behind(b"hex(", text) {
         Some(rest) => kind_in(rest),
-        None => Err(RegKind::Line),
+        None => Err(RegFaultKind::Line),
     }
 }
 
 /// The type of bytes, and what follows it.
 #[tactic(auto, unfolding(crate::specs::Items::kind_at))]
-fn kind(text: &[u16]) -> Result<(u32, &[u16]), RegKind>
+fn kind(text: &[u16]) -> Result<(u32, &[u16]), RegFaultKind>
     ensures { Sees (λ k. (k.0, k.1.now)) result (kind_at text.now) }
 {
     match behind(b"hex:", text) {
@@ -230,7 +230,7 @@ fn data_item(alloc: Global, name: Units, text: &[u16]) -> Result<LineItem, RegLi
     ensures { Gives (λ i. i) result (data_item name text.now) }
 {
     match text {
-        [] => Err(RegLineStop::Kind(RegKind::Line)),
+        [] => Err(RegLineStop::Kind(RegFaultKind::Line)),
         [0x22, text @ ..] => string_item(alloc, name, text),
         [0x2d] => Ok(LineItem::NoValue { name }),
         _ => number_item(alloc, name, text),

@@ -8,7 +8,7 @@ ghost use Rattle.reg_text.specs.Gives.{GivesText};
 
 use crate::keys::{push_key, push_part};
 use crate::names::{has_broken_name, has_broken_part};
-use crate::stop::{RegFault, RegKind, RegStop};
+use crate::stop::{RegFault, RegFaultKind, RegStop};
 use crate::values::push_ascii;
 use nt_bytes::{Bytes, Names, Units};
 use reg_tree::Key;
@@ -78,7 +78,7 @@ pub fn reg_text(alloc: Global, key: &Key, path: &Names) -> Result<Bytes, RegStop
 {
     if has_broken_part(path.as_slice()) || has_broken_name(key) {
         return Err(RegStop::Fault(RegFault {
-            kind: RegKind::NotText,
+            kind: RegFaultKind::NotText,
             line: 0,
         }));
     }

@@ -7,13 +7,15 @@ use Rattle.std.specs.Ordering.{is_gt}
 use Rattle.std.proofs.lemmas.Bool.{ltb-false, or_parts}
 use Rattle.nt_bytes.specs.Folding.{folds_same, folded_order}
 use Rattle.hive_model.specs.Tree.{Item, Tree, key, listed, head, children, is_named, is_item, find_key}
-use Rattle.hive_model.specs.Valid.{IsItem, is_backslash, IsValid, levels}
+use Rattle.hive_model.specs.Valid.{IsItem, IsValid, levels}
+use Rattle.nt_bytes.specs.Text.{is_backslash}
 use Rattle.nt_bytes.specs.declared.version.HiveVersion.{HiveVersion}
 use Rattle.hive_model.specs.Size.{bulk_of}
-use Rattle.hive_model.specs.Edit.{Step, set_value, delete_value, make_key, delete_key, copy_child, add_child, Refusal, no_key, no_value, exists, name_too_long, too_deep, data_too_long, full, unless, at_first, without_first, of_items, of_children, at_key, with_item, has_item, has_child, placed, is_bad_name, name_tests, new_key, with_key, without_key, renamed, with_child, then_edit, after_step, after_steps, most_bulk, edited}
+use Rattle.hive_model.specs.Edit.{Step, set_value, delete_value, make_key, delete_key, copy_child, add_child, Refusal, no_key, no_value, exists, name_too_long, too_deep, data_too_long, full, unless, at_first, without_first, of_items, of_children, at_key, with_item, has_item, has_child, placed, is_bad_name, name_tests, new_key, with_key, without_key, renamed, with_child, after_step, after_steps, most_bulk, edited}
 use Rattle.reg_tree.specs.Fitting.{Fits}
 use Rattle.reg_tree.proofs.Unlike.{Each, Unlike, each_from, each_first, unlike_first, each_gone, unlike_gone, none_found, each_push, unlike_push, lacks_from}
 use Rattle.reg_tree.proofs.Sound.{key_name, item_name, IsNamed, Sound, parts, whole, sound_from, valid_back}
+use Rattle.hive_model.specs.Forms.{◌>>=◌}
 
 -- ---- an edit that was not refused
 
@@ -318,7 +320,7 @@ step_sound (add_child name k) t u f e s =
     let sound : Sound 2 k = sound_from 2 k f (omega arith) in
     subst (Sound 1) p.1 (child_put name k t (good name p.0.0 p.0.1.0) sound p.0.1.1.0 s)
 
-then_so : (r : Result Tree Refusal) (f : Tree → Result Tree Refusal) (u : Tree) → then_edit r f ≡ Ok u
+then_so : (r : Result Tree Refusal) (f : Tree → Result Tree Refusal) (u : Tree) → (r >>= f) ≡ Ok u
     → (v : Tree) × (r ≡ Ok v) × (f v ≡ Ok u)
 then_so (Ok v) f u e = (v, refl, e)
 then_so (Err k) f u e = absurd cc

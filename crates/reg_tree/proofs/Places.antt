@@ -13,7 +13,7 @@ some_is : (a b : ℕ) → Some a ≡ Some b → a ≡ b
 some_is a b e = cc
 
 -- A first place at or after i: there, or in the rest.
-data Place {X : Type 0} (p : X → Bool) (i : ℕ) (x : X) (xs : List X) (at : ℕ) : Type 0 where
+pub data Place {X : Type 0} (p : X → Bool) (i : ℕ) (x : X) (xs : List X) (at : ℕ) : Type 0 where
   here : p x ≡ true → at ≡ i → Place p i x xs at
   there : p x ≡ false → position_from p (i + 1) xs ≡ Some at → Place p i x xs at
 

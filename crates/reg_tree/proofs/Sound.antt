@@ -3,7 +3,8 @@ use Rattle.std.proofs.Common.{◌≡◌, ℕ, suc, ◌+◌, ◌/◌, ◌%◌, �
 use Rattle.std.specs.Prelude.{max}
 use Rattle.std.specs.List.{list_any}
 use Rattle.hive_model.specs.Tree.{Item, Head, Tree, Trees, key, none, more, trees, listed, head}
-use Rattle.hive_model.specs.Valid.{IsItem, is_backslash, IsKey, HoldsKeys, AllHoldKeys, levels, most_levels, IsValid}
+use Rattle.hive_model.specs.Valid.{IsItem, IsKey, HoldsKeys, AllHoldKeys, levels, most_levels, IsValid}
+use Rattle.nt_bytes.specs.Text.{is_backslash}
 use Rattle.nt_bytes.specs.declared.version.HiveVersion.{HiveVersion}
 use Rattle.hive_model.specs.Size.{cell, items_sum, items_size, size, size_of_all, bulk_of}
 use Rattle.reg_tree.proofs.Trees.{listed_trees}

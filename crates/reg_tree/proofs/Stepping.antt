@@ -6,10 +6,11 @@ use Rattle.hive_model.specs.Tree.{Tree, key, find_key, is_named}
 use Rattle.hive_model.specs.Valid.{levels}
 use Rattle.nt_bytes.specs.declared.version.HiveVersion.{HiveVersion}
 use Rattle.hive_model.specs.Size.{bulk_of}
-use Rattle.hive_model.specs.Edit.{Step, Refusal, full, most_bulk, at_first, at_key, of_children, without_first, without_key, key_deleted, then_edit, after_step, after_steps, edited}
+use Rattle.hive_model.specs.Edit.{Step, Refusal, full, most_bulk, at_first, at_key, of_children, without_first, without_key, key_deleted, after_step, after_steps, edited}
 use Rattle.reg_tree.specs.declared.stop.EditStop.{EditStop}
 use Rattle.reg_tree.specs.declared.stop.EditStop.TheVariants as stops
 use Rattle.reg_tree.specs.Makes.{IsRefused}
+use Rattle.hive_model.specs.Forms.{◌>>=◌}
 
 -- ---- a key is removed from the children of the one that the path but its last name leads to
 
@@ -56,7 +57,7 @@ pub step_refused : (version : HiveVersion) (steps left later : List Step) (t wor
     → IsRefused (after_step s work) stop → IsRefused (edited version t steps) stop
 unfolding edited
 step_refused version steps left later t work s stop kept first r =
-    let all : after_steps t steps ≡ then_edit (after_step s work) (λ u. after_steps u later) =
+    let all : after_steps t steps ≡ (after_step s work >>= λ u. after_steps u later) =
     sym kept ∙ ap (after_steps work) first in
     refused_on stop (after_step s work) (edited version t steps) (λ why q. rw (all, q) refl) r
 

@@ -3,7 +3,8 @@ use Rattle.std.proofs.Common.{◌≡◌, ◌<◌, ◌+◌, ◌*◌, ℕ, List, [
 use Rattle.std.specs.Prelude.{sum_by}
 use Rattle.std.proofs.lemmas.List.Recursion.{is_sum_by}
 use Rattle.nt_bytes.specs.declared.version.HiveVersion.{HiveVersion}
-use Rattle.hive_model.specs.Size.{capped, cell, item_size, items_sum, items_size, size, size_of_all}
+use Rattle.hive_model.specs.Size.{cell, item_size, items_sum, items_size, size, size_of_all}
+use Rattle.nt_bytes.specs.Counts.{capped}
 use Rattle.hive_model.specs.Tree.{Item, Tree, trees}
 use Rattle.reg_tree.proofs.Trees.{listed_trees}
 

@@ -17,6 +17,18 @@ use std::alloc::Global;
 /// The greatest bulk of an edited tree, in bytes.
 pub const MOST_BULK: u64 = 16_773_120;
 
+/// How many units a key's name may have.
+pub const LONGEST_KEY_NAME: usize = 255;
+
+/// How many units a value's name may have.
+pub const LONGEST_VALUE_NAME: usize = 16_383;
+
+/// How many bytes an edit may give a value.
+pub const LONGEST_DATA: usize = 1_048_576;
+
+/// How many names the path to a new key's parent may have: the new key is two levels below its length, and the last level is 512.
+pub const MOST_PARENTS: usize = 510;
+
 /// Whether no new key may have this name: it is empty, or has a backslash.
 pub fn is_bad_name(name: &[u16]) -> bool
     ensures { result ≡ is_bad_name name.now }
@@ -47,10 +59,10 @@ impl Key {
         if !self.has_key(&path) {
             return Err(EditStop::NoKey);
         }
-        if name.len() > 16383 {
+        if name.len() > LONGEST_VALUE_NAME {
             return Err(EditStop::NameTooLong);
         }
-        if bytes.len() > 1048576 {
+        if bytes.len() > LONGEST_DATA {
             return Err(EditStop::DataTooLong);
         }
         self.change_at(
@@ -83,10 +95,10 @@ impl Key {
         if is_bad_name(name.as_slice()) {
             return Err(EditStop::BadName);
         }
-        if name.len() > 255 {
+        if name.len() > LONGEST_KEY_NAME {
             return Err(EditStop::NameTooLong);
         }
-        if parent.as_slice().len() > 510 {
+        if parent.as_slice().len() > MOST_PARENTS {
             return Err(EditStop::TooDeep);
         }
         self.change_at(alloc, parent.as_slice(), Change::PutKey { name })?;
@@ -125,7 +137,7 @@ impl Key {
         if is_bad_name(to.as_slice()) {
             return Err(EditStop::BadName);
         }
-        if to.len() > 255 {
+        if to.len() > LONGEST_KEY_NAME {
             return Err(EditStop::NameTooLong);
         }
         if self.has_child(to.as_slice()) {
@@ -141,7 +153,7 @@ impl Key {
         if is_bad_name(name.as_slice()) {
             return Err(EditStop::BadName);
         }
-        if name.len() > 255 {
+        if name.len() > LONGEST_KEY_NAME {
             return Err(EditStop::NameTooLong);
         }
         if self.has_child(name.as_slice()) {

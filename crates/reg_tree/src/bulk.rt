@@ -2,7 +2,8 @@
 
 ghost use Rattle.std.specs.Prelude.{◌≡◌, sum_by};
 ghost use Rattle.hive_model.specs.Tree.{head};
-ghost use Rattle.hive_model.specs.Size.{capped, item_size, items_size, head_size, size, bulk_of};
+ghost use Rattle.hive_model.specs.Size.{item_size, items_size, head_size, size, bulk_of};
+ghost use Rattle.nt_bytes.specs.Counts.{capped};
 
 use crate::key::{Key, Keys};
 use crate::sizes::{cell_size, class_size, data_size, list_size, named_size, security_size};

@@ -3,7 +3,7 @@
 ghost use Rattle.std.specs.Prelude.{◌≡◌, ◌≤◌, ◌*◌, find, length, IfOk};
 ghost use Rattle.std.specs.Option.{option_copied, is_some};
 ghost use Rattle.hive_model.specs.Edit.{has_child};
-ghost use Rattle.hive_model.specs.Tree.{head, children, is_named, is_item, find_key, find_item, find_dword, find_text, find_strings, find_data};
+ghost use Rattle.hive_model.specs.Tree.{head, children, is_named, is_item, find_key, find_item, find_dword, find_string, find_strings, find_data};
 
 use crate::halves::named_key;
 use crate::key::{Key, Keys};
@@ -141,7 +141,7 @@ impl Key {
     }
     /// The string under this name, where there is a value of type 1 or 2.
     pub fn text(&self, alloc: Global, name: &[u16]) -> Result<Option<Units>, AllocError>
-        ensures { IfOk result (λ t. t ≡ find_text name.now self.now) }
+        ensures { IfOk result (λ t. t ≡ find_string name.now self.now) }
     {
         let Some(value) = self.value(name) else {
             return Ok(None);

@@ -32,7 +32,8 @@ pub struct Keys {
 }
 
 impl Model for Key {
-    ghost use Rattle.hive_model.specs.Tree.{Tree, coded_tree, key, trees, weight, weights-trees};
+    ghost use Rattle.hive_model.specs.Tree.{Tree, key, trees};
+    ghost use Rattle.hive_model.specs.Codes.{coded_tree, weight, weights-trees};
     ghost use Rattle.std.proofs.Common.{arith};
 
     ghost Value = { Tree };
@@ -56,7 +57,8 @@ impl Model for Key {
 impl Model for Keys {
     ghost use Rattle.std.specs.Prelude.{IsTrue, List};
     ghost use Rattle.std.proofs.Common.{arith};
-    ghost use Rattle.hive_model.specs.Tree.{Tree, coded_trees, weights, most_le-weights};
+    ghost use Rattle.hive_model.specs.Tree.{Tree};
+    ghost use Rattle.hive_model.specs.Codes.{coded_trees, weights, most_le-weights};
     ghost use Rattle.reg_tree.specs.Rising.{AreRising};
 
     ghost Value = { List Tree };

@@ -21,7 +21,9 @@ mod stop;
 mod value;
 mod value_places;
 
-pub use apply::{MOST_BULK, is_bad_name};
+pub use apply::{
+    LONGEST_DATA, LONGEST_KEY_NAME, LONGEST_VALUE_NAME, MOST_BULK, MOST_PARENTS, is_bad_name,
+};
 pub use key::{Key, Keys};
 pub use laws::an_edited_tree_is_valid;
 pub use steps::{Steps, TreeStep};

@@ -1,7 +1,8 @@
 //! How many bytes packed cells take. Sums stay at the greatest number.
 
 ghost use Rattle.std.specs.Prelude.{◌≡◌, ◌+◌, ◌*◌, ◌∷◌};
-ghost use Rattle.hive_model.specs.Size.{capped, cell, cells_sum, class_size, data_sizes, is_big, is_narrow, list_size, name_bytes, security_size, segment_count, segment_sizes};
+ghost use Rattle.hive_model.specs.Size.{cell, cells_sum, class_size, data_sizes, is_big, is_narrow, list_size, name_bytes, security_size, segment_count, segment_sizes};
+ghost use Rattle.nt_bytes.specs.Counts.{capped};
 
 use nt_bytes::HiveVersion;
 

@@ -15,7 +15,8 @@ pub struct Value {
 }
 
 impl Model for Value {
-    ghost use Rattle.hive_model.specs.Tree.{Item, coded_item};
+    ghost use Rattle.hive_model.specs.Tree.{Item};
+    ghost use Rattle.hive_model.specs.Codes.{coded_item};
 
     ghost Value = { Item };
 
@@ -36,7 +37,8 @@ pub struct Values {
 
 impl Model for Values {
     ghost use Rattle.std.specs.Prelude.{◌<◌, List, length};
-    ghost use Rattle.hive_model.specs.Tree.{Item, coded_items};
+    ghost use Rattle.hive_model.specs.Tree.{Item};
+    ghost use Rattle.hive_model.specs.Codes.{coded_items};
     ghost use Rattle.reg_tree.specs.Order.{IsOrderOf};
 
     ghost Value = { List Item };

@@ -4,7 +4,7 @@ ghost use Rattle.std.specs.Prelude.{◌≡◌, Result, Ok, Err, Some, None, IsOk
 ghost use Rattle.hive_model.specs.Base.{Base, base_of, base_checks, first_failing, fields_of, is_bins_size, is_minor, version_of};
 
 use crate::sum::checksum;
-use nt_bytes::{HiveFault, HiveKind, HiveVersion, u32_at, u64_at};
+use nt_bytes::{HiveFault, HiveFaultKind, HiveVersion, u32_at, u64_at};
 use std::marker::Model;
 
 /// The fields of a base block.
@@ -91,25 +91,25 @@ fn check(sector: &[u8; 512], kind: u32) -> Result<(), HiveFault>
     ensures err { IfErr result (λ fault. first_failing (base_checks sector.now kind) ≡ Some fault) }
 {
     if !sector.starts_with(b"regf") {
-        return Err(fault(HiveKind::NotRegf, 0));
+        return Err(fault(HiveFaultKind::NotRegf, 0));
     }
     if u32_at(sector, 508) != checksum(sector) {
-        return Err(fault(HiveKind::Checksum, 508));
+        return Err(fault(HiveFaultKind::Checksum, 508));
     }
     if u32_at(sector, 20) != 1 {
-        return Err(fault(HiveKind::Version, 20));
+        return Err(fault(HiveFaultKind::Version, 20));
     }
     if !is_minor(u32_at(sector, 24)) {
-        return Err(fault(HiveKind::Version, 24));
+        return Err(fault(HiveFaultKind::Version, 24));
     }
     if u32_at(sector, 28) != kind {
-        return Err(fault(HiveKind::FileType, 28));
+        return Err(fault(HiveFaultKind::FileType, 28));
     }
     if u32_at(sector, 32) != 1 {
-        return Err(fault(HiveKind::FileType, 32));
+        return Err(fault(HiveFaultKind::FileType, 32));
     }
     if !is_size(u32_at(sector, 40)) {
-        return Err(fault(HiveKind::Size, 40));
+        return Err(fault(HiveFaultKind::Size, 40));
     }
     Ok(())
 }
@@ -126,7 +126,7 @@ fn is_size(size: u32) -> bool
     size % 4096 == 0 && 4096 <= size && size <= 16_777_216
 }
 
-fn fault(kind: HiveKind, at: u32) -> HiveFault
+fn fault(kind: HiveFaultKind, at: u32) -> HiveFault
     ensures { result ≡ record { kind = kind; at = at } }
 {
     HiveFault { kind, at }

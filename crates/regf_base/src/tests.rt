@@ -1,7 +1,7 @@
 //! The base block of the packed hive of one key, and that block with one byte turned.
 
 use super::*;
-use nt_bytes::{HiveFault, HiveKind, HiveVersion};
+use nt_bytes::{HiveFault, HiveFaultKind, HiveVersion};
 use std::test::Fail;
 
 fn one_key() -> BaseBlock {
@@ -52,15 +52,15 @@ fn a_base_block_of_version_1_5_is_read_back(rt: HostRuntime) -> Result<(), Fail>
 #[test]
 fn the_first_fault_is_named(rt: HostRuntime) -> Result<(), Fail> {
     let cases = [
-        (0, 0x52, false, HiveKind::NotRegf, 0),
-        (20, 2, false, HiveKind::Checksum, 508),
-        (20, 2, true, HiveKind::Version, 20),
-        (24, 4, true, HiveKind::Version, 24),
-        (28, 1, true, HiveKind::FileType, 28),
-        (32, 0, true, HiveKind::FileType, 32),
-        (40, 1, true, HiveKind::Size, 40),
-        (41, 0, true, HiveKind::Size, 40),
-        (43, 2, true, HiveKind::Size, 40),
+        (0, 0x52, false, HiveFaultKind::NotRegf, 0),
+        (20, 2, false, HiveFaultKind::Checksum, 508),
+        (20, 2, true, HiveFaultKind::Version, 20),
+        (24, 4, true, HiveFaultKind::Version, 24),
+        (28, 1, true, HiveFaultKind::FileType, 28),
+        (32, 0, true, HiveFaultKind::FileType, 32),
+        (40, 1, true, HiveFaultKind::Size, 40),
+        (41, 0, true, HiveFaultKind::Size, 40),
+        (43, 2, true, HiveFaultKind::Size, 40),
     ];
     for (broken, byte, anew, kind, at) in cases {
         let mut sector = [0; 512];

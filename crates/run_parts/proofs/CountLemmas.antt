@@ -3,7 +3,8 @@ use Rattle.std.proofs.Common.{◌≡◌, ◌≤◌, inl, inr, ℕ, List, [], ◌
 use Rattle.std.proofs.lemmas.List.{map-append}
 use Rattle.hive_model.specs.Image.{Arming}
 use Rattle.nt_edge.specs.Disk.{DiskState, History, Wake, CountsGrow, next}
-use Rattle.start_model.specs.Causes.{Tally, Rises, HasCause, next_tally, Caused}
+use Rattle.start_model.specs.Causes.{Tally, HasCause, next_tally, Caused}
+use Rattle.nt_bytes.specs.Counts.{Rises}
 use Rattle.start_model.specs.Orders.{ordered_in}
 use Rattle.start_model.specs.Possible.{Outcome, Finished, PowerCut, DeviceFault}
 use Rattle.start_model.specs.Act.{Note, Woke, Held, Saved, Ordered, Cuts, Ended}

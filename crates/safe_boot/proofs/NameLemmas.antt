@@ -4,11 +4,10 @@ use Rattle.std.specs.Prelude.{position, ◌==◌, codes, IfOk}
 use Rattle.std.specs.List.{list_any}
 use Rattle.std.specs.Option.{is_some, option_map_or}
 use Rattle.nt_bytes.specs.Folding.{folds_same}
-use Rattle.hive_model.specs.Tree.{Tree, head, is_named, find_text}
+use Rattle.hive_model.specs.Tree.{Tree, head, is_named, find_string}
 use Rattle.start_model.specs.Entries.{Entry, named_group, entry_with}
 use Rattle.boot_phases.proofs.TriedLemmas.{some_place}
 use Rattle.safe_boot.specs.Listed.{has_name, is_among, is_left_out}
-use Rattle.boot_phases.proofs.TriedLemmas.{shorter}
 
 -- ---- a name that has a place is there
 
@@ -73,17 +72,17 @@ pub early_stays : (names : List (List ℕ)) (t : Tree) (start kind : Option ℕ)
 early_stays names t None kind h = refl
 early_stays names t (Some s) None h = refl
 early_stays names t (Some s) (Some k) h =
-    early_one (not (s == 0)) (is_among names (head t).name (named_group (find_text (codes "Group") t))) h
+    early_one (not (s == 0)) (is_among names (head t).name (named_group (find_string (codes "Group") t))) h
 
 -- another entry stays where it is listed
 pub late_stays : (names : List (List ℕ)) (t : Tree) (start kind : Option ℕ)
     → option_map_or (λ (e : Entry). not (e.start == 0)) (entry_with t start kind) false ≡ true
     → not (option_map_or (is_left_out names) (entry_with t start kind) false)
-    ≡ is_among names (head t).name (named_group (find_text (codes "Group") t))
+    ≡ is_among names (head t).name (named_group (find_string (codes "Group") t))
 late_stays names t None kind h = absurd cc
 late_stays names t (Some s) None h = absurd cc
 late_stays names t (Some s) (Some k) h =
-    late_one (not (s == 0)) (is_among names (head t).name (named_group (find_text (codes "Group") t))) h
+    late_one (not (s == 0)) (is_among names (head t).name (named_group (find_string (codes "Group") t))) h
 
 pub answers : {E : Type 0} (r : Result Bool E) (a b : Bool) → b ≡ a → IfOk r (λ x. x ≡ a) → IfOk r (λ x. x ≡ b)
 answers (Ok x) a b same h = h ∙ sym same

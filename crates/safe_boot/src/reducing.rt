@@ -2,7 +2,7 @@
 
 ghost use Rattle.std.specs.Prelude.{◌≡◌, ◌&&◌, ◌==◌, false, not, filter, codes, IfOk, if◌then◌else◌};
 ghost use Rattle.std.specs.Option.{option_map_or};
-ghost use Rattle.hive_model.specs.Tree.{head, find_text, is_named};
+ghost use Rattle.hive_model.specs.Tree.{head, find_string, is_named};
 ghost use Rattle.hive_model.specs.Edit.{of_children, at_first};
 ghost use Rattle.start_model.specs.Entries.{entry_of, named_group};
 ghost use Rattle.safe_boot.specs.Listed.{has_name, is_among, stays, reduced_of};
@@ -111,7 +111,7 @@ fn late_start(key: &Key) -> bool
 
 /// Whether the names have the key's own name, or that of the group that it has as an entry.
 fn is_key_listed(alloc: Global, key: &Key, names: &NamePlaces) -> Result<bool, AllocError>
-    ensures { IfOk result (λ b. b ≡ is_among names.now (head key.now).name (named_group (find_text (codes "Group") key.now))) }
+    ensures { IfOk result (λ b. b ≡ is_among names.now (head key.now).name (named_group (find_string (codes "Group") key.now))) }
 {
     let group = key.text(alloc, &GROUP)?;
     Ok(is_among(names, key.name(), &group))

@@ -4,14 +4,15 @@ use Rattle.std.specs.List.{starts_with}
 use Rattle.std.proofs.Common.{◌≡◌, ◌<◌, ◌≤◌, ◌+◌, ◌-◌, ◌*◌, ◌/◌, ◌%◌, ◌==◌, ◌&&◌, ℕ, zero, suc, Bool, true, false, cond, List, drop, Option, Some, None, Result, Ok, Err, refl, sym, ◌∙◌, ap, arith}
 use Rattle.std.proofs.lemmas.Bool.{leb-true}
 use Rattle.nt_bytes.specs.declared.fault.HiveFault.{HiveFault}
-use Rattle.nt_bytes.specs.declared.fault.HiveKind.TheVariants as kinds
+use Rattle.nt_bytes.specs.declared.fault.HiveFaultKind.TheVariants as kinds
 use Rattle.hive_model.specs.Base.{Base, base_of, fault_at, is_bins_size}
 use Rattle.hive_model.specs.Image.{Image, Primary, Log, Content, Bytes, Unreadable}
 use Rattle.hive_model.specs.Load.{Loads}
-use Rattle.hive_model.specs.Recovery.{Recovered, Sectors, primary_in, log_in, and_then, bytes_or, read_bin, read_log, joined, gathered, recovered_with, by_primary, bit, one_if, rank, bitmap_sectors, first_dirty, picked, by_bits, front_in, bitmap_in, closed_by, goes_with, by_logged, as_log_base, logged_in, by_log, base_at, base_in, by_base, recovered_of}
+use Rattle.hive_model.specs.Recovery.{Recovered, Sectors, primary_in, log_in, bytes_or, read_bin, read_log, joined, gathered, recovered_with, by_primary, bit, one_if, rank, bitmap_sectors, first_dirty, picked, by_bits, front_in, bitmap_in, closed_by, goes_with, by_logged, as_log_base, logged_in, by_log, base_at, base_in, by_base, recovered_of}
 use Rattle.hive_model.specs.State.{HiveState}
 use Rattle.hive_model.proofs.BaseLemmas.{base_in_checked, logged_in_checked}
 use Rattle.saved_laws.specs.Saved.{HasUntornBlock, KeepsSectors}
+use Rattle.hive_model.specs.Forms.{◌>>=◌}
 
 -- ---- answers that stay
 
@@ -20,9 +21,9 @@ abbrev pub Stays : {A : Type 0} → Result A HiveFault → Result A HiveFault �
 Stays s t = (a : _) → s ≡ Ok a → t ≡ Ok a
 
 then_stays : {A B : Type 0} (s t : Result A HiveFault) (next other : A → Result B HiveFault) → Stays s t
-    → ((a : A) → s ≡ Ok a → Stays (next a) (other a)) → Stays (and_then s next) (and_then t other)
+    → ((a : A) → s ≡ Ok a → Stays (next a) (other a)) → Stays (s >>= next) (t >>= other)
 then_stays (Err f) t next other first more b e = absurd cc
-then_stays (Ok a) t next other first more b e = ap (λ r. and_then r other) (first a refl) ∙ more a refl b e
+then_stays (Ok a) t next other first more b e = ap (λ r. r >>= other) (first a refl) ∙ more a refl b e
 
 joined_stays : (s t r q : Result (List ℕ) HiveFault) → Stays s t → Stays r q → Stays (joined s r) (joined t q)
 joined_stays (Err f) t r q first rest b e = absurd cc
@@ -96,7 +97,7 @@ by_text image logged text = by_bits image (closed_by logged) (bit (drop 4 text))
 
 -- the hive by a log that goes with the primary
 abbrev by_bitmap : Image → Base → Result Recovered HiveFault
-by_bitmap image logged = and_then (bitmap_in image logged.size) (by_text image logged)
+by_bitmap image logged = bitmap_in image logged.size >>= by_text image logged
 
 -- the fault of one that doesn't
 abbrev strange : Result Recovered HiveFault
@@ -217,7 +218,7 @@ with_dirty dirty base (Err f) r e = absurd cc
 with_dirty dirty base (Ok bins) r e = same_dirty (record { base = base; bins = bins; dirty = dirty }) r e
 
 -- a step without a fault had something to go on with
-went_on : {A B : Type 0} (s : Result A HiveFault) (next : A → Result B HiveFault) (b : B) → and_then s next ≡ Ok b
+went_on : {A B : Type 0} (s : Result A HiveFault) (next : A → Result B HiveFault) (b : B) → (s >>= next) ≡ Ok b
     → (a : A) × (s ≡ Ok a) × (next a ≡ Ok b)
 went_on (Ok a) next b e = (a, refl, e)
 went_on (Err f) next b e = absurd cc
@@ -261,13 +262,13 @@ module _ (x y : Image) (primary : KeepsSectors Primary x y) (r : Recovered) (cle
   -- its base block could be read
   clean_untorn : recovered_of x ≡ Ok r → HasUntornBlock x
   unfolding recovered_of
-  clean_untorn e torn = no_log None (sym (ap (λ o. and_then (base_at o) (by_base x)) torn) ∙ e)
+  clean_untorn e torn = no_log None (sym (ap (λ o. base_at o >>= by_base x) torn) ∙ e)
 
   clean_recovered : recovered_of x ≡ Ok r → recovered_of y ≡ Ok r
   unfolding recovered_of
   clean_recovered e =
       let on = went_on (base_in x) (by_base x) r e in
-      ap (λ s. and_then s (by_base y)) (block_stays x y primary (clean_untorn e) on.0 on.1)
+      ap (λ s. s >>= by_base y) (block_stays x y primary (clean_untorn e) on.0 on.1)
       ∙ by_base_clean on.0 on.1 on.2
 
 -- ---- loads

@@ -2,12 +2,12 @@
 use Rattle.std.specs.Prelude.{nat_lt}
 use Rattle.std.proofs.Common.{◌≡◌, ◌⊎◌, ◌<◌, ◌-◌, ◌*◌, ℕ, Bool, false, cond, List, ◌++◌, length, take, drop, replicate, Some, None, Ok, Err, refl, sym, ◌∙◌, ap, subst, ⊎_elim, arith, append-nil, length-take, length-drop}
 use Rattle.std.proofs.lemmas.Bool.{lt-ltb, cases_lt}
-use Rattle.nt_bytes.specs.declared.fault.HiveKind.TheVariants.{NotRegf}
+use Rattle.nt_bytes.specs.declared.fault.HiveFaultKind.TheVariants.{NotRegf}
 use Rattle.hive_model.specs.Image.{Image, File, Primary, Log, Bytes, Unreadable, Write, padded, sector_of, image_of, bytes_of, IsFileOf, IsCrashImage}
 use Rattle.hive_model.specs.Asked.{primary_at}
 use Rattle.hive_model.specs.Base.{base_of, fault_at}
 use Rattle.hive_model.specs.Load.{Loads}
-use Rattle.hive_model.specs.Recovery.{and_then, base_at, by_base, recovered_of}
+use Rattle.hive_model.specs.Recovery.{base_at, by_base, recovered_of}
 use Rattle.hive_model.specs.State.{HiveState}
 use Rattle.nt_edge.specs.Bench.{taken}
 use Rattle.nt_edge.specs.Crash.{EachCrash}
@@ -15,6 +15,7 @@ use Rattle.nt_edge.specs.Disk.{DiskState}
 use Rattle.nt_edge.proofs.Images.{still_crash}
 use Rattle.saved_laws.specs.Saved.{HasUntornBlock, KeepsSectors, LoadsWithin}
 use Rattle.saved_laws.proofs.KeptLemmas.{load_stays, clean_load_stays}
+use Rattle.hive_model.specs.Forms.{◌>>=◌}
 
 pub filled : (bytes : List ℕ) → length bytes ≡ 512 → padded bytes ≡ bytes
 filled bytes long = ap (λ n. bytes ++ replicate (512 - n) 0) long ∙ append-nil bytes
@@ -118,5 +119,5 @@ torn_block image primary log is torn =
     let block : image_of primary log (primary_at 0) ≡ Some (Bytes (replicate 512 0)) =
     ap (λ t. cond t (Some (Bytes (padded part))) None) (lt-ltb 0 (length primary) (omega (arith, is.long)))
     ∙ ap (λ b. Some (Bytes b)) (filled part (whole primary is.count 0 is.long inside) ∙ sym zeros) in
-    ap (λ o. and_then (base_at o) (by_base (image_of primary log))) block
-    ∙ ap (λ s. and_then (and_then s (λ base. Ok (Some base))) (by_base (image_of primary log))) is_no_hive
+    ap (λ o. base_at o >>= by_base (image_of primary log)) block
+    ∙ ap (λ s. (s >>= λ base. Ok (Some base)) >>= by_base (image_of primary log)) is_no_hive

@@ -1,7 +1,7 @@
 //! What an image loads as whose files were saved.
 
 ghost use Rattle.std.specs.Prelude.{◌≡◌, Bool, false, ℕ, List, Some};
-ghost use Rattle.nt_bytes.specs.declared.fault.HiveKind.TheVariants.{NotRegf};
+ghost use Rattle.nt_bytes.specs.declared.fault.HiveFaultKind.TheVariants.{NotRegf};
 ghost use Rattle.hive_model.specs.Asked.{primary_at};
 ghost use Rattle.hive_model.specs.Base.{fault_at};
 ghost use Rattle.hive_model.specs.Image.{Image, Primary, Log, Unreadable, IsFileOf, image_of};

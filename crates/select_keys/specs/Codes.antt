@@ -2,7 +2,8 @@
 use Rattle.std.specs.Prelude.{◌≡◌, ◌⊎◌, ℕ, List, refl}
 use Rattle.std.proofs.Common.{inl, inr}
 use Rattle.std.specs.Coded.{Coded, code_by, coded×, coded⊎, coded_ℕ, coded_list}
-use Rattle.hive_model.specs.Tree.{Tree, coded_tree}
+use Rattle.hive_model.specs.Tree.{Tree}
+use Rattle.hive_model.specs.Codes.{coded_tree}
 use Rattle.hive_model.specs.Edit.{Step, set_value, delete_value, make_key, delete_key, copy_child, add_child}
 use Rattle.start_model.specs.Sets.{SelectNumbers, SetPlan}
 

@@ -15,7 +15,8 @@ use Rattle.start_model.specs.Demand.{Need, is_taken}
 use Rattle.start_model.specs.Ready.{Label, has_name, has_group, is_ready}
 use Rattle.dependencies.specs.Waiting.{label_of}
 use Rattle.service_control.specs.State.{ControlState, labels_of}
-use Rattle.service_control.specs.Turns.{turns, all_wait, starts_of}
+use Rattle.service_control.specs.Turns.{turns, starts_of}
+use Rattle.dependencies.specs.Attempts.{all_waiting}
 use Rattle.service_control.specs.Needed.{asks, is_off, needed_of, members_of}
 use Rattle.service_control.specs.Leaning.{is_named}
 use Rattle.service_control.specs.Calls.{started_by}
@@ -28,12 +29,12 @@ use Rattle.service_control.proofs.MetLemmas.{named_any, any_place}
 
 -- ---- where an entry comes from
 
-record From {X Y : Type 0} (h : X → Option Y) (xs : List X) (y : Y) : Type 0 where
-  item : X
-  there : Contains xs item
-  is : h item ≡ Some y
+pub record From {X Y : Type 0} (h : X → Option Y) (xs : List X) (y : Y) : Type 0 where
+  pub item : X
+  pub there : Contains xs item
+  pub is : h item ≡ Some y
 
-pub from_at : {X Y : Type 0} (h : X → Option Y) (xs : List X) (y : Y) (k : ℕ) → k < length (filter_map h xs)
+from_at : {X Y : Type 0} (h : X → Option Y) (xs : List X) (y : Y) (k : ℕ) → k < length (filter_map h xs)
     → get_or (filter_map h xs) k y ≡ y → From h xs y
 from_at h [] y k lt e = absurd (omega (arith, lt))
 from_at h (x ∷ xs) y k lt e = by (h x) refl (λ j low at. from_at h xs y j low at) k lt e
@@ -49,7 +50,7 @@ from_at h (x ∷ xs) y k lt e = by (h x) refl (λ j low at. from_at h xs y j low
     by (Some z) is more zero lt e = record { item = x; there = (0, omega arith, refl); is = is ∙ ap (λ v. Some v) e }
     by (Some z) is more (suc k) lt e = further (more k (omega (arith, lt)) e)
 
-from : {X Y : Type 0} (h : X → Option Y) (xs : List X) (y : Y) → Contains (filter_map h xs) y → From h xs y
+pub from : {X Y : Type 0} (h : X → Option Y) (xs : List X) (y : Y) → Contains (filter_map h xs) y → From h xs y
 from h xs y c = from_at h xs y c.0 c.1 c.2
 
 record Passes {X : Type 0} (p : X → Bool) (xs : List X) (x : X) : Type 0 where
@@ -164,7 +165,8 @@ module _ (c : ControlState) (name : List ℕ) (differ : NamesDiffer c.by_group) 
   pub takes_least : (m : Need) → Contains (started_by c name) m → has_name (labels_of others) m.name ≡ true
   takes_least m there =
       let members = members_of c.by_group (labels_of c.running) name in
-      let turned = from (slice_get members) (turns (length members) (all_wait members (labels_of c.running))) m there in
+      let waiting = all_waiting members (labels_of c.running) in
+      let turned = from (slice_get members) (turns (length members) waiting) m there in
       let member = passes_from (is_off (labels_of c.running))
       (filter_map (slice_get c.by_group) (needed_of c.by_group (labels_of c.running) name)) m
       (contains_at members turned.item m turned.is) in

@@ -24,7 +24,8 @@ use Rattle.boot_phases.proofs.TriedLemmas.{within}
 use Rattle.service_control.specs.declared.stop.ControlStop.{ControlStop}
 use Rattle.service_control.specs.declared.stop.ControlStop.TheVariants.{NoService, NotStarted, InUse}
 use Rattle.service_control.specs.State.{ControlState, labels_of, named}
-use Rattle.service_control.specs.Turns.{turns, all_wait, starts_of}
+use Rattle.service_control.specs.Turns.{turns, starts_of}
+use Rattle.dependencies.specs.Attempts.{all_waiting}
 use Rattle.service_control.specs.Needed.{members_of}
 use Rattle.service_control.specs.Leaning.{is_of_group, has, has_all, leans, is_due, IsClosed, is_leaning, leaning_of, leaning_in, others_in, first_other, in_use_by}
 use Rattle.service_control.specs.Calls.{start_refusal, stop_refusal, off_refusal, started_by, new_of, after_start, after_stop, after_stop_all}
@@ -115,7 +116,7 @@ met_turns (suc n) w pre is met = by (next_place_in w) refl (λ v front are front
         subst P (append_assoc pre (x ∷ []) rest ∙ ap (λ o. pre ++ cons_option o rest) (sym found)) whole
 
 met_starts : (needs pre : List Need) → AreMet pre → AreMet (pre ++ starts_of needs (labels_of pre))
-met_starts needs pre met = met_turns (length needs) (all_wait needs (labels_of pre)) pre refl met
+met_starts needs pre met = met_turns (length needs) (all_waiting needs (labels_of pre)) pre refl met
 
 none_met : AreMet []
 none_met = record { services = λ k d lt. absurd (omega (arith, lt)); groups = λ k d lt. absurd (omega (arith, lt)) }

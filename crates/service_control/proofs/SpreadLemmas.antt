@@ -5,7 +5,7 @@ use Rattle.std.specs.List.{list_any, list_all, range_with_len, filter_map, posit
 use Rattle.std.specs.Option.{option_map, option_map_or, option_and_then, option_to_list}
 use Rattle.std.proofs.lemmas.Bool.{false≢true, and_parts, and_from, or_cases, or_left, cases_Bool, cases_eq, eq-eqb}
 use Rattle.std.proofs.lemmas.List.{get_or-set_same, get_or-set_other, length-set, length-map, length-replicate, get_or_default, get_or_past, get_or-replicate, same_lists}
-use Rattle.std.proofs.lemmas.List.Folds.{Any-from_list_any, list_any-append, list_all-append, list_all-map, list_any_at}
+use Rattle.std.proofs.lemmas.List.Folds.{Any-from_list_any, list_any-append, list_any_at}
 use Rattle.std.proofs.lemmas.List.Elements.{Contains-append_cases, Contains-append_left, Contains-append_right, Contains-push, Contains-push_cases}
 use Rattle.std.proofs.lemmas.List.FromFn.{get_or-map-range_with_len, length-map-range_with_len}
 use Rattle.std.proofs.lemmas.List.Quantifiers.{position-Some}
@@ -20,7 +20,7 @@ use Rattle.dependencies.specs.Waiting.{WaitingState, label_of, labels_at, next_p
 use Rattle.dependencies.proofs.PulledLemmas.{same_bool, then_true, then_gives, all_true, all_below, sets_have}
 use Rattle.boot_phases.proofs.TriedLemmas.{within}
 use Rattle.service_control.specs.State.{labels_of}
-use Rattle.service_control.specs.Turns.{all_wait}
+use Rattle.dependencies.specs.Attempts.{all_waiting}
 use Rattle.service_control.specs.Leaning.{is_of_group, has, has_all, leans, is_due, IsClosed, is_closed, is_leaning, leaning_of}
 use Rattle.service_control.specs.Causes.{cause_of, by_name, by_group, own_causes, key_of, keys_of, names_at, is_first, group_cause, causes_of, causes_at, AreCauses}
 use Rattle.service_control.proofs.SpreadState.{none, IsDone, IsHad, IsSpread}
@@ -336,10 +336,10 @@ seed_has r s set on closed =
 
 pub spread_start : (r : List Need) (s : List ℕ) (owners : List ℕ) (w : WaitingState) (taken : List Bool)
     (needs : List Need) (seed : List Label) → AreCauses r (length r) needs owners → has_name (labels_of r) s ≡ true
-    → seed ≡ (folded s, None) ∷ [] → w ≡ all_wait needs seed → taken ≡ replicate (length r) false
+    → seed ≡ (folded s, None) ∷ [] → w ≡ all_waiting needs seed → taken ≡ replicate (length r) false
     → IsSpread r s owners w taken
 spread_start r s owners w taken needs seed causes on is all none_taken =
-    let first : w ≡ all_wait needs ((folded s, None) ∷ []) = all ∙ ap (all_wait needs) is in
+    let first : w ≡ all_waiting needs ((folded s, None) ∷ []) = all ∙ ap (all_waiting needs) is in
     rw (first, none_taken) (record {
       causes = causes;
       waits_len = length-replicate (length needs) true;

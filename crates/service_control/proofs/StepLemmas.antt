@@ -8,7 +8,7 @@ use Rattle.std.proofs.lemmas.List.Elements.{filter_map-append}
 use Rattle.std.proofs.lemmas.Option.{slice_get_cases}
 use Rattle.nt_bytes.specs.Folding.{folds_same}
 use Rattle.start_model.specs.Demand.{Need}
-use Rattle.boot_phases.proofs.TriedLemmas.{shorter, some_place}
+use Rattle.boot_phases.proofs.TriedLemmas.{some_place}
 use Rattle.dependencies.proofs.KeptLemmas.{range_push}
 
 -- ---- names

@@ -13,7 +13,8 @@ use Rattle.start_model.specs.Ready.{Label, is_ready, next_of}
 use Rattle.dependencies.specs.Waiting.{WaitingState, waiting_in, places_in, next_place_in, after_trying}
 use Rattle.dependencies.proofs.PickedLemmas.{as_many, picked}
 use Rattle.boot_phases.proofs.TriedLemmas.{within}
-use Rattle.service_control.specs.Turns.{turns, all_wait}
+use Rattle.service_control.specs.Turns.{turns}
+use Rattle.dependencies.specs.Attempts.{all_waiting}
 use Rattle.service_control.proofs.SpreadState.{none}
 use Rattle.dependencies.proofs.KeptLemmas.{within_waits}
 
@@ -130,8 +131,8 @@ turns_over w places all (suc n) next h =
     ∙ h
 
 -- all wait at first
-pub turns_start : (w : WaitingState) (needs : List Need) (started : List Label) → w ≡ all_wait needs started
-    → turns (count_by (λ b. b) w.waits) w ≡ turns (length needs) (all_wait needs started)
+pub turns_start : (w : WaitingState) (needs : List Need) (started : List Label) → w ≡ all_waiting needs started
+    → turns (count_by (λ b. b) w.waits) w ≡ turns (length needs) (all_waiting needs started)
 turns_start w needs started is =
     ap (λ v. turns (count_by (λ b. b) v.waits) v) is
-    ∙ ap (λ n. turns n (all_wait needs started)) (all_count (length needs))
+    ∙ ap (λ n. turns n (all_waiting needs started)) (all_count (length needs))

@@ -1,7 +1,8 @@
 //! Entries that start one after the other.
 
 ghost use Rattle.std.specs.Prelude.{◌≡◌, ◌<◌, ◌^◌, length, IfOk, OnOk};
-ghost use Rattle.service_control.specs.Turns.{turns, all_wait, starts_of};
+ghost use Rattle.service_control.specs.Turns.{turns, starts_of};
+ghost use Rattle.dependencies.specs.Attempts.{all_waiting};
 
 use crate::lists::{copy_of, picked};
 use dependencies::{Needs, Places, Started, TestCount, Waiting};
@@ -19,7 +20,7 @@ pub(crate) fn starts(alloc: Global, needs: &Needs, started: &Started) -> Result<
 
 /// The places of those that start, in the order of their turns.
 fn turns(alloc: Global, needs: Needs, started: &Started) -> Result<Places, AllocError>
-    ensures { IfOk result (λ p. p ≡ turns (length needs) (all_wait needs started.now)) }
+    ensures { IfOk result (λ p. p ≡ turns (length needs) (all_waiting needs started.now)) }
 {
     let mut waiting = waiting(alloc, needs, started)?;
     let mut places = Places::new(alloc);
@@ -37,7 +38,7 @@ fn turns(alloc: Global, needs: Needs, started: &Started) -> Result<Places, Alloc
 
 /// All of these wait.
 pub(crate) fn waiting(alloc: Global, needs: Needs, started: &Started) -> Result<Waiting, AllocError>
-    ensures { IfOk result (λ w. w ≡ all_wait needs started.now) }
+    ensures { IfOk result (λ w. w ≡ all_waiting needs started.now) }
 {
     few(needs.len())?;
     let mut tests = TestCount::new();

@@ -2,7 +2,7 @@
 
 ghost use Rattle.std.specs.Prelude.{◌≡◌, codes, IfOk};
 ghost use Rattle.start_model.specs.Entries.{entry_of, control_in, named_group};
-ghost use Rattle.hive_model.specs.Tree.{find_text};
+ghost use Rattle.hive_model.specs.Tree.{find_string};
 ghost use Rattle.std.specs.Option.{option_copied};
 
 use nt_bytes::{Names, Row, Units};
@@ -104,7 +104,7 @@ fn control(key: &Key) -> u32
 
 /// The value of `Group`: none where it is missing or empty.
 fn group(alloc: Global, key: &Key) -> Result<Option<Units>, AllocError>
-    ensures { IfOk result (λ g. g ≡ named_group (find_text (codes "Group") key.now)) }
+    ensures { IfOk result (λ g. g ≡ named_group (find_string (codes "Group") key.now)) }
 {
     let name = key.text(alloc, &GROUP)?;
     Ok(name.filter(|name| !name.is_empty()))

@@ -10,7 +10,7 @@ use Rattle.nt_bytes.specs.declared.version.HiveVersion.{HiveVersion}
 use Rattle.hive_model.specs.Tree.{Tree, children, is_named, find_key}
 use Rattle.hive_model.specs.Size.{bulk_of}
 use Rattle.hive_model.specs.Valid.{levels}
-use Rattle.hive_model.specs.Edit.{Step, set_value, delete_key, copy_child, add_child, Refusal, no_key, exists, name_too_long, too_deep, data_too_long, full, most_bulk, unless, has_child, is_bad_name, name_tests, of_items, of_children, at_key, without_first, with_item, with_child, then_edit, after_step, after_steps, edited}
+use Rattle.hive_model.specs.Edit.{Step, set_value, delete_key, copy_child, add_child, Refusal, no_key, exists, name_too_long, too_deep, data_too_long, full, most_bulk, unless, has_child, is_bad_name, name_tests, of_items, of_children, at_key, without_first, with_item, with_child, after_step, after_steps, edited}
 use Rattle.start_model.specs.Sets.{SelectNumbers, SetPlan, set_name, set_of, select_number, select_numbers_of, usable_numbers_of, is_usable, has_number, four_of, retired_of, deletions_of, written, writes_of, plan_with, taken_number, begun, begin_plan_of, save_plan_of, stepped}
 use Rattle.start_laws.proofs.NumberLemmas.{IsFree, is_free}
 use Rattle.start_laws.proofs.UsableLemmas.{Small, small_among, usable_parts, usable_has, usable_is, free_is_none, has_among}
@@ -18,6 +18,7 @@ use Rattle.start_laws.proofs.StepLemmas.{select_key, set_found, KeepsOthers, wit
 use Rattle.start_laws.proofs.PlanLemmas.{deletions, retired}
 use Rattle.start_laws.proofs.BeginLemmas.{BeginCase, guarded, plain, begin_case, some_tree}
 use Rattle.start_laws.proofs.SaveLemmas.{save_case}
+use Rattle.hive_model.specs.Forms.{◌>>=◌}
 
 -- ---- results
 
@@ -34,14 +35,14 @@ joined : (xs ys : List Step) (t m : Tree) (r : Result Tree Refusal) → after_st
 joined [] ys t m r e f = let same : t ≡ m = cc in ap (λ v. after_steps v ys) same ∙ f
 joined (x ∷ xs) ys t m r e f = split (after_step x t) e (λ v. joined xs ys v m r)
   where
-    split : (s : Result Tree Refusal) → then_edit s (λ v. after_steps v xs) ≡ Ok m
+    split : (s : Result Tree Refusal) → (s >>= λ v. after_steps v xs) ≡ Ok m
         → ((v : Tree) → after_steps v xs ≡ Ok m → after_steps m ys ≡ r → after_steps v (xs ++ ys) ≡ r)
-        → then_edit s (λ v. after_steps v (xs ++ ys)) ≡ r
+        → (s >>= λ v. after_steps v (xs ++ ys)) ≡ r
     split (Ok v) is deep = deep v is f
     split (Err why) is deep = absurd cc
 
 alone : (s : Step) (t u : Tree) → after_step s t ≡ Ok u → after_steps t (s ∷ []) ≡ Ok u
-alone s t u e = ap (λ r. then_edit r (λ v. Ok v)) e
+alone s t u e = ap (λ r. r >>= λ v. Ok v) e
 
 some_not_none : (o : Option Tree) → is_some o ≡ true → is_none o ≡ false
 some_not_none None h = absurd (false≢true h)
@@ -257,7 +258,7 @@ unfolding edited
 made_or_full version [] t u why e f = absurd cc
 made_or_full version (s ∷ ss) t u why e f =
     let all : ◌≡◌ {A = Result Tree Refusal} (cond (ltb most_bulk (bulk_of version u)) (Err full) (Ok u)) (Err why) =
-    sym (ap (λ r. then_edit r (λ v. cond (ltb most_bulk (bulk_of version v)) (Err full) (Ok v))) e) ∙ f in
+    sym (ap (λ r. r >>= λ v. cond (ltb most_bulk (bulk_of version v)) (Err full) (Ok v)) e) ∙ f in
     split (ltb most_bulk (bulk_of version u)) all
   where
     split : (b : Bool) → ◌≡◌ {A = Result Tree Refusal} (cond b (Err full) (Ok u)) (Err why) → why ≡ full

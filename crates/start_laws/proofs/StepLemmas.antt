@@ -10,10 +10,11 @@ use Rattle.nt_bytes.specs.declared.version.HiveVersion.{HiveVersion}
 use Rattle.hive_model.specs.Tree.{Item, Tree, key, trees, listed, head, children, is_named, is_item, find_key, dword_in}
 use Rattle.hive_model.specs.Size.{bulk_of}
 use Rattle.hive_model.specs.Valid.{levels}
-use Rattle.hive_model.specs.Edit.{Step, set_value, delete_key, copy_child, add_child, Refusal, no_key, exists, name_too_long, too_deep, data_too_long, full, has_child, most_bulk, unless, at_first, without_first, of_items, of_children, at_key, with_item, placed, renamed, with_child, name_tests, then_edit, after_step, after_steps, edited}
+use Rattle.hive_model.specs.Edit.{Step, set_value, delete_key, copy_child, add_child, Refusal, no_key, exists, name_too_long, too_deep, data_too_long, full, has_child, most_bulk, unless, at_first, without_first, of_items, of_children, at_key, with_item, placed, renamed, with_child, name_tests, after_step, after_steps, edited}
 use Rattle.start_model.specs.Sets.{set_name, set_of, select_number, stepped}
 use Rattle.start_laws.proofs.NameLemmas.{apart, other_number, select_is_no_set, no_set_is_select, folds_itself}
 use Rattle.start_laws.proofs.FindLemmas.{find-at_first_other, find-at_first, find-without_first, find-placed_other, find-placed, find-push_other, find-push}
+use Rattle.hive_model.specs.Forms.{◌>>=◌}
 
 -- ---- results
 
@@ -282,15 +283,15 @@ pub record Parted (t u : Tree) (xs ys : List Step) : Type 0 where
 pub one_step : (s : Step) (ss : List Step) (t u : Tree) → after_steps t (s ∷ ss) ≡ Ok u → Parted t u (s ∷ []) ss
 one_step s ss t u e = split (after_step s t) refl e
   where
-    split : (r : Result Tree Refusal) → after_step s t ≡ r → then_edit r (λ v. after_steps v ss) ≡ Ok u
+    split : (r : Result Tree Refusal) → after_step s t ≡ r → (r >>= λ v. after_steps v ss) ≡ Ok u
         → Parted t u (s ∷ []) ss
-    split (Ok v) is rest = record { middle = v; front = ap (λ r. then_edit r (λ v. Ok v)) is; back = rest }
+    split (Ok v) is rest = record { middle = v; front = ap (λ r. r >>= λ v. Ok v) is; back = rest }
     split (Err why) is rest = absurd cc
 
 pub single : (s : Step) (t u : Tree) → after_steps t (s ∷ []) ≡ Ok u → after_step s t ≡ Ok u
 single s t u e = split (after_step s t) refl e
   where
-    split : (r : Result Tree Refusal) → after_step s t ≡ r → then_edit r (λ v. Ok v) ≡ Ok u → after_step s t ≡ Ok u
+    split : (r : Result Tree Refusal) → after_step s t ≡ r → (r >>= λ v. Ok v) ≡ Ok u → after_step s t ≡ Ok u
     split (Ok v) is same = is ∙ same
     split (Err why) is same = absurd cc
 
@@ -302,7 +303,7 @@ parted (x ∷ xs) ys t u e =
     let deep = parted xs ys one.middle u one.back in
     record {
       middle = deep.middle;
-      front = ap (λ r. then_edit r (λ v. after_steps v xs)) (single x t one.middle one.front) ∙ deep.front;
+      front = ap (λ r. r >>= λ v. after_steps v xs) (single x t one.middle one.front) ∙ deep.front;
       back =
           deep.back;
     }
@@ -319,7 +320,7 @@ steps_made version [] t u e = e
 steps_made version (s ∷ ss) t u e = split (after_steps t (s ∷ ss)) refl e
   where
     split : (r : Result Tree Refusal) → after_steps t (s ∷ ss) ≡ r
-        → then_edit r (λ v. cond (ltb most_bulk (bulk_of version v)) (Err full) (Ok v)) ≡ Ok u
+        → (r >>= λ v. cond (ltb most_bulk (bulk_of version v)) (Err full) (Ok v)) ≡ Ok u
         → after_steps t (s ∷ ss) ≡ Ok u
     split (Ok v) is same = is ∙ ap (λ v. Ok v) (too_large_or (ltb most_bulk (bulk_of version v)) v u same)
     split (Err why) is same = absurd cc

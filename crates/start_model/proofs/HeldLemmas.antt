@@ -7,7 +7,7 @@ use Rattle.std.specs.List.{AllByRecursion}
 use Rattle.std.proofs.lemmas.List.Elements.{recursion_from_All}
 use Rattle.std.proofs.lemmas.List.Splits.{length-slice_split}
 use Rattle.std.proofs.lemmas.List.Sums.{count_by-le-length}
-use Rattle.nt_bytes.specs.Text.{wide_of, is_zero, is_item, multi_sz_of}
+use Rattle.nt_bytes.specs.Text.{wide_of, is_zero, is_filled, multi_sz_of}
 use Rattle.hive_model.specs.Tree.{Item, Tree, Trees, key, none, more, listed, children, is_named, find_key, find_item, find_strings}
 use Rattle.hive_model.specs.Tree.{is_item as has_name}
 use Rattle.hive_model.specs.Valid.{IsItem, HoldsKeys, AllHoldKeys, KeysDiffer}
@@ -80,7 +80,7 @@ length-multi_sz_of bytes =
       arith,
       length-wide_of bytes,
       length-split (wide_of bytes),
-      length-take (prefix_len is_item (slice_split is_zero (wide_of bytes))) (slice_split is_zero (wide_of bytes)),
+      length-take (prefix_len is_filled (slice_split is_zero (wide_of bytes))) (slice_split is_zero (wide_of bytes)),
     )
 
 -- a value that is there has few bytes

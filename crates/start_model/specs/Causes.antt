@@ -1,18 +1,15 @@
 -- Has each stop that a run tells of its cause, a count of the disk that rose since its start began? (this project's own)
 --
 -- Numbers alone: which wake, and which counts. A disk counts the losses of power and the failed calls that it had.
-use Rattle.std.specs.Prelude.{◌≡◌, ◌⊎◌, ◌<◌, ℕ, List, [], ◌∷◌}
+use Rattle.std.specs.Prelude.{ℕ, List, [], ◌∷◌}
 use Rattle.start_model.specs.Possible.{Outcome, Finished, PowerCut, DeviceFault}
 use Rattle.start_model.specs.Act.{Note, Woke, Ended}
+use Rattle.nt_bytes.specs.Counts.{Rises}
 
 -- how many losses of power and failed calls a disk had until a moment
 pub record Tally : Type 0 where
   pub cuts : ℕ
   pub faults : ℕ
-
--- a count rose: it is greater, or it stands at its end
-abbrev pub Rises : ℕ → ℕ → Type 0
-Rises before after = (before < after) ⊎ (after ≡ 18446744073709551615)
 
 -- a loss of power was counted between the two moments, or a failed call
 abbrev pub HasCause : Outcome → Tally → Tally → Type 0

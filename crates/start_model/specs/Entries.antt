@@ -6,7 +6,7 @@ use Rattle.std.specs.Prelude.{ℕ, Bool, false, not, ◌&&◌, ◌||◌, ◌==�
 use Rattle.std.specs.Option.{option_map, option_map_or}
 use Rattle.std.specs.List.{filter_map, list_any, range_with_len}
 use Rattle.nt_bytes.specs.Folding.{folds_same}
-use Rattle.hive_model.specs.Tree.{Tree, head, children, find_key, find_dword, find_text, find_strings}
+use Rattle.hive_model.specs.Tree.{Tree, head, children, find_key, find_dword, find_string, find_strings}
 use Rattle.start_model.specs.Demand.{Need, automatic_of}
 
 -- a service: its key's name, Start, Type, ErrorControl, Group, Tag, DependOnService, DependOnGroup
@@ -36,7 +36,7 @@ entry_with t (Some start) (Some kind) = Some (record {
   start = start;
   kind = kind;
   control = control_in t;
-  group = named_group (find_text (codes "Group") t);
+  group = named_group (find_string (codes "Group") t);
   tag = find_dword (codes "Tag") t;
   services = find_strings (codes "DependOnService") t;
   groups = find_strings (codes "DependOnGroup") t;

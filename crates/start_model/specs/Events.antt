@@ -5,6 +5,7 @@ use Rattle.nt_bytes.specs.Folding.{folds_same}
 use Rattle.hive_model.specs.Image.{Keep, Arming}
 use Rattle.hive_model.specs.Edit.{Step, set_value, delete_value, make_key, delete_key}
 use Rattle.start_model.specs.Sets.{set_name}
+use Rattle.hive_model.specs.Footprint.{parent_of}
 
 -- an edit of a value or of a key at a path, which is the list of its components
 pub data Edit : Type 0 where
@@ -68,10 +69,6 @@ abbrev pub resolved : ℕ → List (List ℕ) → List (List ℕ)
 resolved number [] = []
 resolved number (first ∷ path) = if is_current first then set_name number ∷ path else first ∷ path
 
--- all but the last component
-abbrev pub without_last : List (List ℕ) → List (List ℕ)
-without_last path = take (length path - 1) path
-
 -- the last component; empty where the path has none
 abbrev pub last_of : List (List ℕ) → List ℕ
 last_of [] = []
@@ -82,5 +79,5 @@ last_of (name ∷ next ∷ path) = last_of (next ∷ path)
 abbrev pub step_of : ℕ → Edit → Step
 step_of number (Set path name kind bytes) = set_value (resolved number path) name kind bytes
 step_of number (Delete path name) = delete_value (resolved number path) name
-step_of number (Make path) = make_key (without_last (resolved number path)) (last_of (resolved number path))
+step_of number (Make path) = make_key (parent_of (resolved number path)) (last_of (resolved number path))
 step_of number (Remove path) = delete_key (resolved number path)

@@ -1,9 +1,10 @@
 -- What does the report say, line by line? (this project's own)
 --
 -- Numbers are decimal, each line ends with LF, and a line begins with a word that tells what it is about.
-use Rattle.std.specs.Prelude.{ℕ, ◌/◌, ◌%◌, Bool, false, ◌&&◌, List, [], ◌∷◌, ◌++◌, map, nat_le, if◌then◌else◌, codes}
+use Rattle.std.specs.Prelude.{ℕ, ◌/◌, ◌%◌, Bool, false, List, [], ◌∷◌, ◌++◌, map, if◌then◌else◌, codes}
 use Rattle.std.specs.List.{flat_map}
 use Rattle.std.specs.Fmt.{decimal, digit_glyph}
+use Rattle.nt_bytes.specs.Text.{is_printable}
 
 -- what a commit wrote: the change of the begin, of the save, of a flush, or of switching off
 pub data CommitWord : Type 0 where
@@ -171,10 +172,6 @@ verdict_word OtherLoader = codes "other-loader"
 verdict_word NoSystem = codes "no-system"
 verdict_word NoControlSet = codes "no-control-set"
 verdict_word NoLastKnownGood = codes "no-last-known-good"
-
--- what is printed as it is: 0x20 to 0x7E
-abbrev pub is_printable : ℕ → Bool
-is_printable c = nat_le 0x20 c && nat_le c 0x7e
 
 -- `\u` and four lower-case hexadecimal digits
 abbrev pub escaped : ℕ → List ℕ

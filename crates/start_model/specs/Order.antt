@@ -3,15 +3,15 @@
 -- By the place of the group in ServiceGroupOrder, then by the place of the tag in GroupOrderList, then
 -- as they stand in the registry (Windows Internals, 4th edition, startup; Microsoft's documentation of
 -- service entries). That the services of the automatic phase stand by group and not by tag is from there too.
-use Rattle.std.specs.Prelude.{ℕ, ◌+◌, ◌-◌, ◌*◌, ◌/◌, min, nat_lt, nat_eq, Bool, true, false, ◌==◌, codes, List, [], ◌∷◌, map, filter, not, length, slice_get, slice_range, position, unwrap_or, Option, if◌then◌else◌}
+use Rattle.std.specs.Prelude.{ℕ, ◌+◌, ◌-◌, ◌*◌, ◌/◌, min, nat_lt, nat_eq, Bool, true, false, ◌==◌, codes, List, [], ◌∷◌, map, filter, not, length, slice_get, position, unwrap_or, Option, if◌then◌else◌}
 use Rattle.std.specs.declared.cmp.Ordering.{Ordering}
 use Rattle.std.specs.Ordering.{nat_cmp, ordering_then, is_lt}
 use Rattle.std.specs.Option.{option_map, option_map_or}
 use Rattle.std.specs.List.{filter_map, range_with_len}
-use Rattle.std.specs.Int.{w32, from_le_bytes}
 use Rattle.nt_bytes.specs.Folding.{folds_same}
 use Rattle.hive_model.specs.Tree.{Tree, find_key, find_item, find_strings}
 use Rattle.start_model.specs.Entries.{Entry, entries_of, taken_of, Phase, Boot, System, Automatic, Done}
+use Rattle.nt_bytes.specs.Fields.{u32_in}
 
 -- ---- the lists of a control set
 
@@ -20,16 +20,12 @@ pub record GroupOrder : Type 0 where
   pub name : List ℕ
   pub tags : List ℕ
 
--- the number at a place in the bytes
-abbrev pub number_in : List ℕ → ℕ → ℕ
-number_in bytes at = from_le_bytes w32 (slice_range bytes at (at + 4))
-
 -- a count, and then that many tags, as far as the bytes go
 abbrev pub tags_of : List ℕ → List ℕ
 tags_of bytes =
     if nat_lt (length bytes) 4
     then []
-    else map (λ k. number_in bytes (4 + 4 * k)) (range_with_len 0 (min ((length bytes - 4) / 4) (number_in bytes 0)))
+    else map (λ k. u32_in bytes (4 + 4 * k)) (range_with_len 0 (min ((length bytes - 4) / 4) (u32_in bytes 0)))
 
 -- the bytes of the value of type 3 (REG_BINARY) that has the group's name
 abbrev pub tag_bytes : Option Tree → List ℕ → List ℕ

@@ -5,7 +5,7 @@ use crate::cuts::cut;
 use crate::sessions::edited;
 use hive_store::{check_images, judge_images};
 use mem_edge::MemDisk;
-use nt_bytes::{Bytes, HiveFault, HiveKind, HiveVersion, ReadStop};
+use nt_bytes::{Bytes, HiveFault, HiveFaultKind, HiveVersion, ReadStop};
 use nt_edge::{Bench, HiveFile, Keep};
 use std::alloc::{AllocError, Global};
 use std::process::Abort;
@@ -48,7 +48,7 @@ fn left(rt: &impl Abort, alloc: Global) -> Result<Held, Fail> {
 #[test]
 fn a_clean_file_holds_its_tree_and_a_short_one_none(rt: HostRuntime) -> Result<(), Fail> {
     let fault = HiveFault {
-        kind: HiveKind::Checksum,
+        kind: HiveFaultKind::Checksum,
         at: 508,
     };
     let seen = clean_and_short(&rt, rt.alloc())?;
@@ -82,7 +82,7 @@ fn judged(rt: &impl Abort, alloc: Global) -> Result<[Judged; 2], Fail> {
 #[test]
 fn files_are_judged_as_they_are_checked(rt: HostRuntime) -> Result<(), Fail> {
     let fault = HiveFault {
-        kind: HiveKind::Checksum,
+        kind: HiveFaultKind::Checksum,
         at: 508,
     };
     let seen = judged(&rt, rt.alloc())?;

@@ -26,11 +26,11 @@ use Rattle.reg_tree.specs.declared.stop.EditStop.TheVariants as stops
 use Rattle.reg_tree.specs.Makes.{IsRefused}
 use Rattle.run_laws.proofs.SameLemmas.{same-Decides}
 use Rattle.command_parts.specs.declared.inputs.HiveFiles.{HiveFiles}
-use Rattle.command_parts.specs.Leaves.{named}
+use Rattle.command_parts.specs.Leaves.{named, IsPartDone}
 use Rattle.command_parts.specs.Placed.{image_in, placed_disk, IsUnrun}
 use Rattle.text_commands.specs.declared.changing.Done.{Done}
 use Rattle.text_commands.specs.declared.changing.Done.TheVariants as dones
-use Rattle.text_commands.specs.Imported.{Change, refusal_word, change_by, change_of, IsPartImported}
+use Rattle.text_commands.specs.Imported.{Change, refusal_word, change_by, change_of}
 use Rattle.text_commands.specs.Imports.{stop_word, IsRefusedAs, Settles, Makes, Changes, ChangesHeld, ChangesAwake, Unmoved, ImportsOn}
 
 -- with nothing in flight only what is held may be left
@@ -273,7 +273,7 @@ pub awake_off : {E : Type 0} (steps : List Step) (result : Result Done E) (old n
 awake_off steps result old new a = ap (λ (d : DiskState). d.on) a.off
 
 -- the disk could not be woken
-pub unwoken : (files : HiveFiles) (disk : DiskState) → disk ≡ placed_disk files → IsPartImported files 0 disk
+pub unwoken : (files : HiveFiles) (disk : DiskState) → disk ≡ placed_disk files → IsPartDone files 0 disk
 unwoken files disk is =
     let placings : disk.history.placings ≡ 1 + named files.log = ap (λ (d : DiskState). d.history.placings) is in
     let takings : disk.history.takings ≡ 0 = ap (λ (d : DiskState). d.history.takings) is in
@@ -285,7 +285,7 @@ unwoken files disk is =
     }
 
 -- the files could not be placed
-pub unplaced : (files : HiveFiles) (disk : DiskState) → IsUnrun disk → IsPartImported files 0 disk
+pub unplaced : (files : HiveFiles) (disk : DiskState) → IsUnrun disk → IsPartDone files 0 disk
 unplaced files disk u =
     let placings : disk.history.placings ≤ 1 = u.few in
     let takings : disk.history.takings ≡ 0 = ap (λ (d : DiskState). d.history.takings) u.alone in

@@ -1,7 +1,7 @@
 -- Counts with nothing left to count.
 use Rattle.std.proofs.Common.{◌≡◌, ◌+◌, ◌<◌, ◌≤◌, ℕ, List, [], ◌∷◌, length, arith}
-use Rattle.hive_model.specs.Tree.{Tree, trees, keys_count}
-use Rattle.text_commands.specs.Exported.{capped, items_count}
+use Rattle.hive_model.specs.Tree.{Tree, trees, keys_count, items_count}
+use Rattle.nt_bytes.specs.Counts.{capped}
 
 none_left : (total whole : ℕ) → total ≤ 18446744073709551615 → capped (total + 0) ≡ whole → total ≡ whole
 none_left total whole small is = omega (arith, small, is)

@@ -61,8 +61,6 @@ unchecked_asked files gets =
 
 -- ---- behind the search for the hive
 
-}
-
 none_more : (n : ℕ) → n ≡ n + 0
 none_more n = omega arith
 

@@ -23,7 +23,7 @@ use Rattle.command_parts.specs.declared.status.Status.{Status}
 use Rattle.command_parts.specs.declared.status.Status.TheVariants as statuses
 use Rattle.command_parts.specs.Decides.{DecidesAlone}
 use Rattle.command_parts.specs.Inputs.{hive_in, file_in}
-use Rattle.command_parts.specs.Leaves.{Leaves, Looks, more, named, stop_in, stopped_as}
+use Rattle.command_parts.specs.Leaves.{Leaves, Looks, more, named, stop_in, stopped_as, IsPartDone}
 use Rattle.command_parts.specs.Placed.{image_in, IsUntouchedBy}
 use Rattle.command_parts.specs.Refusals.{Answer, Ends, IsToldAs, refusal, refusal_status, refusal_text}
 use Rattle.command_parts.specs.Saves.{Saves, saved_count, FilesAs, Settles, FinishesAs}
@@ -32,7 +32,7 @@ use Rattle.command_parts.proofs.LeaveLemmas.{keeps_then, counts_by, no_front}
 use Rattle.text_commands.proofs.ImportAskLemmas.{text_asked, stopped_text_asked, fault_asked, unchecked_asked}
 use Rattle.text_commands.specs.declared.changing.Done.{Done}
 use Rattle.text_commands.specs.Exported.{fault_text}
-use Rattle.text_commands.specs.Imported.{Change, change_of, IsImported, IsPartImported, EndsChange, EndsHive, EndsImport, import_saves, DecidesImport}
+use Rattle.text_commands.specs.Imported.{Change, change_of, IsImported, EndsChange, EndsHive, EndsImport, import_saves, DecidesImport}
 use Rattle.text_commands.specs.Imports.{done_text, IsImportOf, EndsEdits, EndsRead, IsChecked, IsLoadable, TellsFault, DecidesEdits, DecidesText, DecidesFile}
 
 -- ---- the disk behind the saving
@@ -64,7 +64,7 @@ saved_imported files change n mid after le m s = record {
 }
 
 part_imported : (files : HiveFiles) (change : Change) (n most : ℕ) (disk : DiskState) → n ≤ most
-    → IsImported files change.state n disk → IsPartImported files most disk
+    → IsImported files change.state n disk → IsPartDone files most disk
 part_imported files change n most disk le m = record {
   placed = omega (arith, m.placed);
   taken = omega (arith, m.taken, le);
@@ -72,9 +72,9 @@ part_imported files change n most disk le m = record {
   uncut = m.uncut;
 }
 
-pub new_part : (files : HiveFiles) (disk : DiskState) → disk ≡ new_state → IsPartImported files 0 disk
+pub new_part : (files : HiveFiles) (disk : DiskState) → disk ≡ new_state → IsPartDone files 0 disk
 new_part files disk is =
-    let P : DiskState → Type 0 = IsPartImported files 0 in
+    let P : DiskState → Type 0 = IsPartDone files 0 in
     subst P (sym is) (record { placed = omega arith; taken = omega arith; unordered = refl; uncut = refl })
 
 -- ---- the edits
@@ -145,13 +145,13 @@ finished_imports files saves steps done line status old new mid after on off is 
 
 -- there was no memory for the edits, or for the line
 pub unimported : (files : HiveFiles) (saves : Saves) (steps : List Step) (host : HostState) (disk : DiskState)
-    → disk.on ≡ false → IsPartImported files 0 disk
+    → disk.on ≡ false → IsPartDone files 0 disk
     → DecidesEdits files saves steps statuses.Memory host host disk
 unimported files saves steps host disk off part =
     memory_decides (EndsEdits files saves steps disk) saves host disk off (inr (refl, refl, part))
 
 pub unsaid_import : (files : HiveFiles) (steps : List Step) (done : Done) (disk : DiskState)
-    → IsImportOf files steps disk done → IsPartImported files 0 disk
+    → IsImportOf files steps disk done → IsPartDone files 0 disk
 unsaid_import files steps done disk on = part_imported files (change_of on.0.state steps) 0 0 disk (omega arith) on.3
 
 -- ---- the text

@@ -2,7 +2,7 @@
 --
 -- The registry text of the key that the path leads to is put into a file, and then one line is said. Where there is no such
 -- key, or no such text, no file is put.
-use Rattle.std.specs.Prelude.{◌≡◌, ◌⊎◌, ◌++◌, ◌+◌, min, ℕ, List, [], length, Option, Some, None, Result, Ok, Err, codes}
+use Rattle.std.specs.Prelude.{◌≡◌, ◌⊎◌, ◌++◌, ◌+◌, ℕ, List, [], Option, Some, None, Result, Ok, Err, codes}
 use Rattle.std.specs.List.{flat_map, slice_split}
 use Rattle.std.specs.Char.Escape.{encode_utf16}
 use Rattle.std.specs.Str.{chars}
@@ -10,12 +10,12 @@ use Rattle.std.specs.Fmt.{decimal}
 use Rattle.nt_bytes.specs.declared.fault.HiveFault.{HiveFault}
 use Rattle.nt_edge.specs.Host.{Files, HostState, Puts, KeepsOthers}
 use Rattle.hive_model.specs.Load.{Loads, LoadFault}
-use Rattle.hive_model.specs.Tree.{Tree, Trees, key, none, more, key_count, find_key}
-use Rattle.hive_model.specs.Valid.{is_backslash}
+use Rattle.hive_model.specs.Tree.{Tree, key, none, key_count, find_key, item_count}
+use Rattle.nt_bytes.specs.Text.{is_backslash}
 use Rattle.start_model.specs.Possible.{Woken}
 use Rattle.reg_text.specs.declared.stop.RegFault.{RegFault}
-use Rattle.reg_text.specs.declared.stop.RegKind.{RegKind}
-use Rattle.reg_text.specs.declared.stop.RegKind.TheVariants.{Mark, Header, Root, Line, NotText}
+use Rattle.reg_text.specs.declared.stop.RegFaultKind.{RegFaultKind}
+use Rattle.reg_text.specs.declared.stop.RegFaultKind.TheVariants.{Mark, Header, Root, Line, NotText}
 use Rattle.reg_text.specs.Writing.{reg_text_of}
 use Rattle.command_words.specs.Words.{ExportAsked}
 use Rattle.command_parts.specs.declared.status.Status.{Status}
@@ -27,6 +27,7 @@ use Rattle.command_parts.specs.Inputs.{hive_in, asks_hive}
 use Rattle.command_parts.specs.Leaves.{Leaves}
 use Rattle.command_parts.specs.Placed.{image_in}
 use Rattle.command_parts.specs.Refusals.{Answer, Ends, refusal}
+use Rattle.nt_bytes.specs.Counts.{capped}
 
 -- ---- words
 
@@ -41,21 +42,7 @@ path_in (Some text) = slice_split is_backslash (units_of text)
 
 -- ---- answers
 
--- how many values a tree has
-abbrev mutual
-  pub item_count : Tree → ℕ
-  item_count (key h ts) = length h.values + items_count ts
-
-  -- how many values trees have together
-  pub items_count : Trees → ℕ
-  items_count none = 0
-  items_count (more t ts) = item_count t + items_count ts
-
--- a count, up to its end
-abbrev pub capped : ℕ → ℕ
-capped n = min n 18446744073709551615
-
-abbrev pub kind_word : RegKind → List ℕ
+abbrev pub kind_word : RegFaultKind → List ℕ
 kind_word Mark = codes "mark"
 kind_word Header = codes "header"
 kind_word Root = codes "root"

@@ -1,7 +1,7 @@
 -- What does `import` do, and what does it say? (this project's own)
 --
 -- The edits of a registry text are made in a hive, all or none, and committed where they gave another tree. One line is said.
-use Rattle.std.specs.Prelude.{◌≡◌, ◌⊎◌, ◌≤◌, ◌+◌, ◌++◌, ℕ, if◌then◌else◌, List, [], Result, Ok, Err, codes}
+use Rattle.std.specs.Prelude.{◌≡◌, ◌⊎◌, ◌+◌, ◌++◌, ℕ, if◌then◌else◌, List, [], Result, Ok, Err, codes}
 use Rattle.std.specs.Fmt.{decimal}
 use Rattle.nt_bytes.specs.declared.fault.HiveFault.{HiveFault}
 use Rattle.nt_edge.specs.Disk.{DiskState, new_state}
@@ -24,7 +24,7 @@ use Rattle.command_parts.specs.declared.status.Status.{Status}
 use Rattle.command_parts.specs.declared.status.Status.TheVariants as statuses
 use Rattle.command_parts.specs.Decides.{Decides}
 use Rattle.command_parts.specs.Inputs.{hive_in, file_in}
-use Rattle.command_parts.specs.Leaves.{named}
+use Rattle.command_parts.specs.Leaves.{named, IsPartDone}
 use Rattle.command_parts.specs.Placed.{image_in}
 use Rattle.command_parts.specs.Refusals.{Answer, Ends, refusal}
 use Rattle.command_parts.specs.Saves.{Saves, saved_count}
@@ -73,13 +73,6 @@ pub record IsImported (files : HiveFiles) (state : HiveState) (saved : ℕ) (dis
   pub no_cuts : disk.cuts ≡ 0
   pub no_faults : disk.faults ≡ 0
 
--- the disk where `import` was stopped: no more files than these were placed and taken, and no stop was ordered
-pub record IsPartImported (files : HiveFiles) (most : ℕ) (disk : DiskState) : Type 0 where
-  pub placed : disk.history.placings ≤ 1 + named files.log
-  pub taken : disk.history.takings ≤ most
-  pub unordered : disk.history.armings ≡ []
-  pub uncut : disk.history.cut_calls ≡ 0
-
 -- ---- the end
 
 -- what is said of a change, with the status
@@ -91,9 +84,9 @@ imported change = record { status = statuses.Done; text = change.text }
 abbrev pub EndsChange : HiveFiles → Saves → Change → DiskState → Status → List ℕ → List ℕ → Type 0
 EndsChange files saves change disk statuses.Done old new = (new ≡ old ++ change.text) × IsImported files change.state (saved_count saves) disk
 EndsChange files saves change disk statuses.WriteFault old new =
-    Ends (imported change) statuses.WriteFault old new × IsPartImported files (saved_count saves) disk
+    Ends (imported change) statuses.WriteFault old new × IsPartDone files (saved_count saves) disk
 EndsChange files saves change disk statuses.Memory old new =
-    Ends (imported change) statuses.Memory old new × IsPartImported files (saved_count saves) disk
+    Ends (imported change) statuses.Memory old new × IsPartDone files (saved_count saves) disk
 EndsChange files saves change disk refused old new = ⊥
 
 -- the fault of the text is said, and nothing was done to the disk; or its edits are made
@@ -112,7 +105,7 @@ abbrev pub EndsHive : HiveFiles → Saves → Result (List ℕ) Why → DiskStat
 EndsHive files saves text disk status old new =
     ((fault : HiveFault) × (LoadFault (image_in files) fault) × Ends (refusal (BadHive fault)) status old new × (disk ≡ new_state))
     ⊎ (((placed : Woken) × (Loads (image_in files) placed.state placed.dirty) × EndsText files saves placed.state text disk status old new)
-    ⊎ (((status ≡ statuses.Memory) × (new ≡ old) × IsPartImported files 0 disk) ⊎ ((status ≡ statuses.ReadFault) × (new ≡ old) × (disk ≡ new_state))))
+    ⊎ (((status ≡ statuses.Memory) × (new ≡ old) × IsPartDone files 0 disk) ⊎ ((status ≡ statuses.ReadFault) × (new ≡ old) × (disk ≡ new_state))))
 
 -- the first obstacle is said, and nothing was done to the disk; or there is none, and the hive decides
 abbrev pub EndsImport : Result HiveFiles Why → Saves → Result (List ℕ) Why → DiskState → Status → List ℕ → List ℕ → Type 0

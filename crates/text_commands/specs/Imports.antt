@@ -22,7 +22,7 @@ use Rattle.command_parts.specs.declared.status.Status.{Status}
 use Rattle.command_parts.specs.declared.status.Status.TheVariants as statuses
 use Rattle.command_parts.specs.Decides.{Decides, DecidesAlone}
 use Rattle.command_parts.specs.Inputs.{file_in}
-use Rattle.command_parts.specs.Leaves.{Leaves}
+use Rattle.command_parts.specs.Leaves.{Leaves, IsPartDone}
 use Rattle.command_parts.specs.Refusals.{Ends, IsToldAs}
 use Rattle.command_parts.specs.Saves.{Saves}
 use Rattle.hive_commit.specs.Stages.{next_number}
@@ -32,7 +32,7 @@ use Rattle.text_commands.specs.declared.changing.Done.{Done}
 use Rattle.text_commands.specs.declared.changing.Done.TheVariants as dones
 use Rattle.text_commands.specs.Asks.{AsksBehind}
 use Rattle.text_commands.specs.Exported.{fault_answer}
-use Rattle.text_commands.specs.Imported.{Change, change_of, IsImported, IsPartImported, EndsChange, EndsHive}
+use Rattle.text_commands.specs.Imported.{Change, change_of, IsImported, EndsChange, EndsHive}
 
 -- the word of a stop of the edits
 abbrev pub stop_word : EditStop → List ℕ
@@ -105,7 +105,7 @@ IsImportOf files steps disk done =
 -- that was done, or there was no memory for it
 abbrev pub ImportsOn : {E : Type 0} → HiveFiles → List Step → Result Done E → DiskState → Type 0
 ImportsOn files steps (Ok done) disk = IsImportOf files steps disk done
-ImportsOn files steps (Err e) disk = IsPartImported files 0 disk
+ImportsOn files steps (Err e) disk = IsPartDone files 0 disk
 
 -- ---- the end
 
@@ -113,7 +113,7 @@ ImportsOn files steps (Err e) disk = IsPartImported files 0 disk
 abbrev pub EndsEdits : HiveFiles → Saves → List Step → DiskState → Status → List ℕ → List ℕ → Type 0
 EndsEdits files saves steps disk status old new =
     ((placed : Woken) × (Loads (image_in files) placed.state placed.dirty) × EndsChange files saves (change_of placed.state steps) disk status old new)
-    ⊎ ((status ≡ statuses.Memory) × (new ≡ old) × IsPartImported files 0 disk)
+    ⊎ ((status ≡ statuses.Memory) × (new ≡ old) × IsPartDone files 0 disk)
 
 -- the image loads as some state, or this is its first fault
 abbrev pub IsChecked : Image → Result (Unit {0}) ReadStop → Type 0

@@ -2,7 +2,8 @@
 
 ghost use Rattle.std.specs.Prelude.{◌≡◌};
 ghost use Rattle.hive_model.specs.Tree.{key_count, keys_count, trees};
-ghost use Rattle.text_commands.specs.Exported.{capped, item_count, items_count};
+ghost use Rattle.hive_model.specs.Tree.{item_count, items_count};
+ghost use Rattle.nt_bytes.specs.Counts.{capped};
 
 use reg_tree::Key;
 

@@ -4,18 +4,18 @@ ghost use Rattle.std.specs.Prelude.{◌≡◌, ◌++◌, codes, IfOk};
 ghost use Rattle.std.specs.Fmt.{decimal};
 ghost use Rattle.text_commands.specs.Exported.{kind_word, fault_text};
 
-use reg_text::{RegFault, RegKind};
+use reg_text::{RegFault, RegFaultKind};
 use std::alloc::{AllocError, Global};
 
-fn kind_word(kind: RegKind) -> &'static str
+fn kind_word(kind: RegFaultKind) -> &'static str
     ensures { result.now ≡ kind_word kind }
 {
     match kind {
-        RegKind::Mark => "mark",
-        RegKind::Header => "header",
-        RegKind::Root => "root",
-        RegKind::Line => "line",
-        RegKind::NotText => "not-text",
+        RegFaultKind::Mark => "mark",
+        RegFaultKind::Header => "header",
+        RegFaultKind::Root => "root",
+        RegFaultKind::Line => "line",
+        RegFaultKind::NotText => "not-text",
     }
 }
 

@@ -12,8 +12,8 @@ use Rattle.std.proofs.lemmas.Fmt.{digits_is_IsNumeral}
 use Rattle.std.proofs.lemmas.List.{append-nil}
 use Rattle.std.proofs.lemmas.Nat.{le_bytes_4}
 use Rattle.nt_bytes.specs.Text.{wide_of, is_zero, sz_of}
-use Rattle.reg_text.specs.declared.stop.RegKind.{RegKind}
-use Rattle.reg_text.specs.declared.stop.RegKind.TheVariants.{Line}
+use Rattle.reg_text.specs.declared.stop.RegFaultKind.{RegFaultKind}
+use Rattle.reg_text.specs.declared.stop.RegFaultKind.TheVariants.{Line}
 use Rattle.reg_text.specs.declared.item.LineItem.TheVariants.{Named, GoesOn}
 use Rattle.reg_text.specs.Digits.{is_hex, byte_of, with_bytes, pairs_of, bytes_of}
 use Rattle.reg_text.specs.Gives.{◌>>=◌}
@@ -180,7 +180,8 @@ no_more : (bytes : List ℕ) → AreBytes bytes → continued (bytes_text bytes)
 no_more [] all = refl
 no_more (b ∷ bytes) all = ends_none (byte_digits b ++ more_text bytes) (more_ends b bytes all)
 
-item_by : (name : List ℕ) (kind : ℕ) (bytes : List ℕ) (o : Option (List ℕ)) (r : Result (List ℕ) RegKind) → o ≡ None
+item_by : (name : List ℕ) (kind : ℕ) (bytes : List ℕ) (o : Option (List ℕ)) (r : Result (List ℕ) RegFaultKind)
+    → o ≡ None
     → r ≡ Ok bytes
     → option_map_or (λ more. Ok (GoesOn (record { name = name; kind = kind; text = more }))) o
     (r >>= λ b. Ok (Named name kind b)) ≡ Ok (Named name kind bytes)
@@ -440,7 +441,7 @@ dword_data bytes four all =
 string_is : (name text : List ℕ)
     → data_item name (34 ∷ flat_map quoted_unit text ++ 34 ∷ []) ≡ Ok (Named name 1 (string_bytes text))
 unfolding data_item string_item string_ended
-string_is name text = ap (λ (r : Result (List ℕ × List ℕ) RegKind). r >>= λ q. string_ended name q.0 q.1)
+string_is name text = ap (λ (r : Result (List ℕ × List ℕ) RegFaultKind). r >>= λ q. string_ended name q.0 q.1)
     (quoted_back text [])
 
 string_data : (bytes : List ℕ) → length bytes ≡ 2 * length (sz_of bytes) + 2 → breaks (sz_of bytes) ≡ false
@@ -468,7 +469,7 @@ wide_is : (name : List ℕ) (kind : ℕ) (bytes : List ℕ) → kind < 429496729
     → data_item name (wide_text kind bytes) ≡ Ok (Named name kind bytes)
 unfolding data_item number_item hex_item kind_at
 wide_is name kind bytes lt all =
-    ap (λ (r : Result (ℕ × List ℕ) RegKind). r >>= λ k. bytes_item name k.0 [] k.1)
+    ap (λ (r : Result (ℕ × List ℕ) RegFaultKind). r >>= λ k. bytes_item name k.0 [] k.1)
     (kind_back kind (bytes_text bytes) lt) ∙ item_back name kind bytes all
 
 hex_data : (bytes : List ℕ) → AreBytes bytes → Back 3 bytes (codes "hex:" ++ bytes_text bytes)

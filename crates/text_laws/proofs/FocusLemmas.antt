@@ -2,10 +2,11 @@
 use Rattle.std.proofs.Common.{◌≡◌, ℕ, Bool, true, false, cond, List, [], ◌∷◌, ◌++◌, Option, Some, None, Result, Ok, Err, refl, sym, ◌∙◌, ap}
 use Rattle.std.specs.Prelude.{find, option_and_then}
 use Rattle.nt_bytes.specs.Folding.{folds_same}
-use Rattle.hive_model.specs.Edit.{Step, Refusal, at_first, of_children, at_key, unless, then_edit, after_step, after_steps}
+use Rattle.hive_model.specs.Edit.{Step, Refusal, at_first, of_children, at_key, unless, after_step, after_steps}
 use Rattle.hive_model.specs.Tree.{Tree, Trees, key, none, more, trees, listed, head, children, is_named, find_key}
 use Rattle.std.proofs.lemmas.Option.{same_Some}
 use Rattle.reg_tree.proofs.Trees.{listed_trees}
+use Rattle.hive_model.specs.Forms.{◌>>=◌}
 
 pub trees_listed : (ts : Trees) → trees (listed ts) ≡ ts
 trees_listed none = refl
@@ -189,7 +190,7 @@ pub first_step : (step : Step) (steps : List Step) (t u : Tree) → after_steps 
     → (v : Tree) × (after_step step t ≡ Ok v) × (after_steps v steps ≡ Ok u)
 first_step step steps t u e = go (after_step step t) refl e
   where
-    go : (r : Result Tree Refusal) → after_step step t ≡ r → then_edit r (λ v. after_steps v steps) ≡ Ok u
+    go : (r : Result Tree Refusal) → after_step step t ≡ r → (r >>= λ v. after_steps v steps) ≡ Ok u
         → (v : Tree) × (after_step step t ≡ Ok v) × (after_steps v steps ≡ Ok u)
     go (Ok v) is e = (v, is, e)
     go (Err r) is e = absurd cc
@@ -201,7 +202,7 @@ in_parts (step ∷ first) rest t u e =
     let p = in_parts first rest s.0 u s.2 in
     record {
       mid = p.mid;
-      before = ap (λ (r : Result Tree Refusal). then_edit r (λ v. after_steps v first)) s.1
+      before = ap (λ (r : Result Tree Refusal). r >>= λ v. after_steps v first) s.1
           ∙ p.before;
       behind = p.behind;
     }

@@ -7,21 +7,20 @@ use Rattle.std.proofs.lemmas.Bool.{ne_eqb, or_parts, or_from}
 use Rattle.std.proofs.lemmas.List.{append-nil}
 use Rattle.std.proofs.lemmas.List.Elements.{All-nil, All-cons}
 use Rattle.std.proofs.lemmas.List.Splits.{slice_split_at, slice_split_none}
-use Rattle.nt_bytes.specs.Text.{trimmed}
+use Rattle.nt_bytes.specs.Text.{trimmed, is_backslash}
 use Rattle.hive_model.specs.Edit.{Step, set_value}
 use Rattle.hive_model.specs.Tree.{Item, Tree, Trees, key, none, more, head}
-use Rattle.hive_model.specs.Valid.{is_backslash}
-use Rattle.reg_text.specs.declared.stop.RegKind.{RegKind}
-use Rattle.reg_text.specs.declared.stop.RegKind.TheVariants.{Line, NotText}
+use Rattle.reg_text.specs.declared.stop.RegFaultKind.{RegFaultKind}
+use Rattle.reg_text.specs.declared.stop.RegFaultKind.TheVariants.{Line, NotText}
 use Rattle.reg_text.specs.declared.stop.RegFault.{RegFault}
 use Rattle.reg_text.specs.declared.item.LineItem.{LineItem}
 use Rattle.reg_text.specs.declared.item.LineItem.TheVariants.{Nothing, InKey, Named}
 use Rattle.reg_text.specs.declared.item.Begun.{Begun}
 use Rattle.reg_text.specs.declared.state.State.{State}
-use Rattle.reg_text.specs.Gives.{◌>>=◌, at_line}
+use Rattle.reg_text.specs.Gives.{◌>>=◌}
 use Rattle.reg_text.specs.Items.{ends_in, front, parts_behind, path_at, bracketed, key_item, named, name_at, data_item, value_item, fresh_item, item_at}
 use Rattle.reg_text.specs.Quotes.{quoted_from}
-use Rattle.reg_text.specs.Reading.{making, edits_of, number_of, state_after, line_said, with_edits, then_lines, lines_said, first_state, body_of, closed, unended, lines_behind, units_said, behind_mark, reg_steps_of}
+use Rattle.reg_text.specs.Reading.{making, edits_of, state_after, line_said, with_edits, lines_said, first_state, body_of, closed, unended, lines_behind, units_said, behind_mark, reg_steps_of}
 use Rattle.reg_text.specs.Writing.{header, system, quoted_unit, quoted, name_text, data_text, value_text, breaks, place_below, key_text, keys_text, place_of, text_of, has_broken_value, has_broken_name, have_broken_names, unit_bytes, mark, reg_text_of}
 use Rattle.text_laws.specs.Back.{value_steps, key_steps, keys_steps, FitsFields, IsPart, IsTextual, AreTextual}
 use Rattle.text_laws.proofs.LineLemmas.{whole_append, wide_back, not_odd, last_at, front_of, line_cut, Ends, ends_behind, tight}
@@ -44,7 +43,7 @@ name_back (u ∷ name) rest =
     ap (quoted_from false) (append_assoc (flat_map quoted_unit (u ∷ name)) (34 ∷ []) (61 ∷ rest))
     ∙ quoted_back (u ∷ name) (61 ∷ rest) in
     ap (λ (t : List ℕ). name_at (t ++ 61 ∷ rest)) (named_quoted u name)
-    ∙ ap (λ (r : Result (List ℕ × List ℕ) RegKind). r >>= λ q. named q.0 q.1) back
+    ∙ ap (λ (r : Result (List ℕ × List ℕ) RegFaultKind). r >>= λ q. named q.0 q.1) back
 
 name_whole : (name : List ℕ) → breaks name ≡ false → breaks (name_text name) ≡ false
 name_whole [] e = refl
@@ -65,11 +64,11 @@ value_line v rest =
 value_is : (v : Item) → FitsFields v → value_item (line_of v) ≡ Ok (Named v.name v.kind v.bytes)
 unfolding value_item
 value_is v fits =
-    ap (λ (r : Result (List ℕ × List ℕ) RegKind). r >>= λ n. data_item n.0 n.1)
+    ap (λ (r : Result (List ℕ × List ℕ) RegFaultKind). r >>= λ n. data_item n.0 n.1)
     (name_back v.name (data_text v.kind v.bytes))
     ∙ (data_back v.kind v.bytes fits.kind fits.bytes).back v.name
 
-fresh_is : (v : Item) (r : Result LineItem RegKind) → value_item (line_of v) ≡ r → fresh_item (line_of v) ≡ r
+fresh_is : (v : Item) (r : Result LineItem RegFaultKind) → value_item (line_of v) ≡ r → fresh_item (line_of v) ≡ r
 unfolding fresh_item
 fresh_is v r is = by v.name is
   where
@@ -144,7 +143,7 @@ unfolding fresh_item key_item bracketed
 key_is path parts =
     ap (λ (b : Bool). cond b (bracketed (front (place_of path ++ 93 ∷ []))) (Err Line)) (ends_93 (place_of path))
     ∙ ap bracketed (front_of (place_of path) 93)
-    ∙ ap (λ (r : Result (List (List ℕ)) RegKind). r >>= λ p. Ok (InKey p)) (path_back path parts)
+    ∙ ap (λ (r : Result (List (List ℕ)) RegFaultKind). r >>= λ p. Ok (InKey p)) (path_back path parts)
 
 key_tight : (path : List (List ℕ)) → trimmed (key_line path) ≡ key_line path
 key_tight path =
@@ -186,8 +185,8 @@ item_said state line item edits begun same fresh gives =
     ap (λ (o : Option Begun). item_at o (trimmed line) >>= λ i. edits_of state.key i >>= λ es. Ok
     (es, state_after state i)) begun
     ∙ ap (λ (l : List ℕ). fresh_item l >>= λ i. edits_of state.key i >>= λ es. Ok (es, state_after state i)) same
-    ∙ ap (λ (r : Result LineItem RegKind). r >>= λ i. edits_of state.key i >>= λ es. Ok (es, state_after state i)) fresh
-    ∙ ap (λ (r : Result (List Step) RegKind). r >>= λ es. Ok (es, state_after state item)) gives
+    ∙ ap (λ (r : Result _ RegFaultKind). r >>= λ i. edits_of state.key i >>= λ es. Ok (es, state_after state i)) fresh
+    ∙ ap (λ (r : Result (List Step) RegFaultKind). r >>= λ es. Ok (es, state_after state item)) gives
 
 -- one line with its end
 line_is : (state after : State) (line : List ℕ) (edits : List Step) (into : Option (List (List ℕ)))
@@ -372,7 +371,7 @@ said_whole units odd body text steps into is from even tells =
     ∙ ap (λ (t : List ℕ). lines_said gap.after (lines t)) (sym (append-nil text))
     ∙ told.said.reads []
     ∙ ap (λ (es : List Step). Ok (es, told.said.after)) (append-nil steps) in
-    ap (λ (b : Result (List (List ℕ)) RegKind). closed units odd (lines_behind b)) body_is
+    ap (λ (b : Result (List (List ℕ)) RegFaultKind). closed units odd (lines_behind b)) body_is
     ∙ ap (closed units odd) read
     ∙ closed_is units odd steps told.said.after told.said.begun even
 

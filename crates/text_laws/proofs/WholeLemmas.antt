@@ -3,7 +3,7 @@ use Rattle.std.specs.Prelude.{nat_lt}
 use Rattle.std.proofs.Common.{◌≡◌, ℕ, Bool, true, false, cond, List, Result, Ok, Err, refl, sym, ◌∙◌, ap, subst}
 use Rattle.std.specs.List.{All}
 use Rattle.nt_bytes.specs.declared.version.HiveVersion.{HiveVersion}
-use Rattle.hive_model.specs.Edit.{Step, Refusal, full, most_bulk, then_edit, after_steps, edited}
+use Rattle.hive_model.specs.Edit.{Step, Refusal, full, most_bulk, after_steps, edited}
 use Rattle.hive_model.specs.Size.{bulk_of}
 use Rattle.hive_model.specs.Tree.{Tree}
 use Rattle.reg_text.specs.declared.stop.RegFault.{RegFault}
@@ -13,6 +13,7 @@ use Rattle.text_laws.specs.Back.{key_steps, IsPart, IsTextual, IsOrdered, IsFree
 use Rattle.text_laws.proofs.FocusLemmas.{done, ok_one}
 use Rattle.text_laws.proofs.BuildLemmas.{has_back}
 use Rattle.text_laws.proofs.TextLemmas.{read_back}
+use Rattle.hive_model.specs.Forms.{◌>>=◌}
 
 -- edits that are made are not refused one by one
 made_steps : (version : HiveVersion) (root made : Tree) (steps : List Step) → edited version root steps ≡ Ok made
@@ -25,7 +26,7 @@ made_steps version root made steps is = go (after_steps root steps) refl is
     fits u false e = ok_one u made e
 
     go : (r : Result Tree Refusal) → after_steps root steps ≡ r
-        → then_edit r (λ u. cond (nat_lt most_bulk (bulk_of version u)) (Err full) (Ok u)) ≡ Ok made
+        → (r >>= λ u. cond (nat_lt most_bulk (bulk_of version u)) (Err full) (Ok u)) ≡ Ok made
         → after_steps root steps ≡ Ok made
     go (Err why) are e = absurd cc
     go (Ok u) are e = are ∙ ap done (fits u (nat_lt most_bulk (bulk_of version u)) e)

@@ -5,7 +5,8 @@ use Rattle.std.specs.Ordering.{is_gt}
 use Rattle.nt_bytes.specs.Folding.{folded_order}
 use Rattle.hive_model.specs.Edit.{Step, set_value}
 use Rattle.hive_model.specs.Tree.{Item, Tree, Trees, key, none, more, listed, head, find_key}
-use Rattle.hive_model.specs.Valid.{ItemsDiffer, KeysDiffer, is_backslash}
+use Rattle.hive_model.specs.Valid.{ItemsDiffer, KeysDiffer}
+use Rattle.nt_bytes.specs.Text.{is_backslash}
 use Rattle.reg_text.specs.Reading.{making}
 
 -- ---- the edits

@@ -1,7 +1,7 @@
 //! The edits of a text, said one a line.
 
 use nt_bytes::{Bytes, HiveVersion, Names, Units};
-use reg_text::{RegFault, RegKind, RegStop, read_reg, reg_text};
+use reg_text::{RegFault, RegFaultKind, RegStop, read_reg, reg_text};
 use reg_tree::{Key, Keys, TreeStep, Values};
 use std::alloc::{AllocError, Global};
 
@@ -91,13 +91,13 @@ fn push_steps(alloc: Global, out: &mut Bytes, steps: &[TreeStep]) -> Result<(), 
     Ok(())
 }
 
-fn kind_word(kind: RegKind) -> &'static str {
+fn kind_word(kind: RegFaultKind) -> &'static str {
     match kind {
-        RegKind::Mark => "mark",
-        RegKind::Header => "header",
-        RegKind::Root => "root",
-        RegKind::Line => "line",
-        RegKind::NotText => "not-text",
+        RegFaultKind::Mark => "mark",
+        RegFaultKind::Header => "header",
+        RegFaultKind::Root => "root",
+        RegFaultKind::Line => "line",
+        RegFaultKind::NotText => "not-text",
     }
 }
 

@@ -2,7 +2,7 @@
 use Rattle.std.specs.Prelude.{ℕ, not, nat_lt, List, [], ◌∷◌, ◌++◌, length, find, Result, Ok, Err}
 use Rattle.std.specs.Option.{is_some, option_map_or}
 use Rattle.hive_model.specs.Tree.{Tree, key, trees, listed, is_named, is_item, find_item}
-use Rattle.hive_model.specs.Valid.{longest_value_name}
+use Rattle.hive_model.specs.Valid.{longest_value_name, longest_data}
 use Rattle.hive_model.specs.Edit.{Refusal, no_key, no_value, name_too_long, too_deep, data_too_long, unless, at_first, without_first, of_items, of_children, with_item, with_key, has_child, name_tests}
 use Rattle.tree_draft.specs.declared.change.Change.{Change}
 use Rattle.tree_draft.specs.declared.change.Change.TheVariants.{PutValue, DropValue, PutKey, DropKey}
@@ -11,7 +11,7 @@ use Rattle.tree_draft.specs.declared.change.Change.TheVariants.{PutValue, DropVa
 abbrev pub changed_here : Change → Tree → Result Tree Refusal
 changed_here (PutValue name kind bytes) t = unless
     ((nat_lt longest_value_name (length name), name_too_long)
-    ∷ (nat_lt 1048576 (length bytes), data_too_long)
+    ∷ (nat_lt longest_data (length bytes), data_too_long)
     ∷ [])
     (of_items (with_item name kind bytes) t)
 changed_here (DropValue name) t = unless

@@ -9,7 +9,8 @@ use Rattle.std.specs.Ordering.{nat_cmp}
 use Rattle.std.specs.Cmp.Lexicographic.{slice_cmp}
 use Rattle.std.specs.declared.cmp.Ordering.TheVariants.{Greater}
 use Rattle.nt_bytes.specs.Folding.{folded}
-use Rattle.hive_model.specs.Tree.{Tree, head, weight, weights, most_le-weights}
+use Rattle.hive_model.specs.Tree.{Tree, head}
+use Rattle.hive_model.specs.Codes.{weight, weights, most_le-weights}
 
 -- each child stands under its folded name
 abbrev pub AreByName : List (Vec ℕ × Tree) → Type 0

@@ -10,7 +10,7 @@ use crate::draft::{Draft, DraftKeys};
 use crate::stop::DraftStop;
 use crate::values::DraftValues;
 use nt_bytes::{Bytes, Units};
-use reg_tree::{EditStop, Values, is_bad_name};
+use reg_tree::{EditStop, LONGEST_DATA, LONGEST_KEY_NAME, LONGEST_VALUE_NAME, Values, is_bad_name};
 use std::alloc::{AllocError, Global};
 use std::mem::replace;
 
@@ -48,10 +48,10 @@ impl Draft {
     ) -> Result<(), DraftStop>
         ensures { Drafts self.new result (changed_here (PutValue name kind bytes) self.old) }
     {
-        if name.len() > 16383 {
+        if name.len() > LONGEST_VALUE_NAME {
             return Err(DraftStop::Refused(EditStop::NameTooLong));
         }
-        if bytes.len() > 1048576 {
+        if bytes.len() > LONGEST_DATA {
             return Err(DraftStop::Refused(EditStop::DataTooLong));
         }
         let values = replace(&mut self.values, DraftValues::Kept(Values::new(alloc)));
@@ -96,7 +96,7 @@ impl Draft {
         if is_bad_name(name.as_slice()) {
             return Err(DraftStop::Refused(EditStop::BadName));
         }
-        if name.len() > 255 {
+        if name.len() > LONGEST_KEY_NAME {
             return Err(DraftStop::Refused(EditStop::NameTooLong));
         }
         if deep {

@@ -32,7 +32,8 @@ pub(crate) struct DraftKeys {
 }
 
 impl Model for Draft {
-    ghost use Rattle.hive_model.specs.Tree.{Tree, coded_tree, key, trees, weight, weights-trees};
+    ghost use Rattle.hive_model.specs.Tree.{Tree, key, trees};
+    ghost use Rattle.hive_model.specs.Codes.{coded_tree, weight, weights-trees};
     ghost use Rattle.tree_draft.specs.Values.{values_in};
     ghost use Rattle.std.proofs.Common.{arith};
 
@@ -58,7 +59,8 @@ impl Model for DraftKeys {
     ghost use Rattle.std.specs.Prelude.{◌++◌, List};
     ghost use Rattle.std.specs.Map.{values_of};
     ghost use Rattle.std.proofs.Common.{arith};
-    ghost use Rattle.hive_model.specs.Tree.{Tree, coded_trees, weights};
+    ghost use Rattle.hive_model.specs.Tree.{Tree};
+    ghost use Rattle.hive_model.specs.Codes.{coded_trees, weights};
     ghost use Rattle.tree_draft.specs.Children.{AreKept, most_le-opened};
 
     ghost Value = { List Tree };

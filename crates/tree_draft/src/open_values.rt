@@ -28,7 +28,8 @@ pub(crate) struct OpenValues {
 
 impl Model for OpenValues {
     ghost use Rattle.std.specs.Prelude.{List};
-    ghost use Rattle.hive_model.specs.Tree.{Item, coded_items};
+    ghost use Rattle.hive_model.specs.Tree.{Item};
+    ghost use Rattle.hive_model.specs.Codes.{coded_items};
     ghost use Rattle.tree_draft.specs.Slots.{held, IsIndexOf};
 
     ghost Value = { List Item };

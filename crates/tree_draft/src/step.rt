@@ -9,7 +9,7 @@ use crate::change::Change;
 use crate::draft::Draft;
 use crate::stop::DraftStop;
 use nt_bytes::{Bytes, Names, Units};
-use reg_tree::{EditStop, TreeStep};
+use reg_tree::{EditStop, MOST_PARENTS, TreeStep};
 use std::alloc::Global;
 
 impl Draft {
@@ -42,7 +42,7 @@ impl Draft {
     fn make_key(&mut self, alloc: Global, parent: &Names, name: &Units) -> Result<(), DraftStop>
         ensures { Drafts self.new result (key_made parent.now name.now self.old) }
     {
-        let deep = parent.as_slice().len() > 510;
+        let deep = parent.as_slice().len() > MOST_PARENTS;
         let name = name.copy(alloc)?;
         self.change_at(alloc, parent.as_slice(), Change::PutKey { name, deep })
     }

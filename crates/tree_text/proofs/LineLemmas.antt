@@ -6,10 +6,11 @@ use Rattle.std.proofs.lemmas.List.Sums.{sum_by-append}
 use Rattle.std.proofs.lemmas.Bool.{ne_eqb}
 use Rattle.std.proofs.lemmas.Bool.Decides.{nat_tests}
 use Rattle.hex.specs.Hex.{encode_with, encode_lower, lower_digits}
-use Rattle.start_model.specs.Lines.{unit_text, name_text, is_printable, escaped}
-use Rattle.hive_model.specs.Tree.{Item, Head, Tree, Trees, key, none, more, key_count, keys_count}
+use Rattle.start_model.specs.Lines.{unit_text, name_text, escaped}
+use Rattle.nt_bytes.specs.Text.{is_printable}
+use Rattle.hive_model.specs.Tree.{Item, Head, Tree, Trees, key, none, more, key_count, keys_count, item_count, items_count}
 use Rattle.tree_text.specs.TreeText.{deeper, data_text, value_text, values_text, key_text, keys_text, tree_text}
-use Rattle.tree_text.specs.LineCount.{line_count, item_count, items_count}
+use Rattle.tree_text.specs.LineCount.{line_count}
 
 joined : (a b : List ℕ) → line_count (a ++ b) ≡ line_count a + line_count b
 joined a b = sum_by-append _ a b

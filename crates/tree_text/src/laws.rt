@@ -5,7 +5,8 @@ ghost use Rattle.nt_bytes.specs.declared.version.HiveVersion.TheVariants.{V3};
 ghost use Rattle.hive_model.specs.Size.{bulk_of};
 ghost use Rattle.hive_model.specs.Tree.{Tree, key_count};
 ghost use Rattle.tree_text.specs.TreeText.{tree_text, shown_text};
-ghost use Rattle.tree_text.specs.LineCount.{line_count, item_count};
+ghost use Rattle.tree_text.specs.LineCount.{line_count};
+ghost use Rattle.hive_model.specs.Tree.{item_count};
 ghost use Rattle.tree_text.specs.OneDriver.{one_driver, one_driver_text};
 
 /// A system with one driver, byte for byte.

@@ -15,7 +15,7 @@ use Rattle.nt_edge.specs.Bench.{KeepsOrders, turned_off}
 use Rattle.nt_edge.specs.Crash.{EachCrash}
 use Rattle.nt_edge.specs.Disk.{DiskState}
 use Rattle.nt_edge.specs.Frames.{GoesOn}
-use Rattle.nt_edge.specs.Host.{Rises}
+use Rattle.nt_bytes.specs.Counts.{Rises}
 use Rattle.nt_bytes.specs.declared.version.HiveVersion.{HiveVersion}
 use Rattle.hive_commit.proofs.Kept.{only_held}
 use Rattle.hive_alt.specs.Changes.{Change, nothing, no_select, too_large, changed, change_of, after_change, committed_by, Answers, IsLoaded, IsDone, IsEitherOf, IsLost, IsFailed, IsLacking}

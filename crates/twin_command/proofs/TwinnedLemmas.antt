@@ -19,7 +19,7 @@ use Rattle.command_parts.specs.declared.refusal.Obstacle.TheVariants.{Stopped}
 use Rattle.command_parts.specs.declared.status.Status.{Status}
 use Rattle.command_parts.specs.declared.status.Status.TheVariants as statuses
 use Rattle.command_parts.specs.Decides.{Decides, DecidesAlone}
-use Rattle.command_parts.specs.Leaves.{Leaves, Looks, more, named, stopped_as}
+use Rattle.command_parts.specs.Leaves.{Leaves, Looks, more, named, stopped_as, IsPartDone}
 use Rattle.command_parts.specs.Placed.{image_in, placed_disk, IsUnrun, IsUntouchedBy}
 use Rattle.command_parts.specs.Refusals.{Answer, Ends, IsToldAs, refusal, refusal_text}
 use Rattle.command_parts.specs.Saves.{Saves, saved_count, Settles, FinishesAs}
@@ -28,7 +28,7 @@ use Rattle.command_parts.proofs.LeaveLemmas.{no_front}
 use Rattle.twin_command.specs.Awake.{IsAwake, ToldOf}
 use Rattle.twin_command.specs.declared.report.Told.{Told}
 use Rattle.twin_command.specs.Told.{told_text, told_of}
-use Rattle.twin_command.specs.Twinned.{SomeFound, IsTwinned, IsPartTwinned, TwinnedAs, EndsTwinned, EndsFiles, EndsTwin}
+use Rattle.twin_command.specs.Twinned.{SomeFound, IsTwinned, TwinnedAs, EndsTwinned, EndsFiles, EndsTwin}
 
 -- ---- the disk
 
@@ -88,7 +88,7 @@ twinned_ok stands files number before after is (Ok told) t = twinned_as stands f
 twinned_ok stands files number before after is (Err e) t = tt
 
 pub part_by_history : (files : HiveFiles) (before after : DiskState) → before ≡ awake_disk files
-    → after.history ≡ before.history → IsPartTwinned files 0 after
+    → after.history ≡ before.history → IsPartDone files 0 after
 part_by_history files before after is same =
     let history : after.history ≡ (awake_disk files).history = same ∙ ap (λ (d : DiskState). d.history) is in
     record {
@@ -99,16 +99,16 @@ part_by_history files before after is same =
     }
 
 pub part_ok : {T E : Type 0} (files : HiveFiles) (before after : DiskState) → before ≡ awake_disk files
-    → (t : Result T E) → OnErr t (after.history ≡ before.history) → OnErr t (IsPartTwinned files 0 after)
+    → (t : Result T E) → OnErr t (after.history ≡ before.history) → OnErr t (IsPartDone files 0 after)
 part_ok files before after is (Ok told) same = tt
 part_ok files before after is (Err e) same = part_by_history files before after is same
 
-pub part_placed : (files : HiveFiles) (disk : DiskState) → disk ≡ placed_disk files → IsPartTwinned files 0 disk
+pub part_placed : (files : HiveFiles) (disk : DiskState) → disk ≡ placed_disk files → IsPartDone files 0 disk
 part_placed files disk is =
-    (let P : DiskState → Type 0 = IsPartTwinned files 0 in
+    (let P : DiskState → Type 0 = IsPartDone files 0 in
     subst P (sym is) (record { placed = omega arith; taken = omega arith; unordered = refl; uncut = refl }))
 
-pub part_unrun : (files : HiveFiles) (disk : DiskState) → IsUnrun disk → IsPartTwinned files 0 disk
+pub part_unrun : (files : HiveFiles) (disk : DiskState) → IsUnrun disk → IsPartDone files 0 disk
 part_unrun files disk u = record {
   placed = omega (arith, u.few);
   taken = omega (arith, ap (λ (d : DiskState). d.history.takings) u.alone);
@@ -147,7 +147,7 @@ module _ (stands : Standing) (files : HiveFiles) (number : Option ℕ) (found : 
   }
 
   pub part_of : (n most : ℕ) (disk : DiskState) → n ≤ most → IsTwinned stands files number found tree n disk
-      → IsPartTwinned files most disk
+      → IsPartDone files most disk
   part_of n most disk le m =
       record {
         placed = omega (arith, m.placed);
@@ -156,8 +156,8 @@ module _ (stands : Standing) (files : HiveFiles) (number : Option ℕ) (found : 
         uncut = m.uncut;
       }
 
-part_more : (files : HiveFiles) (most : ℕ) (disk : DiskState) → IsPartTwinned files 0 disk
-    → IsPartTwinned files most disk
+part_more : (files : HiveFiles) (most : ℕ) (disk : DiskState) → IsPartDone files 0 disk
+    → IsPartDone files most disk
 part_more files most disk p =
     record { placed = p.placed; taken = omega (arith, p.taken); unordered = p.unordered; uncut = p.uncut }
 
@@ -181,7 +181,7 @@ module _ (stands : Standing) (files : HiveFiles) (number : Option ℕ) (saves : 
 
   -- there was no memory before anything was said
   pub untold : (some : SomeFound stands (image_in files)) (host : HostState) (disk : DiskState) → disk.on ≡ false
-      → IsPartTwinned files 0 disk
+      → IsPartDone files 0 disk
       → DecidesAlone (Whole disk) saves statuses.Memory host host disk
   untold some host disk off part =
       let text = told_text (told_of number some.0 some.1) in

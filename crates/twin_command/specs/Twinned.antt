@@ -2,7 +2,7 @@
 --
 -- It loads what two files stand for by one of two ways to keep a hive, mends it, changes the default set where that is asked
 -- for, and says so.
-use Rattle.std.specs.Prelude.{◌≡◌, ◌⊎◌, ◌≤◌, ◌+◌, ◌++◌, ℕ, List, [], Option, Result, Ok, Err}
+use Rattle.std.specs.Prelude.{◌≡◌, ◌⊎◌, ◌+◌, ◌++◌, ℕ, List, [], Option, Result, Ok, Err}
 use Rattle.nt_bytes.specs.declared.fault.HiveFault.{HiveFault}
 use Rattle.hive_model.specs.Base.{version_of}
 use Rattle.hive_model.specs.Image.{Image}
@@ -16,8 +16,8 @@ use Rattle.hive_alt.specs.Plans.{IsFound}
 use Rattle.hive_alt.specs.Schemes.{Standing, StandsFor, StandFault}
 use Rattle.hive_alt.specs.Twin.{twin_of}
 use Rattle.command_words.specs.Words.{TwinAsked}
-use Rattle.command_words.specs.declared.asked.TwinScheme.{TwinScheme}
-use Rattle.command_words.specs.declared.asked.TwinScheme.TheVariants.{Alt, Log}
+use Rattle.command_words.specs.declared.asked.AskedScheme.{AskedScheme}
+use Rattle.command_words.specs.declared.asked.AskedScheme.TheVariants.{Alt, Log}
 use Rattle.command_parts.specs.declared.inputs.HiveFiles.{HiveFiles}
 use Rattle.command_parts.specs.declared.refusal.Refusal.{Refusal}
 use Rattle.command_parts.specs.declared.refusal.Refusal.TheVariants.{HiveFault as BadHive}
@@ -25,7 +25,7 @@ use Rattle.command_parts.specs.declared.status.Status.{Status}
 use Rattle.command_parts.specs.declared.status.Status.TheVariants as statuses
 use Rattle.command_parts.specs.Decides.{Decides}
 use Rattle.command_parts.specs.Inputs.{hive_in, asks_hive}
-use Rattle.command_parts.specs.Leaves.{named}
+use Rattle.command_parts.specs.Leaves.{named, IsPartDone}
 use Rattle.command_parts.specs.Placed.{image_in, IsUnrun}
 use Rattle.command_parts.specs.Refusals.{Answer, Ends, refusal}
 use Rattle.command_parts.specs.Saves.{Saves, saved_count}
@@ -33,7 +33,7 @@ use Rattle.twin_command.specs.declared.report.Told.{Told}
 use Rattle.twin_command.specs.Told.{told_text, told_of}
 
 -- what the words' way to keep a hive makes of an image
-abbrev pub stands_by : TwinScheme → Standing
+abbrev pub stands_by : AskedScheme → Standing
 stands_by Alt = twin_of
 stands_by Log = recovered_of
 
@@ -51,13 +51,6 @@ pub record IsTwinned (stands : Standing) (files : HiveFiles) (number : Option �
   pub uncut : disk.history.cut_calls ≡ 0
   pub no_cuts : disk.cuts ≡ 0
   pub no_faults : disk.faults ≡ 0
-
--- the disk where `twin` was stopped: no more files than these were placed and taken, and no stop was ordered
-pub record IsPartTwinned (files : HiveFiles) (most : ℕ) (disk : DiskState) : Type 0 where
-  pub placed : disk.history.placings ≤ 1 + named files.log
-  pub taken : disk.history.takings ≤ most
-  pub unordered : disk.history.armings ≡ []
-  pub uncut : disk.history.cut_calls ≡ 0
 
 -- what is told is that of what was found, and the disk is as it is to be
 pub record TwinnedAs (stands : Standing) (files : HiveFiles) (number : Option ℕ) (told : Told) (disk : DiskState) : Type 0 where
@@ -77,9 +70,9 @@ abbrev pub EndsTwinned : Standing → HiveFiles → Option ℕ → Saves → Rec
 EndsTwinned stands files number saves found tree disk statuses.Done old new =
     (new ≡ old ++ told_text (told_of number found tree)) × IsTwinned stands files number found tree (saved_count saves) disk
 EndsTwinned stands files number saves found tree disk statuses.WriteFault old new =
-    Ends (twinned number found tree) statuses.WriteFault old new × IsPartTwinned files (saved_count saves) disk
+    Ends (twinned number found tree) statuses.WriteFault old new × IsPartDone files (saved_count saves) disk
 EndsTwinned stands files number saves found tree disk statuses.Memory old new =
-    Ends (twinned number found tree) statuses.Memory old new × IsPartTwinned files (saved_count saves) disk
+    Ends (twinned number found tree) statuses.Memory old new × IsPartDone files (saved_count saves) disk
 EndsTwinned stands files number saves found tree disk refused old new = ⊥
 
 -- the files stand for something that holds a tree, and so it ends

@@ -10,7 +10,7 @@ ghost use Rattle.twin_command.specs.Twinned.{stands_by, EndsFiles, DecidesTwin, 
 
 use crate::twinning::begin;
 use command_parts::{HiveFiles, Obstacle, Saves, Status, hive_in, refuse, stopped};
-use command_words::{TwinScheme as Kept, TwinWords};
+use command_words::{AskedScheme as Kept, TwinWords};
 use hive_alt::{LogScheme, TwinScheme};
 use nt_edge::{Bench, Host};
 use std::alloc::Global;

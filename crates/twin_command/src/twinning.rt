@@ -10,7 +10,8 @@ ghost use Rattle.command_parts.specs.Views.{saves_seen};
 ghost use Rattle.command_parts.specs.Decides.{DecidesAlone};
 ghost use Rattle.hive_alt.specs.Plans.{ChecksFor};
 ghost use Rattle.twin_command.specs.Awake.{IsAwake, ToldOf, ToldBy, done_word};
-ghost use Rattle.twin_command.specs.Twinned.{SomeFound, TwinnedAs, IsPartTwinned, EndsFiles};
+ghost use Rattle.twin_command.specs.Twinned.{SomeFound, TwinnedAs, EndsFiles};
+ghost use Rattle.command_parts.specs.Leaves.{IsPartDone};
 
 use crate::report::{Told, Word, report};
 use command_parts::{HiveFiles, Refusal, Saves, Status, finish, place, refuse};
@@ -104,7 +105,7 @@ fn change<S: Scheme, B: Bench>(
     requires placed { B.state bench.old ≡ placed_disk files.now }
     requires some { SomeFound S.stands (image_in files.now) }
     ensures told { IfOk result (λ t. TwinnedAs S.stands files.now number t (B.state bench.new)) }
-    ensures part { OnErr result (IsPartTwinned files.now 0 (B.state bench.new)) }
+    ensures part { OnErr result (IsPartDone files.now 0 (B.state bench.new)) }
     ensures off { (B.state bench.new).on ≡ false }
 {
     match bench.power_on() {
@@ -123,7 +124,7 @@ fn place_and_change<S: Scheme, B: Bench>(
     requires fresh { B.state bench.old ≡ new_state }
     requires some { SomeFound S.stands (image_in files.now) }
     ensures told { IfOk result (λ t. TwinnedAs S.stands files.now number t (B.state bench.new)) }
-    ensures part { OnErr result (IsPartTwinned files.now 0 (B.state bench.new)) }
+    ensures part { OnErr result (IsPartDone files.now 0 (B.state bench.new)) }
     ensures off { (B.state bench.new).on ≡ false }
 {
     match place(files, bench) {

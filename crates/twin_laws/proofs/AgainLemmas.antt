@@ -3,12 +3,12 @@ use Rattle.std.specs.Prelude.{nat_lt, not}
 use Rattle.std.proofs.Common.{◌≡◌, ◌⊎◌, inl, ◌<◌, ◌≤◌, ◌+◌, ◌-◌, ◌*◌, ◌/◌, ◌==◌, ℕ, zero, suc, Bool, true, false, cond, List, length, take, drop, replicate, Option, Some, None, Result, Ok, Err, refl, sym, ◌∙◌, ap, subst, ⊎_elim, arith}
 use Rattle.std.proofs.lemmas.Bool.{lt-ltb, eqb-true, eq-eqb, cases_lt}
 use Rattle.nt_bytes.specs.declared.fault.HiveFault.{HiveFault}
-use Rattle.nt_bytes.specs.declared.fault.HiveKind.TheVariants.{LogAbsent, LogUnreadable, LogSequence, NotRegf}
+use Rattle.nt_bytes.specs.declared.fault.HiveFaultKind.TheVariants.{LogAbsent, LogUnreadable, LogSequence, NotRegf}
 use Rattle.hive_model.specs.Asked.{primary_at}
 use Rattle.hive_model.specs.Base.{Base, base_of, fault_at}
 use Rattle.hive_model.specs.Image.{Image, File, Primary, Log, Content, Bytes, Unreadable, padded, sector_of, image_of, bytes_of, IsFileOf}
 use Rattle.hive_model.specs.Load.{Loads}
-use Rattle.hive_model.specs.Recovery.{Recovered, Sectors, primary_in, log_in, and_then, bytes_or, joined, gathered, recovered_with, goes_with, as_log_base, base_at, base_in}
+use Rattle.hive_model.specs.Recovery.{Recovered, Sectors, primary_in, log_in, bytes_or, joined, gathered, recovered_with, goes_with, as_log_base, base_at, base_in}
 use Rattle.hive_model.specs.State.{HiveState}
 use Rattle.hive_model.proofs.BaseLemmas.{base_in_checked}
 use Rattle.saved_laws.specs.Saved.{HasUntornBlock, KeepsSectors}
@@ -20,9 +20,10 @@ use Rattle.hive_alt.specs.Copies.{copy_in}
 use Rattle.hive_alt.specs.Schemes.{StandsFor, StandFault}
 use Rattle.hive_alt.specs.Twin.{copy_at, absent_at, torn_at, read_in, second_in, is_second, standing, by_second_block, twin_of}
 use Rattle.hive_alt.proofs.TwinLemmas.{by_fault, by_clean, by_unfinished, block_back, second_block_stands}
-use Rattle.command_words.specs.declared.asked.TwinScheme.{TwinScheme}
-use Rattle.command_words.specs.declared.asked.TwinScheme.TheVariants as schemes
+use Rattle.command_words.specs.declared.asked.AskedScheme.{AskedScheme}
+use Rattle.command_words.specs.declared.asked.AskedScheme.TheVariants as schemes
 use Rattle.twin_command.specs.Twinned.{stands_by}
+use Rattle.hive_model.specs.Forms.{◌>>=◌}
 
 -- ---- the sectors of a file
 
@@ -90,7 +91,7 @@ copy_stays file x y size few keeps =
 
 -- the second copy's base block, by what its sector 0 has
 abbrev second_at : Option Content → Result Base HiveFault
-second_at c = and_then (bytes_or (fault_at LogAbsent 0) (fault_at LogUnreadable 0) c)
+second_at c = bytes_or (fault_at LogAbsent 0) (fault_at LogUnreadable 0) c >>=
     (λ block. as_log_base (base_of block 0))
 
 second_stays : (c d : Option Content) → HasAgain c d → Stays (second_at c) (second_at d)
@@ -100,7 +101,7 @@ second_stays (Some (Bytes bytes)) d keeps b e = ap second_at (keeps bytes refl) 
 
 -- the primary's base block, of a sector that has bytes
 abbrev opened_as : Result Base HiveFault → Result (Option Base) HiveFault
-opened_as r = and_then r (λ (base : Base). Ok (Some base))
+opened_as r = r >>= (λ (base : Base). Ok (Some base))
 
 -- ---- two copies
 
@@ -156,8 +157,8 @@ module _ (x y : Image) (first : KeepsSectors Primary x y) (second : KeepsSectors
         (second_block_stands y opened other by unfinished sy goes
         ∙ ap (recovered_with true other) (copy_stays Log x y other.size few second bins is))
 
-    to_block : (s : Result Base HiveFault) → second_in x ≡ s → twin_of x ≡ and_then s (by_second_block x opened)
-    to_block s sx = by_unfinished x opened bx unfinished ∙ ap (λ q. and_then q (by_second_block x opened)) sx
+    to_block : (s : Result Base HiveFault) → second_in x ≡ s → twin_of x ≡ (s >>= by_second_block x opened)
+    to_block s sx = by_unfinished x opened bx unfinished ∙ ap (λ q. q >>= by_second_block x opened) sx
 
     by_second_goes : (other : Base) → second_in x ≡ Ok other → (t : Bool) → goes_with opened other ≡ t → StandsAgain y r
     by_second_goes other sx true goes = by_second_bins other sx goes (bins_in Log x other.size) refl
@@ -212,7 +213,7 @@ twin_again x y first second untorn state is =
 
 -- ---- both ways
 
-pub files_stand : (scheme : TwinScheme) (image : Image) (hive other : List ℕ) (state : HiveState)
+pub files_stand : (scheme : AskedScheme) (image : Image) (hive other : List ℕ) (state : HiveState)
     → IsFileOf image Primary hive → IsFileOf image Log other → HasUntornBlock image
     → StandsFor (stands_by scheme) state image → StandsFor (stands_by scheme) state (image_of hive other)
 files_stand schemes.Alt image hive other state hive_is other_is untorn is =
@@ -249,7 +250,7 @@ torn_twin image hive alt is torn =
     ∙ ap (λ b. Some (Bytes b)) (filled part (whole hive is.count 0 is.long inside) ∙ sym zeros) in
     by_fault (image_of hive alt) (fault_at NotRegf 0) (ap base_at block ∙ ap opened_as is_no_hive)
 
-pub torn_stands : (scheme : TwinScheme) (image : Image) (hive alt : List ℕ)
+pub torn_stands : (scheme : AskedScheme) (image : Image) (hive alt : List ℕ)
     → IsFileOf image Primary hive → image (primary_at 0) ≡ Some Unreadable
     → StandFault (stands_by scheme) (image_of hive alt) (fault_at NotRegf 0)
 torn_stands schemes.Alt image hive alt is torn = inl (torn_twin image hive alt is torn)

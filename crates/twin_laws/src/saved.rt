@@ -1,7 +1,7 @@
 //! What the files stand for that the disk holds behind `twin`.
 
 ghost use Rattle.std.specs.Prelude.{◌≡◌, true, ℕ, List, Some};
-ghost use Rattle.nt_bytes.specs.declared.fault.HiveKind.TheVariants.{NotRegf};
+ghost use Rattle.nt_bytes.specs.declared.fault.HiveFaultKind.TheVariants.{NotRegf};
 ghost use Rattle.hive_model.specs.Asked.{primary_at};
 ghost use Rattle.hive_model.specs.Base.{fault_at};
 ghost use Rattle.hive_model.specs.Image.{Image, Primary, Log, Unreadable, IsFileOf, image_of};
@@ -10,7 +10,7 @@ ghost use Rattle.nt_edge.specs.Host.{HostState};
 ghost use Rattle.saved_laws.specs.Saved.{HasUntornBlock};
 ghost use Rattle.hive_alt.specs.Schemes.{StandFault};
 ghost use Rattle.command_words.specs.Words.{TwinAsked};
-ghost use Rattle.command_words.specs.declared.asked.TwinScheme.{TwinScheme};
+ghost use Rattle.command_words.specs.declared.asked.AskedScheme.{AskedScheme};
 ghost use Rattle.command_parts.specs.declared.status.Status.TheVariants as statuses;
 ghost use Rattle.twin_command.specs.Twinned.{stands_by, DecidesTwin};
 ghost use Rattle.twin_laws.specs.AsTold.{StandsAsTold};
@@ -32,7 +32,7 @@ pub fn what_was_saved_stands_as_told()
 
 /// Where the primary's sector 0 can't be read, its file is no hive by either scheme, whatever the second file has.
 pub fn a_torn_block_stands_for_nothing()
-    ensures { (scheme : TwinScheme) (image : Image) (hive alt : List ℕ)
+    ensures { (scheme : AskedScheme) (image : Image) (hive alt : List ℕ)
         → IsFileOf image Primary hive → image (primary_at 0) ≡ Some Unreadable
         → StandFault (stands_by scheme) (image_of hive alt) (fault_at NotRegf 0) }
 {}

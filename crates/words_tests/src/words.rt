@@ -1,8 +1,8 @@
 //! Each rule on words, with what is read.
 
 use command_words::{
-    Command, ControlWords, ExportWords, ImportWords, MakeWords, RunWords, SafeWords, ShowWords,
-    TwinScheme, TwinWords, WordsStop, read_words, texts,
+    AskedScheme, Command, ControlWords, ExportWords, ImportWords, MakeWords, RunWords, SafeWords,
+    ShowWords, TwinWords, WordsStop, read_words, texts,
 };
 use std::alloc::Global;
 use std::process::Abort;
@@ -216,7 +216,7 @@ fn control_takes_a_hive_and_commands(rt: HostRuntime) {
 const PLAIN_TWIN: TwinWords<'static> = TwinWords {
     hive: "h",
     alt: None,
-    scheme: TwinScheme::Alt,
+    scheme: AskedScheme::Alt,
     default: None,
     save_hive: None,
     save_alt: None,
@@ -226,7 +226,7 @@ const PLAIN_TWIN: TwinWords<'static> = TwinWords {
 const LOGGED_TWIN: TwinWords<'static> = TwinWords {
     hive: "h",
     alt: None,
-    scheme: TwinScheme::Log,
+    scheme: AskedScheme::Log,
     default: Some(7),
     save_hive: None,
     save_alt: None,
@@ -235,7 +235,7 @@ const LOGGED_TWIN: TwinWords<'static> = TwinWords {
 const TWIN_WITH_EACH: TwinWords<'static> = TwinWords {
     hive: "h",
     alt: Some("a"),
-    scheme: TwinScheme::Alt,
+    scheme: AskedScheme::Alt,
     default: Some(999),
     save_hive: Some("sh"),
     save_alt: Some("sa"),

@@ -1,6 +1,6 @@
 use Rattle.std.proofs.Common.{◌≡◌, refl}
 use Rattle.std.specs.Prelude.{Result, Ok, Err}
-use Rattle.boot_machine.specs.Views.{event_in, refusal_in}
+use Rattle.boot_machine.specs.Views.{event_in, word_of_refusal}
 use Rattle.start_model.specs.Lines.{RefusedLine}
 use Rattle.start_model.specs.Act.{Act, done, say}
 use Rattle.start_model.specs.EventActs.{accepted_act, event_step_of, event_word_of}
@@ -32,7 +32,7 @@ returns-in-Ok-refuse-clause-plays g c = λ m tells agrees.
     let r = c.args.runner.now in
     let after = record r { summary = c.refuse.new.summary } in
     let ev = event_in c.args.event.now in
-    let why = refusal_in c.in-Err.refusal in
+    let why = word_of_refusal c.in-Err.refusal in
     let d = g.B.Disk.state c.args.bench.now in
     let x = told_in (g.H.Host.state c.args.host.now) r in
     let y = told_by (g.H.Host.state c.refuse.new.host) c.refuse.new.summary in
@@ -49,7 +49,7 @@ returns-in-Err-refuse-clause-plays g c = λ m tells agrees.
     let r = c.args.runner.now in
     let after = record r { summary = c.refuse.new.summary } in
     let ev = event_in c.args.event.now in
-    let why = refusal_in c.in-Err.refusal in
+    let why = word_of_refusal c.in-Err.refusal in
     let d = g.B.Disk.state c.args.bench.now in
     let x = told_in (g.H.Host.state c.args.host.now) r in
     let y = told_by (g.H.Host.state c.refuse.new.host) c.refuse.new.summary in

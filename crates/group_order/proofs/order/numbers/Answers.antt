@@ -1,13 +1,13 @@
 use Rattle.std.proofs.Common.{ℕ, ◌+◌, ◌*◌, [], ◌∷◌, ◌++◌, map, sym, ap, ◌∙◌, zero-add}
 use Rattle.std.proofs.lemmas.List.FromFn.{map-range_with_len_more}
 use Rattle.std.specs.List.{range_with_len}
-use Rattle.start_model.specs.Order.{number_in}
+use Rattle.nt_bytes.specs.Fields.{u32_in}
 use Rattle.group_order.proofs.order.numbers.Goals as goal
 
 pub loop-k-preserved : goal.loop-k-preserved
 loop-k-preserved c =
     let k = c.loop-k.k in
-    let f : ℕ → ℕ = λ k. number_in c.args.bytes.now (4 + 4 * k) in
+    let f : ℕ → ℕ = λ k. u32_in c.args.bytes.now (4 + 4 * k) in
     record {
       items =
           c.in_ok-push.ensures.items ∙ ap (λ xs. xs ++ c.u32_at.result ∷ []) c.loop-k.invariant.items

@@ -1,7 +1,7 @@
 use Rattle.std.proofs.Common.{◌∙◌, sym, subst, arith}
 use Rattle.std.specs.List.{All}
 use Rattle.key_index.specs.Lists.{IsNode}
-use Rattle.key_index.specs.Sources.{cells_of}
+use Rattle.hive_cells.specs.Sources.{cells_of}
 use Rattle.hive_edit.proofs.NodeLemmas.{node_long, siblings_here, children_here, kids_are_nodes}
 use Rattle.hive_edit.proofs.children.children.Goals as goal
 use Rattle.std.proofs.lemmas.Result.{IfOk-weaker}

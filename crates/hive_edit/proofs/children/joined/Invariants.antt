@@ -1,6 +1,6 @@
 use Rattle.std.proofs.Common.{◌≡◌, take}
 use Rattle.key_index.specs.Lists.{offsets_in_lists}
-use Rattle.key_index.specs.Sources.{cells_of}
+use Rattle.hive_cells.specs.Sources.{cells_of}
 use Rattle.hive_edit.proofs.children.joined.Given as goal
 
 abbrev pub invariant-loop-at : goal.invariant-loop-at

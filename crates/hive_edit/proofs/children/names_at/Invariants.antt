@@ -1,6 +1,6 @@
 use Rattle.std.proofs.Common.{◌≡◌, map, take}
 use Rattle.key_index.specs.Lists.{name_in}
-use Rattle.key_index.specs.Sources.{cells_of}
+use Rattle.hive_cells.specs.Sources.{cells_of}
 use Rattle.hive_edit.proofs.children.names_at.Given as goal
 
 abbrev pub invariant-loop-at : goal.invariant-loop-at

@@ -1,6 +1,6 @@
 use Rattle.std.proofs.Common.{◌∷◌, List, ℕ, ap, ◌∙◌}
 use Rattle.cell_forms.specs.Views.{big_data_of}
-use Rattle.key_index.specs.Sources.{cells_of}
+use Rattle.hive_cells.specs.Sources.{cells_of}
 use Rattle.hive_edit.proofs.DataLemmas.{db_here, list_here, used_here}
 use Rattle.hive_edit.proofs.data.big_places.Goals as goal
 use Rattle.std.proofs.lemmas.Result.{IfOk-weaker}

@@ -1,5 +1,5 @@
 use Rattle.std.proofs.Common.{◌∙◌, arith}
-use Rattle.key_index.specs.Sources.{cells_of}
+use Rattle.hive_cells.specs.Sources.{cells_of}
 use Rattle.hive_edit.proofs.ItemLemmas.{value_is_there, value_long}
 use Rattle.hive_edit.proofs.DataLemmas.{room_at}
 use Rattle.hive_edit.proofs.data.data_room.Goals as goal

@@ -1,7 +1,7 @@
 use Rattle.std.proofs.Common.{ap, ◌∙◌}
 use Rattle.hive_model.specs.Size.{bulk_of}
 use Rattle.hive_read.proofs.One.{one_stands}
-use Rattle.key_index.specs.Sources.{cells_of}
+use Rattle.hive_cells.specs.Sources.{cells_of}
 use Rattle.hive_edit.proofs.HiveLemmas.{no_fault_there}
 use Rattle.hive_edit.proofs.key_size.bulk_at.Goals as goal
 

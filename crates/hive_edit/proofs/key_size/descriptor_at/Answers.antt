@@ -1,6 +1,6 @@
 use Rattle.std.proofs.Common.{◌+◌, ap, ◌∙◌, arith}
 use Rattle.std.specs.Prelude.{slice_range}
-use Rattle.key_index.specs.Sources.{cells_of}
+use Rattle.hive_cells.specs.Sources.{cells_of}
 use Rattle.hive_edit.proofs.NodeLemmas.{node_long}
 use Rattle.hive_edit.proofs.PairLemmas.{no_descriptor, descriptor_here}
 use Rattle.hive_edit.proofs.key_size.descriptor_at.Goals as goal

@@ -1,5 +1,5 @@
 use Rattle.std.proofs.Common.{arith}
-use Rattle.key_index.specs.Sources.{cells_of}
+use Rattle.hive_cells.specs.Sources.{cells_of}
 use Rattle.hive_edit.proofs.ItemLemmas.{value_long, value_is_there}
 use Rattle.hive_edit.proofs.MeasureLemmas.{measures, item_inside, item_celled}
 use Rattle.hive_edit.proofs.measure.value_len.Goals as goal

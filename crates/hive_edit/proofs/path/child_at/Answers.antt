@@ -1,7 +1,7 @@
 use Rattle.std.proofs.Common.{ap, ◌∙◌, arith}
 use Rattle.std.specs.Prelude.{find}
 use Rattle.hive_model.specs.Footprint.{is_node_named}
-use Rattle.key_index.specs.Sources.{cells_of}
+use Rattle.hive_cells.specs.Sources.{cells_of}
 use Rattle.hive_edit.proofs.NodeLemmas.{node_long, siblings_here, children_here}
 use Rattle.hive_edit.proofs.PlaceLemmas.{found_stands}
 use Rattle.hive_edit.proofs.path.child_at.Goals as goal

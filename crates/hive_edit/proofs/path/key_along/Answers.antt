@@ -1,5 +1,5 @@
 use Rattle.std.proofs.Common.{◌∙◌}
-use Rattle.key_index.specs.Sources.{cells_of}
+use Rattle.hive_cells.specs.Sources.{cells_of}
 use Rattle.hive_edit.proofs.PlaceLemmas.{place_end}
 use Rattle.hive_edit.proofs.path.key_along.Goals as goal
 

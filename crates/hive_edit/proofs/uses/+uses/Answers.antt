@@ -1,7 +1,7 @@
 use Rattle.std.proofs.Common.{List, ℕ, Bool, ◌++◌, ap, sym, subst, ◌∙◌, ◌-◌, arith}
 use Rattle.std.specs.Prelude.{flat_map}
 use Rattle.std.specs.List.{All}
-use Rattle.key_index.specs.Sources.{cells_of}
+use Rattle.hive_cells.specs.Sources.{cells_of}
 use Rattle.edit_laws.specs.Uses.{own_uses, tree_uses}
 use Rattle.hive_edit.specs.Places.{IsKeyAt}
 use Rattle.hive_edit.proofs.UsesLemmas.{joined_uses, tree_more, kids_stand}

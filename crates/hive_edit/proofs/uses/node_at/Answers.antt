@@ -1,4 +1,4 @@
-use Rattle.key_index.specs.Sources.{cells_of}
+use Rattle.hive_cells.specs.Sources.{cells_of}
 use Rattle.hive_edit.proofs.NodeLemmas.{node_long}
 use Rattle.hive_edit.proofs.uses.node_at.Goals as goal
 

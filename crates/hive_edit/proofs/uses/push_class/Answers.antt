@@ -1,5 +1,5 @@
 use Rattle.std.proofs.Common.{Bool, ap, List, ℕ, ◌++◌, ◌∙◌}
-use Rattle.key_index.specs.Sources.{cells_of}
+use Rattle.hive_cells.specs.Sources.{cells_of}
 use Rattle.edit_laws.specs.Owned.{class_cell_at}
 use Rattle.edit_laws.specs.Uses.{plain}
 use Rattle.hive_edit.proofs.UsesLemmas.{nothing_more, no_class, one_class}

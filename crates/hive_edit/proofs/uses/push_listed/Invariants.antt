@@ -1,7 +1,7 @@
 use Rattle.std.proofs.Common.{◌≡◌, ◌≤◌, ◌*◌, ◌++◌, length}
 use Rattle.std.specs.List.{All}
 use Rattle.hive_model.specs.Lists.{numbers_in}
-use Rattle.key_index.specs.Sources.{cells_of}
+use Rattle.hive_cells.specs.Sources.{cells_of}
 use Rattle.edit_laws.specs.Revalues.{cells_of_values}
 use Rattle.edit_laws.specs.Uses.{plain}
 use Rattle.hive_edit.specs.Places.{IsItemHere}

@@ -3,7 +3,7 @@ use Rattle.hive_model.specs.Footprint.{list_cells_at}
 use Rattle.edit_laws.specs.Uses.{plain}
 use Rattle.key_index.specs.Lists.{offsets_of}
 use Rattle.key_index.proofs.Below.{child_lists, used_lists}
-use Rattle.key_index.specs.Sources.{cells_of}
+use Rattle.hive_cells.specs.Sources.{cells_of}
 use Rattle.hive_edit.proofs.NodeLemmas.{siblings_here}
 use Rattle.hive_edit.proofs.UsesLemmas.{use_of, nothing_more, joined_uses, no_lists, lists_by}
 use Rattle.hive_edit.proofs.uses.push_lists.Goals as goal

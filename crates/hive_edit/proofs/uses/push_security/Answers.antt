@@ -1,6 +1,6 @@
 use Rattle.std.proofs.Common.{Bool, ap, List, ℕ, ◌++◌, ◌∙◌}
 use Rattle.hive_model.specs.Footprint.{security_cell_at}
-use Rattle.key_index.specs.Sources.{cells_of}
+use Rattle.hive_cells.specs.Sources.{cells_of}
 use Rattle.edit_laws.specs.Uses.{secure}
 use Rattle.hive_edit.proofs.UsesLemmas.{nothing_more, no_security, one_security}
 use Rattle.hive_edit.proofs.uses.push_security.Goals as goal

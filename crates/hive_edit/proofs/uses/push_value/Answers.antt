@@ -1,5 +1,5 @@
 use Rattle.std.proofs.Common.{ap, sym, List, ℕ, [], ◌∷◌, ◌++◌, ◌∙◌, false}
-use Rattle.key_index.specs.Sources.{cells_of}
+use Rattle.hive_cells.specs.Sources.{cells_of}
 use Rattle.edit_laws.specs.Uses.{plain}
 use Rattle.hive_edit.proofs.UsesLemmas.{use_of, joined_uses, value_with_data}
 use Rattle.hive_edit.proofs.uses.push_value.Goals as goal

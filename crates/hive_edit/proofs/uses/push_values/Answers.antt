@@ -1,6 +1,6 @@
 use Rattle.std.proofs.Common.{Bool, ap, List, ℕ, [], ◌∷◌, ◌++◌, ◌∙◌, false}
 use Rattle.hive_model.specs.Lists.{numbers_in}
-use Rattle.key_index.specs.Sources.{cells_of}
+use Rattle.hive_cells.specs.Sources.{cells_of}
 use Rattle.edit_laws.specs.Revalues.{all_value_cells, cells_of_values}
 use Rattle.edit_laws.specs.Uses.{plain}
 use Rattle.hive_edit.proofs.NodeLemmas.{values_here}

@@ -1,7 +1,7 @@
 use Rattle.std.proofs.Common.{sym, ◌∙◌}
 use Rattle.std.proofs.lemmas.List.{take_rest}
 use Rattle.hive_model.specs.Footprint.{is_value_named}
-use Rattle.key_index.specs.Sources.{cells_of}
+use Rattle.hive_cells.specs.Sources.{cells_of}
 use Rattle.hive_edit.specs.Places.{IsItemHere}
 use Rattle.hive_edit.proofs.ItemLemmas.{value_is_there, named_here}
 use Rattle.hive_edit.proofs.ScanLemmas.{scan_here, scan_on, scan_end, scan_first, scan_rest, scan_room}

@@ -3,7 +3,7 @@ use Rattle.std.specs.Prelude.{find}
 use Rattle.std.specs.List.{All}
 use Rattle.hive_model.specs.Lists.{numbers_in}
 use Rattle.hive_model.specs.Footprint.{is_value_named}
-use Rattle.key_index.specs.Sources.{cells_of}
+use Rattle.hive_cells.specs.Sources.{cells_of}
 use Rattle.hive_edit.specs.Places.{IsItemHere}
 use Rattle.hive_edit.proofs.values.find_value.Given as goal
 

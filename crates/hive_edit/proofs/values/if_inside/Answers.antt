@@ -1,5 +1,5 @@
 use Rattle.std.proofs.Common.{arith}
-use Rattle.key_index.specs.Sources.{cells_of}
+use Rattle.hive_cells.specs.Sources.{cells_of}
 use Rattle.hive_edit.proofs.ItemLemmas.{value_is_there, value_long}
 use Rattle.hive_edit.proofs.SetLemmas.{in_place_inside, none_inside, not_inside}
 use Rattle.hive_edit.proofs.values.if_inside.Goals as goal

@@ -1,5 +1,5 @@
 use Rattle.std.proofs.Common.{sym, arith}
-use Rattle.key_index.specs.Sources.{cells_of}
+use Rattle.hive_cells.specs.Sources.{cells_of}
 use Rattle.hive_edit.proofs.ItemLemmas.{value_is_there, value_long, no_number_kind, number_inside, number_long, number_outside, no_number_size}
 use Rattle.hive_edit.proofs.values.number_at.Goals as goal
 

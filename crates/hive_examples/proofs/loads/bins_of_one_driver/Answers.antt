@@ -1,5 +1,5 @@
 use Rattle.std.proofs.Common.{[], ◌∷◌, refl}
-use Rattle.nt_bytes.specs.declared.fault.HiveKind.TheVariants.{BinOffset, BinSign, BinSize, CellPastBin, CellSize}
+use Rattle.nt_bytes.specs.declared.fault.HiveFaultKind.TheVariants.{BinOffset, BinSign, BinSize, CellPastBin, CellSize}
 use Rattle.hive_model.specs.Base.{mixed_words, head_text, summed_text, base_text, base_of, fields_of}
 use Rattle.hive_model.specs.Recovery.{sector, recovered_of}
 use Rattle.hive_model.specs.Bins.{cell_bytes, head_bytes, header_at, size_at}

@@ -1,5 +1,5 @@
 use Rattle.std.proofs.Common.{[], ◌∷◌, refl}
-use Rattle.nt_bytes.specs.declared.fault.HiveKind.TheVariants.{FreeCell, OutOfRange, Shared}
+use Rattle.nt_bytes.specs.declared.fault.HiveFaultKind.TheVariants.{FreeCell, OutOfRange, Shared}
 use Rattle.hive_model.specs.Base.{mixed_words, head_text, summed_text, base_text, base_of, fields_of, fault_at}
 use Rattle.hive_model.specs.Recovery.{sector, recovered_of}
 use Rattle.hive_model.specs.Forms.{bytes_in}

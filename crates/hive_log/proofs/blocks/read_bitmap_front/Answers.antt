@@ -3,18 +3,19 @@ use Rattle.std.specs.Prelude.{nat_eq, codes}
 use Rattle.std.specs.List.{starts_with}
 use Rattle.std.proofs.lemmas.Result.{err_from_is_err_and}
 use Rattle.nt_bytes.specs.declared.fault.HiveFault.{HiveFault}
-use Rattle.nt_bytes.specs.declared.fault.HiveKind.TheVariants.{LogDirt}
+use Rattle.nt_bytes.specs.declared.fault.HiveFaultKind.TheVariants.{LogDirt}
 use Rattle.hive_model.specs.Asked.{log_at}
 use Rattle.hive_model.specs.Base.{fault_at}
-use Rattle.hive_model.specs.Recovery.{and_then, read_log, front_in}
+use Rattle.hive_model.specs.Recovery.{read_log, front_in}
 use Rattle.hive_log.specs.declared.stops.LoadStop.TheVariants as load
 use Rattle.hive_log.proofs.AskedParts.{asks_sector}
 use Rattle.hive_log.proofs.SoFar.{fault_on}
 use Rattle.hive_log.proofs.blocks.read_bitmap_front.Goals as goal
+use Rattle.hive_model.specs.Forms.{◌>>=◌}
 
 -- the sector, once it has its signature
 abbrev signed : Result (List ℕ) HiveFault → Result (List ℕ) HiveFault
-signed r = and_then r (λ front. cond (starts_with nat_eq front (codes "DIRT")) (Ok front) (Err (fault_at LogDirt 512)))
+signed r = r >>= (λ front. cond (starts_with nat_eq front (codes "DIRT")) (Ok front) (Err (fault_at LogDirt 512)))
 
 pub returns-in_err-read_log_sector-clause-asked : goal.returns-in_err-read_log_sector-clause-asked
 returns-in_err-read_log_sector-clause-asked g c =

@@ -1,19 +1,20 @@
 use Rattle.std.proofs.Common.{◌≡◌, Ok, Err, List, ℕ, Result, sym, ◌∙◌, ap}
 use Rattle.std.proofs.lemmas.Result.{err_from_is_err_and}
 use Rattle.nt_bytes.specs.declared.fault.HiveFault.{HiveFault}
-use Rattle.nt_bytes.specs.declared.fault.HiveKind.TheVariants.{LogAbsent, LogUnreadable}
+use Rattle.nt_bytes.specs.declared.fault.HiveFaultKind.TheVariants.{LogAbsent, LogUnreadable}
 use Rattle.hive_model.specs.Asked.{log_at}
 use Rattle.hive_model.specs.Base.{Base, base_of, fault_at}
-use Rattle.hive_model.specs.Recovery.{logged_in, as_log_base, and_then, bytes_or}
+use Rattle.hive_model.specs.Recovery.{logged_in, as_log_base, bytes_or}
 use Rattle.hive_log.specs.declared.stops.LoadStop.TheVariants as load
 use Rattle.hive_log.proofs.AskedParts.{asks_sector}
 use Rattle.hive_log.proofs.SoFar.{fault_on}
 use Rattle.hive_model.proofs.BaseLemmas.{base_checked, log_base_back}
 use Rattle.hive_log.proofs.blocks.read_log_block.Goals as goal
+use Rattle.hive_model.specs.Forms.{◌>>=◌}
 
 -- the base block of the sector
 abbrev block_of : Result (List ℕ) HiveFault → Result Base HiveFault
-block_of r = and_then r (λ block. as_log_base (base_of block 1))
+block_of r = r >>= (λ block. as_log_base (base_of block 1))
 
 pub returns-clause-sized : goal.returns-clause-sized
 returns-clause-sized g c =

@@ -1,16 +1,17 @@
 use Rattle.std.proofs.Common.{◌≡◌, Option, Some, None, Ok, Err, sym, ◌∙◌, ap}
 use Rattle.std.proofs.lemmas.Result.{err_from_is_err_and}
-use Rattle.nt_bytes.specs.declared.fault.HiveKind.TheVariants.{NotRegf}
+use Rattle.nt_bytes.specs.declared.fault.HiveFaultKind.TheVariants.{NotRegf}
 use Rattle.hive_model.specs.Asked.{primary_at}
 use Rattle.hive_model.specs.Image.{Bytes, Unreadable}
 use Rattle.hive_model.specs.Base.{Base, base_of, fault_at}
-use Rattle.hive_model.specs.Recovery.{base_at, base_in, and_then}
+use Rattle.hive_model.specs.Recovery.{base_at, base_in}
 use Rattle.hive_log.specs.declared.stops.LoadStop.TheVariants as load
 use Rattle.hive_log.specs.Stops.{load_stop_of}
 use Rattle.hive_log.proofs.AskedParts.{asks_sector, stop_reads}
 use Rattle.hive_log.proofs.SoFar.{read_held}
 use Rattle.hive_model.proofs.BaseLemmas.{base_checked}
 use Rattle.hive_log.proofs.blocks.read_primary_block.Goals as goal
+use Rattle.hive_model.specs.Forms.{◌>>=◌}
 
 pub returns-in_ok-read_base-in-Whole-clause-sized : goal.returns-in_ok-read_base-in-Whole-clause-sized
 returns-in_ok-read_base-in-Whole-clause-sized g c = λ b is.
@@ -37,7 +38,7 @@ returns-in_err-read_base-in-Whole-clause-asked g c =
     (base_in s.held) (Err (load.Fault c.in_err-read_base-in-Whole.field-0.0)) c.read.ensures.made
     (λ tells. ap base_at (read_held s (primary_at 0) (Some (Bytes c.read.new.into)) (c.requires.still tells)
     (c.read.ensures.whole tells (c.in_ok-read.was ∙ ap (λ p. Ok p) c.in-Whole.is)))
-    ∙ ap (λ r. and_then r (λ (b : Base). Ok (Some b))) (sym c.read_base.ensures ∙ c.in_err-read_base-in-Whole.was)))
+    ∙ ap (λ r. r >>= λ (b : Base). Ok (Some b)) (sym c.read_base.ensures ∙ c.in_err-read_base-in-Whole.was)))
 
 pub returns-in_ok-read_base-in-Whole-clause-asked : goal.returns-in_ok-read_base-in-Whole-clause-asked
 returns-in_ok-read_base-in-Whole-clause-asked g c =
@@ -46,7 +47,7 @@ returns-in_ok-read_base-in-Whole-clause-asked g c =
     (base_in s.held) (Ok (Some c.in_ok-read_base-in-Whole.field-0)) c.read.ensures.made
     (λ tells. ap base_at (read_held s (primary_at 0) (Some (Bytes c.read.new.into)) (c.requires.still tells)
     (c.read.ensures.whole tells (c.in_ok-read.was ∙ ap (λ p. Ok p) c.in-Whole.is)))
-    ∙ ap (λ r. and_then r (λ (b : Base). Ok (Some b))) (sym c.read_base.ensures ∙ c.in_ok-read_base-in-Whole.was))
+    ∙ ap (λ r. r >>= λ (b : Base). Ok (Some b)) (sym c.read_base.ensures ∙ c.in_ok-read_base-in-Whole.was))
 
 pub returns-in-Unreadable-clause-asked : goal.returns-in-Unreadable-clause-asked
 returns-in-Unreadable-clause-asked g c =

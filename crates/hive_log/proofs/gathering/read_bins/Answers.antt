@@ -1,6 +1,6 @@
 use Rattle.std.proofs.Common.{◌≡◌, ◌+◌, ◌++◌, ◌<◌, ℕ, Bool, true, false, List, length, Ok, Err, sym, ◌∙◌, ap, subst, arith, length-append}
 use Rattle.std.proofs.lemmas.Result.{err_from_is_err_and}
-use Rattle.nt_bytes.specs.declared.fault.HiveKind.TheVariants.{Size, Unreadable}
+use Rattle.nt_bytes.specs.declared.fault.HiveFaultKind.TheVariants.{Size, Unreadable}
 use Rattle.hive_model.specs.Asked.{bin_at, unmarked_at, one_by_one}
 use Rattle.hive_model.specs.Base.{fault_at}
 use Rattle.hive_model.specs.Image.{Address, Image}

@@ -1,6 +1,6 @@
 use Rattle.std.proofs.Common.{◌≡◌, ◌+◌, ◌++◌, ℕ, true, List, length, Ok, Err, sym, ◌∙◌, ap, subst, arith, length-append}
 use Rattle.std.proofs.lemmas.Result.{err_from_is_err_and}
-use Rattle.nt_bytes.specs.declared.fault.HiveKind.TheVariants.{LogShort, LogUnreadable}
+use Rattle.nt_bytes.specs.declared.fault.HiveFaultKind.TheVariants.{LogShort, LogUnreadable}
 use Rattle.hive_model.specs.Asked.{log_at, run_at, one_by_one}
 use Rattle.hive_model.specs.Base.{fault_at}
 use Rattle.hive_model.specs.Image.{Address, Image, Log}

@@ -1,7 +1,7 @@
 use Rattle.std.proofs.Common.{◌≡◌, Ok, List, ℕ, sym, ◌∙◌, ap}
 use Rattle.std.proofs.lemmas.Result.{err_from_is_err_and}
-use Rattle.nt_bytes.specs.declared.fault.HiveKind.TheVariants.{LogSequence}
-use Rattle.hive_model.specs.Asked.{unless_fault}
+use Rattle.nt_bytes.specs.declared.fault.HiveFaultKind.TheVariants.{LogSequence}
+use Rattle.hive_model.specs.Asked.{asked_if_read}
 use Rattle.hive_model.specs.Base.{Base, fault_at}
 use Rattle.hive_model.specs.Image.{Image}
 use Rattle.hive_model.specs.Recovery.{logged_in}
@@ -18,7 +18,7 @@ returns-in_err-logged-clause-asked g c =
     let p = err_from_is_err_and c.from_residual.result c.from_residual.ensures.1 in
     rw (p.1, p.2)
     (asks_as (asks_cut c.in_err-logged.ensures.asked LogBits
-    (λ more. unless_fault (logged_in h) (behind_block h opened more))) (asked_log_bits h opened)
+    (λ more. asked_if_read (logged_in h) (behind_block h opened more))) (asked_log_bits h opened)
     (λ tells more. block_refused h opened more))
 
 pub returns-then-not-goes_with-clause-asked : goal.returns-then-not-goes_with-clause-asked

@@ -1,6 +1,6 @@
 use Rattle.std.proofs.Common.{◌≡◌, Option, Some, None, Ok, ◌∙◌, ap}
 use Rattle.std.proofs.lemmas.Result.{err_from_is_err_and}
-use Rattle.hive_model.specs.Asked.{unless_fault, asked_behind_base, asked_of}
+use Rattle.hive_model.specs.Asked.{asked_if_read, asked_behind_base, asked_of}
 use Rattle.hive_model.specs.Base.{Base}
 use Rattle.hive_model.specs.Image.{Image}
 use Rattle.hive_model.specs.Recovery.{base_in, recovered_of}
@@ -23,7 +23,7 @@ returns-in_err-base-clause-asked g c =
     let h = (g.D.Disk.state c.args.disk.now).held in
     let p = err_from_is_err_and c.from_residual.result c.from_residual.ensures.1 in
     rw (p.1, p.2)
-    (asks_no_more c.in_err-base.ensures.asked Reading (unless_fault (base_in h) (asked_behind_base h)) (asked_of h)
+    (asks_no_more c.in_err-base.ensures.asked Reading (asked_if_read (base_in h) (asked_behind_base h)) (asked_of h)
     (λ tells. base_refused h))
 
 pub returns-in-Some-clause-asked : goal.returns-in-Some-clause-asked

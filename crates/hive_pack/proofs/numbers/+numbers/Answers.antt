@@ -1,5 +1,6 @@
 use Rattle.std.proofs.Common.{List, ap, subst, arith}
-use Rattle.hive_model.specs.Tree.{Tree, trees, weights}
+use Rattle.hive_model.specs.Tree.{Tree, trees}
+use Rattle.hive_model.specs.Codes.{weights}
 use Rattle.hive_pack.specs.Numbers.{AllHaveNumbers}
 use Rattle.hive_pack.proofs.Written.{weight_parted, numbers_whole}
 use Rattle.hive_pack.proofs.numbers.+numbers.Goals as goal

@@ -1,5 +1,6 @@
 use Rattle.std.proofs.Common.{◌≤◌, length}
-use Rattle.hive_model.specs.Tree.{trees, weight, weights}
+use Rattle.hive_model.specs.Tree.{trees}
+use Rattle.hive_model.specs.Codes.{weight, weights}
 use Rattle.hive_pack.specs.Numbers.{AllHaveNumbers}
 use Rattle.hive_pack.proofs.numbers.+numbers.Given as goal
 

@@ -1,5 +1,6 @@
 use Rattle.std.proofs.Common.{◌+◌, ◌++◌, List, ℕ, length, ap, ◌∙◌, arith}
-use Rattle.hive_model.specs.Tree.{Item, Tree, trees, head, weights}
+use Rattle.hive_model.specs.Tree.{Item, Tree, trees, head}
+use Rattle.hive_model.specs.Codes.{weights}
 use Rattle.hive_model.specs.Size.{class_size, security_size, items_size, list_size, size_of_all}
 use Rattle.hive_model.specs.Packed.{own_place, ring_of_all}
 use Rattle.reg_tree.proofs.Outcomes.{on_ok}

@@ -1,5 +1,6 @@
 use Rattle.std.proofs.Common.{◌≡◌, ◌+◌, ◌≤◌, ◌++◌, length}
-use Rattle.hive_model.specs.Tree.{trees, weight, weights}
+use Rattle.hive_model.specs.Tree.{trees}
+use Rattle.hive_model.specs.Codes.{weight, weights}
 use Rattle.hive_model.specs.Size.{size_of_all}
 use Rattle.hive_model.specs.Packed.{ring_of_all}
 use Rattle.hive_pack.proofs.ring.+ring.Given as goal

@@ -2,7 +2,8 @@ use Rattle.std.proofs.Common.{◌≡◌, ◌-◌, ◌+◌, Bool, true, List, ◌
 use Rattle.std.specs.Prelude.{nat_eq, if◌then◌else◌}
 use lib.Pointwise.{pointwise}
 use Rattle.std.proofs.lemmas.Slice.Eq.{bytes_eq-Decides}
-use Rattle.hive_model.specs.Tree.{Tree, trees, head, children, weights}
+use Rattle.hive_model.specs.Tree.{Tree, trees, head, children}
+use Rattle.hive_model.specs.Codes.{weights}
 use Rattle.hive_model.specs.Packed.{sharers, sharers_of_all}
 use Rattle.reg_tree.proofs.Outcomes.{uncons}
 use Rattle.hive_pack.proofs.Written.{weight_parted}

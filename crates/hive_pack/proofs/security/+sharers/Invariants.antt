@@ -1,5 +1,6 @@
 use Rattle.std.proofs.Common.{◌≡◌, ◌+◌, ◌≤◌, length}
-use Rattle.hive_model.specs.Tree.{trees, weight, weights}
+use Rattle.hive_model.specs.Tree.{trees}
+use Rattle.hive_model.specs.Codes.{weight, weights}
 use Rattle.hive_model.specs.Packed.{sharers_of_all}
 use Rattle.hive_pack.proofs.security.+sharers.Given as goal
 

@@ -32,6 +32,7 @@ returns c =
     let one = c.put_cell.new.out in
     let two = c.put_cell-2.new.out in
     let k = c.segment_count-count.result in
+    let at = c.args.at in
     on_ok c.write_segments.result _ _
     (λ e. big_written bytes old one two c.write_segments.new.out c.args.at k (segment_count (length bytes))
     (c.args.at + 16) (c.args.at + 16 + c.cell_size.result)

@@ -1,6 +1,7 @@
 use Rattle.std.proofs.Common.{◌≡◌, ◌≤◌, ◌+◌, ◌-◌, ◌++◌, List, [], ◌∷◌, ℕ, length, take, drop, map, sym, ap, subst, ◌∙◌, append_assoc, arith}
 use Rattle.nt_bytes.specs.declared.version.HiveVersion.{HiveVersion}
-use Rattle.hive_model.specs.Tree.{Tree, trees, listed, head, children, weights}
+use Rattle.hive_model.specs.Tree.{Tree, trees, listed, head, children}
+use Rattle.hive_model.specs.Codes.{weights}
 use Rattle.hive_model.specs.Valid.{AllHoldKeys}
 use Rattle.hive_model.specs.Size.{count, list_size, size_of_all}
 use Rattle.hive_model.specs.Packed.{Above, below, text, places, hint, list_cells, cells_of, cells_of_all}

@@ -2,7 +2,7 @@ use Rattle.std.proofs.Common.{◌≡◌, ℕ, List, Ok, ◌∙◌}
 use Rattle.std.proofs.lemmas.Result.{err_from_is_err_and}
 use Rattle.hive_model.specs.Stands.{joined_segments, big_bytes_at}
 use Rattle.cell_forms.specs.Views.{big_data_of}
-use Rattle.hive_read.specs.Sources.{cells_of}
+use Rattle.hive_cells.specs.Sources.{cells_of}
 use Rattle.hive_read.proofs.Walks.{stops-on, steps-same}
 use Rattle.hive_read.proofs.BigWalks.{big-off, big-unlisted, big-on}
 use Rattle.hive_read.proofs.data.read_big.Goals as goal

@@ -3,7 +3,7 @@ use Rattle.std.proofs.lemmas.Result.{err_from_is_err_and}
 use Rattle.std.proofs.lemmas.List.{append-nil}
 use Rattle.hive_model.specs.Walk.{segments_checks}
 use Rattle.hive_model.specs.Stands.{joined_segments}
-use Rattle.hive_read.specs.Sources.{cells_of}
+use Rattle.hive_cells.specs.Sources.{cells_of}
 use Rattle.hive_read.specs.Walked.{walk}
 use Rattle.hive_read.proofs.Walks.{stops-on, none-left, first-and-rest}
 use Rattle.hive_read.proofs.BigWalks.{segments-off, segments-on, segments-one}

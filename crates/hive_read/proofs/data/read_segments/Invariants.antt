@@ -1,7 +1,7 @@
 use Rattle.std.proofs.Common.{◌≡◌, ◌++◌, ℕ, List, length, Ok}
 use Rattle.hive_model.specs.Walk.{segments_checks}
 use Rattle.hive_model.specs.Stands.{joined_segments}
-use Rattle.hive_read.specs.Sources.{cells_of}
+use Rattle.hive_cells.specs.Sources.{cells_of}
 use Rattle.hive_read.specs.Walked.{walk}
 use Rattle.hive_read.proofs.data.read_segments.Given as goal
 

@@ -1,6 +1,6 @@
 use Rattle.std.proofs.Common.{◌-◌, ℕ, [], ◌∷◌, map, false, length, take, drop, get_or, sym, ap, ◌∙◌, arith}
 use Rattle.std.proofs.lemmas.Result.{err_from_is_err_and}
-use Rattle.hive_read.specs.Sources.{cells_of}
+use Rattle.hive_cells.specs.Sources.{cells_of}
 use Rattle.hive_model.specs.Size.{size}
 use Rattle.hive_model.specs.Walk.{name_check, below_node, key_checks}
 use Rattle.cell_forms.specs.Views.{key_node_of}

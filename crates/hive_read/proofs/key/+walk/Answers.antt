@@ -3,7 +3,7 @@ use Rattle.std.proofs.lemmas.Result.{err_from_is_err_and, IfOk-weaker}
 use Rattle.std.proofs.lemmas.List.{append-nil, map_push}
 use Rattle.nt_bytes.specs.Folding.{folds_same}
 use Rattle.hive_model.specs.KeyNode.{KeyNode, key_node_at}
-use Rattle.hive_read.specs.Sources.{cells_of}
+use Rattle.hive_cells.specs.Sources.{cells_of}
 use Rattle.hive_model.specs.Tree.{Tree, trees, head}
 use Rattle.hive_model.specs.Walk.{reading, names_of, name_check, keys_in_turn, below_node, key_checks}
 use Rattle.hive_model.specs.Stands.{Stands, AllStand}

@@ -1,5 +1,5 @@
 use Rattle.std.proofs.Common.{◌≡◌, ◌+◌, ◌*◌, ◌++◌, false, List, [], map, length}
-use Rattle.hive_read.specs.Sources.{cells_of}
+use Rattle.hive_cells.specs.Sources.{cells_of}
 use Rattle.hive_model.specs.Tree.{Tree, trees}
 use Rattle.hive_model.specs.Walk.{keys_in_turn, key_checks}
 use Rattle.hive_model.specs.Stands.{AllStand}

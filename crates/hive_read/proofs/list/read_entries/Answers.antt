@@ -1,6 +1,6 @@
 use Rattle.std.proofs.Common.{◌≡◌, ℕ, List, true, false, Ok, sym, ◌∙◌}
 use Rattle.std.proofs.lemmas.Result.{err_from_is_err_and}
-use Rattle.hive_read.specs.Sources.{cells_of}
+use Rattle.hive_cells.specs.Sources.{cells_of}
 use Rattle.hive_model.specs.Walk.{is_list_of_lists, joined_at, entries_at}
 use Rattle.cell_forms.specs.Views.{kind_of, subkey_list_of}
 use Rattle.hive_read.proofs.Walks.{stops-on, steps-same}

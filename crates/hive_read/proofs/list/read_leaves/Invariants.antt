@@ -1,5 +1,5 @@
 use Rattle.std.proofs.Common.{◌≡◌, ◌++◌, ℕ, List, length, Ok}
-use Rattle.hive_read.specs.Sources.{cells_of}
+use Rattle.hive_cells.specs.Sources.{cells_of}
 use Rattle.hive_model.specs.Walk.{joined_at, leaves_checks}
 use Rattle.hive_read.specs.Walked.{walk}
 use Rattle.hive_read.proofs.list.read_leaves.Given as goal

@@ -1,5 +1,5 @@
 use Rattle.std.proofs.Common.{◌≡◌, ◌++◌, List, [], map, length, Ok}
-use Rattle.hive_read.specs.Sources.{cells_of}
+use Rattle.hive_cells.specs.Sources.{cells_of}
 use Rattle.hive_model.specs.Tree.{Item}
 use Rattle.hive_model.specs.Walk.{values_in_turn}
 use Rattle.hive_model.specs.Stands.{items_at}

@@ -3,7 +3,7 @@ use Rattle.std.proofs.lemmas.Result.{err_from_is_err_and}
 use Rattle.nt_bytes.specs.Folding.{folds_same}
 use Rattle.hive_model.specs.KeyValue.{KeyValue}
 use Rattle.hive_model.specs.Stands.{data_of}
-use Rattle.hive_read.specs.Sources.{cells_of}
+use Rattle.hive_cells.specs.Sources.{cells_of}
 use Rattle.hive_read.specs.Taken.{has_name}
 use Rattle.hive_read.specs.Walked.{Stops, walk}
 use Rattle.hive_model.specs.Walk.{name_check, data_checks}

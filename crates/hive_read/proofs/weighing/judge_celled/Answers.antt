@@ -1,5 +1,5 @@
 use Rattle.std.proofs.Common.{sym, ◌∙◌}
-use Rattle.hive_read.specs.Sources.{cells_of}
+use Rattle.hive_cells.specs.Sources.{cells_of}
 use Rattle.hive_read.proofs.WeighingLemmas.{celled-one}
 use Rattle.hive_read.proofs.weighing.judge_celled.Goals as goal
 

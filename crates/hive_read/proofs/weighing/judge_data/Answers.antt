@@ -1,6 +1,6 @@
 use Rattle.std.proofs.Common.{sym, ◌∙◌}
 use Rattle.cell_forms.specs.Views.{value_seen}
-use Rattle.hive_read.specs.Sources.{cells_of}
+use Rattle.hive_cells.specs.Sources.{cells_of}
 use Rattle.hive_read.proofs.WeighingLemmas.{held-here}
 use Rattle.hive_read.proofs.weighing.judge_data.Goals as goal
 

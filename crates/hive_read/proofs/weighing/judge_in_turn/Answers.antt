@@ -1,6 +1,6 @@
 use Rattle.std.proofs.Common.{◌-◌, map, length, take, drop, get_or, sym, ◌∙◌}
 use Rattle.std.proofs.lemmas.Result.{err_from_is_err_and}
-use Rattle.hive_read.specs.Sources.{cells_of}
+use Rattle.hive_cells.specs.Sources.{cells_of}
 use Rattle.hive_read.proofs.Walks.{stops-on, none-left, first-and-rest}
 use Rattle.hive_read.proofs.ValueWalks.{values-off}
 use Rattle.hive_read.proofs.WeighingLemmas.{item_name, values-first, values-next, values-last}

@@ -1,5 +1,5 @@
 use Rattle.std.proofs.Common.{◌-◌, length, take, drop, get_or}
-use Rattle.hive_read.specs.Sources.{cells_of}
+use Rattle.hive_cells.specs.Sources.{cells_of}
 use Rattle.hive_read.proofs.Walks.{none-left, first-and-rest}
 use Rattle.hive_read.proofs.WeighingLemmas.{segments-next, segments-last}
 use Rattle.hive_read.proofs.weighing.judge_segments.Goals as goal

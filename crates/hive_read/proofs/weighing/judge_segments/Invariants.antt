@@ -1,5 +1,5 @@
 use Rattle.std.proofs.Common.{length}
-use Rattle.hive_read.specs.Sources.{cells_of}
+use Rattle.hive_cells.specs.Sources.{cells_of}
 use Rattle.hive_read.proofs.WeighingLemmas.{SegmentsSoFar}
 use Rattle.hive_read.proofs.weighing.judge_segments.Given as goal
 

@@ -1,6 +1,6 @@
 use Rattle.std.proofs.Common.{◌∷◌, [], ◌∙◌}
 use Rattle.std.proofs.lemmas.Result.{err_from_is_err_and}
-use Rattle.hive_read.specs.Sources.{cells_of}
+use Rattle.hive_cells.specs.Sources.{cells_of}
 use Rattle.hive_model.specs.Walk.{name_check, data_checks}
 use Rattle.cell_forms.specs.Views.{value_seen}
 use Rattle.hive_read.proofs.Walks.{stops-on, walk-on, walk-off}

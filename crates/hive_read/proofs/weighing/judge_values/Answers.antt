@@ -1,6 +1,6 @@
 use Rattle.std.proofs.Common.{◌∙◌}
 use Rattle.std.proofs.lemmas.Result.{err_from_is_err_and}
-use Rattle.hive_read.specs.Sources.{cells_of}
+use Rattle.hive_cells.specs.Sources.{cells_of}
 use Rattle.cell_forms.specs.Views.{key_node_of}
 use Rattle.hive_read.proofs.Walks.{stops-on}
 use Rattle.hive_read.proofs.ValueWalks.{values-unread, values-read}

@@ -8,25 +8,25 @@ returns-then-bulk-gt-MOST_BULK c =
     not_small h.version h.tree c.args.path.now c.args.name.now c.args.kind c.args.bytes.now c.bulk.result c.bulk.ensures
     c.if-bulk-gt-MOST_BULK.true
 
-pub returns-then-name-gt-LONGEST_NAME : goal.returns-then-name-gt-LONGEST_NAME
-returns-then-name-gt-LONGEST_NAME c =
+pub returns-then-name-gt-LONGEST_VALUE_NAME : goal.returns-then-name-gt-LONGEST_VALUE_NAME
+returns-then-name-gt-LONGEST_VALUE_NAME c =
     let h = c.args.cells.now in
     not_short h.version h.tree c.args.path.now c.args.name.now c.args.kind c.args.bytes.now
-    (omega (arith, c.if-name-gt-LONGEST_NAME.true))
+    (omega (arith, c.if-name-gt-LONGEST_VALUE_NAME.true))
 
-pub returns-then-bytes-gt-MOST_DATA : goal.returns-then-bytes-gt-MOST_DATA
-returns-then-bytes-gt-MOST_DATA c =
+pub returns-then-bytes-gt-LONGEST_DATA : goal.returns-then-bytes-gt-LONGEST_DATA
+returns-then-bytes-gt-LONGEST_DATA c =
     let h = c.args.cells.now in
     not_few h.version h.tree c.args.path.now c.args.name.now c.args.kind c.args.bytes.now
-    (omega (arith, c.if-bytes-gt-MOST_DATA.true))
+    (omega (arith, c.if-bytes-gt-LONGEST_DATA.true))
 
 pub returns-in-Some : goal.returns-in-Some
 returns-in-Some c =
     let h = c.args.cells.now in
     set_same h.version h.tree c.in-Some.key c.args.path.now c.args.name.now c.args.kind c.args.bytes.now
     c.has_value.result c.bulk.result c.bulk.ensures
-    c.if-bulk-gt-MOST_BULK.false (omega (arith, c.if-name-gt-LONGEST_NAME.false))
-    (omega (arith, c.if-bytes-gt-MOST_DATA.false)) (sym c.in-Some.is ∙ c.in_ok-key.ensures.found)
+    c.if-bulk-gt-MOST_BULK.false (omega (arith, c.if-name-gt-LONGEST_VALUE_NAME.false))
+    (omega (arith, c.if-bytes-gt-LONGEST_DATA.false)) (sym c.in-Some.is ∙ c.in_ok-key.ensures.found)
     c.has_value.ensures
 
 pub returns-in-None : goal.returns-in-None

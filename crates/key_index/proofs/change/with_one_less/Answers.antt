@@ -1,7 +1,7 @@
 use Rattle.std.proofs.Common.{sym, ap, subst, ◌∙◌}
 use Rattle.std.specs.List.{All}
 use Rattle.key_index.specs.Lists.{IsNode, without_child}
-use Rattle.key_index.specs.Sources.{cells_of}
+use Rattle.hive_cells.specs.Sources.{cells_of}
 use Rattle.key_index.proofs.Runs.{without_nodes}
 use Rattle.key_index.proofs.change.with_one_less.Goals as goal
 

@@ -1,7 +1,7 @@
 use Rattle.std.proofs.Common.{◌≡◌, ◌+◌, drop}
 use Rattle.std.specs.List.{position_or_len}
 use Rattle.key_index.specs.Lists.{is_behind}
-use Rattle.key_index.specs.Sources.{cells_of}
+use Rattle.hive_cells.specs.Sources.{cells_of}
 use Rattle.key_index.proofs.children.place_of.Given as goal
 
 abbrev pub invariant-loop-at : goal.invariant-loop-at

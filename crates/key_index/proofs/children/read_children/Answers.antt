@@ -1,6 +1,6 @@
 use Rattle.std.proofs.Common.{sym, ap, subst, ◌∙◌, arith}
 use Rattle.key_index.specs.Lists.{AreRead, offsets_of, offsets_in_lists}
-use Rattle.key_index.specs.Sources.{cells_of}
+use Rattle.hive_cells.specs.Sources.{cells_of}
 use Rattle.key_index.proofs.Below.{child_lists}
 use Rattle.key_index.proofs.children.read_children.Goals as goal
 use Rattle.std.proofs.lemmas.Result.{IfOk-weaker}

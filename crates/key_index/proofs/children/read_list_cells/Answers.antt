@@ -1,6 +1,6 @@
 use Rattle.std.proofs.Common.{◌++◌, ◌∷◌, [], ℕ, List, sym, ap, ◌∙◌, arith}
 use Rattle.key_index.specs.Lists.{offsets_of}
-use Rattle.key_index.specs.Sources.{cells_of}
+use Rattle.hive_cells.specs.Sources.{cells_of}
 use Rattle.key_index.proofs.Below.{child_lists, used_lists}
 use Rattle.key_index.proofs.children.read_list_cells.Goals as goal
 

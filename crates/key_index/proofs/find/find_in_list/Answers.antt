@@ -1,6 +1,6 @@
 use Rattle.std.proofs.Common.{sym}
 use Rattle.key_index.specs.Lists.{offsets_of}
-use Rattle.key_index.specs.Sources.{cells_of}
+use Rattle.hive_cells.specs.Sources.{cells_of}
 use Rattle.key_index.proofs.Finding.{found_is}
 use Rattle.key_index.proofs.find.find_in_list.Goals as goal
 

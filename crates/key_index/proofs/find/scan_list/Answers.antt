@@ -1,7 +1,7 @@
 use Rattle.std.proofs.Common.{◌<◌, length, Some, sym, ap, ◌∙◌, arith}
 use Rattle.hive_model.specs.Footprint.{is_node_named}
 use Rattle.key_index.specs.Lists.{offsets_of}
-use Rattle.key_index.specs.Sources.{cells_of}
+use Rattle.hive_cells.specs.Sources.{cells_of}
 use Rattle.key_index.proofs.Finding.{find_here, find_on, tested}
 use Rattle.key_index.proofs.find.scan_list.Goals as goal
 

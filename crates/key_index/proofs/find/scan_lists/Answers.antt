@@ -2,7 +2,7 @@ use Rattle.std.proofs.Common.{◌≡◌, ◌<◌, length, List, ℕ, get_or, sym
 use Rattle.std.specs.Prelude.{find}
 use Rattle.hive_model.specs.Footprint.{is_node_named}
 use Rattle.key_index.specs.Lists.{offsets_of, offsets_in_list, payload_in}
-use Rattle.key_index.specs.Sources.{cells_of}
+use Rattle.hive_cells.specs.Sources.{cells_of}
 use Rattle.key_index.proofs.Finding.{find_some, find_past}
 use Rattle.key_index.proofs.find.scan_lists.Goals as goal
 

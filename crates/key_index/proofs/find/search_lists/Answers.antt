@@ -1,7 +1,7 @@
 use Rattle.std.proofs.Common.{◌≡◌, ◌<◌, ◌-◌, ℕ, List, length, get_or, ap, subst, ◌∙◌, arith}
 use Rattle.std.specs.List.{Contains}
 use Rattle.key_index.specs.Lists.{offsets_of, offsets_in_list, offsets_in_lists, payload_in}
-use Rattle.key_index.specs.Sources.{cells_of}
+use Rattle.hive_cells.specs.Sources.{cells_of}
 use Rattle.key_index.proofs.Finding.{contains_one, wider}
 use Rattle.key_index.proofs.find.search_lists.Goals as goal
 

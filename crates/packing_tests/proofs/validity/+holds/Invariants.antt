@@ -1,5 +1,6 @@
 use Rattle.std.proofs.Common.{◌≤◌, length}
-use Rattle.hive_model.specs.Tree.{trees, weight, weights}
+use Rattle.hive_model.specs.Tree.{trees}
+use Rattle.hive_model.specs.Codes.{weight, weights}
 use Rattle.hive_model.specs.Valid.{AllHoldKeys, most_levels}
 use Rattle.packing_tests.proofs.validity.+holds.Given as goal
 

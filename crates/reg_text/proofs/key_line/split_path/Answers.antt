@@ -4,7 +4,7 @@ use Rattle.std.specs.Slice.Iter.{split_rest, split_done, split_callee}
 use Rattle.std.proofs.lemmas.Iterator.{YieldsList}
 use Rattle.std.proofs.lemmas.Iterator.Consumers.{YieldsList-end}
 use Rattle.std.proofs.lemmas.Iterator.Splits.{YieldsList-from_slice_split}
-use Rattle.hive_model.specs.Valid.{is_backslash}
+use Rattle.nt_bytes.specs.Text.{is_backslash}
 use Rattle.reg_text.proofs.key_line.split_path.Goals as goal
 
 all_yielded : {S A B : Type 0} {steps : S → Option A → S → Type 0} {v : A → B} {s : S} {all : List B} (xs : List A)

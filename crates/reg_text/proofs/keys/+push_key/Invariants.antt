@@ -1,5 +1,6 @@
 use Rattle.std.proofs.Common.{◌≡◌, ◌+◌, ◌*◌, ◌≤◌, ◌++◌, length}
-use Rattle.hive_model.specs.Tree.{trees, weight, weights}
+use Rattle.hive_model.specs.Tree.{trees}
+use Rattle.hive_model.specs.Codes.{weight, weights}
 use Rattle.reg_text.specs.Writing.{keys_text}
 use Rattle.reg_text.proofs.keys.+push_key.Given as goal
 

@@ -1,5 +1,6 @@
 use Rattle.std.proofs.Common.{◌≡◌, take}
-use Rattle.hive_model.specs.Size.{capped, size}
+use Rattle.hive_model.specs.Size.{size}
+use Rattle.nt_bytes.specs.Counts.{capped}
 use Rattle.std.specs.Prelude.{sum_by}
 use Rattle.reg_tree.proofs.key.+cells_size.Given as goal
 

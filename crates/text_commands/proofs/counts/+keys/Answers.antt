@@ -1,5 +1,5 @@
 use Rattle.hive_model.specs.Tree.{trees, keys_count}
-use Rattle.text_commands.specs.Exported.{capped}
+use Rattle.nt_bytes.specs.Counts.{capped}
 use Rattle.text_commands.proofs.CountLemmas.{all_keys_count}
 use Rattle.text_commands.proofs.counts.+keys.Goals as goal
 

@@ -1,6 +1,7 @@
 use Rattle.std.proofs.Common.{◌≡◌, ◌+◌, ◌≤◌, length}
-use Rattle.hive_model.specs.Tree.{trees, weight, weights, keys_count}
-use Rattle.text_commands.specs.Exported.{capped}
+use Rattle.hive_model.specs.Tree.{trees, keys_count}
+use Rattle.hive_model.specs.Codes.{weight, weights}
+use Rattle.nt_bytes.specs.Counts.{capped}
 use Rattle.text_commands.proofs.counts.+keys.Given as goal
 
 abbrev pub decreases-key_count : goal.decreases-key_count

@@ -1,5 +1,5 @@
-use Rattle.hive_model.specs.Tree.{trees}
-use Rattle.text_commands.specs.Exported.{capped, items_count}
+use Rattle.hive_model.specs.Tree.{trees, items_count}
+use Rattle.nt_bytes.specs.Counts.{capped}
 use Rattle.text_commands.proofs.CountLemmas.{all_items_count}
 use Rattle.text_commands.proofs.counts.+values.Goals as goal
 

@@ -1,6 +1,7 @@
 use Rattle.std.proofs.Common.{◌≡◌, ◌+◌, ◌≤◌, length}
-use Rattle.hive_model.specs.Tree.{trees, weight, weights}
-use Rattle.text_commands.specs.Exported.{capped, items_count}
+use Rattle.hive_model.specs.Tree.{trees, items_count}
+use Rattle.hive_model.specs.Codes.{weight, weights}
+use Rattle.nt_bytes.specs.Counts.{capped}
 use Rattle.text_commands.proofs.counts.+values.Given as goal
 
 abbrev pub decreases-item_count : goal.decreases-item_count

@@ -1,6 +1,6 @@
 use Rattle.std.proofs.Common.{◌≡◌, length}
 use Rattle.std.specs.List.{list_any}
-use Rattle.hive_model.specs.Valid.{is_backslash}
+use Rattle.nt_bytes.specs.Text.{is_backslash}
 use Rattle.cell_forms.specs.Views.{name_of}
 use Rattle.cell_forms.proofs.stored.StoredName.has_backslash.Given as goal
 

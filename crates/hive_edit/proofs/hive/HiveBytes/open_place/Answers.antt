@@ -17,23 +17,23 @@ returns-then-is_bad_name c = record {
       (sym c.is_bad_name.ensures ∙ c.if-is_bad_name.true);
 }
 
-pub returns-then-name-gt255 : goal.returns-then-name-gt255
-returns-then-name-gt255 c = record {
+pub returns-then-name-gt-LONGEST_KEY_NAME : goal.returns-then-name-gt-LONGEST_KEY_NAME
+returns-then-name-gt-LONGEST_KEY_NAME c = record {
   judged = asks_long c.self.inside.cells c.cells.result.now c.self.inside.root c.self.inside.version c.self.inside.bulk
       c.args.self.now c.args.parent.now c.args.name.now c.in-Some.at
       (record { is = c.self.invariant; same = c.cells.ensures; view = c.self.view_is }) c.in-Some.ensures.place
       (sym c.is_bad_name.ensures ∙ c.if-is_bad_name.false)
-      (omega (arith, c.if-name-gt255.true));
+      (omega (arith, c.if-name-gt-LONGEST_KEY_NAME.true));
 }
 
-pub returns-then-as_slice-gt510 : goal.returns-then-as_slice-gt510
-returns-then-as_slice-gt510 c = record {
+pub returns-then-as_slice-gt-MOST_PARENTS : goal.returns-then-as_slice-gt-MOST_PARENTS
+returns-then-as_slice-gt-MOST_PARENTS c = record {
   judged = asks_deep c.self.inside.cells c.cells.result.now c.self.inside.root c.self.inside.version c.self.inside.bulk
       c.args.self.now c.args.parent.now c.args.name.now c.in-Some.at
       (record { is = c.self.invariant; same = c.cells.ensures; view = c.self.view_is }) c.in-Some.ensures.place
       (sym c.is_bad_name.ensures ∙ c.if-is_bad_name.false)
-      (omega (arith, c.if-name-gt255.false))
-      (omega (arith, c.if-as_slice-gt510.true, ap (λ (l : List (List ℕ)). length l) c.as_slice.ensures));
+      (omega (arith, c.if-name-gt-LONGEST_KEY_NAME.false))
+      (omega (arith, c.if-as_slice-gt-MOST_PARENTS.true, ap (λ (l : List (List ℕ)). length l) c.as_slice.ensures));
 }
 
 pub returns-then-is_some : goal.returns-then-is_some
@@ -46,8 +46,8 @@ returns-then-is_some c = record {
         lent = record { is = c.self.invariant; same = c.cells.ensures; view = c.self.view_is };
         place = c.in-Some.ensures.place;
         good = sym c.is_bad_name.ensures ∙ c.if-is_bad_name.false;
-        short = omega (arith, c.if-name-gt255.false);
-        deep = omega (arith, c.if-as_slice-gt510.false, ap (λ (l : List (List ℕ)). length l) c.as_slice.ensures);
+        short = omega (arith, c.if-name-gt-LONGEST_KEY_NAME.false);
+        deep = omega (arith, c.if-as_slice-gt-MOST_PARENTS.false, ap (λ (l : List _). length l) c.as_slice.ensures);
       })
       c.child_at.result c.child_at.ensures.place (sym c.is_some.ensures ∙ c.if-is_some.true));
 }
@@ -60,8 +60,8 @@ returns c = record {
         lent = record { is = c.self.invariant; same = c.cells.ensures; view = c.self.view_is };
         place = c.in-Some.ensures.place;
         good = sym c.is_bad_name.ensures ∙ c.if-is_bad_name.false;
-        short = omega (arith, c.if-name-gt255.false);
-        deep = omega (arith, c.if-as_slice-gt510.false, ap (λ (l : List (List ℕ)). length l) c.as_slice.ensures);
+        short = omega (arith, c.if-name-gt-LONGEST_KEY_NAME.false);
+        deep = omega (arith, c.if-as_slice-gt-MOST_PARENTS.false, ap (λ (l : List _). length l) c.as_slice.ensures);
       })
       c.child_at.result c.child_at.ensures.place (sym c.is_some.ensures ∙ c.if-is_some.false);
 }

@@ -6,11 +6,11 @@ use Rattle.hive_edit.proofs.SteppedLemmas.{packed_for_room}
 use Rattle.hive_edit.proofs.StrainLemmas.{too_long}
 use Rattle.hive_edit.proofs.hive.HiveBytes.set_or_pack.Goals as goal
 
-pub returns-then-bytes-gt-MOST_DATA-clause-room : goal.returns-then-bytes-gt-MOST_DATA-clause-room
-returns-then-bytes-gt-MOST_DATA-clause-room c =
+pub returns-then-bytes-gt-LONGEST_DATA-clause-room : goal.returns-then-bytes-gt-LONGEST_DATA-clause-room
+returns-then-bytes-gt-LONGEST_DATA-clause-room c =
     let h = c.args.self.now in
     too_long h.version h.tree c.set_anew.new.self.tree c.args.path.now c.args.name.now c.args.kind c.args.bytes.now
-    c.set_anew.result _ c.set_anew.ensures.made c.if-bytes-gt-MOST_DATA.true
+    c.set_anew.result _ c.set_anew.ensures.made c.if-bytes-gt-LONGEST_DATA.true
 
 pub returns-clause-room : goal.returns-clause-room
 returns-clause-room c =

@@ -8,20 +8,20 @@ returns-in-None-clause-refused c = λ kind.
     c.args.bytes.now
     c.self.invariant c.cells.ensures c.self.view_is c.in-None.ensures.place
 
-pub returns-then-name-gt16383-clause-refused : goal.returns-then-name-gt16383-clause-refused
-returns-then-name-gt16383-clause-refused c = λ kind.
+pub returns-then-name-gt-LONGEST_VALUE_NAME-clause-refused : goal.returns-then-name-gt-LONGEST_VALUE_NAME-clause-refused
+returns-then-name-gt-LONGEST_VALUE_NAME-clause-refused c = λ kind.
     let i = c.self.inside in
     sets_long_name i.cells i.root i.version i.bulk c.args.self.now c.args.path.now c.args.name.now c.in-Some.key kind
     c.args.bytes.now c.self.invariant c.self.view_is
     (key_seen i.cells c.cells.result.now i.root i.version c.args.self.now c.args.path.now c.in-Some.key c.cells.ensures
     c.self.view_is c.in-Some.ensures.place)
-    c.if-name-gt16383.true
+    c.if-name-gt-LONGEST_VALUE_NAME.true
 
-pub returns-then-bytes-gt-MOST_DATA-clause-refused : goal.returns-then-bytes-gt-MOST_DATA-clause-refused
-returns-then-bytes-gt-MOST_DATA-clause-refused c = λ kind.
+pub returns-then-bytes-gt-LONGEST_DATA-clause-refused : goal.returns-then-bytes-gt-LONGEST_DATA-clause-refused
+returns-then-bytes-gt-LONGEST_DATA-clause-refused c = λ kind.
     let i = c.self.inside in
     sets_long_data i.cells i.root i.version i.bulk c.args.self.now c.args.path.now c.args.name.now c.in-Some.key kind
     c.args.bytes.now c.self.invariant c.self.view_is
     (key_seen i.cells c.cells.result.now i.root i.version c.args.self.now c.args.path.now c.in-Some.key c.cells.ensures
     c.self.view_is c.in-Some.ensures.place)
-    c.if-name-gt16383.false c.if-bytes-gt-MOST_DATA.true
+    c.if-name-gt-LONGEST_VALUE_NAME.false c.if-bytes-gt-LONGEST_DATA.true

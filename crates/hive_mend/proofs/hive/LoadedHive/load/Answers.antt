@@ -7,8 +7,9 @@ use Rattle.hive_mend.proofs.hive.LoadedHive.load.Goals.{then-dirty+in_ok-restore
 
 pub returns-in_err-hive-clause-crash : goal.returns-in_err-hive-clause-crash
 returns-in_err-hive-clause-crash g c = λ tells.
-    kept_loads (g.D.Disk.state c.args.disk.now) (g.D.Disk.state c.read_unmended.new.disk) (c.read_unmended.ensures.look.held tells)
-    (c.read_unmended.ensures.look.flight tells ∙ c.requires.still tells)
+    let look = c.read_unmended.ensures.look in
+    kept_loads (g.D.Disk.state c.args.disk.now) (g.D.Disk.state c.read_unmended.new.disk) (look.held tells)
+    (look.flight tells ∙ c.requires.still tells)
 
 pub returns-in_err-restore-clause-crash : goal.returns-in_err-restore-clause-crash
 returns-in_err-restore-clause-crash g c = λ tells.

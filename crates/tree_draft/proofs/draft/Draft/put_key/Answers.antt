@@ -21,7 +21,7 @@ returns-then-branch c =
     } in
     there_here h i.children c.has.new.self c.args.name c.args.deep c.args.self.now c.self.view_is
     (sym (ap is_bad_name c.as_slice.ensures) ∙ sym c.is_bad_name.ensures ∙ c.if-is_bad_name.false)
-    (omega (arith, c.len.ensures, c.if-len-gt255.false)) c.if-deep.false
+    (omega (arith, c.len.ensures, c.if-len-gt-LONGEST_KEY_NAME.false)) c.if-deep.false
     (ap (λ (n : List ℕ). is_some (find (is_named n) i.children)) (sym c.as_slice-2.ensures)
     ∙ sym c.in_ok-has.ensures.there ∙ c.if-branch.true)
     c.in_ok-has.ensures.same
@@ -41,7 +41,7 @@ returns c =
     (on_ok c.place.result _ _
     (λ e. new_here h i.children c.place.new.self c.args.name c.args.deep c.in_ok-child.child c.args.self.now
     c.self.view_is (sym (ap is_bad_name c.as_slice.ensures) ∙ sym c.is_bad_name.ensures ∙ c.if-is_bad_name.false)
-    (omega (arith, c.len.ensures, c.if-len-gt255.false)) c.if-deep.false
+    (omega (arith, c.len.ensures, c.if-len-gt-LONGEST_KEY_NAME.false)) c.if-deep.false
     (ap (λ (n : List ℕ). is_some (find (is_named n) i.children)) (sym c.as_slice-2.ensures)
     ∙ sym c.in_ok-has.ensures.there ∙ c.if-branch.false)
     c.in_ok-child.ensures (e ∙ ap (placed c.in_ok-child.child) c.in_ok-has.ensures.same))

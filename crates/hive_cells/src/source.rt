@@ -1,6 +1,6 @@
-//! What a walk reads from.
+//! What a reader of a hive's cells reads from.
 
-use hive_cells::CellHeap;
+use crate::heap::CellHeap;
 use nt_bytes::HiveVersion;
 
 /// The cells of a hive, and the version that they are read in.
