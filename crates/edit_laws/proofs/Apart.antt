@@ -342,10 +342,6 @@ abbrev counted : (List (List ℕ) → ℕ → List Check) → Cells → KeyNode 
 counted checks cells n at offsets =
     tests at (failing (not (length offsets == n.child_count)) Count) ∷ keys_in_turn checks cells [] offsets
 
--- keys at offsets that the list has
-abbrev ReadKeys : ℕ → Cells → ℕ → List ℕ → List (List ℕ) → Role → ℕ → Type 0
-ReadKeys left cells at offsets p r o = OfKeys left cells offsets p r o
-
 tag_child_part : (left : ℕ) (checks : List (List ℕ) → ℕ → List Check) (cells : Cells) (n : KeyNode) (at : ℕ)
     → reading key_node_at cells at ≡ Ok n
     → ((told : List (List ℕ)) (y : ℕ) → In (child_places cells at) y → IsTagged (checks told y) (Deep left cells y))

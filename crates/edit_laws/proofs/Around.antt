@@ -1,6 +1,6 @@
 -- Where the cells of one key and those below it differ, the walk before and behind it is the same; so cells are still
 -- used once.
-use Rattle.std.proofs.Common.{◌≡◌, ℕ, suc, ◌+◌, Bool, true, false, List, [], ◌∷◌, ◌++◌, length, refl, sym, ◌∙◌, ap, subst, inl, inr, ⊎_elim, Ok, arith, append_assoc}
+use Rattle.std.proofs.Common.{◌≡◌, ℕ, suc, ◌+◌, Bool, true, false, List, [], ◌∷◌, ◌++◌, length, refl, sym, ◌∙◌, ap, subst, inl, inr, Ok, arith, append_assoc}
 use Rattle.std.specs.Prelude.{◌⊎◌, flat_map}
 use Rattle.nt_bytes.specs.Folding.{folds_same}
 use Rattle.hive_model.specs.Bins.{Cells}
@@ -9,9 +9,8 @@ use Rattle.hive_model.specs.Walk.{all_checks, key_checks, AreUsedOnce}
 use Rattle.hive_model.specs.Footprint.{child_places}
 use Rattle.hive_model.specs.Stands.{Stands, HasApartNames, IsWellFormed}
 use Rattle.edit_laws.specs.Owned.{In, node_name, Reaches, Folds, Extends}
-use Rattle.edit_laws.specs.Framed.{IsUnheld}
-use Rattle.edit_laws.proofs.Ins.{in_left, in_right, in_cases}
-use Rattle.edit_laws.proofs.Pairs.{InParts, pairwise_parts, pairwise_join, IsAmong, among}
+use Rattle.edit_laws.proofs.Ins.{in_left, in_right}
+use Rattle.edit_laws.proofs.Pairs.{IsAmong, among}
 use Rattle.edit_laws.proofs.Out.{walk_below}
 use Rattle.edit_laws.proofs.Wellformed.{both_fold, Distinct, places_are, tree_of, keys_distinct, sound_tree}
 use Rattle.edit_laws.proofs.Untouched.{root_node}
@@ -45,17 +44,6 @@ pub record IsSwapped (us vs old new : List (ℕ × Bool)) : Type 0 where
   pub behind : List (ℕ × Bool)
   pub was : us ≡ before ++ (old ++ behind)
   pub is : vs ≡ before ++ (new ++ behind)
-
-pub swapped_in : (us vs xs ys old new : List (ℕ × Bool)) → IsSwapped us vs xs ys → IsSwapped xs ys old new
-    → IsSwapped us vs old new
-swapped_in us vs xs ys old new s t = record {
-  before = s.before ++ t.before;
-  behind = t.behind ++ s.behind;
-  was = s.was ∙ ap (λ (l : List (ℕ × Bool)). s.before ++ (l ++ s.behind)) t.was
-      ∙ regroup [] s.before t.before old t.behind s.behind;
-  is = s.is ∙ ap (λ (l : List (ℕ × Bool)). s.before ++ (l ++ s.behind)) t.is
-      ∙ regroup [] s.before t.before new t.behind s.behind;
-}
 
 -- ---- along a path
 
@@ -185,52 +173,6 @@ once_two (w ∷ us) u v h (inl i) (inr j) e = inr (agree_same w u v i (h.0 v j) 
 once_two (w ∷ us) u v h (inr i) (inl j) e = inr (let both = agree_same w v u j (h.0 u i) (sym e) in (both.1, both.0))
 once_two (w ∷ us) u v h (inr i) (inr j) e = once_two us u v h.1 i j e
 
--- A use may come in a part's place: it was in the part, or its cell is none that was used, or it is of security and
--- was used so.
-abbrev pub MayCome : List (ℕ × Bool) → List (ℕ × Bool) → ℕ × Bool → Type 0
-MayCome old us u = In old u ⊎ (((v : ℕ × Bool) → In us v → v.0 ≡ u.0 → ⊥) ⊎ ((u.1 ≡ true) × In us u))
-
-swap : (before old new behind : List (ℕ × Bool)) → Once (before ++ (old ++ behind)) → Once new
-    → ((u : ℕ × Bool) → In new u → MayCome old (before ++ (old ++ behind)) u) → Once (before ++ (new ++ behind))
-swap before old new behind once once_new may =
-    pairwise_join Agree before (new ++ behind) (record {
-      left = p.left;
-      right = pairwise_join Agree new behind
-          (record { left = once_new; right = q.right; across = λ u v i j. with_behind u v (may u i) j });
-      across = λ v u i j. ⊎_elim (λ k. agree_back u v (with_before u v (may u k) i))
-          (λ k. p.across v u i (in_right old behind u k)) (in_cases new behind u j);
-    })
-  where
-    p : InParts Agree before (old ++ behind)
-    p = pairwise_parts Agree before (old ++ behind) once
-
-    q : InParts Agree old behind
-    q = pairwise_parts Agree old behind p.right
-
-    both : (u v : ℕ × Bool) → u.1 ≡ true → In (before ++ (old ++ behind)) u → In (before ++ (old ++ behind)) v
-        → Agree u v
-    both u v way i j e =
-        ⊎_elim (λ (s : u ≡ v). (way, sym (ap (λ (z : ℕ × Bool). z.1) s) ∙ way)) (λ (s : (u.1 ≡ true) × (v.1 ≡ true)). s)
-        (once_two (before ++ (old ++ behind)) u v once i j e)
-
-    with_behind : (u v : ℕ × Bool) → MayCome old (before ++ (old ++ behind)) u → In behind v → Agree u v
-    with_behind u v (inl i) j = q.across u v i j
-    with_behind u v (inr (inl never)) j =
-        λ e. absurd (never v (in_right before (old ++ behind) v (in_right old behind v j)) (sym e))
-    with_behind u v (inr (inr s)) j = both u v s.0 s.1 (in_right before (old ++ behind) v (in_right old behind v j))
-
-    with_before : (u v : ℕ × Bool) → MayCome old (before ++ (old ++ behind)) u → In before v → Agree u v
-    with_before u v (inl i) j = agree_back v u (p.across v u j (in_left old behind u i))
-    with_before u v (inr (inl never)) j = λ e. absurd (never v (in_left before (old ++ behind) v j) (sym e))
-    with_before u v (inr (inr s)) j = both u v s.0 s.1 (in_left before (old ++ behind) v j)
-
-pub swap_once : (us vs old new : List (ℕ × Bool)) → IsSwapped us vs old new → Once us → Once new
-    → ((u : ℕ × Bool) → In new u → MayCome old us u) → Once vs
-swap_once us vs old new s once once_new may =
-    subst Once (sym s.is)
-    (swap s.before old new s.behind (subst Once s.was once) once_new
-    (λ u i. subst (λ (l : List (ℕ × Bool)). MayCome old l u) s.was (may u i)))
-
 -- ---- the whole walk
 
 -- the uses of the tree at a root
@@ -262,22 +204,3 @@ used_held cells root t w v i =
     let own = walk_below 512 cells true [] root v.0 v.1
     (mark_to (key_checks 512 cells true [] root) v (subst (λ (l : List (ℕ × Bool)). In l v) (sym e) i)) in
     (are_held cells root t w).held own.path own.role v.0 own.owns
-
--- A use may come in: its cell was none, or was in the part, or is of security and was used so.
-abbrev pub ComesFrom : Cells → ℕ → List (ℕ × Bool) → ℕ × Bool → Type 0
-ComesFrom b root old u = In old u ⊎ (IsUnheld b u.0 ⊎ ((u.1 ≡ true) × In (hive_uses b root) u))
-
--- Cells that are well-formed, and cells whose walk differs in a part: there each cell is used once too.
-pub swapped_once : (b c : Cells) (root : ℕ) (t u : Tree) (old new : List (ℕ × Bool)) → IsWellFormed b root t
-    → Stands c root u → HasApartNames u → IsSwapped (hive_uses b root) (hive_uses c root) old new → Once new
-    → ((v : ℕ × Bool) → In new v → ComesFrom b root old v) → AreUsedOnce (all_checks c root)
-swapped_once b c root t u old new w s n swapped once_new comes =
-    once_hive c root u s n (swap_once (hive_uses b root) (hive_uses c root) old new swapped
-    (hive_once b root t w.stands w.names w.once) once_new (λ v i. may v (comes v i)))
-  where
-    may : (v : ℕ × Bool) → ComesFrom b root old v → MayCome old (hive_uses b root) v
-    may v (inl i) = inl i
-    may v (inr (inl never)) =
-        inr (inl (λ z i e. let h = used_held b root t w z i in
-        never h.0 (subst (λ (o : ℕ). b.payload o ≡ Ok h.0) e h.1)))
-    may v (inr (inr s)) = inr (inr s)

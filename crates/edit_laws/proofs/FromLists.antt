@@ -9,25 +9,19 @@ use Rattle.hive_model.specs.Tree.{Tree, head}
 use Rattle.hive_model.specs.Edit.{new_key}
 use Rattle.hive_model.specs.Forms.{◌>>=◌, bytes_in}
 use Rattle.hive_model.specs.KeyNode.{KeyNode, key_node_in, key_node_at}
-use Rattle.hive_model.specs.Security.{SecurityCell}
 use Rattle.hive_model.specs.Lists.{offsets_in}
-use Rattle.hive_model.specs.Walk.{reading, use_as, entries_at, class_checks, entries_checks, key_checks, all_checks}
-use Rattle.hive_model.specs.Footprint.{used_in, security_used_in, of_read, child_places, list_cells_at, security_cell_at}
-use Rattle.hive_model.specs.InPlace.{KeepsSecurity}
-use Rattle.hive_model.specs.Stands.{IsWellFormed, ListsChildren, Stands, class_of, items_at, security_of, tree_flags, values_of}
+use Rattle.hive_model.specs.Walk.{reading, use_as, entries_at, class_checks, entries_checks}
+use Rattle.hive_model.specs.Footprint.{used_in, of_read, child_places, list_cells_at, security_cell_at}
+use Rattle.hive_model.specs.Stands.{ListsChildren, Stands, class_of, items_at, security_of, tree_flags, values_of}
 use Rattle.edit_laws.specs.Owned.{In, class_cell_at, value_list_at, value_places}
 use Rattle.edit_laws.specs.Framed.{IsUnheld}
 use Rattle.edit_laws.specs.Uses.{Once, plain, secure, tree_uses}
 use Rattle.edit_laws.specs.Revalues.{cells_of_values, all_value_cells}
 use Rattle.edit_laws.specs.Written.{with_part, three_numbers}
-use Rattle.edit_laws.specs.Relists.{descriptor_at, IsSecurityCell, SaysTheRest, ChangesChildren}
+use Rattle.edit_laws.specs.Relists.{SaysTheRest, ChangesChildren}
 use Rattle.edit_laws.specs.Lists.{HasNewChildren, InsertsChild, RemovesChild}
-use Rattle.edit_laws.proofs.Ins.{in_left, in_cases, security_from, contains_from}
+use Rattle.edit_laws.proofs.Ins.{in_left, in_cases}
 use Rattle.edit_laws.proofs.Out.{of_node_is}
-use Rattle.edit_laws.proofs.Wellformed.{sound_tree}
-use Rattle.edit_laws.proofs.Untouched.{root_node}
-use Rattle.edit_laws.proofs.Uses.{mark_to, walk_uses}
-use Rattle.edit_laws.proofs.Relisting.{secure_there}
 use Rattle.edit_laws.proofs.Patches.{IsPatchOf, part_patches, in_part, node_text, node_patched}
 use Rattle.edit_laws.proofs.FromCells.{counted_some}
 use Rattle.std.proofs.lemmas.Nat.{from_le_bytes-to_le_bytes_4}
@@ -71,18 +65,6 @@ part_says_rest from to p q n e patch within = record {
         → slice_range q i (i + 4) ≡ slice_range p i (i + 4)
     mid i (inl w) l h = let t = w.1 in patch.behind i 4 (omega (arith, l, t))
     mid i (inr w) l h = let t = w.0 in patch.before i 4 (omega (arith, h, t))
-
-pub says_rest_then : (a b c : KeyNode) → SaysTheRest a b → SaysTheRest b c → SaysTheRest a c
-says_rest_then a b c s t = record {
-  name = t.name ∙ s.name;
-  flags = t.flags ∙ s.flags;
-  stamp = t.stamp ∙ s.stamp;
-  value_count = t.value_count ∙ s.value_count;
-  value_list = t.value_list ∙ s.value_list;
-  security = t.security ∙ s.security;
-  class = t.class ∙ s.class;
-  class_length = t.class_length ∙ s.class_length;
-}
 
 -- a node's count of children, of volatile ones and the list of children are written over
 pub children_written : (p : List ℕ) (n : KeyNode) (count volatile list : ℕ) → key_node_at p ≡ Ok n → count < 2 ^ 32
@@ -222,22 +204,6 @@ removes_child b c root x left n front back y q list counted read places g = reco
     once [] f =
         subst (λ (l : List ℕ). Once (plain l)) (sym (lists_at_none c x g.node.new read_new (none [] refl f))) tt
     once (w ∷ os) f = subst (λ (l : List ℕ). Once (plain l)) (sym (lists_are w os f)) (g.once w os f)
-
--- ---- security
-
--- where the cells of security are kept, they keep their descriptors
-pub kept_descriptor : (b c : Cells) (root : ℕ) (t : Tree) (changes : ℕ → List Bool) → IsWellFormed b root t
-    → KeepsSecurity root changes b c → (o : ℕ) → IsSecurityCell b root o → descriptor_at c o ≡ descriptor_at b o
-unfolding all_checks
-kept_descriptor b c root t changes well keeps o s =
-    let r = root_node b root t well.stands in
-    let e = walk_uses 512 b true [] root r.0 (sound_tree b root t well.stands well.names) r.1 in
-    let i = mark_to (key_checks 512 b true [] root) (o, true)
-    (subst (λ (l : List (ℕ × Bool)). In l (o, true)) (sym e) (secure_there b root t o well s)) in
-    let k = keeps o (contains_from (security_used_in (key_checks 512 b true [] root)) o
-    (security_from (key_checks 512 b true [] root) o i)) in
-    ap (λ (r : Result SecurityCell HiveFaultKind). r >>= λ d. Ok d.descriptor) k.stays
-    ∙ sym (ap (λ (r : Result SecurityCell HiveFaultKind). r >>= λ d. Ok d.descriptor) k.was)
 
 -- ---- a key without values and children
 

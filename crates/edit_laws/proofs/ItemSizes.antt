@@ -1,11 +1,11 @@
 -- By how much the size of a key's values, and the bulk of a tree, differ where one value is set or deleted.
-use Rattle.std.proofs.Common.{◌≡◌, ℕ, suc, ◌+◌, ◌*◌, ◌≤◌, Bool, true, false, cond, List, [], ◌∷◌, ◌++◌, length, refl, ◌∙◌, ap, Option, Some, arith}
-use Rattle.std.specs.Prelude.{find, is_some, min}
+use Rattle.std.proofs.Common.{◌≡◌, ℕ, suc, ◌+◌, ◌*◌, Bool, true, false, cond, List, [], ◌∷◌, ◌++◌, length, refl, ◌∙◌, ap, Option, Some, arith}
+use Rattle.std.specs.Prelude.{find, is_some}
 use Rattle.nt_bytes.specs.declared.version.HiveVersion.{HiveVersion}
-use Rattle.hive_model.specs.Tree.{Tree, head, Item, is_item, find_key}
-use Rattle.hive_model.specs.Edit.{at_first, without_first, of_items, at_key, with_item}
-use Rattle.hive_model.specs.Size.{cell, item_size, items_sum, items_size, size, bulk_of}
-use Rattle.edit_laws.proofs.Sizes.{revalued_size, first_length}
+use Rattle.hive_model.specs.Tree.{Item, is_item}
+use Rattle.hive_model.specs.Edit.{at_first, without_first, with_item}
+use Rattle.hive_model.specs.Size.{cell, item_size, items_sum, items_size}
+use Rattle.edit_laws.proofs.Sizes.{first_length}
 
 -- the value list and the values
 abbrev pub list_and_values : HiveVersion → ℕ → List Item → ℕ
@@ -143,20 +143,3 @@ deleted_sum version p (w ∷ vs) v e = go (p w) e (λ d. deleted_sum version p v
       where
         sum : (w a b v : ℕ) → a + v ≡ b → w + a + v ≡ w + b
         sum w a b v e = omega (arith, e)
-
--- ---- the bulk
-
--- Below the greatest number of 64 bits the bulk of a tree grows by the size of the values that a key gets, less that
--- of those it had.
-pub revalued_bulk : (version : HiveVersion) (path : List (List ℕ)) (t k : Tree) (f : List Item → List Item)
-    → find_key path t ≡ Some k → 32 + size version [] t ≤ 18446744073709551615
-    → 32 + size version [] (at_key path (of_items f) t) ≤ 18446744073709551615
-    → bulk_of version (at_key path (of_items f) t) + items_size version (head k).values ≡ bulk_of version t
-    + items_size version (f (head k).values)
-revalued_bulk version path t k f found small small_then =
-    sum (size version [] (at_key path (of_items f) t)) (size version [] t) (items_size version (head k).values)
-    (items_size version (f (head k).values)) small small_then (revalued_size version [] path t k f found)
-  where
-    sum : (x y a b : ℕ) → 32 + y ≤ 18446744073709551615 → 32 + x ≤ 18446744073709551615 → x + a ≡ y + b
-        → min (32 + x) 18446744073709551615 + a ≡ min (32 + y) 18446744073709551615 + b
-    sum x y a b p q e = omega (arith, p, q, e)

@@ -2,27 +2,19 @@
 use Rattle.std.proofs.Common.{◌≡◌, ℕ, Bool, true, false, cond, List, [], ◌∷◌, ◌++◌, map, refl, sym, ◌∙◌, ap, subst, inl, inr, ⊎_elim, Some}
 use Rattle.std.specs.Prelude.{find, is_some}
 use Rattle.nt_bytes.specs.Folding.{folds_same}
-use Rattle.hive_model.specs.Bins.{Cells}
-use Rattle.hive_model.specs.Tree.{Tree, key, head, Item, is_item, find_key}
-use Rattle.hive_model.specs.Edit.{at_first, without_first, of_items, at_key, with_item}
+use Rattle.hive_model.specs.Tree.{Item, is_item}
+use Rattle.hive_model.specs.Edit.{at_first, without_first, with_item}
 use Rattle.hive_model.specs.Valid.{ItemsDiffer}
-use Rattle.hive_model.specs.Stands.{HasApartNames, IsWellFormed}
-use Rattle.edit_laws.specs.Owned.{In, Reaches, Folds}
+use Rattle.edit_laws.specs.Owned.{In}
 use Rattle.edit_laws.specs.Pairs.{Pairwise}
-use Rattle.edit_laws.specs.Revalues.{GetsValues}
 use Rattle.edit_laws.proofs.Pairs.{pairwise_from, pairwise_to, pairwise_join, in_map, in_map_from}
 use Rattle.edit_laws.proofs.Replaced.{Unlike}
-use Rattle.edit_laws.proofs.Found.{found_names, changed_alike}
-use Rattle.edit_laws.proofs.Revalued.{revalued}
 
 -- ---- names
 
 -- the names of values, in order
 abbrev pub names_of_items : List Item → List (List ℕ)
 names_of_items vs = map (λ (v : Item). v.name) vs
-
-abbrev Apart : Item → Item → Type 0
-Apart a b = folds_same b.name a.name ≡ false
 
 pub items_unlike : (vs : List Item) → ItemsDiffer vs → Pairwise Unlike (names_of_items vs)
 items_unlike vs d = go vs (pairwise_from (λ (a : Item) (b : Item). folds_same b.name a.name ≡ false) vs d)
@@ -122,44 +114,3 @@ pub without_item_differ : (p : Item → Bool) (vs : List Item) → ItemsDiffer v
 without_item_differ p vs d =
     pairwise_to (λ (a : Item) (b : Item). folds_same b.name a.name ≡ false) (without_first p vs)
     (without_apart p vs (pairwise_from (λ (a : Item) (b : Item). folds_same b.name a.name ≡ false) vs d))
-
--- ---- the whole
-
--- the values of a key that is found differ
-pub found_items : (path : List (List ℕ)) (t k : Tree) → HasApartNames t → find_key path t ≡ Some k
-    → ItemsDiffer (head k).values
-found_items path t k n e = go k (found_names path t k n e)
-  where
-    go : (k : Tree) → HasApartNames k → ItemsDiffer (head k).values
-    go (key h ts) n = n.0
-
--- where a key gets the values that a change makes of its own, the tree is changed so
-pub changed_values : (b c : Cells) (root : ℕ) (t k : Tree) (path p : List (List ℕ)) (x : ℕ)
-    (f : List Item → List Item) → IsWellFormed b root t → Folds path p → Reaches b root p x → find_key path t ≡ Some k
-    → GetsValues b c x (f (head k).values) → ItemsDiffer (f (head k).values)
-    → IsWellFormed c root (at_key path (of_items f) t)
-changed_values b c root t k path p x f well folds r found g differ =
-    subst (IsWellFormed c root)
-    (changed_alike (of_items (λ vs. f (head k).values)) (of_items f) path t k found (same k))
-    (revalued b c root t path p x (f (head k).values) well folds r g differ)
-  where
-    same : (k : Tree) → of_items (λ vs. f (head k).values) k ≡ of_items f k
-    same (key h ts) = refl
-
--- a value is set: the cells are well-formed with the tree that has it
-pub value_is_set : (b c : Cells) (root : ℕ) (t k : Tree) (path p : List (List ℕ)) (x : ℕ) (name : List ℕ) (kind : ℕ)
-    (bytes : List ℕ) → IsWellFormed b root t → Folds path p → Reaches b root p x → find_key path t ≡ Some k
-    → GetsValues b c x (with_item name kind bytes (head k).values)
-    → IsWellFormed c root (at_key path (of_items (with_item name kind bytes)) t)
-value_is_set b c root t k path p x name kind bytes well folds r found g =
-    changed_values b c root t k path p x (with_item name kind bytes) well folds r found g
-    (with_item_differ name kind bytes (head k).values (found_items path t k well.names found))
-
--- a value is deleted: the cells are well-formed with the tree that lacks it
-pub value_is_deleted : (b c : Cells) (root : ℕ) (t k : Tree) (path p : List (List ℕ)) (x : ℕ) (name : List ℕ)
-    → IsWellFormed b root t → Folds path p → Reaches b root p x → find_key path t ≡ Some k
-    → GetsValues b c x (without_first (is_item name) (head k).values)
-    → IsWellFormed c root (at_key path (of_items (without_first (is_item name))) t)
-value_is_deleted b c root t k path p x name well folds r found g =
-    changed_values b c root t k path p x (without_first (is_item name)) well folds r found g
-    (without_item_differ (is_item name) (head k).values (found_items path t k well.names found))

@@ -14,7 +14,7 @@ use Rattle.edit_laws.specs.Relists.{HasPlace, Deletes}
 use Rattle.edit_laws.specs.Lists.{InsertsChild, RemovesChild}
 use Rattle.edit_laws.specs.Done.{IsDone}
 use Rattle.edit_laws.proofs.FromLists.{inserts_child, removes_child}
-use Rattle.edit_laws.proofs.KeyDone.{a_key_made, a_key_deleted, a_child_added, a_child_copied}
+use Rattle.edit_laws.proofs.KeySteps.{a_key_made, a_key_deleted, a_child_added, a_child_copied}
 
 module _ (b c : Cells) (root : ℕ) (t u : Tree) (parent : List (List ℕ)) (name : List ℕ) (x left : ℕ) (n : KeyNode)
     (well : IsWellFormed b root t)

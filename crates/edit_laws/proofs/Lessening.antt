@@ -12,7 +12,8 @@ use Rattle.edit_laws.specs.Sizes.{sizes_of}
 use Rattle.edit_laws.specs.Lessened.{HasChildThere}
 use Rattle.edit_laws.proofs.Made.{parent_is}
 use Rattle.edit_laws.proofs.Replaced.{listed_trees}
-use Rattle.edit_laws.proofs.ChildEdits.{without_at, relisted_size}
+use Rattle.edit_laws.proofs.Siblings.{without_at}
+use Rattle.edit_laws.proofs.ChildEdits.{relisted_size}
 use Rattle.edit_laws.proofs.RoomLemmas.{found_changed}
 
 some_tree : (a b : Tree) → Some a ≡ Some b → a ≡ b

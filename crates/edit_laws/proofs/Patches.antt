@@ -215,18 +215,6 @@ part_says from to p q n e patch within = record {
     mid i (inl w) l h = let t = w.1 in patch.behind i 4 (omega (arith, l, t))
     mid i (inr w) l h = let t = w.0 in patch.before i 4 (omega (arith, h, t))
 
-pub says_then : (a b c : KeyNode) → SaysTheSame a b → SaysTheSame b c → SaysTheSame a c
-says_then a b c s t = record {
-  name = t.name ∙ s.name;
-  flags = t.flags ∙ s.flags;
-  stamp = t.stamp ∙ s.stamp;
-  child_count = t.child_count ∙ s.child_count;
-  child_list = t.child_list ∙ s.child_list;
-  security = t.security ∙ s.security;
-  class = t.class ∙ s.class;
-  class_length = t.class_length ∙ s.class_length;
-}
-
 -- ---- numbers
 
 -- the first and the second of two numbers that were written

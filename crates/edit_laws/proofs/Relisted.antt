@@ -1,17 +1,17 @@
 -- A touched key is kept: its node names other lists of children, or other values.
-use Rattle.std.proofs.Common.{◌≡◌, ℕ, Bool, true, false, cond, List, [], ◌∷◌, refl, sym, ◌∙◌, ap, subst, inl, inr, Result, Ok}
-use Rattle.std.specs.Prelude.{◌⊎◌, ◌==◌, if◌then◌else◌}
+use Rattle.std.proofs.Common.{◌≡◌, ℕ, Bool, true, false, cond, List, [], ◌∷◌, refl, sym, ◌∙◌, ap, subst, inl, Result, Ok}
+use Rattle.std.specs.Prelude.{◌==◌, if◌then◌else◌}
 use Rattle.nt_bytes.specs.declared.fault.HiveFaultKind.{HiveFaultKind}
 use Rattle.hive_model.specs.Bins.{Cells}
 use Rattle.hive_model.specs.Forms.{bytes_in}
 use Rattle.hive_model.specs.KeyNode.{KeyNode, key_node_at}
 use Rattle.hive_model.specs.Security.{security_at}
 use Rattle.hive_model.specs.Lists.{offsets_in}
-use Rattle.hive_model.specs.Walk.{reading, nowhere, use_as, class_checks, security_checks, value_checks, entries_checks, entries_at}
+use Rattle.hive_model.specs.Walk.{reading, nowhere, use_as, class_checks, security_checks, entries_checks, entries_at}
 use Rattle.hive_model.specs.Footprint.{of_read, used_in, child_places, security_cell_at, list_cells_at}
-use Rattle.edit_laws.specs.Owned.{Role, node, class, security, value_list, value, lists, In, node_name, value_places, value_list_at, class_cell_at, HasValue, HasRole, Owns}
+use Rattle.edit_laws.specs.Owned.{In, value_places, value_list_at, class_cell_at}
 use Rattle.edit_laws.proofs.Out.{of_node_is}
-use Rattle.edit_laws.proofs.Same.{IsKept, IsValueSame, first_used, same_reading, same_value_name, value_used_same, entries_used, entries_same}
+use Rattle.edit_laws.proofs.Same.{IsValueSame, same_reading, entries_used, entries_same}
 
 -- the node reads before and after, and names the same class and security
 pub record IsNodeKept (b c : Cells) (x : ℕ) : Type 0 where
@@ -98,53 +98,11 @@ value_places_kept b c x k v =
         ap (λ (q : Result (List ℕ) HiveFaultKind). of_read q (λ os. os))
         (same_reading (offsets_in k.old.value_count) b c k.old.value_list (h k.old.value_list (inl refl)))
 
--- where a child is made, removed, copied or added, its parent: the children are listed anew
-pub record IsRelisted (b c : Cells) (New : ℕ → Type 0) (x : ℕ) : Type 0 where
-  pub kept : IsNodeKept b c x
-  pub values : AreValuesKept b c x kept.old kept.new
-  pub lists : (o : ℕ) → In (list_cells_at c x) o → New o
-  pub child : (y : ℕ) → In (child_places c x) y
-      → (In (child_places b x) y × (node_name c y ≡ node_name b y))
-      ⊎ ((p : List (List ℕ)) (r : Role) (o : ℕ) → Owns c y p r o → New o)
-
-pub relisted_kept : (b c : Cells) (New : ℕ → Type 0) (x : ℕ) → IsRelisted b c New x → IsKept b c New x
-relisted_kept b c New x k = record { child = k.child; role = role }
-  where
-    value_role : (name : List ℕ) (o : ℕ) (h : HasValue c x name o) → In (value_places b x) h.place
-        → HasValue b x name o
-    value_role name o h i =
-        let same = k.values.cells h.place i in
-        record {
-          place = h.place;
-          listed = i;
-          named = sym (same_value_name b c h.place (same h.place (first_used b h.place))) ∙ h.named;
-          used = subst (λ (l : List ℕ). In l o) (value_used_same b c h.place k.kept.version same) h.used;
-        }
-
-    role : (r : Role) (o : ℕ) → HasRole c x r o → HasRole b x r o ⊎ New o
-    role node o h = inl h
-    role class o h = inl (subst (λ (l : List ℕ). In l o) (class_kept b c x k.kept) h)
-    role security o h = inl (subst (λ (l : List ℕ). In l o) (security_kept b c x k.kept) h)
-    role value_list o h = inl (subst (λ (l : List ℕ). In l o) (value_list_kept b c x k.kept k.values) h)
-    role (value name) o h =
-        inl (value_role name o h (subst (λ (l : List ℕ). In l h.place) (value_places_kept b c x k.kept k.values)
-        h.listed))
-    role lists o h = inr (k.lists o h)
-
 -- the node names the same lists of children, in cells that are the same
 pub record AreChildrenKept (b c : Cells) (x : ℕ) (old new : KeyNode) : Type 0 where
   pub count : new.child_count ≡ old.child_count
   pub list : new.child_list ≡ old.child_list
   pub list_cells : (o : ℕ) → In (list_cells_at b x) o → c.payload o ≡ b.payload o
-
--- where a value is set or deleted, its key: the values are listed anew, the children as they were
-pub record IsRevalued (b c : Cells) (New : ℕ → Type 0) (x : ℕ) : Type 0 where
-  pub kept : IsNodeKept b c x
-  pub children : AreChildrenKept b c x kept.old kept.new
-  pub names : (y : ℕ) → In (child_places b x) y → node_name c y ≡ node_name b y
-  pub value_list : (o : ℕ) → In (value_list_at c x) o → In (value_list_at b x) o ⊎ New o
-  pub value : (v : ℕ) → In (value_places c x) v
-      → (In (value_places b x) v × IsValueSame b c v) ⊎ ((o : ℕ) → In (used_in (value_checks c [] v)) o → New o)
 
 pub lists_kept : (b c : Cells) (x : ℕ) (k : IsNodeKept b c x) → AreChildrenKept b c x k.old k.new
     → list_cells_at c x ≡ list_cells_at b x
@@ -189,31 +147,3 @@ children_kept b c x k d =
         ≡ cond t [] (of_read (entries_at b k.old.child_list) (λ os. os))
     go true h = refl
     go false h = ap (λ (q : Result (List ℕ) HiveFaultKind). of_read q (λ os. os)) (entries_same b c k.old.child_list h)
-
-pub revalued_kept : (b c : Cells) (New : ℕ → Type 0) (x : ℕ) → IsRevalued b c New x → IsKept b c New x
-revalued_kept b c New x k = record {
-  child = λ y i. let j = subst (λ (l : List ℕ). In l y) (children_kept b c x k.kept k.children) i in
-      inl (j, k.names y j);
-  role = role;
-}
-  where
-    value_role : (name : List ℕ) (o : ℕ) (h : HasValue c x name o)
-        → (In (value_places b x) h.place × IsValueSame b c h.place)
-        ⊎ ((w : ℕ) → In (used_in (value_checks c [] h.place)) w → New w)
-        → HasValue b x name o ⊎ New o
-    value_role name o h (inl i) =
-        inl (record {
-          place = h.place;
-          listed = i.0;
-          named = sym (same_value_name b c h.place (i.1 h.place (first_used b h.place))) ∙ h.named;
-          used = subst (λ (l : List ℕ). In l o) (value_used_same b c h.place k.kept.version i.1) h.used;
-        })
-    value_role name o h (inr new) = inr (new o h.used)
-
-    role : (r : Role) (o : ℕ) → HasRole c x r o → HasRole b x r o ⊎ New o
-    role node o h = inl h
-    role class o h = inl (subst (λ (l : List ℕ). In l o) (class_kept b c x k.kept) h)
-    role security o h = inl (subst (λ (l : List ℕ). In l o) (security_kept b c x k.kept) h)
-    role value_list o h = k.value_list o h
-    role (value name) o h = value_role name o h (k.value h.place h.listed)
-    role lists o h = inl (subst (λ (l : List ℕ). In l o) (lists_kept b c x k.kept k.children) h)

@@ -8,9 +8,9 @@ use Rattle.nt_bytes.specs.declared.version.HiveVersion.{HiveVersion}
 use Rattle.nt_bytes.specs.Folding.{folds_same}
 use Rattle.hive_model.specs.Tree.{Tree, key, listed, head, Item, children, is_named, find_key, find_item}
 use Rattle.hive_model.specs.Size.{cell, name_bytes, cells_sum, data_sizes, item_size}
-use Rattle.hive_model.specs.Edit.{Step, set_value, delete_value, make_key, delete_key, Refusal, at_first, at_key, after_step}
+use Rattle.hive_model.specs.Edit.{Step, set_value, make_key, Refusal, at_first, at_key, after_step}
 use Rattle.hive_model.specs.Packed.{rounded}
-use Rattle.hive_model.specs.Footprint.{unless_refused, parent_of, has_key, value_list_sizes, item_sizes, list_sizes, sizes, room_of, added_sizes_in, needed_sizes, strain_of}
+use Rattle.hive_model.specs.Footprint.{unless_refused, has_key, value_list_sizes, item_sizes, list_sizes, sizes, room_of, added_sizes_in, needed_sizes, strain_of}
 use Rattle.edit_laws.specs.Sizes.{total, AreSome}
 use Rattle.edit_laws.proofs.Replaced.{listed_trees}
 
@@ -31,12 +31,6 @@ pub some_right : (xs ys zs : List ℕ) → AreSome xs zs → AreSome xs (ys ++ z
 some_right [] ys zs h = tt
 some_right (x ∷ xs) [] zs h = h
 some_right (x ∷ xs) (y ∷ ys) zs h = inr (some_right (x ∷ xs) ys zs h)
-
-pub some_both : (xs us ys vs : List ℕ) → AreSome xs us → AreSome ys vs → AreSome (xs ++ ys) (us ++ vs)
-some_both [] us ys vs h g = some_right ys us vs g
-some_both (x ∷ xs) [] ys vs h g = absurd h
-some_both (x ∷ xs) (u ∷ us) ys vs (inl e) g = inl (e.0, some_both xs us ys vs e.1 g)
-some_both (x ∷ xs) (u ∷ us) ys vs (inr h) g = inr (some_both (x ∷ xs) us ys vs h g)
 
 pub room_some : (xs ys : List ℕ) → AreSome xs ys → room_of xs ≤ room_of ys
 room_some [] ys h = omega arith
@@ -103,17 +97,6 @@ strain_least version bytes t (step ∷ steps) =
         (λ u. strain_of version (bytes + room_of (needed_sizes version t step u)) u steps)
     go (Ok u) deep = let d = deep u in omega (arith, d)
     go (Err e) deep = omega arith
-
--- Where the data grow by no more than the room for cells that the step may need, the steps behind it have no more
--- strain than with it.
-pub strain_step : (version : HiveVersion) (bytes now : ℕ) (t u : Tree) (step : Step) (steps : List Step)
-    (asked : List ℕ) → after_step step t ≡ Ok u → AreSome asked (needed_sizes version t step u)
-    → now ≤ bytes + room_of asked → strain_of version now u steps ≤ strain_of version bytes t (step ∷ steps)
-strain_step version bytes now t u step steps asked ok part grown =
-    let r = room_some asked (needed_sizes version t step u) part in
-    let m = strain_more version now (bytes + room_of (needed_sizes version t step u)) u steps
-    (omega (arith, r, grown)) in
-    let e = strain_one version bytes t u step steps ok in omega (arith, m, e)
 
 -- Where a bin for cells that a step may need, one behind another, is not to be had below a limit, its strain is over
 -- the limit.
@@ -185,13 +168,6 @@ set_needs version t u k path name kind bytes v found item =
     ∙ ap (λ (o : Option Item). value_list_sizes (length (head k).values) ++ option_map_or (item_sizes version) o [])
     item
 
--- the size of the list that a value that is deleted may need
-pub delete_needs : (version : HiveVersion) (t u k : Tree) (path : List (List ℕ)) (name : List ℕ)
-    → find_key path u ≡ Some k
-    → needed_sizes version t (delete_value path name) u ≡ value_list_sizes (length (head k).values)
-delete_needs version t u k path name found =
-    ap (λ (o : Option Tree). option_map_or (λ z. value_list_sizes (length (head z).values)) o []) found
-
 -- the sizes of a value's cells together are its size
 pub item_total : (version : HiveVersion) (v : Item) → total (item_sizes version v) ≡ item_size version v
 item_total version v =
@@ -223,10 +199,3 @@ pub make_needs : (version : HiveVersion) (t u k w : Tree) (parent : List (List �
 make_needs version t u k w parent name absent found child =
     ap (λ (v : Bool). cond v [] (added_sizes_in version parent name u)) absent
     ∙ added_needs version u k w parent name found child
-
--- the sizes of the lists that a key that is deleted may need
-pub remove_needs : (version : HiveVersion) (t u k : Tree) (path : List (List ℕ))
-    → find_key (parent_of path) u ≡ Some k
-    → needed_sizes version t (delete_key path) u ≡ list_sizes (length (children k))
-remove_needs version t u k path found =
-    ap (λ (o : Option Tree). option_map_or (λ z. list_sizes (length (children z))) o []) found

@@ -1,21 +1,19 @@
 -- A value that is there is set where it stands: its size, place and type are written over, and its data are in it or
 -- in one cell.
-use Rattle.std.proofs.Common.{◌≡◌, ℕ, ◌<◌, ◌^◌, true, false, List, [], ◌∷◌, ◌++◌, sym, ◌∙◌, ap, subst, inl, inr, ⊎_elim, Some, None, Result, Ok}
+use Rattle.std.proofs.Common.{◌≡◌, ℕ, ◌<◌, ◌^◌, true, false, List, [], ◌∷◌, ◌++◌, sym, ◌∙◌, ap, subst, inl, ⊎_elim, Some, Result, Ok}
 use Rattle.std.specs.Prelude.{◌⊎◌, find}
 use Rattle.nt_bytes.specs.Folding.{folds_same}
 use Rattle.nt_bytes.specs.declared.fault.HiveFaultKind.{HiveFaultKind}
 use Rattle.hive_model.specs.Bins.{Cells}
-use Rattle.hive_model.specs.Size.{is_big}
 use Rattle.hive_model.specs.Tree.{Tree, key}
 use Rattle.hive_model.specs.Edit.{set_value, after_step}
-use Rattle.hive_model.specs.Forms.{◌>>=◌, bytes_in}
+use Rattle.hive_model.specs.Forms.{◌>>=◌}
 use Rattle.hive_model.specs.KeyNode.{KeyNode, key_node_at}
 use Rattle.hive_model.specs.KeyValue.{KeyValue, key_value_at, data_inside, is_overfull}
 use Rattle.hive_model.specs.Walk.{reading, value_checks, data_checks}
 use Rattle.hive_model.specs.Footprint.{key_place, used_in, is_value_named}
 use Rattle.hive_model.specs.Stands.{data_of, Stands, IsWellFormed}
 use Rattle.edit_laws.specs.Owned.{In, value_name, value_places, Reaches}
-use Rattle.edit_laws.specs.Framed.{IsUnheld}
 use Rattle.edit_laws.specs.Sound.{IsValueThere}
 use Rattle.edit_laws.specs.Pairs.{Pairwise}
 use Rattle.edit_laws.specs.Written.{with_part, three_numbers}
@@ -28,8 +26,8 @@ use Rattle.edit_laws.proofs.Wellformed.{sound_hive}
 use Rattle.edit_laws.proofs.Same.{first_used}
 use Rattle.edit_laws.proofs.Found.{IsThere, found_there}
 use Rattle.edit_laws.proofs.Patches.{value_written}
-use Rattle.edit_laws.proofs.FromCells.{item_is, value_uses, data_held_inside, data_in_cell, name_of_value, gets_data, single}
-use Rattle.edit_laws.proofs.Done.{a_value_set}
+use Rattle.edit_laws.proofs.FromCells.{item_is, value_uses, data_held_inside, name_of_value, gets_data, single}
+use Rattle.edit_laws.proofs.ValueSteps.{a_value_set}
 
 -- the value's node with other numbers
 abbrev pub with_numbers : KeyValue → ℕ → ℕ → ℕ → KeyValue
@@ -127,56 +125,4 @@ set_inside b c root t u path name kind bytes x v size offset p well ok at found 
       used = λ o i. inl (⊎_elim (λ (e : v ≡ o). subst (In (used_in (value_checks b [] v))) e (first_used b v))
           (λ (z : ⊥). absurd z) (subst (λ (l : List ℕ). In l o) uses_new i));
       once = subst (Pairwise (λ y z. y ≡ z → ⊥)) (sym uses_new) (single v);
-    }
-
--- A value is set whose data one cell holds, which was one of its own or none: of all cells that are allocated only
--- its own change.
-pub set_in_cell : (b c : Cells) (root : ℕ) (t u : Tree) (path : List (List ℕ)) (name : List ℕ) (kind : ℕ)
-    (bytes : List ℕ) (x v y size : ℕ) (p d : List ℕ) → IsWellFormed b root t
-    → after_step (set_value path name kind bytes) t ≡ Ok u → key_place b path root ≡ Some x
-    → find (is_value_named b name) (value_places b x) ≡ Some v → b.payload v ≡ Ok p → c.version ≡ b.version
-    → c.payload v ≡ Ok (with_part 4 (three_numbers size y kind) p) → c.payload y ≡ Ok d → bytes_in size d ≡ Ok bytes
-    → ((o : ℕ) (q : List ℕ) → b.payload o ≡ Ok q → (In (used_in (value_checks b [] v)) o → ⊥) → c.payload o ≡ Ok q)
-    → In (used_in (value_checks b [] v)) y ⊎ IsUnheld b y → (v ≡ y → ⊥) → size < 2 ^ 32 → y < 2 ^ 32 → kind < 2 ^ 32
-    → is_overfull size ≡ false → ((value : KeyValue) → data_inside (with_numbers value size y kind) ≡ None)
-    → is_big b.version size ≡ false → IsDone b c root t u (set_value path name kind bytes)
-set_in_cell b c root t u path name kind bytes x v y size p d well ok at found held version new there data_read others
-    mine apart ls lo lk fits outside small =
-    a_value_set b c root t u path name kind bytes x v f.front (v ∷ []) f.back well ok at f.named
-    (gets_data b c root t f.stored x f.node well f.reached f.read f.front f.back v f.places kind bytes g)
-  where
-    f : IsFound b root t path name x v p
-    f = is_found b root t path name x v p well at found held
-
-    read_new : reading key_value_at c v ≡ Ok (with_numbers f.value size y kind)
-    read_new =
-        ap (λ (r : Result (List ℕ) HiveFaultKind). r >>= key_value_at) new
-        ∙ value_written p f.value size y kind f.form ls lo lk fits
-
-    data_there : (used_in (data_checks c (with_numbers f.value size y kind)) ≡ y ∷ [])
-        × (data_of c (with_numbers f.value size y kind) ≡ reading (bytes_in size) c y)
-    data_there =
-        data_in_cell c (with_numbers f.value size y kind) (outside f.value) (ap (λ w. is_big w size) version ∙ small)
-
-    uses_new : used_in (value_checks c [] v) ≡ v ∷ y ∷ []
-    uses_new = value_uses c v (with_numbers f.value size y kind) read_new ∙ ap (λ (l : List ℕ). v ∷ l) data_there.0
-
-    either : (o : ℕ) → (v ≡ o) ⊎ ((y ≡ o) ⊎ ⊥) → In (used_in (value_checks b [] v)) o ⊎ IsUnheld b o
-    either o (inl e) = inl (subst (In (used_in (value_checks b [] v))) e (first_used b v))
-    either o (inr (inl e)) = subst (λ (z : ℕ). In (used_in (value_checks b [] v)) z ⊎ IsUnheld b z) e mine
-    either o (inr (inr z)) = absurd z
-
-    g : GetsData b c v kind bytes
-    g = record {
-      version = version;
-      reads =
-          item_is c v (with_numbers f.value size y kind) bytes read_new
-          (data_there.1 ∙ ap (λ (r : Result (List ℕ) HiveFaultKind). r >>= bytes_in size) there ∙ data_read)
-          ∙ (λ i. Ok (item (sym (name_of_value b v f.value f.there) i) kind bytes));
-      others = others;
-      used = λ o i. either o (subst (λ (l : List ℕ). In l o) uses_new i);
-      once = subst (Pairwise (λ w z. w ≡ z → ⊥)) (sym uses_new) (
-        (λ z i. ⊎_elim (λ (e : y ≡ z) (s : v ≡ z). apart (s ∙ sym e)) (λ (n : ⊥) (s : v ≡ z). absurd n) i),
-        single y,
-      );
     }

@@ -12,7 +12,7 @@ use Rattle.hive_model.specs.Security.{security_at}
 use Rattle.hive_model.specs.Walk.{entries_checks}
 use Rattle.hive_model.specs.Footprint.{used_in, key_place, child_places, security_cell_at, list_cells_at}
 use Rattle.hive_model.specs.Stands.{IsWellFormed}
-use Rattle.edit_laws.specs.Owned.{Role, node, class, security, value_list, value, lists, In, node_name, class_cell_at, HasRole, Reaches, Extends, Owns, IsSecurity, IsBelow}
+use Rattle.edit_laws.specs.Owned.{Role, node, class, security, value_list, value, lists, In, node_name, class_cell_at, HasRole, Reaches, IsSecurity}
 use Rattle.edit_laws.specs.Framed.{IsUnheld}
 use Rattle.edit_laws.specs.Pairs.{Pairwise}
 use Rattle.edit_laws.specs.Revalues.{all_value_cells}
@@ -30,8 +30,8 @@ use Rattle.edit_laws.proofs.Same.{entries_used, entries_same}
 use Rattle.edit_laws.proofs.Around.{above, above_is, hive_uses, hive_once, once_two, used_held}
 use Rattle.edit_laws.proofs.Revalued.{folds_length, reach_on}
 use Rattle.edit_laws.proofs.ChangedValues.{own_once}
-use Rattle.edit_laws.proofs.Relisting.{uses_below, secure_there}
-use Rattle.edit_laws.proofs.DeletionFrames.{extends_on}
+use Rattle.edit_laws.proofs.OwnedUses.{secure_is, secure_there, IsOwnedBelow, use_owned}
+use Rattle.edit_laws.proofs.KeySteps.{extends_past}
 use Rattle.edit_laws.proofs.FromLists.{children_written}
 use Rattle.edit_laws.proofs.KeyCells.{key_taken}
 use Rattle.std.proofs.lemmas.Bool.{cases_eq}
@@ -151,8 +151,8 @@ module _ (b l c : Cells) (root : ℕ) (t : Tree) (p : List (List ℕ)) (x left :
   abbrev pub recounted : List ℕ
   recounted = secured (tree_uses left b y)
 
-  below : (o : ℕ) → In recounted o → IsBelow b y o true
-  below o i = uses_below left b y o true (secured_to (tree_uses left b y) o i)
+  below : (o : ℕ) → In recounted o → IsOwnedBelow b y (o, true)
+  below o i = use_owned left b y (o, true) (secured_to (tree_uses left b y) o i)
 
   counted_there : (o : ℕ) → In recounted o → IsSecurityCell b root o
   counted_there o i =
@@ -161,7 +161,7 @@ module _ (b l c : Cells) (root : ℕ) (t : Tree) (p : List (List ℕ)) (x left :
         path = p ++ node_name b y ∷ w.path;
         key = w.owns.at;
         reached = reach_on b p (node_name b y ∷ w.path) root x w.owns.at reached (y, child_there, refl, w.owns.reached);
-        uses = has_security b w.owns.at o w.role w.owns.has (w.security refl);
+        uses = has_security b w.owns.at o w.role w.owns.has (secure_is w.role w.way);
       }
 
   descriptors : (o : ℕ) → IsSecurityCell b root o → descriptor_at c o ≡ descriptor_at b o
@@ -241,7 +241,7 @@ module _ (b l c : Cells) (root : ℕ) (t : Tree) (p : List (List ℕ)) (x left :
         let w = below o i in
         let s = counted_there o i in (
           s.path,
-          extends_on parent p name (node_name b y) w.path folds named,
+          extends_past parent p name (node_name b y) w.path folds named,
           record { at = s.key; reached = s.reached; has = s.uses },
         );
   }

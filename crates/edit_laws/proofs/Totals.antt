@@ -1,15 +1,15 @@
 -- The sizes of all cells of a key together are its size; and what of sizes and names comes of a child that is put
 -- among others.
-use Rattle.std.proofs.Common.{◌≡◌, ◌≤◌, ◌<◌, ℕ, zero, suc, ◌+◌, ◌*◌, ◌/◌, ◌%◌, Bool, true, false, eqb, cond, List, [], ◌∷◌, ◌++◌, length, Option, Some, None, refl, sym, ap, ◌∙◌, ◌⊎◌, inl, inr, arith}
-use Rattle.std.specs.Prelude.{◌==◌, nat_lt, find, flat_map, is_some, min}
+use Rattle.std.proofs.Common.{◌≡◌, ◌≤◌, ◌<◌, ℕ, zero, suc, ◌+◌, ◌*◌, ◌/◌, ◌%◌, Bool, true, false, eqb, cond, List, [], ◌∷◌, ◌++◌, length, Some, None, refl, sym, ap, ◌∙◌, ◌⊎◌, inl, inr, arith}
+use Rattle.std.specs.Prelude.{◌==◌, nat_lt, find, flat_map}
 use Rattle.std.specs.Ordering.{is_gt}
 use lib.ListN.{replicate}
 use Rattle.std.proofs.lemmas.Bool.{eqb-true, ne_eqb, eq-eqb, lt-ltb, le-ltb, cases_lt}
-use Rattle.nt_bytes.specs.Folding.{folds_same, folded_order}
+use Rattle.nt_bytes.specs.Folding.{folded_order}
 use Rattle.nt_bytes.specs.declared.version.HiveVersion.{HiveVersion}
 use Rattle.hive_model.specs.Tree.{Item, Head, Tree, Trees, key, none, more, listed, head, children, is_named}
 use Rattle.hive_model.specs.Size.{cell, item_size, items_sum, items_size, class_size, security_size, node_size, head_size, part_count, list_size, count, size, size_of_all}
-use Rattle.hive_model.specs.Edit.{has_child, placed, renamed, with_child}
+use Rattle.hive_model.specs.Edit.{placed, renamed, with_child}
 use Rattle.hive_model.specs.Footprint.{some_cell, item_sizes, value_list_sizes, head_sizes, list_sizes, sizes, sizes_of_all}
 use Rattle.edit_laws.specs.Sizes.{total, sizes_of}
 use Rattle.edit_laws.proofs.ChildEdits.{relisted_size}

@@ -13,7 +13,7 @@ use Rattle.edit_laws.specs.Changes.{GetsData, MovesValue, AddsValue, TakesValue}
 use Rattle.edit_laws.specs.Done.{item, IsDone}
 use Rattle.edit_laws.proofs.Out.{placed_at}
 use Rattle.edit_laws.proofs.FromCells.{gets_data, moves_value, takes_value, adds_value}
-use Rattle.edit_laws.proofs.Done.{a_value_set, a_new_value_set, a_value_deleted}
+use Rattle.edit_laws.proofs.ValueSteps.{a_value_set, a_new_value_set, a_value_deleted}
 
 module _ (b c : Cells) (root : ℕ) (t u : Tree) (path : List (List ℕ)) (name : List ℕ) (x : ℕ) (n : KeyNode)
     (well : IsWellFormed b root t)

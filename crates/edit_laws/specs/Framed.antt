@@ -3,8 +3,8 @@ use Rattle.std.specs.Prelude.{◌≡◌, ◌⊎◌, ℕ, List, [], ◌∷◌, Co
 use Rattle.hive_model.specs.Bins.{Cells}
 use Rattle.hive_model.specs.Tree.{Tree}
 use Rattle.hive_model.specs.Edit.{Step, after_step}
-use Rattle.hive_model.specs.Footprint.{step_cells, child_places}
-use Rattle.edit_laws.specs.Owned.{Role, In, node_name, Reaches, Owns}
+use Rattle.hive_model.specs.Footprint.{step_cells}
+use Rattle.edit_laws.specs.Owned.{Role, Owns}
 
 -- no allocated cell begins there
 abbrev pub IsUnheld : Cells → ℕ → Type 0
@@ -14,12 +14,6 @@ IsUnheld b o = (q : List ℕ) → b.payload o ≡ Ok q → ⊥
 pub record LeavesOthers (b c : Cells) (root : ℕ) (t : Tree) (step : Step) : Type 0 where
   pub version : c.version ≡ b.version
   pub rest : (o : ℕ) (q : List ℕ) → b.payload o ≡ Ok q → (Contains (step_cells b root t step) o → ⊥) → c.payload o ≡ Ok q
-
--- a key that is a child of the same key before and after keeps its name
-abbrev pub KeepsNames : Cells → Cells → ℕ → Type 0
-KeepsNames b c root =
-    (p : List (List ℕ)) (x y : ℕ) → Reaches b root p x → Reaches c root p x → In (child_places b x) y → In (child_places c x) y
-    → node_name c y ≡ node_name b y
 
 -- A step from cells b to cells c changes only its own cells (rest), and what is owned after it was owned, or was no cell, or is
 -- among its cells (owned).

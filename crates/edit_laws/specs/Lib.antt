@@ -12,3 +12,5 @@ pub mod Changes
 pub mod Lists
 pub mod Takes
 pub mod Lessened
+pub mod Woven
+pub mod Rewrites

@@ -6,7 +6,7 @@ use Rattle.hive_model.specs.KeyNode.{KeyNode, key_node_at}
 use Rattle.hive_model.specs.Lists.{offsets_in}
 use Rattle.hive_model.specs.Walk.{reading, value_checks}
 use Rattle.hive_model.specs.Footprint.{used_in}
-use Rattle.hive_model.specs.Stands.{items_at, values_of}
+use Rattle.hive_model.specs.Stands.{items_at}
 use Rattle.edit_laws.specs.Owned.{In, value_list_at, value_places}
 use Rattle.edit_laws.specs.Framed.{IsUnheld}
 use Rattle.edit_laws.specs.Pairs.{Pairwise}
@@ -29,20 +29,6 @@ pub record SaysTheSame (old new : KeyNode) : Type 0 where
   pub security : new.security ≡ old.security
   pub class : new.class ≡ old.class
   pub class_length : new.class_length ≡ old.class_length
-
--- From cells b to cells c the key at an offset gets these values: of the cells that are allocated in b none changes but its node and
--- those of its values; what its values use in c they used in b, or was not allocated there, and they use no cell twice.
-pub record GetsValues (b c : Cells) (x : ℕ) (items : List Item) : Type 0 where
-  pub version : c.version ≡ b.version
-  pub others : (o : ℕ) (q : List ℕ) → b.payload o ≡ Ok q → (o ≡ x → ⊥) → (In (all_value_cells b x) o → ⊥) → c.payload o ≡ Ok q
-  pub old : KeyNode
-  pub new : KeyNode
-  pub read : reading key_node_at b x ≡ Ok old
-  pub read_new : reading key_node_at c x ≡ Ok new
-  pub same : SaysTheSame old new
-  pub values : values_of c new ≡ Ok items
-  pub used : (o : ℕ) → In (all_value_cells c x) o → In (all_value_cells b x) o ⊎ IsUnheld b o
-  pub once : Pairwise (λ p q. p ≡ q → ⊥) (all_value_cells c x)
 
 -- a key's values are at these offsets; where its node counts none, its list is not looked at
 abbrev pub ListsValues : Cells → KeyNode → List ℕ → Type 0

@@ -6,16 +6,12 @@ use Rattle.std.proofs.lemmas.Bool.{leb-true}
 use Rattle.std.proofs.lemmas.List.FromFn.{length-map-range_with_len}
 use Rattle.nt_bytes.specs.declared.version.HiveVersion.TheVariants.{V3}
 use Rattle.hive_model.specs.Tree.{trees}
-use Rattle.hive_model.specs.Size.{cell, name_bytes, list_size, count, size, size_of_all, bulk_of}
+use Rattle.hive_model.specs.Size.{cell, list_size, count, size, size_of_all, bulk_of}
 use Rattle.reg_tree.proofs.Trees.{listed_trees}
 use Rattle.generated_hive.specs.Generated.{plain_key, number_value, string_value, strings_value, numbers_value, group_name, tags_values, tags_key, groups_key, service_name, has_need, need_value, group_value, order_values, generated_service, first_services, generated_control, generated_set, generated_select, generated}
 use Rattle.generated_hive.proofs.NameLemmas.{name_narrow}
 
 -- ---- a service
-
-name_is : (i : ℕ) → name_bytes (service_name i) ≡ 8
-unfolding service_name
-name_is i = ap (λ (b : Bool). cond b 8 16) (name_narrow i)
 
 size_with : (i : ℕ) (need : Bool)
     → size V3 [] (plain_key (service_name i) (order_values i ++ cond need (need_value i ∷ []) []) []) ≤ 400

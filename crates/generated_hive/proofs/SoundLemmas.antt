@@ -26,10 +26,6 @@ service_sound d i level =
     sound_leaf d (service_name i) (order_values i ++ cond (has_need i) (need_value i ∷ []) [])
     (head_with i (has_need i)) level
 
-service_named : (i : ℕ) → key_name (generated_service i) ≡ service_name i
-unfolding generated_service plain_key
-service_named i = refl
-
 others_lack : (i a n : ℕ) → i < a → a + n ≤ 100000
     → Lacks key_name (service_name i) (map generated_service (range_with_len a n))
 unfolding generated_service plain_key

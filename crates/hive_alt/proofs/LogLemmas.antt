@@ -1,22 +1,18 @@
 -- The scheme of a log.
 use Rattle.std.proofs.Common.{◌≡◌, ℕ, true, false, List, length, Ok, Err, refl, inl, inr, ⊎_elim}
 use Rattle.hive_model.specs.Base.{Base, is_bins_size}
-use Rattle.hive_model.specs.Image.{Image, Address}
+use Rattle.hive_model.specs.Image.{Image}
 use Rattle.hive_model.specs.Recovery.{recovered_of}
 use Rattle.hive_model.specs.Carries.{Carries, IsRecoveredAs}
 use Rattle.nt_edge.specs.Crash.{EachCrash}
-use Rattle.nt_edge.specs.Calls.{Made}
 use Rattle.nt_edge.specs.Disk.{DiskState}
 use Rattle.nt_edge.specs.Frames.{Goes}
 use Rattle.nt_edge.specs.declared.disk.DiskStop.{DiskStop}
 use Rattle.nt_edge.specs.declared.disk.DiskStop.TheVariants as disk
 use Rattle.hive_log.proofs.Finding.{carries_recovered}
-use Rattle.hive_log.specs.Asked.{MakesReads}
-use Rattle.hive_commit.specs.Alone.{KeepsClean}
 use Rattle.hive_commit.specs.Stages.{IsBeforeOrAfter}
 use Rattle.hive_commit.specs.Stops.{commit_stop_of, IsCommitOn}
-use Rattle.hive_commit.specs.Untouched.{IsUntouched}
-use Rattle.hive_alt.specs.Schemes.{IsKeptAs, IsKeptAsEither, OnlyReads}
+use Rattle.hive_alt.specs.Schemes.{IsKeptAs, IsKeptAsEither}
 use Rattle.hive_alt.proofs.TwinLemmas.{whole_of}
 
 pub carried_is_clean : (image : Image) (base : Base) (bins : List ℕ) → is_bins_size (length bins) ≡ true
@@ -38,14 +34,6 @@ either_crash s base closed old new each c crash = ⊎_elim
     (λ is. inl (record { dirty = is.dirty; kept = is.recovered }))
     (λ is. inr (record { dirty = is.dirty; kept = is.recovered }))
     (each c crash)
-
-pub clean_untouched : (old new : DiskState) → KeepsClean old new → (base : Base) (bins : List ℕ)
-    → Carries old.held base bins → IsUntouched old new
-clean_untouched old new keeps base bins is = keeps base is.block is.clean
-
-pub only_reads : (before after : List Made → Type 0) (which : List Address → Type 0) → MakesReads before after which
-    → OnlyReads before after
-only_reads before after which reads = record { sectors = reads.sectors; made = reads.made; are = tt }
 
 -- a refusal of the disk, as a commit calls it
 pub commit_goes : {T U : Type 0} (old new : DiskState) (e : DiskStop) → Goes {T = T} old new (Err e)

@@ -1,15 +1,11 @@
 -- Reads, one after the other.
-use Rattle.std.proofs.Common.{◌++◌, ◌∷◌, [], Bool, List, Result, sym, subst}
-use Rattle.std.proofs.lemmas.List.{append-nil}
+use Rattle.std.proofs.Common.{◌++◌, ◌∷◌, [], Bool, List, Result}
 use Rattle.nt_edge.specs.Calls.{Made, ReadAt, Makes}
 use Rattle.hive_model.specs.Image.{Address}
 use Rattle.hive_log.specs.Asked.{AsksFirst}
 use Rattle.hive_log.specs.declared.stops.LoadStop.{LoadStop}
 use Rattle.hive_log.proofs.Asking.{reads_in_turn}
 use Rattle.hive_alt.specs.Schemes.{OnlyReads}
-
-pub reads_none : (a : List Made → Type 0) → OnlyReads a a
-reads_none a = record { sectors = []; made = λ earlier is. subst a (sym (append-nil earlier)) is; are = tt }
 
 pub reads_one : (a b : List Made → Type 0) (at : Address) → Makes a b (ReadAt at ∷ []) → OnlyReads a b
 reads_one a b at made = record { sectors = at ∷ []; made = made; are = tt }

@@ -1,6 +1,7 @@
 //! What is to be done with a tree whose default set is to change.
 
-ghost use Rattle.std.specs.Prelude.{◌≡◌, ◌≤◌, true, map, is_some, length, IfOk};
+ghost use Rattle.std.specs.Prelude.{◌≡◌, ◌≤◌, true, map, is_some, length, IfOk, IsErrOf};
+ghost use Rattle.reg_tree.specs.declared.stop.EditStop.TheVariants.{Full};
 ghost use Rattle.hive_model.specs.Base.{is_bins_size};
 ghost use Rattle.hive_model.specs.Size.{bulk_of};
 ghost use Rattle.hive_model.specs.Tree.{find_key};
@@ -86,7 +87,8 @@ fn is_number(number: u32, found: Option<u32>) -> bool
 fn plan_pack(alloc: Global, work: &Key, version: HiveVersion) -> Result<Plan, EditStop>
     requires valid { IsValid work.now }
     requires room { bulk_of version work.now ≤ 16773120 }
-    ensures { IfOk result (IsPlanOf version (changed work.now)) }
+    ensures plan { IfOk result (IsPlanOf version (changed work.now)) }
+    ensures full { IsErrOf result Full → ⊥ }
 {
     let bytes = pack(alloc, work, version)?;
     Ok(Plan::Pack(bytes))
@@ -96,7 +98,8 @@ fn plan_pack(alloc: Global, work: &Key, version: HiveVersion) -> Result<Plan, Ed
 fn plan_edit(alloc: Global, tree: &Key, version: HiveVersion, number: u32) -> Result<Plan, EditStop>
     requires valid { IsValid tree.now }
     requires there { is_some (find_key select_path tree.now) ≡ true }
-    ensures { IfOk result (IsPlanOf version (unless_large version (defaulted number tree.now))) }
+    ensures plan { IfOk result (IsPlanOf version (unless_large version (defaulted number tree.now))) }
+    ensures full { IsErrOf result Full → ⊥ }
 {
     let steps = default_steps(alloc, number)?;
     let mut work = tree.copy(alloc)?;

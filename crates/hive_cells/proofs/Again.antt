@@ -183,9 +183,6 @@ all_cells cs at rest size h e =
     )
     refl
 
-abbrev pub AllSmall : ℕ → List Bin → Type 0
-AllSmall at bs = at + bins_size bs < 4294967296
-
 whole_least : (n : ℕ) → (32 + n) % 4096 ≡ 0 → 4096 ≤ 32 + n
 whole_least n e = omega (arith, e)
 

@@ -1,5 +1,5 @@
 -- Cells freed and joined.
-use Rattle.std.proofs.Common.{◌≡◌, ◌⊎◌, inl, inr, ℕ, suc, ◌+◌, ◌-◌, ◌*◌, ◌/◌, ◌%◌, ◌<◌, ◌≤◌, Bool, true, false, cond, List, [], ◌∷◌, ◌++◌, length, get_or, set, take, drop, replicate, Option, Some, None, refl, sym, ap, subst, ◌∙◌, append_assoc, arith}
+use Rattle.std.proofs.Common.{◌≡◌, inl, inr, ℕ, suc, ◌+◌, ◌-◌, ◌*◌, ◌/◌, ◌%◌, ◌<◌, ◌≤◌, Bool, true, false, cond, List, [], ◌∷◌, ◌++◌, length, get_or, set, take, drop, replicate, Option, Some, None, refl, sym, ap, ◌∙◌, append_assoc, arith}
 use Rattle.std.specs.List.{AllByRecursion, flat_map}
 use Rattle.std.specs.Int.{w32, to_le_bytes}
 use Rattle.std.specs.Option.{IsSome, IsSomeAnd}
@@ -11,7 +11,7 @@ use Rattle.hive_cells.specs.Reading.{cell_marks, marks, bins_of}
 use Rattle.hive_cells.proofs.Tools.{length_cell, length_spelled, cells_size-append, bins_size-append}
 use Rattle.hive_cells.proofs.Steps.{kept_seen}
 use Rattle.hive_cells.proofs.Spots.{cells_before, bins_before, all_first, there, read_at}
-use Rattle.hive_cells.specs.Held.{allocated_payload, held_at}
+use Rattle.hive_cells.specs.Held.{allocated_payload}
 use Rattle.hive_cells.specs.Holes.{cell_free_sizes, free_sizes, free_size}
 use Rattle.hive_cells.specs.Changes.{at_cell, with_free, with_next}
 use Rattle.hive_cells.specs.Frees.{EndsAt, Neighbours, IsFreeOf}
@@ -473,93 +473,3 @@ ends_here text starts rooms at k held last ends =
     let is = room_is text starts rooms k held in
     let f = some_room (cell_at (bins_of text) (8 * k)) (omega (arith, is, last.some)) in
     record { cell = f.cell; here = f.is; free = f.free; sized = omega (arith, is, f.sized); ends = ends }
-
--- ---- what is held after the steps
-
-held_none : (n : ℕ) (o : Option Cell) → IsFreeOf n o → allocated_payload o ≡ None
-held_none n o f = ap allocated_payload f.is ∙ ap (λ (u : Bool). cond u (Some f.cell.payload) None) f.free
-
-pub room_free : (o : Option Cell) → 0 < free_size o → allocated_payload o ≡ None
-room_free o some = let f = some_room o some in
-    ap allocated_payload f.is ∙ ap (λ (u : Bool). cond u (Some f.cell.payload) None) f.free
-
--- nothing but what was held here is gone
-pub record Frees (at : ℕ) (old new : List Bin) : Type 0 where
-  pub gone : held_at new at ≡ None
-  pub others : (o : ℕ) → (o ≡ at → ⊥) → held_at new o ≡ held_at old o
-
-pub frees_released : (at size : ℕ) (old new : List Bin) → ((o : ℕ) → (o ≡ at → ⊥) → cell_at new o ≡ cell_at old o)
-    → IsFreeOf size (cell_at new at) → Frees at old new
-frees_released at size old new others here =
-    record { gone = held_none size (cell_at new at) here; others = λ o other. ap allocated_payload (others o other) }
-
--- two cells are one, of which the other was free
-pub frees_merged : (at other first second n : ℕ) (old new : List Bin)
-    → ((o : ℕ) → (o ≡ first → ⊥) → (o ≡ second → ⊥) → cell_at new o ≡ cell_at old o) → IsFreeOf n (cell_at new first)
-    → cell_at new second ≡ None
-    → ((at ≡ first) × (other ≡ second)) ⊎ ((at ≡ second) × (other ≡ first)) → held_at old other ≡ None
-    → Frees at old new
-frees_merged at other first second n old new others here gone (inl way) free =
-    record {
-      gone = ap (held_at new) way.0 ∙ held_none n (cell_at new first) here;
-      others = λ o ne. elim (cases_eq o second) [
-        | inl same ↦ ap (held_at new) same ∙ ap allocated_payload gone
-            ∙ sym (ap (held_at old) (same ∙ sym way.1) ∙ free)
-        | inr differs ↦ ap allocated_payload (others o (λ e. ne (e ∙ sym way.0)) differs)
-      ];
-    }
-frees_merged at other first second n old new others here gone (inr way) free =
-    record {
-      gone = ap (held_at new) way.0 ∙ ap allocated_payload gone;
-      others = λ o ne. elim (cases_eq o first) [
-        | inl same ↦ ap (held_at new) same ∙ held_none n (cell_at new first) here
-            ∙ sym (ap (held_at old) (same ∙ sym way.1) ∙ free)
-        | inr differs ↦ ap allocated_payload (others o differs (λ e. ne (e ∙ sym way.0)))
-      ];
-    }
-
-pub frees_both : (at : ℕ) (old mid new : List Bin) → Frees at old mid → Frees at mid new → Frees at old new
-frees_both at old mid new one two = record { gone = two.gone; others = λ o ne. two.others o ne ∙ one.others o ne }
-
--- the neighbours of the merges
-pub next_neighbour : (at size more : ℕ) (bins : List Bin) → IsSomeAnd (cell_at bins at) (λ c. cell_size c ≡ size)
-    → more ≡ free_size (cell_at bins (at + size)) → 0 < more → Neighbours at size more bins
-next_neighbour at size more bins is room some =
-    let a = sized_cell (cell_at bins at) size is in
-    let f = some_room (cell_at bins (at + size)) (omega (arith, room, some)) in
-    record { first = a.0; second = f.cell; here = a.1; behind = f.is; sized = a.2; longer = sym (room ∙ f.sized) }
-
-pub before_neighbour : (at from room size : ℕ) (bins : List Bin) → EndsAt at from room bins
-    → IsSomeAnd (cell_at bins at) (λ c. cell_size c ≡ size) → Neighbours from room size bins
-before_neighbour at from room size bins e is =
-    let a = sized_cell (cell_at bins at) size is in
-    record {
-      first = e.cell;
-      second = a.0;
-      here = e.here;
-      behind = ap (cell_at bins) e.ends ∙ a.1;
-      sized = e.sized;
-      longer = a.2;
-    }
-
-pub ends_held : (at from room : ℕ) (bins : List Bin) → EndsAt at from room bins → held_at bins from ≡ None
-ends_held at from room bins e =
-    ap allocated_payload e.here ∙ ap (λ (u : Bool). cond u (Some e.cell.payload) None) e.free
-
-pub ends_below : (at from room : ℕ) (bins : List Bin) → EndsAt at from room bins → from < at
-ends_below at from room bins e = omega (arith, e.ends, e.sized)
-
-pub ends_kept : (at from room size : ℕ) (old mid : List Bin) → EndsAt at from room old
-    → ((o : ℕ) → (o ≡ at → ⊥) → (o ≡ at + size → ⊥) → cell_at mid o ≡ cell_at old o) → EndsAt at from room mid
-ends_kept at from room size old mid e others =
-    let below = ends_below at from room old e in
-    record {
-      cell = e.cell;
-      here = others from (λ s. omega (arith, s, below)) (λ s. omega (arith, s, below)) ∙ e.here;
-      free = e.free;
-      sized = e.sized;
-      ends = e.ends;
-    }
-
-pub free_sized : (n : ℕ) (o : Option Cell) → IsFreeOf n o → IsSomeAnd o (λ c. cell_size c ≡ n)
-free_sized n o f = subst (λ x. IsSomeAnd x (λ c. cell_size c ≡ n)) (sym f.is) f.sized

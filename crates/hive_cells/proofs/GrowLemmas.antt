@@ -174,18 +174,6 @@ resized xs long len more z is same =
     ap (λ ys. ys ++ replicate (len + more - long) z) (take_all (len + more) xs (omega arith))
     ∙ ap (λ n. xs ++ replicate n z) (omega arith)
 
-no_bins : IsHeap []
-no_bins = record { each = tt; small = omega arith }
-
-pub nothing_seen : bins_of [] ≡ []
-nothing_seen = bins_of_again [] no_bins
-
-pub nothing_held : IsIndexed [] [] []
-nothing_held = record {
-  kept = record { bins = []; sound = no_bins; bytes = refl; table = refl };
-  index = sym (ap free_sizes nothing_seen);
-}
-
 -- ---- what is found in the bins with one more
 
 or_same : (x y z : Option Cell) → allocated_payload y ≡ allocated_payload z

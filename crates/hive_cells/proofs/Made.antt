@@ -2,14 +2,14 @@
 use Rattle.std.proofs.Common.{◌≡◌, ℕ, ◌+◌, ◌-◌, ◌<◌, ◌≤◌, true, List, [], ◌∷◌, ◌++◌, length, map, replicate, refl, sym, ap, subst, ◌∙◌, arith}
 use Rattle.std.specs.List.{AllByRecursion, flat_map}
 use Rattle.std.specs.Int.{w32, to_le_bytes}
-use Rattle.std.proofs.lemmas.List.{append-nil, length-append, length-replicate}
-use Rattle.hive_model.specs.Bins.{Cell, cell_size, cells_size, cell_bytes, IsCell}
+use Rattle.std.proofs.lemmas.List.{append-nil, length-replicate}
+use Rattle.hive_model.specs.Bins.{Cell, cells_size, cell_bytes, IsCell}
 use Rattle.hive_cells.proofs.Tools.{length_cells}
 use Rattle.hive_model.specs.Size.{cell}
 use Rattle.hive_model.specs.Packed as packed
 use Rattle.hive_model.specs.Packed.{allocated_cell, text}
 use Rattle.hive_cells.specs.Changes.{zero_cell}
-use Rattle.hive_cells.specs.Held.{run_cells, IsAllocated, IsRun}
+use Rattle.hive_cells.specs.Held.{run_cells, IsRun}
 use Rattle.hive_cells.proofs.SizeLemmas.{seen_again}
 
 pub run_made : (run : List ℕ) (cs : List Cell) → run ≡ flat_map cell_bytes cs → AllByRecursion IsCell cs
@@ -59,34 +59,7 @@ zero_made n size start head run small sized none first more =
 
 -- ---- the packed cells of payloads
 
-packed_size : (p : List ℕ) → cell_size (allocated_cell p) ≡ cell (length p)
-unfolding packed.filled
-packed_size p =
-    let n = cell (length p) - 4 - length p in
-    omega (arith, length-append p (replicate n 0), length-replicate {A = ℕ} n 0)
-
-packed_sound : (ps : List (List ℕ)) → cells_size (map allocated_cell ps) ≤ 16777216
-    → AllByRecursion IsCell (map allocated_cell ps)
-packed_sound [] small = tt
-packed_sound (p ∷ ps) small =
-    let size = packed_size p in (
-      record { least = omega (arith, size); whole = omega (arith, size); fits = omega (arith, small) },
-      packed_sound ps (omega (arith, small)),
-    )
-
-packed_allocated : (ps : List (List ℕ)) → AllByRecursion IsAllocated (map allocated_cell ps)
-packed_allocated [] = tt
-packed_allocated (p ∷ ps) = (refl, packed_allocated ps)
-
 pub packed_bytes : (ps : List (List ℕ)) → text ps ≡ flat_map cell_bytes (map allocated_cell ps)
 unfolding packed.cell_text
 packed_bytes [] = refl
 packed_bytes (p ∷ ps) = ap (λ (t : List ℕ). cell_bytes (allocated_cell p) ++ t) (packed_bytes ps)
-
-pub text_made : (ps : List (List ℕ)) → 0 < length (text ps) → length (text ps) ≤ 16777216
-    → IsRun (text ps) × (run_cells (text ps) ≡ map allocated_cell ps)
-text_made ps some small =
-    let long : length (text ps) ≡ cells_size (map allocated_cell ps) =
-    ap length (packed_bytes ps) ∙ length_cells (map allocated_cell ps) in
-    run_made (text ps) (map allocated_cell ps) (packed_bytes ps) (packed_sound ps (omega (arith, long, small)))
-    (packed_allocated ps) (omega (arith, long, some))

@@ -1,5 +1,5 @@
 -- Where a cell lies.
-use Rattle.std.proofs.Common.{◌≡◌, ℕ, zero, suc, ◌+◌, ◌-◌, ◌*◌, ◌/◌, ◌%◌, ◌<◌, ◌≤◌, Bool, true, false, List, [], ◌∷◌, ◌++◌, length, get_or, drop, replicate, Option, Some, None, Result, Ok, Err, refl, sym, ap, ◌∙◌, append_assoc, arith, inl, inr}
+use Rattle.std.proofs.Common.{◌≡◌, ℕ, zero, suc, ◌+◌, ◌-◌, ◌*◌, ◌/◌, ◌%◌, ◌<◌, ◌≤◌, Bool, true, false, List, [], ◌∷◌, ◌++◌, length, get_or, drop, replicate, Option, Some, None, Result, Ok, refl, sym, ap, ◌∙◌, append_assoc, arith, inl, inr}
 use Rattle.std.specs.List.{AllByRecursion, flat_map}
 use Rattle.std.specs.Option.{is_some, option_map}
 use Rattle.std.specs.Prelude.{slice_range, ◌⊎◌}
@@ -9,7 +9,6 @@ use Rattle.std.proofs.lemmas.List.Concat.{flat_map-append}
 use Rattle.nt_bytes.specs.Fields.{u32_in}
 use Rattle.hive_model.specs.Bins.{Cell, Bin, cell_size, cells_size, bin_size, bins_size, head_number, head_bytes, cell_bytes, spelled, IsCell, IsBin, in_cells, in_bins, or_else, cell_at, payload_of, with_place}
 use Rattle.nt_bytes.specs.declared.fault.HiveFaultKind.{HiveFaultKind}
-use Rattle.nt_bytes.specs.declared.fault.HiveFaultKind.TheVariants.{FreeCell}
 use Rattle.hive_cells.specs.Reading.{cell_marks, marks, bins_of, IsKept, head_of}
 use Rattle.hive_cells.proofs.Tools.{word_at, length_cell, length_cells, length_head, length_spelled, spelled-append}
 use Rattle.hive_cells.proofs.Steps.{kept_seen}
@@ -374,12 +373,3 @@ pub payload_placed : (text : List ℕ) (starts : List Bool) (at size : ℕ) → 
 payload_placed text starts at size k e =
     let y : Result (List ℕ) HiveFaultKind = Ok (slice_range text (at + 4) (at + size)) in
     ap (with_place at) {y = y} (payload_there text starts at size k e)
-
-pub head_payload : (o : Option Cell) (allocated : Bool) (size : ℕ) → Some (allocated, size) ≡ option_map head_of o
-    → allocated ≡ false → payload_of o ≡ Err FreeCell
-head_payload None allocated size e f = absurd cc
-head_payload (Some c) allocated size e f = rw (its_flag c allocated size e ∙ f) refl
-  where
-    its_flag : (c : Cell) (allocated : Bool) (size : ℕ) → Some (allocated, size) ≡ Some (head_of c)
-        → c.allocated ≡ allocated
-    its_flag c allocated size e = ap (λ (q : Bool × ℕ). q.0) (sym (pair_same (allocated, size) (head_of c) e))

@@ -22,9 +22,6 @@ front_more image after log bytes n so_far is put_is = record {
       (split m n (omega arith));
 }
 
-pub front_none : (image : Image) (log : List ℕ) → HasFront image log 0
-front_none image log = record { each = λ m below. absurd (omega arith) }
-
 pub front_along : (image : Image) (log : List ℕ) (m n : ℕ) → m ≡ n → HasFront image log m → HasFront image log n
 front_along image log m n same has = record { each = λ k below. has.each k (omega arith) }
 
@@ -72,9 +69,6 @@ marked_more image after bits bins bytes i so_far is put_is = record {
       ∙ ap (λ b. Some (Bytes b)) is ∙ ap (λ k. Some (Bytes (sector bins k))) (sym same))
       (split j i (omega arith));
 }
-
-pub marked_none : (image : Image) (bits : ℕ → Bool) (bins : List ℕ) → HasMarkedBelow image bits bins 0
-marked_none image bits bins = record { each = λ j below. absurd (omega arith) }
 
 -- once it is held, the whole log
 pub logged_from : {T E : Type 0} (r : Result T E) (image held : Image) (log : List ℕ) (n : ℕ) → OnOk r (held ≡ image)

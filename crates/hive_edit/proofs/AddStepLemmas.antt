@@ -1,16 +1,16 @@
 -- The step that adds a child: what it is judged by, and that it is made.
-use Rattle.std.proofs.Common.{◌≡◌, ◌≤◌, ◌<◌, ◌^◌, ℕ, ◌+◌, ◌-◌, ◌⊎◌, Bool, true, false, List, [], ◌∷◌, ◌++◌, length, Option, Some, None, Result, Ok, Err, refl, sym, ap, subst, ◌∙◌, inl, inr, arith}
+use Rattle.std.proofs.Common.{◌≡◌, ◌≤◌, ◌<◌, ◌^◌, ℕ, ◌+◌, ◌-◌, Bool, true, false, List, [], ◌∷◌, ◌++◌, length, Option, Some, None, Result, Ok, Err, refl, sym, ap, subst, ◌∙◌, arith}
 use Rattle.std.specs.Prelude.{nat_lt, find, is_some, MatchBool, IfOk}
 use Rattle.std.specs.Result.{IsOk}
 use Rattle.std.specs.Option.{IfSome}
-use Rattle.std.proofs.lemmas.Bool.{le-ltb, lt-ltb, ltb-false, cases_lt}
+use Rattle.std.proofs.lemmas.Bool.{le-ltb, ltb-false}
 use Rattle.std.proofs.lemmas.List.Sums.{sum_by-append}
 use Rattle.nt_bytes.specs.declared.version.HiveVersion.{HiveVersion}
 use Rattle.hive_model.specs.Bins.{Bin, Cells, bins_size, look_up}
 use Rattle.hive_model.specs.KeyNode.{KeyNode, key_node_at}
 use Rattle.hive_model.specs.Walk.{reading}
-use Rattle.hive_model.specs.Tree.{Tree, Trees, key, head, children, listed, trees, is_named}
-use Rattle.hive_model.specs.Valid.{HoldsKeys, levels, most_levels}
+use Rattle.hive_model.specs.Tree.{Tree, key, head, children, listed, is_named}
+use Rattle.hive_model.specs.Valid.{HoldsKeys, levels}
 use Rattle.hive_model.specs.Size.{size}
 use Rattle.hive_model.specs.Packed.{rounded}
 use Rattle.hive_model.specs.Edit.{add_child, Refusal, bad_name, name_too_long, exists, too_deep, unless, has_child, is_bad_name, placed, renamed, with_child, after_step}
@@ -18,14 +18,13 @@ use Rattle.hive_model.specs.Footprint.{child_places, security_cell_at, is_node_n
 use Rattle.hive_model.specs.Stands.{IsWellFormed, security_of}
 use Rattle.hive_cells.specs.Holes.{new_bin_size}
 use Rattle.hive_pack.proofs.Formed.{apart}
-use Rattle.reg_tree.proofs.Trees.{trees_listed}
 use Rattle.reg_tree.specs.Makes.{IsRefused, refusal_of}
 use Rattle.reg_tree.specs.declared.stop.EditStop.{EditStop}
 use Rattle.reg_tree.specs.declared.stop.EditStop.TheVariants as stops
 use Rattle.edit_laws.specs.Owned.{In}
 use Rattle.edit_laws.specs.Done.{IsDone}
 use Rattle.edit_laws.specs.Sizes.{total}
-use Rattle.edit_laws.proofs.KeyDone.{a_child_added, renamed_name, renamed_levels}
+use Rattle.edit_laws.proofs.KeySteps.{a_child_added, renamed_name, renamed_levels}
 use Rattle.edit_laws.proofs.Patch.{folds_itself}
 use Rattle.edit_laws.proofs.Replaced.{listed_trees}
 use Rattle.edit_laws.proofs.RoomLemmas.{added_needs, room_for}
@@ -50,14 +49,6 @@ use Rattle.key_index.proofs.Tests.{is_ok_of}
 abbrev of_tests : Bool → Bool → Bool → List (Bool × Refusal) → Tree → Result Tree Refusal
 of_tests a b c further u = unless ((a, bad_name) ∷ (b, name_too_long) ∷ (c, exists) ∷ further) u
 
-pub refuses_bad : (h : HiveCells) (name : List ℕ) → is_bad_name name ≡ true → RefusesName h name stops.BadName
-refuses_bad h name e = λ further u. ap
-    (λ (v : Bool). of_tests v (nat_lt 255 (length name)) (has_child name h.tree) further u) e
-
-pub refuses_long : (h : HiveCells) (name : List ℕ) → is_bad_name name ≡ false → 255 < length name
-    → RefusesName h name stops.NameTooLong
-refuses_long h name e l = λ further u i. of_tests (e i) (lt-ltb 255 (length name) l i) (has_child name h.tree) further u
-
 pub refuses_there : (h : HiveCells) (name : List ℕ) → is_bad_name name ≡ false → length name ≤ 255
     → has_child name h.tree ≡ true → RefusesName h name stops.Exists
 refuses_there h name e l t = λ further u i. of_tests (e i) (le-ltb 255 (length name) l i) (t i) further u
@@ -77,12 +68,6 @@ refuses_step h name k stop r = go (refusal_of stop) r
         → IfSome o (λ why. after_step (add_child name k) h.tree ≡ Err why)
     go None r = tt
     go (Some why) r = r ((nat_lt 512 (levels k + 1), too_deep) ∷ []) (with_child name k h.tree)
-
-pub refuses_deep : (h : HiveCells) (name : List ℕ) (k : Tree) → IsFreeName h name → 511 < levels k
-    → after_step (add_child name k) h.tree ≡ Err too_deep
-refuses_deep h name k f deep = λ i.
-    judged (f.good i) (le-ltb 255 (length name) f.short i) (f.absent i) (lt-ltb 512 (levels k + 1) (omega arith) i)
-    (with_child name k h.tree)
 
 pub step_added : (h : HiveCells) (name : List ℕ) (k : Tree) → IsFreeName h name → levels k ≤ 511
     → after_step (add_child name k) h.tree ≡ the_tree (with_child name k h.tree)
@@ -222,22 +207,6 @@ add_lacks h name k f low over = λ w e.
 
     beyond : (o x y : ℕ) → 16777216 < o + x → x ≤ y → 16777216 < o + y
     beyond o x y a b = omega (arith, a, b)
-
--- ---- how deep a key is
-
-levels_parted : (t : Tree) → levels t ≡ most_levels (trees (children t)) + 1
-levels_parted (key hd ts) = ap (λ (us : Trees). most_levels us + 1) (sym (trees_listed ts))
-
-pub deeper : (most : ℕ) (t : Tree) (ts : List Tree) (r : Bool) → 0 < most → ts ≡ children t
-    → r ≡ nat_lt (most - 1) (most_levels (trees ts)) → r ≡ nat_lt most (levels t)
-deeper most t ts r some same e =
-    e ∙ ap (λ (us : List Tree). nat_lt (most - 1) (most_levels (trees us))) same
-    ∙ shift (most_levels (trees (children t))) (cases_lt (most - 1) (most_levels (trees (children t))))
-    ∙ ap (nat_lt most) (sym (levels_parted t))
-  where
-    shift : (x : ℕ) → (most - 1 < x) ⊎ (x ≤ most - 1) → nat_lt (most - 1) x ≡ nat_lt most (x + 1)
-    shift x (inl l) = lt-ltb (most - 1) x l ∙ sym (lt-ltb most (x + 1) (omega arith))
-    shift x (inr l) = le-ltb (most - 1) x l ∙ sym (le-ltb most (x + 1) (omega arith))
 
 -- ---- is a child there?
 

@@ -20,7 +20,7 @@ use Rattle.hive_pack.proofs.Formed.{apart}
 use Rattle.hive_read.proofs.FormFacts.{IsBytes}
 use Rattle.hive_read.proofs.ValidTrees.{well-formed-valid, cells-bytes}
 use Rattle.edit_laws.specs.Relists.{ChangesChildren, HasPlace}
-use Rattle.edit_laws.proofs.KeyDone.{root_gets}
+use Rattle.edit_laws.proofs.KeySteps.{root_gets}
 use Rattle.edit_laws.proofs.RoomLemmas.{room_for}
 use Rattle.edit_laws.proofs.Totals.{list_total, list_more, child_size}
 use Rattle.key_index.specs.Lists.{children_at, name_in, is_behind}
@@ -30,7 +30,7 @@ use Rattle.hive_edit.specs.Making.{above_children}
 use Rattle.hive_edit.specs.Grafted.{IsRunPut, CanGraft, IsGrafted, LacksGraftLists}
 use Rattle.hive_edit.specs.Children.{MayGraft, IsNewChild, IsGraftedIn, LacksGraftRoom, security_listed}
 use Rattle.hive_edit.specs.Hive.{HiveCells, hive_of, IsHive}
-use Rattle.hive_edit.specs.Runs.{IsPlace, LacksPlace}
+use Rattle.hive_edit.specs.Runs.{IsPlace}
 use Rattle.hive_edit.specs.Standing.{tree_of}
 use Rattle.hive_edit.proofs.HiveLemmas.{hive_opened}
 use Rattle.hive_edit.proofs.JudgeLemmas.{counted_children}
@@ -264,20 +264,6 @@ lacks_lists old new root version h above shared k at view r a =
   where
     total : (o m x y : ℕ) → m ≤ o + x → 16777216 < m + y → 16777216 < o + (x + y)
     total o m x y a b = omega (arith, a, b)
-
-pub lacks_place : (h : HiveCells) (shared : List ℕ) (k : Tree) (n : ℕ) (bins : List Bin) → bins ≡ h.bins
-    → n ≡ size h.version shared k
-    → LacksPlace n bins → LacksGraftRoom h shared k
-lacks_place h shared k n bins b e l =
-    let here : 16777216 < bins_size h.bins + new_bin_size n =
-    subst (λ (z : List Bin). 16777216 < bins_size z + new_bin_size n) b l.1 in
-    let over : 16777216 < bins_size h.bins + new_bin_size (size h.version shared k) =
-    subst (λ (z : ℕ). 16777216 < bins_size h.bins + new_bin_size z) e here in
-    total (bins_size h.bins) (new_bin_size (size h.version shared k))
-    (room_of (list_sizes (length (children h.tree) + 1))) over
-  where
-    total : (o x y : ℕ) → 16777216 < o + x → 16777216 < o + (x + y)
-    total o x y a = omega (arith, a)
 
 pub lacks_size : (h : HiveCells) (shared : List ℕ) (k : Tree) → 16777216 < size h.version shared k
     → LacksGraftRoom h shared k

@@ -1,6 +1,6 @@
 -- The step that copies a child: what it is judged by, and that it is made.
-use Rattle.std.proofs.Common.{◌≡◌, ◌≤◌, ◌<◌, ◌^◌, ℕ, ◌+◌, Bool, true, false, not, List, [], ◌∷◌, length, Option, Some, None, Result, Ok, Err, refl, sym, ap, subst, ◌∙◌, arith}
-use Rattle.std.specs.Prelude.{nat_lt, find, is_some, option_and_then, MatchBool, IfOk}
+use Rattle.std.proofs.Common.{◌≡◌, ◌≤◌, ◌<◌, ◌^◌, ℕ, ◌+◌, Bool, false, not, List, [], ◌∷◌, length, Option, Some, None, Result, Ok, Err, refl, sym, ap, subst, ◌∙◌, arith}
+use Rattle.std.specs.Prelude.{nat_lt, find, is_some, option_and_then}
 use Rattle.std.specs.Option.{IfSome, option_map_or}
 use Rattle.std.proofs.lemmas.Bool.{le-ltb}
 use Rattle.std.proofs.lemmas.Slice.Eq.{bytes_eq-Decides}
@@ -22,12 +22,11 @@ use Rattle.reg_tree.specs.declared.stop.EditStop.{EditStop}
 use Rattle.edit_laws.specs.Owned.{In, Folds, Extends}
 use Rattle.edit_laws.specs.Done.{IsDone}
 use Rattle.edit_laws.specs.Relists.{HasPlace}
-use Rattle.edit_laws.proofs.KeyDone.{a_child_copied, renamed_name}
+use Rattle.edit_laws.proofs.KeySteps.{a_child_copied, renamed_name}
 use Rattle.edit_laws.proofs.Out.{placed_at}
-use Rattle.hive_edit.specs.declared.making.Above.{Above}
-use Rattle.hive_edit.specs.Grafted.{descriptor_of, SharesAt}
-use Rattle.hive_edit.specs.Children.{IsFreeName, RefusesName, MayGraft, IsGraftedIn, LacksGraftRoom, security_listed}
-use Rattle.hive_edit.specs.Copying.{SharesChild, HasSecurityOf, IsCopiedIn}
+use Rattle.hive_edit.specs.Grafted.{descriptor_of}
+use Rattle.hive_edit.specs.Children.{IsFreeName, RefusesName, LacksGraftRoom, security_listed}
+use Rattle.hive_edit.specs.Copying.{SharesChild, IsCopiedIn}
 use Rattle.hive_edit.specs.Hive.{HiveCells, cells_in, hive_of, IsHive}
 use Rattle.hive_edit.specs.Standing.{tree_of}
 use Rattle.hive_edit.specs.Stepped.{IsStepped, LacksStepRoom}
@@ -35,8 +34,8 @@ use Rattle.hive_edit.proofs.EditLemmas.{the_tree}
 use Rattle.hive_edit.proofs.KeyLemmas.{node_read}
 use Rattle.hive_edit.proofs.ParentLemmas.{node_stands, security_at_node, security_there}
 use Rattle.hive_edit.proofs.PlaceLemmas.{key_there}
-use Rattle.hive_edit.proofs.ResultLemmas.{done, some, ok_same, some_same}
-use Rattle.hive_edit.proofs.AddStepLemmas.{RootSays, needs_both, with_again}
+use Rattle.hive_edit.proofs.ResultLemmas.{done, some, some_same}
+use Rattle.hive_edit.proofs.AddStepLemmas.{needs_both, with_again}
 
 -- ---- the step is judged
 
@@ -46,17 +45,6 @@ of_copy a b c d u = unless ((a, no_key) ∷ (b, bad_name) ∷ (c, name_too_long)
 -- the tree with the child that is found, under the other name
 abbrev copied_tree : List ℕ → Option Tree → Tree → Tree
 copied_tree to o t = option_map_or (λ k. with_child to k t) o t
-
-pub refuses_none : (h : HiveCells) (from to : List ℕ) → find_key (from ∷ []) h.tree ≡ None
-    → after_step (copy_child from to) h.tree ≡ Err no_key
-refuses_none h from to e = go (find (is_named from) (children h.tree)) refl e
-  where
-    go : (o : Option Tree) → find (is_named from) (children h.tree) ≡ o → option_and_then (find_key []) o ≡ None
-        → after_step (copy_child from to) h.tree ≡ Err no_key
-    go None f e =
-        ap (λ (v : Option Tree). of_copy (not (is_some v)) (is_bad_name to) (nat_lt 255 (length to))
-        (has_child to h.tree) (copied_tree to v h.tree)) f
-    go (Some k) f e = absurd cc
 
 pub refuses_copy : (h : HiveCells) (from to : List ℕ) (k : Tree) (stop : EditStop)
     → find (is_named from) (children h.tree) ≡ Some k → RefusesName h to stop
@@ -98,15 +86,6 @@ alike (b ∷ s) = ap not ((bytes_eq-Decides (b ∷ s) (b ∷ s)).1 refl)
 size_less : (version : HiveVersion) (shared : List ℕ) (k : Tree)
     → size version (head k).security k ≤ size version shared k
 size_less version shared (key hd ts) = rw (alike hd.security) (omega arith)
-
-pub lacks_more : (h : HiveCells) (shared : List ℕ) (k : Tree) → LacksGraftRoom h (head k).security k
-    → LacksGraftRoom h shared k
-lacks_more h shared k over =
-    more (bins_size h.bins) (size h.version (head k).security k) (size h.version shared k)
-    (room_of (list_sizes (length (children h.tree) + 1))) (size_less h.version shared k) over
-  where
-    more : (o s r y : ℕ) → s ≤ r → 16777216 < o + (rounded (s + 32) + y) → 16777216 < o + (rounded (r + 32) + y)
-    more o s r y le a = omega (arith, le, a)
 
 -- ---- the security that is shared
 
@@ -175,40 +154,7 @@ shares_child bins heap root version bulk h from at place is view same found says
     one : (k : Tree) → find (is_named from) (children t) ≡ Some k → there.there ≡ k
     one k e = some_same there.there k (sym there.found ∙ ap (λ (o : Option Tree). option_and_then (find_key []) o) e)
 
--- the place of the descriptor of a child, beside what the root's node says
-pub may_share : (h : HiveCells) (from : List ℕ) (above : Above) (place : ℕ) (k : Tree) → RootSays h above
-    → above.count ≤ 2097150 → SharesChild h from place → HasSecurityOf h from k
-    → (sharing : Above) → sharing.list ≡ above.list → sharing.count ≡ above.count → sharing.security ≡ place
-    → MayGraft h sharing (head k).security
-may_share h from above place k r few shares like sharing l c p = record {
-  says = λ n e. let z : r.node ≡ n = ok_same r.node n (sym r.parent.read ∙ e) in
-      record {
-        list = l ∙ r.says.list ∙ ap (λ (m : KeyNode). m.child_list) z;
-        count = c ∙ r.says.count ∙ ap (λ (m : KeyNode). m.child_count) z;
-      };
-  shares = subst (λ (s : List ℕ). SharesAt (cells_in h) h.root sharing.security s) (sym like.same)
-      (subst (λ (z : ℕ). SharesAt (cells_in h) h.root z (head like.child).security) (sym p)
-      (shares.each like.child like.found));
-  few = omega (arith, c, few);
-}
-
-pub copied_if : {E : Type 0} (r : Result Bool E) (h new : HiveCells) (from : List ℕ) (place : ℕ) (k : Tree)
-    → SharesChild h from place
-    → IfOk r (λ done. MatchBool done (IsGraftedIn h place (head k).security k new)
-    (LacksGraftRoom h (head k).security k))
-    → IfOk r (λ done. MatchBool done (IsCopiedIn h from k new) (LacksGraftRoom h (head h.tree).security k))
-copied_if (Ok true) h new from place k shares g = record { place = place; grafted = g; counts = shares.owned }
-copied_if (Ok false) h new from place k shares g = lacks_more h (head h.tree).security k g
-copied_if (Err e) h new from place k shares g = tt
-
 -- ---- the step is made
-
-renamed_security : (name : List ℕ) (k : Tree) → (head (renamed name k)).security ≡ (head k).security
-renamed_security name (key hd ts) = refl
-
-pub like_itself : (h : HiveCells) (from to : List ℕ) (k : Tree) → find (is_named from) (children h.tree) ≡ Some k
-    → HasSecurityOf h from (renamed to k)
-like_itself h from to k found = record { child = k; found = found; same = renamed_security to k }
 
 pub copy_stepped : (old new : HiveCells) (from to : List ℕ) (k : Tree) → IsWellFormed (cells_in old) old.root old.tree
     → find (is_named from) (children old.tree) ≡ Some k

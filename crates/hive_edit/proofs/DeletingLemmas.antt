@@ -30,7 +30,7 @@ use Rattle.hive_edit.specs.Edits.{IsEditedInPlace}
 use Rattle.hive_edit.specs.Stepped.{IsStepped, LacksStepRoom}
 use Rattle.hive_edit.specs.Making.{AboveIs}
 use Rattle.hive_edit.specs.Dropped.{AreShortened, left_children}
-use Rattle.hive_edit.specs.Deleting.{pair_place, levels_left, DropsUses, IsPairThere, IsPairTaken, IsPairKept}
+use Rattle.hive_edit.specs.Deleting.{pair_place, levels_left, DropsUses, IsPairTaken, IsPairKept}
 use Rattle.hive_edit.proofs.StandingLemmas.{tree_is}
 use Rattle.hive_edit.proofs.HiveLemmas.{hive_opened}
 use Rattle.hive_edit.proofs.EditLemmas.{the_tree}
@@ -339,19 +339,6 @@ pub pair_seen : (bins : List Bin) (root : ℕ) (version : HiveVersion) (bulk : �
 pair_seen bins root version bulk h path p is view place =
     pair_here (look_up version bins) root (tree_of (look_up version bins) root) path p is.stands
     (place_seen bins root version h path p view place)
-
-pub there_seen : (bins heap : List Bin) (root : ℕ) (version : HiveVersion) (bulk : ℕ) (h : HiveCells)
-    (path : List (List ℕ)) (p : KeyPair)
-    → IsHive bins root version bulk → hive_of bins root version ≡ h → heap ≡ bins
-    → pair_place (cells_in h) path h.root ≡ a_pair p
-    → IsPairThere version root path p heap
-there_seen bins heap root version bulk h path p is view same place =
-    subst (λ (z : List Bin). IsPairThere version root path p z) (sym same)
-    (record {
-      tree = tree_of (look_up version bins) root;
-      well = is.stands;
-      place = place_seen bins root version h path p view place;
-    })
 
 -- the root stands in the cells without the key
 pub root_seen : (bins heap new : List Bin) (root : ℕ) (version : HiveVersion) (bulk : ℕ) (h : HiveCells)

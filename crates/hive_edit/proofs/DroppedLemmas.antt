@@ -264,14 +264,6 @@ pub shortened_keeps : (version : HiveVersion) (above : Above) (child : ℕ) (old
 shortened_keeps version above child old new list (inl s) o q h out = s.1.kept o q h out
 shortened_keeps version above child old new list (inr s) o q h out = s.1.others o out ∙ h
 
-pub shortened_and : (version : HiveVersion) (above : Above) (child : ℕ) (old new : List Bin) (list o : ℕ)
-    (P : List ℕ → Type 0) → AreShortened version above child old new list
-    → IsSomeAnd (held_at old o) P → (Contains (lists_at (look_up version old) above.list above.count) o → ⊥)
-    → IsSomeAnd (held_at new o) P
-shortened_and version above child old new list o P s h out =
-    let q = some_and (held_at old o) P h in
-    and_some (held_at new o) P q.0 (shortened_keeps version above child old new list s o q.0 q.1 out) q.2
-
 pub still_droppable : (version : HiveVersion) (parent : ℕ) (above : Above) (child : ℕ) (uses : List (ℕ × Bool))
     (old listed noted : List Bin) (list : ℕ) (part : List ℕ)
     → CanRemove version parent above uses old → AreShortened version above child old listed list

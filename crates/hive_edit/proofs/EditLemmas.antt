@@ -7,7 +7,7 @@ use Rattle.std.proofs.lemmas.List.Elements.{Contains-append_left, Contains-appen
 use Rattle.nt_bytes.specs.declared.fault.HiveFaultKind.{HiveFaultKind}
 use Rattle.nt_bytes.specs.declared.version.HiveVersion.{HiveVersion}
 use Rattle.nt_bytes.specs.Folding.{folded_unit, folds_same}
-use Rattle.hive_model.specs.Bins.{Bin, Cells, bins_size, look_up, IsBins}
+use Rattle.hive_model.specs.Bins.{Cells, bins_size}
 use Rattle.hive_model.specs.KeyNode.{KeyNode, key_node_at}
 use Rattle.hive_model.specs.Lists.{offsets_in}
 use Rattle.hive_model.specs.Size.{cell, name_bytes, segment_count, segment_sizes, data_sizes, cells_sum, item_size, items_sum, items_size, size, bulk_of}
@@ -16,9 +16,7 @@ use Rattle.hive_model.specs.Tree.{Tree, Item, head, find_key, find_item, is_item
 use Rattle.hive_model.specs.Edit.{Step, set_value, Refusal, no_key, name_too_long, data_too_long, full, unless, at_first, with_item, of_items, at_key, value_set, after_step, after_steps, most_bulk, edited}
 use Rattle.hive_model.specs.Walk.{reading, value_checks}
 use Rattle.hive_model.specs.Footprint.{of_read, of_node, used_in, key_place, is_value_named, named_value_cells, value_cells_at, named_nodes, changed_cells, step_cells, unless_refused, IsInFootprint}
-use Rattle.hive_model.specs.Stands.{IsWellFormed}
 use Rattle.hive_cells.specs.Held.{held_at}
-use Rattle.hive_cells.proofs.Again.{one_list}
 use Rattle.hive_pack.proofs.Items.{not_big}
 use Rattle.edit_laws.specs.Owned.{In}
 use Rattle.edit_laws.proofs.Ins.{contains_from}
@@ -221,11 +219,3 @@ pub edited_fits : (version : HiveVersion) (t u : Tree) (steps : List Step) → e
     → bulk_of version u ≤ 16773120
 unfolding edited
 edited_fits version t u steps e = within_after version (after_steps t steps) u e
-
--- cells that are well-formed in bins are so in the bins that are read from their bytes
-pub well_formed_again : (version : HiveVersion) (text : List ℕ) (bins others : List Bin) (root : ℕ) (t : Tree)
-    → IsBins text bins → IsBins text others
-    → IsWellFormed (look_up version bins) root t → IsWellFormed (look_up version others) root t
-well_formed_again version text bins others root t is was w =
-    subst (λ (bs : List Bin). IsWellFormed (look_up version bs) root t)
-    (one_list bins others is.0 was.0 (sym is.1 ∙ was.1)) w

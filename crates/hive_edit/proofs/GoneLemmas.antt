@@ -1,26 +1,21 @@
 -- Lists of offsets in cells: read one by one, closed over a place, and the cells that they name freed.
-use Rattle.std.proofs.Common.{◌≡◌, ◌≤◌, ◌<◌, ◌^◌, ℕ, zero, suc, ◌+◌, ◌-◌, ◌*◌, Bool, true, false, eqb, cond, List, [], ◌∷◌, ◌++◌, length, get_or, take, drop, Option, Some, None, Result, Ok, Err, ◌⊎◌, inl, inr, ⊎_elim, refl, sym, ap, subst, ◌∙◌, arith}
+use Rattle.std.proofs.Common.{◌≡◌, ◌≤◌, ◌<◌, ℕ, zero, suc, ◌+◌, ◌-◌, ◌*◌, Bool, true, false, eqb, cond, List, [], ◌∷◌, ◌++◌, length, get_or, take, drop, Option, Some, None, Ok, Err, ◌⊎◌, inl, inr, ⊎_elim, refl, sym, ap, subst, ◌∙◌, arith}
 use Rattle.std.specs.Option.{IsSome, IsSomeAnd}
-use Rattle.std.specs.Prelude.{slice_range, nat_lt, ◌==◌}
-use Rattle.std.specs.Option.{option_map}
-use Rattle.std.specs.Int.{w32, to_le_bytes, from_le_bytes}
+use Rattle.std.specs.Prelude.{nat_lt, ◌==◌}
+use Rattle.std.specs.Int.{w32, from_le_bytes}
 use Rattle.std.proofs.lemmas.Bool.{eqb-true, eqb-false}
 use Rattle.std.proofs.lemmas.List.{drop-drop}
 use Rattle.nt_bytes.specs.Fields.{u16_in, u32_in}
-use Rattle.nt_bytes.specs.declared.fault.HiveFault.{HiveFault}
 use Rattle.nt_bytes.specs.declared.fault.HiveFaultKind.TheVariants.{FormShort, FormSign}
-use Rattle.hive_model.specs.Bins.{Bin, Cell, cell_size, cells_size, bin_size, bins_size, in_cells, in_bins, cell_at, or_else, payload_at, with_place, Sees}
+use Rattle.hive_model.specs.Bins.{Bin, Cell, cell_size, cells_size, bin_size, bins_size, in_cells, in_bins, cell_at, or_else}
 use Rattle.hive_model.specs.BigData.{BigData, big_data_in, big_data_at}
 use Rattle.hive_model.specs.Lists.{numbers_in, offsets_in}
-use Rattle.hive_cells.specs.Held.{allocated_payload, held_at, patched}
-use Rattle.hive_cells.proofs.HeldLemmas.{held_payload}
+use Rattle.hive_cells.specs.Held.{allocated_payload, held_at}
 use Rattle.edit_laws.specs.Owned.{In}
 use Rattle.edit_laws.specs.Pairs.{Pairwise}
-use Rattle.edit_laws.proofs.Patches.{IsPatchOf, part_patches, in_part}
-use Rattle.hive_edit.specs.Gone.{CanGo, AreGone, HasOffsets, HasSegments, IsClosed, ClosesGap, Unlists}
+use Rattle.hive_edit.specs.Gone.{CanGo, AreGone, HasOffsets, HasSegments, ClosesGap, Unlists}
 use Rattle.hive_edit.proofs.ResultLemmas.{done, some_same, ok_same, only_if}
 use Rattle.hive_edit.proofs.NodeLemmas.{numbers_there}
-use Rattle.std.proofs.lemmas.Nat.{from_le_bytes-to_le_bytes_4}
 use Rattle.hive_read.proofs.FormFacts.{unless}
 
 -- ---- what is held
@@ -37,16 +32,6 @@ is_held o p e = subst IsSome (sym e) refl
 pub held_of : (o : Option (List ℕ)) → IsSome o → (p : List ℕ) × (o ≡ Some p)
 held_of None h = absurd cc
 held_of (Some p) h = (p, refl)
-
--- a lookup of what is held does not fail
-pub no_error : {X : Type 0} (view : X → List ℕ) (bins : List Bin) (at : ℕ) (p : List ℕ) (r : Result X HiveFault)
-    (f : HiveFault) → held_at bins at ≡ Some p
-    → r ≡ Err f → Sees view r (with_place at (payload_at bins at)) → ⊥
-no_error {X} view bins at p r f h e seen =
-    let lost : Sees view (Err f) (with_place at (payload_at bins at)) =
-    subst (λ (q : Result X HiveFault). Sees view q (with_place at (payload_at bins at))) e seen in
-    let there : with_place at (payload_at bins at) ≡ Ok p = ap (with_place at) (held_payload bins at p h) in
-    cc
 
 -- ---- numbers in a row
 
@@ -291,102 +276,6 @@ pub all_gone : (old mid : List Bin) (list count place : ℕ) (offsets : List ℕ
 all_gone old mid list count place offsets h le g =
     let f = list_facts old list count offsets h in
     subst (λ (l : List ℕ). AreGone l old mid) (take_whole offsets place (omega (arith, f.number))) g
-
--- ---- a gap closed
-
-pub nothing_closed : (from : ℕ) (list : ℕ) (bins : List Bin) → ClosesGap from from list bins bins
-nothing_closed from list bins = record {
-  here = λ p e. (
-    p,
-    e,
-    record
-        { long = refl; before = λ i lt. refl; moved = λ i a b. absurd (omega arith); behind = λ i lt. refl },
-  );
-  others = λ o n. refl;
-  long = refl;
-}
-
-pub closing_room : (old mid : List Bin) (from place count list : ℕ) → ClosesGap from place list old mid
-    → IsSomeAnd (held_at old list) (λ p. 4 * count ≤ length p)
-    → (n : ℕ) → n ≤ 4 * count → IsSomeAnd (held_at mid list) (λ p. n ≤ length p)
-closing_room old mid from place count list g h n le = go (held_at old list) refl h
-  where
-    go : (o : Option (List ℕ)) → held_at old list ≡ o → IsSomeAnd o (λ p. 4 * count ≤ length p)
-        → IsSomeAnd (held_at mid list) (λ p. n ≤ length p)
-    go None e k = absurd k
-    go (Some p) e k =
-        let q = g.here p e in
-        let same : length q.0 ≡ length p = q.2.long in
-        let long : 4 * count ≤ length p = k in
-        and_some (held_at mid list) (λ p. n ≤ length p) q.0 q.1 (omega (arith, same, long))
-
-pub closing_more : (old mid new : List Bin) (from place count list next : ℕ) (part : List ℕ)
-    → ClosesGap from place list old mid
-    → IsSomeAnd (held_at old list) (λ p. 4 * count ≤ length p) → from ≤ place → place + 1 < count → next < 2 ^ 32
-    → part ≡ to_le_bytes w32 next
-    → ((p : List ℕ) → held_at mid list ≡ Some p → next ≡ u32_in p (4 * (place + 1)))
-    → held_at new list ≡ option_map (patched (4 * place) part) (held_at mid list)
-    → ((o : ℕ) → (o ≡ list → ⊥) → held_at new o ≡ held_at mid o)
-    → bins_size new ≡ bins_size mid → ClosesGap from (place + 1) list old new
-closing_more old mid new from place count list next part g room le lt small is read here others long = record {
-  here = λ p e. let q = g.here p e in
-      let wide : 4 * count ≤ length p = some_and (held_at old list) (λ p. 4 * count ≤ length p) p e room in (
-        patched (4 * place) part q.0,
-        here ∙ ap (option_map (patched (4 * place) part)) q.1,
-        closed p q.0 wide q.2 (read q.0 q.1),
-      );
-  others = λ o n. others o n ∙ g.others o n;
-  long = long ∙ g.long;
-}
-  where
-    four : length part ≡ 4
-    four = ap length is
-
-    closed : (p q : List ℕ) → 4 * count ≤ length p → IsClosed from place p q → next ≡ u32_in q (4 * (place + 1))
-        → IsClosed from (place + 1) p (patched (4 * place) part q)
-    closed p q wide c reads = record {
-      long = patch.length_same ∙ c.long;
-      before = λ i a. same_front i (omega arith) ∙ c.before i a;
-      moved = λ i a b. go i a b (eqb i place) refl;
-      behind = λ i a. same_back i a ∙ c.behind i (omega arith);
-    }
-      where
-        inside : 4 * place + length part ≤ length q
-        inside = let l = c.long in omega (arith, four, l, wide)
-
-        patch : IsPatchOf (4 * place) (4 * place + length part) q (patched (4 * place) part q)
-        patch = part_patches (4 * place) part q inside
-
-        same_front : (i : ℕ) → i < place → u32_in (patched (4 * place) part q) (4 * i) ≡ u32_in q (4 * i)
-        same_front i a = ap (from_le_bytes w32) (patch.before (4 * i) 4 (omega arith))
-
-        same_back : (i : ℕ) → place + 1 ≤ i → u32_in (patched (4 * place) part q) (4 * i) ≡ u32_in q (4 * i)
-        same_back i a = ap (from_le_bytes w32) (patch.behind (4 * i) 4 (omega (arith, four)))
-
-        written : u32_in (patched (4 * place) part q) (4 * place) ≡ next
-        written =
-            let z : 4 * place + 0 ≡ 4 * place = omega arith in
-            ap (u32_in (patched (4 * place) part q)) (sym z)
-            ∙ ap (from_le_bytes w32) (in_part (4 * place) part q 0 4 (omega (arith, inside)) (omega (arith, four)))
-            ∙ ap (λ (l : List ℕ). from_le_bytes w32 (slice_range l 0 4)) is ∙ from_le_bytes-to_le_bytes_4 next small
-
-        go : (i : ℕ) → from ≤ i → i < place + 1 → (b : Bool) → eqb i place ≡ b
-            → u32_in (patched (4 * place) part q) (4 * i) ≡ u32_in p (4 * i + 4)
-        go i a b true e =
-            let same : i ≡ place = eqb-true i place e in
-            let back : 4 * (place + 1) ≡ 4 * i + 4 = omega arith in
-            ap (λ (k : ℕ). u32_in (patched (4 * place) part q) (4 * k)) same ∙ written ∙ reads
-            ∙ c.behind (place + 1) (omega arith) ∙ ap (u32_in p) back
-        go i a b false e =
-            let apart = eqb-false i place e in
-            let less : i < place = less_than i place b apart in
-            same_front i less ∙ c.moved i a less
-          where
-            less_than : (i k : ℕ) → i < k + 1 → (i ≡ k → ⊥) → i < k
-            less_than zero zero lt n = absurd (n refl)
-            less_than zero (suc k) lt n = omega arith
-            less_than (suc i) zero lt n = absurd (omega arith)
-            less_than (suc i) (suc k) lt n = let d = less_than i k (omega arith) (λ e. n (ap suc e)) in omega (arith, d)
 
 -- ---- an offset taken out of a list
 

@@ -23,7 +23,7 @@ use Rattle.edit_laws.specs.Lists.{HasNewChildren, InsertsChild}
 use Rattle.edit_laws.proofs.Ins.{in_cases}
 use Rattle.edit_laws.proofs.Pairs.{pairwise_join, pairwise_map, in_map}
 use Rattle.edit_laws.proofs.Held.{are_held}
-use Rattle.edit_laws.proofs.Relisting.{uses_below}
+use Rattle.edit_laws.proofs.OwnedUses.{use_owned}
 use Rattle.edit_laws.proofs.Same.{entries_used, entries_same}
 use Rattle.edit_laws.proofs.FromLists.{children_written, inserts_child}
 use Rattle.hive_edit.specs.Grafted.{SharesAt}
@@ -208,7 +208,7 @@ module _ (b m l c : Cells) (root : ℕ) (t : Tree) (n : KeyNode) (k : Tree) (y s
 
   tree_held : (u : ℕ × Bool) → In (tree_uses 511 m y) u → (q : List ℕ) × (m.payload u.0 ≡ Ok q)
   tree_held u i =
-      let w = uses_below 511 m y u.0 u.1 i in
+      let w = use_owned 511 m y u i in
       (are_held m y k g.formed.well).held w.path w.role u.0 w.owns
 
   each_once : Once (plain (used_in (entries_checks l list)) ++ tree_uses 511 m y)

@@ -5,7 +5,7 @@ use Rattle.nt_bytes.specs.declared.fault.HiveFaultKind.{HiveFaultKind}
 use Rattle.nt_bytes.specs.declared.version.HiveVersion.{HiveVersion}
 use Rattle.hive_model.specs.Bins.{Cell, Bin, Cells, look_up, or_else}
 use Rattle.hive_model.specs.Forms.{◌>>=◌}
-use Rattle.hive_model.specs.Tree.{Tree, key}
+use Rattle.hive_model.specs.Tree.{Tree}
 use Rattle.hive_model.specs.Valid.{HoldsKeys, levels}
 use Rattle.hive_model.specs.Size.{size}
 use Rattle.hive_model.specs.Security.{security_at}
@@ -31,8 +31,8 @@ use Rattle.edit_laws.proofs.Uses.{mark_to, once_from, walk_uses, marks}
 use Rattle.edit_laws.proofs.Untouched.{root_node, are_once}
 use Rattle.edit_laws.proofs.Held.{are_held}
 use Rattle.edit_laws.proofs.Wellformed.{sound_tree, sound_hive}
-use Rattle.edit_laws.proofs.ChildFrames.{owned_used}
-use Rattle.edit_laws.proofs.Relisting.{uses_below}
+use Rattle.edit_laws.specs.Rewrites.{is_secure}
+use Rattle.edit_laws.proofs.OwnedUses.{secure_is, owned_use, use_owned}
 use Rattle.edit_laws.proofs.SameTree.{IsSameKey, tree_same, uses_same}
 use Rattle.key_index.proofs.Runs.{among_from, has_held, run_is}
 use Rattle.hive_edit.specs.Runs.{IsRunPutAt}
@@ -180,8 +180,8 @@ module _ (m c : Cells) (at size : ℕ) (k : Tree) (sp : ℕ) (f : IsFormed m at 
       go : ((at ≤ o) × (o < at + size)) ⊎ ((s ≡ true) × (o ≡ sp) × (sp < nowhere)) → (at ≤ o) × (o < at + size)
       go (inl z) = z
       go (inr z) =
-          let w = uses_below 512 m at o s i in
-          let secure = w.security z.0 in
+          let w = use_owned 512 m at (o, s) i in
+          let secure = secure_is w.role (w.way ∙ z.0) in
           absurd (⊎_elim (λ e. not_secure (subst IsSecurity (sym e.1) secure)) (λ e. not_secure e.0)
           ((are_once m at k f.well).one p w.path r w.role o own w.owns))
 
@@ -198,15 +198,14 @@ module _ (m c : Cells) (at size : ℕ) (k : Tree) (sp : ℕ) (f : IsFormed m at 
       same r o not_secure has =
           let own : Owns m at p r o = record { at = x; reached = h; has = has } in
           let q = (are_held m at k f.well).held p r o own in
-          let u = owned_used 512 m p at x o r short h has in
-          in_range o q.0 (plain_range p x o r u.0 own not_secure u.1) q.1
+          in_range o q.0
+          (plain_range p x o r (is_secure r) own not_secure (owned_use 512 m p at r o short own)) q.1
 
       secure : (o : ℕ) → In (security_cell_at m x) o → descriptor_at c o ≡ descriptor_at m o
       secure o i =
           let own : Owns m at p Role.security o = record { at = x; reached = h; has = i } in
           let q = (are_held m at k f.well).held p Role.security o own in
-          let u = owned_used 512 m p at x o Role.security short h i in
-          go q.0 q.1 (f.uses 512 o u.0 f.well.levels u.1)
+          go q.0 q.1 (f.uses 512 o true f.well.levels (owned_use 512 m p at Role.security o short own))
         where
           go : (q : List ℕ) {s : Bool} → m.payload o ≡ done q
               → ((at ≤ o) × (o < at + size)) ⊎ ((s ≡ true) × (o ≡ sp) × (sp < nowhere))

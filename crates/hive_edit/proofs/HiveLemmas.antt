@@ -1,11 +1,9 @@
 -- What a hive keeps of its cells, and what lookups in them find of its tree.
-use Rattle.std.proofs.Common.{◌≡◌, ℕ, List, [], map, Option, Some, None, Err, sym, ap, subst, ◌∙◌}
+use Rattle.std.proofs.Common.{◌≡◌, ℕ, List, [], map, Option, Some, None, sym, ap, subst, ◌∙◌}
 use Rattle.std.specs.Prelude.{option_and_then}
 use Rattle.std.specs.Option.{is_some, option_map_or}
 use Rattle.nt_bytes.specs.declared.version.HiveVersion.{HiveVersion}
 use Rattle.nt_bytes.specs.declared.fault.HiveFault.{HiveFault}
-use Rattle.nt_bytes.specs.declared.fault.ReadStop.{ReadStop}
-use Rattle.nt_bytes.specs.declared.fault.ReadStop.TheVariants as stops
 use Rattle.hive_model.specs.Bins.{Bin, look_up}
 use Rattle.hive_model.specs.Size.{bulk_of}
 use Rattle.hive_model.specs.Tree.{Tree, head, children, find_key}
@@ -13,12 +11,11 @@ use Rattle.hive_model.specs.Valid.{IsValid}
 use Rattle.hive_model.specs.Walk.{first_fault}
 use Rattle.hive_model.specs.Footprint.{child_places, key_place}
 use Rattle.hive_model.specs.Stands.{IsWellFormed}
-use Rattle.hive_read.specs.Walked.{Reads}
 use Rattle.hive_read.proofs.One.{one_stands}
 use Rattle.hive_read.proofs.Wellformed.{well-formed-passes}
 use Rattle.key_index.specs.Lists.{name_in}
 use Rattle.hive_edit.specs.Found.{found_dword, found_names, FitsBelow}
-use Rattle.hive_edit.specs.Hive.{HiveCells, hive_of, IsHive, IsTaken, Takes}
+use Rattle.hive_edit.specs.Hive.{HiveCells, hive_of, IsHive, IsTaken}
 use Rattle.hive_edit.specs.Places.{IsKeyAt, value_place, dword_at}
 use Rattle.hive_edit.specs.Standing.{tree_of}
 use Rattle.hive_edit.proofs.StandingLemmas.{tree_is}
@@ -61,12 +58,6 @@ taken_valid cells heap root version t e w v =
     subst IsValid (sym (tree_is (look_up version cells) root t w)
     ∙ ap (λ (bins : List Bin). tree_of (look_up version bins) root) (sym e)) v
 
--- a fault of the tree is that of the hive
-pub takes_fault : (cells : List Bin) (root : ℕ) (version : HiveVersion) (stop : ReadStop)
-    → Reads (look_up version cells) root (Err stop) → Takes cells root version (Err stop)
-takes_fault cells root version stops.Memory h = tt
-takes_fault cells root version (stops.Fault f) h = h
-
 -- ---- lookups
 
 pub root_there : (bins heap : List Bin) (root : ℕ) (version : HiveVersion) (bulk : ℕ) → IsHive bins root version bulk
@@ -75,7 +66,7 @@ root_there bins heap root version bulk h e =
     subst (λ (b : List Bin). IsKeyAt (look_up version b) root) (sym e) (tree_of (look_up version bins) root, h.stands)
 
 -- the tree of the hive stands in its cells
-stands_there : (bins heap : List Bin) (root : ℕ) (version : HiveVersion) (bulk : ℕ) (h : HiveCells)
+pub stands_there : (bins heap : List Bin) (root : ℕ) (version : HiveVersion) (bulk : ℕ) (h : HiveCells)
     → IsHive bins root version bulk → heap ≡ bins → hive_of bins root version ≡ h
     → IsWellFormed (look_up version heap) root h.tree
 stands_there bins heap root version bulk h is e view =

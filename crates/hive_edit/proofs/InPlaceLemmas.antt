@@ -33,7 +33,7 @@ use Rattle.hive_edit.specs.Places.{value_places, value_place}
 use Rattle.hive_edit.specs.Edits.{value_fields}
 use Rattle.hive_edit.proofs.ResultLemmas.{done, some, some_same}
 use Rattle.edit_laws.proofs.Out.{placed_at}
-use Rattle.edit_laws.proofs.ValueEdits.{set_there}
+use Rattle.edit_laws.proofs.ValueSteps.{set_there}
 use Rattle.hive_edit.proofs.PlaceLemmas.{key_there}
 use Rattle.edit_laws.proofs.Patches.{value_written}
 use Rattle.std.proofs.Math.Bool.{or-false}

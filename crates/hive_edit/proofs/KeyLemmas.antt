@@ -18,7 +18,7 @@ use Rattle.nt_bytes.specs.Text.{is_backslash}
 use Rattle.hive_model.specs.Edit.{make_key, is_bad_name}
 use Rattle.hive_model.specs.Packed.{rounded}
 use Rattle.hive_model.specs.Walk.{reading, nowhere}
-use Rattle.hive_model.specs.Footprint.{key_place, has_key, security_cell_at, list_cells_at, list_sizes, needed_sizes, room_of}
+use Rattle.hive_model.specs.Footprint.{key_place, has_key, security_cell_at, list_sizes, needed_sizes, room_of}
 use Rattle.hive_model.specs.Stands.{Stands}
 use Rattle.hive_model.specs.StoredNames.{name_text}
 use Rattle.hive_model.proofs.Spelling.{length_key_node, length_name, length_wide}

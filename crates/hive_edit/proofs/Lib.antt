@@ -50,3 +50,5 @@ pub mod AddStepLemmas
 pub mod GraftLinks
 pub mod CopyStepLemmas
 pub mod StrainedLemmas
+pub mod GapLemmas
+pub mod HoldingLemmas

@@ -4,7 +4,7 @@ use Rattle.std.specs.Prelude.{Contains, MatchBool, IfOk, OnErr}
 use Rattle.std.specs.Option.{IsSomeAnd}
 use Rattle.std.proofs.lemmas.Bool.{eqb-true, eqb-false}
 use Rattle.nt_bytes.specs.declared.version.HiveVersion.{HiveVersion}
-use Rattle.hive_model.specs.Bins.{Bin, bins_size}
+use Rattle.hive_model.specs.Bins.{Bin}
 use Rattle.hive_cells.specs.Held.{held_at}
 use Rattle.key_index.specs.Relists.{AreRelisted}
 use Rattle.hive_edit.specs.declared.making.Above.{Above}
@@ -45,13 +45,6 @@ freed_alike node old mid new child put freed = record {
         let same = eqb-true o child e in
         ap (held_at new) same ∙ freed.gone ∙ sym put.fresh ∙ ap (held_at old) (sym same)
     go o false e = freed.others o (eqb-false o child e) ∙ put.others o (eqb-false o child e)
-
-pub alike_none : (node : List ℕ) (old new : List Bin) → new ≡ old → IsAlike node old new
-alike_none node old new e = record {
-  held = λ o. ap (λ (b : List Bin). held_at b o) e;
-  long = let s = ap bins_size e in omega (arith, s);
-  least = let s = ap bins_size e in omega (arith, s);
-}
 
 pub add_linked : {E : Type 0} (r : Result Bool E) (version : HiveVersion) (parent : ℕ) (above : Above) (node : List ℕ)
     (old mid new : List Bin) (child : ℕ) → IsPutAt node old mid child

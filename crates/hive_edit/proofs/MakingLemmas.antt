@@ -26,7 +26,7 @@ use Rattle.edit_laws.proofs.Pairs.{pairwise_from}
 use Rattle.edit_laws.proofs.Out.{plain_node}
 use Rattle.edit_laws.proofs.Wellformed.{sound_hive}
 use Rattle.edit_laws.proofs.Same.{lists_same, places_same}
-use Rattle.edit_laws.proofs.KeyDone.{a_key_made}
+use Rattle.edit_laws.proofs.KeySteps.{a_key_made}
 use Rattle.key_index.specs.Lists.{children_at, lists_at, name_in, is_behind}
 use Rattle.key_index.specs.Relists.{AreApart}
 use Rattle.key_index.proofs.Meeting.{lists_apart}

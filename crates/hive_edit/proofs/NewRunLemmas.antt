@@ -68,16 +68,6 @@ more_long (x ∷ os) o = let d = more_long os o in omega (arith, d)
 
 -- ---- the old list
 
-nothing_listed : (n : ℕ) (os : List ℕ) → n ≡ 0 → length os ≡ n → numbers_in 4 n [] ≡ os
-nothing_listed zero [] z e = refl
-nothing_listed zero (o ∷ os) z e = absurd (omega (arith, e))
-nothing_listed (suc n) os z e = absurd (omega (arith, z))
-
--- a key of no values has no list
-pub none_listed : (bins : List Bin) (list count : ℕ) (os : List ℕ) → count ≡ 0 → ListsThese bins list count os
-    → numbers_in 4 count [] ≡ os
-none_listed bins list count os z l = nothing_listed count os z l.number
-
 -- its list is read where it is held
 pub some_listed : (bins : List Bin) (list count : ℕ) (p os : List ℕ) → (count ≡ 0 → ⊥) → held_at bins list ≡ Some p
     → ListsThese bins list count os

@@ -428,29 +428,6 @@ never_there bins heap root version bulk h path name is e view none =
     let found = (set_made version (tree_of b root) u path name kind bytes f).found in
     absurd (let z = sym found ∙ ap is_none gone in cc))
 
--- the key, and that it has no value of the name
-pub new_seen : (bins heap : List Bin) (root : ℕ) (version : HiveVersion) (h : HiveCells) (path : List (List ℕ))
-    (name : List ℕ) (x : ℕ) → heap ≡ bins → hive_of bins root version ≡ h
-    → some x ≡ key_place (look_up version heap) path root → nowhere ≡ value_place (look_up version heap) name x
-    → length name ≤ 16383 → IsNewIn h path name x
-new_seen bins heap root version h path name x e view k n short = record {
-  key = sym (k ∙ ap (λ (bs : List Bin). key_place (look_up version bs) path root) e
-      ∙ ap (λ (g : HiveCells). key_place (cells_in g) path g.root) view);
-  absent = sym (n ∙ ap (λ (bs : List Bin). value_place (look_up version bs) name x) e
-      ∙ ap (λ (g : HiveCells). value_place (cells_in g) name x) view);
-  short = short;
-}
-
--- a value of the name is there
-pub value_named_there : (bins heap : List Bin) (root : ℕ) (version : HiveVersion) (h : HiveCells) (path : List (List ℕ))
-    (name : List ℕ) (x v : ℕ) → heap ≡ bins → hive_of bins root version ≡ h
-    → some x ≡ key_place (look_up version heap) path root → some v ≡ value_place (look_up version heap) name x
-    → place_in (cells_in h) path name h.root ≡ some v
-value_named_there bins heap root version h path name x v e view k n =
-    sym (n ∙ ap (option_and_then (value_place (look_up version heap) name)) k
-    ∙ ap (λ (bs : List Bin). place_in (look_up version bs) path name root) e
-    ∙ ap (λ (g : HiveCells). place_in (cells_in g) path name g.root) view)
-
 -- ---- why a value is not set
 
 abbrev refused : Refusal → Result Tree Refusal

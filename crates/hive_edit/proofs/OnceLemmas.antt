@@ -175,15 +175,6 @@ kids_used checks cells node at offsets l = go (eqb node.child_count 0) l
         ++ used (below_of r (λ os. tests at (failing (not (eqb (length os) node.child_count)) Count)
         ∷ keys_in_turn checks cells [] os))) e.0
 
--- the node of a key that stands, under its name
-record NodeOf (cells : Cells) (at : ℕ) (t : Tree) : Type 0 where
-  node : KeyNode
-  read : reading key_node_at cells at ≡ done node
-  name : (head t).name ≡ node.name
-
-node_of : (cells : Cells) (at : ℕ) (t : Tree) → Stands cells at t → NodeOf cells at t
-node_of cells at (key h ts) s = record { node = s.1.node; read = s.1.read; name = s.1.name }
-
 mutual
   -- a key uses the same cells, however many levels may be below it, and whatever names it is told
   pub same_used : (one two : ℕ) (cells : Cells) (root other : Bool) (names others : List (List ℕ)) (at : ℕ) (t : Tree)

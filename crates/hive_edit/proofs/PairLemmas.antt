@@ -28,7 +28,7 @@ use Rattle.edit_laws.proofs.Wellformed.{sound_hive}
 use Rattle.edit_laws.proofs.Around.{IsSwapped, above_is, around, flat_append, hive_uses, hive_once, used_held}
 use Rattle.edit_laws.proofs.ChangedValues.{path_itself, same_itself}
 use Rattle.edit_laws.proofs.Revalued.{folds_length, reach_on}
-use Rattle.edit_laws.proofs.Relisting.{uses_below}
+use Rattle.edit_laws.proofs.OwnedUses.{secure_is, use_owned}
 use Rattle.edit_laws.proofs.TakenOut.{hive_used}
 use Rattle.key_index.specs.Lists.{lists_at, payload_in, ListsSiblings}
 use Rattle.key_index.proofs.Below.{in_payload}
@@ -56,21 +56,6 @@ a_pair p = Some p
 
 abbrev pub no_pair : Option KeyPair
 no_pair = None
-
-pub pair_end : (cells : Cells) (rest : List (List ℕ)) (above at : ℕ) → length rest < 1
-    → a_pair (pair above at) ≡ pair_from cells rest above at
-pair_end cells [] above at l = refl
-pair_end cells (name ∷ rest) above at l = absurd (omega (arith, l))
-
-pub pair_begin : (cells : Cells) (path : List (List ℕ)) (root : ℕ) → (length path ≡ 0 → ⊥)
-    → pair_from cells path root root ≡ pair_place cells path root
-pair_begin cells [] root some = absurd (some refl)
-pair_begin cells (name ∷ path) root some = refl
-
-pub pair_none : (cells : Cells) (path : List (List ℕ)) (root : ℕ) → length path ≡ 0
-    → no_pair ≡ pair_place cells path root
-pair_none cells [] root e = refl
-pair_none cells (name ∷ path) root e = absurd (omega (arith, e))
 
 -- ---- the two keys by the path
 
@@ -298,13 +283,13 @@ module _ (b : Cells) (root : ℕ) (t : Tree) (path : List (List ℕ)) (p : KeyPa
 
   pub secure_cells : (o : ℕ) → In (tree_uses left b p.at) (o, true) → IsSecurityCell b root o
   secure_cells o i =
-      let w = uses_below left b p.at o true i in
+      let w = use_owned left b p.at (o, true) i in
       record {
         path = h.stored ++ node_name b p.at ∷ w.path;
         key = w.owns.at;
         reached = reach_on b h.stored (node_name b p.at ∷ w.path) root p.above w.owns.at h.reached
             (p.at, h.listed, refl, w.owns.reached);
-        uses = role_security b w.owns.at o w.role w.owns.has (w.security refl);
+        uses = role_security b w.owns.at o w.role w.owns.has (secure_is w.role w.way);
       }
 
 -- ---- the key can be taken out

@@ -22,9 +22,6 @@ use Rattle.std.proofs.Math.Bool.{or-false}
 use Rattle.edit_laws.proofs.Wellformed.{places_are}
 use Rattle.hive_read.proofs.FormFacts.{then-so}
 
-abbrev nowhere : Option ℕ
-nowhere = None
-
 -- ---- keys
 
 -- a key is there where the tree has one, in well-formed cells
@@ -260,19 +257,6 @@ dword_found cells path name root t w =
     go (Some b) (Some v) p = dword_there cells name b v p
 
 -- ---- along a path
-
--- past a name whose child is found, the rest of the path leads from the child where the whole leads from the key
-pub place_on : (cells : Cells) (rest later : List (List ℕ)) (name : List ℕ) (at child : ℕ) → rest ≡ name ∷ later
-    → some child ≡ find (is_node_named cells name) (child_places cells at)
-    → key_place cells later child ≡ key_place cells rest at
-place_on cells rest later name at child r e =
-    ap (option_and_then (key_place cells later)) e ∙ ap (λ (path : List (List ℕ)). key_place cells path at) (sym r)
-
--- a name that no child has leads nowhere
-pub place_off : (cells : Cells) (rest later : List (List ℕ)) (name : List ℕ) (at : ℕ) → rest ≡ name ∷ later
-    → nowhere ≡ find (is_node_named cells name) (child_places cells at) → nowhere ≡ key_place cells rest at
-place_off cells rest later name at r e =
-    ap (option_and_then (key_place cells later)) e ∙ ap (λ (path : List (List ℕ)). key_place cells path at) (sym r)
 
 -- the end of a path
 pub place_end : (cells : Cells) (rest : List (List ℕ)) (at : ℕ) → length rest < 1 → some at ≡ key_place cells rest at

@@ -9,7 +9,7 @@ use Rattle.hive_model.specs.Bins.{Bin, Cells, look_up}
 use Rattle.hive_model.specs.Forms.{◌>>=◌}
 use Rattle.hive_model.specs.KeyNode.{KeyNode}
 use Rattle.hive_model.specs.Security.{SecurityCell, security_at}
-use Rattle.hive_model.specs.Tree.{Tree, head}
+use Rattle.hive_model.specs.Tree.{Tree}
 use Rattle.hive_model.specs.Walk.{reading, entries_checks}
 use Rattle.hive_model.specs.Footprint.{used_in, child_places, list_cells_at}
 use Rattle.hive_cells.specs.Held.{held_at, patched}
@@ -23,7 +23,7 @@ use Rattle.edit_laws.proofs.Ins.{in_from, contains_from}
 use Rattle.edit_laws.proofs.Pairs.{pairwise_from}
 use Rattle.edit_laws.proofs.Patch.{folds_itself}
 use Rattle.edit_laws.proofs.Wellformed.{standing}
-use Rattle.key_index.specs.Lists.{children_at, lists_at, name_in, without_child, ListsSiblings}
+use Rattle.key_index.specs.Lists.{children_at, lists_at, name_in, without_child}
 use Rattle.key_index.specs.Relists.{AreApart}
 use Rattle.hive_edit.specs.declared.making.Above.{Above}
 use Rattle.hive_edit.specs.Making.{AboveIs, child_fields}

@@ -1,6 +1,5 @@
 -- The tree that stands in cells is the one that the function of them gives.
 use Rattle.std.proofs.Common.{◌≡◌, ◌≤◌, ℕ, zero, suc, List, map, sym, ap, ◌∙◌, arith}
-use Rattle.nt_bytes.specs.declared.fault.HiveFaultKind.{HiveFaultKind}
 use Rattle.hive_model.specs.Bins.{Cells}
 use Rattle.hive_model.specs.KeyNode.{key_node_at}
 use Rattle.hive_model.specs.Tree.{Head, Tree, Trees, key, none, more, trees}

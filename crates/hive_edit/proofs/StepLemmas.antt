@@ -1,80 +1,31 @@
 -- A step that is done on the cells of a hive leaves a hive of the edited tree, edited in place.
-use Rattle.std.proofs.Common.{◌≡◌, ◌≤◌, ℕ, List, [], ◌∷◌, ◌++◌, Result, Ok, inl, inr, refl, sym, ap, subst, ◌∙◌}
+use Rattle.std.proofs.Common.{◌≡◌, ℕ, List, [], ◌∷◌, ◌++◌, Result, Ok, inl, inr, refl, sym, ap, subst, ◌∙◌}
 use Rattle.std.specs.Option.{IsSome}
 use Rattle.std.specs.List.{All}
-use Rattle.std.proofs.lemmas.List.Elements.{All-cons, All-nil, Contains-append_left}
 use Rattle.nt_bytes.specs.declared.fault.HiveFaultKind.{HiveFaultKind}
 use Rattle.nt_bytes.specs.declared.version.HiveVersion.{HiveVersion}
-use Rattle.hive_model.specs.Bins.{Bin, Cells, bins_size, look_up}
+use Rattle.hive_model.specs.Bins.{Bin, Cells, look_up}
 use Rattle.hive_model.specs.KeyValue.{KeyValue, key_value_at}
-use Rattle.hive_model.specs.Size.{bulk_of}
 use Rattle.hive_model.specs.Tree.{Tree}
-use Rattle.hive_model.specs.Edit.{Step, edited, after_step}
 use Rattle.hive_model.specs.Walk.{reading, value_checks, data_checks}
-use Rattle.hive_model.specs.Footprint.{of_read, used_in, key_place, is_value_named, step_cells, unless_refused}
+use Rattle.hive_model.specs.Footprint.{of_read, used_in, key_place, is_value_named}
 use Rattle.hive_model.specs.Stands.{IsWellFormed}
 use Rattle.hive_cells.specs.Held.{held_at}
-use Rattle.hive_cells.proofs.HeldLemmas.{payload_held, held_payload}
-use Rattle.reg_tree.specs.Fitting.{Fits}
-use Rattle.reg_tree.proofs.Edited.{edited_valid}
+use Rattle.hive_cells.proofs.HeldLemmas.{payload_held}
 use Rattle.key_index.specs.Relists.{AreApart}
 use Rattle.edit_laws.specs.Owned.{In}
 use Rattle.edit_laws.specs.Owned.{value_places as owned_places}
 use Rattle.edit_laws.specs.Pairs.{Pairwise}
 use Rattle.edit_laws.specs.Revalues.{cells_of_values}
 use Rattle.edit_laws.specs.Owned.{value_list_at}
-use Rattle.edit_laws.specs.Done.{IsDone}
 use Rattle.edit_laws.proofs.Ins.{in_right, in_flat_from}
 use Rattle.edit_laws.proofs.Pairs.{pairwise_parts, pairwise_to, all_from}
 use Rattle.edit_laws.proofs.Out.{placed_at}
 use Rattle.edit_laws.proofs.ChangedValues.{values_apart, values_held}
 use Rattle.edit_laws.proofs.FromCells.{value_uses}
-use Rattle.hive_edit.specs.Edits.{IsEditedInPlace}
-use Rattle.hive_edit.specs.Hive.{HiveCells, hive_of, IsHive}
 use Rattle.hive_edit.specs.Places.{value_places, value_place, data_places}
-use Rattle.hive_edit.specs.Standing.{tree_of}
 use Rattle.hive_edit.proofs.ResultLemmas.{done, some}
-use Rattle.hive_edit.proofs.EditLemmas.{the_tree}
-use Rattle.hive_edit.proofs.HiveLemmas.{hive_opened}
 use Rattle.hive_edit.proofs.InPlaceLemmas.{found_among, places_same}
-use Rattle.hive_edit.proofs.StandingLemmas.{tree_is}
-
--- ---- a step that is done
-
--- the bins and the bulk are those of a hive in which the step was made in place
-pub record IsStepDone (h : HiveCells) (new : List Bin) (root : ℕ) (version : HiveVersion) (bulk : ℕ)
-    (step : Step) : Type 0 where
-  pub hive : IsHive new root version bulk
-  pub edit : edited h.version h.tree (step ∷ []) ≡ Ok (tree_of (look_up version new) root)
-  pub kept : IsEditedInPlace h (step ∷ []) (hive_of new root version)
-
-pub step_done : (old new : List Bin) (root : ℕ) (version : HiveVersion) (bulk bulk_then : ℕ) (h : HiveCells) (u : Tree)
-    (step : Step) → IsHive old root version bulk
-    → hive_of old root version ≡ h → edited version (tree_of (look_up version old) root) (step ∷ []) ≡ the_tree u
-    → Fits step
-    → IsDone (look_up version old) (look_up version new) root (tree_of (look_up version old) root) u step
-    → bulk_then ≡ bulk_of version u
-    → bins_size old ≤ bins_size new → IsStepDone h new root version bulk_then step
-step_done old new root version bulk bulk_then h u step is view edit fits made counted long =
-    let b = look_up version old in
-    let c = look_up version new in
-    let t = tree_of b root in
-    let tree : tree_of c root ≡ u = tree_is c root u made.stands in
-    let valid = edited_valid version t u (step ∷ []) is.valid (All-cons Fits step [] fits (All-nil Fits)) edit in
-    record {
-      hive = hive_opened new new root version bulk_then u refl made.stands valid counted;
-      edit = subst (λ (g : HiveCells). edited g.version g.tree (step ∷ []) ≡ the_tree (tree_of c root)) view
-          (edit ∙ sym (ap the_tree tree));
-      kept = subst (λ (g : HiveCells). IsEditedInPlace g (step ∷ []) (hive_of new root version)) view
-          (record {
-            kept = λ o p held outside. payload_held new o p
-                (made.leaves.rest o p (held_payload old o p held)
-                (λ i. outside (Contains-append_left (step_cells b root t step)
-                (unless_refused [] (after_step step t) (λ w. [])) o i)));
-            root = refl;
-            long = long;
-          });
-    }
 
 -- ---- the cells of a value
 

@@ -5,7 +5,6 @@ use Rattle.std.specs.Option.{IsSomeAnd, is_none, option_map, option_map_or}
 use Rattle.std.specs.Int.{w32, to_le_bytes}
 use Rattle.std.proofs.lemmas.Bool.{ne_eqb}
 use Rattle.std.proofs.lemmas.Bool.Decides.{nat_tests}
-use Rattle.std.proofs.lemmas.List.Elements.{Contains-append_left}
 use Rattle.nt_bytes.specs.declared.fault.HiveFaultKind.{HiveFaultKind}
 use Rattle.nt_bytes.specs.declared.fault.HiveFaultKind.TheVariants.{FormLength}
 use Rattle.nt_bytes.specs.declared.version.HiveVersion.{HiveVersion}
@@ -19,9 +18,9 @@ use Rattle.hive_model.specs.BigData.{BigData, big_data_at}
 use Rattle.hive_model.specs.Lists.{offsets_in}
 use Rattle.hive_model.specs.Size.{is_big, segment_count, cell, item_size, items_sum, items_size, size, bulk_of}
 use Rattle.hive_model.specs.Tree.{Tree, Item, head, find_key, find_item, is_item}
-use Rattle.hive_model.specs.Edit.{Step, delete_value, Refusal, no_key, no_value, unless, without_first, has_item, value_deleted, after_step}
+use Rattle.hive_model.specs.Edit.{delete_value, Refusal, no_key, no_value, unless, without_first, has_item, value_deleted, after_step}
 use Rattle.hive_model.specs.Walk.{reading, below_of, use_as, big_data_of, segments_checks, big_checks, data_checks, value_checks}
-use Rattle.hive_model.specs.Footprint.{used_in, key_place, is_value_named, step_cells, unless_refused, IsInFootprint}
+use Rattle.hive_model.specs.Footprint.{used_in, key_place, is_value_named}
 use Rattle.hive_model.specs.Stands.{IsWellFormed, big_bytes_at, joined_segments, data_of, item_at, items_at}
 use Rattle.hive_cells.specs.Held.{held_at, patched}
 use Rattle.hive_cells.proofs.HeldLemmas.{held_payload, payload_held}
@@ -30,7 +29,6 @@ use Rattle.edit_laws.specs.Owned.{In, value_list_at}
 use Rattle.edit_laws.specs.Owned.{value_places as owned_places}
 use Rattle.edit_laws.specs.Pairs.{Pairwise}
 use Rattle.edit_laws.specs.Revalues.{cells_of_values, all_value_cells}
-use Rattle.edit_laws.specs.Done.{IsDone}
 use Rattle.edit_laws.proofs.Ins.{in_left, in_right, in_flat_from}
 use Rattle.edit_laws.proofs.Pairs.{pairwise_parts}
 use Rattle.edit_laws.proofs.Out.{placed_at}
@@ -492,19 +490,6 @@ hive_no_value bins heap root version bulk h path name x is e view k none =
     let there = key_there b path root (tree_of b root) x is.stands here in
     no_value_there (tree_of b root) there.there path name there.found (none_named b name x there.there there.well gone))
 
--- the cells of the hive, where these are named
-pub named_seen : (bins heap : List Bin) (root : ℕ) (version : HiveVersion) (h : HiveCells) (path : List (List ℕ))
-    (name : List ℕ) (x v : ℕ)
-    → heap ≡ bins → hive_of bins root version ≡ h → some x ≡ key_place (look_up version heap) path root
-    → some v ≡ value_place (look_up version heap) name x
-    → (key_place (cells_in h) path h.root ≡ some x) × (value_place (cells_in h) name x ≡ some v)
-named_seen bins heap root version h path name x v e view k n = (
-  sym (k ∙ ap (λ (bs : List Bin). key_place (look_up version bs) path root) e
-      ∙ ap (λ (g : HiveCells). key_place (cells_in g) path g.root) view),
-  sym (n ∙ ap (λ (bs : List Bin). value_place (look_up version bs) name x) e
-      ∙ ap (λ (g : HiveCells). value_place (cells_in g) name x) view),
-)
-
 -- where they are in the cells that the hive is made of
 record IsNamed (bins : List Bin) (root : ℕ) (version : HiveVersion) (path : List (List ℕ)) (name : List ℕ)
     (x v : ℕ) : Type 0 where
@@ -582,17 +567,6 @@ hive_unset bins root version bulk h path name x v is view k e =
     let there = named_there (look_up version bins) root t path name x v is.stands n.key n.value in
     subst (λ (g : HiveCells). after_step (delete_value path name) g.tree ≡ the_tree (unset_tree path name g.tree)) view
     (unset_there t there.key path name there.item there.found there.named)
-
--- what an edit in place leaves outside the cells of its one step
-pub kept_done : (version : HiveVersion) (old new : List Bin) (root : ℕ) (t u : Tree) (step : Step)
-    → IsDone (look_up version old) (look_up version new) root t u step
-    → (o : ℕ) (p : List ℕ) → held_at old o ≡ Some p → (IsInFootprint (look_up version old) root t (step ∷ []) o → ⊥)
-    → held_at new o ≡ Some p
-kept_done version old new root t u step d o p held outside =
-    let b = look_up version old in
-    payload_held new o p (d.leaves.rest o p (held_payload old o p held)
-    (λ i. outside (Contains-append_left (step_cells b root t step) (unless_refused [] (after_step step t) (λ u. []))
-    o i)))
 
 name_there : (cells : Cells) (v : ℕ) (h : IsItemHere cells v) → (k : KeyValue) × (reading key_value_at cells v ≡ done k)
 name_there cells v h = let f = item_facts cells v h in (f.value, f.read)

@@ -1,5 +1,5 @@
 -- The cells of a key, by the fields of its node.
-use Rattle.std.proofs.Common.{◌≡◌, ◌≤◌, ◌<◌, ℕ, zero, suc, ◌-◌, Bool, true, false, cond, List, [], ◌∷◌, ◌++◌, length, take, drop, get_or, Result, refl, sym, ap, subst, ◌∙◌, arith, append_assoc}
+use Rattle.std.proofs.Common.{◌≡◌, ◌<◌, ℕ, zero, suc, ◌-◌, Bool, true, false, cond, List, [], ◌∷◌, ◌++◌, drop, Result, refl, sym, ap, subst, ◌∙◌, arith, append_assoc}
 use Rattle.std.specs.Prelude.{◌==◌, flat_map, if◌then◌else◌}
 use Rattle.std.specs.List.{All}
 use Rattle.std.proofs.lemmas.Bool.{ne_eqb}
@@ -123,11 +123,6 @@ values_on cells left at rest whole old now after lt is e so_far =
     ((λ i. is i ∷ numbers_in 4 (left - 1) (drop 4 rest)) ∙ sym (numbers_more 4 left rest lt))
     ∙ so_far
 
-pub values_end : (cells : Cells) (left : ℕ) (rest : List ℕ) (whole old now : List (ℕ × Bool)) → left ≤ 0
-    → now ++ plain (cells_of_values cells (numbers_in 4 left rest)) ≡ old ++ whole → now ≡ old ++ whole
-values_end cells zero rest whole old now le e = sym (append-nil now) ∙ e
-values_end cells (suc left) rest whole old now le e = absurd (omega (arith, le))
-
 value_list_by : (cells : Cells) (at : ℕ) (p : List ℕ) → IsKeyAt cells at → p ≡ payload_in cells at
     → value_list_at cells at ≡ cond (u32_in p 36 == 0) [] (u32_in p 40 ∷ [])
 unfolding value_list_at
@@ -196,30 +191,6 @@ kids_stand cells at k = go k.0 k.1
         subst (All (IsKeyAt cells)) (sym (places_are cells at h w.stands.0 w.stands.1))
         (each w.stands.0 ts (children_well_formed cells at h ts w))
 
-pub flat_more : (f : ℕ → List (ℕ × Bool)) (xs : List ℕ) (k x : ℕ) → k < length xs → x ≡ get_or xs k x
-    → flat_map f (take (suc k) xs) ≡ flat_map f (take k xs) ++ f x
-flat_more f [] k x lt e = absurd (omega (arith, lt))
-flat_more f (y ∷ xs) zero x lt e = append-nil (f y) ∙ ap f (sym e)
-flat_more f (y ∷ xs) (suc k) x lt e =
-    ap (λ (l : List (ℕ × Bool)). f y ++ l) (flat_more f xs k x (omega (arith, lt)) e)
-    ∙ sym (append_assoc (f y) (flat_map f (take k xs)) (f x))
-
-pub own_all : (cells : Cells) (at : ℕ) (u0 u1 u2 u3 u4 u5 : List (ℕ × Bool)) → u1 ≡ u0 ++ (use_of at false ∷ [])
-    → u2 ≡ u1 ++ plain (class_cell_at cells at)
-    → u3 ≡ u2 ++ secure (security_cell_at cells at) → u4 ≡ u3 ++ plain (all_value_cells cells at)
-    → u5 ≡ u4 ++ plain (list_cells_at cells at)
-    → u5 ≡ u0 ++ own_uses cells at
-own_all cells at u0 u1 u2 u3 u4 u5 a b c d e =
-    let p = plain (class_cell_at cells at) in
-    let q = secure (security_cell_at cells at) in
-    let r = plain (all_value_cells cells at) in
-    let s = plain (list_cells_at cells at) in
-    e ∙ ap (λ (l : List (ℕ × Bool)). l ++ s) d ∙ append_assoc u3 r s ∙ ap (λ (l : List (ℕ × Bool)). l ++ (r ++ s)) c
-    ∙ append_assoc u2 q (r ++ s)
-    ∙ ap (λ (l : List (ℕ × Bool)). l ++ (q ++ (r ++ s))) b ∙ append_assoc u1 p (q ++ (r ++ s))
-    ∙ ap (λ (l : List (ℕ × Bool)). l ++ (p ++ (q ++ (r ++ s)))) a
-    ∙ append_assoc u0 (use_of at false ∷ []) (p ++ (q ++ (r ++ s)))
-
 -- ---- parts that come one behind another
 
 pub joined_uses : (u0 u1 u2 a b : List (ℕ × Bool)) → u1 ≡ u0 ++ a → u2 ≡ u1 ++ b → u2 ≡ u0 ++ (a ++ b)
@@ -231,28 +202,3 @@ tree_more cells zero at some = absurd (some refl)
 tree_more cells (suc left) at some =
     ap (λ (n : ℕ). own_uses cells at ++ flat_map (tree_uses n cells) (child_places cells at))
     (let e : suc left - 1 ≡ left = omega arith in e)
-
-pub tree_none : (cells : Cells) (left at : ℕ) → left ≡ 0 → tree_uses left cells at ≡ []
-tree_none cells left at e = ap (λ (n : ℕ). tree_uses n cells at) e
-
-pub keys_more : (cells : Cells) (left : ℕ) (offsets : List ℕ) (k x : ℕ) (u0 u1 u2 : List (ℕ × Bool))
-    → k < length offsets → x ≡ get_or offsets k x
-    → u1 ≡ u0 ++ flat_map (tree_uses left cells) (take k offsets) → u2 ≡ u1 ++ tree_uses left cells x
-    → u2 ≡ u0 ++ flat_map (tree_uses left cells) (take (suc k) offsets)
-keys_more cells left offsets k x u0 u1 u2 lt e f g =
-    joined_uses u0 u1 u2 (flat_map (tree_uses left cells) (take k offsets)) (tree_uses left cells x) f g
-    ∙ ap (λ (l : List (ℕ × Bool)). u0 ++ l) (sym (flat_more (tree_uses left cells) offsets k x lt e))
-
-plain_more : (offsets : List ℕ) (k x : ℕ) → k < length offsets → x ≡ get_or offsets k x
-    → plain (take (suc k) offsets) ≡ plain (take k offsets) ++ (use_of x false ∷ [])
-plain_more [] k x lt e = absurd (omega (arith, lt))
-plain_more (y ∷ xs) zero x lt e = ap (λ (z : ℕ). use_of z false ∷ []) (sym e)
-plain_more (y ∷ xs) (suc k) x lt e =
-    ap (λ (l : List (ℕ × Bool)). use_of y false ∷ l) (plain_more xs k x (omega (arith, lt)) e)
-
-pub plain_on : (offsets : List ℕ) (k x : ℕ) (u0 u1 u2 : List (ℕ × Bool)) → k < length offsets → x ≡ get_or offsets k x
-    → u1 ≡ u0 ++ plain (take k offsets)
-    → u2 ≡ u1 ++ (use_of x false ∷ []) → u2 ≡ u0 ++ plain (take (suc k) offsets)
-plain_on offsets k x u0 u1 u2 lt e f g =
-    joined_uses u0 u1 u2 (plain (take k offsets)) (use_of x false ∷ []) f g
-    ∙ ap (λ (l : List (ℕ × Bool)). u0 ++ l) (sym (plain_more offsets k x lt e))

@@ -1,7 +1,7 @@
 -- What is found in a hive's tree. (This project's own.)
-use Rattle.std.specs.Prelude.{ℕ, ◌+◌, ◌≤◌, List, [], map, length, Option}
+use Rattle.std.specs.Prelude.{◌≡◌, Some, ℕ, ◌+◌, ◌≤◌, List, [], map, length, Option}
 use Rattle.std.specs.Option.{option_and_then, option_map_or}
-use Rattle.hive_model.specs.Tree.{Tree, head, children, find_key, find_dword}
+use Rattle.hive_model.specs.Tree.{Item, Tree, head, children, find_key, find_item, find_dword}
 use Rattle.hive_model.specs.Valid.{deepest_level, HoldsKeys, levels}
 
 -- the number under a name in the key that a path leads to
@@ -16,3 +16,12 @@ found_names path t = option_map_or (λ key. map (λ child. (head child).name) (c
 pub record FitsBelow (path : List (List ℕ)) (t : Tree) : Type 0 where
   pub keys : HoldsKeys t
   pub levels : length path + levels t ≤ deepest_level
+
+-- the key that the path leads to has a value of this name, with this type and these data
+pub record HoldsValue (path : List (List ℕ)) (name : List ℕ) (kind : ℕ) (bytes : List ℕ) (t : Tree) : Type 0 where
+  pub key : Tree
+  pub value : Item
+  pub at : find_key path t ≡ Some key
+  pub found : find_item name key ≡ Some value
+  pub kind_is : value.kind ≡ kind
+  pub bytes_are : value.bytes ≡ bytes

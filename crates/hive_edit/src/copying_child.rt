@@ -33,6 +33,7 @@ fn path_of(alloc: Global, name: &[u16]) -> Result<Names, AllocError>
 fn sharing(above: Above, place: u32) -> Above
     ensures list { result.list ≡ above.list }
     ensures count { result.count ≡ above.count }
+    ensures volatile { result.volatile ≡ above.volatile }
     ensures security { result.security ≡ place }
 {
     Above {

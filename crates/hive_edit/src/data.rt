@@ -40,7 +40,7 @@ fn two_and(alloc: Global, first: u32, second: u32, more: &[u32]) -> Result<Offse
 }
 
 /// What the cell of big data in a payload says.
-fn db_in(payload: &[u8]) -> Result<DbForm, AllocError>
+pub(crate) fn db_in(payload: &[u8]) -> Result<DbForm, AllocError>
     requires { IsOk (big_data_at payload.now) }
     ensures { IfOk result (λ db. big_data_at payload.now ≡ Ok (big_data_of db)) }
 {
@@ -52,7 +52,7 @@ fn db_in(payload: &[u8]) -> Result<DbForm, AllocError>
 }
 
 /// So many offsets of segments in a payload.
-fn segments_in(alloc: Global, list: &[u8], count: u16) -> Result<Offsets, AllocError>
+pub(crate) fn segments_in(alloc: Global, list: &[u8], count: u16) -> Result<Offsets, AllocError>
     requires { IsOk (offsets_in count list.now) }
     ensures { IfOk result (λ v. offsets_in count list.now ≡ Ok v) }
 {

@@ -18,6 +18,7 @@ mod edit;
 mod give;
 mod grafting;
 mod hive;
+mod holding;
 mod key_size;
 mod making;
 mod measure;

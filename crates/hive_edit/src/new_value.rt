@@ -432,6 +432,7 @@ impl HiveBytes {
         ensures short { IfOk result (λ key. length name.now ≤ longest_value_name) }
         ensures few { IfOk result (λ key. length bytes.now ≤ longest_data) }
         ensures refused { IfErr result (λ stop. (kind : ℕ) → IsRefused (after_step (set_value path.now name.now kind bytes.now) self.now.tree) stop) }
+        ensures no_memory { IfErr result (λ stop. stop ≡ EditStop.Memory → ⊥) }
     {
         let source = Source {
             heap: self.cells.cells(),

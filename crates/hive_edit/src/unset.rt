@@ -1,6 +1,6 @@
 //! A value taken out of the cells of its key. Nothing here wants memory or room.
 
-ghost use Rattle.std.specs.Prelude.{◌≡◌, ◌≤◌, ◌<◌, ◌+◌, ◌-◌, ◌*◌, ◌∷◌, [], ℕ, List, length, Some, Ok, IfOk, IfErr, OnOk, OnErr, Err, MatchBool, MatchResult};
+ghost use Rattle.std.specs.Prelude.{◌≡◌, ◌≤◌, ◌<◌, ◌+◌, ◌-◌, ◌*◌, ◌∷◌, [], ℕ, List, length, slice_range, Some, Ok, IfOk, IfErr, OnOk, OnErr, Err, MatchBool, MatchResult};
 ghost use Rattle.std.specs.Option.{IsSomeAnd};
 ghost use Rattle.std.specs.Result.{IsOk};
 ghost use Rattle.nt_bytes.specs.Fields.{u32_in};
@@ -57,6 +57,34 @@ fn free_listed(heap: &mut OpenHeap, list: u32, count: u32)
     heap.free(list);
 }
 
+/// Fills these bytes with what stands in the payload of a cell from a byte of it on.
+fn copy_part(heap: &OpenHeap, at: u32, from: usize, into: &mut [u8])
+    requires { IsSomeAnd (held_at heap.now at) (λ p. from + length into.old ≤ length p) }
+    ensures long { length into.new ≡ length into.old }
+    ensures read { (p : List ℕ) → held_at heap.now at ≡ Some p → into.new ≡ slice_range p from (from + length into.old) }
+{
+    match heap.payload(at) {
+        Ok(bytes) => {
+            let part = &bytes[from..from + into.len()];
+            into.copy_from_slice(part);
+        }
+        Err(_) => unreachable!(),
+    }
+}
+
+/// Moves so many numbers of a list, at most 1024, down by one, over the one at this place.
+fn move_down(heap: &mut OpenHeap, list: u32, place: u32, numbers: u32)
+    requires few { numbers ≤ 1024 }
+    requires low { place ≤ 4194304 }
+    requires long { IsSomeAnd (held_at heap.old list) (λ p. 4 * (place + 1) + 4 * numbers ≤ length p) }
+    ensures { ClosesGap place (place + numbers) list heap.old heap.new }
+{
+    let mut room = [0; 4096];
+    let part = &mut room[..4 * numbers as usize];
+    copy_part(heap, list, 4 * (place as usize + 1), part);
+    heap.patch(list, 4 * place, part);
+}
+
 /// Moves the numbers of a list behind a place down by one, over the one that is there.
 fn close_gap(heap: &mut OpenHeap, list: u32, from: u32, count: u32)
     requires some { from < count }
@@ -64,9 +92,11 @@ fn close_gap(heap: &mut OpenHeap, list: u32, from: u32, count: u32)
     requires long { IsSomeAnd (held_at heap.old list) (λ p. 4 * count ≤ length p) }
     ensures { ClosesGap from (count - 1) list heap.old heap.new }
 {
-    for place in from..count - 1 {
-        let next = number_in(heap, list, place + 1);
-        heap.patch(list, 4 * place, &next.to_le_bytes());
+    let mut place = from;
+    'parts: while place < count - 1 {
+        let numbers = (count - 1 - place).min(1024);
+        move_down(heap, list, place, numbers);
+        place += numbers;
     }
 }
 

@@ -77,11 +77,6 @@ below : {F : Type 0} (cells : Cells) (r : Result F HiveFaultKind) (next : F → 
 below cells (Ok x) next p = p x
 below cells (Err kind) next p = λ _. tt
 
--- a cell of any form that is not used as security
-plain : {F : Type 0} (form : List ℕ → Result F HiveFaultKind) (cells : Cells) (at : ℕ)
-    → Reads cells (use_as false form cells at)
-plain form cells at = λ _. tt
-
 read_of : (r : Result SecurityCell HiveFaultKind) → found r ≡ None → (s : SecurityCell) × (r ≡ Ok s)
 read_of (Ok s) e = (s, refl)
 read_of (Err kind) e = absurd cc

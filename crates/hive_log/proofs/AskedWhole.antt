@@ -1,5 +1,5 @@
 -- What recovery asks for in all, step by step as it is read.
-use Rattle.std.proofs.Common.{◌≡◌, ◌/◌, ◌==◌, ◌∷◌, ℕ, Bool, true, false, cond, List, [], drop, Option, Some, None, Result, Ok, Err, refl, sym, ◌∙◌, ap}
+use Rattle.std.proofs.Common.{◌≡◌, ◌∷◌, ℕ, Bool, true, false, cond, List, [], Option, Result, Ok, Err, refl, sym, ◌∙◌, ap}
 use Rattle.std.specs.Prelude.{map, filter, not}
 use Rattle.std.specs.List.{range_with_len}
 use Rattle.nt_bytes.specs.declared.fault.HiveFault.{HiveFault}

@@ -1,5 +1,5 @@
 -- What an image is recovered as, by what its sectors are.
-use Rattle.std.proofs.Common.{◌≡◌, ◌⊎◌, ◌+◌, ◌-◌, ◌*◌, ◌/◌, ◌==◌, ◌&&◌, ℕ, Bool, true, false, cond, List, length, drop, Option, Some, None, Result, Ok, Err, refl, sym, ◌∙◌, ap, arith, ⊎_elim}
+use Rattle.std.proofs.Common.{◌≡◌, ◌⊎◌, ◌+◌, ◌-◌, ◌*◌, ◌/◌, ◌==◌, ℕ, Bool, true, false, cond, List, length, drop, Option, Some, None, Result, Ok, Err, refl, sym, ◌∙◌, ap, arith, ⊎_elim}
 use Rattle.std.specs.Prelude.{nat_eq, codes}
 use Rattle.std.specs.List.{starts_with}
 use Rattle.std.proofs.lemmas.Bool.{eq-eqb, eqb-true, ne_eqb, and_parts}
@@ -7,7 +7,7 @@ use Rattle.nt_bytes.specs.declared.fault.HiveFault.{HiveFault}
 use Rattle.nt_bytes.specs.declared.fault.HiveFaultKind.TheVariants.{LogAbsent, LogUnreadable, LogShort, LogDirt, LogSequence, Size, Unreadable as UnreadableKind}
 use Rattle.hive_model.specs.Base.{Base, base_of, fault_at}
 use Rattle.hive_model.specs.Image.{Image, Bytes, Unreadable}
-use Rattle.hive_model.specs.Recovery.{Recovered, Sectors, primary_in, log_in, sector, bytes_or, read_log, read_bin, joined, gathered, recovered_with, by_primary, bit, rank, bitmap_sectors, first_dirty, picked, by_bits, bitmap_in, closed_by, goes_with, by_logged, as_log_base, logged_in, by_log, base_at, base_in, by_base, recovered_of}
+use Rattle.hive_model.specs.Recovery.{Recovered, Sectors, primary_in, log_in, sector, bytes_or, read_log, read_bin, joined, gathered, recovered_with, by_primary, bit, rank, bitmap_sectors, first_dirty, picked, by_bits, bitmap_in, closed_by, goes_with, by_logged, as_log_base, by_log, base_at, base_in, by_base, recovered_of}
 use Rattle.hive_model.specs.Carries.{HasBase, Carries}
 use Rattle.hive_log.specs.Found.{IsUnfinished, HasLogBits, bins_by, Found}
 use Rattle.hive_log.proofs.Runs.{gathered_whole, gathered_same}

@@ -84,13 +84,6 @@ module _ (image : Image) (base : Base) (has : HasBase image base) (even : base.f
         (sym (mixed_off image [] (bit []) i (none_on i)) ∙ each i (omega (arith, long)));
   }
 
--- the size of what was read
-pub sized_bins : (size : ℕ) (bins : List ℕ) → is_bins_size size ≡ true → length bins ≡ 512 * (size / 512)
-    → is_bins_size (length bins) ≡ true
-sized_bins size bins is long =
-    let whole : size ≡ length bins = omega (arith, (sized size is).pages, long) in
-    ap is_bins_size (sym whole) ∙ is
-
 -- the log of an unfinished commit
 module _ (image : Image) (opened : Option Base) where
   pub no_log : (f : HiveFault) → logged_in image ≡ Err f → by_log image opened ≡ Err f

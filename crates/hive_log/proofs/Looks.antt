@@ -1,5 +1,5 @@
 -- Looks at a disk, one after the other.
-use Rattle.std.proofs.Common.{◌≡◌, Bool, true, Result, Ok, Err}
+use Rattle.std.proofs.Common.{◌≡◌, Bool, true, Result, Ok}
 use Rattle.std.specs.Prelude.{IsErrOf}
 use Rattle.nt_edge.specs.Disk.{DiskState}
 use Rattle.nt_edge.specs.Frames.{LeavesAsRead}

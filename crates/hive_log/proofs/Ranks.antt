@@ -1,5 +1,5 @@
 -- How many bits are on below a place.
-use Rattle.std.proofs.Common.{◌≡◌, ◌⊎◌, ◌<◌, ◌≤◌, ◌+◌, ℕ, zero, suc, Bool, true, false, refl, sym, ◌∙◌, ap, ⊎_elim, arith, add-one}
+use Rattle.std.proofs.Common.{◌≡◌, ◌⊎◌, ◌<◌, ◌+◌, ℕ, zero, suc, Bool, true, false, refl, sym, ◌∙◌, ap, ⊎_elim, arith, add-one}
 use Rattle.hive_model.specs.Recovery.{one_if, rank}
 
 pub rank_on : (bits : ℕ → Bool) (i : ℕ) → bits i ≡ true → rank bits (i + 1) ≡ rank bits i + 1
@@ -7,12 +7,6 @@ rank_on bits i on = ap (rank bits) (add-one i) ∙ ap (λ b. rank bits i + one_i
 
 pub rank_off : (bits : ℕ → Bool) (i : ℕ) → bits i ≡ false → rank bits (i + 1) ≡ rank bits i
 rank_off bits i off = ap (rank bits) (add-one i) ∙ ap (λ b. rank bits i + one_if b) off ∙ omega arith
-
-pub rank_small : (bits : ℕ → Bool) (i : ℕ) → rank bits i ≤ i
-rank_small bits zero = omega arith
-rank_small bits (suc i) =
-    let one : (b : Bool) → one_if b ≤ 1 = elim [ true ↦ omega arith | false ↦ omega arith ] in
-    omega (arith, rank_small bits i, one (bits i))
 
 pub split : (j i : ℕ) → j < suc i → (j < i) ⊎ (j ≡ i)
 split j i below = grind arith

@@ -1,8 +1,8 @@
 -- A run of sectors as it is read, and a fault in a part of what is read.
-use Rattle.std.proofs.Common.{◌≡◌, ◌<◌, ◌≤◌, ◌+◌, ◌-◌, ◌*◌, ◌++◌, ℕ, suc, List, [], length, Option, Some, Result, Ok, Err, refl, sym, ◌∙◌, ap, arith, add-one, append_assoc, append-nil, ⊎_elim}
+use Rattle.std.proofs.Common.{◌≡◌, ◌<◌, ◌≤◌, ◌+◌, ◌-◌, ◌*◌, ◌++◌, ℕ, suc, List, [], length, Option, Result, Ok, Err, refl, sym, ◌∙◌, ap, arith, add-one, append_assoc, append-nil, ⊎_elim}
 use Rattle.nt_bytes.specs.declared.fault.HiveFault.{HiveFault}
-use Rattle.hive_model.specs.Image.{Address, Image, Write, Content, overlaid}
-use Rattle.hive_model.specs.Recovery.{Sectors, sector, joined, gathered, read_log, bitmap_sectors, front_in, bitmap_in}
+use Rattle.hive_model.specs.Image.{Address, Write, Content, overlaid}
+use Rattle.hive_model.specs.Recovery.{Sectors, sector, joined, gathered}
 use Rattle.nt_edge.specs.Disk.{DiskState, now_of}
 use Rattle.hive_log.specs.declared.stops.LoadStop.{LoadStop}
 use Rattle.hive_log.specs.declared.stops.LoadStop.TheVariants as load
@@ -67,17 +67,6 @@ module _ (at : Sectors) (count : ℕ) where
 -- what a read gives where nothing is in flight
 pub read_held : (s : DiskState) (a : Address) (x : Option Content) → s.flight ≡ [] → now_of s a ≡ x → s.held a ≡ x
 read_held s a x none is = ap (λ (ws : List Write). overlaid s.held ws a) (sym none) ∙ is
-
--- the bitmap is its first sector with those behind it
-module _ (image : Image) (size : ℕ) where
-  abbrev behind_front : Result (List ℕ) HiveFault
-  behind_front = gathered (read_log image) 2 (bitmap_sectors size - 1)
-
-  pub bitmap_is : (front : List ℕ) → front_in image ≡ Ok front → bitmap_in image size ≡ joined (Ok front) behind_front
-  bitmap_is front is = ap (λ r. joined r behind_front) is
-
-  pub no_front : (f : HiveFault) → front_in image ≡ Err f → bitmap_in image size ≡ Err f
-  no_front f is = ap (λ r. joined r behind_front) is
 
 -- a fault of a part is the fault of the whole
 pub fault_on : {T U : Type 0} (e : LoadStop) (part : Result T HiveFault) (whole : Result U HiveFault)

@@ -1,10 +1,8 @@
 -- Below a key that a hive can hold, each key is one that a hive can hold, and has no more levels.
 use Rattle.std.proofs.Common.{◌≡◌, ◌≤◌, ℕ, Bool, true, false, cond, List, [], ◌∷◌, Option, Some, None, subst, arith}
 use Rattle.std.specs.Prelude.{find, option_and_then}
-use Rattle.std.specs.List.{All}
-use Rattle.std.proofs.lemmas.List.Elements.{All-cons, All-nil}
 use Rattle.hive_model.specs.Tree.{Tree, Trees, key, none, more, listed, children, is_named, find_key}
-use Rattle.hive_model.specs.Valid.{HoldsKeys, AllHoldKeys, levels, most_levels, IsValid}
+use Rattle.hive_model.specs.Valid.{HoldsKeys, AllHoldKeys, levels, most_levels}
 
 -- a key, where there is one, can be held and has at most n levels
 abbrev Fits : ℕ → Option Tree → Type 0
@@ -44,16 +42,3 @@ held_child name t k h e = (subst (Fits (levels t)) e (fits-child (levels t) name
 -- a key that a path leads to
 pub held_key : (path : List (List ℕ)) (t k : Tree) → HoldsKeys t → find_key path t ≡ Some k → HoldsKeys k
 held_key path t k h e = (subst (Fits (levels t)) e (fits-key (levels t) path t h (omega arith))).0
-
--- the same of trees that a hive can hold
-pub valid_key : (path : List (List ℕ)) (t k : Tree) → IsValid t → find_key path t ≡ Some k → IsValid k
-valid_key path t k v e = let f = subst (Fits 512) e (fits-key 512 path t v.keys v.levels) in
-    record { keys = f.0; levels = f.1 }
-
-all-held : (ts : Trees) → AllHoldKeys ts → All HoldsKeys (listed ts)
-all-held none h = All-nil HoldsKeys
-all-held (more t ts) h = All-cons HoldsKeys t (listed ts) h.0 (all-held ts h.1)
-
--- each child
-pub held_children : (t : Tree) → HoldsKeys t → All HoldsKeys (children t)
-held_children (key h ts) held = all-held ts held.1

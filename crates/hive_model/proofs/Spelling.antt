@@ -331,10 +331,6 @@ pub length_security : (s : SecurityCell) → length (security_text s) ≡ 20 + l
 unfolding security_text
 length_security s = omega arith
 
-pub length_li : (os : List ℕ) → length (li_text os) ≡ 4 + 4 * length os
-unfolding li_text
-length_li os = omega (arith, length_offsets os)
-
 pub length_ri : (os : List ℕ) → length (ri_text os) ≡ 4 + 4 * length os
 unfolding ri_text
 length_ri os = omega (arith, length_offsets os)

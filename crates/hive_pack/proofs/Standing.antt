@@ -8,7 +8,7 @@ use Rattle.nt_bytes.specs.declared.fault.HiveFaultKind.{HiveFaultKind}
 use Rattle.nt_bytes.specs.declared.version.HiveVersion.{HiveVersion}
 use Rattle.hive_model.specs.Tree.{Head, Tree, Trees, key, none, more, listed, trees}
 use Rattle.hive_model.specs.Valid.{IsKey, HoldsKeys, AllHoldKeys}
-use Rattle.hive_model.specs.Size.{cell, is_narrow, has_own, items_size, class_size, security_size, node_size, head_size, list_size, count, size, size_of_all, bulk_of}
+use Rattle.hive_model.specs.Size.{is_narrow, has_own, class_size, security_size, node_size, head_size, list_size, count, size, size_of_all}
 use Rattle.hive_model.specs.Bins.{Cells, look_up}
 use Rattle.hive_model.specs.Forms.{◌>>=◌, bytes_in}
 use Rattle.hive_model.specs.StoredNames.{UnitsFit}
@@ -17,7 +17,7 @@ use Rattle.hive_model.specs.Security.{SecurityCell, IsSecurityCell, security_tex
 use Rattle.hive_model.specs.Lists.{AreOffsets}
 use Rattle.hive_model.specs.Walk.{reading, nowhere}
 use Rattle.hive_model.specs.Stands.{tree_flags, class_of, security_of, Stands, AllStand}
-use Rattle.hive_model.specs.Packed.{first_or, last_or, behind, ahead, forward, backward, sharers_of_all, ring, Above, top, below, security_place_of, descriptor_place, values_place, list_place, children_place, place_of_some, stored_flags, node_of, class_cells, security_cells, items_cells, head_cells, list_cells, places, hint, cells_of, cells_of_all, packed_cells, packed_bins}
+use Rattle.hive_model.specs.Packed.{first_or, last_or, behind, ahead, forward, backward, sharers_of_all, ring, Above, top, below, security_place_of, descriptor_place, values_place, list_place, children_place, place_of_some, stored_flags, node_of, class_cells, security_cells, items_cells, head_cells, list_cells, places, hint, cells_of, cells_of_all, packed_bins}
 use Rattle.hive_model.proofs.Spelling.{key_node_again, security_again, bytes_again}
 use Rattle.hive_pack.specs.Numbers.{HeadNumbers, HasNumbers, AllHaveNumbers, PackedStands}
 use Rattle.hive_pack.proofs.Rows.{length_node, narrow_stored, space_class, space_security, space_head, space_lists, space_tree, length_places, same_hints, hints_of}

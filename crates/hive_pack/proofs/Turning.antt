@@ -35,14 +35,6 @@ pub head_first : (xs : List ℕ) → 0 < length xs → first_or 0 xs ≡ get_or 
 head_first [] h = absurd (omega arith)
 head_first (x ∷ xs) h = refl
 
-pub empty_forward : (xs : List ℕ) (at : ℕ) → length xs ≡ 0 → 0 ≡ forward xs at
-empty_forward [] at e = refl
-empty_forward (x ∷ xs) at e = absurd (omega arith)
-
-pub empty_backward : (xs : List ℕ) (at : ℕ) → length xs ≡ 0 → 0 ≡ backward xs at
-empty_backward [] at e = refl
-empty_backward (x ∷ xs) at e = absurd (omega arith)
-
 pub ahead_none : (before : ℕ) (xs : List ℕ) (at : ℕ) → ((k : ℕ) → k < length xs → get_or xs k 0 ≡ at → ⊥)
     → ahead before xs at ≡ last_or before xs
 ahead_none before [] at h = refl

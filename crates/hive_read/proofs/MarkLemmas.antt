@@ -73,9 +73,6 @@ abbrev below_at : List ℕ → List ℕ → ℕ → ℕ → Option Bool
 below_at plain security n at =
     cond (eqb (at % 8) 0) (cond (nat_lt (at / 8) n) (slot_mark plain security (at / 8)) None) None
 
-abbrev Marks : Type 0
-Marks = map.FinMap nat_cmp Bool
-
 -- one slot more
 get-with : (n : ℕ) (mark : Option Bool) (others : List (ℕ × Bool)) (at : ℕ)
     → map.get (map.from_entries {R = nat_cmp} (with_mark n mark others)) at

@@ -1,5 +1,5 @@
 -- Walks over lists of checks, and over the checks of a form.
-use Rattle.std.proofs.Common.{◌≡◌, ℕ, Bool, true, false, List, [], ◌∷◌, ◌++◌, Option, Some, None, Result, Ok, Err, refl, sym, ap, ◌∙◌}
+use Rattle.std.proofs.Common.{◌≡◌, ℕ, Bool, true, false, List, [], ◌∷◌, ◌++◌, Result, Ok, Err, refl, ap, ◌∙◌}
 use Rattle.std.proofs.Common.{eqb, ◌-◌, ◌<◌, ◌≤◌, length, get_or, take, drop, arith}
 use Rattle.std.specs.Prelude.{IfOk}
 use Rattle.std.proofs.Math.Seq.{take-length}
@@ -8,10 +8,10 @@ use Rattle.nt_bytes.specs.declared.fault.HiveFaultKind.{HiveFaultKind}
 use Rattle.nt_bytes.specs.declared.fault.HiveFault.{HiveFault}
 use Rattle.nt_bytes.specs.declared.fault.ReadStop.{ReadStop}
 use Rattle.nt_bytes.specs.declared.fault.ReadStop.TheVariants as stops
-use Rattle.hive_model.specs.Forms.{◌>>=◌, Gives}
+use Rattle.hive_model.specs.Forms.{◌>>=◌}
 use Rattle.hive_model.specs.Bins.{Cells}
-use Rattle.hive_model.specs.Walk.{Check, uses, tests, reading, found, below_of, use_as}
-use Rattle.hive_read.specs.Walked.{Seen, fault, check, walk, Stops, Steps}
+use Rattle.hive_model.specs.Walk.{Check, below_of}
+use Rattle.hive_read.specs.Walked.{Seen, check, walk, Stops, Steps}
 
 pub not-same : (a b : ℕ) → (a ≡ b → ⊥) → eqb a b ≡ false
 not-same a b n = go (eqb a b) refl
@@ -62,39 +62,6 @@ pub steps-same : {X : Type 0} (P Q : X → Type 0) (a b : Result Seen HiveFault)
 steps-same P Q a b new (Ok x) e h s = (e ∙ s.0, h x s.1)
 steps-same P Q a b new (Err stops.Memory) e h s = tt
 steps-same P Q a b new (Err (stops.Fault f)) e h s = e ∙ s
-
--- ---- a form
-
--- a cell that cannot be used
-pub use-off : {F : Type 0} (security : Bool) (form : List ℕ
-    → Result F HiveFaultKind) (cells : Cells) (seen : Seen) (at : ℕ)
-    (f : HiveFault)
-    → check cells seen (uses at security) ≡ Err f → walk cells seen (use_as security form cells at) ≡ Err f
-use-off security form cells seen at f e =
-    ap (λ r. r >>= λ after. walk cells after (tests at (found (reading form cells at)) ∷ [])) e
-
--- a cell whose payload has a form, or its first fault
-pub use-form : {X F : Type 0} (view : X → F) (security : Bool) (form : List ℕ → Result F HiveFaultKind) (cells : Cells)
-    (seen after : Seen) (at : ℕ) (payload : List ℕ) (r : Result X ReadStop)
-    → check cells seen (uses at security) ≡ Ok after → cells.payload at ≡ Ok payload → Gives view at r (form payload)
-    → Steps (λ x. reading form cells at ≡ Ok (view x)) (walk cells seen (use_as security form cells at)) after r
-use-form view security form cells seen after at payload (Ok x) u c g =
-    let r : reading form cells at ≡ Ok (view x) = ap (λ p. p >>= form) c ∙ g in
-    (rw (u, r) refl, r)
-use-form view security form cells seen after at payload (Err stops.Memory) u c g = tt
-use-form view security form cells seen after at payload (Err (stops.Fault f)) u c g =
-    let r : reading form cells at ≡ Err f.kind = ap (λ p. p >>= form) c ∙ g.0 in
-    let same : fault {A = Seen} f.kind at ≡ Err f = ap (λ (a : ℕ). Err (record { kind = f.kind; at = a })) (sym g.1) in
-    rw (u, r) same
-
--- a test that fails, and one that passes
-pub test-off : (cells : Cells) (seen : Seen) (at : ℕ) (kind : HiveFaultKind) (k : Option HiveFaultKind)
-    → (cs : List Check) → k ≡ Some kind → walk cells seen (tests at k ∷ cs) ≡ fault kind at
-test-off cells seen at kind k cs e = rw e refl
-
-pub test-on : (cells : Cells) (seen : Seen) (at : ℕ) (k : Option HiveFaultKind) (cs : List Check) → k ≡ None
-    → walk cells seen (tests at k ∷ cs) ≡ walk cells seen cs
-test-on cells seen at k cs e = rw e refl
 
 -- ---- the front of a list
 

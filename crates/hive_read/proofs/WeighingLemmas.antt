@@ -50,11 +50,6 @@ bytes-long cells n at b r =
     let t = unless (nat_lt (length p.0) n) FormShort (Ok (take n p.0)) b p.2 in
     ap length (sym (ok_same (take n p.0) b t.1)) ∙ take-long n p.0 (not-above (length p.0) n t.0)
 
--- at first no segment is before these; each that was read is one more; behind the last all were walked
-pub segments-first : (cells : Cells) (size : ℕ) (offsets : List ℕ) (seen : Seen)
-    → SegmentsSoFar cells size offsets size offsets seen seen
-segments-first cells size offsets seen = record { bytes = []; told = refl; stand = λ more e. e; long = omega arith }
-
 pub segments-next : (cells : Cells) (size : ℕ) (offsets : List ℕ) (left : ℕ) (rest : List ℕ) (seen start after : Seen)
     (at : ℕ) (others part : List ℕ)
     → SegmentsSoFar cells size offsets left rest seen start → rest ≡ at ∷ others

@@ -10,8 +10,9 @@ use Rattle.nt_bytes.specs.declared.version.HiveVersion.{HiveVersion}
 use Rattle.hive_model.specs.Tree.{Item, Tree, Trees, key, trees, listed, head, children, is_named, is_item, find_key, find_item}
 use Rattle.hive_model.specs.Size.{bulk_of}
 use Rattle.hive_model.specs.Valid.{levels}
-use Rattle.hive_model.specs.Edit.{Step, Refusal, set_value, delete_value, make_key, delete_key, copy_child, add_child, no_key, no_value, full, exists, name_too_long, data_too_long, too_deep, unless, at_first, without_first, of_items, of_children, at_key, with_item, value_set, has_item, has_child, placed, name_tests, without_key, renamed, with_child, after_step, most_bulk, edited}
+use Rattle.hive_model.specs.Edit.{Step, Refusal, set_value, delete_value, make_key, delete_key, copy_child, add_child, no_key, no_value, bad_name, full, exists, name_too_long, data_too_long, too_deep, unless, at_first, without_first, of_items, of_children, at_key, with_item, value_set, has_item, has_child, placed, is_bad_name, name_tests, new_key, with_key, key_made, without_key, renamed, with_child, after_step, most_bulk, edited}
 use Rattle.reg_tree.proofs.Trees.{listed_trees, trees_listed}
+use Rattle.hive_edit.specs.Found.{HoldsValue}
 use Rattle.hive_store.specs.Same.{Keep, HasValue}
 use Rattle.std.proofs.lemmas.Option.{same_Some}
 use Rattle.hive_model.specs.Forms.{◌>>=◌}
@@ -238,22 +239,30 @@ set_back version t path name kind bytes e =
       has = record { value = v.0; found = v.1; kind_is = v.2; bytes_are = v.3 };
     }
 
--- a value set keeps the tree exactly where the limits allow it and the key that is found has the value
-pub set_same : (version : HiveVersion) (t k : Tree) (path : List (List ℕ)) (name : List ℕ) (kind : ℕ) (bytes : List ℕ)
+-- a value set keeps the tree exactly where the limits allow it and the key at the path has the value
+pub set_held : (version : HiveVersion) (t : Tree) (path : List (List ℕ)) (name : List ℕ) (kind : ℕ) (bytes : List ℕ)
     (b : Bool) (n : ℕ) → n ≡ bulk_of version t → n ≤ 16773120
-    → length name ≤ 16383 → length bytes ≤ 1048576 → Some k ≡ find_key path t
-    → ((b ≡ true) ↔ HasValue k name kind bytes)
+    → length name ≤ 16383 → length bytes ≤ 1048576
+    → ((b ≡ true) ↔ HoldsValue path name kind bytes t)
     → ((b ≡ true) ↔ Keep version t (set_value path name kind bytes ∷ []))
-set_same version t k path name kind bytes b n bulk within short few found is =
-    let small = le-ltb most_bulk (bulk_of version t) (omega (arith, bulk, within)) in
-    let back : Keep version t (set_value path name kind bytes ∷ []) → b ≡ true = λ kept.
-    let s = set_back version t path name kind bytes kept in
-    let same : s.at ≡ k = same_Some s.at k (sym s.found ∙ sym found) in
-    is.1 (subst (λ (u : Tree). HasValue u name kind bytes) same s.has) in (
-      λ e. set_keep version t k path name kind bytes small (le-ltb 16383 (length name) short)
-          (le-ltb 1048576 (length bytes) few) (sym found) (is.0 e),
-      back,
-    )
+set_held version t path name kind bytes b n bulk within short few is = (
+  λ e.
+      let h = is.0 e in
+      set_keep version t h.key path name kind bytes
+      (le-ltb most_bulk (bulk_of version t) (omega (arith, bulk, within))) (le-ltb 16383 (length name) short)
+      (le-ltb 1048576 (length bytes) few) h.at
+      (record { value = h.value; found = h.found; kind_is = h.kind_is; bytes_are = h.bytes_are }),
+  λ kept.
+      let s = set_back version t path name kind bytes kept in
+      is.1 (record {
+        key = s.at;
+        value = s.has.value;
+        at = s.found;
+        found = s.has.found;
+        kind_is = s.has.kind_is;
+        bytes_are = s.has.bytes_are;
+      }),
+)
 
 -- where it isn't kept, it is said so
 pub false_same : (P : Type 0) → (P → ⊥) → ((false ≡ true) ↔ P)
@@ -383,6 +392,119 @@ copy_child_changes version t from to e =
     go : (o : Option Tree) → not (is_some o) ≡ false → option_map_or (λ k. with_child to k t) o t ≡ t → ⊥
     go None is same = absurd cc
     go (Some k) is same = child_added_changes to k t same
+
+-- ---- a key made
+
+found_on : (parent : List (List ℕ)) (name : List ℕ) (t : Tree) → find_key (parent ++ name ∷ []) t
+    ≡ option_and_then (λ k. find_key (name ∷ []) k) (find_key parent t)
+found_on [] name t = refl
+found_on (m ∷ parent) name t = go (find (is_named m) (children t)) (λ u. found_on parent name u)
+  where
+    go : (o : Option Tree) → ((u : Tree)
+        → find_key (parent ++ name ∷ []) u ≡ option_and_then (λ k. find_key (name ∷ []) k) (find_key parent u))
+        → option_and_then (find_key (parent ++ name ∷ [])) o
+        ≡ option_and_then (λ k. find_key (name ∷ []) k) (option_and_then (find_key parent) o)
+    go None deep = refl
+    go (Some u) deep = deep u
+
+has_found : (name : List ℕ) (k : Tree) → is_some (find_key (name ∷ []) k) ≡ has_child name k
+has_found name k = go (find (is_named name) (children k))
+  where
+    go : (o : Option Tree) → is_some (option_and_then (find_key []) o) ≡ is_some o
+    go None = refl
+    go (Some u) = refl
+
+-- what a key that is made and leaves the tree says
+pub record IsMadeBefore (version : HiveVersion) (t : Tree) (parent : List (List ℕ)) (name : List ℕ) : Type 0 where
+  pub small : nat_lt most_bulk (bulk_of version t) ≡ false
+  pub good : is_bad_name name ≡ false
+  pub short : nat_lt 255 (length name) ≡ false
+  pub shallow : nat_lt 512 (length parent + 2) ≡ false
+  pub has : is_some (find_key (parent ++ name ∷ []) t) ≡ true
+
+made_back : (version : HiveVersion) (t : Tree) (parent : List (List ℕ)) (name : List ℕ)
+    → Keep version t (make_key parent name ∷ []) → IsMadeBefore version t parent name
+made_back version t parent name e =
+    let kept = kept_one version t (make_key parent name) e in
+    let x = at_key parent (with_key name) t in
+    let fourth : List (Bool × Refusal) = (nat_lt 512 (length parent + 2), too_deep) ∷ [] in
+    let third : List (Bool × Refusal) = (nat_lt 255 (length name), name_too_long) ∷ fourth in
+    let second : List (Bool × Refusal) = (is_bad_name name, bad_name) ∷ third in
+    let one = passed_first (is_none (find_key parent t)) no_key second x t kept.0 in
+    let two = passed_first (is_bad_name name) bad_name third x t one.1 in
+    let three = passed_first (nat_lt 255 (length name)) name_too_long fourth x t two.1 in
+    let four = passed_first (nat_lt 512 (length parent + 2)) too_deep [] x t three.1 in
+    let k = there (find_key parent t) one.0 in
+    let here : with_key name k.0 ≡ k.0 = at_back parent (with_key name) t k.0 k.1 (passed [] x t four.1) in
+    record {
+      small = kept.1;
+      good = two.0;
+      short = three.0;
+      shallow = four.0;
+      has = ap is_some (found_on parent name t ∙ ap (option_and_then (λ u. find_key (name ∷ []) u)) k.1)
+          ∙ has_found name k.0 ∙ had k.0 (has_child name k.0) refl here;
+    }
+  where
+    had : (k : Tree) (b : Bool) → has_child name k ≡ b → cond b k (of_children (placed (new_key name k)) k) ≡ k
+        → has_child name k ≡ true
+    had k true e h = e
+    had k false e h =
+        absurd (omega (
+          arith,
+          longer (new_key name k) (children k),
+          ap (λ (l : List Tree). length l) (child_back (placed (new_key name k)) k h),
+        ))
+
+made_keep : (version : HiveVersion) (t : Tree) (parent : List (List ℕ)) (name : List ℕ)
+    → nat_lt most_bulk (bulk_of version t) ≡ false → is_bad_name name ≡ false → nat_lt 255 (length name) ≡ false
+    → nat_lt 512 (length parent + 2) ≡ false → is_some (find_key (parent ++ name ∷ []) t) ≡ true
+    → Keep version t (make_key parent name ∷ [])
+made_keep version t parent name small good short shallow has =
+    go (find_key parent t) refl (ap is_some (sym (found_on parent name t)) ∙ has)
+  where
+    go : (o : Option Tree) → find_key parent t ≡ o → is_some (option_and_then (λ k. find_key (name ∷ []) k) o) ≡ true
+        → Keep version t (make_key parent name ∷ [])
+    go None found h = absurd cc
+    go (Some k) found h =
+        let own : has_child name k ≡ true = sym (has_found name k) ∙ h in
+        let fixed : with_key name k ≡ k =
+        ap (λ (b : Bool). cond b k (of_children (placed (new_key name k)) k)) own in
+        let same : at_key parent (with_key name) t ≡ t = at_keep parent (with_key name) t k found fixed in
+        let step : key_made parent name t ≡ made t =
+        rw (ap (λ (o : Option Tree). is_none o) found, good, short, shallow) (ap made same) in
+        one_kept version t (make_key parent name) (step, small)
+
+module _ (version : HiveVersion) (t : Tree) (parent : List (List ℕ)) (name : List ℕ) where
+  abbrev IsMadeKept : Type 0
+  IsMadeKept = Keep version t (make_key parent name ∷ [])
+
+  pub made_not_small : (n : ℕ) → n ≡ bulk_of version t → 16773120 < n → ((false ≡ true) ↔ IsMadeKept)
+  made_not_small n is big = false_same IsMadeKept
+      (λ kept. omega (arith, is, big, ltb-false most_bulk (bulk_of version t) (made_back version t parent name kept).small))
+
+  pub made_not_good : is_bad_name name ≡ true → ((false ≡ true) ↔ IsMadeKept)
+  made_not_good bad = false_same IsMadeKept
+      (λ kept. absurd (let good = (made_back version t parent name kept).good in cc))
+
+  pub made_not_short : 255 < length name → ((false ≡ true) ↔ IsMadeKept)
+  made_not_short long = false_same IsMadeKept
+      (λ kept. omega (arith, long, ltb-false 255 (length name) (made_back version t parent name kept).short))
+
+  pub made_not_shallow : 510 < length parent → ((false ≡ true) ↔ IsMadeKept)
+  made_not_shallow deep = false_same IsMadeKept
+      (λ kept. omega (arith, deep, ltb-false 512 (length parent + 2) (made_back version t parent name kept).shallow))
+
+  -- a key made keeps the tree exactly where it may be made and is there
+  pub made_same : (n : ℕ) (path : List (List ℕ)) (b : Bool) → n ≡ bulk_of version t → n ≤ 16773120
+      → is_bad_name name ≡ false → length name ≤ 255 → length parent ≤ 510
+      → path ≡ parent ++ name ∷ [] → b ≡ is_some (find_key path t) → ((b ≡ true) ↔ IsMadeKept)
+  made_same n path b is within good short shallow at found =
+      let same : b ≡ is_some (find_key (parent ++ name ∷ []) t) =
+      found ∙ ap (λ (p : List (List ℕ)). is_some (find_key p t)) at in (
+        λ e. made_keep version t parent name (le-ltb most_bulk (bulk_of version t) (omega (arith, is, within))) good
+            (le-ltb 255 (length name) short) (le-ltb 512 (length parent + 2) (omega (arith, shallow))) (sym same ∙ e),
+        λ kept. same ∙ (made_back version t parent name kept).has,
+      )
 
 -- whether a step may leave a tree as it is
 abbrev pub may_keep : Step → Bool

@@ -1,14 +1,15 @@
 //! Whether edits leave a hive's tree as it is.
 
 ghost use Rattle.std.specs.Prelude.{◌≡◌, ◌↔◌, ◌∷◌, [], true, map, IfOk, IfErr};
-ghost use Rattle.hive_model.specs.Edit.{edited, set_value};
+ghost use Rattle.hive_model.specs.Edit.{edited, make_key, set_value};
 ghost use Rattle.reg_tree.specs.Makes.{IsRefused, step_of};
-ghost use Rattle.hive_store.specs.Same.{Keep, HasValue};
+ghost use Rattle.hive_store.specs.Same.{Keep};
 
 use hive_edit::HiveBytes;
-use nt_bytes::{Names, Row};
+use nt_bytes::{Names, Row, Units};
 use reg_tree::{
-    EditStop, Key, LONGEST_DATA, LONGEST_VALUE_NAME, MOST_BULK, Steps, TreeStep, Value,
+    EditStop, Key, LONGEST_DATA, LONGEST_KEY_NAME, LONGEST_VALUE_NAME, MOST_BULK, MOST_PARENTS,
+    Steps, TreeStep, is_bad_name,
 };
 use std::alloc::{AllocError, Global};
 use tree_draft::apply;
@@ -86,24 +87,7 @@ fn keeps_whole(alloc: Global, cells: &HiveBytes, steps: &Steps) -> Result<bool, 
     Ok(work.same(&tree))
 }
 
-/// Whether a value has this type and these data.
-fn is_value(value: &Value, kind: u32, bytes: &[u8]) -> bool
-    ensures { (result ≡ true) ↔ (value.now.kind ≡ kind) × (value.now.bytes ≡ bytes.now) }
-{
-    value.kind == kind && value.data() == bytes
-}
-
-/// Whether a value of a key has this name, type and data.
-fn has_value(key: &Key, name: &[u16], kind: u32, bytes: &[u8]) -> bool
-    ensures { (result ≡ true) ↔ HasValue key.now name.now kind bytes.now }
-{
-    match key.value(name) {
-        Some(value) => is_value(value, kind, bytes),
-        None => false,
-    }
-}
-
-/// Whether setting a value leaves the tree as it is, by the key that it is set in.
+/// Whether setting a value leaves the tree as it is, by the value that is there.
 fn set_keeps(
     alloc: Global,
     cells: &HiveBytes,
@@ -123,10 +107,33 @@ fn set_keeps(
     if bytes.len() > LONGEST_DATA {
         return Ok(false);
     }
-    match cells.subtree(alloc, path)? {
-        Some(key) => Ok(has_value(&key, name, kind, bytes)),
-        None => Ok(false),
+    cells.has_value(alloc, path, name, kind, bytes)
+}
+
+/// Whether making a key leaves the tree as it is: where it is there, and may be made.
+fn make_keeps(
+    alloc: Global,
+    cells: &HiveBytes,
+    parent: &Names,
+    name: &Units,
+) -> Result<bool, AllocError>
+    ensures { IfOk result (λ b. (b ≡ true) ↔ Keep cells.now.version cells.now.tree (make_key parent.now name.now ∷ [])) }
+{
+    if cells.bulk() > MOST_BULK {
+        return Ok(false);
     }
+    if is_bad_name(name.as_slice()) {
+        return Ok(false);
+    }
+    if name.as_slice().len() > LONGEST_KEY_NAME {
+        return Ok(false);
+    }
+    if parent.as_slice().len() > MOST_PARENTS {
+        return Ok(false);
+    }
+    let mut path = parent.copy(alloc)?;
+    path.push(name.copy(alloc)?)?;
+    Ok(cells.has(&path))
 }
 
 /// Whether one step leaves the tree as it is: setting a value may, and making a key; another step never.
@@ -150,7 +157,10 @@ fn step_keeps(
             let same = set_keeps(alloc, cells, path, name.as_slice(), *kind, bytes.as_slice())?;
             Ok(same)
         }
-        TreeStep::MakeKey { .. } => keeps_whole(alloc, cells, steps),
+        TreeStep::MakeKey { parent, name } => {
+            let same = make_keeps(alloc, cells, parent, name)?;
+            Ok(same)
+        }
         TreeStep::DeleteValue { .. } => Ok(false),
         TreeStep::DeleteKey { .. } => Ok(false),
         TreeStep::CopyChild { .. } => Ok(false),

@@ -1,14 +1,13 @@
 -- The root of well-formed cells meets what is asked of its lists.
-use Rattle.std.proofs.Common.{◌≡◌, ◌<◌, ℕ, zero, suc, Bool, true, false, not, ◌&&◌, cond, if◌then◌else◌, List, [], ◌∷◌, ◌++◌, ◌+◌, length, Ok, Err, refl, sym, ap, subst, ◌∙◌, arith, eqb, length-append}
-use Rattle.std.specs.Prelude.{get_or, ◌==◌}
-use Rattle.std.specs.List.{AllPairs}
+use Rattle.std.proofs.Common.{◌≡◌, ℕ, suc, Bool, true, false, not, ◌&&◌, cond, if◌then◌else◌, List, [], ◌∷◌, ◌++◌, ◌+◌, length, Ok, Err, refl, sym, ap, subst, ◌∙◌, arith, length-append}
+use Rattle.std.specs.Prelude.{◌==◌}
 use Rattle.std.proofs.lemmas.List.{get_or_append_left, get_or-append-add}
 use Rattle.nt_bytes.specs.declared.fault.HiveFaultKind.TheVariants.{FormName, Count}
 use Rattle.hive_model.specs.Bins.{Cells}
 use Rattle.hive_model.specs.Forms.{◌>>=◌}
 use Rattle.hive_model.specs.KeyNode.{KeyNode, key_node_at}
 use Rattle.hive_model.specs.Tree.{Tree}
-use Rattle.hive_model.specs.Walk.{Check, reading, node_at, below_of, use_as, name_check, class_checks, security_checks, values_checks, children_checks, entries_checks, entries_at, keys_in_turn, failing, tests, below_node, key_checks, all_checks, clashes, AreUsedOnce}
+use Rattle.hive_model.specs.Walk.{Check, reading, node_at, below_of, use_as, name_check, class_checks, security_checks, values_checks, children_checks, entries_checks, entries_at, keys_in_turn, failing, tests, below_node, key_checks, all_checks, AreUsedOnce}
 use Rattle.hive_model.specs.Footprint.{used_in}
 use Rattle.hive_model.specs.Stands.{IsWellFormed}
 use Rattle.key_index.specs.Lists.{IsNode, ListsSiblings, lists_at, payload_in}

@@ -5,7 +5,6 @@ use Rattle.std.specs.Option.{IfSome, option_or, is_some}
 use Rattle.std.specs.declared.cmp.Ordering.{Ordering}
 use Rattle.std.specs.Ordering.{is_eq}
 use Rattle.std.specs.List.{All, Contains, flat_map}
-use Rattle.std.proofs.Math.Seq.{drop-length}
 use Rattle.std.proofs.lemmas.List.{drop_more}
 use Rattle.std.proofs.lemmas.List.Folds.{find-append}
 use Rattle.std.proofs.lemmas.List.Elements.{Contains-append_left, Contains-append_right, Contains-get_or}
@@ -28,11 +27,6 @@ pub find_on : (test : ℕ → Bool) (xs : List ℕ) (i : ℕ) → i < length xs 
 find_on test xs i lt so_far fails =
     sym (ap (find test) (drop_more xs i 0 lt)
     ∙ ap (λ (b : Bool). cond b (Some (get_or xs i 0)) (find test (drop (i + 1) xs))) fails) ∙ so_far
-
-pub find_end : (test : ℕ → Bool) (xs : List ℕ) (i : ℕ) → i ≡ length xs → find test (drop i xs) ≡ find test xs
-    → find test xs ≡ None
-find_end test xs i e so_far =
-    sym so_far ∙ ap (λ (n : ℕ). find test (drop n xs)) e ∙ ap (find test) (drop-length xs)
 
 -- ---- list by list
 
@@ -62,12 +56,6 @@ pub find_past : (test : ℕ → Bool) (f : ℕ → List ℕ) (xs : List ℕ) (i 
     → find test (flat_map f (drop (i + 1) xs)) ≡ find test (flat_map f xs)
 find_past test f xs i None lt so_far e none = sym (none_first _ _ (sym e)) ∙ sym (step_in test f xs i lt) ∙ so_far
 find_past test f xs i (Some x) lt so_far e none = absurd cc
-
-pub find_over : (test : ℕ → Bool) (f : ℕ → List ℕ) (xs : List ℕ) (i : ℕ) → i ≡ length xs
-    → find test (flat_map f (drop i xs)) ≡ find test (flat_map f xs) → find test (flat_map f xs) ≡ None
-find_over test f xs i e so_far =
-    sym so_far ∙ ap (λ (n : ℕ). find test (flat_map f (drop n xs))) e
-    ∙ ap (λ (ys : List ℕ). find test (flat_map f ys)) (drop-length xs)
 
 -- what one of the lists has, they have together
 pub contains_one : (f : ℕ → List ℕ) (xs : List ℕ) (i x : ℕ) → i < length xs → Contains (f (get_or xs i 0)) x

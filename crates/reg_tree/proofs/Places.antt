@@ -1,13 +1,12 @@
 -- Lists changed at the first place that passes a test.
 use Rattle.std.proofs.Common.{◌≡◌, ℕ, suc, ◌+◌, Bool, true, false, cond, List, [], ◌∷◌, ◌++◌, get_or, Option, Some, None, refl, sym, ◌∙◌, arith}
 use Rattle.std.specs.Prelude.{position, find}
-use Rattle.std.specs.List.{position_from, insert, remove}
+use Rattle.std.specs.List.{position_from, remove}
 use Rattle.std.specs.Option.{is_some}
 use Rattle.std.proofs.lemmas.Iterator.Adapters.{position_from-zero}
 use Rattle.std.proofs.Math.ListN.{set}
-use Rattle.hive_model.specs.Tree.{Item, Tree, head, is_item}
-use Rattle.hive_model.specs.Edit.{at_first, without_first, with_item, placed}
-use Rattle.reg_tree.specs.Places.{folds_greater}
+use Rattle.hive_model.specs.Tree.{Item, is_item}
+use Rattle.hive_model.specs.Edit.{at_first, without_first, with_item}
 
 some_is : (a b : ℕ) → Some a ≡ Some b → a ≡ b
 some_is a b e = cc
@@ -118,34 +117,3 @@ item_set name kind bytes vs at d h =
 pub item_added : (name : List ℕ) (kind : ℕ) (bytes : List ℕ) (vs : List Item) → position (is_item name) vs ≡ None
     → with_item name kind bytes vs ≡ vs ++ record { name = name; kind = kind; bytes = bytes } ∷ []
 item_added name kind bytes vs h = rw (none_found (is_item name) vs h) refl
-
--- ---- a key that is placed
-
-placed_from : (t : Tree) (i : ℕ) (ts : List Tree) (at : ℕ) → position_from (folds_greater (head t).name) i ts ≡ Some at
-    → (k : ℕ) × (at ≡ i + k) × (placed t ts ≡ insert ts k t)
-placed_from t i [] at h = absurd cc
-placed_from t i (u ∷ us) at h =
-    elim (place_of (folds_greater (head t).name) i u us at h) [
-      | here e same ↦ (0, omega arith, rw e refl)
-      | there e more ↦
-          let below = placed_from t (i + 1) us at more in
-          (suc below.0, omega (arith, below.1), rw (e, below.2) refl)
-    ]
-
-pub placed_at : (t : Tree) (ts : List Tree) (at : ℕ) → position (folds_greater (head t).name) ts ≡ Some at
-    → placed t ts ≡ insert ts at t
-placed_at t ts at h =
-    let f = placed_from t 0 ts at (from_front (folds_greater (head t).name) ts (Some at) h) in
-    let same : at ≡ f.0 = omega (arith, f.1) in
-    rw same f.2
-
-placed_last_from : (t : Tree) (i : ℕ) (ts : List Tree) → position_from (folds_greater (head t).name) i ts ≡ None
-    → placed t ts ≡ ts ++ t ∷ []
-placed_last_from t i [] h = refl
-placed_last_from t i (u ∷ us) h =
-    let n = no_place (folds_greater (head t).name) i u us h in
-    rw (n.0, placed_last_from t (i + 1) us n.1) refl
-
-pub placed_last : (t : Tree) (ts : List Tree) → position (folds_greater (head t).name) ts ≡ None
-    → placed t ts ≡ ts ++ t ∷ []
-placed_last t ts h = placed_last_from t 0 ts (from_front (folds_greater (head t).name) ts None h)

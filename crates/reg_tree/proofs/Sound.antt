@@ -6,7 +6,7 @@ use Rattle.hive_model.specs.Tree.{Item, Head, Tree, Trees, key, none, more, tree
 use Rattle.hive_model.specs.Valid.{IsItem, IsKey, HoldsKeys, AllHoldKeys, levels, most_levels, IsValid}
 use Rattle.nt_bytes.specs.Text.{is_backslash}
 use Rattle.nt_bytes.specs.declared.version.HiveVersion.{HiveVersion}
-use Rattle.hive_model.specs.Size.{cell, items_sum, items_size, size, size_of_all, bulk_of}
+use Rattle.hive_model.specs.Size.{items_sum, items_size, size, size_of_all, bulk_of}
 use Rattle.reg_tree.proofs.Trees.{listed_trees}
 use Rattle.reg_tree.proofs.Unlike.{Each, Unlike, each_from, each_all, unlike_from, unlike_pairs}
 
@@ -144,9 +144,6 @@ mutual
   all_hold n d (more t ts) small f s = (sound_holds n d t small f.0 s.0, all_hold n d ts small f.1 s.1)
 
 -- ---- a bulk bounds the numbers of values and children
-
-some_cell : (p : ℕ) → 0 < cell p
-some_cell p = omega arith
 
 many_items : (version : HiveVersion) (vs : List Item) → length vs ≤ items_sum version vs
 many_items version [] = omega arith

@@ -1,4 +1,4 @@
-use Rattle.edit_laws.proofs.KeyDone.{a_child_added}
+use Rattle.edit_laws.proofs.KeySteps.{a_child_added}
 use Rattle.edit_laws.proofs.keys.a_child_is_added.Goals as goal
 
 pub returns : goal.returns

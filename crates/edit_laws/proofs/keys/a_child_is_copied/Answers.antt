@@ -1,4 +1,4 @@
-use Rattle.edit_laws.proofs.KeyDone.{a_child_copied}
+use Rattle.edit_laws.proofs.KeySteps.{a_child_copied}
 use Rattle.edit_laws.proofs.keys.a_child_is_copied.Goals as goal
 
 pub returns : goal.returns

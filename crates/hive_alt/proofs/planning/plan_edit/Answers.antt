@@ -14,8 +14,8 @@ pub plan_pack-requires-clause-room : goal.plan_pack-requires-clause-room
 plan_pack-requires-clause-room c =
     edited_fits c.args.version c.in_ok-work.work c.apply.new.self (map step_of c.in_ok-steps.steps) c.in-Ok.ensures.made
 
-pub returns-in-Ok : goal.returns-in-Ok
-returns-in-Ok c =
+pub returns-in-Ok-clause-plan : goal.returns-in-Ok-clause-plan
+returns-in-Ok-clause-plan c =
     let version = c.args.version in
     let tree = c.args.tree.now in
     let steps = map step_of c.in_ok-steps.steps in
@@ -24,10 +24,10 @@ returns-in-Ok c =
     let made = sym (ap (λ (t : Tree). edited version t steps) same) ∙ c.in-Ok.ensures.made in
     subst (λ (x : Change). IfOk c.plan_pack.result (IsPlanOf version x))
     (sym (plan_made version tree c.apply.new.self c.args.number steps c.requires.there c.in_ok-steps.ensures made))
-    c.plan_pack.ensures
+    c.plan_pack.ensures.plan
 
-pub returns-in-Err-Full : goal.returns-in-Err-Full
-returns-in-Err-Full c =
+pub returns-in-Err-Full-clause-plan : goal.returns-in-Err-Full-clause-plan
+returns-in-Err-Full-clause-plan c =
     let version = c.args.version in
     let tree = c.args.tree.now in
     let steps = map step_of c.in_ok-steps.steps in

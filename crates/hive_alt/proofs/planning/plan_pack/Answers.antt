@@ -2,8 +2,8 @@ use Rattle.std.proofs.Common.{refl}
 use Rattle.hive_model.specs.Packed.{packed_bins}
 use Rattle.hive_alt.proofs.planning.plan_pack.Goals as goal
 
-pub returns : goal.returns
-returns c = (
+pub returns-clause-plan : goal.returns-clause-plan
+returns-clause-plan c = (
   c.args.work.now,
   refl,
   record {

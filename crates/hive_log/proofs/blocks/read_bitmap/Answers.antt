@@ -1,4 +1,4 @@
-use Rattle.std.proofs.Common.{◌≡◌, ◌-◌, Ok, List, ℕ, true, ◌∙◌, ap}
+use Rattle.std.proofs.Common.{◌-◌, Ok, List, ℕ, ◌∙◌, ap}
 use Rattle.std.proofs.lemmas.Result.{err_from_is_err_and}
 use Rattle.hive_model.specs.Asked.{log_at, one_by_one, run_at}
 use Rattle.hive_model.specs.Image.{Image, Log, Address}

@@ -1,4 +1,4 @@
-use Rattle.std.proofs.Common.{◌≡◌, List, ℕ, Result, Ok, Err, sym, ◌∙◌, ap, cond}
+use Rattle.std.proofs.Common.{List, ℕ, Result, Ok, Err, sym, ◌∙◌, ap, cond}
 use Rattle.std.specs.Prelude.{nat_eq, codes}
 use Rattle.std.specs.List.{starts_with}
 use Rattle.std.proofs.lemmas.Result.{err_from_is_err_and}

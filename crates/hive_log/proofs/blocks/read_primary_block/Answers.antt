@@ -3,7 +3,7 @@ use Rattle.std.proofs.lemmas.Result.{err_from_is_err_and}
 use Rattle.nt_bytes.specs.declared.fault.HiveFaultKind.TheVariants.{NotRegf}
 use Rattle.hive_model.specs.Asked.{primary_at}
 use Rattle.hive_model.specs.Image.{Bytes, Unreadable}
-use Rattle.hive_model.specs.Base.{Base, base_of, fault_at}
+use Rattle.hive_model.specs.Base.{Base, fault_at}
 use Rattle.hive_model.specs.Recovery.{base_at, base_in}
 use Rattle.hive_log.specs.declared.stops.LoadStop.TheVariants as load
 use Rattle.hive_log.specs.Stops.{load_stop_of}

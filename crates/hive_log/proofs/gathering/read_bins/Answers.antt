@@ -1,4 +1,4 @@
-use Rattle.std.proofs.Common.{◌≡◌, ◌+◌, ◌++◌, ◌<◌, ℕ, Bool, true, false, List, length, Ok, Err, sym, ◌∙◌, ap, subst, arith, length-append}
+use Rattle.std.proofs.Common.{◌≡◌, ◌+◌, ◌++◌, ◌<◌, ℕ, true, false, List, length, Ok, sym, ◌∙◌, ap, subst, arith, length-append}
 use Rattle.std.proofs.lemmas.Result.{err_from_is_err_and}
 use Rattle.nt_bytes.specs.declared.fault.HiveFaultKind.TheVariants.{Size, Unreadable}
 use Rattle.hive_model.specs.Asked.{bin_at, unmarked_at, one_by_one}

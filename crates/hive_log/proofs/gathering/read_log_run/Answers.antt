@@ -1,10 +1,10 @@
-use Rattle.std.proofs.Common.{◌≡◌, ◌+◌, ◌++◌, ℕ, true, List, length, Ok, Err, sym, ◌∙◌, ap, subst, arith, length-append}
+use Rattle.std.proofs.Common.{◌≡◌, ◌+◌, ◌++◌, ℕ, true, List, length, Ok, sym, ◌∙◌, ap, subst, arith, length-append}
 use Rattle.std.proofs.lemmas.Result.{err_from_is_err_and}
 use Rattle.nt_bytes.specs.declared.fault.HiveFaultKind.TheVariants.{LogShort, LogUnreadable}
 use Rattle.hive_model.specs.Asked.{log_at, run_at, one_by_one}
 use Rattle.hive_model.specs.Base.{fault_at}
 use Rattle.hive_model.specs.Image.{Address, Image, Log}
-use Rattle.hive_model.specs.Recovery.{Sectors, log_in, read_log, gathered, sector}
+use Rattle.hive_model.specs.Recovery.{Sectors, read_log, gathered}
 use Rattle.nt_edge.proofs.Leaving.{leaves_then}
 use Rattle.hive_log.specs.Asked.{AsksFirst}
 use Rattle.hive_log.specs.Stops.{IsFaultOf}

@@ -1,4 +1,4 @@
-use Rattle.std.proofs.Common.{◌≡◌, ◌<◌, ◌+◌, ◌/◌, Ok, List, ℕ, true, sym, ◌∙◌, ap, subst, arith}
+use Rattle.std.proofs.Common.{◌≡◌, ◌<◌, ◌+◌, ◌/◌, Ok, List, ℕ, sym, ◌∙◌, ap, subst, arith}
 use Rattle.hive_model.specs.Asked.{run_at, unmarked_at, one_by_one}
 use Rattle.hive_model.specs.Image.{Address, Image, Log}
 use Rattle.hive_model.specs.Recovery.{bit, rank, first_dirty, read_log, gathered, sector}

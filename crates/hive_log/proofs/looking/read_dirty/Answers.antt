@@ -2,7 +2,7 @@ use Rattle.std.proofs.Common.{◌≡◌, Ok, List, [], ℕ, true, sym, ◌∙◌
 use Rattle.std.proofs.lemmas.Result.{err_from_is_err_and}
 use Rattle.hive_model.specs.Asked.{asked_log}
 use Rattle.hive_model.specs.Base.{Base}
-use Rattle.hive_model.specs.Image.{Image, Address}
+use Rattle.hive_model.specs.Image.{Image}
 use Rattle.hive_model.specs.Recovery.{bit, by_log, recovered_of}
 use Rattle.hive_log.specs.declared.looking.Reading.{Reading}
 use Rattle.hive_log.specs.Asked.{asked_log_bits, asked_by_bits}

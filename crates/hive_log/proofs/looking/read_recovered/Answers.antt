@@ -1,4 +1,4 @@
-use Rattle.std.proofs.Common.{◌≡◌, Option, Some, None, Ok, ◌∙◌, ap}
+use Rattle.std.proofs.Common.{Option, Some, None, Ok, ◌∙◌, ap}
 use Rattle.std.proofs.lemmas.Result.{err_from_is_err_and}
 use Rattle.hive_model.specs.Asked.{asked_if_read, asked_behind_base, asked_of}
 use Rattle.hive_model.specs.Base.{Base}

@@ -1,4 +1,4 @@
-use Rattle.std.proofs.Common.{◌/◌, ◌++◌, length, ap, sym, ◌∙◌, arith}
+use Rattle.std.proofs.Common.{◌/◌, ◌++◌, length, ap, ◌∙◌, arith}
 use Rattle.hive_model.specs.Base.{base_text}
 use Rattle.hive_model.specs.Recovery.{bit}
 use Rattle.hive_model.specs.Log.{bitmap_text, marked_sectors, log_of, dirty}

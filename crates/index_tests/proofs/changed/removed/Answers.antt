@@ -1,4 +1,4 @@
-use Rattle.std.proofs.Common.{◌≡◌, List, sym, subst}
+use Rattle.std.proofs.Common.{List, sym, subst}
 use Rattle.hive_model.specs.Bins.{Bin, look_up}
 use Rattle.cell_forms.specs.Views.{key_node_of}
 use Rattle.key_index.specs.Lists.{ListsSiblings, lists_at}
