@@ -19,6 +19,7 @@ host_of h = record {
   quiet = (h.fail_read == 0) && (h.fail_write == 0);
   files = files_of h;
   said = h.said.items;
+  errors = h.errors.items;
   gets = h.gets;
   reads = h.reads;
   writes = h.writes;
@@ -51,6 +52,7 @@ quiet_host_of h = record {
   quiet = true;
   files = quiet_files_of h;
   said = h.said.items;
+  errors = h.errors.items;
   gets = h.gets;
   reads = 0;
   writes = 0;

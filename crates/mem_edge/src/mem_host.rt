@@ -15,6 +15,7 @@ pub struct MemHost {
     alloc: Global,
     pub(crate) files: BTreeMap<String, Vec<u8>>,
     pub(crate) said: Vec<u8>,
+    pub(crate) errors: Vec<u8>,
     pub(crate) gets: u64,
     pub(crate) reads: u64,
     pub(crate) writes: u64,
@@ -33,6 +34,7 @@ impl MemHost {
     pub fn new(alloc: Global) -> MemHost
         ensures files { (q : List ℕ) → files_of result q ≡ None }
         ensures said { result.said.items ≡ [] }
+        ensures errors { result.errors.items ≡ [] }
         ensures gets { result.gets ≡ 0 }
         ensures reads { result.reads ≡ 0 }
         ensures writes { result.writes ≡ 0 }
@@ -43,6 +45,7 @@ impl MemHost {
             alloc,
             files: BTreeMap::new(alloc),
             said: Vec::new(alloc),
+            errors: Vec::new(alloc),
             gets: 0,
             reads: 0,
             writes: 0,
@@ -56,6 +59,7 @@ impl MemHost {
         ensures put { OnOk result (Puts (files_of self.old) (files_of self.new) name.now bytes.now) }
         ensures same { OnErr result (files_of self.new ≡ files_of self.old) }
         ensures said { self.new.said ≡ self.old.said }
+        ensures errors { self.new.errors ≡ self.old.errors }
         ensures gets { self.new.gets ≡ self.old.gets }
         ensures reads { self.new.reads ≡ self.old.reads }
         ensures writes { self.new.writes ≡ self.old.writes }
@@ -75,6 +79,7 @@ impl MemHost {
         ensures other { self.new.fail_write ≡ self.old.fail_write }
         ensures files { self.new.files ≡ self.old.files }
         ensures said { self.new.said ≡ self.old.said }
+        ensures errors { self.new.errors ≡ self.old.errors }
         ensures gets { self.new.gets ≡ self.old.gets }
         ensures reads { self.new.reads ≡ self.old.reads }
         ensures writes { self.new.writes ≡ self.old.writes }
@@ -90,6 +95,7 @@ impl MemHost {
         ensures other { self.new.fail_read ≡ self.old.fail_read }
         ensures files { self.new.files ≡ self.old.files }
         ensures said { self.new.said ≡ self.old.said }
+        ensures errors { self.new.errors ≡ self.old.errors }
         ensures gets { self.new.gets ≡ self.old.gets }
         ensures reads { self.new.reads ≡ self.old.reads }
         ensures writes { self.new.writes ≡ self.old.writes }
@@ -102,6 +108,13 @@ impl MemHost {
         ensures { result.now ≡ self.now.said.items }
     {
         self.said.as_slice()
+    }
+
+    /// What was said on standard error so far.
+    pub fn errors(&self) -> &[u8]
+        ensures { result.now ≡ self.now.errors.items }
+    {
+        self.errors.as_slice()
     }
 
     /// The bytes of the file, or none exactly where there is no such file.
@@ -143,7 +156,7 @@ fn is_due(left: &mut u64) -> bool
 
 impl Host for MemHost {
     ghost use Rattle.std.specs.Prelude.{◌≡◌, ◌++◌, true, IfOk, OnOk, OnErr, IsErrOf};
-    ghost use Rattle.nt_edge.specs.Host.{Puts, KeepsOthers, KeepsHost, KeepsFiles, IsUnsaid, Asks, AsksNone, SaysFront, CountsFault};
+    ghost use Rattle.nt_edge.specs.Host.{Puts, KeepsOthers, KeepsHost, KeepsFiles, IsUnsaid, Asks, AsksNone, SaysFront, SaysError, CountsFault};
     ghost use Rattle.nt_edge.specs.declared.host.HostStop.TheVariants.{Read, Write};
     ghost use Rattle.mem_edge.specs.Hosts.{host_of, FailsRead, FailsWrite, ends_law};
 
@@ -215,6 +228,15 @@ impl Host for MemHost {
             Ok(()) => Ok(()),
             Err(_) => Err(HostStop::Memory),
         }
+    }
+
+    fn say_error(&mut self, bytes: &[u8])
+        ensures said { (host_of self.old).tells ≡ true → SaysError (host_of self.old) (host_of self.new) bytes.now }
+        ensures same { host_of self.new ≡ record (host_of self.old) { errors = (host_of self.new).errors } }
+        ensures due_read { self.new.fail_read ≡ self.old.fail_read }
+        ensures due_write { self.new.fail_write ≡ self.old.fail_write }
+    {
+        let _unsaid = self.errors.extend_from_slice(bytes);
     }
 
     ghost bounded = { ends_law };

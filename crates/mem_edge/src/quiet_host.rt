@@ -15,6 +15,7 @@ pub struct QuietHost {
     alloc: Global,
     pub(crate) files: BTreeMap<String, Vec<u8>>,
     pub(crate) said: Vec<u8>,
+    pub(crate) errors: Vec<u8>,
     pub(crate) gets: u64,
 }
 
@@ -23,11 +24,13 @@ impl QuietHost {
     pub fn new(alloc: Global) -> QuietHost
         ensures files { (q : List ℕ) → quiet_files_of result q ≡ None }
         ensures said { result.said.items ≡ [] }
+        ensures errors { result.errors.items ≡ [] }
     {
         QuietHost {
             alloc,
             files: BTreeMap::new(alloc),
             said: Vec::new(alloc),
+            errors: Vec::new(alloc),
             gets: 0,
         }
     }
@@ -37,6 +40,7 @@ impl QuietHost {
         ensures put { OnOk result (Puts (quiet_files_of self.old) (quiet_files_of self.new) name.now bytes.now) }
         ensures same { OnErr result (quiet_files_of self.new ≡ quiet_files_of self.old) }
         ensures said { self.new.said ≡ self.old.said }
+        ensures errors { self.new.errors ≡ self.old.errors }
         ensures gets { self.new.gets ≡ self.old.gets }
     {
         let name = String::from_str(self.alloc, name)?;
@@ -50,6 +54,13 @@ impl QuietHost {
         ensures { result.now ≡ self.now.said.items }
     {
         self.said.as_slice()
+    }
+
+    /// What was said on standard error so far.
+    pub fn errors(&self) -> &[u8]
+        ensures { result.now ≡ self.now.errors.items }
+    {
+        self.errors.as_slice()
     }
 
     /// The bytes of the file, or none exactly where there is no such file.
@@ -89,6 +100,10 @@ impl Host for QuietHost {
             Ok(()) => Ok(()),
             Err(_) => Err(HostStop::Memory),
         }
+    }
+
+    fn say_error(&mut self, bytes: &[u8]) {
+        let _unsaid = self.errors.extend_from_slice(bytes);
     }
 
     ghost bounded = { quiet_law };

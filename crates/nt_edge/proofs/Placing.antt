@@ -1,5 +1,5 @@
 -- Files placed on a disk that holds nothing.
-use Rattle.std.proofs.Common.{◌≡◌, ◌⊎◌, ◌<◌, ◌≤◌, ◌+◌, ◌-◌, ◌*◌, ℕ, List, [], length, take, drop, cond, min, Some, None, sym, ◌∙◌, ap, inl, inr, ⊎_elim, arith, length-take}
+use Rattle.std.proofs.Common.{◌≡◌, ◌⊎◌, ◌<◌, ◌≤◌, ◌+◌, ◌-◌, ◌*◌, ℕ, List, length, take, drop, cond, min, Some, None, sym, ◌∙◌, ap, inl, inr, ⊎_elim, arith, length-take}
 use Rattle.std.proofs.lemmas.Bool.{lt-ltb, le-ltb, cases_lt}
 use Rattle.std.proofs.lemmas.List.{drop-take, take-take, take_all, length-take-le}
 use Rattle.std.specs.Prelude.{nat_lt, if◌then◌else◌}
@@ -64,19 +64,3 @@ placed_both primary log p l is_p is_l =
     → left (record { file = f; sector = n }) ≡ image_of primary log (record { file = f; sector = n }) =
     elim [ Primary ↦ λ n. sector_of-front primary p n is_p | Log ↦ λ n. sector_of-front log l n is_l ] in
     same_images left (image_of primary log) (λ a. each a.file a.sector)
-
-no_sector : (n : ℕ) → None ≡ image_of [] [] (record { file = Log; sector = n })
-no_sector n = sym (⊎_elim
-    (λ small. ap (λ t. cond t (sector_of [] n) None) (lt-ltb n 65536 small) ∙ sector_past [] n (omega arith))
-    (λ large. ap (λ t. cond t (sector_of [] n) None) (le-ltb n 65536 large))
-    (cases_lt n 65536))
-
--- a primary placed, and no log
-pub placed_primary : (primary : List ℕ) (p : ℕ) → p ≡ min (length primary) 33554432
-    → with_file Primary (take p primary) (λ _. None) ≡ image_of primary []
-placed_primary primary p is =
-    let left = with_file Primary (take p primary) (λ _. None) in
-    let each : (f : File) (n : ℕ)
-    → left (record { file = f; sector = n }) ≡ image_of primary [] (record { file = f; sector = n }) =
-    elim [ Primary ↦ λ n. sector_of-front primary p n is | Log ↦ λ n. no_sector n ] in
-    same_images left (image_of primary []) (λ a. each a.file a.sector)

@@ -1,7 +1,7 @@
 //! A host of files, to which a report is said.
 
 ghost use Rattle.std.specs.Prelude.{◌≡◌, ◌++◌, true, IfOk, OnOk, OnErr, IsErrOf};
-ghost use Rattle.nt_edge.specs.Host.{HostState, Puts, KeepsOthers, KeepsHost, KeepsFiles, IsUnsaid, Asks, AsksNone, SaysFront, CountsFault, IsWithinEnds};
+ghost use Rattle.nt_edge.specs.Host.{HostState, Puts, KeepsOthers, KeepsHost, KeepsFiles, IsUnsaid, Asks, AsksNone, SaysFront, SaysError, CountsFault, IsWithinEnds};
 ghost use Rattle.nt_edge.specs.declared.host.HostStop.TheVariants.{Read, Write};
 
 use nt_bytes::Bytes;
@@ -21,7 +21,7 @@ pub enum HostStop {
 /// other answer; it ends at 18,446,744,073,709,551,615 and stays there.
 pub trait Host {
     /// What the host is at a moment. No call changes whether it tells its files and what was said to it, and one
-    /// that is quiet stays quiet.
+    /// that is quiet stays quiet; only `say_error` says anything on standard error.
     ghost state: { Self → HostState };
 
     /// The bytes of the file, or none exactly where there is no such file.
@@ -57,6 +57,11 @@ pub trait Host {
         ensures unasked { AsksNone (state self.old) (state self.new) }
         ensures counts { CountsFault result (state self.old) (state self.new) }
         ensures never_read { IsErrOf result Read → ⊥ };
+
+    /// Says a text on standard error, where that can be done. It leaves what was said, the files and all counts as they were.
+    fn say_error(&mut self, bytes: &[u8])
+        ensures said { (state self.old).tells ≡ true → SaysError (state self.old) (state self.new) bytes.now }
+        ensures same { state self.new ≡ record (state self.old) { errors = (state self.new).errors } };
 
     /// Neither count is ever past its end.
     ghost bounded: { (host : Self) → IsWithinEnds (state host).reads (state host).writes };
