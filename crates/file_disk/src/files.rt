@@ -1,41 +1,38 @@
-//! The two open files of a hive.
+//! An open file, as a disk of sectors asks it.
 
-ghost use Rattle.std.specs.Prelude.{◌≡◌, ◌≤◌};
-ghost use Rattle.nt_edge.specs.Disk.{next};
+ghost use Rattle.std.specs.Prelude.{◌≡◌, ◌≤◌, ◌∷◌, [], ℕ, List, length};
+ghost use Rattle.std.specs.Io.{ReadsAtMost};
+ghost use Rattle.file_disk.specs.Asked.{Asked, ReadFrom, WroteTo, SyncedFile, Asks, CountsFailure};
 
-use nt_edge::{DiskStop, HiveFile};
-use std::fs::File;
 use std::io::Result as IoResult;
 
-/// The two open files of a hive. As a disk it is on, and its count of faults rises at each error.
-#[derive(Drop)]
-pub struct FileDisk {
-    pub(crate) primary: File,
-    pub(crate) log: File,
-    pub(crate) faults: u64,
-    ghost end: { faults ≤ 18446744073709551615 },
-}
+/// An open file that is read and written. It is known by its calls: one that forgets them, as a file of the system does, says every list.
+pub trait SectorFile {
+    /// What the file says of the calls that were made: lists, the first call first, among which is the true one.
+    ghost asked: { Self → List Asked → Type 0 };
 
-impl FileDisk {
-    pub(crate) fn file(&self, file: HiveFile) -> &File {
-        match file {
-            HiveFile::Primary => &self.primary,
-            HiveFile::Log => &self.log,
-        }
-    }
+    /// How many of them failed, up to the end of the count.
+    ghost failed: { Self → ℕ };
 
-    /// Both files, as far as the system has them, to the medium.
-    pub(crate) fn sync_both(&self) -> IoResult<()> {
-        self.primary.sync_all()?;
-        self.log.sync_all()
-    }
+    /// Reads bytes from this place on, as many as the file gives at once; none at and past its end.
+    fn read_at(&mut self, into: &mut [u8], place: u64) -> IoResult<usize>
+        ensures asked { Asks (asked self.old) (asked self.new) (ReadFrom place (length into.old) ∷ []) }
+        ensures failed { CountsFailure result (failed self.old) (failed self.new) }
+        ensures within { ReadsAtMost result into.new };
 
-    /// One fault more.
-    pub(crate) fn fail(&mut self) -> DiskStop
-        ensures stop { result ≡ DiskStop.Failed }
-        ensures counted { self.new.faults ≡ next self.old.faults }
-    {
-        self.faults = self.faults.saturating_add(1);
-        DiskStop::Failed
-    }
+    /// Writes all the bytes from this place on.
+    fn write_all_at(&mut self, bytes: &[u8], place: u64) -> IoResult<()>
+        ensures asked { Asks (asked self.old) (asked self.new) (WroteTo place bytes.now ∷ []) }
+        ensures failed { CountsFailure result (failed self.old) (failed self.new) };
+
+    /// Brings what was written to the medium.
+    fn sync_all(&mut self) -> IoResult<()>
+        ensures asked { Asks (asked self.old) (asked self.new) (SyncedFile ∷ []) }
+        ensures failed { CountsFailure result (failed self.old) (failed self.new) };
+
+    /// The count is never past its end.
+    ghost bounded: { (file : Self) → failed file ≤ 18446744073709551615 };
+
+    /// Of the calls that were made it says some list.
+    ghost some: { (file : Self) → (calls : List Asked) × asked file calls };
 }

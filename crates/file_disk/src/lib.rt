@@ -1,11 +1,14 @@
 //! A disk of sectors over two open files.
 //!
-//! It tells no content, since no contract can say what a file holds. It counts each error as a fault, and it is
-//! always on: a real loss of power ends the program. What the files get is read from these few lines.
+//! It tells no content, since a file that is written past its end has sectors between that nobody wrote. It counts each failed call as a
+//! fault, says what its calls ask of the two files, and is always on: a real loss of power ends the program.
 #![tactic(auto)]
 
 mod disk;
 mod files;
 mod sectors;
+mod system_file;
 
-pub use files::FileDisk;
+pub use disk::FileDisk;
+pub use files::SectorFile;
+pub use system_file::SystemFile;

@@ -1,39 +1,52 @@
 //! A sector of an open file.
 
-ghost use Rattle.std.specs.Prelude.{◌≡◌, ◌<◌, ◌≤◌, if◌then◌else◌, nat_eq, IfOk};
+ghost use Rattle.std.specs.Prelude.{◌≡◌, ◌<◌, ◌≤◌, ◌+◌, ◌-◌, ◌*◌, ◌∷◌, [], if◌then◌else◌, nat_eq, IfOk, IfErr};
+ghost use Rattle.file_disk.specs.Asked.{ReadFrom, WroteTo, Asks, CountsFailure, ReadsSector};
 ghost use Rattle.nt_edge.specs.declared.disk.Presence.TheVariants.{Whole, Absent};
 
+use crate::files::SectorFile;
 use nt_edge::Presence;
-use std::fs::File;
 use std::io::{Error, ErrorKind, Result};
-use std::os::unix::fs::FileExt;
 
 /// The byte at which a sector begins.
 fn place_of(sector: u32) -> u64
-    ensures { result < 2199023255552 }
+    ensures { result ≡ 512 * sector }
 {
-    u64::from(sector) * 512
+    512 * u64::from(sector)
+}
+
+/// Reads bytes of a sector from this one of its bytes on, as many as the file gives at once.
+fn read_on<F: SectorFile>(
+    file: &mut F,
+    sector: u32,
+    into: &mut [u8; 512],
+    got: usize,
+) -> Result<usize>
+    requires { got < 512 }
+    ensures asked { Asks (F.asked file.old) (F.asked file.new) (ReadFrom (512 * sector + got) (512 - got) ∷ []) }
+    ensures failed { CountsFailure result (F.failed file.old) (F.failed file.new) }
+    ensures within { IfOk result (λ n. got + n ≤ 512) }
+{
+    file.read_at(&mut into[got..], place_of(sector) + got as u64)
 }
 
 /// Reads up to a sector's end or the file's, over zeros, and answers how many bytes there were.
-fn fill(file: &File, place: u64, into: &mut [u8; 512]) -> Result<usize>
-    requires { place < 2199023255552 }
-    ensures { IfOk result (λ n. n ≤ 512) }
+fn fill<F: SectorFile>(file: &mut F, sector: u32, into: &mut [u8; 512]) -> Result<usize>
+    ensures asked { ReadsSector sector (F.asked file.old) (F.asked file.new) }
+    ensures failed { CountsFailure result (F.failed file.old) (F.failed file.new) }
+    ensures most { IfOk result (λ n. n ≤ 512) }
 {
     *into = [0; 512];
     let mut got = 0;
     // Each read gives a byte at least, or finds the end.
-    for _ in 0..513 {
-        if got == 512 {
-            return Ok(got);
-        }
-        let more = file.read_at(&mut into[got..], place + got as u64)?;
+    while got < 512 {
+        let more = read_on(file, sector, into, got)?;
         if more == 0 {
             return Ok(got);
         }
         got += more;
     }
-    Err(Error::from(ErrorKind::Other))
+    Ok(got)
 }
 
 /// Whether a sector of which so many bytes are in the file is there.
@@ -48,13 +61,29 @@ fn presence(there: usize) -> Presence
 }
 
 /// Reads a sector. A short last one is filled with zeros; at and past the end there is none.
-pub(crate) fn read_sector(file: &File, sector: u32, into: &mut [u8; 512]) -> Result<Presence>
+pub(crate) fn read_sector<F: SectorFile>(
+    file: &mut F,
+    sector: u32,
+    into: &mut [u8; 512],
+) -> Result<Presence>
+    ensures asked { ReadsSector sector (F.asked file.old) (F.asked file.new) }
+    ensures failed { CountsFailure result (F.failed file.old) (F.failed file.new) }
     ensures readable { IfOk result (λ found. found ≡ Presence.Unreadable → ⊥) }
 {
-    Ok(presence(fill(file, place_of(sector), into)?))
+    match fill(file, sector, into) {
+        Ok(there) => Ok(presence(there)),
+        Err(e) => Err(e),
+    }
 }
 
 /// Writes a sector, whole. A file that ends before it or within it grows up to its end, and none shrinks.
-pub(crate) fn write_sector(file: &File, sector: u32, bytes: &[u8; 512]) -> Result<()> {
+pub(crate) fn write_sector<F: SectorFile>(
+    file: &mut F,
+    sector: u32,
+    bytes: &[u8; 512],
+) -> Result<()>
+    ensures asked { Asks (F.asked file.old) (F.asked file.new) (WroteTo (512 * sector) bytes.now ∷ []) }
+    ensures failed { CountsFailure result (F.failed file.old) (F.failed file.new) }
+{
     file.write_all_at(bytes, place_of(sector))
 }

@@ -1,15 +1,17 @@
 //! What a Windows NT machine starts, from its SYSTEM hive.
 //!
-//! The program is the top call of `ntboot_cli` over real files, standard output and a disk in memory.
+//! The program is the top call of `ntboot_cli` over the files of the system, standard output and a disk in memory. What it saves has its
+//! names once all of it is written.
 #![tactic(auto)]
 
-mod real_files;
-mod whole_file;
+mod clean_hive;
 
+use clean_hive::clean_hive;
 use mem_edge::MemDisk;
+use nt_edge::HostStop;
 use ntboot_cli::{Status, ntboot};
-use real_files::RealFiles;
-use standard_host::StandardHost;
+use standard_host::{StandardHost, SystemFiles, take_standard_descriptors};
+use std::alloc::Global;
 use std::env;
 use std::io::ErrorKind;
 use std::process::ExitCode;
@@ -38,9 +40,48 @@ fn words(rt: &HostRuntime) -> Result<Vec<String>, NoWords> {
     Ok(words)
 }
 
+/// Gives the files that were put their names. Where a hive that needs its log takes the place of another such hive, one with the same tree that
+/// needs none stands between, so that each moment has a hive that loads.
+fn finish(
+    alloc: Global,
+    host: &mut StandardHost<'_, SystemFiles>,
+    disk: &mut MemDisk,
+) -> Result<(), HostStop> {
+    if host.wants_a_clean_hive() {
+        match clean_hive(alloc, disk) {
+            Ok(Some(hive)) => host.put_between(hive.as_slice())?,
+            Ok(None) => {}
+            Err(_) => return Err(HostStop::Memory),
+        }
+    }
+    host.finish()
+}
+
+/// Ends a run: the files that were put get their names, or are given up where the run ended before all of them were written.
+fn settle(
+    alloc: Global,
+    host: &mut StandardHost<'_, SystemFiles>,
+    disk: &mut MemDisk,
+    status: Status,
+) -> Status {
+    let done = match status {
+        Status::WriteFault | Status::Memory => status,
+        _ => match finish(alloc, host, disk) {
+            Ok(()) => status,
+            Err(HostStop::Memory) => Status::Memory,
+            Err(_) => Status::WriteFault,
+        },
+    };
+    host.abandon();
+    done
+}
+
 fn main(rt: HostRuntime) -> ExitCode {
+    if take_standard_descriptors(&rt).is_err() {
+        return ExitCode::from(Status::WriteFault.code());
+    }
     let alloc = rt.alloc();
-    let mut host = StandardHost::new(&rt, RealFiles);
+    let mut host = StandardHost::new(&rt, SystemFiles::new(alloc));
     let mut disk = MemDisk::new(alloc);
     let status = match words(&rt) {
         Ok(words) => ntboot(alloc, &words, &mut host, &mut disk),
@@ -48,5 +89,5 @@ fn main(rt: HostRuntime) -> ExitCode {
         Err(NoWords::Unread) => ntboot(alloc, &[], &mut host, &mut disk),
         Err(NoWords::Memory) => Status::Memory,
     };
-    ExitCode::from(status.code())
+    ExitCode::from(settle(alloc, &mut host, &mut disk, status).code())
 }

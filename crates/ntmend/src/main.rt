@@ -6,7 +6,7 @@
 use file_disk::FileDisk;
 use mend_command::mend_hive;
 use nt_edge::Host;
-use standard_host::{NoFiles, StandardHost};
+use standard_host::{NoFiles, StandardHost, take_standard_descriptors};
 use std::env;
 use std::fs::{File, OpenOptions};
 use std::io::ErrorKind;
@@ -107,6 +107,9 @@ fn mend(rt: &HostRuntime, output: &mut Output<'_>, hive: &str, log: &str) -> u8 
 }
 
 fn main(rt: HostRuntime) -> ExitCode {
+    if take_standard_descriptors(&rt).is_err() {
+        return ExitCode::from(WRITE_FAULT);
+    }
     let mut output = StandardHost::new(&rt, NoFiles);
     let exit = match words(&rt) {
         Ok((hive, log)) => mend(&rt, &mut output, hive.as_str(), log.as_str()),

@@ -1,9 +1,13 @@
-//! The files of a host.
+//! What a host stands on: files by their names, standard output and standard error.
 
+ghost use Rattle.std.specs.Prelude.{◌≡◌, ◌⊎◌, ◌++◌, Bool, true, List, ℕ, IfOk, OnOk, OnErr};
+ghost use Rattle.nt_edge.specs.Host.{Files as Held, Puts, KeepsOthers, SaysFront};
+
+use crate::output::{say_error_out, say_out};
 use nt_bytes::Bytes;
 use std::alloc::Global;
 
-/// Why a file was not read or not put.
+/// Why a file was not read or not put, or a text not said.
 #[derive(Clone, Copy, Debug, PartialEq, Eq)]
 pub enum FileFault {
     /// A call of the system failed, or the file is too long.
@@ -12,25 +16,96 @@ pub enum FileFault {
     Memory,
 }
 
-/// Files by their names. Nothing is promised of what they hold.
+/// Files by their names, and where a text is said. One that tells is known by what it holds and what was said to it; of one that
+/// does not, as those of the system, nothing is promised.
+///
+/// A file that is put may wait: it stands under its name once `finish` is done.
 pub trait Files {
-    /// The bytes of a file, if it is there.
-    fn get(&self, rt: &HostRuntime, name: &str) -> Result<Option<Bytes>, FileFault>;
+    /// Whether it tells what its files are and what was said to it.
+    ghost tells: { Bool };
 
-    /// Puts the file of this name.
-    fn put(&self, rt: &HostRuntime, name: &str, bytes: &[u8]) -> Result<(), FileFault>;
+    /// The files, those that wait among them.
+    ghost held: { Self → Held };
+
+    /// What was said on standard output so far.
+    ghost said: { Self → List ℕ };
+
+    /// What was said on standard error so far; nothing, of one that does not tell.
+    ghost errors: { Self → List ℕ };
+
+    /// The bytes of a file, or none exactly where it is absent.
+    fn get(&mut self, rt: &HostRuntime, name: &str) -> Result<Option<Bytes>, FileFault>
+        ensures found { tells ≡ true → IfOk result (λ found. found ≡ held self.old name.now) }
+        ensures same { tells ≡ true → held self.new ≡ held self.old }
+        ensures unsaid { tells ≡ true → said self.new ≡ said self.old }
+        ensures errors { errors self.new ≡ errors self.old };
+
+    /// Gives the file of this name these bytes. A refusal says nothing of this one file and leaves the others.
+    fn put(&mut self, rt: &HostRuntime, name: &str, bytes: &[u8]) -> Result<(), FileFault>
+        ensures put { tells ≡ true → OnOk result (Puts (held self.old) (held self.new) name.now bytes.now) }
+        ensures others { tells ≡ true → OnErr result (KeepsOthers (held self.old) (held self.new) name.now) }
+        ensures unsaid { tells ≡ true → said self.new ≡ said self.old }
+        ensures errors { errors self.new ≡ errors self.old };
+
+    /// Says the bytes on standard output. After a refusal a prefix of them was said.
+    fn say(&mut self, rt: &HostRuntime, bytes: &[u8]) -> Result<(), FileFault>
+        ensures said { tells ≡ true → OnOk result (said self.new ≡ said self.old ++ bytes.now) }
+        ensures front { tells ≡ true → OnErr result (SaysFront (said self.old) (said self.new) bytes.now) }
+        ensures same { tells ≡ true → held self.new ≡ held self.old }
+        ensures errors { errors self.new ≡ errors self.old };
+
+    /// Says the bytes on standard error, where that can be done.
+    fn say_error(&mut self, rt: &HostRuntime, bytes: &[u8])
+        ensures errors { tells ≡ true → (errors self.new ≡ errors self.old ++ bytes.now) ⊎ (errors self.new ≡ errors self.old) }
+        ensures unsaid { said self.new ≡ said self.old }
+        ensures same { held self.new ≡ held self.old };
+
+    /// Gives each file that waits its name. After a refusal some of them may have it.
+    fn finish(&mut self, rt: &HostRuntime) -> Result<(), FileFault>
+        ensures same { tells ≡ true → OnOk result (held self.new ≡ held self.old) }
+        ensures unsaid { tells ≡ true → said self.new ≡ said self.old }
+        ensures errors { errors self.new ≡ errors self.old };
+
+    /// Gives up each file that waits, so that its name has what it had.
+    fn abandon(&mut self, rt: &HostRuntime)
+        ensures unsaid { tells ≡ true → said self.new ≡ said self.old }
+        ensures errors { errors self.new ≡ errors self.old };
 }
 
-/// None: no file is there, and none can be put.
+/// None: no file is there, and none can be put. Texts are said on the standard output and the standard error of the program.
 #[derive(Clone, Copy, Debug, Drop)]
 pub struct NoFiles;
 
 impl Files for NoFiles {
-    fn get(&self, _rt: &HostRuntime, _name: &str) -> Result<Option<Bytes>, FileFault> {
+    ghost use Rattle.std.specs.Prelude.{false, None, []};
+
+    ghost tells = { false };
+
+    ghost held = { λ files q. None };
+
+    ghost said = { λ files. [] };
+
+    ghost errors = { λ files. [] };
+
+    fn get(&mut self, _rt: &HostRuntime, _name: &str) -> Result<Option<Bytes>, FileFault> {
         Ok(None)
     }
 
-    fn put(&self, _rt: &HostRuntime, _name: &str, _bytes: &[u8]) -> Result<(), FileFault> {
+    fn put(&mut self, _rt: &HostRuntime, _name: &str, _bytes: &[u8]) -> Result<(), FileFault> {
         Err(FileFault::Failed)
     }
+
+    fn say(&mut self, rt: &HostRuntime, bytes: &[u8]) -> Result<(), FileFault> {
+        say_out(rt, bytes)
+    }
+
+    fn say_error(&mut self, rt: &HostRuntime, bytes: &[u8]) {
+        say_error_out(rt, bytes);
+    }
+
+    fn finish(&mut self, _rt: &HostRuntime) -> Result<(), FileFault> {
+        Ok(())
+    }
+
+    fn abandon(&mut self, _rt: &HostRuntime) {}
 }

@@ -1,14 +1,15 @@
 //! The host over files and standard output.
 
-ghost use Rattle.std.specs.Prelude.{◌≡◌};
+ghost use Rattle.std.specs.Prelude.{◌≡◌, true, OnOk, IsErrOf};
+ghost use Rattle.nt_bytes.specs.Counts.{Rises};
 ghost use Rattle.nt_edge.specs.Host.{IsWithinEnds};
+ghost use Rattle.nt_edge.specs.declared.host.HostStop.TheVariants.{Write};
 
 use crate::files::{FileFault, Files};
+use crate::system_files::SystemFiles;
 use nt_bytes::Bytes;
 use nt_edge::{Host, HostStop};
 use std::alloc::Global;
-use std::io;
-use std::io::Write;
 
 /// Files, and standard output.
 #[derive(Drop)]
@@ -24,6 +25,7 @@ pub struct StandardHost<'a, F> {
 impl<'a, F: Files + Drop> StandardHost<'a, F> {
     /// The host over these files. Nothing is counted yet.
     pub fn new(rt: &'a HostRuntime, files: F) -> StandardHost<'a, F>
+        ensures files { result.files ≡ files }
         ensures gets { result.gets ≡ 0 }
         ensures reads { result.reads ≡ 0 }
         ensures writes { result.writes ≡ 0 }
@@ -36,16 +38,67 @@ impl<'a, F: Files + Drop> StandardHost<'a, F> {
             writes: 0,
         }
     }
+
+    /// Gives the files that were put their names. After a refusal some of them may have theirs.
+    pub fn finish(&mut self) -> Result<(), HostStop>
+        ensures same { F.tells ≡ true → OnOk result (F.held self.new.files ≡ F.held self.old.files) }
+        ensures unsaid { F.tells ≡ true → F.said self.new.files ≡ F.said self.old.files }
+        ensures errors { F.errors self.new.files ≡ F.errors self.old.files }
+        ensures gets { self.new.gets ≡ self.old.gets }
+        ensures fault { IsErrOf result Write → Rises self.old.writes self.new.writes }
+    {
+        let (_reads, _writes) = (self.reads, self.writes);
+        match self.files.finish(self.rt) {
+            Ok(()) => Ok(()),
+            Err(FileFault::Memory) => Err(HostStop::Memory),
+            Err(FileFault::Failed) => {
+                self.writes = self.writes.saturating_add(1);
+                Err(HostStop::Write)
+            }
+        }
+    }
+
+    /// Gives up the files that were put and have not got their names.
+    pub fn abandon(&mut self)
+        ensures unsaid { F.tells ≡ true → F.said self.new.files ≡ F.said self.old.files }
+        ensures errors { F.errors self.new.files ≡ F.errors self.old.files }
+    {
+        let (_reads, _writes) = (self.reads, self.writes);
+        self.files.abandon(self.rt);
+    }
+}
+
+impl StandardHost<'_, SystemFiles> {
+    /// Whether a hive that needs its log, and that is put with another file, is to take the place of another such hive.
+    pub fn wants_a_clean_hive(&self) -> bool {
+        self.files.wants_a_clean_hive(self.rt)
+    }
+
+    /// Puts these bytes in the place of the hive that needs its log, to stand there before any other file has its name.
+    pub fn put_between(&mut self, bytes: &[u8]) -> Result<(), HostStop>
+        ensures fault { IsErrOf result Write → Rises self.old.writes self.new.writes }
+    {
+        let (_reads, _writes) = (self.reads, self.writes);
+        match self.files.put_between(self.rt, bytes) {
+            Ok(()) => Ok(()),
+            Err(FileFault::Memory) => Err(HostStop::Memory),
+            Err(FileFault::Failed) => {
+                self.writes = self.writes.saturating_add(1);
+                Err(HostStop::Write)
+            }
+        }
+    }
 }
 
 impl<F: Files + Drop> Host for StandardHost<'_, F> {
-    ghost use Rattle.std.specs.Prelude.{false, None, []};
+    ghost use Rattle.std.specs.Prelude.{false};
 
     ghost state = { λ h. record {
-      tells = false;
+      tells = F.tells;
       quiet = false;
-      files = λ q. None;
-      said = [];
+      files = F.held h.files;
+      said = F.said h.files;
+      errors = F.errors h.files;
       gets = h.gets;
       reads = h.reads;
       writes = h.writes;
@@ -80,12 +133,17 @@ impl<F: Files + Drop> Host for StandardHost<'_, F> {
 
     fn say(&mut self, bytes: &[u8]) -> Result<(), HostStop> {
         let (_reads, _writes) = (self.reads, self.writes);
-        match io::writer(self.rt).write_all(bytes) {
+        match self.files.say(self.rt, bytes) {
             Ok(()) => Ok(()),
-            Err(_) => {
+            Err(FileFault::Memory) => Err(HostStop::Memory),
+            Err(FileFault::Failed) => {
                 self.writes = self.writes.saturating_add(1);
                 Err(HostStop::Write)
             }
         }
+    }
+
+    fn say_error(&mut self, bytes: &[u8]) {
+        self.files.say_error(self.rt, bytes);
     }
 }

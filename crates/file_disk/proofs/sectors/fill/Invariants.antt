@@ -1,5 +1,10 @@
-use Rattle.std.proofs.Common.{◌≤◌}
+use Rattle.std.proofs.Common.{◌-◌, ◌≡◌, ◌≤◌}
+use Rattle.file_disk.specs.Asked.{ReadsSector}
 use Rattle.file_disk.proofs.sectors.fill.Given as goal
 
-abbrev pub invariant-loop : goal.invariant-loop
-invariant-loop l = l.got ≤ 512
+abbrev pub invariant-loop-got : goal.invariant-loop-got
+invariant-loop-got g l = (l.got ≤ 512) × ReadsSector l.sector (g.F.SectorFile.asked l.fn.file) (g.F.SectorFile.asked l.file)
+    × (g.F.SectorFile.failed l.file ≡ g.F.SectorFile.failed l.fn.file)
+
+abbrev pub decreases-loop-got : goal.decreases-loop-got
+decreases-loop-got g l = 512 - l.got
