@@ -21,16 +21,16 @@ attempt_running : (m : MachineState) (s : Start) (usable : Bool) → m.start ≡
 unfolding attempt_of
 attempt_running m s usable h = rw h refl
 
-abbrev made : Option Start → List (List ℕ × ℕ) → Bool → MachineState
-made start failures due = record { start = start; failures = failures; fallback_due = due }
+abbrev made : Option Start → List (List ℕ × ℕ) → Bool → List (List ℕ) → MachineState
+made start failures due vital = record { start = start; failures = failures; fallback_due = due; vital = vital }
 
 pub attempt_whole : {E : Type 0} (m : MachineState) (inner : Option Start) (s s2 : Start) (old fs : List (List ℕ × ℕ))
-    (due usable : Bool) (r : Result code.Tried E)
-    → made inner old due ≡ m → inner ≡ Some s
+    (due usable : Bool) (vital : List (List ℕ)) (r : Result code.Tried E)
+    → made inner old due vital ≡ m → inner ≡ Some s
     → IfOk r (λ t. (m : MachineState) → m.failures ≡ old
     → attempt_in m s usable ≡ Some (record m { start = Some s2; failures = fs }, tried_in t))
-    → IfOk r (λ t. attempt_of m usable ≡ Some (made (Some s2) fs due, tried_in t))
-attempt_whole m inner s s2 old fs due usable (Ok t) same running h =
-    subst (λ (m : MachineState). attempt_of m usable ≡ Some (made (Some s2) fs due, tried_in t)) same
-    (attempt_running (made inner old due) s usable running ∙ h (made inner old due) refl)
-attempt_whole m inner s s2 old fs due usable (Err e) same running h = tt
+    → IfOk r (λ t. attempt_of m usable ≡ Some (made (Some s2) fs due vital, tried_in t))
+attempt_whole m inner s s2 old fs due usable vital (Ok t) same running h =
+    subst (λ (m : MachineState). attempt_of m usable ≡ Some (made (Some s2) fs due vital, tried_in t)) same
+    (attempt_running (made inner old due vital) s usable running ∙ h (made inner old due vital) refl)
+attempt_whole m inner s s2 old fs due usable vital (Err e) same running h = tt

@@ -84,8 +84,10 @@ coded_start =
 
 abbrev pub coded_machine : Coded MachineState
 coded_machine =
-    code_by (Option Start × (List (List ℕ × ℕ) × Bool)) (coded× (coded_option coded_start) (coded× (coded_list (coded× coded_name coded_ℕ)) coded_bool))
-    (λ m. (m.start, (m.failures, m.fallback_due))) (λ p. record { start = p.0; failures = p.1.0; fallback_due = p.1.1 }) (λ _. refl)
+    code_by (Option Start × (List (List ℕ × ℕ) × (Bool × List (List ℕ))))
+    (coded× (coded_option coded_start) (coded× (coded_list (coded× coded_name coded_ℕ)) (coded× coded_bool coded_names)))
+    (λ m. (m.start, (m.failures, (m.fallback_due, m.vital))))
+    (λ p. record { start = p.0; failures = p.1.0; fallback_due = p.1.1.0; vital = p.1.1.1 }) (λ _. refl)
 
 abbrev pub coded_queue : Coded QueueState
 coded_queue = code_by (List Entry × List Label) (coded× (coded_list coded_entry) (coded_list coded_label)) (λ q. (q.waiting, q.started))

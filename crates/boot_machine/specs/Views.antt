@@ -16,6 +16,7 @@ abbrev pub event_in : Event → book.Event
 event_in (script.Boot entry good) = book.BootNow entry good
 event_in (script.Go steps) = book.Go steps
 event_in (script.Fail name count) = book.Fail name count
+event_in (script.Vital name) = book.Vital name
 event_in (script.Set path name kind bytes) = book.Edits (book.Set path name kind bytes)
 event_in (script.Delete path name) = book.Edits (book.Delete path name)
 event_in (script.Make path) = book.Edits (book.Make path)

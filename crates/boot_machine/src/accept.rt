@@ -27,7 +27,7 @@ pub(crate) fn accept_off(event: &Event) -> Result<(), EventRefusal>
     ensures { Answers result (refused_off (event_in event.now)) }
 {
     match event {
-        Event::Boot { .. } | Event::Fail { .. } => Ok(()),
+        Event::Boot { .. } | Event::Fail { .. } | Event::Vital { .. } => Ok(()),
         Event::ArmCut { .. } | Event::ArmFault { .. } => Ok(()),
         _ => Err(EventRefusal::Off),
     }
@@ -45,7 +45,8 @@ pub(crate) fn accept_running(start: &Start, event: &Event) -> Result<(), EventRe
         Event::Make { path } => accept_edit(is_protected_key(path.as_slice())),
         Event::Remove { path } => accept_edit(is_protected_key(path.as_slice())),
         Event::Logon => accept_logon(start),
-        Event::Fail { .. } | Event::Flush | Event::Off => Ok(()),
+        Event::Fail { .. } | Event::Vital { .. } => Ok(()),
+        Event::Flush | Event::Off => Ok(()),
         Event::CutNow { .. } | Event::ArmCut { .. } | Event::ArmFault { .. } => Ok(()),
     }
 }

@@ -1,7 +1,7 @@
 //! The machine of a start, step by step.
 //!
-//! `Machine` is seen as the book's machine: a start that runs, the failures to come, and whether the
-//! next start falls back. Each call is one named step of it. It knows nothing of a disk or of a tree but
+//! `Machine` is seen as the book's machine: a start that runs, the failures to come, whether the
+//! next start falls back, and the vital names. Each call is one named step of it. It knows nothing of a disk or of a tree but
 //! the control set that it is handed. After want of memory the machine is as it was. Rules:
 //! Windows Internals, 4th edition, startup; docs/startup.md.
 #![tactic(auto)]
@@ -17,6 +17,7 @@ mod queue;
 mod refusal;
 mod start;
 mod tried;
+mod vital;
 
 pub use accept::is_current;
 pub use boot_phases::Phase;

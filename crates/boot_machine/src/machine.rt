@@ -7,7 +7,7 @@ ghost use Rattle.hive_model.specs.Valid.{HoldsKeys};
 ghost use Rattle.boot_phases.specs.Phases.{phase_in};
 ghost use Rattle.boot_report.specs.Report.{verdict_of};
 ghost use Rattle.start_model.specs.Entries.{Done};
-ghost use Rattle.start_model.specs.Machine.{off_machine, failing, attempt_of, after_phase, unmet_in, begun_with, with_start, save_due, ending_of, ended, refusal_of};
+ghost use Rattle.start_model.specs.Machine.{off_machine, failing, requiring, missing_in, attempt_of, after_phase, unmet_in, begun_with, with_start, save_due, ending_of, ended, refusal_of};
 ghost use Rattle.boot_machine.specs.Steps.{is_there, on_start, is_at_end, is_in_last_phase, falls_back};
 ghost use Rattle.boot_machine.specs.Views.{event_in, tried_in, Answers};
 
@@ -18,6 +18,7 @@ use crate::phases::is_last;
 use crate::refusal::EventRefusal;
 use crate::start::Start;
 use crate::tried::Tried;
+use crate::vital::require;
 use boot_phases::Phase;
 use boot_report::Verdict;
 use boot_script::Event;
@@ -26,13 +27,14 @@ use reg_tree::Key;
 use std::alloc::{AllocError, Global};
 use std::marker::Model;
 
-/// A start that runs, if one does, the attempts that are to fail, and whether the next start falls back.
-/// After want of memory it is as it was.
+/// A start that runs, if one does, the attempts that are to fail, whether the next start falls back, and the
+/// names without which no start passes its boot phase. After want of memory it is as it was.
 #[derive(Drop)]
 pub struct Machine {
     pub(crate) start: Option<Start>,
     failures: Failures,
     fallback_due: bool,
+    vital: Names,
 }
 
 impl Model for Machine {
@@ -43,7 +45,7 @@ impl Model for Machine {
 
     ghost coded = { coded_machine };
 
-    ghost view = { λ a. record { start = a.start; failures = a.failures; fallback_due = a.fallback_due } };
+    ghost view = { λ a. record { start = a.start; failures = a.failures; fallback_due = a.fallback_due; vital = a.vital } };
 }
 
 impl Machine {
@@ -55,6 +57,7 @@ impl Machine {
             start: None,
             failures: Failures::new(alloc),
             fallback_due: false,
+            vital: Names::new(alloc),
         }
     }
 
@@ -112,6 +115,35 @@ impl Machine {
         ensures kept { OnErr result (self.new ≡ self.old) }
     {
         self.failures.set(alloc, name.as_slice(), count)
+    }
+
+    /// From now on no start passes its boot phase without this name. One that folds the same stays as it is.
+    pub fn require(&mut self, name: Units) -> Result<(), AllocError>
+        ensures ok { OnOk result (self.new ≡ requiring name self.old) }
+        ensures kept { OnErr result (self.new ≡ self.old) }
+    {
+        require(&mut self.vital, name)
+    }
+
+    /// The vital names that the boot phase of the running start ends without, in their order. A later phase asks
+    /// for none.
+    pub fn missing(&self, alloc: Global) -> Result<Names, AllocError>
+        ensures { IfOk result (λ names. names ≡ option_map_or (missing_in self.now.vital) self.now.start []) }
+    {
+        match &self.start {
+            Some(start) => start.missing(alloc, &self.vital),
+            None => Ok(Names::new(alloc)),
+        }
+    }
+
+    /// The names of the entries of the phase that wait, in their order.
+    pub fn unmet(&self, alloc: Global) -> Result<Names, AllocError>
+        ensures { IfOk result (λ names. names ≡ option_map_or unmet_in self.now.start []) }
+    {
+        match &self.start {
+            Some(start) => start.unmet(alloc),
+            None => Ok(Names::new(alloc)),
+        }
     }
 
     /// Whether the next start falls back; that is then over.

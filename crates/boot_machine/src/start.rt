@@ -1,18 +1,20 @@
 //! A start that runs.
 
-ghost use Rattle.std.specs.Prelude.{◌≡◌, ℕ, List, ◌==◌, true, not, Some, None, IfOk, OnErr};
+ghost use Rattle.std.specs.Prelude.{◌≡◌, ℕ, List, ◌==◌, true, not, filter, Some, None, IfOk, OnErr};
 ghost use Rattle.hive_model.specs.Tree.{Tree};
 ghost use Rattle.hive_model.specs.Valid.{HoldsKeys};
 ghost use Rattle.boot_phases.specs.Phases.{phase_in};
 ghost use Rattle.boot_report.specs.Report.{verdict_of};
 ghost use Rattle.start_model.specs.Order.{plan_of};
-ghost use Rattle.start_model.specs.Machine.{next_in, failures_of, one_failure_less, phase_after, unmet_in, after_phase, begun_with, is_good, save_due, ending_with, ending_of};
+ghost use Rattle.start_model.specs.Ready.{has_name};
+ghost use Rattle.start_model.specs.Machine.{next_in, failures_of, one_failure_less, missing_in, phase_after, unmet_in, after_phase, begun_with, is_good, save_due, ending_with, ending_of};
 ghost use Rattle.boot_machine.specs.Steps.{is_there, is_last_phase, AttemptsNext};
 
 use crate::failures::Failures;
 use crate::names::note;
 use crate::phases::{is_done, phase_after};
 use crate::queue::Queue;
+use crate::vital::missing;
 use boot_phases::{Phase, plan};
 use boot_report::Verdict;
 use dependencies::Started;
@@ -137,6 +139,31 @@ impl Start {
         self.queue.take_first(ok);
         failures.take(entry.name.as_slice());
         Ok((entry, ok))
+    }
+
+    /// The names of the entries that wait.
+    pub(crate) fn unmet(&self, alloc: Global) -> Result<Names, AllocError>
+        ensures { IfOk result (λ names. names ≡ unmet_in self.now) }
+    {
+        self.queue.names(alloc)
+    }
+
+    /// The vital names that the boot phase ends without, in their order; a later phase asks for none.
+    pub(crate) fn missing(&self, alloc: Global, vital: &Names) -> Result<Names, AllocError>
+        ensures { IfOk result (λ names. names ≡ missing_in vital.now self.now) }
+    {
+        match self.phase {
+            Phase::Boot => self.not_started(alloc, vital),
+            Phase::System | Phase::Automatic | Phase::Done => Ok(Names::new(alloc)),
+        }
+    }
+
+    /// The vital names that were not started so far.
+    fn not_started(&self, alloc: Global, vital: &Names) -> Result<Names, AllocError>
+        ensures { IfOk result (λ names. names ≡ filter (λ name. not (has_name self.now.started name)) vital.now) }
+    {
+        let started = self.queue.started(alloc)?;
+        missing(alloc, vital.as_slice(), &started)
     }
 
     /// Goes on to the next phase, whose entries the set has now, and answers the names of those that wait.

@@ -1,5 +1,5 @@
 -- The entries that the automatic phase chooses among, by their index and by their place.
-use Rattle.std.proofs.Common.{◌≡◌, ℕ, zero, suc, ◌+◌, ◌^◌, ◌<◌, ◌≤◌, ◌≢◌, Bool, true, false, cond, nat_eq, List, [], ◌∷◌, ◌++◌, length, filter, get_or, Option, Some, None, refl, sym, ap, ◌∙◌, inl, inr, add-one, arith}
+use Rattle.std.proofs.Common.{◌≡◌, ℕ, zero, suc, ◌+◌, ◌<◌, ◌≤◌, ◌≢◌, Bool, true, false, cond, nat_eq, List, [], ◌∷◌, ◌++◌, length, filter, get_or, Option, Some, None, refl, sym, ap, ◌∙◌, inl, inr, add-one, arith}
 use Rattle.std.specs.Prelude.{All, slice_get, option_and_then}
 use Rattle.std.specs.Option.{option_map, option_map_or}
 use Rattle.std.specs.List.{AllByRecursion, range_with_len, cons_option}
@@ -188,14 +188,6 @@ pub record IsSeen (n : ℕ) (ps bs : List ℕ) : Type 0 where
   pub len : length bs ≡ n
   pub leads : (k : ℕ) → k < length ps → get_or bs (get_or ps k 0) 0 ≡ k
 
-pub seen_start : IsSeen 0 [] []
-seen_start = record {
-  few = omega arith;
-  within = λ k d lt. absurd (omega arith);
-  len = refl;
-  leads = λ k lt. absurd (omega arith);
-}
-
 -- what stands in front stays
 still : (n : ℕ) (ps bs : List ℕ) (b : ℕ) → IsSeen n ps bs → (k : ℕ) → k < length ps
     → get_or (bs ++ b ∷ []) (get_or ps k 0) 0 ≡ k
@@ -225,13 +217,4 @@ seen_push n ps bs is = record {
         ap (λ p. get_or (bs ++ length ps ∷ []) p 0) (get_or_push ps n 0 k last) ∙ get_or_push bs (length ps) 0 n is.len
         ∙ last)
   ];
-}
-
-pub seen_end : (es : List Entry) (n : ℕ) (ps bs : List ℕ) → n ≡ length es → n < 2 ^ 32 → IsSeen n ps bs
-    → AreLedTo es ps bs
-seen_end es n ps bs all room is = record {
-  few = omega (arith, is.few);
-  within = All-weaker (λ p. p < n) (λ p. p < length es) (λ x h. omega arith) ps is.within;
-  len = is.len ∙ all;
-  leads = is.leads;
 }

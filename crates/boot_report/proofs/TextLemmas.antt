@@ -8,7 +8,7 @@ use Rattle.std.proofs.lemmas.List.Splits.{length-slice_split}
 use Rattle.std.proofs.lemmas.Bool.{false≢true, ne_eqb, and_parts, and_from}
 use Rattle.std.proofs.lemmas.Bool.Decides.{nat_tests}
 use Rattle.start_model.specs.Lines as book
-use Rattle.start_model.specs.Lines.{Line, StartLine, EntryLine, LoadLine, SetLine, CommitLine, SelectLine, PhaseLine, TryLine, UnmetLine, LogonLine, SaveRefusedLine, EditOkLine, FlushNothingLine, RefusedLine, VerdictLine, EndLine, line_text, text_of, unit_text, name_text, path_text, shown_byte, escaped, commit_word, phase_word, try_word, event_word, refused_word, verdict_word, load_word, set_word, save_word}
+use Rattle.start_model.specs.Lines.{Line, StartLine, EntryLine, LoadLine, SetLine, CommitLine, SelectLine, PhaseLine, TryLine, UnmetLine, VitalLine, LogonLine, SaveRefusedLine, EditOkLine, FlushNothingLine, RefusedLine, VerdictLine, EndLine, line_text, text_of, unit_text, name_text, path_text, shown_byte, escaped, commit_word, phase_word, try_word, event_word, refused_word, verdict_word, load_word, set_word, save_word}
 use Rattle.nt_bytes.specs.Text.{is_printable}
 use Rattle.start_model.specs.Possible.{Outcome}
 use Rattle.start_model.specs.Fits.{outcomes_in, outcomes_of, outcome_of, whole_lines, verdict_outcome}
@@ -88,6 +88,7 @@ body (SelectLine current default failed good) =
 body (PhaseLine word) = codes "phase " ++ phase_word word
 body (TryLine name outcome) = codes "try " ++ name_text name ++ codes " " ++ try_word outcome
 body (UnmetLine name) = codes "unmet " ++ name_text name
+body (VitalLine name) = codes "vital " ++ name_text name ++ codes " missing"
 body LogonLine = codes "logon"
 body (SaveRefusedLine full) = codes "save refused " ++ save_word full
 body EditOkLine = codes "edit ok"
@@ -107,6 +108,7 @@ text-body (SelectLine current default failed good) = refl
 text-body (PhaseLine word) = refl
 text-body (TryLine name outcome) = refl
 text-body (UnmetLine name) = refl
+text-body (VitalLine name) = sym (append_assoc (codes "vital " ++ name_text name) (codes " missing") (10 ∷ []))
 text-body LogonLine = refl
 text-body (SaveRefusedLine full) = refl
 text-body EditOkLine = refl
@@ -138,6 +140,7 @@ no_lf-event : (w : book.EventWord) → has_no_lf (event_word w) ≡ true
 no_lf-event book.BootEvent = refl
 no_lf-event book.GoEvent = refl
 no_lf-event book.FailEvent = refl
+no_lf-event book.VitalEvent = refl
 no_lf-event book.SetEvent = refl
 no_lf-event book.DeleteEvent = refl
 no_lf-event book.MakeEvent = refl
@@ -211,6 +214,9 @@ no_lf-body (TryLine name outcome) =
     with_blank (codes "try " ++ name_text name) (try_word outcome)
     (no_lf-append (codes "try ") (name_text name) refl (no_lf-name name)) (no_lf-try outcome)
 no_lf-body (UnmetLine name) = no_lf-append (codes "unmet ") (name_text name) refl (no_lf-name name)
+no_lf-body (VitalLine name) =
+    no_lf-append (codes "vital " ++ name_text name) (codes " missing")
+    (no_lf-append (codes "vital ") (name_text name) refl (no_lf-name name)) refl
 no_lf-body LogonLine = refl
 no_lf-body (SaveRefusedLine full) =
     no_lf-append (codes "save refused ") (save_word full) refl
@@ -284,6 +290,7 @@ tells (SelectLine current default failed good) ls = refl
 tells (PhaseLine word) ls = refl
 tells (TryLine name outcome) ls = refl
 tells (UnmetLine name) ls = refl
+tells (VitalLine name) ls = refl
 tells LogonLine ls = refl
 tells (SaveRefusedLine full) ls = refl
 tells EditOkLine ls = refl

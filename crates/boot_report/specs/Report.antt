@@ -38,6 +38,7 @@ abbrev pub event_of : EventWord → book.EventWord
 event_of events.Boot = book.BootEvent
 event_of events.Go = book.GoEvent
 event_of events.Fail = book.FailEvent
+event_of events.Vital = book.VitalEvent
 event_of events.Set = book.SetEvent
 event_of events.Delete = book.DeleteEvent
 event_of events.Make = book.MakeEvent
@@ -89,6 +90,7 @@ line_of (lines.Select current default failed good) = book.SelectLine current def
 line_of (lines.Phase word) = book.PhaseLine (phase_of word)
 line_of (lines.Try name outcome) = book.TryLine name (try_of outcome)
 line_of (lines.Unmet name) = book.UnmetLine name
+line_of (lines.Vital name) = book.VitalLine name
 line_of lines.Logon = book.LogonLine
 line_of (lines.SaveRefused full) = book.SaveRefusedLine full
 line_of lines.EditOk = book.EditOkLine

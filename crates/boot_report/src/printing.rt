@@ -47,6 +47,7 @@ pub fn event_text(event: EventWord) -> &'static str
         EventWord::Boot => "boot",
         EventWord::Go => "go",
         EventWord::Fail => "fail",
+        EventWord::Vital => "vital",
         EventWord::Set => "set",
         EventWord::Delete => "delete",
         EventWord::Make => "make",

@@ -38,6 +38,7 @@ pub enum EventWord {
     Boot,
     Go,
     Fail,
+    Vital,
     Set,
     Delete,
     Make,
@@ -91,7 +92,8 @@ pub enum Verdict {
     Running,
     /// A service of severe or critical error control failed: the next start takes LastKnownGood.
     FallBack,
-    /// A service of critical error control failed, and there was nothing to fall back on.
+    /// A service of critical error control failed, and there was nothing to fall back on; or the boot phase
+    /// ended without a vital name.
     Stopped,
     /// The power was cut.
     Cut,

@@ -1,7 +1,7 @@
 //! A line as bytes.
 
 ghost use Rattle.std.specs.Prelude.{◌≡◌, IfOk};
-ghost use Rattle.start_model.specs.Lines.{StartLine, EntryLine, LoadLine, SetLine, CommitLine, SelectLine, PhaseLine, TryLine, UnmetLine, SaveRefusedLine, RefusedLine, VerdictLine, line_text};
+ghost use Rattle.start_model.specs.Lines.{StartLine, EntryLine, LoadLine, SetLine, CommitLine, SelectLine, PhaseLine, TryLine, UnmetLine, VitalLine, SaveRefusedLine, RefusedLine, VerdictLine, line_text};
 ghost use Rattle.boot_report.specs.Report.{commit_of, phase_of, try_of, event_of, refused_of, verdict_of, line_of};
 
 use crate::line::Line;
@@ -99,6 +99,16 @@ fn unmet(alloc: Global, name: &[u16]) -> Result<Vec<u8>, AllocError>
 }
 
 #[tactic(auto, unfolding(start_model::specs::Lines::line_text))]
+fn missing(alloc: Global, name: &[u16]) -> Result<Vec<u8>, AllocError>
+    ensures { IfOk result (λ b. b.items ≡ line_text (VitalLine name.now)) }
+{
+    let mut out = Vec::from_slice(alloc, b"vital ")?;
+    push_name(&mut out, name)?;
+    out.extend_from_slice(b" missing\n")?;
+    Ok(out)
+}
+
+#[tactic(auto, unfolding(start_model::specs::Lines::line_text))]
 fn save_refused(alloc: Global, full: bool) -> Result<Vec<u8>, AllocError>
     ensures { IfOk result (λ b. b.items ≡ line_text (SaveRefusedLine full)) }
 {
@@ -147,6 +157,7 @@ fn text(alloc: Global, line: &Line) -> Result<Vec<u8>, AllocError>
         Line::Phase { word } => phase(alloc, *word),
         Line::Try { name, outcome } => attempt(alloc, name.as_slice(), *outcome),
         Line::Unmet { name } => unmet(alloc, name.as_slice()),
+        Line::Vital { name } => missing(alloc, name.as_slice()),
         Line::Logon => Vec::from_slice(alloc, b"logon\n"),
         Line::SaveRefused { full } => save_refused(alloc, *full),
         Line::EditOk => Vec::from_slice(alloc, b"edit ok\n"),

@@ -17,18 +17,19 @@ use Rattle.hive_commit.specs.Stages.{next_number}
 use Rattle.start_model.specs.Lines.{CommitLine, VerdictLine, CommitWord, Verdict, line_text}
 use Rattle.start_model.specs.Fits.{outcomes_in, MayLoad}
 use Rattle.start_model.specs.Causes.{HasCause}
+use Rattle.run_parts.specs.Counted.{CountedIn}
 use Rattle.start_model.specs.Machine.{ended}
 use Rattle.start_model.specs.Possible.{Outcome, Finished, settled_at, open_between}
 use Rattle.start_model.specs.Act.{Act, done, mark, Held, RunState, next_state, start_over, end_with}
 use Rattle.start_model.specs.Commit.{committed_state, opened_state, committed, commit}
 use Rattle.start_model.specs.Run.{play}
 use Rattle.run_parts.specs.Parts.{Told, Tells, Goes, Breaks, Stays, since_wake, tally_now}
-use Rattle.run_parts.proofs.CountLemmas.{Still, still-by}
+use Rattle.run_parts.proofs.CountLemmas.{Alone, alone-by}
 use Rattle.run_parts.proofs.GoesLemmas.{goes-then, goes-told, goes-held}
 use Rattle.run_parts.proofs.BreakLemmas.{breaks-silent, breaks-told}
 use Rattle.boot_run.specs.Agrees.{IsUp, IsDown, LoadsAny, IsStored, IsLive, Counts}
 use Rattle.boot_run.specs.declared.runner.Runner.{Runner}
-use Rattle.boot_run.proofs.DiskLemmas.{still_leaves, settled_loads, open_loads, still-off, left-off}
+use Rattle.boot_run.proofs.DiskLemmas.{still_leaves, settled_loads, open_loads, alone-off, counted-off, left-off}
 
 -- the state that the session commits is the book's
 pub next_is : (m : RunState) (s : Session) (d : DiskState) → IsStored m s d
@@ -51,12 +52,13 @@ module _ (m : RunState) (next : RunState → Act) (what : CommitWord) (s : Sessi
       open_loads m.disk.settled (next_state m s.tree) image
       (subst P (next_is m s d live) (c.crash m.disk.settled false live.loads image crash))
 
-  pub commit_still : Still d e
-  commit_still = still-by d e c.history c.counts
+  pub commit_alone : Alone d e
+  commit_alone = alone-by d e c.history c.counts
 
   -- no memory: nothing was said
-  pub commit_memory : (x : Told) → Breaks (commit what s.tree m next) x x.said d e
-  commit_memory x = breaks-silent (commit what s.tree m next) x d e commit_still commit_open
+  pub commit_memory : tally_now e ≡ tally_now d → (x : Told) → Breaks (commit what s.tree m next) x x.said d e
+  commit_memory none x =
+      breaks-silent (commit what s.tree m next) x d e (record { alone = commit_alone; same = none }) commit_open
 
   -- the commit is done
   module _ (after : Session) (number : ℕ) (is : after ≡ store.committed s) (raised : number ≡ next_number s.base.first)
@@ -77,25 +79,26 @@ module _ (m : RunState) (next : RunState → Act) (what : CommitWord) (s : Sessi
       loads = commit_loads;
     }
 
-    pub commit_goes : (x y : Told) → Tells x y (CommitLine what number ∷ [])
+    pub commit_goes : tally_now e ≡ tally_now d → (x y : Told) → Tells x y (CommitLine what number ∷ [])
         → Goes (play (commit what s.tree m next)) (play (next (committed_state m s.tree))) x y d e
-    commit_goes x y said =
+    commit_goes quiet x y said =
         let r : Act = mark (Held s.tree) (next (committed_state m s.tree)) in
         let P : ℕ → Type 0 = λ n. Tells x y (CommitLine what n ∷ []) in
         goes-then (play (commit what s.tree m next)) (play r) (play (next (committed_state m s.tree))) x y y d e e
         (goes-told (open_between m.disk.settled (next_state m s.tree)) (committed what s.tree m next)
         (CommitLine what (next_state m s.tree).sequence) Finished r x y d e
-        commit_still tt refl refl (subst P commit_number said))
+        commit_alone tt quiet refl refl (subst P commit_number said))
         (goes-held s.tree (next (committed_state m s.tree)) y e)
 
-    pub commit_breaks : Stays next → (x : Told) (y : List ℕ) → SaysFront x.said y (line_text (CommitLine what number))
+    pub commit_breaks : tally_now e ≡ tally_now d → Stays next → (x : Told) (y : List ℕ)
+        → SaysFront x.said y (line_text (CommitLine what number))
         → Breaks (commit what s.tree m next) x y d e
-    commit_breaks stays x y f =
+    commit_breaks quiet stays x y f =
         let r : Act = mark (Held s.tree) (next (committed_state m s.tree)) in
         let P : ℕ → Type 0 = λ n. SaysFront x.said y (line_text (CommitLine what n)) in
         breaks-told (open_between m.disk.settled (next_state m s.tree)) (committed what s.tree m next)
         (CommitLine what (next_state m s.tree).sequence) Finished r x y d e
-        commit_still tt refl refl (subst P commit_number f) commit_open
+        commit_alone tt quiet refl refl (subst P commit_number f) commit_open
         (λ image crash. stays (committed_state m s.tree) image refl
         (still_leaves e (MayLoad (settled_at (next_state m s.tree))) none
         (settled_loads e.held (next_state m s.tree) commit_loads) image crash))
@@ -111,21 +114,21 @@ module _ (m : RunState) (next : RunState → Act) (what : CommitWord) (s : Sessi
     pub stop_open : EachCrash f (MayLoad (open_between m.disk.settled (next_state m s.tree)))
     stop_open = left-off e f (MayLoad (open_between m.disk.settled (next_state m s.tree))) off commit_open
 
-    pub stop_goes : (x y : Told) → Tells x y (VerdictLine verdict ∷ [])
+    pub stop_goes : CountedIn u (tally_now d) (tally_now e) → (x y : Told) → Tells x y (VerdictLine verdict ∷ [])
         → Goes (play (commit what s.tree m next)) (play (done (start_over false (opened_state m s.tree)))) x y d f
-    stop_goes x y said =
+    stop_goes counted x y said =
         goes-told (open_between m.disk.settled (next_state m s.tree)) (committed what s.tree m next)
         (VerdictLine verdict) u
-        (done (start_over false (opened_state m s.tree))) x y d f (still-off d e f commit_still off)
-        stop_cause told is said
+        (done (start_over false (opened_state m s.tree))) x y d f (alone-off d e f commit_alone off)
+        stop_cause (counted-off u d e f counted off) told is said
 
-    pub stop_breaks : (x : Told) (y : List ℕ) → SaysFront x.said y (line_text (VerdictLine verdict))
+    pub stop_breaks : CountedIn u (tally_now d) (tally_now e) → (x : Told) (y : List ℕ) → SaysFront x.said y (line_text (VerdictLine verdict))
         → Breaks (commit what s.tree m next) x y d f
-    stop_breaks x y front =
+    stop_breaks counted x y front =
         breaks-told (open_between m.disk.settled (next_state m s.tree)) (committed what s.tree m next)
         (VerdictLine verdict) u
-        (done (start_over false (opened_state m s.tree))) x y d f (still-off d e f commit_still off)
-        stop_cause told is front stop_open stop_open
+        (done (start_over false (opened_state m s.tree))) x y d f (alone-off d e f commit_alone off)
+        stop_cause (counted-off u d e f counted off) told is front stop_open stop_open
 
 -- the runner counts the state in which a start is over
 pub counts_over : (m n : RunState) (r r' : Runner) → Counts m r → n.machine ≡ m.machine → n.starts ≡ m.starts

@@ -11,20 +11,22 @@ use Rattle.hive_store.specs.Session.{Session}
 use Rattle.start_model.specs.Lines as book
 use Rattle.start_model.specs.Lines.{VerdictLine}
 use Rattle.start_model.specs.Machine.{ended}
-use Rattle.start_model.specs.Causes.{HasCause}
+use Rattle.start_model.specs.Causes.{HasCause, Caused}
+use Rattle.start_model.specs.Orders.{ordered_in}
 use Rattle.start_model.specs.Fits.{MayLoad}
 use Rattle.start_model.specs.Possible.{Outcome, PowerCut}
-use Rattle.start_model.specs.Act.{Act, RunState, Cuts, Ordered, done, ask, mark, start_over, end_with}
+use Rattle.start_model.specs.Act.{Act, Note, RunState, Cuts, Ended, Ordered, done, ask, mark, start_over, end_with}
 use Rattle.start_model.specs.EventActs.{cut_act, arm_act}
 use Rattle.start_model.specs.Run.{play}
-use Rattle.run_parts.specs.Parts.{Told, Goes, Breaks, PlaysOr, TellsOr, IsMarked, NoLess, since_wake, tally_now}
-use Rattle.run_parts.proofs.CountLemmas.{Still, still, no_less-same, no_less-bounded, rises-since}
-use Rattle.run_parts.proofs.GoesLemmas.{tells-nothing, goes-told}
-use Rattle.run_parts.proofs.BreakLemmas.{breaks-silent, breaks-told}
+use Rattle.run_parts.specs.Counted.{with_cut}
+use Rattle.run_parts.specs.Parts.{Told, Tells, Goes, GoesBut, Grew, Breaks, PlaysOr, TellsOr, IsMarked, NoLess, since_wake, tally_now, cuts_behind}
+use Rattle.run_parts.proofs.CountLemmas.{still, no_less-same, no_less-bounded, rises-since}
+use Rattle.run_parts.proofs.GoesLemmas.{tells-nothing}
+use Rattle.run_parts.proofs.BreakLemmas.{breaks-silent, breaks-front}
 use Rattle.boot_run.specs.declared.runner.Runner.{Runner}
 use Rattle.boot_run.specs.Agrees.{IsUp, IsDown, LoadsAny, IsLive, Counts, OffLeft}
 use Rattle.boot_run.proofs.DiskLemmas.{still_leaves}
-use Rattle.boot_run.proofs.PlayLemmas.{plays-then, live_left, here_turn}
+use Rattle.boot_run.proofs.PlayLemmas.{live_left, here_turn}
 
 next_rises : (n : ℕ) → n ≤ 18446744073709551615 → Rises n (next n)
 next_rises n h = ⊎_elim (λ e. inr (omega arith)) (λ l. inl (omega arith)) (eq-or-lt_of_le h)
@@ -32,54 +34,73 @@ next_rises n h = ⊎_elim (λ e. inr (omega arith)) (λ l. inl (omega arith)) (e
 next_no_less : (n : ℕ) → n ≤ 18446744073709551615 → NoLess n (next n)
 next_no_less n h = no_less-bounded n (next n) (omega arith) (omega arith)
 
-goes-cut : (r : Act) (x : Told) (d f : DiskState) → IsBounded d → f ≡ turned_off (cut_off d)
-    → Goes (play (mark Cuts r)) (play r) x x d f
-goes-cut r x d f bounded is =
-    let P : DiskState → Type 0 = λ t. Goes (play (mark Cuts r)) (play r) x x d t in
-    subst P (sym is) (record {
-      lines = [];
-      notes = Cuts ∷ [];
-      added = [];
-      woken = [];
-      tells = tells-nothing x;
-      grew = record {
+-- The power is cut, and that is told or not yet: the cut counts once, and has its cause in that.
+module _ (d f : DiskState) (bounded : IsBounded d) (marked : IsMarked d) (is : f ≡ turned_off (cut_off d)) where
+  cut_cause : HasCause PowerCut (since_wake d) (tally_now f)
+  cut_cause =
+      let P : DiskState → Type 0 = λ t. HasCause PowerCut (since_wake d) (tally_now t) in
+      subst P (sym is) (rises-since (since_wake d).cuts d.cuts (next d.cuts) marked.cuts
+      (next_rises d.cuts bounded.cuts))
+
+  grew-cut : (notes : List Note) → ordered_in notes ≡ []
+      → cuts_behind notes d.history.cut_calls ≡ next d.history.cut_calls
+      → Caused notes [] (since_wake d) (tally_now f)
+      → Grew notes [] d f
+  grew-cut notes none calls caused =
+      let P : DiskState → Type 0 = λ t. Caused notes [] (since_wake d) (tally_now t) → Grew notes [] d t in
+      let here : P (turned_off (cut_off d)) = λ c. record {
         wakes = sym (append-nil d.history.wakes);
-        armings = sym (append-nil d.history.armings);
-        cut_calls = refl;
+        armings = sym (append-nil d.history.armings) ∙ ap (λ (os : List Arming). d.history.armings ++ os) (sym none);
+        cut_calls = sym calls;
         placings = refl;
         takings = refl;
         later = record { cuts = next_no_less d.cuts bounded.cuts; faults = no_less-same d.faults };
-        caused = tt;
-      };
-      fits = tt;
-      goes = λ w o. refl;
-    })
+        caused = c;
+      } in
+      subst P (sym is) here caused
 
--- the power is cut, and the verdict is told or not
-told_plays : {E : Type 0} → (result : Result (Unit {0}) E) (m : RunState) (r' : Runner) (x y : Told) (f : DiskState)
-    → HasCause PowerCut (since_wake f) (tally_now f)
-    → Counts (start_over false m) r' → EachCrash f (MayLoad m.disk) → TellsOr (VerdictLine book.Cut) x y result
-    → PlaysOr (ask m.disk (λ outcome. end_with book.Cut false m)) x y f f result (OffLeft r' f)
-told_plays (Ok v) m r' x y f cause counts left said =
-    let act : Outcome → Act = λ outcome. end_with book.Cut false m in (
-      done (start_over false m),
-      (
-        goes-told m.disk act (VerdictLine book.Cut) PowerCut (done (start_over false m)) x y f f (still f)
-            cause refl refl said,
-        here_turn (start_over false m) r' f None counts left,
-      ),
-    )
-told_plays (Err e) m r' x y f cause counts left said =
-    let act : Outcome → Act = λ outcome. end_with book.Cut false m in
-    breaks-told m.disk act (VerdictLine book.Cut) PowerCut (done (start_over false m)) x y.said f f (still f)
-    cause refl refl said left left
+  cut_once : tally_now f ≡ with_cut (tally_now d)
+  cut_once = ap (λ (t : DiskState). tally_now t) is
 
--- a cut has its cause, the count that rose
-cut_cause : (d f : DiskState) → IsBounded d → IsMarked d → f ≡ turned_off (cut_off d)
-    → HasCause PowerCut (since_wake f) (tally_now f)
-cut_cause d f bounded marked is =
-    let P : DiskState → Type 0 = λ t. HasCause PowerCut (since_wake t) (tally_now t) in
-    subst P (sym is) (rises-since (since_wake d).cuts d.cuts (next d.cuts) marked.cuts (next_rises d.cuts bounded.cuts))
+  -- the verdict is told
+  cut_goes : (m : RunState) (x y : Told) → Tells x y (VerdictLine book.Cut ∷ [])
+      → Goes (play (cut_act m)) (play (done (start_over false m))) x y d f
+  cut_goes m x y said = record {
+    lines = VerdictLine book.Cut ∷ [];
+    notes = Cuts ∷ Ended PowerCut ∷ [];
+    added = [];
+    woken = [];
+    tells = said;
+    grew = grew-cut (Cuts ∷ Ended PowerCut ∷ []) refl refl (cut_cause, tt);
+    fits = tt;
+    goes = λ w o. refl;
+    adds_up = cut_once;
+  }
+
+  -- it is not
+  cut_untold : (m : RunState) (next : Outcome → Act) (x : Told)
+      → GoesBut (Ended PowerCut ∷ []) (play (mark Cuts (ask m.disk next))) (play (ask m.disk next)) x x d f
+  cut_untold m next x = record {
+    lines = [];
+    notes = Cuts ∷ [];
+    added = [];
+    woken = [];
+    tells = tells-nothing x;
+    grew = grew-cut (Cuts ∷ []) refl refl tt;
+    fits = tt;
+    goes = λ w o. refl;
+    adds_up = cut_once;
+  }
+
+  told_plays : {E : Type 0} → (result : Result (Unit {0}) E) (m : RunState) (r' : Runner) (x y : Told)
+      → Counts (start_over false m) r' → EachCrash f (MayLoad m.disk) → TellsOr (VerdictLine book.Cut) x y result
+      → PlaysOr (cut_act m) x y d f result (OffLeft r' f)
+  told_plays (Ok v) m r' x y counts left said =
+      (done (start_over false m), (cut_goes m x y said, here_turn (start_over false m) r' f None counts left))
+  told_plays (Err e) m r' x y counts left said =
+      let act : Outcome → Act = λ outcome. end_with book.Cut false m in
+      breaks-front (cut_act m) (ask m.disk act) (done (start_over false m)) (VerdictLine book.Cut) [] PowerCut x y.said d f
+      (λ z told. cut_goes m x z told) (cut_untold m act x) refl said left left
 
 pub cut_plays : {E : Type 0}
     → (result : Result (Unit {0}) E) (m : RunState) (s : Session) (r r' : Runner) (x y : Told) (d e f : DiskState)
@@ -93,9 +114,7 @@ cut_plays result m s r r' x y d e f bounded up live counts is off machine starts
     let left : EachCrash f (MayLoad m.disk) = subst Q (sym all) (live_left m s d up live) in
     let over : Counts (start_over false m) r' =
     record { machine = ap (ended false) counts.machine ∙ sym machine; starts = counts.starts ∙ sym starts } in
-    let rest : Act = ask m.disk (λ outcome. end_with book.Cut false m) in
-    plays-then result (OffLeft r' f) (cut_act m) rest x x y d f f (goes-cut rest x d f bounded all)
-    (told_plays result m r' x y f (cut_cause d f bounded up.marked all) over left said)
+    told_plays d f bounded up.marked all result m r' x y over left said
 
 -- ---- orders
 
@@ -122,6 +141,7 @@ armed_goes arming m x d e is =
           };
           fits = tt;
           goes = λ w o. refl;
+          adds_up = refl;
         }),
         refl,
       ),

@@ -1,17 +1,28 @@
 -- What a disk with nothing in flight may be left as, and what is left when it is turned off.
 use Rattle.std.proofs.Common.{◌≡◌, ◌⊎◌, inl, inr, ⊎_elim, ℕ, Bool, true, false, List, [], ◌∷◌, ◌++◌, refl, sym, ap, subst, ◌∙◌, append-nil}
+use Rattle.std.specs.Prelude.{Result, Ok, Err, IsErrOf}
 use Rattle.hive_model.specs.Image.{Image, Write, Address, IsCrashImage}
 use Rattle.hive_model.specs.State.{HiveState}
 use Rattle.hive_model.specs.Load.{Loads, LoadsAs}
 use Rattle.nt_edge.specs.Disk.{DiskState, CountsGrow, History, Wake}
 use Rattle.nt_edge.specs.Crash.{EachCrash}
+use Rattle.nt_edge.specs.Frames.{GoesOn}
+use Rattle.hive_log.specs.Stops.{IsLoadOn}
+use Rattle.hive_log.specs.declared.stops.LoadStop.{LoadStop}
+use Rattle.hive_log.specs.declared.stops.LoadStop.TheVariants as load
+use Rattle.hive_commit.specs.Stops.{IsCommitOn}
+use Rattle.hive_commit.specs.declared.stops.CommitStop.{CommitStop}
+use Rattle.hive_commit.specs.declared.stops.CommitStop.TheVariants as commit
 use Rattle.nt_bytes.specs.Counts.{Rises}
 use Rattle.nt_edge.specs.Bench.{turned_off, woken}
 use Rattle.start_model.specs.Causes.{Tally, HasCause}
+use Rattle.start_model.specs.Act.{Note}
+use Rattle.start_model.specs.Report.{Going}
 use Rattle.start_model.specs.Fits.{MayLoad}
-use Rattle.start_model.specs.Possible.{Possible, PowerCut, DeviceFault, settled_at, open_between}
-use Rattle.run_parts.specs.Parts.{Later, IsMarked, NoLess, since_wake, tally_now, tallies, tally_at}
-use Rattle.run_parts.proofs.CountLemmas.{Still, still, later-then, later-same, no_less-then, no_less-bounded, rises-since, since-grown}
+use Rattle.start_model.specs.Possible.{Possible, Outcome, PowerCut, DeviceFault, settled_at, open_between}
+use Rattle.run_parts.specs.Counted.{CountedIn}
+use Rattle.run_parts.specs.Parts.{Told, GoesBut, Grew, Later, IsMarked, NoLess, since_wake, tally_now, tallies, tally_at}
+use Rattle.run_parts.proofs.CountLemmas.{Alone, Still, still, later-then, later-same, no_less-then, no_less-bounded, rises-since, since-grown}
 
 -- with nothing in flight a cut leaves what is held
 pub still_leaves : (d : DiskState) (P : Image → Type 0) → d.flight ≡ [] → P d.held → EachCrash d P
@@ -49,19 +60,83 @@ open_loads before after image =
     either
 
 -- nothing more was done to a disk that is turned off
-pub still-off : (d e f : DiskState) → Still d e → f ≡ turned_off e → Still d f
-still-off d e f s off =
-    let P : DiskState → Type 0 = λ t. Still d t in
-    let here : Still d (turned_off e) = record {
+grew-off : (notes : List Note) (added : List Wake) (d e f : DiskState) → Grew notes added d e → f ≡ turned_off e
+    → Grew notes added d f
+grew-off notes added d e f s off =
+    let P : DiskState → Type 0 = λ t. Grew notes added d t in
+    let here : Grew notes added d (turned_off e) = record {
       wakes = s.wakes;
       armings = s.armings;
       cut_calls = s.cut_calls;
       placings = s.placings;
       takings = s.takings;
       later = s.later;
-      caused = tt;
+      caused = s.caused;
     } in
     subst P (sym off) here
+
+pub alone-off : (d e f : DiskState) → Alone d e → f ≡ turned_off e → Alone d f
+alone-off d e f s off = grew-off [] [] d e f s off
+
+pub counted-off : (u : Outcome) (d e f : DiskState) → CountedIn u (tally_now d) (tally_now e) → f ≡ turned_off e
+    → CountedIn u (tally_now d) (tally_now f)
+counted-off u d e f counted off = let P : DiskState → Type 0 = λ t. CountedIn u (tally_now d) (tally_now t) in
+    subst P (sym off) counted
+
+pub still-off : (d e f : DiskState) → Still d e → f ≡ turned_off e → Still d f
+still-off d e f s off = let P : DiskState → Type 0 = λ t. tally_now t ≡ tally_now d in
+    record { alone = alone-off d e f s.alone off; same = subst P (sym off) s.same }
+
+pub goes-off : (untold : List Note) (a b : Going) (x y : Told) (d e f : DiskState) → f ≡ turned_off e
+    → GoesBut untold a b x y d e
+    → GoesBut untold a b x y d f
+goes-off untold a b x y d e f off g =
+    let P : DiskState → Type 0 = λ t. GoesBut untold a b x y d t in
+    let here : GoesBut untold a b x y d (turned_off e) = record {
+      lines = g.lines;
+      notes = g.notes;
+      added = g.added;
+      woken = g.woken;
+      tells = g.tells;
+      grew = grew-off g.notes g.added d e (turned_off e) g.grew refl;
+      fits = g.fits;
+      goes = g.goes;
+      adds_up = g.adds_up;
+    } in
+    subst P (sym off) here
+
+-- ---- what an operation counted, by its answer
+
+counted-none : (d e : DiskState) (lost failed lacked : Type 0) → GoesOn d e lost failed lacked → (lost → ⊥) → (failed → ⊥)
+    → tally_now e ≡ tally_now d
+counted-none d e lost failed lacked g no_loss no_failure =
+    λ i. record { cuts = g.no_cut no_loss i; faults = g.no_fault no_loss no_failure i }
+
+pub load-done : {T : Type 0} → (x : T) (d e : DiskState) → IsLoadOn d e (Ok x) → tally_now e ≡ tally_now d
+load-done x d e g = counted-none d e _ _ _ g (λ h. absurd cc) (λ h. absurd cc)
+
+pub load-lacked : {T : Type 0} → (r : Result T LoadStop) (d e : DiskState) → IsLoadOn d e r → IsErrOf r load.Memory
+    → tally_now e ≡ tally_now d
+load-lacked (Ok x) d e g h = absurd cc
+load-lacked (Err stop) d e g h = counted-none d e _ _ _ g (λ q. absurd cc) (λ q. absurd cc)
+
+pub load-failed : {T : Type 0} → (r : Result T LoadStop) (d e : DiskState) → IsLoadOn d e r → IsErrOf r load.Device
+    → CountedIn DeviceFault (tally_now d) (tally_now e)
+load-failed (Ok x) d e g h = absurd cc
+load-failed (Err stop) d e g h = (g.no_cut (λ q. absurd cc), g.fault h)
+
+pub commit-done : {T : Type 0} → (x : T) (d e : DiskState) → IsCommitOn d e (Ok x) → tally_now e ≡ tally_now d
+commit-done x d e g = counted-none d e _ _ _ g.goes_on (λ h. absurd cc) (λ h. absurd cc)
+
+pub commit-lacked : {T : Type 0} → (r : Result T CommitStop) (d e : DiskState) → IsCommitOn d e r → IsErrOf r commit.Memory
+    → tally_now e ≡ tally_now d
+commit-lacked (Ok x) d e g h = absurd cc
+commit-lacked (Err stop) d e g h = counted-none d e _ _ _ g.goes_on (λ q. absurd cc) (λ q. absurd cc)
+
+pub commit-failed : {T : Type 0} → (r : Result T CommitStop) (d e : DiskState) → IsCommitOn d e r → IsErrOf r commit.Device
+    → CountedIn DeviceFault (tally_now d) (tally_now e)
+commit-failed (Ok x) d e g h = absurd cc
+commit-failed (Err stop) d e g h = (g.goes_on.no_cut (λ q. absurd cc), g.goes_on.fault h)
 
 pub left-off : (d e : DiskState) (P : Image → Type 0) → e ≡ turned_off d → EachCrash d P → EachCrash e P
 left-off d e P off h = let Q : DiskState → Type 0 = λ t. EachCrash t P in subst Q (sym off) h

@@ -16,7 +16,7 @@ abbrev as_stopped : {T : Type 0} → RunStop → Result T RunStop
 as_stopped stop = Err stop
 
 keeps-then : (a b c : HostState) → KeepsHost a b → KeepsHost b c → KeepsHost a c
-keeps-then a b c p q = record { tells = q.tells ∙ p.tells; quiet = λ e. q.quiet (p.quiet e) }
+keeps-then a b c p q = record { tells = q.tells ∙ p.tells; quiet = λ e. q.quiet (p.quiet e); errors = q.errors ∙ p.errors }
 
 files-then : (a b c : HostState) → KeepsHost a b → KeepsFiles a b → KeepsFiles b c → KeepsFiles a c
 files-then a b c k p q = λ tells. q (k.tells ∙ tells) ∙ p tells
@@ -41,7 +41,7 @@ leaves-then r a b c p q = record {
 
 pub still-host : (a : HostState) → StillHost a a
 still-host a = record {
-  keeps = record { tells = refl; quiet = λ e. e };
+  keeps = record { tells = refl; quiet = λ e. e; errors = refl };
   files = λ e. refl;
   unasked = refl;
   counts = record { reads = refl; writes = refl };

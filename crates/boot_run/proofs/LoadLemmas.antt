@@ -17,18 +17,19 @@ use Rattle.hive_store.specs.Loading as store
 use Rattle.start_model.specs.Lines.{Line, LoadLine, VerdictLine, Verdict, line_text}
 use Rattle.start_model.specs.Fits.{outcomes_in, MayLoad, IsPossible}
 use Rattle.start_model.specs.Causes.{HasCause}
+use Rattle.run_parts.specs.Counted.{CountedIn}
 use Rattle.start_model.specs.Possible.{Possible, Woken, Outcome, Finished, settled_at, woken_at}
 use Rattle.start_model.specs.Act.{Act, done, ask, mark, wake, Woke, Held, Note, RunState, start_over, end_with}
 use Rattle.start_model.specs.Boot.{woken_state, loaded_state}
 use Rattle.start_model.specs.Run.{play}
 use Rattle.run_parts.specs.Parts.{Told, Tells, Goes, Breaks, Stays, Grew, since_wake, tally_now}
-use Rattle.run_parts.proofs.CountLemmas.{Still, still-by, none_fell-same}
+use Rattle.run_parts.proofs.CountLemmas.{Alone, alone-by, none_fell-same}
 use Rattle.run_parts.proofs.GoesLemmas.{tells-nothing, goes-then, goes-told, goes-held}
 use Rattle.run_parts.proofs.BreakLemmas.{breaks-silent, breaks-then, breaks-told}
 use Rattle.boot_run.specs.Acts as acts
 use Rattle.boot_run.specs.Acts.{loaded, load}
 use Rattle.boot_run.specs.Agrees.{IsDown, LoadsAny, IsLive}
-use Rattle.boot_run.proofs.DiskLemmas.{still_leaves, settled_loads, still-off, left-off}
+use Rattle.boot_run.proofs.DiskLemmas.{still_leaves, settled_loads, alone-off, counted-off, left-off}
 
 -- an image that loads has no fault
 pub no_fault : (image : Image) (state : HiveState) (dirty : Bool) (fault : HiveFault) → Loads image state dirty
@@ -59,6 +60,7 @@ goes-wake disk next w i x d e is loads possible =
       };
       fits = (loads, possible, tt);
       goes = λ v o. refl;
+      adds_up = (refl, refl);
     })
 
 -- what a load says, whatever its answer: d woke up as d1 with the image, and was then left as e
@@ -70,8 +72,8 @@ pub record Loaded (i : Image) (d d1 e : DiskState) : Type 0 where
 
 module _ (m : RunState) (next : RunState → Act) (i : Image) (d d1 e : DiskState) (may : MayLoad m.disk i)
     (c : Loaded i d d1 e) where
-  pub load_still : Still d1 e
-  load_still = still-by d1 e c.history c.counts
+  pub load_alone : Alone d1 e
+  load_alone = alone-by d1 e c.history c.counts
 
   pub load_may : EachCrash e (MayLoad (woken_at may.woken))
   load_may image crash =
@@ -90,10 +92,11 @@ module _ (m : RunState) (next : RunState → Act) (i : Image) (d d1 e : DiskStat
       (goes-wake m.disk (acts.woken m next) may.woken i x d d1 c.woke may.loads may.possible)
       (goes-held may.woken.state.tree (ask (woken_at may.woken) (loaded m next may.woken)) x d1)
 
-  pub load_memory : (x : Told) → Breaks (load m next) x x.said d e
-  load_memory x =
+  pub load_memory : tally_now e ≡ tally_now d1 → (x : Told) → Breaks (load m next) x x.said d e
+  load_memory none x =
       breaks-then (load m next) (ask (woken_at may.woken) (loaded m next may.woken)) x x x.said d d1 e (load_begins x)
-      (breaks-silent (ask (woken_at may.woken) (loaded m next may.woken)) x d1 e load_still load_may)
+      (breaks-silent (ask (woken_at may.woken) (loaded m next may.woken)) x d1 e
+      (record { alone = load_alone; same = none }) load_may)
 
   -- the load is done
   module _ (s : Session) (dirty : Bool) (exact : Loads i (store.loaded_state s) dirty) (unchanged : s.changed ≡ false)
@@ -121,25 +124,25 @@ module _ (m : RunState) (next : RunState → Act) (i : Image) (d d1 e : DiskStat
         ap (λ (n : ℕ). LoadLine n dirty) (is ∙ sym (ap (λ (t : HiveState). t.sequence) same.0))
         ∙ ap (λ (b : Bool). LoadLine may.woken.state.sequence b) (sym same.1)
 
-    pub load_goes : (number : ℕ) → number ≡ s.base.first → (x y : Told) → Tells x y (LoadLine number dirty ∷ [])
+    pub load_goes : tally_now e ≡ tally_now d1 → (number : ℕ) → number ≡ s.base.first → (x y : Told) → Tells x y (LoadLine number dirty ∷ [])
         → Goes (play (load m next)) (play (next (loaded_state m may.woken))) x y d e
-    load_goes number is x y said =
+    load_goes quiet number is x y said =
         let P : Line → Type 0 = λ l. Tells x y (l ∷ []) in
         goes-then (play (load m next)) (play (ask (woken_at may.woken) (loaded m next may.woken)))
         (play (next (loaded_state m may.woken))) x x y d d1 e (load_begins x)
         (goes-told (woken_at may.woken) (loaded m next may.woken) (LoadLine may.woken.state.sequence may.woken.dirty)
         Finished (next (loaded_state m may.woken)) x y d1 e
-        load_still tt refl refl (subst P (load_line number is) said))
+        load_alone tt quiet refl refl (subst P (load_line number is) said))
 
-    pub load_breaks : Stays next → (number : ℕ) → number ≡ s.base.first → (x : Told) (y : List ℕ)
+    pub load_breaks : tally_now e ≡ tally_now d1 → Stays next → (number : ℕ) → number ≡ s.base.first → (x : Told) (y : List ℕ)
         → SaysFront x.said y (line_text (LoadLine number dirty))
         → Breaks (load m next) x y d e
-    load_breaks stays number is x y f =
+    load_breaks quiet stays number is x y f =
         let P : Line → Type 0 = λ l. SaysFront x.said y (line_text l) in
         breaks-then (load m next) (ask (woken_at may.woken) (loaded m next may.woken)) x x y d d1 e (load_begins x)
         (breaks-told (woken_at may.woken) (loaded m next may.woken) (LoadLine may.woken.state.sequence may.woken.dirty)
         Finished (next (loaded_state m may.woken)) x y d1 e
-        load_still tt refl refl (subst P (load_line number is) f) load_may
+        load_alone tt quiet refl refl (subst P (load_line number is) f) load_may
         (λ image crash. stays (loaded_state m may.woken) image refl
         (still_leaves e (MayLoad (settled_at may.woken.state)) none (settled_loads e.held may.woken.state load_loads)
         image crash)))
@@ -156,23 +159,24 @@ module _ (m : RunState) (next : RunState → Act) (i : Image) (d d1 e : DiskStat
     pub stopped_may : EachCrash f (MayLoad (woken_at may.woken))
     stopped_may = left-off e f (MayLoad (woken_at may.woken)) off load_may
 
-    pub stopped_goes : (x y : Told) → Tells x y (VerdictLine verdict ∷ [])
+    pub stopped_goes : CountedIn u (tally_now d1) (tally_now e) → (x y : Told) → Tells x y (VerdictLine verdict ∷ [])
         → Goes (play (load m next)) (play (done (start_over false (woken_state m may.woken)))) x y d f
-    stopped_goes x y said =
+    stopped_goes counted x y said =
         goes-then (play (load m next)) (play (ask (woken_at may.woken) (loaded m next may.woken)))
         (play (done (start_over false (woken_state m may.woken)))) x x y d d1 f
         (load_begins x)
         (goes-told (woken_at may.woken) (loaded m next may.woken) (VerdictLine verdict) u
         (done (start_over false (woken_state m may.woken))) x y d1 f
-        (still-off d1 e f load_still off) stopped_cause told is said)
+        (alone-off d1 e f load_alone off) stopped_cause (counted-off u d1 e f counted off) told is said)
 
-    pub stopped_breaks : (x : Told) (y : List ℕ) → SaysFront x.said y (line_text (VerdictLine verdict))
+    pub stopped_breaks : CountedIn u (tally_now d1) (tally_now e) → (x : Told) (y : List ℕ) → SaysFront x.said y (line_text (VerdictLine verdict))
         → Breaks (load m next) x y d f
-    stopped_breaks x y front =
+    stopped_breaks counted x y front =
         breaks-then (load m next) (ask (woken_at may.woken) (loaded m next may.woken)) x x y d d1 f (load_begins x)
         (breaks-told (woken_at may.woken) (loaded m next may.woken) (VerdictLine verdict) u
         (done (start_over false (woken_state m may.woken))) x y d1 f
-        (still-off d1 e f load_still off) stopped_cause told is front stopped_may stopped_may)
+        (alone-off d1 e f load_alone off) stopped_cause (counted-off u d1 e f counted off) told is front stopped_may
+        stopped_may)
 
 -- the disk is down behind a load that was stopped
 pub load_down : (i : Image) (d d1 e f : DiskState) → Loaded i d d1 e → LoadsAny i → f ≡ turned_off e → IsDown f

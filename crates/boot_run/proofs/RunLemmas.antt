@@ -19,17 +19,17 @@ use Rattle.start_model.specs.Events.{Event}
 use Rattle.start_model.specs.Report.{Going}
 use Rattle.start_model.specs.Act as acts
 use Rattle.start_model.specs.Possible.{Possible, Woken, Outcome, loads_as}
-use Rattle.start_model.specs.Act.{Act, Note, RunState}
+use Rattle.start_model.specs.Act.{Act, Note, Ended, RunState}
 use Rattle.start_model.specs.Boot.{Choice}
 use Rattle.start_model.specs.EventActs.{event_step_of}
 use Rattle.start_model.specs.Run.{RunResult, reached, behind, play, then_run, closing_act, verdict_first, run_from, run_of, first_state}
 use Rattle.run_laws.specs.Open.{IsClosed}
 use Rattle.run_laws.proofs.PartLemmas.{then-behind}
 use Rattle.run_laws.proofs.StillLemmas.{run-may, event-closed}
-use Rattle.run_parts.specs.Parts.{Told, Tells, Goes, Breaks, RunBreaks, PlaysOr, TellsOr}
+use Rattle.run_parts.specs.Parts.{Told, Tells, Goes, GoesBut, Breaks, RunBreaks, PlaysOr, TellsOr}
 use Rattle.run_parts.specs.Reports.{Reports, ReportsFront}
 use Rattle.run_parts.proofs.CountLemmas.{Still, still}
-use Rattle.run_parts.proofs.GoesLemmas.{goes-nothing, goes-then, text_of-append}
+use Rattle.run_parts.proofs.GoesLemmas.{goes-nothing, goes-then, goes-but, text_of-append}
 use Rattle.run_parts.proofs.ReportLemmas.{reports_of, reports_front_of}
 use Rattle.boot_run.specs.Agrees.{IsSound, Agrees, AgreesBy, Counts, TurnLeft}
 use Rattle.boot_run.specs.Begins.{Played, RunsOr, untold}
@@ -40,7 +40,7 @@ use Rattle.start_model.specs.Summary.{no_summary}
 use Rattle.nt_edge.specs.Host.{HostState}
 use Rattle.hive_model.specs.Load.{Loads}
 use Rattle.boot_run.specs.declared.runner.Runner.{Runner}
-use Rattle.boot_run.proofs.DiskLemmas.{still-off, left-off}
+use Rattle.boot_run.proofs.DiskLemmas.{goes-off, left-off}
 use Rattle.boot_run.proofs.PlayLemmas.{plays-as, plays-then, plays-line}
 use Rattle.boot_run.proofs.CloseLemmas.{ending}
 
@@ -97,9 +97,10 @@ module _ (choice : Option ℕ → Choice) where
   before es act = λ w o. then_run (run_from choice es) (play act w o) (play act w o).rest
 
   -- what an act plays, it plays before the rest of the script too
-  goes-before : (es : List Event) (a b : Act) (x y : Told) (d e : DiskState) → Goes (play a) (play b) x y d e
-      → Goes (before es a) (before es b) x y d e
-  goes-before es a b x y d e p = record {
+  goes-before : (untold : List Note) (es : List Event) (a b : Act) (x y : Told) (d e : DiskState)
+      → GoesBut untold (play a) (play b) x y d e
+      → GoesBut untold (before es a) (before es b) x y d e
+  goes-before untold es a b x y d e p = record {
     lines = p.lines;
     notes = p.notes;
     added = p.added;
@@ -110,6 +111,7 @@ module _ (choice : Option ℕ → Choice) where
     goes = λ w o.
         ap (λ (r : RunResult). then_run (run_from choice es) r r.rest) (p.goes w o)
         ∙ then-behind (run_from choice es) p.lines p.notes (play b w o) (play b w o).rest;
+    adds_up = p.adds_up;
   }
 
   goes-event : (ev : Event) (es : List Event) (m after : RunState) (rest : Act) (x y : Told) (d e : DiskState)
@@ -118,7 +120,7 @@ module _ (choice : Option ℕ → Choice) where
       → Goes (run_from choice (ev ∷ es) m) (run_from choice es after) x y d e
   goes-event ev es m after rest x y d e is p =
       let P : Act → Type 0 = λ a. Goes (before es (event_step_of choice ev m)) (before es a) x y d e in
-      subst P is (goes-before es (event_step_of choice ev m) rest x y d e p)
+      subst P is (goes-before [] es (event_step_of choice ev m) rest x y d e p)
 
   front-then : (part : List ℕ) (go : RunState → List Woken → List Outcome → RunResult) (r : RunResult)
       (rest : Option (RunState × List Woken × List Outcome)) → IsFront (text_of r.lines) part
@@ -142,7 +144,7 @@ module _ (choice : Option ℕ → Choice) where
       record {
         rest = before es b.rest;
         mid = b.mid;
-        goes = goes-before es (event_step_of choice ev m) b.rest x b.mid d e b.plays;
+        goes = goes-before (Ended b.outcome ∷ []) es (event_step_of choice ev m) b.rest x b.mid d e b.plays;
         outcome = b.outcome;
         part = b.part;
         said_is = b.said_is;
@@ -189,7 +191,8 @@ module _ (choice : Option ℕ → Choice) where
       record {
         rest = q.rest;
         mid = q.mid;
-        goes = goes-then whole (run_from choice (ev ∷ es) p.state) q.rest x y q.mid d e f p.goes q.goes;
+        goes = goes-but (Ended q.outcome ∷ []) whole (run_from choice (ev ∷ es) p.state) q.rest x y q.mid d e f p.goes
+            q.goes;
         outcome = q.outcome;
         part = q.part;
         said_is = q.said_is;
@@ -224,7 +227,7 @@ module _ (choice : Option ℕ → Choice) where
   end_or (Err stop) whole m x y z d e g left b = record {
     rest = play b.rest;
     mid = b.mid;
-    goes = goes-then whole (play (closing_act m)) (play b.rest) x y b.mid d e e g b.plays;
+    goes = goes-but (Ended b.outcome ∷ []) whole (play (closing_act m)) (play b.rest) x y b.mid d e e g b.plays;
     outcome = b.outcome;
     part = b.part;
     said_is = b.said_is;
@@ -314,8 +317,7 @@ pub reports_off : (whole : Going) (x y : Told) (d e f : DiskState) → f ≡ tur
     → Reports whole x y d f
 reports_off whole x y d e f off p =
     reports_of whole p.last x y d f
-    (goes-then whole (reached p.last) (reached p.last) x y y d e f p.goes
-    (goes-nothing (reached p.last) y e f (still-off e e f (still e) off)))
+    (goes-off [] whole (reached p.last) x y d e f off p.goes)
     (left-off e f (MayLoad p.last.disk) off p.left)
 
 -- a run that was given up
@@ -324,8 +326,7 @@ pub reports_front_off : (whole : Going) (x : Told) (y : List ℕ) (d e f : DiskS
 reports_front_off whole x y d e f off b = record {
   rest = b.rest;
   mid = b.mid;
-  goes = goes-then whole b.rest b.rest x b.mid b.mid d e f b.goes
-      (goes-nothing b.rest b.mid e f (still-off e e f (still e) off));
+  goes = goes-off (Ended b.outcome ∷ []) whole b.rest x b.mid d e f off b.goes;
   outcome = b.outcome;
   part = b.part;
   said_is = b.said_is;

@@ -1,6 +1,6 @@
 -- What a step of the starter comes to in the book's run.
-use Rattle.std.proofs.Common.{◌≡◌, ℕ, ◌+◌, ◌<◌, ◌≤◌, ◌^◌, Bool, true, false, not, cond, List, [], ◌∷◌, ◌++◌, length, map, Option, Some, None, refl, sym, ap, subst, ◌∙◌, arith, append-nil, append_assoc}
-use Rattle.std.proofs.lemmas.Bool.{false≢true}
+use Rattle.std.proofs.Common.{◌≡◌, ℕ, ◌+◌, ◌<◌, ◌≤◌, ◌^◌, ◌==◌, Bool, true, false, not, cond, List, [], ◌∷◌, ◌++◌, length, map, Option, Some, None, refl, sym, ap, subst, ◌∙◌, arith, append-nil, append_assoc}
+use Rattle.std.proofs.lemmas.Bool.{false≢true, ne_eqb}
 use Rattle.std.proofs.lemmas.List.Edits.{length-remove}
 use Rattle.std.specs.Prelude.{Result, Ok, Err, IfOk, OnOk, is_err, slice_get, remove, option_map, option_and_then, codes}
 use Rattle.std.specs.Option.{option_map_or, unwrap_or, is_some}
@@ -18,26 +18,26 @@ use Rattle.start_model.specs.Entries.{Entry, Phase, Boot, System, Automatic, Don
 use Rattle.start_model.specs.Order.{plan_of}
 use Rattle.start_model.specs.Judge.{Judgement, Ignore, Log, FallBack, Stop}
 use Rattle.start_model.specs.Lines as lines
-use Rattle.start_model.specs.Lines.{Line, VerdictLine, UnmetLine, Verdict, line_text}
-use Rattle.start_model.specs.Machine.{Start, MachineState, Tried, next_in, attempt_at, attempt_in, attempt_of, after_phase, phase_after, unmet_in, is_done, with_start, ended}
+use Rattle.start_model.specs.Lines.{Line, VerdictLine, UnmetLine, VitalLine, Verdict, line_text}
+use Rattle.start_model.specs.Machine.{Start, MachineState, Tried, next_in, attempt_at, attempt_in, attempt_of, after_phase, phase_after, unmet_in, missing_in, is_done, with_start, ended}
 use Rattle.start_model.specs.Fits.{outcomes_in, MayLoad}
 use Rattle.start_model.specs.Sets.{set_of}
 use Rattle.start_model.specs.Possible.{Possible, Woken, Outcome}
 use Rattle.start_model.specs.Act.{Act, RunState, with_machine, done, say, say_all, start_over, end_with}
 use Rattle.start_model.specs.Commit.{save_where_due}
-use Rattle.start_model.specs.Starter.{phase_line, phase_step, no_set, live_set, judged}
+use Rattle.start_model.specs.Starter.{phase_line, phase_passed, phase_step, no_set, live_set, judged}
 use Rattle.start_model.specs.Run.{behind, play}
 use Rattle.run_laws.proofs.CountLemmas.{plan_few}
 use Rattle.start_laws.proofs.UsableLemmas.{usable_parts}
 use Rattle.boot_machine.specs.Steps.{falls_back, is_last_phase, is_in_last_phase, on_start}
 use Rattle.run_parts.specs.Parts.{Told, Tells, Goes, Breaks, PlaysOr, TellsOr, Stays}
-use Rattle.run_parts.proofs.CountLemmas.{still}
+use Rattle.run_parts.proofs.CountLemmas.{alone, still}
 use Rattle.run_parts.proofs.GoesLemmas.{outcomes_in-append, tells-nothing, tells-then}
 use Rattle.run_parts.proofs.BreakLemmas.{breaks-line, breaks-then}
 use Rattle.boot_run.specs.declared.stop.RunStop.{RunStop}
 use Rattle.boot_run.specs.declared.runner.Runner.{Runner}
 use Rattle.boot_run.specs.Agrees.{IsUp, IsLive, IsSound, IsOnSet, IsRunningBy, Counts, TurnLeft, OnLeft}
-use Rattle.boot_run.specs.Starts.{EndsBy, NextPhase, phase_lines}
+use Rattle.boot_run.specs.Starts.{EndsBy, NextPhase, phase_lines, phase_gone, stop_lines}
 use Rattle.boot_run.specs.Views.{SaysPart, SaysAll}
 use Rattle.boot_run.proofs.DiskLemmas.{still-off, left-off}
 use Rattle.boot_run.proofs.PlayLemmas.{live_left, plays-as, plays-line, here_turn}
@@ -225,10 +225,11 @@ goes_all ls act x y d quiet told = record {
   added = [];
   woken = [];
   tells = told;
-  grew = still d;
+  grew = alone d;
   fits = tt;
   goes = λ w o. ap (λ (os : List Outcome). play (say_all ls act) w (os ++ o)) (quiet_none ls quiet)
       ∙ play_all ls act w o;
+  adds_up = refl;
 }
 
 all_disk : (ls : List Line) (act : Act) → (play (say_all ls act) [] []).disk ≡ (play act [] []).disk
@@ -294,6 +295,20 @@ says_then (Ok v) ls l x y z p q = tells-then x y z ls (l ∷ []) p q
 says_then (Err e) ls l x y z p q =
     record { first = ls; line = l; rest = []; parts = refl; mid = y; told = p; front = q }
 
+-- behind some that were told, others
+pub says_behind : {T : Type 0} → (r : Result T RunStop) (ls more : List Line) (x y z : Told) → Tells x y ls
+    → SaysAll more y z r → SaysAll (ls ++ more) x z r
+says_behind (Ok v) ls more x y z p q = tells-then x y z ls more p q
+says_behind (Err e) ls more x y z p q = record {
+  first = ls ++ q.first;
+  line = q.line;
+  rest = q.rest;
+  parts = ap (λ (ks : List Line). ls ++ ks) q.parts ∙ sym (append_assoc ls q.first (q.line ∷ q.rest));
+  mid = q.mid;
+  told = tells-then x y q.mid ls q.first p q.told;
+  front = q.front;
+}
+
 -- the lines of a change of phase
 pub phase_quiet : (s : Start) → AreQuiet (phase_lines s)
 phase_quiet s = by_names (unmet_in s)
@@ -311,8 +326,65 @@ phase_quiet s = by_names (unmet_in s)
 pub phase_act : (s : Start) (m : RunState) (next : RunState → Act)
     → say_all (phase_lines s)
     (save_where_due (Some (after_phase (live_set m s.number) s))
-    (with_machine (with_start (after_phase (live_set m s.number) s) m.machine) m) next) ≡ phase_step s m next
+    (with_machine (with_start (after_phase (live_set m s.number) s) m.machine) m) next) ≡ phase_gone s m next
 phase_act s m next = say_all-append (map UnmetLine (unmet_in s)) (phase_line (phase_after s.phase) ∷ []) _
+
+-- no vital name is missing
+pub gone_act : (s : Start) (m : RunState) (next : RunState → Act) → missing_in m.machine.vital s ≡ []
+    → phase_gone s m next ≡ phase_step s m next
+gone_act s m next is =
+    ap (λ (names : List (List ℕ)). say_all (map UnmetLine (unmet_in s)) (phase_passed s m next names)) (sym is)
+
+-- some vital names are
+stop_act : (s : Start) (m : RunState) (next : RunState → Act) (missing : List (List ℕ))
+    → missing_in m.machine.vital s ≡ missing → (missing ≡ [] → ⊥)
+    → say_all (stop_lines (unmet_in s) missing) (end_with lines.Stopped false m) ≡ phase_step s m next
+stop_act s m next [] is some = absurd (some refl)
+stop_act s m next (name ∷ names) is some =
+    say_all-append (map UnmetLine (unmet_in s)) (map VitalLine (name ∷ names)) (end_with lines.Stopped false m)
+    ∙ ap (λ (ks : List (List ℕ)). say_all (map UnmetLine (unmet_in s)) (phase_passed s m next ks)) (sym is)
+
+-- the names that the runner's machine misses, and those that wait
+pub missing_at : (m : RunState) (s : Start) (r : Runner) → Counts m r → m.machine.start ≡ Some s
+    → missing_in m.machine.vital s ≡ option_map_or (missing_in r.machine.vital) r.machine.start []
+missing_at m s r counts at =
+    ap (λ (k : MachineState). missing_in k.vital s) counts.machine
+    ∙ ap (λ (o : Option Start). option_map_or (missing_in r.machine.vital) o [])
+    (sym at ∙ ap (λ (k : MachineState). k.start) counts.machine)
+
+unmet_at : (m : RunState) (s : Start) (r : Runner) → Counts m r → m.machine.start ≡ Some s
+    → unmet_in s ≡ option_map_or unmet_in r.machine.start []
+unmet_at m s r counts at = ap (λ (o : Option Start). option_map_or unmet_in o [])
+    (sym at ∙ ap (λ (k : MachineState). k.start) counts.machine)
+
+pub none_missing : (names : List (List ℕ)) → (length names == 0) ≡ true → names ≡ []
+none_missing [] e = refl
+none_missing (name ∷ names) e =
+    absurd (false≢true (sym (ne_eqb (length (name ∷ names)) 0 (λ z. omega (arith, z))) ∙ e))
+
+some_missing : (names : List (List ℕ)) → (length names == 0) ≡ false → names ≡ [] → ⊥
+some_missing [] e is = false≢true (sym e)
+some_missing (name ∷ names) e is = cc
+
+-- the names that the runner's machine gave, and the lists that they were said by
+pub stopped_act : (s : Start) (m : RunState) (next : RunState → Act) (r : Runner) (unmet missing us ms : List (List ℕ))
+    → Counts m r → m.machine.start ≡ Some s → unmet ≡ option_map_or unmet_in r.machine.start []
+    → missing ≡ option_map_or (missing_in r.machine.vital) r.machine.start [] → (length missing == 0) ≡ false
+    → us ≡ unmet → ms ≡ missing
+    → say_all (stop_lines us ms) (end_with lines.Stopped false m) ≡ phase_step s m next
+stopped_act s m next r unmet missing us ms counts at waits lacks some same same2 =
+    ap (λ (names : List (List ℕ)). say_all (stop_lines names ms) (end_with lines.Stopped false m))
+    (same ∙ waits ∙ sym (unmet_at m s r counts at))
+    ∙ ap (λ (names : List (List ℕ)). say_all (stop_lines (unmet_in s) names) (end_with lines.Stopped false m)) same2
+    ∙ stop_act s m next missing (missing_at m s r counts at ∙ sym lacks) (some_missing missing some)
+
+names_quiet : (names : List (List ℕ)) → AreQuiet (map VitalLine names)
+names_quiet [] = tt
+names_quiet (n ∷ names) = (refl, names_quiet names)
+
+pub stop_quiet : (unmet missing : List (List ℕ)) → AreQuiet (stop_lines unmet missing)
+stop_quiet [] missing = names_quiet missing
+stop_quiet (n ∷ unmet) missing = (refl, stop_quiet unmet missing)
 
 -- ---- a verdict that is there, or none
 
@@ -326,12 +398,17 @@ ends_some v word j is h = let P : Option Word → Type 0 = λ o. EndsBy o j in s
 pub all_may : (s : Start) (m : RunState) (next : RunState → Act) (c : Image)
     → MayLoad (play (save_where_due (Some (after_phase (live_set m s.number) s))
     (with_machine (with_start (after_phase (live_set m s.number) s) m.machine) m) next) [] []).disk c
-    → MayLoad (play (phase_step s m next) [] []).disk c
-all_may s m next c h =
+    → MayLoad m.disk c → MayLoad (play (phase_step s m next) [] []).disk c
+all_may s m next c due h =
     let P : Possible → Type 0 = λ p. MayLoad p c in
-    let more : Act = save_where_due (Some (after_phase (live_set m s.number) s))
-    (with_machine (with_start (after_phase (live_set m s.number) s) m.machine) m) next in
-    subst P (sym (all_disk (phase_lines s) more) ∙ ap (λ (a : Act). (play a [] []).disk) (phase_act s m next)) h
+    let missing : List (List ℕ) = missing_in m.machine.vital s in
+    subst P (sym (all_disk (map UnmetLine (unmet_in s)) (phase_passed s m next missing))) (passed missing)
+  where
+    passed : (missing : List (List ℕ)) → MayLoad (play (phase_passed s m next missing) [] []).disk c
+    passed [] = due
+    passed (name ∷ names) =
+        let P : Possible → Type 0 = λ p. MayLoad p c in
+        subst P (sym (all_disk (map VitalLine (name ∷ names)) (end_with lines.Stopped false m))) h
 
 -- ---- answers
 

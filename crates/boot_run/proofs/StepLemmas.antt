@@ -24,7 +24,7 @@ use Rattle.boot_run.specs.declared.runner.Runner.{Runner}
 use Rattle.boot_run.specs.Agrees.{IsLive, IsSound, IsRunningBy, Counts, TurnLeft, OnLeft}
 use Rattle.boot_run.specs.Starts.{is_under_way, NextPhase}
 use Rattle.boot_run.proofs.DueLemmas.{due_may}
-use Rattle.boot_run.proofs.StartLemmas.{judged_may, phase_act, all_may}
+use Rattle.boot_run.proofs.StartLemmas.{judged_may, all_may}
 
 -- ---- an attempt is there where the phase is not at its end
 
@@ -133,7 +133,7 @@ pub step_may : (s : Start) (m : RunState) (next : RunState → Act) (c : Image) 
     → MayLoad (play (starter_step s m next o) [] []).disk c
 step_may s m next c None none stays h =
     let after : Start = after_phase (live_set m s.number) s in
-    all_may s m next c (due_may (Some after) (with_machine (with_start after m.machine) m) next c none stays h)
+    all_may s m next c (due_may (Some after) (with_machine (with_start after m.machine) m) next c none stays h) h
 step_may s m next c (Some one) none stays h = judged_may one.1.judgement (with_machine one.0 m) next c none stays h
 
 -- ---- a change of phase

@@ -13,7 +13,7 @@ use Rattle.reg_tree.specs.Fitting.{Fits}
 use Rattle.reg_tree.specs.Makes as made
 use Rattle.reg_tree.specs.declared.steps.TreeStep.{TreeStep}
 use Rattle.start_model.specs.Events as book
-use Rattle.start_model.specs.Events.{Event, Edit, BootNow, Go, Fail, Edits, Flush, Logon, Off, CutNow, Arm, Set, Delete, Make, Remove, is_protected}
+use Rattle.start_model.specs.Events.{Event, Edit, BootNow, Go, Fail, Vital, Edits, Flush, Logon, Off, CutNow, Arm, Set, Delete, Make, Remove, is_protected}
 use Rattle.start_model.specs.Lines.{RefusedWord, RefusedLine, ProtectedReason}
 use Rattle.start_model.specs.Machine.{Start, MachineState, failing, refusal_in, refusal_of}
 use Rattle.start_model.specs.Fits.{MayLoad}
@@ -55,11 +55,12 @@ breaks_as a b x y d e is p = let P : Act → Type 0 = λ t. Breaks t x y d e in 
 
 -- ---- events that leave the session alone
 
--- failures are noted in the machine alone
+-- failures and vital names are noted in the machine alone
 pub aside_start : (ev : Event) (k : MachineState) → (aside_machine ev k).start ≡ k.start
 aside_start (BootNow entry good) k = refl
 aside_start (Go steps) k = refl
 aside_start (Fail name count) k = refl
+aside_start (Vital name) k = refl
 aside_start (Edits e) k = refl
 aside_start Flush k = refl
 aside_start Logon k = refl
@@ -93,6 +94,7 @@ aside_by : (ev : Event) (d : DiskState) → Aside d (aside_disk ev d)
 aside_by (BootNow entry good) d = aside_same d
 aside_by (Go steps) d = aside_same d
 aside_by (Fail name count) d = aside_same d
+aside_by (Vital name) d = aside_same d
 aside_by (Edits e) d = aside_same d
 aside_by Flush d = aside_same d
 aside_by Logon d = aside_same d
@@ -160,7 +162,7 @@ beside_goes ev m r r' x d e hive machine starts disk agrees p =
       ),
     )
 
--- failures are noted, and nothing is said
+-- failures or a vital name are noted, and nothing is said
 pub aside_goes : (ev : Event) (m : RunState) (x : Told) (d : DiskState)
     → aside_act ev m ≡ done (record m { machine = aside_machine ev m.machine })
     → (a : Act) × (Goes (play (aside_act ev m)) (play a) x x d d
@@ -170,6 +172,11 @@ aside_goes ev m x d is = (aside_act ev m, (goes-nothing (play (aside_act ev m)) 
 pub fail_act : (ev : Event) (name : List ℕ) (count : ℕ) (m : RunState) → ev ≡ Fail name count
     → aside_act ev m ≡ done (record m { machine = aside_machine ev m.machine })
 fail_act ev name count m is = let P : Event → Type 0 =
+    λ v. aside_act v m ≡ done (record m { machine = aside_machine v m.machine }) in subst P (sym is) refl
+
+pub vital_act : (ev : Event) (name : List ℕ) (m : RunState) → ev ≡ Vital name
+    → aside_act ev m ≡ done (record m { machine = aside_machine ev m.machine })
+vital_act ev name m is = let P : Event → Type 0 =
     λ v. aside_act v m ≡ done (record m { machine = aside_machine v m.machine }) in subst P (sym is) refl
 
 -- nothing was done, and nothing said
@@ -182,6 +189,7 @@ aside_breaks ev m x d left =
     may (BootNow entry good) h = h
     may (Go steps) h = h
     may (Fail name count) h = h
+    may (Vital name) h = h
     may (Edits e) h = h
     may Flush h = h
     may Logon h = h
@@ -196,22 +204,24 @@ pub record DoesNothing (ev : Event) : Type 0 where
   pub act : (m : RunState) → aside_act ev m ≡ done (record m { machine = aside_machine ev m.machine })
 
 pub other_does_nothing : (ev : script.Event) → ((x : Units) (n : ℕ) → ev ≡ code.Fail x n → ⊥)
+    → ((x : Units) → ev ≡ code.Vital x → ⊥)
     → ((x : calls.DiskCall) (n : ℕ) (k : keeps.Keep) → ev ≡ code.ArmCut x n k → ⊥)
     → ((x : calls.DiskCall) (n : ℕ) → ev ≡ code.ArmFault x n → ⊥) → DoesNothing (event_in ev)
-other_does_nothing (code.Boot entry good) f a b = record { machine = λ k. refl; disk = λ d. refl; act = λ m. refl }
-other_does_nothing (code.Go steps) f a b = record { machine = λ k. refl; disk = λ d. refl; act = λ m. refl }
-other_does_nothing (code.Fail name count) f a b = absurd (f name count refl)
-other_does_nothing (code.Set path name kind bytes) f a b =
+other_does_nothing (code.Boot entry good) f v a b = record { machine = λ k. refl; disk = λ d. refl; act = λ m. refl }
+other_does_nothing (code.Go steps) f v a b = record { machine = λ k. refl; disk = λ d. refl; act = λ m. refl }
+other_does_nothing (code.Fail name count) f v a b = absurd (f name count refl)
+other_does_nothing (code.Vital name) f v a b = absurd (v name refl)
+other_does_nothing (code.Set path name kind bytes) f v a b =
     record { machine = λ k. refl; disk = λ d. refl; act = λ m. refl }
-other_does_nothing (code.Delete path name) f a b = record { machine = λ k. refl; disk = λ d. refl; act = λ m. refl }
-other_does_nothing (code.Make path) f a b = record { machine = λ k. refl; disk = λ d. refl; act = λ m. refl }
-other_does_nothing (code.Remove path) f a b = record { machine = λ k. refl; disk = λ d. refl; act = λ m. refl }
-other_does_nothing code.Flush f a b = record { machine = λ k. refl; disk = λ d. refl; act = λ m. refl }
-other_does_nothing code.Logon f a b = record { machine = λ k. refl; disk = λ d. refl; act = λ m. refl }
-other_does_nothing code.Off f a b = record { machine = λ k. refl; disk = λ d. refl; act = λ m. refl }
-other_does_nothing (code.CutNow keep) f a b = record { machine = λ k. refl; disk = λ d. refl; act = λ m. refl }
-other_does_nothing (code.ArmCut call n keep) f a b = absurd (a call n keep refl)
-other_does_nothing (code.ArmFault call n) f a b = absurd (b call n refl)
+other_does_nothing (code.Delete path name) f v a b = record { machine = λ k. refl; disk = λ d. refl; act = λ m. refl }
+other_does_nothing (code.Make path) f v a b = record { machine = λ k. refl; disk = λ d. refl; act = λ m. refl }
+other_does_nothing (code.Remove path) f v a b = record { machine = λ k. refl; disk = λ d. refl; act = λ m. refl }
+other_does_nothing code.Flush f v a b = record { machine = λ k. refl; disk = λ d. refl; act = λ m. refl }
+other_does_nothing code.Logon f v a b = record { machine = λ k. refl; disk = λ d. refl; act = λ m. refl }
+other_does_nothing code.Off f v a b = record { machine = λ k. refl; disk = λ d. refl; act = λ m. refl }
+other_does_nothing (code.CutNow keep) f v a b = record { machine = λ k. refl; disk = λ d. refl; act = λ m. refl }
+other_does_nothing (code.ArmCut call n keep) f v a b = absurd (a call n keep refl)
+other_does_nothing (code.ArmFault call n) f v a b = absurd (b call n refl)
 
 -- ---- edits
 
@@ -255,6 +265,7 @@ pub edit_of : (ev : Event) → IsEdit ev → (e : Edit) × (ev ≡ Edits e)
 edit_of (BootNow entry good) h = absurd h
 edit_of (Go steps) h = absurd h
 edit_of (Fail name count) h = absurd h
+edit_of (Vital name) h = absurd h
 edit_of (Edits e) h = (e, refl)
 edit_of Flush h = absurd h
 edit_of Logon h = absurd h
@@ -343,6 +354,7 @@ pub other_idles : (choice : Option ℕ → Choice) (ev : script.Event) (m : RunS
 other_idles choice (code.Boot entry good) m f = absurd (f entry good refl)
 other_idles choice (code.Go steps) m f = refl
 other_idles choice (code.Fail name count) m f = refl
+other_idles choice (code.Vital name) m f = refl
 other_idles choice (code.Set path name kind bytes) m f = refl
 other_idles choice (code.Delete path name) m f = refl
 other_idles choice (code.Make path) m f = refl
@@ -372,6 +384,7 @@ other_runs_by : (choice : Option ℕ → Choice) (s : Start) (ev : script.Event)
 other_runs_by choice s (code.Boot entry good) m h = refl
 other_runs_by choice s (code.Go steps) m h = absurd (h.go steps refl)
 other_runs_by choice s (code.Fail name count) m h = refl
+other_runs_by choice s (code.Vital name) m h = refl
 other_runs_by choice s (code.Set path name kind bytes) m h = absurd (h.set path name kind bytes refl)
 other_runs_by choice s (code.Delete path name) m h = absurd (h.delete path name refl)
 other_runs_by choice s (code.Make path) m h = absurd (h.make path refl)

@@ -16,8 +16,8 @@ use Rattle.select_keys.specs.declared.stop.SelectStop.TheVariants as stops
 use Rattle.start_model.specs.Lines as lines
 use Rattle.start_model.specs.Sets.{SetPlan, SetStop, SetChange, NoControlSet, NoLastKnownGood, NoFreeNumber, is_usable, select_numbers_of}
 use Rattle.start_model.specs.Events as book
-use Rattle.start_model.specs.Events.{Event, Fail, Edits, Arm}
-use Rattle.start_model.specs.Machine.{MachineState, failing}
+use Rattle.start_model.specs.Events.{Event, Fail, Vital, Edits, Arm}
+use Rattle.start_model.specs.Machine.{MachineState, failing, requiring}
 use Rattle.start_model.specs.Report.{Going}
 use Rattle.start_model.specs.Fits.{MayLoad}
 use Rattle.start_model.specs.Summary.{no_summary}
@@ -64,9 +64,10 @@ IsUpOrDown disk (Some hive) = IsUp hive disk
 
 -- ---- events that leave the session alone
 
--- failures are noted, and stops are ordered; other events do nothing
+-- failures and vital names are noted, and stops are ordered; other events do nothing
 abbrev pub aside_machine : Event → MachineState → MachineState
 aside_machine (Fail name count) k = failing name count k
+aside_machine (Vital name) k = requiring name k
 aside_machine e k = k
 
 abbrev pub aside_disk : Event → DiskState → DiskState
@@ -75,6 +76,7 @@ aside_disk e disk = disk
 
 abbrev pub aside_act : Event → RunState → Act
 aside_act (Fail name count) m = done (with_machine (failing name count m.machine) m)
+aside_act (Vital name) m = done (with_machine (requiring name m.machine) m)
 aside_act (Arm arming) m = arm_act arming m
 aside_act e m = done m
 

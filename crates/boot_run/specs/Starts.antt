@@ -5,13 +5,13 @@ use Rattle.boot_report.specs.declared.words.Verdict.{Verdict}
 use Rattle.boot_report.specs.Report.{verdict_of}
 use Rattle.start_model.specs.Judge.{Judgement, Ignore, Log, FallBack, Stop}
 use Rattle.start_model.specs.Lines as lines
-use Rattle.start_model.specs.Lines.{Line, UnmetLine}
+use Rattle.start_model.specs.Lines.{Line, UnmetLine, VitalLine}
 use Rattle.start_model.specs.Machine.{Start, MachineState, Tried, attempt_of, phase_after, after_phase, unmet_in, is_done, with_start}
 use Rattle.start_model.specs.Sets.{set_of}
 use Rattle.nt_edge.specs.Disk.{DiskState}
 use Rattle.hive_store.specs.Session.{Session}
-use Rattle.start_model.specs.Act.{RunState, Act}
-use Rattle.start_model.specs.Starter.{phase_line, go_steps}
+use Rattle.start_model.specs.Act.{RunState, Act, say_all}
+use Rattle.start_model.specs.Starter.{phase_line, phase_begun, go_steps}
 use Rattle.start_model.specs.Run.{play}
 use Rattle.run_parts.specs.Parts.{Told, Goes}
 use Rattle.boot_run.specs.declared.runner.Runner.{Runner}
@@ -39,6 +39,14 @@ pub record Attempts (old : MachineState) (usable : Bool) (new : MachineState) (v
 -- the lines of a phase that ends, and of the next one
 abbrev pub phase_lines : Start → List Line
 phase_lines s = map UnmetLine (unmet_in s) ++ phase_line (phase_after s.phase) ∷ []
+
+-- no vital name is missing: what still waits is unmet, and the next phase begins
+abbrev pub phase_gone : Start → RunState → (RunState → Act) → Act
+phase_gone s m next = say_all (map UnmetLine (unmet_in s)) (phase_begun s m next)
+
+-- the lines of a boot phase that ends without these vital names, where those still wait
+abbrev pub stop_lines : List (List ℕ) → List (List ℕ) → List Line
+stop_lines unmet missing = map UnmetLine unmet ++ map VitalLine missing
 
 -- the running start goes on to the next phase, whose entries are those of its set in the tree
 pub record NextPhase (tree : Tree) (old new : MachineState) : Type 0 where

@@ -13,6 +13,7 @@ mod cutting;
 mod editing;
 mod ending;
 mod loading;
+mod missing;
 mod paths;
 mod runner;
 mod saving;

@@ -12,11 +12,12 @@ ghost use Rattle.boot_machine.specs.Steps.{is_at_end, is_in_last_phase, on_start
 ghost use Rattle.run_parts.specs.Parts.{Stays, TellsOr};
 ghost use Rattle.boot_run.specs.Agrees.{IsRunningBy, IsLive, IsSound, Counts, OnLeft, TurnLeft};
 ghost use Rattle.boot_run.specs.Hosts.{LeavesHost};
-ghost use Rattle.boot_run.specs.Starts.{is_under_way, EndsBy, Attempts, NextPhase, phase_lines};
+ghost use Rattle.boot_run.specs.Starts.{is_under_way, EndsBy, Attempts, NextPhase, phase_lines, phase_gone};
 ghost use Rattle.boot_run.specs.declared.stop.RunStop.TheVariants.{Memory};
 ghost use Rattle.boot_run.specs.Views.{moment, told_in, RunsTo, SaysAll};
 
 use crate::ending::end_with;
+use crate::missing::stop_without;
 use crate::runner::Runner;
 use crate::saving::save_where_due;
 use crate::saying::say;
@@ -189,8 +190,28 @@ fn say_phase<H: Host>(
     say(alloc, host, &mut runner.summary, Line::Phase { word })
 }
 
-/// The phase is at its end: what still waits is unmet, the next one begins, and a start that became good by that is
-/// saved.
+/// What still waits is unmet, the next phase begins, and a start that became good by that is saved.
+fn go_past<H: Host, B: Bench>(
+    alloc: Global,
+    hive: Hive,
+    runner: &mut Runner,
+    host: &mut H,
+    bench: &mut B,
+) -> Result<Option<Hive>, RunStop>
+    requires sound { IsSound runner.old (B.state bench.old) (Some hive) }
+    ensures sound { IfOk result (IsSound runner.new (B.state bench.new)) }
+    ensures plays { (m : RunState) (s : Start) (next : RunState → Act) → (H.state host.old).tells ≡ true → Counts m runner.old
+        → IsLive m hive (B.state bench.old) → m.machine.start ≡ Some s → Stays next
+        → RunsTo (phase_gone s m next) (moment (H.state host.old) runner.old (B.state bench.old))
+        (moment (H.state host.new) runner.new (B.state bench.new)) result (OnLeft next runner.new (B.state bench.new)) }
+    ensures host { LeavesHost result (H.state host.old) (H.state host.new) }
+{
+    say_phase(alloc, &hive, runner, host)?;
+    save_where_due(alloc, hive, runner, host, bench)
+}
+
+/// The phase is at its end: what still waits is unmet, and the next one begins. Where the boot phase ends without a
+/// vital name the start stops instead.
 fn change_phase<H: Host, B: Bench>(
     alloc: Global,
     hive: Hive,
@@ -206,8 +227,24 @@ fn change_phase<H: Host, B: Bench>(
         (moment (H.state host.new) runner.new (B.state bench.new)) result (OnLeft next runner.new (B.state bench.new)) }
     ensures host { LeavesHost result (H.state host.old) (H.state host.new) }
 {
-    say_phase(alloc, &hive, runner, host)?;
-    save_where_due(alloc, hive, runner, host, bench)
+    let Ok(missing) = runner.machine.missing(alloc) else {
+        return Err(RunStop::Memory);
+    };
+    if missing.is_empty() {
+        return go_past(alloc, hive, runner, host, bench);
+    }
+    let Ok(unmet) = runner.machine.unmet(alloc) else {
+        return Err(RunStop::Memory);
+    };
+    stop_without(
+        alloc,
+        unmet.as_slice(),
+        missing.as_slice(),
+        runner,
+        host,
+        bench,
+    )?;
+    Ok(None)
 }
 
 // ---- steps

@@ -10,7 +10,7 @@ ghost use Rattle.reg_tree.specs.Fitting.{Fits};
 ghost use Rattle.reg_tree.specs.Makes.{step_of};
 ghost use Rattle.start_model.specs.Fits.{MayLoad};
 ghost use Rattle.start_model.specs.Lines.{RefusedLine};
-ghost use Rattle.start_model.specs.Machine.{Start, failing, refusal_of};
+ghost use Rattle.start_model.specs.Machine.{Start, failing, requiring, refusal_of};
 ghost use Rattle.start_model.specs.Act.{RunState, done};
 ghost use Rattle.start_model.specs.Boot.{Choice};
 ghost use Rattle.start_model.specs.EventActs.{accepted_act, idle_act, event_step_of, event_word_of};
@@ -54,7 +54,15 @@ fn fail(alloc: Global, name: &Units, count: u32, machine: &mut Machine) -> Resul
     machine.fail(alloc, name, count)
 }
 
-/// Notes failures and orders stops; other events do nothing.
+/// Notes a vital name.
+fn require(alloc: Global, name: &Units, machine: &mut Machine) -> Result<(), AllocError>
+    ensures { OnOk result (machine.new ≡ requiring name.now machine.old) }
+{
+    let name = name.copy(alloc)?;
+    machine.require(name)
+}
+
+/// Notes failures and vital names, and orders stops; other events do nothing.
 fn aside<B: Bench>(
     alloc: Global,
     event: &Event,
@@ -70,6 +78,10 @@ fn aside<B: Bench>(
 {
     match event {
         Event::Fail { name, count } => match fail(alloc, name, *count, machine) {
+            Ok(()) => Ok(()),
+            Err(_) => Err(RunStop::Memory),
+        },
+        Event::Vital { name } => match require(alloc, name, machine) {
             Ok(()) => Ok(()),
             Err(_) => Err(RunStop::Memory),
         },

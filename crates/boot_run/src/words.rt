@@ -25,6 +25,7 @@ pub(crate) fn event_word(event: &Event) -> EventWord
         Event::Boot { .. } => EventWord::Boot,
         Event::Go { .. } => EventWord::Go,
         Event::Fail { .. } => EventWord::Fail,
+        Event::Vital { .. } => EventWord::Vital,
         Event::Set { .. } => EventWord::Set,
         Event::Delete { .. } => EventWord::Delete,
         Event::Make { .. } => EventWord::Make,

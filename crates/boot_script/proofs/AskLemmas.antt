@@ -9,7 +9,7 @@ use Rattle.std.proofs.lemmas.List.{take-append-drop, length-append}
 use Rattle.std.proofs.lemmas.List.Elements.{All-nil, All-cons}
 use Rattle.std.proofs.lemmas.List.Splits.{length-slice_split}
 use Rattle.boot_script.specs.declared.event.Event.{Event}
-use Rattle.boot_script.specs.declared.event.Event.TheVariants.{Boot, Go, Fail, Set, Delete, Make, Remove, Flush, Logon, Off, CutNow, ArmCut, ArmFault}
+use Rattle.boot_script.specs.declared.event.Event.TheVariants.{Boot, Go, Fail, Vital, Set, Delete, Make, Remove, Flush, Logon, Off, CutNow, ArmCut, ArmFault}
 use Rattle.boot_script.specs.declared.stop.ScriptFaultKind.{ScriptFaultKind}
 use Rattle.boot_script.specs.declared.stop.ScriptFaultKind.TheVariants.{TooLong, TooManyStarts}
 use Rattle.boot_script.specs.declared.stop.ScriptFault.{ScriptFault}
@@ -120,6 +120,7 @@ spells_command (Boot (Some n) good) words h = rw h.2 refl
 spells_command (Go None) words h = rw h.2 refl
 spells_command (Go (Some n)) words h = rw h.2 refl
 spells_command (Fail name count) words h = rw h.2 refl
+spells_command (Vital name) words h = rw h refl
 spells_command (Set path name kind bytes) words h = rw h.4 refl
 spells_command (Delete path name) words h = rw h.2 refl
 spells_command (Make path) words h = rw h.2 refl
@@ -275,6 +276,7 @@ counted (Boot (Some n) good) words h = let number = h.1 in (number.2.least, numb
 counted (Go None) words h = tt
 counted (Go (Some n)) words h = let number = h.1 in (number.2.least, number.2.most)
 counted (Fail name count) words h = h.1.most
+counted (Vital name) words h = tt
 counted (Set path name kind bytes) words h = tt
 counted (Delete path name) words h = tt
 counted (Make path) words h = tt

@@ -16,12 +16,12 @@ use Rattle.nt_edge.specs.declared.disk.Keep.TheVariants.{Nothing, Everything, Od
 use Rattle.nt_edge.specs.declared.disk.DiskCall.{DiskCall}
 use Rattle.nt_edge.specs.declared.disk.DiskCall.TheVariants.{Read, Write, Sync}
 use Rattle.boot_script.specs.declared.event.Event.{Event}
-use Rattle.boot_script.specs.declared.event.Event.TheVariants.{Boot, Go, Fail, Set, Delete, Make, Remove, Flush, Logon, Off, CutNow, ArmCut, ArmFault}
+use Rattle.boot_script.specs.declared.event.Event.TheVariants.{Boot, Go, Fail, Vital, Set, Delete, Make, Remove, Flush, Logon, Off, CutNow, ArmCut, ArmFault}
 use Rattle.boot_script.specs.declared.stop.ScriptFaultKind.{ScriptFaultKind}
 use Rattle.boot_script.specs.declared.stop.ScriptFaultKind.TheVariants.{Word, Number}
 use Rattle.boot_script.specs.Words.{◌>>=◌, number_from}
 use Rattle.boot_script.specs.Values.{path_of, hex_value, hex_bytes, is_hex, dword_of, string_of, binary_of, data_of, text_bytes, texts_bytes}
-use Rattle.boot_script.specs.Commands.{boot_of, go_of, fail_of, set_of, delete_of, make_of, remove_of, alone_of, keep_of, call_of, cut_of, fault_of, edit_of, command_of, event_of}
+use Rattle.boot_script.specs.Commands.{boot_of, go_of, fail_of, vital_of, set_of, delete_of, make_of, remove_of, alone_of, keep_of, call_of, cut_of, fault_of, edit_of, command_of, event_of}
 use Rattle.boot_script.specs.Events.{IsNumber, is_in_name, is_name, IsPath, IsPair, IsHex, IsDword, IsString, IsStrings, IsBinary, IsData, good_words, keep_word, call_word, IsSpelledBy}
 use Rattle.boot_script.proofs.SpellingLemmas.{not_true}
 use Rattle.boot_script.proofs.WordLemmas.{done, ok_is}
@@ -339,6 +339,13 @@ fail_found (a ∷ b ∷ []) event e =
     yields (Fail a n.0) event _ n.2 (b, number_found 0 b n.0 n.1, refl)
 fail_found (a ∷ b ∷ c ∷ more) event e = absurd cc
 
+vital_found : (words : List (List ℕ)) (event : Event) → vital_of words ≡ Ok event
+    → IsSpelledBy event (codes "vital" ∷ words)
+unfolding vital_of
+vital_found [] event e = absurd cc
+vital_found (a ∷ []) event e = yields (Vital a) event _ e refl
+vital_found (a ∷ b ∷ more) event e = absurd cc
+
 set_found : (words : List (List ℕ)) (event : Event) → set_of words ≡ Ok event → IsSpelledBy event (codes "set" ∷ words)
 unfolding set_of
 set_found [] event e = absurd cc
@@ -454,6 +461,7 @@ command_found name words event e =
     either _ _ _ event P (λ is f. as_named event words name (codes "boot") is (boot_found words event f))
     (either _ _ _ event P (λ is f. as_named event words name (codes "go") is (go_found words event f))
     (either _ _ _ event P (λ is f. as_named event words name (codes "fail") is (fail_found words event f))
+    (either _ _ _ event P (λ is f. as_named event words name (codes "vital") is (vital_found words event f))
     (either _ _ _ event P (λ is f. as_named event words name (codes "flush") is
     (alone_found Flush event (codes "flush") words f refl))
     (either _ _ _ event P (λ is f. as_named event words name (codes "logon") is
@@ -462,7 +470,7 @@ command_found name words event e =
     (alone_found Off event (codes "off") words f refl))
     (either _ _ _ event P (λ is f. as_named event words name (codes "cut") is (cut_found words event f))
     (either _ _ _ event P (λ is f. as_named event words name (codes "fault") is (fault_found words event f))
-    (edit_found name words event)))))))) e
+    (edit_found name words event))))))))) e
 
 -- ---- what is spelled is read
 
@@ -495,6 +503,10 @@ fail_read : (name : List ℕ) (n : ℕ) (word : List ℕ) → IsNumber 0 n word
     → event_of (codes "fail" ∷ name ∷ word ∷ []) ≡ Ok (Some (Fail name n))
 unfolding event_of command_of fail_of
 fail_read name n word is = rw (number_read 0 n word is) refl
+
+vital_read : (name : List ℕ) → event_of (codes "vital" ∷ name ∷ []) ≡ Ok (Some (Vital name))
+unfolding event_of command_of vital_of
+vital_read name = refl
 
 set_read : (path : List (List ℕ)) (key name : List ℕ) (kind : ℕ) (bytes : List ℕ) (value : List (List ℕ))
     → IsPath path key
@@ -572,6 +584,7 @@ event_read (Go (Some n)) words h =
     let number = h.1 in
     ap event_of (h.2 ∙ ap (λ (number : List (List ℕ)). codes "go" ∷ number) number.1) ∙ go_steps n number.0 number.2
 event_read (Fail name count) words h = ap event_of h.2 ∙ fail_read name count h.0 h.1
+event_read (Vital name) words h = ap event_of h ∙ vital_read name
 event_read (Set path name kind bytes) words h = ap event_of h.4 ∙ set_read path h.0 name kind bytes h.1 h.2 h.3
 event_read (Delete path name) words h = ap event_of h.2 ∙ delete_read path h.0 name h.1
 event_read (Make path) words h = ap event_of h.2 ∙ make_read path h.0 h.1

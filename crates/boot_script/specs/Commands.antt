@@ -3,7 +3,8 @@
 --     boot [K] [lkg]           set PATH VALUE dword N      delete PATH VALUE    cut now KEEP
 --     go [N]                   set PATH VALUE sz TEXT      make PATH            cut read|write|sync N KEEP
 --     fail NAME N              set PATH VALUE multi TEXT.. remove PATH          fault read|write|sync N
---     flush  logon  off        set PATH VALUE binary HEX                        KEEP: none, all, odd, torn
+--     vital NAME               set PATH VALUE binary HEX                        KEEP: none, all, odd, torn
+--     flush  logon  off
 --
 -- A word that is missing, too many or unknown comes before a number that is out of its range.
 use Rattle.std.specs.Prelude.{ℕ, true, false, ◌&&◌, List, [], ◌∷◌, Option, Some, None, Result, Ok, Err, if◌then◌else◌, codes}
@@ -14,7 +15,7 @@ use Rattle.nt_edge.specs.declared.disk.Keep.TheVariants.{Nothing, Everything, Od
 use Rattle.nt_edge.specs.declared.disk.DiskCall.{DiskCall}
 use Rattle.nt_edge.specs.declared.disk.DiskCall.TheVariants.{Read, Write, Sync}
 use Rattle.boot_script.specs.declared.event.Event.{Event}
-use Rattle.boot_script.specs.declared.event.Event.TheVariants.{Boot, Go, Fail, Set, Delete, Make, Remove, Flush, Logon, Off, CutNow, ArmCut, ArmFault}
+use Rattle.boot_script.specs.declared.event.Event.TheVariants.{Boot, Go, Fail, Vital, Set, Delete, Make, Remove, Flush, Logon, Off, CutNow, ArmCut, ArmFault}
 use Rattle.boot_script.specs.declared.stop.ScriptFaultKind.{ScriptFaultKind}
 use Rattle.boot_script.specs.declared.stop.ScriptFaultKind.TheVariants.{Word}
 use Rattle.boot_script.specs.Words.{◌>>=◌, number_from}
@@ -41,6 +42,12 @@ fail_of [] = Err Word
 fail_of (a ∷ []) = Err Word
 fail_of (a ∷ b ∷ []) = number_from 0 b >>= λ n. Ok (Fail a n)
 fail_of (a ∷ b ∷ c ∷ more) = Err Word
+
+-- `vital NAME`
+unfoldable pub vital_of : List (List ℕ) → Result Event ScriptFaultKind
+vital_of [] = Err Word
+vital_of (a ∷ []) = Ok (Vital a)
+vital_of (a ∷ b ∷ more) = Err Word
 
 -- `set PATH VALUE ..`
 unfoldable pub set_of : List (List ℕ) → Result Event ScriptFaultKind
@@ -118,6 +125,7 @@ command_of name words =
     if bytes_eq name (codes "boot") then boot_of words
     else if bytes_eq name (codes "go") then go_of words
     else if bytes_eq name (codes "fail") then fail_of words
+    else if bytes_eq name (codes "vital") then vital_of words
     else if bytes_eq name (codes "flush") then alone_of Flush words
     else if bytes_eq name (codes "logon") then alone_of Logon words
     else if bytes_eq name (codes "off") then alone_of Off words

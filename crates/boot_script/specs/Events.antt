@@ -12,7 +12,7 @@ use Rattle.nt_edge.specs.declared.disk.Keep.TheVariants.{Nothing, Everything, Od
 use Rattle.nt_edge.specs.declared.disk.DiskCall.{DiskCall}
 use Rattle.nt_edge.specs.declared.disk.DiskCall.TheVariants.{Read, Write, Sync}
 use Rattle.boot_script.specs.declared.event.Event.{Event}
-use Rattle.boot_script.specs.declared.event.Event.TheVariants.{Boot, Go, Fail, Set, Delete, Make, Remove, Flush, Logon, Off, CutNow, ArmCut, ArmFault}
+use Rattle.boot_script.specs.declared.event.Event.TheVariants.{Boot, Go, Fail, Vital, Set, Delete, Make, Remove, Flush, Logon, Off, CutNow, ArmCut, ArmFault}
 use Rattle.boot_script.specs.Values.{text_bytes, texts_bytes}
 
 -- one to ten digits that write the number, leading zeros among them; it is at least `low` and has 32 bits
@@ -108,6 +108,7 @@ abbrev pub IsSpelledBy : Event → List (List ℕ) → Type 0
 IsSpelledBy (Boot entry good) words = (number : List (List ℕ)) × IsOptional entry number × (words ≡ codes "boot" ∷ (number ++ good_words good))
 IsSpelledBy (Go steps) words = (number : List (List ℕ)) × IsOptional steps number × (words ≡ codes "go" ∷ number)
 IsSpelledBy (Fail name count) words = (number : List ℕ) × IsNumber 0 count number × (words ≡ codes "fail" ∷ name ∷ number ∷ [])
+IsSpelledBy (Vital name) words = words ≡ codes "vital" ∷ name ∷ []
 IsSpelledBy (Set path name kind bytes) words =
     (key : List ℕ) × (value : List (List ℕ)) × IsPath path key × IsData kind bytes value × (words ≡ codes "set" ∷ key ∷ name ∷ value)
 IsSpelledBy (Delete path name) words = (key : List ℕ) × IsPath path key × (words ≡ codes "delete" ∷ key ∷ name ∷ [])

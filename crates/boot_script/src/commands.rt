@@ -8,7 +8,7 @@ use crate::data::data;
 use crate::disk_words::{cut, fault};
 use crate::event::Event;
 use crate::names::path;
-use crate::starting::{boot, fail, go};
+use crate::starting::{boot, fail, go, vital};
 use crate::stop::{LineStop, ScriptFaultKind};
 use nt_bytes::narrow;
 use std::alloc::Global;
@@ -109,6 +109,9 @@ fn command(alloc: Global, name: &[u8], words: &[&[u8]]) -> Result<Event, LineSto
     }
     if name == b"fail".as_slice() {
         return fail(alloc, words);
+    }
+    if name == b"vital".as_slice() {
+        return vital(alloc, words);
     }
     if name == b"flush".as_slice() {
         return Ok(alone(words, Event::Flush)?);

@@ -20,6 +20,10 @@ pub enum Event {
         name: Units,
         count: u32,
     },
+    /// `vital NAME`: from now on a start that has passed its boot phase without this driver stops.
+    Vital {
+        name: Units,
+    },
     /// `set PATH VALUE ..`: writes a value of this registry type.
     Set {
         path: Names,

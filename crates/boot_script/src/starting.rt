@@ -1,8 +1,8 @@
-//! The words about starts: `boot`, `go` and `fail`.
+//! The words about starts: `boot`, `go`, `fail` and `vital`.
 
 ghost use Rattle.std.specs.Prelude.{map};
 ghost use Rattle.boot_script.specs.Words.{Sees, Gives};
-ghost use Rattle.boot_script.specs.Commands.{boot_of, go_of, fail_of};
+ghost use Rattle.boot_script.specs.Commands.{boot_of, go_of, fail_of, vital_of};
 
 use crate::event::Event;
 use crate::numerals::number;
@@ -73,4 +73,15 @@ pub fn fail(alloc: Global, words: &[&[u8]]) -> Result<Event, LineStop>
     let count = number(0, word)?;
     let name = narrow(alloc, name)?;
     Ok(Event::Fail { name, count })
+}
+
+#[tactic(auto, unfolding(crate::specs::Commands::vital_of))]
+pub fn vital(alloc: Global, words: &[&[u8]]) -> Result<Event, LineStop>
+    ensures { Gives (λ e. e) result (vital_of (map (λ w. w.now) words.now)) }
+{
+    let [name] = words else {
+        return Err(LineStop::Kind(ScriptFaultKind::Word));
+    };
+    let name = narrow(alloc, name)?;
+    Ok(Event::Vital { name })
 }

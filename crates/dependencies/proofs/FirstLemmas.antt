@@ -1,9 +1,9 @@
 -- The tree of a set of places: its root has the first of them.
-use Rattle.std.proofs.Common.{◌≡◌, ◌≢◌, ℕ, zero, suc, ◌+◌, ◌-◌, ◌*◌, ◌/◌, ◌^◌, ◌<◌, ◌≤◌, Bool, true, false, cond, List, [], ◌∷◌, length, get_or, set, replicate, Some, None, inl, inr, refl, sym, ap, ◌∙◌, arith}
+use Rattle.std.proofs.Common.{◌≡◌, ◌≢◌, ℕ, zero, suc, ◌+◌, ◌-◌, ◌*◌, ◌/◌, ◌^◌, ◌<◌, ◌≤◌, Bool, true, false, cond, List, [], ◌∷◌, length, get_or, set, Some, None, inl, inr, refl, sym, ap, ◌∙◌, arith}
 use Rattle.std.specs.Prelude.{position, min}
 use Rattle.std.specs.List.{position_from}
 use Rattle.std.proofs.lemmas.Bool.{cases_lt, cases_eq}
-use Rattle.std.proofs.lemmas.List.{get_or-set_same, get_or-set_other, get_or-replicate, length-replicate, length-set}
+use Rattle.std.proofs.lemmas.List.{get_or-set_same, get_or-set_other}
 use Rattle.std.proofs.lemmas.Iterator.Adapters.{position_from-zero}
 use Rattle.start_model.specs.Demand.{member}
 use Rattle.dependencies.specs.Firsts.{AreNodesBut, IsTreeOf, leaf_of}
@@ -135,35 +135,6 @@ root_none s firsts root tree is le =
 
 -- ---- a new tree, and one after a change
 
--- the tree of an empty set has the greatest number everywhere
-pub empty_tree : (count : ℕ) → IsTreeOf (replicate count false) (replicate (2 * count) (2 ^ 64 - 1))
-empty_tree count =
-    let same : length (replicate count false) ≡ count = length-replicate count false in
-    let none : (k : ℕ) → k < 2 * count → get_or (replicate (2 * count) (2 ^ 64 - 1)) k 0 ≡ 2 ^ 64 - 1 =
-    λ k lt. get_or-replicate (2 * count) k (2 ^ 64 - 1) 0 lt in
-    record {
-      len = length-replicate (2 * count) (2 ^ 64 - 1) ∙ ap (λ n. 2 * n) (sym same);
-      leaves = λ p lt.
-          none (length (replicate count false) + p) (omega (arith, lt, same))
-          ∙ sym (ap (λ b. leaf_of b p) (get_or-replicate count p false false (omega (arith, lt, same))));
-      nodes = λ k pos lt ne.
-          let a = none (2 * k) (omega (arith, lt, same)) in
-          let b = none (2 * k + 1) (omega (arith, lt, same)) in
-          omega (arith, none k (omega (arith, lt, same)), a, b);
-    }
-
--- a leaf that changes leaves all nodes right but the one above it
-pub leaf_changes : (firsts : List ℕ) (count place v : ℕ) → length firsts ≡ 2 * count → place < count
-    → AreNodesBut 0 firsts count → AreNodesBut ((count + place) / 2) (set firsts (count + place) v) count
-leaf_changes firsts count place v len lt nodes k pos below ne =
-    let leaf = count + place in
-    let kept : (j : ℕ) → j ≢ leaf → get_or (set firsts leaf v) j 0 ≡ get_or firsts j 0 =
-    λ j other. get_or-set_other firsts leaf j v 0 other in
-    let here = kept k (omega (arith, below)) in
-    let a = kept (2 * k) (omega (arith, ne)) in
-    let b = kept (2 * k + 1) (omega (arith, ne)) in
-    omega (arith, here, a, b, nodes k pos below (omega (arith, pos)))
-
 -- a node that is put right leaves all right but the one above it
 pub node_settles : (firsts : List ℕ) (count at v : ℕ) → length firsts ≡ 2 * count → 0 < at → at < count
     → AreNodesBut at firsts count
@@ -182,35 +153,4 @@ node_settles firsts count at v len pos lt nodes is k kpos below ne =
           ap (λ j. get_or firsts (2 * j + 1) 0) e in
           omega (arith, same, left, right, a, b, is)
       | inr other ↦ omega (arith, kept k other, a, b, nodes k kpos below other)
-    ]
-
--- the tree after a place was put in or taken out
-pub settled_tree : (s : List Bool) (firsts after : List ℕ) (place : ℕ) (is_in : Bool) → IsTreeOf s firsts
-    → place < length s → length after ≡ length firsts
-    → AreNodesBut 0 after (length s)
-    → ((k : ℕ) → length s ≤ k → get_or after k 0 ≡ get_or (set firsts (length s + place) (leaf_of is_in place)) k 0)
-    → IsTreeOf (set s place is_in) after
-settled_tree s firsts after place is_in tree lt len nodes leaves =
-    let count = length s in
-    let same : length (set s place is_in) ≡ count = length-set s place is_in in
-    record {
-      len = len ∙ tree.len ∙ ap (λ n. 2 * n) (sym same);
-      leaves = λ p below. rw same (leaves (count + p) (omega arith) ∙ leaf p (omega (arith, below, same)));
-      nodes = rw same nodes;
-    }
-  where
-    leaf : (p : ℕ) → p < length s
-        → get_or (set firsts (length s + place) (leaf_of is_in place)) (length s + p) 0
-        ≡ leaf_of (member (set s place is_in) p) p
-    leaf p below = elim (cases_eq p place) [
-      | inl e ↦
-          let at : length s + p ≡ length s + place = omega (arith, e) in
-          ap (λ j. get_or (set firsts (length s + place) (leaf_of is_in place)) j 0) at
-          ∙ get_or-set_same firsts (length s + place) (leaf_of is_in place) 0 (omega (arith, tree.len, lt))
-          ∙ sym (ap (λ j. leaf_of (member (set s place is_in) j) j) e
-          ∙ ap (λ b. leaf_of b place) (get_or-set_same s place is_in false lt))
-      | inr ne ↦
-          get_or-set_other firsts (length s + place) (length s + p) (leaf_of is_in place) 0 (omega (arith, ne))
-          ∙ tree.leaves p below
-          ∙ sym (ap (λ b. leaf_of b p) (get_or-set_other s place p is_in false ne))
     ]

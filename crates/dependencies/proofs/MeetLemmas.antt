@@ -1,14 +1,13 @@
 -- What a start meets.
-use Rattle.std.proofs.Common.{◌≡◌, ℕ, ◌+◌, ◌<◌, Bool, true, false, not, nat_eq, ◌&&◌, ◌||◌, cond, List, [], ◌∷◌, ◌++◌, length, map, take, get_or, set, Option, Some, None, inl, inr, refl, sym, ap, ◌∙◌, arith}
+use Rattle.std.proofs.Common.{◌≡◌, ℕ, ◌+◌, ◌<◌, Bool, true, false, not, nat_eq, ◌&&◌, ◌||◌, cond, List, [], ◌∷◌, ◌++◌, length, map, get_or, set, Option, Some, None, inl, inr, refl, sym, ap, ◌∙◌, arith}
 use Rattle.std.specs.Prelude.{All, count_by, slice_get}
 use Rattle.std.specs.List.{list_any}
 use Rattle.std.specs.Option.{option_map, option_map_or}
-use Rattle.std.proofs.lemmas.Bool.{cases_eq, false≢true, eq-eqb, ne_eqb, eqb-true}
+use Rattle.std.proofs.lemmas.Bool.{cases_eq, false≢true, eqb-true}
 use Rattle.std.proofs.lemmas.Bool.Decides.{nat_tests}
 use Rattle.std.proofs.lemmas.List.{get_or-set_same, get_or-set_other, length-set, length-map, get_or-map, get_or_default, same_lists}
-use Rattle.std.proofs.lemmas.List.Folds.{list_any-append, list_any_more, fold-map}
+use Rattle.std.proofs.lemmas.List.Folds.{list_any-append, fold-map}
 use Rattle.std.proofs.lemmas.List.Elements.{All-contains}
-use Rattle.std.proofs.lemmas.List.Sums.{sum_by-set}
 use Rattle.std.proofs.lemmas.Cmp.{nat_eq_equiv}
 use Rattle.std.proofs.lemmas.Map.Views.{Contains-from_any, list_any-from_Contains}
 use Rattle.nt_bytes.specs.Folding.{folded, folds_same, folded_unit}
@@ -22,12 +21,8 @@ use Rattle.dependencies.specs.declared.wants.Kind.TheVariants.{Service, Group}
 use Rattle.dependencies.specs.Waiting.{label_of}
 use Rattle.dependencies.specs.Wants.{meets, names_given, WantsState, is_free, is_ready_at, IsNearer, AreReadyBut, AreWantsOf, AreMetTogether}
 use Rattle.dependencies.proofs.PulledLemmas.{same_bool}
-use Rattle.dependencies.proofs.WantLemmas.{others_keep, marked_again}
-use Rattle.std.proofs.Math.Bool.{or-false, or-true}
-
-or_more : (a b c : Bool) → ((a || b) || c) ≡ (a || (b || c))
-or_more true b c = refl
-or_more false b c = refl
+use Rattle.dependencies.proofs.WantLemmas.{others_keep}
+use Rattle.std.proofs.Math.Bool.{or-false}
 
 or_by : (a b : Bool) → (b ≡ true → a ≡ true) → a ≡ (a || b)
 or_by true b h = refl
@@ -39,42 +34,6 @@ or_by false false h = refl
 -- the wants with these marks
 abbrev pub with_met : WantsState → List Bool → WantsState
 with_met w met = record w { met = met }
-
--- a want that is met now is one fewer to meet
-pub one_fewer : (met : List Bool) (k : ℕ) → k < length met → member met k ≡ false
-    → count_by not (set met k true) + 1 ≡ count_by not met
-one_fewer met k lt un =
-    let s : ◌≡◌ {A = ℕ} (count_by not (set met k true) + cond (not (member met k)) 1 0) (count_by not met + 0) =
-    sum_by-set (λ x. cond (not x) 1 0) met k true false lt in
-    let one : ◌≡◌ {A = ℕ} (cond (not (member met k)) 1 0) 1 = ap (λ b. cond (not b) 1 0) un in
-    omega (arith, s, one)
-
--- so the wants come nearer; meeting none is no step back, and steps add up
-pub nearer_by_one : (w : WantsState) (k : ℕ) → k < length w.met → member w.met k ≡ false
-    → IsNearer w (with_met w (set w.met k true))
-nearer_by_one w k lt un =
-    record {
-      count = refl;
-      owners = refl;
-      len = length-set w.met k true;
-      fewer = omega (arith, one_fewer w.met k lt un);
-    }
-
-pub no_nearer : (w : WantsState) → IsNearer w w
-no_nearer w = record { count = refl; owners = refl; len = refl; fewer = omega arith }
-
-pub nearer_again : (a b c : WantsState) → IsNearer a b → IsNearer b c → IsNearer a c
-nearer_again a b c one two = record {
-  count = two.count ∙ one.count;
-  owners = two.owners ∙ one.owners;
-  len = two.len ∙ one.len;
-  fewer = omega (arith, one.fewer, two.fewer);
-}
-
--- a want that is met already may be marked again
-pub same_again : (w : WantsState) (k : ℕ) → member w.met k ≡ true → w ≡ with_met w (set w.met k true)
-same_again w k h = let e = sym (marked_again w.met k h) in
-    (λ i. record { count = w.count; owners = w.owners; met = e i })
 
 -- the flags are right again once the owner of a want that is met has its own written anew
 pub one_met : (w other : WantsState) (ready waits : List Bool) (want : ℕ) → AreReadyBut w.count ready waits w other
@@ -103,30 +62,6 @@ one_met w other ready waits want old lt paired un owner is small = record {
     new = with_met w (set w.met want true)
 
 -- ---- the wants of a name
-
--- place by place the marks of a name grow by the wants at these places
-pub marks_more : (met0 met : List Bool) (places : List ℕ) (i : ℕ) → i < length places → get_or places i 0 < length met
-    → ((k : ℕ) → k < length met0 → member met k ≡ (member met0 k || list_any (nat_eq k) (take i places)))
-    → (k : ℕ) → k < length met0
-    → member (set met (get_or places i 0) true) k ≡ (member met0 k || list_any (nat_eq k) (take (i + 1) places))
-marks_more met0 met places i lt within so_far k below = elim (cases_eq k place) [
-  | inl e ↦
-      ap (member (set met place true)) e ∙ get_or-set_same met place true false within
-      ∙ sym (ap (λ b. member met0 k || b)
-      (more ∙ ap (λ b. list_any (nat_eq k) (take i places) || b) (eq-eqb k place e)
-      ∙ or-true (list_any (nat_eq k) (take i places))) ∙ or-true (member met0 k))
-  | inr ne ↦
-      get_or-set_other met place k true false ne ∙ so_far k below
-      ∙ ap (λ b. member met0 k || b)
-      (sym (more ∙ ap (λ b. list_any (nat_eq k) (take i places) || b) (ne_eqb k place ne)
-      ∙ or-false (list_any (nat_eq k) (take i places))))
-]
-  where
-    place : ℕ
-    place = get_or places i 0
-
-    more : list_any (nat_eq k) (take (i + 1) places) ≡ (list_any (nat_eq k) (take i places) || nat_eq k place)
-    more = list_any_more (nat_eq k) places i 0 lt
 
 -- a place is one of those that the index gives
 pub is_place_named : (name : List ℕ) (names : List (List ℕ)) (k : ℕ) → k < length names

@@ -60,12 +60,6 @@ others_keep owners met k p lt len un ne =
     ap (λ b. cond b 1 0) (ne_eqb (get_or owners k 0) p (λ e. ne (sym e))) in
     omega (arith, marked owners met k p lt len un, none)
 
--- a want that is met already is marked again
-pub marked_again : (met : List Bool) (k : ℕ) → member met k ≡ true → set met k true ≡ met
-marked_again [] k h = refl
-marked_again (m ∷ ms) zero h = ap (λ b. b ∷ ms) (sym h)
-marked_again (m ∷ ms) (suc k) h = ap (λ l. m ∷ l) (marked_again ms k h)
-
 -- so the counts stay right when the owner's is one less
 pub counted_after : (owners : List ℕ) (met : List Bool) (unmet : List ℕ) (k v : ℕ) → AreCounted owners met unmet
     → k < length met → member met k ≡ false

@@ -6,7 +6,7 @@ use Rattle.std.proofs.lemmas.List.{get_or_push, get_or_append_left, length_push}
 use Rattle.std.proofs.lemmas.List.Elements.{All-push, All-weaker, Contains-push, Contains-push_cases, Contains-append_left}
 use Rattle.start_model.specs.Demand.{Need}
 use Rattle.start_model.specs.Demand.{pulls, member, starts_at, IsClosed}
-use Rattle.dependencies.specs.Work.{IsWork, PullsIn, IsLeast}
+use Rattle.dependencies.specs.Work.{IsWork, PullsIn}
 use Rattle.dependencies.proofs.PulledLemmas.{starts_within, pulls_within}
 use Rattle.dependencies.proofs.KeptLemmas.{within_waits}
 
@@ -28,15 +28,6 @@ pub record IsWorked (table : List Need) (taken : List Bool) (work : List ℕ) : 
 
 member_before : (taken : List Bool) (b : Bool) (k : ℕ) → k < length taken → member (taken ++ b ∷ []) k ≡ member taken k
 member_before taken b k lt = get_or_append_left taken (b ∷ []) false k lt
-
-pub seeded_start : (table : List Need) → IsSeeded table 0 [] []
-seeded_start table = record {
-  len = refl;
-  small = λ k d lt. absurd (omega arith);
-  is = λ k lt. absurd (omega arith);
-  noted = λ k t. absurd (false≢true t);
-  honest = λ k h. absurd (omega (arith, h.1));
-}
 
 -- the place of a member of the longer list is the last one, or the member was there before
 last_or_before : (taken : List Bool) (b : Bool) (k : ℕ) → member (taken ++ b ∷ []) k ≡ true
@@ -167,18 +158,3 @@ worked_more table place taken work rest taken' work' e is now in' = record {
   where
     within : (k : ℕ) → member taken' k ≡ true → k < length table
     within k t = omega (arith, within_waits taken' k t, now.len)
-
--- without work left, what is taken is the least set
-pub worked_end : (table : List Need) (taken : List Bool) (work : List ℕ) → length work ≡ 0 → IsWorked table taken work
-    → IsLeast table taken
-worked_end table taken work none is = record {
-  len = is.honest.len;
-  closed = record {
-    starts = is.starts;
-    pulled = λ p q t s. elim (is.pulled p t) [
-      | inl waits ↦ absurd (omega (arith, waits.1))
-      | inr done ↦ done q s
-    ];
-  };
-  least = is.least;
-}

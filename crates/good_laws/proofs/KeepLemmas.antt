@@ -10,14 +10,14 @@ use Rattle.hive_model.specs.Tree.{Tree}
 use Rattle.hive_model.specs.State.{HiveState}
 use Rattle.hive_model.specs.Edit.{Refusal, edited}
 use Rattle.start_model.specs.Lines as lines
-use Rattle.start_model.specs.Lines.{Line, Verdict, CommitWord, RefusedWord, UnmetLine}
+use Rattle.start_model.specs.Lines.{Line, Verdict, CommitWord, RefusedWord, UnmetLine, VitalLine}
 use Rattle.start_model.specs.Judge.{Judgement, Ignore, Log, FallBack, Stop}
 use Rattle.start_model.specs.Entries.{Entry}
 use Rattle.start_model.specs.Sets as sets
 use Rattle.start_model.specs.Sets.{SelectNumbers, SetChange, ChangeStop, NoPlan, set_of, select_numbers_of, usable_numbers_of, begin_plan_of, begin_of, save_of}
 use Rattle.start_model.specs.Events as events
 use Rattle.start_model.specs.Events.{Event, Edit, is_protected, step_of}
-use Rattle.start_model.specs.Machine.{Start, MachineState, Tried, attempt_at, attempt_in, attempt_of, next_in, after_phase, unmet_in, is_done, save_due, with_start, failing, ending_of, refusal_in, refusal_of}
+use Rattle.start_model.specs.Machine.{Start, MachineState, Tried, attempt_at, attempt_in, attempt_of, next_in, after_phase, unmet_in, missing_in, is_done, save_due, with_start, failing, requiring, ending_of, refusal_in, refusal_of}
 use Rattle.start_model.specs.Act as acts
 use Rattle.start_model.specs.Commit as commit_book
 use Rattle.start_model.specs.Boot as boot_book
@@ -25,7 +25,7 @@ use Rattle.start_model.specs.EventActs as event_acts
 use Rattle.start_model.specs.Possible.{Possible, Woken, Outcome, Finished, PowerCut, DeviceFault, settled_at, open_between, woken_at}
 use Rattle.start_model.specs.Act.{RunState, Act, Note, Woke, Held, Saved, Ordered, Cuts, Ended, next_state, say_all, end_with, with_machine}
 use Rattle.start_model.specs.Commit.{committed_state, opened_state, commit, committed, noted_saved, saved_by, save, save_where_due}
-use Rattle.start_model.specs.Starter.{no_set, live_set, good_is_usable, phase_line, judged, phase_step, starter_step, stepping, go_steps, enough_steps, go_act}
+use Rattle.start_model.specs.Starter.{no_set, live_set, good_is_usable, judged, phase_begun, phase_passed, phase_step, starter_step, stepping, go_steps, enough_steps, go_act}
 use Rattle.start_model.specs.Boot.{Choice, loaded_state, woken_state, begun_state, accepted_state, begin_start, begin_with, begin_by, take_set, loaded, woken, chosen, boot_act}
 use Rattle.start_model.specs.EventActs.{edit_done, flush_act, off_act, logon_act, running_act, idle_act, accepted_act, act_unless, event_step_of}
 use Rattle.start_model.specs.Run.{verdict_first, closing_act}
@@ -268,14 +268,26 @@ runs_at : (P : Tree → Type 0) (h : List Note) (live : Tree) (o : Option Start)
     → StartRuns P h live s → Runs P h live o
 runs_at P h live o s e r = let Q : Option Start → Type 0 = Runs P h live in subst Q (sym e) r
 
+phase_begun-keeps : (P : Tree → Type 0) (s : Start) (h : List Note) (m : RunState) (next : RunState → Act)
+    → DiskFine h m.disk → StartRuns P h m.live s → Next P next → Keeps P h (phase_begun s m next)
+phase_begun-keeps P s h m next d r f =
+    let after : Start = after_phase (live_set m s.number) s in
+    due-keeps P after h m next d (record { on_set = r.on_set; clone = r.clone }) f
+
+phase_passed-keeps : (P : Tree → Type 0) (s : Start) (h : List Note) (m : RunState) (next : RunState → Act)
+    (missing : List (List ℕ)) → DiskFine h m.disk → StartRuns P h m.live s → Next P next
+    → Keeps P h (phase_passed s m next missing)
+phase_passed-keeps P s h m next [] d r f = phase_begun-keeps P s h m next d r f
+phase_passed-keeps P s h m next (name ∷ names) d r f =
+    say_all-keeps P h (map VitalLine (name ∷ names)) (end_with lines.Stopped false m)
+    (ended-keeps P h lines.Stopped false m d)
+
 phase_step-keeps : (P : Tree → Type 0) (s : Start) (h : List Note) (m : RunState) (next : RunState → Act)
     → DiskFine h m.disk → StartRuns P h m.live s → Next P next → Keeps P h (phase_step s m next)
 phase_step-keeps P s h m next d r f =
-    let after : Start = after_phase (live_set m s.number) s in
-    let there : RunState = with_machine (with_start after m.machine) m in
-    say_all-keeps P h (map UnmetLine (unmet_in s))
-    (acts.say (phase_line after.phase) (save_where_due (Some after) there next))
-    (due-keeps P after h m next d (record { on_set = r.on_set; clone = r.clone }) f)
+    let missing : List (List ℕ) = missing_in m.machine.vital s in
+    say_all-keeps P h (map UnmetLine (unmet_in s)) (phase_passed s m next missing)
+    (phase_passed-keeps P s h m next missing d r f)
 
 starter_step-keeps : (P : Tree → Type 0) (s : Start) (h : List Note) (m : RunState) (next : RunState → Act)
     (o : Option (MachineState × Tried))
@@ -507,11 +519,16 @@ fail_going : (P : Tree → Type 0) (h : List Note) (name : List ℕ) (count : �
     → KeepsGoing P h (with_machine (failing name count m.machine) m)
 fail_going P h name count m g = record { disk = g.disk; runs = g.runs }
 
+vital_going : (P : Tree → Type 0) (h : List Note) (name : List ℕ) (m : RunState) → KeepsGoing P h m
+    → KeepsGoing P h (with_machine (requiring name m.machine) m)
+vital_going P h name m g = record { disk = g.disk; runs = g.runs }
+
 running_act-keeps : (P : Tree → Type 0) (s : Start) (e : Event) (h : List Note) (m : RunState)
     → m.machine.start ≡ Some s → refusal_in (Some s) e ≡ None → KeepsGoing P h m → Keeps P h (running_act s e m)
 running_act-keeps P s (events.BootNow entry good) h m is free g = g
 running_act-keeps P s (events.Go steps) h m is free g = go_act-keeps P steps h m g
 running_act-keeps P s (events.Fail name count) h m is free g = fail_going P h name count m g
+running_act-keeps P s (events.Vital name) h m is free g = vital_going P h name m g
 running_act-keeps P s (events.Edits edit) h m is free g =
     edit_done-keeps P (events.Edits edit) edit s h m (edited m.version m.live (step_of s.number edit ∷ [])) is
     (not_refused (is_protected edit) lines.ProtectedReason free) refl g
@@ -527,6 +544,7 @@ idle_act-keeps P choice (events.BootNow entry good) h m g =
     chosen-keeps P h (m.machine.fallback_due || good) (accepted_state m) (choice entry) g.disk
 idle_act-keeps P choice (events.Go steps) h m g = g
 idle_act-keeps P choice (events.Fail name count) h m g = fail_going P h name count m g
+idle_act-keeps P choice (events.Vital name) h m g = vital_going P h name m g
 idle_act-keeps P choice (events.Edits edit) h m g = g
 idle_act-keeps P choice events.Flush h m g = g
 idle_act-keeps P choice events.Logon h m g = g

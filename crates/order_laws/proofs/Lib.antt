@@ -1,2 +1,3 @@
 pub mod UnorderedLemmas
 pub mod QuietLemmas
+pub mod ToldLemmas

@@ -7,13 +7,13 @@ use Rattle.hive_model.specs.Edit.{Refusal, edited}
 use Rattle.nt_edge.specs.Bench.{KeepsOrders}
 use Rattle.nt_edge.specs.Disk.{DiskState, Wake}
 use Rattle.start_model.specs.Lines as lines
-use Rattle.start_model.specs.Lines.{Line, Verdict, CommitWord, RefusedWord, UnmetLine}
+use Rattle.start_model.specs.Lines.{Line, Verdict, CommitWord, RefusedWord, UnmetLine, VitalLine}
 use Rattle.start_model.specs.Judge.{Judgement, Ignore, Log, FallBack, Stop}
 use Rattle.start_model.specs.Sets as sets
 use Rattle.start_model.specs.Sets.{SelectNumbers, SetChange, ChangeStop, NoPlan, begin_of, save_of}
 use Rattle.start_model.specs.Events as events
 use Rattle.start_model.specs.Events.{Event, step_of}
-use Rattle.start_model.specs.Machine.{Start, MachineState, Tried, attempt_of, after_phase, unmet_in, is_done, save_due, with_start, ending_of, refusal_of}
+use Rattle.start_model.specs.Machine.{Start, MachineState, Tried, attempt_of, after_phase, unmet_in, missing_in, is_done, save_due, with_start, ending_of, refusal_of}
 use Rattle.start_model.specs.Orders.{ordered_in}
 use Rattle.start_model.specs.Act as acts
 use Rattle.start_model.specs.Commit as commit_book
@@ -21,7 +21,7 @@ use Rattle.start_model.specs.Boot as boot_book
 use Rattle.start_model.specs.Possible.{Woken, Outcome, Finished, PowerCut, DeviceFault}
 use Rattle.start_model.specs.Act.{RunState, Act, Note, Woke, Held, Saved, Ordered, Cuts, Ended, next_state, say_all, end_with, with_machine}
 use Rattle.start_model.specs.Commit.{committed_state, commit, committed, noted_saved, saved_by, save, save_where_due}
-use Rattle.start_model.specs.Starter.{live_set, good_is_usable, phase_line, judged, phase_step, starter_step, stepping, go_steps, enough_steps, go_act}
+use Rattle.start_model.specs.Starter.{live_set, good_is_usable, judged, phase_begun, phase_passed, phase_step, starter_step, stepping, go_steps, enough_steps, go_act}
 use Rattle.start_model.specs.Boot.{Choice, loaded_state, accepted_state, begin_start, begin_with, begin_by, loaded, woken, chosen, boot_act}
 use Rattle.start_model.specs.EventActs.{edit_done, flush_act, off_act, logon_act, running_act, idle_act, accepted_act, act_unless, event_step_of}
 use Rattle.start_model.specs.Run.{RunResult, verdict_first, closing_act, play, then_run, run_from, run_of, first_state}
@@ -131,13 +131,24 @@ judged-unordered Log m next f = f m
 judged-unordered FallBack m next f = tt
 judged-unordered Stop m next f = tt
 
+phase_begun-unordered : (s : Start) (m : RunState) (next : RunState → Act) → Next next
+    → OrdersNothing (phase_begun s m next)
+phase_begun-unordered s m next f =
+    let after : Start = after_phase (live_set m s.number) s in
+    due-unordered (Some after) (with_machine (with_start after m.machine) m) next f
+
+phase_passed-unordered : (s : Start) (m : RunState) (next : RunState → Act) (missing : List (List ℕ)) → Next next
+    → OrdersNothing (phase_passed s m next missing)
+phase_passed-unordered s m next [] f = phase_begun-unordered s m next f
+phase_passed-unordered s m next (name ∷ names) f =
+    say_all-unordered (map VitalLine (name ∷ names)) (end_with lines.Stopped false m) tt
+
 phase_step-unordered : (s : Start) (m : RunState) (next : RunState → Act) → Next next
     → OrdersNothing (phase_step s m next)
 phase_step-unordered s m next f =
-    let after : Start = after_phase (live_set m s.number) s in
-    let there : RunState = with_machine (with_start after m.machine) m in
-    let rest : Act = acts.say (phase_line after.phase) (save_where_due (Some after) there next) in
-    say_all-unordered (map UnmetLine (unmet_in s)) rest (due-unordered (Some after) there next f)
+    let missing : List (List ℕ) = missing_in m.machine.vital s in
+    say_all-unordered (map UnmetLine (unmet_in s)) (phase_passed s m next missing)
+    (phase_passed-unordered s m next missing f)
 
 starter_step-unordered : (s : Start) (m : RunState) (next : RunState → Act) (o : Option (MachineState × Tried))
     → Next next → OrdersNothing (starter_step s m next o)
@@ -225,6 +236,7 @@ running_act-unordered : (s : Start) (e : Event) (m : RunState) → IsUnordered e
 running_act-unordered s (events.BootNow entry good) m none = tt
 running_act-unordered s (events.Go steps) m none = go_act-unordered steps m
 running_act-unordered s (events.Fail name count) m none = tt
+running_act-unordered s (events.Vital name) m none = tt
 running_act-unordered s (events.Edits edit) m none =
     edit_done-unordered (events.Edits edit) m (edited m.version m.live (step_of s.number edit ∷ []))
 running_act-unordered s events.Flush m none = flush_act-unordered m
@@ -238,6 +250,7 @@ idle_act-unordered : (choice : Option ℕ → Choice) (e : Event) (m : RunState)
 idle_act-unordered choice (events.BootNow entry good) m none = boot_act-unordered choice entry good m
 idle_act-unordered choice (events.Go steps) m none = tt
 idle_act-unordered choice (events.Fail name count) m none = tt
+idle_act-unordered choice (events.Vital name) m none = tt
 idle_act-unordered choice (events.Edits edit) m none = tt
 idle_act-unordered choice events.Flush m none = tt
 idle_act-unordered choice events.Logon m none = tt

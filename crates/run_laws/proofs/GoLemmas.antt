@@ -10,11 +10,11 @@ use Rattle.start_model.specs.Judge.{Judgement, Ignore, Log, FallBack, Stop}
 use Rattle.start_model.specs.Sets as sets
 use Rattle.start_model.specs.Sets.{SetChange, ChangeStop, NoPlan, save_of}
 use Rattle.start_model.specs.Entries.{Entry, Phase, Boot, System, Automatic, Done, services_of}
-use Rattle.start_model.specs.Machine.{Start, MachineState, Tried, next_in, attempt_at, attempt_in, attempt_of, after_phase, unmet_in, is_done, save_due, with_start}
+use Rattle.start_model.specs.Machine.{Start, MachineState, Tried, next_in, attempt_at, attempt_in, attempt_of, after_phase, unmet_in, missing_in, is_done, save_due, with_start}
 use Rattle.start_model.specs.Possible.{Outcome, Finished, PowerCut, DeviceFault, open_between}
 use Rattle.start_model.specs.Act.{RunState, Act, say, ask, mark, Held, Saved, say_all, next_state, with_machine}
 use Rattle.start_model.specs.Commit.{committed_state, committed, commit, noted_saved, save_refused, saved_by, save, save_where_due, select_line}
-use Rattle.start_model.specs.Starter.{live_set, good_is_usable, phase_line, judged, phase_step, starter_step, stepping, go_steps, enough_steps, go_act, try_line}
+use Rattle.start_model.specs.Starter.{live_set, good_is_usable, phase_line, judged, phase_begun, phase_passed, phase_step, starter_step, stepping, go_steps, enough_steps, go_act, try_line}
 use Rattle.start_model.specs.Act as acts
 use Rattle.run_laws.proofs.CountLemmas.{system_count, late_count, system_plan, automatic_plan, all_counts}
 
@@ -162,18 +162,29 @@ say_all-same [] a b e = e
 say_all-same (l ∷ ls) a b e = ap (say l) (say_all-same ls a b e)
 
 -- a change of phase
-phase_step-same : (s : Start) (m : RunState) (next other : RunState → Act) → m.machine.start ≡ Some s
+phase_begun-same : (s : Start) (m : RunState) (next other : RunState → Act) → m.machine.start ≡ Some s
     → is_done s.phase ≡ false
-    → ((x : RunState) → steps_left x < steps_left m → next x ≡ other x) → phase_step s m next ≡ phase_step s m other
-phase_step-same s m next other is more f =
+    → ((x : RunState) → steps_left x < steps_left m → next x ≡ other x) → phase_begun s m next ≡ phase_begun s m other
+phase_begun-same s m next other is more f =
     let set : Tree = live_set m s.number in
     let after : Start = after_phase set s in
     let there : RunState = with_machine (with_start after m.machine) m in
     let now : steps_left m ≡ steps_in set s = ap (steps_of m) is ∙ ap (λ (b : Bool). cond b 0 (steps_in set s)) more in
     let falls : cond (is_done after.phase) 0 (steps_in set after) < steps_in set s = phase_falls set s more in
+    ap (say (phase_line after.phase))
+    (due-same (save_due after) after there next other refl (λ x e. f x (omega arith)) (f there (omega arith)))
+
+phase_passed-same : (s : Start) (m : RunState) (next other : RunState → Act) (missing : List (List ℕ))
+    → phase_begun s m next ≡ phase_begun s m other → phase_passed s m next missing ≡ phase_passed s m other missing
+phase_passed-same s m next other [] e = e
+phase_passed-same s m next other (name ∷ names) e = refl
+
+phase_step-same : (s : Start) (m : RunState) (next other : RunState → Act) → m.machine.start ≡ Some s
+    → is_done s.phase ≡ false
+    → ((x : RunState) → steps_left x < steps_left m → next x ≡ other x) → phase_step s m next ≡ phase_step s m other
+phase_step-same s m next other is more f =
     say_all-same (map UnmetLine (unmet_in s)) _ _
-    (ap (say (phase_line after.phase))
-    (due-same (save_due after) after there next other refl (λ x e. f x (omega arith)) (f there (omega arith))))
+    (phase_passed-same s m next other (missing_in m.machine.vital s) (phase_begun-same s m next other is more f))
 
 judged-same : (j : Judgement) (m : RunState) (next other : RunState → Act) → next m ≡ other m
     → judged j m next ≡ judged j m other

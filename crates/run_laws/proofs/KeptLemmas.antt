@@ -5,20 +5,20 @@ use Rattle.hive_model.specs.Image.{Arming}
 use Rattle.hive_model.specs.Tree.{Tree}
 use Rattle.hive_model.specs.Edit.{Refusal, edited}
 use Rattle.start_model.specs.Lines as lines
-use Rattle.start_model.specs.Lines.{Line, Verdict, CommitWord, RefusedWord, UnmetLine}
+use Rattle.start_model.specs.Lines.{Line, Verdict, CommitWord, RefusedWord, UnmetLine, VitalLine}
 use Rattle.start_model.specs.Judge.{Judgement, Ignore, Log, FallBack, Stop}
 use Rattle.start_model.specs.Sets as sets
 use Rattle.start_model.specs.Sets.{SelectNumbers, SetChange, ChangeStop, NoPlan, begin_of, save_of}
 use Rattle.start_model.specs.Events as events
 use Rattle.start_model.specs.Events.{Event, step_of}
-use Rattle.start_model.specs.Machine.{Start, MachineState, Tried, attempt_of, after_phase, unmet_in, is_done, save_due, with_start, ending_of, refusal_of}
+use Rattle.start_model.specs.Machine.{Start, MachineState, Tried, attempt_of, after_phase, unmet_in, missing_in, is_done, save_due, with_start, ending_of, refusal_of}
 use Rattle.start_model.specs.Act as acts
 use Rattle.start_model.specs.Commit as commit_book
 use Rattle.start_model.specs.Boot as boot_book
 use Rattle.start_model.specs.Possible.{Possible, Woken, Outcome, Finished, PowerCut, DeviceFault, open_between, woken_at}
 use Rattle.start_model.specs.Act.{RunState, Act, Note, Woke, Held, Saved, Ordered, Cuts, Ended, next_state, start_over, say_all, end_with, with_machine}
 use Rattle.start_model.specs.Commit.{committed_state, opened_state, commit, committed, noted_saved, saved_by, save, save_where_due}
-use Rattle.start_model.specs.Starter.{live_set, good_is_usable, phase_line, judged, phase_step, starter_step, stepping, go_steps, enough_steps, go_act}
+use Rattle.start_model.specs.Starter.{live_set, good_is_usable, judged, phase_begun, phase_passed, phase_step, starter_step, stepping, go_steps, enough_steps, go_act}
 use Rattle.start_model.specs.Boot.{Choice, loaded_state, woken_state, accepted_state, begin_start, begin_with, begin_by, take_set, loaded, woken, chosen, boot_act}
 use Rattle.start_model.specs.EventActs.{edit_done, flush_act, off_act, logon_act, running_act, idle_act, accepted_act, act_unless, event_step_of}
 use Rattle.start_model.specs.Run.{verdict_first, closing_act}
@@ -181,14 +181,26 @@ judged-keeps law Log h m next u f = f h m u
 judged-keeps law FallBack h m next u f = ends-keeps law lines.FallBack true h m u
 judged-keeps law Stop h m next u f = ends-keeps law lines.Stopped false h m u
 
+pub phase_begun-keeps : (law : Law) (s : Start) (h : List Note) (m : RunState) (next : RunState → Act) → law.Up h m
+    → Next law next → Keeps law h (phase_begun s m next)
+phase_begun-keeps law s h m next u f =
+    let after : Start = after_phase (live_set m s.number) s in
+    due-keeps law (Some after) h (with_machine (with_start after m.machine) m) next
+    (machine_up law h m (with_start after m.machine) u) f
+
+pub phase_passed-keeps : (law : Law) (s : Start) (h : List Note) (m : RunState) (next : RunState → Act)
+    (missing : List (List ℕ)) → law.Up h m → Next law next → Keeps law h (phase_passed s m next missing)
+phase_passed-keeps law s h m next [] u f = phase_begun-keeps law s h m next u f
+phase_passed-keeps law s h m next (name ∷ names) u f =
+    say_all-keeps law h (map VitalLine (name ∷ names)) (end_with lines.Stopped false m)
+    (ends-keeps law lines.Stopped false h m u)
+
 pub phase_step-keeps : (law : Law) (s : Start) (h : List Note) (m : RunState) (next : RunState → Act) → law.Up h m
     → Next law next → Keeps law h (phase_step s m next)
 phase_step-keeps law s h m next u f =
-    let after : Start = after_phase (live_set m s.number) s in
-    let there : RunState = with_machine (with_start after m.machine) m in
-    say_all-keeps law h (map UnmetLine (unmet_in s))
-    (acts.say (phase_line after.phase) (save_where_due (Some after) there next))
-    (due-keeps law (Some after) h there next (machine_up law h m (with_start after m.machine) u) f)
+    let missing : List (List ℕ) = missing_in m.machine.vital s in
+    say_all-keeps law h (map UnmetLine (unmet_in s)) (phase_passed s m next missing)
+    (phase_passed-keeps law s h m next missing u f)
 
 pub starter_step-keeps : (law : Law) (s : Start) (h : List Note) (m : RunState) (next : RunState → Act)
     (o : Option (MachineState × Tried)) → law.Up h m → Next law next → Keeps law h (starter_step s m next o)
@@ -300,6 +312,7 @@ pub running_act-keeps : (law : Law) (s : Start) (e : Event) (h : List Note) (m :
 running_act-keeps law s (events.BootNow entry good) h m u = done-keeps law h m u
 running_act-keeps law s (events.Go steps) h m u = go_act-keeps law steps h m (done-keeps law h m u)
 running_act-keeps law s (events.Fail name count) h m u = done-keeps law h _ (machine_up law h m _ u)
+running_act-keeps law s (events.Vital name) h m u = done-keeps law h _ (machine_up law h m _ u)
 running_act-keeps law s (events.Edits edit) h m u =
     edit_done-keeps law (events.Edits edit) h m (edited m.version m.live (step_of s.number edit ∷ [])) u
 running_act-keeps law s events.Flush h m u = flush_act-keeps law h m u
@@ -315,6 +328,7 @@ pub idle_act-keeps : (law : Law) (choice : Option ℕ → Choice) (e : Event) (h
 idle_act-keeps law choice (events.BootNow entry good) h m off d = boot_act-keeps law choice entry good h m d
 idle_act-keeps law choice (events.Go steps) h m off d = stays law h m off d
 idle_act-keeps law choice (events.Fail name count) h m off d = stays law h _ off (law.down h m _ m.changed m.starts d)
+idle_act-keeps law choice (events.Vital name) h m off d = stays law h _ off (law.down h m _ m.changed m.starts d)
 idle_act-keeps law choice (events.Edits edit) h m off d = stays law h m off d
 idle_act-keeps law choice events.Flush h m off d = stays law h m off d
 idle_act-keeps law choice events.Logon h m off d = stays law h m off d

@@ -13,13 +13,14 @@ use Rattle.boot_report.proofs.TextLemmas.{body, text-body, no_lf-body}
 use Rattle.start_model.specs.Lines.{Line, line_text, text_of}
 use Rattle.start_model.specs.Fits.{outcomes_in, MayLoad}
 use Rattle.start_model.specs.Causes.{HasCause}
+use Rattle.run_parts.specs.Counted.{CountedIn}
 use Rattle.start_model.specs.Possible.{Possible, Outcome, Finished}
-use Rattle.start_model.specs.Act.{Act, say, ask}
+use Rattle.start_model.specs.Act.{Act, say, ask, Ended}
 use Rattle.start_model.specs.Run.{play}
 use Rattle.start_model.specs.Summary.{with_line}
-use Rattle.run_parts.specs.Parts.{Told, Tells, HasNoLineFeed, since_wake, tally_now, Goes, Breaks, PlaysOr}
-use Rattle.run_parts.proofs.CountLemmas.{Still, still}
-use Rattle.run_parts.proofs.GoesLemmas.{goes-nothing, goes-then, goes-line, goes-told}
+use Rattle.run_parts.specs.Parts.{Told, Tells, HasNoLineFeed, since_wake, tally_now, Goes, GoesBut, Breaks, PlaysOr}
+use Rattle.run_parts.proofs.CountLemmas.{Alone, Still, still}
+use Rattle.run_parts.proofs.GoesLemmas.{goes-untold, goes-but, goes-line, goes-told}
 
 -- ---- a front of a line
 
@@ -87,7 +88,7 @@ breaks-silent a x d e s left =
     record {
       rest = a;
       mid = x;
-      plays = goes-nothing (play a) x d e s;
+      plays = goes-untold Finished (play a) x d e s.alone s.same;
       outcome = Finished;
       part = [];
       said_is = sym (append-nil x.said);
@@ -103,7 +104,7 @@ breaks-then a b x y z d e f p q =
     record {
       rest = q.rest;
       mid = q.mid;
-      plays = goes-then (play a) (play b) (play q.rest) x y q.mid d e f p q.plays;
+      plays = goes-but (Ended q.outcome ∷ []) (play a) (play b) (play q.rest) x y q.mid d e f p q.plays;
       outcome = q.outcome;
       part = q.part;
       said_is = q.said_is;
@@ -127,7 +128,7 @@ breaks-line l r x y d e s none f left =
     record {
       rest = say l r;
       mid = x;
-      plays = goes-nothing (play (say l r)) x d e s;
+      plays = goes-untold Finished (play (say l r)) x d e s.alone s.same;
       outcome = Finished;
       part = q.part;
       said_is = q.said_is;
@@ -142,38 +143,52 @@ breaks-line l r x y d e s none f left =
     in
     ⊎_elim Whole Part (whole_or_cut_off l x.said y f)
 
--- an operation of the disk, and the line that tells its outcome
-pub breaks-told : (disk : Possible) (next : Outcome → Act) (l : Line) (u : Outcome) (r : Act) (x : Told) (y : List ℕ)
+-- An operation ended and is not told yet; of the line that tells it a front was said: the line whole, and then it is told, or a
+-- part of it.
+pub breaks-front : (whole rest r : Act) (l : Line) (more : List Line) (u : Outcome) (x : Told) (y : List ℕ)
     (d e : DiskState)
-    → Still d e → HasCause u (since_wake d) (tally_now e) → outcomes_in (l ∷ []) ≡ u ∷ [] → next u ≡ say l r
+    → ((m : Told) → Tells x m (l ∷ []) → Goes (play whole) (play r) x m d e)
+    → GoesBut (Ended u ∷ []) (play whole) (play rest) x x d e
+    → (play rest [] (u ∷ [])).lines ≡ l ∷ more
     → SaysFront x.said y (line_text l)
-    → EachCrash e (MayLoad disk) → EachCrash e (MayLoad (play r [] []).disk) → Breaks (ask disk next) x y d e
-breaks-told disk next l u r x y d e s cause told is f opened left =
+    → EachCrash e (MayLoad (play rest [] []).disk) → EachCrash e (MayLoad (play r [] []).disk) → Breaks whole x y d e
+breaks-front whole rest r l more u x y d e told untold says f opened left =
     let m : Told = told_with l x in
-    let P : List ℕ → Type 0 = λ t. Breaks (ask disk next) x t d e in
-    let whole : Breaks (ask disk next) x m.said d e =
-    breaks-then (ask disk next) r x m m.said d e e (goes-told disk next l u r x m d e s cause told is (tells-line l x))
-    (breaks-silent r m e e (still e) left) in
-    let Whole : y ≡ x.said ++ line_text l → Breaks (ask disk next) x y d e = λ q. subst P (sym q) whole in
-    let Part : IsCutOff (line_text l) x.said y → Breaks (ask disk next) x y d e = λ q.
+    let P : List ℕ → Type 0 = λ t. Breaks whole x t d e in
+    let all : Breaks whole x m.said d e =
+    breaks-then whole r x m m.said d e e (told m (tells-line l x)) (breaks-silent r m e e (still e) left) in
+    let Whole : y ≡ x.said ++ line_text l → Breaks whole x y d e = λ q. subst P (sym q) all in
+    let Part : IsCutOff (line_text l) x.said y → Breaks whole x y d e = λ q.
     record {
-      rest = ask disk next;
+      rest = rest;
       mid = x;
-      plays = goes-nothing (play (ask disk next)) x d e s;
       outcome = u;
+      plays = untold;
       part = q.part;
       said_is = q.said_is;
       cut_off = q.cut_off;
       front = record {
-        rest = q.front.rest ++ text_of (play r [] []).lines;
-        cut = ap (λ (a : Act). text_of (play a [] []).lines) is
-            ∙ ap (λ (t : List ℕ). t ++ text_of (play r [] []).lines) q.front.cut
-            ∙ append_assoc q.part q.front.rest (text_of (play r [] []).lines);
+        rest = q.front.rest ++ text_of more;
+        cut = ap text_of says
+            ∙ ap (λ (t : List ℕ). t ++ text_of more) q.front.cut
+            ∙ append_assoc q.part q.front.rest (text_of more);
       };
       left = opened;
     }
     in
     ⊎_elim Whole Part (whole_or_cut_off l x.said y f)
+
+-- an operation of the disk, and the line that tells its outcome
+pub breaks-told : (disk : Possible) (next : Outcome → Act) (l : Line) (u : Outcome) (r : Act) (x : Told) (y : List ℕ)
+    (d e : DiskState)
+    → Alone d e → HasCause u (since_wake d) (tally_now e) → CountedIn u (tally_now d) (tally_now e)
+    → outcomes_in (l ∷ []) ≡ u ∷ [] → next u ≡ say l r
+    → SaysFront x.said y (line_text l)
+    → EachCrash e (MayLoad disk) → EachCrash e (MayLoad (play r [] []).disk) → Breaks (ask disk next) x y d e
+breaks-told disk next l u r x y d e s cause counted told is f opened left =
+    breaks-front (ask disk next) (ask disk next) r l (play r [] []).lines u x y d e
+    (λ m said. goes-told disk next l u r x m d e s cause counted told is said)
+    (goes-untold u (play (ask disk next)) x d e s counted) (ap (λ (a : Act). (play a [] []).lines) is) f opened left
 
 -- ---- answers
 

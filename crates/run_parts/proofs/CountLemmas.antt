@@ -4,6 +4,7 @@ use Rattle.std.proofs.lemmas.List.{map-append}
 use Rattle.hive_model.specs.Image.{Arming}
 use Rattle.nt_edge.specs.Disk.{DiskState, History, Wake, CountsGrow, next}
 use Rattle.start_model.specs.Causes.{Tally, HasCause, next_tally, Caused}
+use Rattle.run_parts.specs.Counted.{AddsUp, with_cut}
 use Rattle.nt_bytes.specs.Counts.{Rises}
 use Rattle.start_model.specs.Orders.{ordered_in}
 use Rattle.start_model.specs.Possible.{Outcome, Finished, PowerCut, DeviceFault}
@@ -113,6 +114,30 @@ caused-then (Saved t ∷ j) k a b since mid now later p q = caused-then j k a b 
 caused-then (Ordered x ∷ j) k a b since mid now later p q = caused-then j k a b since mid now later p q
 caused-then (Cuts ∷ j) k a b since mid now later p q = caused-then j k a b since mid now later p q
 
+-- ---- that each stop is told
+
+-- the counts of two parts, one behind the other, add up
+pub adds-then : (j k : List Note) (a b : List Tally) (since mid now : Tally) → AddsUp j a since mid
+    → AddsUp k b mid now
+    → AddsUp (j ++ k) (a ++ b) since now
+adds-then [] k [] b since mid now p q = let P : Tally → Type 0 = λ t. AddsUp k b t now in subst P p q
+adds-then [] k (w ∷ a) b since mid now p q = absurd p
+adds-then (Woke x ∷ j) k [] b since mid now p q = absurd p
+adds-then (Woke x ∷ j) k (w ∷ a) b since mid now p q = (p.0, adds-then j k a b w mid now p.1 q)
+adds-then (Ended o ∷ j) k a b since mid now p q = (p.0, (p.1.0, adds-then j k a b p.0 mid now p.1.1 q))
+adds-then (Held t ∷ j) k a b since mid now p q = adds-then j k a b since mid now p q
+adds-then (Saved t ∷ j) k a b since mid now p q = adds-then j k a b since mid now p q
+adds-then (Ordered x ∷ j) k a b since mid now p q = adds-then j k a b since mid now p q
+adds-then (Cuts ∷ Ended PowerCut ∷ j) k a b since mid now p q = adds-then j k a b (with_cut since) mid now p q
+adds-then (Cuts ∷ Ended Finished ∷ j) k a b since mid now p q = absurd p
+adds-then (Cuts ∷ Ended DeviceFault ∷ j) k a b since mid now p q = absurd p
+adds-then (Cuts ∷ []) k a b since mid now p q = absurd p
+adds-then (Cuts ∷ Woke x ∷ j) k a b since mid now p q = absurd p
+adds-then (Cuts ∷ Held t ∷ j) k a b since mid now p q = absurd p
+adds-then (Cuts ∷ Saved t ∷ j) k a b since mid now p q = absurd p
+adds-then (Cuts ∷ Ordered x ∷ j) k a b since mid now p q = absurd p
+adds-then (Cuts ∷ Cuts ∷ j) k a b since mid now p q = absurd p
+
 -- ---- orders and cuts of the script
 
 pub ordered_in-append : (a b : List Note) → ordered_in (a ++ b) ≡ ordered_in a ++ ordered_in b
@@ -136,11 +161,16 @@ cuts_behind-append (Ended o ∷ a) b n = cuts_behind-append a b n
 -- ---- what was done to the disk
 
 -- nothing was done to the disk from outside, and no count fell
-abbrev pub Still : DiskState → DiskState → Type 0
-Still old new = Grew [] [] old new
+abbrev pub Alone : DiskState → DiskState → Type 0
+Alone old new = Grew [] [] old new
 
-pub still : (d : DiskState) → Still d d
-still d = record {
+-- and none rose
+pub record Still (old new : DiskState) : Type 0 where
+  pub alone : Alone old new
+  pub same : tally_now new ≡ tally_now old
+
+pub alone : (d : DiskState) → Alone d d
+alone d = record {
   wakes = sym (append-nil d.history.wakes);
   armings = sym (append-nil d.history.armings);
   cut_calls = refl;
@@ -150,9 +180,12 @@ still d = record {
   caused = tt;
 }
 
+pub still : (d : DiskState) → Still d d
+still d = record { alone = alone d; same = refl }
+
 -- calls of the disk alone
-pub still-by : (d e : DiskState) → e.history ≡ d.history → CountsGrow d e → Still d e
-still-by d e same counts = record {
+pub alone-by : (d e : DiskState) → e.history ≡ d.history → CountsGrow d e → Alone d e
+alone-by d e same counts = record {
   wakes = ap (λ (h : History). h.wakes) same ∙ sym (append-nil d.history.wakes);
   armings = ap (λ (h : History). h.armings) same ∙ sym (append-nil d.history.armings);
   cut_calls = ap (λ (h : History). h.cut_calls) same;

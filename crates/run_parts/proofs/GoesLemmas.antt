@@ -5,16 +5,17 @@ use Rattle.hive_model.specs.Image.{Image}
 use Rattle.hive_model.specs.Tree.{Tree}
 use Rattle.nt_edge.specs.Disk.{DiskState, Wake}
 use Rattle.start_model.specs.Lines as book
-use Rattle.start_model.specs.Lines.{Line, StartLine, EntryLine, LoadLine, SetLine, CommitLine, SelectLine, PhaseLine, TryLine, UnmetLine, LogonLine, SaveRefusedLine, EditOkLine, FlushNothingLine, RefusedLine, VerdictLine, EndLine, line_text, text_of}
+use Rattle.start_model.specs.Lines.{Line, StartLine, EntryLine, LoadLine, SetLine, CommitLine, SelectLine, PhaseLine, TryLine, UnmetLine, VitalLine, LogonLine, SaveRefusedLine, EditOkLine, FlushNothingLine, RefusedLine, VerdictLine, EndLine, line_text, text_of}
 use Rattle.start_model.specs.Fits.{outcomes_in, verdict_outcome, woke_in, Fits}
-use Rattle.start_model.specs.Causes.{HasCause}
+use Rattle.start_model.specs.Causes.{Tally, HasCause}
+use Rattle.run_parts.specs.Counted.{CountedIn, AddsUp}
 use Rattle.start_model.specs.Possible.{Possible, Woken, Outcome, Finished}
 use Rattle.start_model.specs.Act.{Act, say, ask, mark, Note, Woke, Held, Saved, Ordered, Cuts, Ended}
 use Rattle.start_model.specs.Run.{RunResult, play, behind}
 use Rattle.start_model.specs.Report.{Going}
 use Rattle.start_model.specs.Summary.{Summary, with_line, with_lines}
-use Rattle.run_parts.specs.Parts.{Told, Tells, tally_now, since_wake, Grew, Goes}
-use Rattle.run_parts.proofs.CountLemmas.{Still, still, grew-then}
+use Rattle.run_parts.specs.Parts.{Told, Tells, tallies, tally_now, since_wake, Grew, Goes, GoesBut}
+use Rattle.run_parts.proofs.CountLemmas.{Alone, Still, alone, grew-then, adds-then, tallies-append}
 
 -- ---- lists
 
@@ -52,6 +53,7 @@ outcomes_in-append (SelectLine current default failed good ∷ a) b = outcomes_i
 outcomes_in-append (PhaseLine word ∷ a) b = outcomes_in-append a b
 outcomes_in-append (TryLine name outcome ∷ a) b = outcomes_in-append a b
 outcomes_in-append (UnmetLine name ∷ a) b = outcomes_in-append a b
+outcomes_in-append (VitalLine name ∷ a) b = outcomes_in-append a b
 outcomes_in-append (LogonLine ∷ a) b = outcomes_in-append a b
 outcomes_in-append (SaveRefusedLine full ∷ a) b = outcomes_in-append a b
 outcomes_in-append (EditOkLine ∷ a) b = outcomes_in-append a b
@@ -115,21 +117,47 @@ goes-nothing a x d e s =
       added = [];
       woken = [];
       tells = tells-nothing x;
+      grew = s.alone;
+      fits = tt;
+      goes = λ w o. refl;
+      adds_up = s.same;
+    }
+
+-- an operation ended, and that is not told yet
+pub goes-untold : (u : Outcome) (a : Going) (x : Told) (d e : DiskState) → Alone d e
+    → CountedIn u (tally_now d) (tally_now e)
+    → GoesBut (Ended u ∷ []) a a x x d e
+goes-untold u a x d e s counted =
+    record {
+      lines = [];
+      notes = [];
+      added = [];
+      woken = [];
+      tells = tells-nothing x;
       grew = s;
       fits = tt;
       goes = λ w o. refl;
+      adds_up = (tally_now e, (counted, refl));
     }
 
 -- one part behind another
-pub goes-then : (a b c : Going) (x y z : Told) (d e f : DiskState) → Goes a b x y d e → Goes b c y z e f
-    → Goes a c x z d f
-goes-then a b c x y z d e f p q =
+pub goes-but : (untold : List Note) (a b c : Going) (x y z : Told) (d e f : DiskState) → Goes a b x y d e
+    → GoesBut untold b c y z e f
+    → GoesBut untold a c x z d f
+goes-but untold a b c x y z d e f p q =
     let P : List Possible → Type 0 = λ ps. Fits (map image_at (p.added ++ q.added)) (p.woken ++ q.woken) ps in
     let Q : List Image → Type 0 = λ is. Fits is (p.woken ++ q.woken) (woke_in p.notes ++ woke_in q.notes) in
     let fits : Fits (map image_at p.added ++ map image_at q.added) (p.woken ++ q.woken)
     (woke_in p.notes ++ woke_in q.notes) =
     fits-append (map image_at p.added) (map image_at q.added) p.woken q.woken (woke_in p.notes) (woke_in q.notes)
     p.fits q.fits in
+    let R : List Note → Type 0 = λ ns. AddsUp ns (tallies p.added) (tally_now d) (tally_now e) in
+    let S : List Note → Type 0 = λ ns. AddsUp ns (tallies (p.added ++ q.added)) (tally_now d) (tally_now f) in
+    let T : List Tally → Type 0 = λ ts. AddsUp (p.notes ++ (q.notes ++ untold)) ts (tally_now d) (tally_now f) in
+    let both : AddsUp (p.notes ++ (q.notes ++ untold)) (tallies p.added ++ tallies q.added) (tally_now d)
+    (tally_now f) =
+    adds-then p.notes (q.notes ++ untold) (tallies p.added) (tallies q.added) (tally_now d) (tally_now e) (tally_now f)
+    (subst R (append-nil p.notes) p.adds_up) q.adds_up in
     record {
       lines = p.lines ++ q.lines;
       notes = p.notes ++ q.notes;
@@ -146,7 +174,12 @@ goes-then a b c x y z d e f p q =
           ∙ p.goes (q.woken ++ w) (outcomes_in q.lines ++ o)
           ∙ ap (behind p.lines p.notes) (q.goes w o)
           ∙ sym (behind-append p.lines q.lines p.notes q.notes (c w o));
+      adds_up = subst S (sym (append_assoc p.notes q.notes untold)) (subst T (sym (tallies-append p.added q.added)) both);
     }
+
+pub goes-then : (a b c : Going) (x y z : Told) (d e f : DiskState) → Goes a b x y d e → Goes b c y z e f
+    → Goes a c x z d f
+goes-then a b c x y z d e f p q = goes-but [] a b c x y z d e f p q
 
 -- a line that tells no outcome
 pub goes-line : (l : Line) (r : Act) (x y : Told) (d e : DiskState) → Still d e → outcomes_in (l ∷ []) ≡ []
@@ -159,13 +192,14 @@ goes-line l r x y d e s none said =
       added = [];
       woken = [];
       tells = said;
-      grew = s;
+      grew = s.alone;
       fits = tt;
       goes = λ w o. ap (λ (os : List Outcome). play (say l r) w (os ++ o)) none;
+      adds_up = s.same;
     }
 
 -- what was done to the disk where an operation ended so, and nothing else
-pub grew-ended : (u : Outcome) (d e : DiskState) → Still d e → HasCause u (since_wake d) (tally_now e)
+pub grew-ended : (u : Outcome) (d e : DiskState) → Alone d e → HasCause u (since_wake d) (tally_now e)
     → Grew (Ended u ∷ []) [] d e
 grew-ended u d e s cause =
     record {
@@ -181,10 +215,11 @@ grew-ended u d e s cause =
 -- an operation of the disk, and the line that tells its outcome
 pub goes-told : (disk : Possible) (next : Outcome → Act) (l : Line) (u : Outcome) (r : Act) (x y : Told)
     (d e : DiskState)
-    → Still d e → HasCause u (since_wake d) (tally_now e) → outcomes_in (l ∷ []) ≡ u ∷ [] → next u ≡ say l r
+    → Alone d e → HasCause u (since_wake d) (tally_now e) → CountedIn u (tally_now d) (tally_now e)
+    → outcomes_in (l ∷ []) ≡ u ∷ [] → next u ≡ say l r
     → Tells x y (l ∷ [])
     → Goes (play (ask disk next)) (play r) x y d e
-goes-told disk next l u r x y d e s cause told is said =
+goes-told disk next l u r x y d e s cause counted told is said =
     record {
       lines = l ∷ [];
       notes = Ended u ∷ [];
@@ -196,12 +231,13 @@ goes-told disk next l u r x y d e s cause told is said =
       goes = λ w o.
           ap (λ (os : List Outcome). play (ask disk next) w (os ++ o)) told
           ∙ ap (λ (a : Act). behind [] (Ended u ∷ []) (play a w o)) is;
+      adds_up = (tally_now e, (counted, refl));
     }
 
 -- a tree that the disk holds, or a clone that was saved: the disk has no part in the note
 pub goes-held : (t : Tree) (r : Act) (x : Told) (d : DiskState) → Goes (play (mark (Held t) r)) (play r) x x d d
 goes-held t r x d =
-    let s : Still d d = still d in
+    let s : Alone d d = alone d in
     let g : Grew (Held t ∷ []) [] d d =
     record {
       wakes = s.wakes;
@@ -221,11 +257,12 @@ goes-held t r x d =
       grew = g;
       fits = tt;
       goes = λ w o. refl;
+      adds_up = refl;
     }
 
 pub goes-saved : (t : Tree) (r : Act) (x : Told) (d : DiskState) → Goes (play (mark (Saved t) r)) (play r) x x d d
 goes-saved t r x d =
-    let s : Still d d = still d in
+    let s : Alone d d = alone d in
     let g : Grew (Saved t ∷ []) [] d d =
     record {
       wakes = s.wakes;
@@ -245,4 +282,5 @@ goes-saved t r x d =
       grew = g;
       fits = tt;
       goes = λ w o. refl;
+      adds_up = refl;
     }

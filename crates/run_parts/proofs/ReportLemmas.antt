@@ -7,10 +7,11 @@ use Rattle.start_model.specs.Lines.{Line, text_of}
 use Rattle.start_model.specs.Fits.{outcomes_in, outcomes_of, woke_in, Fits, MayLoad}
 use Rattle.start_model.specs.Possible.{Possible, Woken, Outcome}
 use Rattle.start_model.specs.Act.{Note, RunState}
+use Rattle.run_parts.specs.Counted.{AddsUp}
 use Rattle.start_model.specs.Run.{RunResult, reached, behind}
 use Rattle.start_model.specs.Report.{Going}
 use Rattle.start_model.specs.Summary.{with_lines}
-use Rattle.run_parts.specs.Parts.{Told, Goes, RunBreaks, Grew}
+use Rattle.run_parts.specs.Parts.{Told, Goes, RunBreaks, Grew, tallies, tally_now}
 use Rattle.run_parts.specs.Reports.{Reports, ReportsFront}
 use Rattle.run_parts.proofs.GoesLemmas.{image_at, text_of-append}
 
@@ -30,6 +31,7 @@ reports_of run last x y d e g left =
     sym (append-nil g.notes) ∙ sym (ap (λ (q : RunResult). q.notes) is) in
     let P : List Note → Type 0 = λ ns. Grew ns g.added d e in
     let Q : List Note → Type 0 = λ ns. Fits (map image_at g.added) g.woken (woke_in ns) in
+    let R : List Note → Type 0 = λ ns. AddsUp ns (tallies g.added) (tally_now d) (tally_now e) in
     record {
       text = t;
       said_is = g.tells.said;
@@ -43,6 +45,7 @@ reports_of run last x y d e g left =
         loads = left;
       };
       grew = subst P notes g.grew;
+      adds_up = subst R notes (subst R (append-nil g.notes) g.adds_up);
       summary = g.tells.summary
           ∙ ap (with_lines x.summary) (sym (append-nil g.lines) ∙ sym (ap (λ (q : RunResult). q.lines) is));
     }
@@ -84,4 +87,5 @@ reports_front_of run x y d e b =
         loads = subst P (sym (ap (λ (q : RunResult). q.disk) stop)) b.left;
       };
       grew = g.grew;
+      adds_up = g.adds_up;
     }

@@ -2,7 +2,7 @@
 --
 -- What happened beside the lines are the notes of the book. They tell what was done to the disk from outside: its wakes, the
 -- stops that were ordered and the cuts of the script; and each stop that the part tells of has its cause, a count of the disk
--- that rose since the start's own wake.
+-- that rose since the start's own wake. Of a part that was played the converse holds too: each stop that came is told.
 use Rattle.std.specs.Prelude.{◌≡◌, ◌≤◌, ◌==◌, not, true, ℕ, List, [], ◌∷◌, ◌++◌, map, None, Result, Ok, Err}
 use Rattle.std.specs.List.{list_all}
 use Rattle.nt_bytes.specs.Front.{IsFront}
@@ -16,9 +16,10 @@ use Rattle.start_model.specs.Fits.{outcomes_in, woke_in, Fits, MayLoad}
 use Rattle.start_model.specs.Orders.{ordered_in}
 use Rattle.start_model.specs.Causes.{Tally, Caused}
 use Rattle.start_model.specs.Possible.{Woken, Outcome}
-use Rattle.start_model.specs.Act.{Act, Note, Cuts, RunState}
+use Rattle.start_model.specs.Act.{Act, Note, Cuts, Ended, RunState}
 use Rattle.start_model.specs.Run.{play, behind}
 use Rattle.start_model.specs.Report.{Going}
+use Rattle.run_parts.specs.Counted.{AddsUp}
 
 -- ---- the disk's counts
 
@@ -96,8 +97,8 @@ pub record Tells (old new : Told) (lines : List Line) : Type 0 where
 -- ---- a part that was played
 
 -- Of the whole this rest is left: lines were told, the disk's history grew by notes, each wake could be, and whatever wakes and
--- outcomes follow, the whole goes on as the rest does.
-pub record Goes (whole rest : Going) (told told' : Told) (old new : DiskState) : Type 0 where
+-- outcomes follow, the whole goes on as the rest does. With the `untold` notes behind its own the disk's counts add up.
+pub record GoesBut (untold : List Note) (whole rest : Going) (told told' : Told) (old new : DiskState) : Type 0 where
   pub lines : List Line
   pub notes : List Note
   pub added : List Wake
@@ -106,6 +107,11 @@ pub record Goes (whole rest : Going) (told told' : Told) (old new : DiskState) :
   pub grew : Grew notes added old new
   pub fits : Fits (map (λ w. w.image) added) woken (woke_in notes)
   pub goes : (w : List Woken) (o : List Outcome) → whole (woken ++ w) (outcomes_in lines ++ o) ≡ behind lines notes (rest w o)
+  pub adds_up : AddsUp (notes ++ untold) (tallies added) (tally_now old) (tally_now new)
+
+-- and each stop that came is told
+abbrev pub Goes : (whole rest : Going) (told told' : Told) (old new : DiskState) → Type 0
+Goes whole rest told told' old new = GoesBut [] whole rest told told' old new
 
 -- ---- a part that was given up
 
@@ -114,12 +120,13 @@ abbrev pub HasNoLineFeed : List ℕ → Type 0
 HasNoLineFeed text = list_all (λ c. not (c == 10)) text ≡ true
 
 -- A part was played up to a rest, which was then given up: of what the rest says with one more outcome a front was said, with
--- no whole line; and whatever the disk is left as, it loads as the rest says where nothing more happens.
+-- no whole line; no stop came since but that outcome; and whatever the disk is left as, it loads as the rest says where nothing
+-- more happens.
 pub record RunBreaks (whole : Going) (told : Told) (said' : List ℕ) (old new : DiskState) : Type 0 where
   pub rest : Going
   pub mid : Told
-  pub goes : Goes whole rest told mid old new
   pub outcome : Outcome
+  pub goes : GoesBut (Ended outcome ∷ []) whole rest told mid old new
   pub part : List ℕ
   pub said_is : said' ≡ mid.said ++ part
   pub cut_off : HasNoLineFeed part
@@ -130,8 +137,8 @@ pub record RunBreaks (whole : Going) (told : Told) (said' : List ℕ) (old new :
 pub record Breaks (whole : Act) (told : Told) (said' : List ℕ) (old new : DiskState) : Type 0 where
   pub rest : Act
   pub mid : Told
-  pub plays : Goes (play whole) (play rest) told mid old new
   pub outcome : Outcome
+  pub plays : GoesBut (Ended outcome ∷ []) (play whole) (play rest) told mid old new
   pub part : List ℕ
   pub said_is : said' ≡ mid.said ++ part
   pub cut_off : HasNoLineFeed part

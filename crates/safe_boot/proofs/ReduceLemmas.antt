@@ -1,10 +1,9 @@
 -- A set whose services are reduced, child by child.
-use Rattle.std.proofs.Common.{◌≡◌, ℕ, ◌+◌, ◌<◌, Bool, true, false, cond, not, ◌&&◌, ◌||◌, List, [], ◌∷◌, ◌++◌, length, drop, get_or, Result, Ok, Err, refl, sym, ap, ◌∙◌, append_assoc}
-use Rattle.std.specs.Prelude.{IfOk}
+use Rattle.std.proofs.Common.{◌≡◌, ℕ, ◌+◌, ◌<◌, Bool, true, false, cond, not, ◌&&◌, ◌||◌, List, [], ◌∷◌, ◌++◌, length, drop, get_or, refl, sym, ap, ◌∙◌, append_assoc}
 use Rattle.std.proofs.lemmas.List.{drop_more, append-nil}
 use Rattle.std.proofs.Math.Seq.{drop-length}
-use Rattle.hive_model.specs.Tree.{Head, Tree, key, trees, head, children}
-use Rattle.hive_model.specs.Edit.{at_first, of_children}
+use Rattle.hive_model.specs.Tree.{Tree}
+use Rattle.hive_model.specs.Edit.{at_first}
 
 -- what is still to come of keys of which the first that passes is changed
 abbrev pub rest_of : Bool → (Tree → Bool) → (Tree → Tree) → List Tree → List Tree
@@ -49,18 +48,3 @@ pub all_made : (p : Tree → Bool) (change : Tree → Tree) (keys made whole : L
 all_made p change keys made whole found h =
     sym (append-nil made) ∙ ap (λ ms. made ++ ms)
     (sym (ap (rest_of found p change) (drop-length keys) ∙ none_left found p change)) ∙ h
-
--- ---- a key with other children
-
-pub children_changed : (change : List Tree → List Tree) (t : Tree)
-    → of_children (λ _. change (children t)) t ≡ of_children change t
-children_changed change (key h ts) = refl
-
-pub other_children : (t : Tree) (h : Head) (us : List Tree) → h ≡ head t → key h (trees us) ≡ of_children (λ _. us) t
-other_children (key g ts) h us is = ap (λ g. key g (trees us)) is
-
-pub changed_so : {E : Type 0} (r : Result Tree E) (change : List Tree → List Tree) (us : List Tree) (t : Tree)
-    → us ≡ change (children t) → IfOk r (λ k. k ≡ of_children (λ _. us) t)
-    → IfOk r (λ k. k ≡ of_children change t)
-changed_so (Ok k) change us t is h = h ∙ ap (λ vs. of_children (λ _. vs) t) is ∙ children_changed change t
-changed_so (Err e) change us t is h = tt

@@ -44,6 +44,7 @@ StartsListed set mode (book.CommitLine what sequence) = Unit {0}
 StartsListed set mode (book.SelectLine current default failed good) = Unit {0}
 StartsListed set mode (book.PhaseLine word) = Unit {0}
 StartsListed set mode (book.UnmetLine name) = Unit {0}
+StartsListed set mode (book.VitalLine name) = Unit {0}
 StartsListed set mode book.LogonLine = Unit {0}
 StartsListed set mode (book.SaveRefusedLine full) = Unit {0}
 StartsListed set mode book.EditOkLine = Unit {0}

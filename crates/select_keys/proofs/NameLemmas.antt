@@ -89,11 +89,6 @@ parted name long =
     ∙ ap (λ i. take k name ++ get_or name k 0 ∷ get_or name i 0 ∷ get_or name (k + 1 + 1) 0 ∷ []) second
     ∙ ap (λ i. take k name ++ get_or name k 0 ∷ get_or name (length name - 2) 0 ∷ get_or name i 0 ∷ []) third
 
--- a name of under three units is no set's
-pub short_name : (name : List ℕ) → length name < 3 → IsNumberOf name None
-short_name name short = record
-    { within = tt; named = λ n low high. folds_same-differ (set_name n) name (λ e. omega (arith, e)) }
-
 -- a name with another front is no set's
 pub other_front : (name front : List ℕ) (hundreds tens ones : ℕ) → name ≡ front ++ hundreds ∷ tens ∷ ones ∷ []
     → folds_same (codes "ControlSet") front ≡ false → IsNumberOf name None

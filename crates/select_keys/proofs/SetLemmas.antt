@@ -1,5 +1,5 @@
 -- Which set a number names.
-use Rattle.std.proofs.Common.{◌≡◌, ℕ, ◌<◌, ◌≤◌, cond, [], Option, Some, None, refl, sym, ◌∙◌, arith}
+use Rattle.std.proofs.Common.{◌≡◌, ℕ, ◌≤◌, cond, [], Option, Some, None, refl, sym, ◌∙◌}
 use Rattle.std.specs.Prelude.{find, option_and_then}
 use Rattle.std.specs.Option.{is_some}
 use Rattle.std.proofs.lemmas.Bool.{le-leb}
@@ -18,12 +18,6 @@ found (Some t) = refl
 
 usable_set-within : (t : Tree) (n : ℕ) → 1 ≤ n → n ≤ 999 → usable_set t n ≡ set_of t n
 usable_set-within t n low high = rw (le-leb 1 n low, le-leb n 999 high) (found (set_of t n))
-
-pub usable_set-below : (t : Tree) (n : ℕ) → n < 1 → usable_set t n ≡ None
-usable_set-below t n low = grind (arith, low)
-
-pub usable_set-above : (t : Tree) (n : ℕ) → 999 < n → usable_set t n ≡ None
-usable_set-above t n high = grind (arith, high)
 
 -- the child with the name of the number is the set
 pub named_set : (t : Tree) (n : ℕ) → 1 ≤ n → n ≤ 999 → find (is_named (set_name n)) (children t) ≡ usable_set t n

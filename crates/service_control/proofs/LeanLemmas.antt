@@ -1,25 +1,23 @@
 -- What sets have by their names, and what makes a service lean.
-use Rattle.std.proofs.Common.{◌≡◌, ℕ, zero, suc, ◌+◌, ◌<◌, Bool, true, false, not, ◌&&◌, ◌||◌, List, [], ◌∷◌, ◌++◌, length, get_or, map, Option, Some, None, refl, sym, ap, ◌∙◌, ◌⊎◌, inl, inr, arith, zero-add}
-use Rattle.std.specs.Prelude.{slice_get, Contains, position}
+use Rattle.std.proofs.Common.{◌≡◌, ℕ, zero, suc, ◌+◌, ◌<◌, Bool, true, false, not, ◌&&◌, ◌||◌, List, [], ◌∷◌, length, get_or, map, Option, Some, None, refl, sym, ap, ◌∙◌, arith}
+use Rattle.std.specs.Prelude.{slice_get, Contains}
 use Rattle.std.specs.List.{list_any, list_all, range_with_len, filter_map, cons_option}
-use Rattle.std.specs.Option.{option_map, option_map_or, option_and_then, option_to_list}
-use Rattle.std.proofs.lemmas.Bool.{false≢true, and_parts, and_from, or_cases, or_left, or_right, cases_Bool, eqb-true, eq-eqb}
-use Rattle.std.proofs.lemmas.List.{get_or-map, length-map, get_or_default}
-use Rattle.std.proofs.lemmas.List.Folds.{Any-from_list_any, list_any_at, list_any-append}
-use Rattle.std.proofs.lemmas.List.Elements.{Contains-append_cases, Contains-append_left, Contains-append_right}
+use Rattle.std.specs.Option.{option_map, option_map_or}
+use Rattle.std.proofs.lemmas.Bool.{false≢true, and_parts, and_from, or_left, or_right, eq-eqb}
+use Rattle.std.proofs.lemmas.List.{get_or-map, length-map}
+use Rattle.std.proofs.lemmas.List.Folds.{Any-from_list_any, list_any_at}
 use Rattle.std.proofs.lemmas.List.FromFn.{get_or-range_with_len, length-range_with_len}
-use Rattle.std.proofs.lemmas.List.Quantifiers.{position-Some}
 use Rattle.std.proofs.lemmas.Option.{slice_get-get_or, slice_get_within}
 use Rattle.nt_bytes.specs.Folding.{folded, folded_unit, folds_same}
 use Rattle.name_places.specs.Places.{places_named}
 use Rattle.name_places.proofs.FoldLemmas.{alike}
 use Rattle.name_places.proofs.PlaceLemmas.{all_named, each_named}
 use Rattle.reg_tree.proofs.Unlike.{folds_swap}
-use Rattle.start_model.specs.Demand.{Need, member}
-use Rattle.start_model.specs.Ready.{Label, has_name, has_group, is_ready}
-use Rattle.service_control.specs.Leaning.{is_named, is_of_group, has, has_at, has_all, leans, is_due, IsClosed}
-use Rattle.service_control.specs.Causes.{cause_of, by_name, by_group, own_causes, key_of, keys_of, names_at, is_first, group_cause, causes_of, causes_at}
-use Rattle.service_control.proofs.SpreadState.{none, IsHad}
+use Rattle.start_model.specs.Demand.{Need}
+use Rattle.start_model.specs.Ready.{Label, has_name, has_group}
+use Rattle.service_control.specs.Leaning.{is_named, is_of_group, has, has_at, has_all, leans, is_due}
+use Rattle.service_control.specs.Causes.{key_of, keys_of}
+use Rattle.service_control.proofs.SpreadState.{none}
 use Rattle.dependencies.proofs.MeetLemmas.{folded_first}
 use Rattle.dependencies.proofs.PulledLemmas.{then_true, then_gives, all_below, any_below}
 

@@ -1,26 +1,22 @@
 -- A start takes in no more than it has to.
-use Rattle.std.proofs.Common.{◌≡◌, ℕ, zero, suc, ◌+◌, ◌<◌, Bool, true, false, not, cond, ◌&&◌, ◌||◌, List, [], ◌∷◌, ◌++◌, length, get_or, take, map, filter, Option, Some, None, refl, sym, ap, ◌∙◌, subst, inl, inr, arith}
+use Rattle.std.proofs.Common.{◌≡◌, ℕ, zero, suc, ◌+◌, ◌<◌, Bool, true, false, cond, ◌&&◌, List, [], ◌∷◌, ◌++◌, length, get_or, take, map, filter, Option, Some, None, refl, sym, ap, ◌∙◌, subst, inl, inr, arith}
 use Rattle.std.specs.Prelude.{slice_get, Contains}
 use Rattle.std.specs.List.{list_any, list_all, filter_map, cons_option, range_with_len}
 use Rattle.std.specs.Option.{option_map_or}
 use Rattle.std.proofs.lemmas.Bool.{false≢true, and_parts, or_cases, or_left, or_right, not-true}
-use Rattle.std.proofs.lemmas.List.{length-take, get_or-take, get_or_default, take_all, get_or-map, length-map}
+use Rattle.std.proofs.lemmas.List.{length-take, get_or-take, get_or_default}
 use Rattle.std.proofs.lemmas.List.Folds.{Any-from_list_any, list_any-append, list_any_at}
 use Rattle.std.proofs.lemmas.List.Sums.{AllPass-from_list_all}
-use Rattle.std.proofs.lemmas.Option.{slice_get_within, slice_get-get_or, get_or_from_slice_get}
+use Rattle.std.proofs.lemmas.Option.{slice_get_within, get_or_from_slice_get}
 use Rattle.nt_bytes.specs.Folding.{folds_same}
-use Rattle.name_places.proofs.FoldLemmas.{alike}
-use Rattle.reg_tree.proofs.Unlike.{folds_swap}
 use Rattle.start_model.specs.Demand.{Need, is_taken}
-use Rattle.start_model.specs.Ready.{Label, has_name, has_group, is_ready}
-use Rattle.dependencies.specs.Waiting.{label_of}
+use Rattle.start_model.specs.Ready.{Label, has_name}
 use Rattle.service_control.specs.State.{ControlState, labels_of}
-use Rattle.service_control.specs.Turns.{turns, starts_of}
+use Rattle.service_control.specs.Turns.{turns}
 use Rattle.dependencies.specs.Attempts.{all_waiting}
 use Rattle.service_control.specs.Needed.{asks, is_off, needed_of, members_of}
-use Rattle.service_control.specs.Leaning.{is_named}
 use Rattle.service_control.specs.Calls.{started_by}
-use Rattle.service_control.specs.Sets.{is_needed, names_one, HasNeeds}
+use Rattle.service_control.specs.Sets.{HasNeeds}
 use Rattle.service_control.specs.Laws.{NamesDiffer, AreReadyInTurn, IsLeast}
 use Rattle.service_control.proofs.SpreadState.{none}
 use Rattle.service_control.proofs.LeanLemmas.{name_alike}

@@ -1,15 +1,15 @@
 -- The needs of each started service are met, whatever was asked for.
-use Rattle.std.proofs.Common.{◌≡◌, ℕ, zero, suc, ◌+◌, ◌<◌, Bool, true, false, not, ltb, ◌&&◌, ◌||◌, cond, List, [], ◌∷◌, ◌++◌, length, get_or, take, map, filter, Option, Some, None, refl, sym, ap, ◌∙◌, subst, inl, inr, arith, zero-add, add-one}
+use Rattle.std.proofs.Common.{◌≡◌, ℕ, zero, suc, ◌+◌, ◌<◌, Bool, true, false, not, ltb, ◌||◌, cond, List, [], ◌∷◌, ◌++◌, length, get_or, take, map, filter, Option, Some, None, refl, sym, ap, ◌∙◌, subst, inl, inr, arith, zero-add}
 use Rattle.std.specs.Prelude.{slice_get, Contains, position, option_and_then}
-use Rattle.std.specs.List.{list_any, list_all, filter_map, cons_option, range_with_len, items_where_true, position_or_len}
+use Rattle.std.specs.List.{list_any, list_all, filter_map, cons_option, items_where_true, position_or_len}
 use Rattle.std.specs.Option.{option_map, option_map_or, option_or, option_to_list}
-use Rattle.std.proofs.lemmas.Bool.{false≢true, and_parts, and_from, cases_Bool, cases_lt, or_left, or_right, not-true, not-false}
-use Rattle.std.proofs.lemmas.List.{append-nil, append_assoc, map-append, length-map, length-take, length_push, take_at, take-append-le, take_all, get_or_append_left, get_or_push, get_or_default, get_or-take, get_or-map}
-use Rattle.std.proofs.lemmas.List.Folds.{Any-from_list_any, list_any-append, list_any_at}
+use Rattle.std.proofs.lemmas.Bool.{false≢true, and_parts, and_from, cases_Bool, cases_lt, or_left, or_right, not-false}
+use Rattle.std.proofs.lemmas.List.{append-nil, append_assoc, map-append, length-map, length-take, length_push, take_at, take-append-le, get_or_append_left, get_or_push, get_or_default, get_or-take, get_or-map}
+use Rattle.std.proofs.lemmas.List.Folds.{Any-from_list_any, list_any-append}
 use Rattle.std.proofs.lemmas.List.Quantifiers.{position-Some}
 use Rattle.std.proofs.lemmas.List.Sums.{AllPass-from_list_all}
 use Rattle.name_places.proofs.FoldLemmas.{alike}
-use Rattle.std.proofs.lemmas.List.FromFn.{get_or-map-range_with_len, length-map-range_with_len, length-range_with_len}
+use Rattle.std.proofs.lemmas.List.FromFn.{get_or-map-range_with_len, length-map-range_with_len}
 use Rattle.std.proofs.lemmas.Option.{slice_get-get_or}
 use Rattle.nt_bytes.specs.Folding.{folded, folds_same}
 use Rattle.hive_model.specs.Tree.{Tree}
@@ -17,25 +17,24 @@ use Rattle.start_model.specs.Entries.{Phase, Boot, System, Automatic, need_of}
 use Rattle.start_model.specs.Order.{plan_of}
 use Rattle.start_model.specs.Demand.{Need, member}
 use Rattle.start_model.specs.Ready.{Label, has_name, has_group, is_ready}
-use Rattle.dependencies.specs.Waiting.{WaitingState, label_of, labels_at, next_place_in, after_trying}
+use Rattle.dependencies.specs.Waiting.{WaitingState, label_of, next_place_in, after_trying}
 use Rattle.dependencies.specs.Work.{names_of}
 use Rattle.dependencies.proofs.PulledLemmas.{same_bool}
 use Rattle.boot_phases.proofs.TriedLemmas.{within}
 use Rattle.service_control.specs.declared.stop.ControlStop.{ControlStop}
-use Rattle.service_control.specs.declared.stop.ControlStop.TheVariants.{NoService, NotStarted, InUse}
+use Rattle.service_control.specs.declared.stop.ControlStop.TheVariants.{InUse}
 use Rattle.service_control.specs.State.{ControlState, labels_of, named}
 use Rattle.service_control.specs.Turns.{turns, starts_of}
 use Rattle.dependencies.specs.Attempts.{all_waiting}
 use Rattle.service_control.specs.Needed.{members_of}
-use Rattle.service_control.specs.Leaning.{is_of_group, has, has_all, leans, is_due, IsClosed, is_leaning, leaning_of, leaning_in, others_in, first_other, in_use_by}
-use Rattle.service_control.specs.Calls.{start_refusal, stop_refusal, off_refusal, started_by, new_of, after_start, after_stop, after_stop_all}
+use Rattle.service_control.specs.Leaning.{is_of_group, has, has_all, leans, is_leaning, leaning_of, leaning_in, in_use_by}
+use Rattle.service_control.specs.Calls.{start_refusal, stop_refusal, off_refusal, started_by, after_start, after_stop, after_stop_all}
 use Rattle.service_control.specs.First.{after_phase, first_running, control_of}
 use Rattle.service_control.specs.Laws.{Call, start, stop, stop_all, after_call, after_calls, AreMet, AreStoppedInOrder}
 use Rattle.service_control.proofs.SpreadState.{none}
 use Rattle.service_control.proofs.WaitLemmas.{next_ready, no_place, none_passes}
-use Rattle.service_control.proofs.LeanLemmas.{folds_itself, folded_last, any_of_label, name_alike, group_at, has_by, has_all_by, due_is, lean_seed, lean_name, lean_service, lean_group}
+use Rattle.service_control.proofs.LeanLemmas.{folds_itself, folded_last, any_of_label, group_at, has_by, has_all_by, due_is, lean_seed, lean_name, lean_service, lean_group}
 use Rattle.service_control.proofs.LeaningLaws.{leaning_closed}
-use Rattle.dependencies.proofs.KeptLemmas.{within_waits}
 
 all_more : {X : Type 0} (p q : X → Bool) (xs : List X) → ((x : X) → p x ≡ true → q x ≡ true) → list_all p xs ≡ true
     → list_all q xs ≡ true

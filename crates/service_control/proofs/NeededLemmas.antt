@@ -1,5 +1,5 @@
 -- The sets that have what a start needs are those that demand start calls closed.
-use Rattle.std.proofs.Common.{◌≡◌, ℕ, ◌<◌, Bool, true, false, not, nat_eq, ◌&&◌, cond, List, [], ◌∷◌, length, map, Option, Some, None, refl, sym, ap, ◌∙◌, inl, inr, arith}
+use Rattle.std.proofs.Common.{◌≡◌, ℕ, ◌<◌, Bool, true, false, not, nat_eq, ◌&&◌, cond, List, [], length, map, Option, Some, None, refl, sym, ap, ◌∙◌, inl, inr, arith}
 use Rattle.std.specs.Prelude.{slice_get}
 use Rattle.std.specs.Option.{option_map, option_map_or}
 use Rattle.std.specs.List.{list_any}
@@ -12,7 +12,7 @@ use Rattle.start_model.specs.Ready.{Label, has_name}
 use Rattle.dependencies.proofs.PulledLemmas.{is_taken-closed, is_taken-least_of_all}
 use Rattle.service_control.specs.Needed.{asks, is_off}
 use Rattle.service_control.specs.Leaning.{is_named}
-use Rattle.service_control.specs.Sets.{is_needed, names_one, HasNeeds}
+use Rattle.service_control.specs.Sets.{is_needed, HasNeeds}
 
 -- ---- one entry
 

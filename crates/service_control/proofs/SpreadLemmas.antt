@@ -1,10 +1,10 @@
 -- A cause that gets ready makes its owner lean, and in the end each cause of a service that leans was ready.
-use Rattle.std.proofs.Common.{◌≡◌, ℕ, ◌+◌, ◌<◌, Bool, true, false, not, nat_eq, ltb, ◌&&◌, ◌||◌, cond, List, [], ◌∷◌, ◌++◌, length, get_or, map, set, replicate, Option, Some, None, refl, sym, ap, ◌∙◌, subst, ◌⊎◌, inl, inr, arith, zero-add}
+use Rattle.std.proofs.Common.{◌≡◌, ℕ, ◌+◌, ◌<◌, Bool, true, false, not, nat_eq, ltb, ◌&&◌, ◌||◌, cond, List, [], ◌∷◌, ◌++◌, length, get_or, map, set, replicate, Option, Some, None, refl, sym, ap, ◌∙◌, subst, inl, inr, arith, zero-add}
 use Rattle.std.specs.Prelude.{slice_get, Contains, position}
-use Rattle.std.specs.List.{list_any, list_all, range_with_len, filter_map, position_or_len}
+use Rattle.std.specs.List.{list_any, list_all, position_or_len}
 use Rattle.std.specs.Option.{option_map, option_map_or, option_and_then, option_to_list}
 use Rattle.std.proofs.lemmas.Bool.{false≢true, and_parts, and_from, or_cases, or_left, cases_Bool, cases_eq, eq-eqb}
-use Rattle.std.proofs.lemmas.List.{get_or-set_same, get_or-set_other, length-set, length-map, length-replicate, get_or_default, get_or_past, get_or-replicate, same_lists}
+use Rattle.std.proofs.lemmas.List.{get_or-set_same, get_or-set_other, length-set, length-map, length-replicate, get_or_default, get_or-replicate, same_lists}
 use Rattle.std.proofs.lemmas.List.Folds.{Any-from_list_any, list_any-append, list_any_at}
 use Rattle.std.proofs.lemmas.List.Elements.{Contains-append_cases, Contains-append_left, Contains-append_right, Contains-push, Contains-push_cases}
 use Rattle.std.proofs.lemmas.List.FromFn.{get_or-map-range_with_len, length-map-range_with_len}
@@ -13,7 +13,6 @@ use Rattle.std.proofs.lemmas.Option.{slice_get-get_or}
 use Rattle.nt_bytes.specs.Folding.{folded, folds_same}
 use Rattle.name_places.specs.Places.{places_named}
 use Rattle.name_places.proofs.FoldLemmas.{alike}
-use Rattle.reg_tree.proofs.Unlike.{folds_swap}
 use Rattle.start_model.specs.Demand.{Need, member, all_sets}
 use Rattle.start_model.specs.Ready.{Label, has_name, has_group, is_ready}
 use Rattle.dependencies.specs.Waiting.{WaitingState, label_of, labels_at, next_place_in, after_trying}

@@ -1,5 +1,5 @@
 -- What is kept while causes get ready.
-use Rattle.std.proofs.Common.{◌≡◌, ℕ, ◌<◌, Bool, true, false, List, [], length, get_or, Option, Some, None}
+use Rattle.std.proofs.Common.{◌≡◌, ℕ, ◌<◌, Bool, true, false, List, [], length, get_or, Some, None}
 use Rattle.std.specs.Prelude.{Contains}
 use Rattle.start_model.specs.Demand.{Need, member}
 use Rattle.start_model.specs.Ready.{Label, has_name, has_group}

@@ -1,20 +1,19 @@
 -- The next of those that wait, and those that wait when there is none.
-use Rattle.std.proofs.Common.{◌≡◌, ℕ, zero, suc, ◌+◌, ◌<◌, Bool, true, false, cond, ltb, ◌||◌, List, [], ◌∷◌, ◌++◌, length, get_or, set, replicate, Option, Some, None, refl, sym, ap, ◌∙◌, arith}
+use Rattle.std.proofs.Common.{◌≡◌, ℕ, zero, suc, ◌+◌, ◌<◌, Bool, true, false, cond, ltb, ◌||◌, List, [], ◌∷◌, ◌++◌, length, get_or, set, Option, Some, None, refl, sym, ap, ◌∙◌, arith}
 use Rattle.std.specs.Prelude.{slice_get, count_by}
 use Rattle.std.specs.List.{items_where_true, list_any, position_or_len}
 use Rattle.std.specs.Option.{option_and_then, option_map_or}
 use Rattle.std.proofs.lemmas.Bool.{false≢true}
 use Rattle.std.proofs.lemmas.List.{append_assoc, append-nil}
-use Rattle.std.proofs.lemmas.List.Sums.{sum_by-set, sum_by-cons}
+use Rattle.std.proofs.lemmas.List.Sums.{sum_by-set}
 use Rattle.std.proofs.lemmas.List.Quantifiers.{position-Some}
 use Rattle.std.proofs.lemmas.Option.{get_or_from_slice_get, slice_get-get_or}
-use Rattle.start_model.specs.Demand.{Need, member}
-use Rattle.start_model.specs.Ready.{Label, is_ready, next_of}
+use Rattle.start_model.specs.Demand.{member}
+use Rattle.start_model.specs.Ready.{is_ready, next_of}
 use Rattle.dependencies.specs.Waiting.{WaitingState, waiting_in, places_in, next_place_in, after_trying}
 use Rattle.dependencies.proofs.PickedLemmas.{as_many, picked}
 use Rattle.boot_phases.proofs.TriedLemmas.{within}
 use Rattle.service_control.specs.Turns.{turns}
-use Rattle.dependencies.specs.Attempts.{all_waiting}
 use Rattle.service_control.proofs.SpreadState.{none}
 use Rattle.dependencies.proofs.KeptLemmas.{within_waits}
 
@@ -99,11 +98,6 @@ one_fewer bs k m =
     let one : ◌≡◌ {A = ℕ} (cond (member bs k) 1 0) 1 = ap (λ b. cond b 1 0) m in
     omega (arith, s, one)
 
-pub all_count : (n : ℕ) → count_by (λ b. b) (replicate n true) ≡ n
-all_count zero = refl
-all_count (suc n) = sum_by-cons (λ (b : Bool). cond b 1 0) true (replicate n true)
-    ∙ (let e = all_count n in omega (arith, e))
-
 -- ---- turns
 
 -- one more turn
@@ -129,10 +123,3 @@ turns_over w places all zero next h = sym (append-nil places) ∙ h
 turns_over w places all (suc n) next h =
     sym (append-nil places) ∙ ap (λ o. places ++ option_map_or (λ at. at ∷ turns n (after_trying w at true)) o []) next
     ∙ h
-
--- all wait at first
-pub turns_start : (w : WaitingState) (needs : List Need) (started : List Label) → w ≡ all_waiting needs started
-    → turns (count_by (λ b. b) w.waits) w ≡ turns (length needs) (all_waiting needs started)
-turns_start w needs started is =
-    ap (λ v. turns (count_by (λ b. b) v.waits) v) is
-    ∙ ap (λ n. turns n (all_waiting needs started)) (all_count (length needs))

@@ -2,9 +2,8 @@
 --
 -- The least set that has the service and, with each member that is not started, all that it names in DependOnService
 -- (Microsoft's documentation of service entries; that it goes as deep as the names lead is this project's own).
-use Rattle.std.specs.Prelude.{◌≡◌, ℕ, Bool, true, false, not, ◌&&◌, ◌==◌, List, [], map, filter, fold, Option, Some, None, slice_get, if◌then◌else◌}
+use Rattle.std.specs.Prelude.{ℕ, Bool, not, ◌==◌, List, [], map, filter, fold, Option, Some, None, slice_get, if◌then◌else◌}
 use Rattle.std.specs.List.{list_any, flat_map, filter_map}
-use Rattle.std.specs.Option.{option_map_or}
 use Rattle.std.specs.Ordering.{is_lt}
 use Rattle.nt_bytes.specs.Folding.{folds_same, folded_order}
 use Rattle.start_model.specs.Demand.{Need, automatic_of}

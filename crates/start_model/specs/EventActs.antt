@@ -7,8 +7,8 @@ use Rattle.hive_model.specs.Tree.{Tree, same_tree}
 use Rattle.hive_model.specs.Edit.{Refusal, no_key, no_value, bad_name, exists, name_too_long, too_deep, data_too_long, full, edited}
 use Rattle.start_model.specs.Lines as lines
 use Rattle.start_model.specs.Lines.{RefusedWord, EventWord, LogonLine, EditOkLine, FlushNothingLine, RefusedLine}
-use Rattle.start_model.specs.Events.{Set, Delete, Make, Remove, Event, BootNow, Go, Fail, Edits, Flush, Logon, Off, CutNow, Arm, step_of}
-use Rattle.start_model.specs.Machine.{Start, failing, ending_of, with_start, refusal_of}
+use Rattle.start_model.specs.Events.{Set, Delete, Make, Remove, Event, BootNow, Go, Fail, Vital, Edits, Flush, Logon, Off, CutNow, Arm, step_of}
+use Rattle.start_model.specs.Machine.{Start, failing, requiring, ending_of, with_start, refusal_of}
 use Rattle.start_model.specs.Act.{RunState, Ordered, Cuts, Act, done, say, ask, mark, with_machine, end_with}
 use Rattle.start_model.specs.Commit.{commit, save_where_due}
 use Rattle.start_model.specs.Starter.{go_act}
@@ -19,6 +19,7 @@ abbrev pub event_word_of : Event → EventWord
 event_word_of (BootNow entry good) = lines.BootEvent
 event_word_of (Go steps) = lines.GoEvent
 event_word_of (Fail name count) = lines.FailEvent
+event_word_of (Vital name) = lines.VitalEvent
 event_word_of (Edits (Set path name kind bytes)) = lines.SetEvent
 event_word_of (Edits (Delete path name)) = lines.DeleteEvent
 event_word_of (Edits (Make path)) = lines.MakeEvent
@@ -75,6 +76,7 @@ abbrev pub running_act : Start → Event → RunState → Act
 running_act s (BootNow entry good) m = done m
 running_act s (Go steps) m = go_act steps m
 running_act s (Fail name count) m = done (with_machine (failing name count m.machine) m)
+running_act s (Vital name) m = done (with_machine (requiring name m.machine) m)
 running_act s (Edits edit) m = edit_done (Edits edit) m (edited m.version m.live (step_of s.number edit ∷ []))
 running_act s Flush m = flush_act m
 running_act s Logon m = logon_act s m
@@ -87,6 +89,7 @@ abbrev pub idle_act : (Option ℕ → Choice) → Event → RunState → Act
 idle_act choice (BootNow entry good) m = boot_act choice entry good m
 idle_act choice (Go steps) m = done m
 idle_act choice (Fail name count) m = done (with_machine (failing name count m.machine) m)
+idle_act choice (Vital name) m = done (with_machine (requiring name m.machine) m)
 idle_act choice (Edits edit) m = done m
 idle_act choice Flush m = done m
 idle_act choice Logon m = done m

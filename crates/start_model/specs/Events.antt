@@ -22,6 +22,8 @@ pub data Event : Type 0 where
   Go : (steps : Option ℕ) → Event
   -- the next attempts of this name that fail
   Fail : (name : List ℕ) → (count : ℕ) → Event
+  -- from now on a start that has passed its boot phase without this name stops
+  Vital : (name : List ℕ) → Event
   Edits : Edit → Event
   Flush : Event
   Logon : Event

@@ -33,6 +33,7 @@ pub data EventWord : Type 0 where
   BootEvent : EventWord
   GoEvent : EventWord
   FailEvent : EventWord
+  VitalEvent : EventWord
   SetEvent : EventWord
   DeleteEvent : EventWord
   MakeEvent : EventWord
@@ -93,6 +94,8 @@ pub data Line : Type 0 where
   PhaseLine : PhaseWord → Line
   TryLine : List ℕ → TryWord → Line
   UnmetLine : List ℕ → Line
+  -- the boot phase ended without this vital name, as the script has it
+  VitalLine : List ℕ → Line
   LogonLine : Line
   -- the save was refused: by the limit on the hive, or else for want of a free number
   SaveRefusedLine : Bool → Line
@@ -130,6 +133,7 @@ abbrev pub event_word : EventWord → List ℕ
 event_word BootEvent = codes "boot"
 event_word GoEvent = codes "go"
 event_word FailEvent = codes "fail"
+event_word VitalEvent = codes "vital"
 event_word SetEvent = codes "set"
 event_word DeleteEvent = codes "delete"
 event_word MakeEvent = codes "make"
@@ -217,6 +221,7 @@ line_text (SelectLine current default failed good) =
 line_text (PhaseLine word) = codes "phase " ++ phase_word word ++ codes "\n"
 line_text (TryLine name outcome) = codes "try " ++ name_text name ++ codes " " ++ try_word outcome ++ codes "\n"
 line_text (UnmetLine name) = codes "unmet " ++ name_text name ++ codes "\n"
+line_text (VitalLine name) = codes "vital " ++ name_text name ++ codes " missing\n"
 line_text LogonLine = codes "logon\n"
 line_text (SaveRefusedLine full) = codes "save refused " ++ save_word full ++ codes "\n"
 line_text EditOkLine = codes "edit ok\n"

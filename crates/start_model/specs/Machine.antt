@@ -2,14 +2,15 @@
 --
 -- The phases, ErrorControl and the fallback on LastKnownGood: Windows Internals, 4th edition, startup. That attempts go
 -- one at a time, that failures are told in advance, and which events are refused, is this project's own.
-use Rattle.std.specs.Prelude.{ℕ, ◌-◌, Bool, true, false, ◌||◌, ◌&&◌, not, ◌==◌, if◌then◌else◌, List, [], ◌∷◌, ◌++◌, map, slice_get, remove, Option, None, Some, option_map, option_and_then}
+use Rattle.std.specs.Prelude.{ℕ, ◌-◌, Bool, true, false, ◌||◌, ◌&&◌, not, ◌==◌, if◌then◌else◌, List, [], ◌∷◌, ◌++◌, map, filter, slice_get, remove, Option, None, Some, option_map, option_and_then}
+use Rattle.std.specs.List.{list_any}
 use Rattle.nt_bytes.specs.Folding.{folded, folds_same}
 use Rattle.hive_model.specs.Tree.{Tree}
-use Rattle.start_model.specs.Ready.{Label, next_of}
+use Rattle.start_model.specs.Ready.{Label, has_name, next_of}
 use Rattle.start_model.specs.Judge.{Judgement, Ignore, judgement_of}
 use Rattle.start_model.specs.Entries.{Entry, Phase, Boot, System, Automatic, Done, need_of}
 use Rattle.start_model.specs.Order.{plan_of}
-use Rattle.start_model.specs.Events.{Event, BootNow, Go, Fail, Edits, Flush, Logon, Off, CutNow, Arm, is_protected}
+use Rattle.start_model.specs.Events.{Event, BootNow, Go, Fail, Vital, Edits, Flush, Logon, Off, CutNow, Arm, is_protected}
 use Rattle.start_model.specs.Lines.{Verdict, Good, GoodUnsaved, Running, RefusedWord, OffReason, RunningReason, EarlyReason, AgainReason, IdleReason, ProtectedReason}
 
 -- a start that runs
@@ -30,15 +31,17 @@ pub record Start : Type 0 where
   -- the set as the start began with it, until it is saved
   pub clone : Option Tree
 
--- the machine: a start that runs, the attempts that are to fail, and whether the next start falls back
+-- the machine: a start that runs, the attempts that are to fail, whether the next start falls back, and the names without
+-- which no start passes its boot phase, as the script has them
 pub record MachineState : Type 0 where
   pub start : Option Start
   pub failures : List (List ℕ × ℕ)
   pub fallback_due : Bool
+  pub vital : List (List ℕ)
 
 -- a machine that is off, with nothing noted
 abbrev pub off_machine : MachineState
-off_machine = record { start = None; failures = []; fallback_due = false }
+off_machine = record { start = None; failures = []; fallback_due = false; vital = [] }
 
 -- ---- failures to come, by folded name
 
@@ -60,6 +63,27 @@ with_failures (f ∷ fs) name count = if folds_same f.0 name then (f.0, count) �
 -- the machine with so many failures noted for a name
 abbrev pub failing : List ℕ → ℕ → MachineState → MachineState
 failing name count m = record m { failures = with_failures m.failures name count }
+
+-- ---- the vital names
+
+-- at the end, as it is written, unless a name that folds the same stands there
+abbrev pub with_vital : List (List ℕ) → List ℕ → List (List ℕ)
+with_vital names name = if list_any (folds_same name) names then names else names ++ name ∷ []
+
+-- the machine with one more vital name
+abbrev pub requiring : List ℕ → MachineState → MachineState
+requiring name m = record m { vital = with_vital m.vital name }
+
+-- the phase is the first one
+abbrev pub is_boot : Phase → Bool
+is_boot Boot = true
+is_boot System = false
+is_boot Automatic = false
+is_boot Done = false
+
+-- the vital names that the boot phase of a start ends without, in their order; a later phase asks for none
+abbrev pub missing_in : List (List ℕ) → Start → List (List ℕ)
+missing_in vital s = if is_boot s.phase then filter (λ name. not (has_name s.started name)) vital else []
 
 -- ---- an attempt
 
@@ -188,6 +212,7 @@ abbrev pub refused_off : Event → Option RefusedWord
 refused_off (BootNow entry good) = None
 refused_off (Go steps) = Some OffReason
 refused_off (Fail name count) = None
+refused_off (Vital name) = None
 refused_off (Edits edit) = Some OffReason
 refused_off Flush = Some OffReason
 refused_off Logon = Some OffReason
@@ -200,6 +225,7 @@ abbrev pub refused_running : Start → Event → Option RefusedWord
 refused_running s (BootNow entry good) = Some RunningReason
 refused_running s (Go steps) = if is_done s.phase then Some IdleReason else None
 refused_running s (Fail name count) = None
+refused_running s (Vital name) = None
 refused_running s (Edits edit) = if is_protected edit then Some ProtectedReason else None
 refused_running s Flush = None
 refused_running s Logon = if not (takes_logons s.phase) then Some EarlyReason else (if s.logged_on then Some AgainReason else None)

@@ -1,15 +1,15 @@
 -- What does a step of the starter do?
 --
 -- The order of a start is that of Windows Internals, 4th edition, startup; the lines are this project's own.
-use Rattle.std.specs.Prelude.{ℕ, zero, suc, ◌+◌, Bool, true, false, if◌then◌else◌, [], ◌∷◌, map, length, Option, None, Some, codes}
+use Rattle.std.specs.Prelude.{ℕ, zero, suc, ◌+◌, Bool, true, false, if◌then◌else◌, List, [], ◌∷◌, map, length, Option, None, Some, codes}
 use Rattle.std.specs.Option.{unwrap_or, option_map_or}
 use Rattle.hive_model.specs.Tree.{Tree, key, none, children, find_key}
 use Rattle.start_model.specs.Lines as lines
-use Rattle.start_model.specs.Lines.{Line, TryWord, PhaseLine, TryLine, UnmetLine}
+use Rattle.start_model.specs.Lines.{Line, TryWord, PhaseLine, TryLine, UnmetLine, VitalLine}
 use Rattle.start_model.specs.Judge.{Judgement, Ignore, Log, FallBack, Stop}
 use Rattle.start_model.specs.Sets.{select_numbers_of, is_usable, set_of}
 use Rattle.start_model.specs.Entries.{Phase, Boot, System, Automatic, Done}
-use Rattle.start_model.specs.Machine.{Start, MachineState, Tried, attempt_of, unmet_in, after_phase, is_done, with_start}
+use Rattle.start_model.specs.Machine.{Start, MachineState, Tried, attempt_of, unmet_in, missing_in, after_phase, is_done, with_start}
 use Rattle.start_model.specs.Act.{RunState, Act, done, say, say_all, with_machine, end_with}
 use Rattle.start_model.specs.Commit.{save_where_due}
 
@@ -50,13 +50,20 @@ judged Log m next = next m
 judged FallBack m next = end_with lines.FallBack true m
 judged Stop m next = end_with lines.Stopped false m
 
--- the phase is at its end: what still waits is unmet, the next one begins, and a start that became good by that is
--- saved
-abbrev pub phase_step : Start → RunState → (RunState → Act) → Act
-phase_step s m next =
+-- the next phase begins, and a start that became good by that is saved
+abbrev pub phase_begun : Start → RunState → (RunState → Act) → Act
+phase_begun s m next =
     let after : Start = after_phase (live_set m s.number) s in
-    say_all (map UnmetLine (unmet_in s)) (say (phase_line after.phase)
-    (save_where_due (Some after) (with_machine (with_start after m.machine) m) next))
+    say (phase_line after.phase) (save_where_due (Some after) (with_machine (with_start after m.machine) m) next)
+
+-- the next phase begins where no vital name is missing; else each that is has its line, and the start stops
+abbrev pub phase_passed : Start → RunState → (RunState → Act) → List (List ℕ) → Act
+phase_passed s m next [] = phase_begun s m next
+phase_passed s m next (name ∷ names) = say_all (map VitalLine (name ∷ names)) (end_with lines.Stopped false m)
+
+-- the phase is at its end: what still waits is unmet, and the next one begins unless a vital name is missing
+abbrev pub phase_step : Start → RunState → (RunState → Act) → Act
+phase_step s m next = say_all (map UnmetLine (unmet_in s)) (phase_passed s m next (missing_in m.machine.vital s))
 
 -- an attempt that was made is said and judged; where there is none, the phase ends
 abbrev pub starter_step : Start → RunState → (RunState → Act) → Option (MachineState × Tried) → Act

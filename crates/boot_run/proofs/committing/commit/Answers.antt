@@ -12,7 +12,7 @@ use Rattle.start_model.specs.Act.{done, start_over}
 use Rattle.start_model.specs.Commit.{commit, committed_state, opened_state}
 use Rattle.run_parts.proofs.BreakLemmas.{or-breaks}
 use Rattle.boot_run.specs.Views.{told_in, told_by}
-use Rattle.boot_run.proofs.DiskLemmas.{marked-by, cut-cause, fault-cause}
+use Rattle.boot_run.proofs.DiskLemmas.{marked-by, cut-cause, fault-cause, commit-done, commit-lacked, commit-failed}
 use Rattle.boot_run.proofs.CommitLemmas.{Committed, commit_down, commit_memory, commit_live, commit_goes, commit_breaks, stop_open, stop_goes, stop_breaks, counts_over}
 use Rattle.boot_run.proofs.committing.commit.Goals as goal
 
@@ -34,7 +34,7 @@ returns-in_err-say-in-Ok-clause-plays g c = λ m next tells counts live stays.
     (commit_breaks m next (commit_of c.args.what)
     c.args.hive d e live all c.in-Ok.hive c.in-Ok.sequence c.in-Ok.ensures.answered c.in-Ok.ensures.number
     (c.in-Ok.ensures.still told) (c.in-Ok.ensures.loads told)
-    stays x y.said (c.in_err-say-in-Ok.ensures.tells tells))
+    (commit-done _ d e c.in-Ok.ensures.goes) stays x y.said (c.in_err-say-in-Ok.ensures.tells tells))
 
 pub returns-in_ok-say-in-Ok-clause-plays : goal.returns-in_ok-say-in-Ok-clause-plays
 returns-in_ok-say-in-Ok-clause-plays g c = λ m next tells counts live stays.
@@ -54,7 +54,7 @@ returns-in_ok-say-in-Ok-clause-plays g c = λ m next tells counts live stays.
         commit_goes m next (commit_of c.args.what)
             c.args.hive d e live all c.in-Ok.hive c.in-Ok.sequence c.in-Ok.ensures.answered c.in-Ok.ensures.number
             (c.in-Ok.ensures.still told) (c.in-Ok.ensures.loads told)
-            x y (c.in_ok-say-in-Ok.ensures.tells tells),
+            (commit-done _ d e c.in-Ok.ensures.goes) x y (c.in_ok-say-in-Ok.ensures.tells tells),
         (
           refl,
           (
@@ -78,7 +78,9 @@ returns-in-Err-Memory-clause-plays g c = λ m next tells counts live stays.
       history = c.commit.ensures.goes.goes_on.history;
       counts = c.commit.ensures.goes.goes_on.counts;
     } in
+    let lacked : IsErrOf c.commit.result stops.Memory = search rules in
     commit_memory m next (commit_of c.args.what) c.args.hive d e live all
+    (commit-lacked c.commit.result d e c.commit.ensures.goes lacked)
     (told_in (g.H.Host.state c.args.host.now) c.args.runner.now)
 
 pub returns-in_err-end_with-in-Err-PowerLost-clause-plays : goal.returns-in_err-end_with-in-Err-PowerLost-clause-plays
@@ -101,7 +103,8 @@ returns-in_err-end_with-in-Err-PowerLost-clause-plays g c = λ m next tells coun
     c.from_residual-in_err-end_with-in-Err-PowerLost.ensures.0
     (commit (commit_of c.args.what) c.args.hive.tree m next) x y d f
     (stop_breaks m next (commit_of c.args.what)
-    c.args.hive d e live all book.Cut PowerCut refl refl f c.end_with.ensures.off cause x y.said
+    c.args.hive d e live all book.Cut PowerCut refl refl f c.end_with.ensures.off cause
+    (c.commit.ensures.goes.goes_on.cut stopped) x y.said
     (c.in_err-end_with-in-Err-PowerLost.ensures.tells tells))
 
 pub returns-in_ok-end_with-in-Err-PowerLost-clause-plays : goal.returns-in_ok-end_with-in-Err-PowerLost-clause-plays
@@ -123,7 +126,8 @@ returns-in_ok-end_with-in-Err-PowerLost-clause-plays g c = λ m next tells count
       done (start_over false (opened_state m c.args.hive.tree)),
       (
         stop_goes m next (commit_of c.args.what)
-            c.args.hive d e live all book.Cut PowerCut refl refl f c.end_with.ensures.off cause x y
+            c.args.hive d e live all book.Cut PowerCut refl refl f c.end_with.ensures.off cause
+            (c.commit.ensures.goes.goes_on.cut stopped) x y
             (c.in_ok-end_with-in-Err-PowerLost.ensures.tells tells),
         (
           refl,
@@ -172,7 +176,8 @@ returns-in_err-end_with-in-Err-Device-clause-plays g c = λ m next tells counts 
     c.from_residual-in_err-end_with-in-Err-Device.ensures.0 (commit (commit_of c.args.what) c.args.hive.tree m next)
     x y d f
     (stop_breaks m next (commit_of c.args.what)
-    c.args.hive d e live all book.Device DeviceFault refl refl f c.end_with-in-Err-Device.ensures.off cause x y.said
+    c.args.hive d e live all book.Device DeviceFault refl refl f c.end_with-in-Err-Device.ensures.off cause
+    (commit-failed c.commit.result d e c.commit.ensures.goes stopped) x y.said
     (c.in_err-end_with-in-Err-Device.ensures.tells tells))
 
 pub returns-in_ok-end_with-in-Err-Device-clause-plays : goal.returns-in_ok-end_with-in-Err-Device-clause-plays
@@ -194,7 +199,8 @@ returns-in_ok-end_with-in-Err-Device-clause-plays g c = λ m next tells counts l
       done (start_over false (opened_state m c.args.hive.tree)),
       (
         stop_goes m next (commit_of c.args.what)
-            c.args.hive d e live all book.Device DeviceFault refl refl f c.end_with-in-Err-Device.ensures.off cause x y
+            c.args.hive d e live all book.Device DeviceFault refl refl f c.end_with-in-Err-Device.ensures.off cause
+            (commit-failed c.commit.result d e c.commit.ensures.goes stopped) x y
             (c.in_ok-end_with-in-Err-Device.ensures.tells tells),
         (
           refl,

@@ -18,7 +18,7 @@ use Rattle.run_parts.proofs.BreakLemmas.{breaks-silent, or-breaks}
 use Rattle.boot_run.specs.Acts.{load}
 use Rattle.boot_run.specs.Views.{told_in, told_by}
 use Rattle.boot_run.proofs.CommitLemmas.{counts_over}
-use Rattle.boot_run.proofs.DiskLemmas.{marked-woken, marked-by, cut-cause, fault-cause}
+use Rattle.boot_run.proofs.DiskLemmas.{marked-woken, marked-by, cut-cause, fault-cause, load-done, load-lacked, load-failed}
 use Rattle.boot_run.proofs.LoadLemmas.{Loaded, no_fault, load_memory, load_live, load_goes, load_breaks, stopped_may, stopped_goes, stopped_breaks, load_down}
 use Rattle.boot_run.proofs.loading.load.Goals as goal
 
@@ -69,6 +69,7 @@ returns-in_ok-say-in-Ok-load-clause-plays g c = λ m next tells counts left stay
       (
         load_goes m next w.0 d d1 e may all c.in-Ok-load.hive c.in-Ok-load.recovered exact
             c.in-Ok-load.ensures.unchanged (c.in-Ok-load.ensures.still told) (c.in-Ok-load.ensures.loads told)
+            (load-done _ d1 e c.in-Ok-load.ensures.goes)
             c.sequence-sequence.result c.sequence-sequence.ensures x y (c.in_ok-say-in-Ok-load.ensures.tells tells),
         (
           may.woken,
@@ -108,7 +109,7 @@ returns-in_err-say-in-Ok-load-clause-plays g c = λ m next tells counts left sta
     or-breaks _ c.from_residual.result c.from_residual.ensures.0 (load m next) x y d e
     (load_breaks m next w.0 d d1 e may all c.in-Ok-load.hive c.in-Ok-load.recovered exact c.in-Ok-load.ensures.unchanged
     (c.in-Ok-load.ensures.still told) (c.in-Ok-load.ensures.loads told)
-    stays c.sequence-sequence.result c.sequence-sequence.ensures x y.said (c.in_err-say-in-Ok-load.ensures.tells tells))
+    (load-done _ d1 e c.in-Ok-load.ensures.goes) stays c.sequence-sequence.result c.sequence-sequence.ensures x y.said (c.in_err-say-in-Ok-load.ensures.tells tells))
 
 pub returns-in-Err-Memory-clause-plays : goal.returns-in-Err-Memory-clause-plays
 returns-in-Err-Memory-clause-plays g c = λ m next tells counts left stays.
@@ -126,7 +127,9 @@ returns-in-Err-Memory-clause-plays g c = λ m next tells counts left stays.
       counts = c.load.ensures.goes.counts;
     } in
     let may : MayLoad m.disk w.0 = left w.0 w.1 in
-    load_memory m next w.0 d d1 e may all (told_in (g.H.Host.state c.args.host.now) c.args.runner.now)
+    let lacked : IsErrOf c.load.result stops.Memory = search rules in
+    load_memory m next w.0 d d1 e may all (load-lacked c.load.result d1 e c.load.ensures.goes lacked)
+    (told_in (g.H.Host.state c.args.host.now) c.args.runner.now)
 
 pub returns-in_ok-say-in-Ok-load-clause-sound : goal.returns-in_ok-say-in-Ok-load-clause-sound
 returns-in_ok-say-in-Ok-load-clause-sound g c =
@@ -171,7 +174,8 @@ returns-in_err-end_with-in-Err-PowerLost-clause-plays g c = λ m next tells coun
     let cause = cut-cause d1 e (marked-woken w.0 d d1 w.2) (c.load.ensures.goes.cut stopped) in
     or-breaks _ c.from_residual-in_err-end_with-in-Err-PowerLost.result
     c.from_residual-in_err-end_with-in-Err-PowerLost.ensures.0 (load m next) x y d f
-    (stopped_breaks m next w.0 d d1 e may all book.Cut PowerCut refl refl f c.end_with.ensures.off cause x y.said
+    (stopped_breaks m next w.0 d d1 e may all book.Cut PowerCut refl refl f c.end_with.ensures.off cause
+    (c.load.ensures.goes.cut stopped) x y.said
     (c.in_err-end_with-in-Err-PowerLost.ensures.tells tells))
 
 pub returns-in_ok-end_with-in-Err-PowerLost-clause-plays : goal.returns-in_ok-end_with-in-Err-PowerLost-clause-plays
@@ -197,7 +201,8 @@ returns-in_ok-end_with-in-Err-PowerLost-clause-plays g c = λ m next tells count
     let cause = cut-cause d1 e (marked-woken w.0 d d1 w.2) (c.load.ensures.goes.cut stopped) in (
       done (start_over false (woken_state m may.woken)),
       (
-        stopped_goes m next w.0 d d1 e may all book.Cut PowerCut refl refl f c.end_with.ensures.off cause x y
+        stopped_goes m next w.0 d d1 e may all book.Cut PowerCut refl refl f c.end_with.ensures.off cause
+            (c.load.ensures.goes.cut stopped) x y
             (c.in_ok-end_with-in-Err-PowerLost.ensures.tells tells),
         (
           may.woken,
@@ -258,7 +263,7 @@ returns-in_err-end_with-in-Err-Device-clause-plays g c = λ m next tells counts 
     or-breaks _ c.from_residual-in_err-end_with-in-Err-Device.result
     c.from_residual-in_err-end_with-in-Err-Device.ensures.0 (load m next) x y d f
     (stopped_breaks m next w.0 d d1 e may all book.Device DeviceFault refl refl f c.end_with-in-Err-Device.ensures.off
-    cause x y.said (c.in_err-end_with-in-Err-Device.ensures.tells tells))
+    cause (load-failed c.load.result d1 e c.load.ensures.goes stopped) x y.said (c.in_err-end_with-in-Err-Device.ensures.tells tells))
 
 pub returns-in_ok-end_with-in-Err-Device-clause-plays : goal.returns-in_ok-end_with-in-Err-Device-clause-plays
 returns-in_ok-end_with-in-Err-Device-clause-plays g c = λ m next tells counts left stays.
@@ -284,7 +289,7 @@ returns-in_ok-end_with-in-Err-Device-clause-plays g c = λ m next tells counts l
       done (start_over false (woken_state m may.woken)),
       (
         stopped_goes m next w.0 d d1 e may all book.Device DeviceFault refl refl f c.end_with-in-Err-Device.ensures.off
-            cause x y (c.in_ok-end_with-in-Err-Device.ensures.tells tells),
+            cause (load-failed c.load.result d1 e c.load.ensures.goes stopped) x y (c.in_ok-end_with-in-Err-Device.ensures.tells tells),
         (
           may.woken,
           (

@@ -1,57 +1,77 @@
-use Rattle.std.proofs.Common.{◌≡◌, ◌∙◌, ap, sym, subst, refl, Some}
-use Rattle.start_model.specs.Machine.{MachineState, after_phase, with_start}
-use Rattle.start_model.specs.Act.{Act, say_all, with_machine}
-use Rattle.start_model.specs.Commit.{save_where_due}
-use Rattle.start_model.specs.Starter.{phase_step, live_set}
-use Rattle.run_parts.specs.Parts.{Breaks}
-use Rattle.run_parts.proofs.BreakLemmas.{or-breaks}
-use Rattle.boot_run.specs.Agrees.{OnLeft}
-use Rattle.boot_run.specs.Starts.{phase_lines}
+use Rattle.std.proofs.Common.{◌∙◌, None, sym, false}
+use Rattle.start_model.specs.Lines as lines
+use Rattle.start_model.specs.Act.{Act, say_all, end_with}
+use Rattle.start_model.specs.Starter.{phase_step}
+use Rattle.run_parts.proofs.CountLemmas.{still}
+use Rattle.run_parts.proofs.BreakLemmas.{breaks-silent, or-breaks}
+use Rattle.boot_run.specs.Agrees.{LoadsAny, OnLeft, TurnLeft}
+use Rattle.boot_run.specs.Starts.{phase_gone, stop_lines}
 use Rattle.boot_run.specs.Views.{told_in}
-use Rattle.boot_run.proofs.PlayLemmas.{live_left, plays-as, plays-then}
-use Rattle.boot_run.proofs.SaveLemmas.{live_machine}
-use Rattle.boot_run.proofs.DueLemmas.{due_may}
-use Rattle.boot_run.proofs.StartLemmas.{breaks_all, goes_all, phase_quiet, phase_act}
-use Rattle.boot_run.proofs.StepLemmas.{next_counts}
-use Rattle.boot_run.proofs.starter.change_phase.Goals as goal
 use Rattle.boot_run.proofs.BeginLemmas.{none_open}
+use Rattle.boot_run.proofs.DiskLemmas.{still_leaves}
+use Rattle.boot_run.proofs.PlayLemmas.{live_left, plays-as}
+use Rattle.boot_run.proofs.StartLemmas.{gone_act, missing_at, none_missing, stopped_act}
+use Rattle.boot_run.proofs.StepLemmas.{step_may}
+use Rattle.boot_run.proofs.TurnLemmas.{goes_as, breaks_as}
+use Rattle.boot_run.proofs.starter.change_phase.Goals as goal
 
-pub returns-in_err-say_phase-clause-plays : goal.returns-in_err-say_phase-clause-plays
-returns-in_err-say_phase-clause-plays g c = λ m s next tells counts live at stays.
+pub returns-in_default-clause-plays : goal.returns-in_default-clause-plays
+returns-in_default-clause-plays g c = λ m s next tells counts live at stays.
     let x = told_in (g.H.Host.state c.args.host.now) c.args.runner.now in
-    let y = told_in (g.H.Host.state c.say_phase.new.host) c.say_phase.new.runner in
     let d = g.B.Disk.state c.args.bench.now in
-    let after = after_phase (live_set m s.number) s in
-    let n = with_machine (with_start after m.machine) m in
-    let more = save_where_due (Some after) n next in
-    let P : Act → Type 0 = λ a. Breaks a x y.said d d in
-    let there = ap (λ (k : MachineState). k.start) (sym counts.machine) ∙ at in
-    or-breaks _ c.from_residual.result c.from_residual.ensures.0 (phase_step s m next) x y d d
-    (subst P (phase_act s m next)
-    (breaks_all (phase_lines s) more x y.said d (phase_quiet s) (c.in_err-say_phase.ensures.tells s tells there)
-    (λ image crash. due_may (Some after) n next image (none_open m c.args.hive d live) stays
-    (live_left m c.args.hive d c.requires.sound.0 live image crash))))
+    breaks-silent (phase_step s m next) x d d (still d)
+    (λ image crash. step_may s m next image None (none_open m c.args.hive d live) stays
+    (live_left m c.args.hive d c.requires.sound.0 live image crash))
 
-pub save_where_due-requires : goal.save_where_due-requires
-save_where_due-requires g c = record { sound = (c.requires.sound.0, c.in_ok-say_phase.ensures.sound) }
+pub returns-then-is_empty-clause-plays : goal.returns-then-is_empty-clause-plays
+returns-then-is_empty-clause-plays g c = λ m s next tells counts live at stays.
+    let x = told_in (g.H.Host.state c.args.host.now) c.args.runner.now in
+    let z = told_in (g.H.Host.state c.go_past.new.host) c.go_past.new.runner in
+    let d = g.B.Disk.state c.args.bench.now in
+    let e = g.B.Disk.state c.go_past.new.bench in
+    let Left = OnLeft next c.go_past.new.runner e in
+    plays-as c.go_past.result Left Left (phase_gone s m next) (phase_step s m next) x z d e
+    (gone_act s m next (missing_at m s c.args.runner.now counts at ∙ sym c.in-Ok.ensures
+    ∙ none_missing c.in-Ok.missing (sym c.is_empty.ensures ∙ c.if-is_empty.true))) (λ v b l. l)
+    (c.go_past.ensures.plays m s next tells counts live at stays)
+
+pub returns-in_default-unmet-clause-plays : goal.returns-in_default-unmet-clause-plays
+returns-in_default-unmet-clause-plays g c = λ m s next tells counts live at stays.
+    let x = told_in (g.H.Host.state c.args.host.now) c.args.runner.now in
+    let d = g.B.Disk.state c.args.bench.now in
+    breaks-silent (phase_step s m next) x d d (still d)
+    (λ image crash. step_may s m next image None (none_open m c.args.hive d live) stays
+    (live_left m c.args.hive d c.requires.sound.0 live image crash))
+
+pub stop_without-requires : goal.stop_without-requires
+stop_without-requires g c =
+    let up = c.requires.sound.0 in
+    record { left = still_leaves (g.B.Disk.state c.args.bench.now) LoadsAny up.still up.loads }
+
+pub returns-in_err-stop_without-clause-plays : goal.returns-in_err-stop_without-clause-plays
+returns-in_err-stop_without-clause-plays g c = λ m s next tells counts live at stays.
+    let x = told_in (g.H.Host.state c.args.host.now) c.args.runner.now in
+    let y = told_in (g.H.Host.state c.stop_without.new.host) c.stop_without.new.runner in
+    let d = g.B.Disk.state c.args.bench.now in
+    let e = g.B.Disk.state c.stop_without.new.bench in
+    let said = stop_lines c.as_slice.result.now c.as_slice-2.result.now in
+    let is = stopped_act s m next c.args.runner.now c.in-Ok-unmet.unmet c.in-Ok.missing c.as_slice.result.now
+    c.as_slice-2.result.now counts at c.in-Ok-unmet.ensures c.in-Ok.ensures
+    (sym c.is_empty.ensures ∙ c.if-is_empty.false) c.as_slice.ensures c.as_slice-2.ensures in
+    or-breaks _ c.from_residual.result c.from_residual.ensures.0 (phase_step s m next) x y d e
+    (breaks_as (say_all said (end_with lines.Stopped false m)) (phase_step s m next) x y.said d e is
+    (c.in_err-stop_without.ensures.plays m tells counts (live_left m c.args.hive d c.requires.sound.0 live)))
 
 pub returns-clause-plays : goal.returns-clause-plays
 returns-clause-plays g c = λ m s next tells counts live at stays.
     let x = told_in (g.H.Host.state c.args.host.now) c.args.runner.now in
-    let y = told_in (g.H.Host.state c.say_phase.new.host) c.say_phase.new.runner in
-    let z = told_in (g.H.Host.state c.save_where_due.new.host) c.save_where_due.new.runner in
+    let y = told_in (g.H.Host.state c.stop_without.new.host) c.stop_without.new.runner in
     let d = g.B.Disk.state c.args.bench.now in
-    let e = g.B.Disk.state c.save_where_due.new.bench in
-    let after = after_phase (live_set m s.number) s in
-    let n = with_machine (with_start after m.machine) m in
-    let more = save_where_due (Some after) n next in
-    let Left = OnLeft next c.save_where_due.new.runner e in
-    let there = ap (λ (k : MachineState). k.start) (sym counts.machine) ∙ at in
-    let now = next_counts c.args.hive.tree m s c.args.runner.now c.say_phase.new.runner live.live at counts
-    c.say_phase.ensures.starts c.in_ok-say_phase.ensures.next in
-    plays-as c.save_where_due.result Left Left (say_all (phase_lines s) more) (phase_step s m next) x z d e
-    (phase_act s m next) (λ v b l. l)
-    (plays-then c.save_where_due.result Left (say_all (phase_lines s) more) more x y z d d e
-    (goes_all (phase_lines s) more x y d (phase_quiet s) (c.in_ok-say_phase.ensures.tells s tells there))
-    (c.save_where_due.ensures.plays n next (c.in_ok-say_phase.ensures.host.keeps.tells ∙ tells) now
-    (live_machine n.machine m c.args.hive d live) stays))
+    let e = g.B.Disk.state c.stop_without.new.bench in
+    let said = stop_lines c.as_slice.result.now c.as_slice-2.result.now in
+    let is = stopped_act s m next c.args.runner.now c.in-Ok-unmet.unmet c.in-Ok.missing c.as_slice.result.now
+    c.as_slice-2.result.now counts at c.in-Ok-unmet.ensures c.in-Ok.ensures
+    (sym c.is_empty.ensures ∙ c.if-is_empty.false) c.as_slice.ensures c.as_slice-2.ensures in
+    let Left : Act → Type 0 = λ a. TurnLeft c.stop_without.new.runner e None a in
+    goes_as (say_all said (end_with lines.Stopped false m)) (phase_step s m next) x y d e Left is
+    (c.in_ok-stop_without.ensures.plays m tells counts (live_left m c.args.hive d c.requires.sound.0 live))

@@ -4,7 +4,7 @@ use Rattle.start_model.specs.Events.{Event}
 use Rattle.start_model.specs.Act.{done}
 use Rattle.run_parts.specs.Parts.{PlaysOr}
 use Rattle.boot_run.specs.Begins.{aside_machine, aside_act}
-use Rattle.boot_run.proofs.TurnLemmas.{aside_goes, fail_act, aside_breaks, other_does_nothing}
+use Rattle.boot_run.proofs.TurnLemmas.{aside_goes, fail_act, vital_act, aside_breaks, other_does_nothing}
 use Rattle.boot_run.proofs.turning.aside.Goals as goal
 
 pub returns-in-Ok-clause-plays : goal.returns-in-Ok-clause-plays
@@ -14,6 +14,15 @@ returns-in-Ok-clause-plays g c = λ m told left.
 
 pub returns-in-Err-clause-plays : goal.returns-in-Err-clause-plays
 returns-in-Err-clause-plays g c =
+    λ m told left. aside_breaks (event_in c.args.event.now) m told (g.B.Disk.state c.args.bench.now) left
+
+pub returns-in-Ok-require-clause-plays : goal.returns-in-Ok-require-clause-plays
+returns-in-Ok-require-clause-plays g c = λ m told left.
+    aside_goes (event_in c.args.event.now) m told (g.B.Disk.state c.args.bench.now)
+    (vital_act (event_in c.args.event.now) c.in-Vital.name m (ap event_in c.in-Vital.is))
+
+pub returns-in-Err-require-clause-plays : goal.returns-in-Err-require-clause-plays
+returns-in-Err-require-clause-plays g c =
     λ m told left. aside_breaks (event_in c.args.event.now) m told (g.B.Disk.state c.args.bench.now) left
 
 pub returns-in-ArmCut-clause-plays : goal.returns-in-ArmCut-clause-plays
@@ -34,7 +43,7 @@ returns-in-ArmFault-clause-plays g c = λ m told left.
 
 pub returns-in_default : goal.returns-in_default
 returns-in_default g c =
-    let h = other_does_nothing c.args.event.now c.in_default.not-Fail c.in_default.not-ArmCut
+    let h = other_does_nothing c.args.event.now c.in_default.not-Fail c.in_default.not-Vital c.in_default.not-ArmCut
     c.in_default.not-ArmFault in
     record {
       machine = h.machine c.args.machine.now;

@@ -2,13 +2,13 @@ use Rattle.std.proofs.Common.{map, ◌∙◌}
 use Rattle.start_model.specs.Lines.{UnmetLine}
 use Rattle.boot_run.specs.Views.{told_by}
 use Rattle.boot_run.proofs.HostLemmas.{still-then}
-use Rattle.boot_run.proofs.UnmetLemmas.{unmet_next}
+use Rattle.boot_run.proofs.UnmetLemmas.{name_next}
 use Rattle.boot_run.proofs.unmet.say_unmet.Goals as goal
 
 pub names-preserved : goal.names-preserved
 names-preserved g c = record {
   tells = λ tells.
-      unmet_next c.names.waiting.now c.name-item.result c.in-Ok.name (map UnmetLine c.args.names.now)
+      name_next UnmetLine c.names.waiting.now c.name-item.result c.in-Ok.name (map UnmetLine c.args.names.now)
       (told_by (g.H.Host.state c.args.host.now) c.args.summary.now)
       (told_by (g.H.Host.state c.names.host) c.names.summary)
       (told_by (g.H.Host.state c.say.new.host) c.say.new.summary)

@@ -1,0 +1,16 @@
+use Rattle.std.proofs.Common.{◌≡◌, true, length, map}
+use Rattle.start_model.specs.Lines.{VitalLine}
+use Rattle.boot_run.specs.Hosts.{StillHost}
+use Rattle.boot_run.specs.Views.{told_by, TellsBefore}
+use Rattle.boot_run.proofs.missing.say_missing.Given as goal
+
+abbrev pub invariant-names : goal.invariant-names
+invariant-names g l = record {
+  tells : (g.H.Host.state l.fn.host).tells ≡ true
+      → TellsBefore (map VitalLine l.fn.names) (map VitalLine l.waiting)
+      (told_by (g.H.Host.state l.fn.host) l.fn.summary) (told_by (g.H.Host.state l.host) l.summary);
+  host : StillHost (g.H.Host.state l.fn.host) (g.H.Host.state l.host);
+}
+
+abbrev pub decreases-names : goal.decreases-names
+decreases-names g l = length l.waiting
