@@ -1,6 +1,7 @@
 //! Reading a path from left to right.
 
-ghost use Rattle.std.specs.Prelude.{◌≡◌, ◌≤◌, ◌^◌, true, length, take, IfOk};
+ghost use Rattle.std.specs.Prelude.{◌≡◌, ◌≤◌, ◌^◌, true, length, take, Err, IfOk};
+ghost use Rattle.arc_path.specs.declared.arc.ArcFault.{ArcFault as Fault};
 ghost use Rattle.arc_path.specs.Spelling.{IsPath};
 ghost use Rattle.std.specs.List.{All, prefix_len};
 ghost use Rattle.std.specs.Str.Parse.{digits_value};
@@ -232,6 +233,7 @@ fn parts(text: &[u8]) -> Result<(Numbers, &[u8]), Early>
 #[tactic(auto, unfolding(crate::specs::Reading::arc_of))]
 pub fn read_arc(alloc: Global, text: &[u8]) -> Result<Arc, ArcStop>
     ensures exact { Gives result (arc_of text.now) }
+    ensures fault { (f : Fault) → arc_of text.now ≡ Err f → result ≡ Err (ArcStop.Fault f) }
     ensures path { IfOk result IsPath }
 {
     match parts(text) {

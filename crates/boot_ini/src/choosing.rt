@@ -1,6 +1,8 @@
 //! Which entry a start takes.
 
-ghost use Rattle.std.specs.Prelude.{◌≡◌, ℕ, Option, IfOk};
+ghost use Rattle.std.specs.Prelude.{◌≡◌, ℕ, false, Option, Ok, Err, IfOk};
+ghost use Rattle.arc_path.specs.Reading.{arc_of};
+ghost use Rattle.arc_path.specs.declared.arc.ArcFault.{ArcFault as Fault};
 ghost use Rattle.std.specs.Option.{option_copied};
 ghost use Rattle.boot_ini.specs.Choice.{entry_at, asked_for, is_drive, is_system, choice_at, choice_of, IsThere, asks_for_last_known_good};
 
@@ -58,7 +60,8 @@ fn begins_with_drive(path: &[u8]) -> bool
 }
 
 fn means_system(alloc: Global, path: &[u8], system: &Arc) -> Result<bool, AllocError>
-    ensures { IfOk result (λ b. b ≡ is_system system.now path.now) }
+    ensures known { IfOk result (λ b. b ≡ is_system system.now path.now) }
+    ensures other { (f : Fault) → arc_of path.now ≡ Err f → result ≡ Ok false }
 {
     match read_arc(alloc, path) {
         Ok(arc) => Ok(same_arc(&arc, system)),

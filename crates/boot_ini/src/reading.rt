@@ -1,6 +1,6 @@
 //! Reading a text of boot.ini, once from its first line to its last.
 
-ghost use Rattle.std.specs.Prelude.{◌≡◌, ◌≤◌, ◌<◌, ◌+◌, ◌++◌, ◌∷◌, [], List, ℕ, length, codes, IfOk, IfErr, OnOk};
+ghost use Rattle.std.specs.Prelude.{◌≡◌, ◌≤◌, ◌<◌, ◌+◌, ◌++◌, ◌∷◌, [], List, ℕ, length, codes, Err, IfOk, IfErr, OnOk};
 ghost use Rattle.std.specs.Option.{option_map, option_or};
 ghost use Rattle.boot_ini.specs.declared.keys.Section.{Section};
 ghost use Rattle.boot_ini.specs.Keys.{said_lines, lines_in};
@@ -165,6 +165,7 @@ pub fn read_boot_ini(alloc: Global, text: &[u8], system: &[u8]) -> Result<BootIn
     ensures few { IfOk result (λ ini. length ini.entries ≤ 64) }
     ensures accepted { OnOk result (IsReadable text.now) }
     ensures refused { IfErr result (Refuses text.now) }
+    ensures long { 65536 < length text.now → result ≡ Err IniStop.TooLong }
 {
     if 65536 < text.len() {
         return Err(IniStop::TooLong);
