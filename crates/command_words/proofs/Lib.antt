@@ -1,10 +1,3 @@
-pub mod NameLemmas
-pub mod WordForms
-pub mod RowLemmas
-pub mod WalkLemmas
-pub mod ClaimLemmas
-pub mod FormLemmas
-pub mod LevelLemmas
-pub mod TableLemmas
 pub mod LawLemmas
-pub mod RefusedLemmas
+pub mod SplitLemmas
+pub mod ValueLemmas

@@ -1,3 +1,7 @@
 pub mod Words
-pub mod Clap
+pub mod Table
+pub mod Walk
+pub mod Commands
+pub mod Reading
+pub mod Laws
 pub mod Views

@@ -1,8 +1,14 @@
 -- The commands as the code holds them.
-use Rattle.std.specs.Prelude.{option_map}
-use Rattle.command_words.specs.Words.{Asked, RunAsked, ShowAsked, MakeAsked, SafeAsked, ControlAsked, TwinAsked, ExportAsked, ImportAsked}
+use Rattle.std.specs.Borrow.{Bor}
+use Rattle.std.specs.Prelude.{◌≡◌, ℕ, List, Bool, Option, Result, Ok, Err, map, option_map}
+use Rattle.command_words.specs.Words.{Asked, Reason, RunAsked, ShowAsked, MakeAsked, SafeAsked, ControlAsked, TwinAsked, ExportAsked, ImportAsked}
+use Rattle.command_words.specs.Words.{KeyAsked, ReplayAsked}
+use Rattle.command_words.specs.Words.{Reading, help, version, asks, refused}
+use Rattle.command_words.specs.Words.{unknown_command, left_over, bad_value, unknown_option, twice, no_value, missing}
 use Rattle.command_words.specs.Words.{run, show, make, safe, control, twin, export, import}
+use Rattle.command_words.specs.Words.{key, replay}
 use Rattle.command_words.specs.declared.asked.Command.{Command}
+use Rattle.command_words.specs.declared.asked.Command.TheVariants as commands
 use Rattle.command_words.specs.declared.asked.Command.TheVariants.{Run, Show, Make, Safe, Control, Twin, Export, Import}
 use Rattle.command_words.specs.declared.asked.RunWords.{RunWords}
 use Rattle.command_words.specs.declared.asked.ShowWords.{ShowWords}
@@ -12,6 +18,20 @@ use Rattle.command_words.specs.declared.asked.ControlWords.{ControlWords}
 use Rattle.command_words.specs.declared.asked.TwinWords.{TwinWords}
 use Rattle.command_words.specs.declared.asked.ExportWords.{ExportWords}
 use Rattle.command_words.specs.declared.asked.ImportWords.{ImportWords}
+use Rattle.command_words.specs.declared.asked.KeyWords.{KeyWords}
+use Rattle.command_words.specs.declared.asked.ReplayWords.{ReplayWords}
+use Rattle.command_words.specs.declared.reason.Reason.{Reason as CodeReason}
+use Rattle.command_words.specs.declared.reason.Reason.TheVariants as reasons
+use Rattle.command_words.specs.declared.asked.Reading.{Reading as CodeReading}
+use Rattle.command_words.specs.declared.asked.Reading.TheVariants as readings
+use Rattle.command_words.specs.declared.table.CommandOption.{CommandOption}
+use Rattle.command_words.specs.declared.table.CommandEntry.{CommandEntry}
+use Rattle.command_words.specs.declared.table.Found.{Found}
+use Rattle.command_words.specs.Table.{OptionRow, Known}
+use Rattle.command_words.specs.Commands.{CommandRow, Look}
+use Rattle.command_words.specs.declared.commands.Given.{Given}
+use Rattle.command_words.specs.Walk.{State, Values, value_named}
+use Rattle.command_words.specs.declared.walk.Walk.{Walk}
 
 -- what `run` is asked for, as the texts behind the references
 abbrev pub run_seen : RunWords → RunAsked
@@ -76,6 +96,26 @@ import_seen i = record {
   save_log = option_map (λ t. t.now) i.save_log;
 }
 
+-- what `key` is asked for, seen so
+abbrev pub key_seen : KeyWords → KeyAsked
+key_seen w = record {
+  hive = w.hive.now;
+  log = option_map (λ t. t.now) w.log;
+  key = option_map (λ t. t.now) w.key;
+  depth = w.depth;
+  security = w.security;
+}
+
+-- what `replay` is asked for, seen so
+abbrev pub replay_seen : ReplayWords → ReplayAsked
+replay_seen w = record {
+  hive = w.hive.now;
+  log = option_map (λ t. t.now) w.log;
+  log1 = option_map (λ t. t.now) w.log1;
+  log2 = option_map (λ t. t.now) w.log2;
+  save_hive = option_map (λ t. t.now) w.save_hive;
+}
+
 -- the command seen so
 abbrev pub command_seen : Command → Asked
 command_seen (Run r) = run (run_seen r)
@@ -86,3 +126,55 @@ command_seen (Control c) = control (control_seen c)
 command_seen (Twin t) = twin (twin_seen t)
 command_seen (Export e) = export (export_seen e)
 command_seen (Import i) = import (import_seen i)
+command_seen (commands.Key w) = key (key_seen w)
+command_seen (commands.Replay w) = replay (replay_seen w)
+
+-- a reason, as the texts behind the references
+abbrev pub reason_seen : CodeReason → Reason
+reason_seen (reasons.UnknownCommand word) = unknown_command word.now
+reason_seen (reasons.LeftOver word) = left_over word.now
+reason_seen (reasons.BadValue name word) = bad_value name.now word.now
+reason_seen (reasons.UnknownOption word) = unknown_option word.now
+reason_seen (reasons.Twice name) = twice name.now
+reason_seen (reasons.NoValue name) = no_value name.now
+reason_seen (reasons.Missing name) = missing name.now
+
+-- what words are read as, seen so
+abbrev pub reading_seen : CodeReading → Reading
+reading_seen (readings.Help page) = help page
+reading_seen readings.Version = version
+reading_seen (readings.Command command json) = asks (command_seen command) json
+reading_seen (readings.Refused reason) = refused (option_map reason_seen reason)
+
+-- an option, seen so
+abbrev pub option_seen : CommandOption → OptionRow
+option_seen o = record { name = o.name.now; takes = o.takes }
+
+-- a command, seen so
+abbrev pub entry_seen : CommandEntry → CommandRow
+entry_seen e = record { name = e.name.now; command = e.command; options = map option_seen e.options.now }
+
+-- an option with its place, seen so
+abbrev pub found_seen : Found → Known
+found_seen f = record { place = f.place; row = option_seen f.option }
+
+-- what was returned, seen so, is what reading gives
+abbrev pub Sees : {X Y : Type 0} → (X → Y) → Result X CodeReason → Result Y Reason → Type 0
+Sees view (Ok x) read = read ≡ Ok (view x)
+Sees view (Err e) read = read ≡ Err (reason_seen e)
+
+-- the values, seen so
+abbrev pub values_seen : List (Option (Bor (List ℕ))) → Values
+values_seen values = map (option_map (λ t. t.now)) values
+
+-- the values and the option that waits, seen so
+abbrev pub walk_seen : Walk → State
+walk_seen w = record { values = values_seen w.values; waiting = option_map found_seen w.waiting }
+
+-- the values by their names, seen so
+abbrev pub look_of : Given → Look
+look_of g = value_named (map option_seen g.options.now) (values_seen g.values)
+
+-- a command, and whether for JSON, seen so
+abbrev pub asked_seen : Command × Bool → Asked × Bool
+asked_seen p = (command_seen p.0, p.1)

@@ -1,5 +1,7 @@
 //! What is asked for.
 
+use crate::reason::Reason;
+
 /// The system that a machine has where the words name none.
 pub const USUAL_SYSTEM: &str = "multi(0)disk(0)rdisk(0)partition(1)\\WINDOWS";
 
@@ -87,6 +89,53 @@ pub struct ImportWords<'a> {
     pub save_log: Option<&'a str>,
 }
 
+/// What `key` is asked for: the names of the files that it reads, the path of the key, and how many levels below it.
+#[derive(Clone, Copy, Debug, PartialEq, Eq)]
+pub struct KeyWords<'a> {
+    pub hive: &'a str,
+    pub log: Option<&'a str>,
+    pub key: Option<&'a str>,
+    pub depth: u32,
+    pub security: bool,
+}
+
+/// What `replay` is asked for: the names of the files that it reads and saves.
+#[derive(Clone, Copy, Debug, PartialEq, Eq)]
+pub struct ReplayWords<'a> {
+    pub hive: &'a str,
+    pub log: Option<&'a str>,
+    pub log1: Option<&'a str>,
+    pub log2: Option<&'a str>,
+    pub save_hive: Option<&'a str>,
+}
+
+/// A command by its name.
+#[derive(Clone, Copy, Debug, PartialEq, Eq)]
+pub enum CommandName {
+    Run,
+    Show,
+    Make,
+    Safe,
+    Control,
+    Twin,
+    Export,
+    Import,
+    Key,
+    Replay,
+}
+
+/// A page of help: of all commands, of one, of `help`, of `version`, or of a topic.
+#[derive(Clone, Copy, Debug, PartialEq, Eq)]
+pub enum Page {
+    Overview,
+    Command(CommandName),
+    Help,
+    Version,
+    Exits,
+    Script,
+    Report,
+}
+
 /// A command with what it is asked for.
 #[derive(Clone, Copy, Debug, PartialEq, Eq)]
 pub enum Command<'a> {
@@ -98,4 +147,19 @@ pub enum Command<'a> {
     Twin(TwinWords<'a>),
     Export(ExportWords<'a>),
     Import(ImportWords<'a>),
+    Key(KeyWords<'a>),
+    Replay(ReplayWords<'a>),
+}
+
+/// What words are read as.
+#[derive(Clone, Copy, Debug, PartialEq, Eq)]
+pub enum Reading<'a> {
+    /// A page of help is asked for.
+    Help(Page),
+    /// The version is asked for.
+    Version,
+    /// A command is asked for, and whether each line of its report is to be a JSON object.
+    Command(Command<'a>, bool),
+    /// The words have no reading. There is no reason where there are no words, or the first one asks for help or the version.
+    Refused(Option<Reason<'a>>),
 }

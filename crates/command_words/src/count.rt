@@ -1,20 +1,20 @@
 //! Numbers among the words.
 
 ghost use Rattle.std.specs.Prelude.{◌≡◌, ◌≤◌};
-ghost use Rattle.command_words.specs.Words.{count_of, number_of};
+ghost use Rattle.command_words.specs.Table.{count_of, depth_of, number_of, set_number_of};
 
 use nt_bytes::{are_digits, value_of};
 
-/// The number from 1 to the greatest that at most so many decimal digits write.
-fn number_in(text: &[u8], digits: usize, greatest: u32) -> Option<u32>
+/// The number from the least to the greatest that at most so many decimal digits write.
+fn number_in(text: &[u8], digits: usize, least: u32, greatest: u32) -> Option<u32>
     requires { digits ≤ 10 }
-    ensures { result ≡ number_of digits greatest text.now }
+    ensures { result ≡ number_of digits least greatest text.now }
 {
     if !are_digits(text) || digits < text.len() {
         return None;
     }
     let value = value_of(text);
-    if value < 1 || u64::from(greatest) < value {
+    if value < u64::from(least) || u64::from(greatest) < value {
         return None;
     }
     Some(value as u32)
@@ -24,12 +24,19 @@ fn number_in(text: &[u8], digits: usize, greatest: u32) -> Option<u32>
 pub fn count_in(text: &[u8]) -> Option<u32>
     ensures { result ≡ count_of text.now }
 {
-    number_in(text, 5, 10000)
+    number_in(text, 5, 1, 10000)
 }
 
 /// The number of a set, from 1 to 999, that one to three decimal digits write.
 pub fn set_number_in(text: &[u8]) -> Option<u32>
-    ensures { result ≡ number_of 3 999 text.now }
+    ensures { result ≡ set_number_of text.now }
 {
-    number_in(text, 3, 999)
+    number_in(text, 3, 1, 999)
+}
+
+/// The number of levels, from 0 to 999, that one to three decimal digits write.
+pub fn depth_in(text: &[u8]) -> Option<u32>
+    ensures { result ≡ depth_of text.now }
+{
+    number_in(text, 3, 0, 999)
 }

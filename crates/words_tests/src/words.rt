@@ -1,17 +1,29 @@
 //! Each rule on words, with what is read.
 
 use command_words::{
-    AskedScheme, Command, ControlWords, ExportWords, ImportWords, MakeWords, RunWords, SafeWords,
-    ShowWords, TwinWords, WordsStop, read_words, texts,
+    AskedScheme, Command, CommandName, ControlWords, ExportWords, ImportWords, KeyWords, MakeWords,
+    Page, Reading, Reason, RunWords, SafeWords, ShowWords, TwinWords, read_words, texts,
 };
 use std::alloc::Global;
 use std::process::Abort;
 use std::test::Fail;
 
-/// Words, and what they ask for.
-type Case = (&'static [&'static str], Result<Command<'static>, WordsStop>);
+/// Words, and what they are read as.
+type Case = (&'static [&'static str], Reading<'static>);
 
-const USAGE: Result<Command<'static>, WordsStop> = Err(WordsStop::Usage);
+/// Words without a reading, for this reason.
+macro_rules! no {
+    ($reason:expr) => {
+        Reading::Refused(Some($reason))
+    };
+}
+
+/// Words that ask for a command, without JSON.
+macro_rules! asks {
+    ($command:expr) => {
+        Reading::Command($command, false)
+    };
+}
 
 /// `run` on two files alone.
 const PLAIN: RunWords<'static> = RunWords {
@@ -29,7 +41,7 @@ const EACH: RunWords<'static> = RunWords {
     log: Some("l"),
     script: "s",
     boot_ini: Some("-b"),
-    system: "scsi(0)",
+    system: "scsi(0)disk(1)rdisk(0)partition(2)\\WINNT",
     save_hive: Some("sh"),
     save_log: Some("sl"),
 };
@@ -53,9 +65,12 @@ fn check(rt: &impl Abort, alloc: Global, cases: &[Case]) {
 static RUN: [Case; 6] = [
     (
         &["run", "--hive", "h", "--script", "s"],
-        Ok(Command::Run(PLAIN)),
+        asks!(Command::Run(PLAIN)),
     ),
-    (&["run", "--script=s", "--hive=h"], Ok(Command::Run(PLAIN))),
+    (
+        &["run", "--script=s", "--hive=h"],
+        asks!(Command::Run(PLAIN)),
+    ),
     (
         &[
             "run",
@@ -63,7 +78,7 @@ static RUN: [Case; 6] = [
             "sl",
             "--save-hive=sh",
             "--system",
-            "scsi(0)",
+            "scsi(0)disk(1)rdisk(0)partition(2)\\WINNT",
             "--boot-ini=-b",
             "--script",
             "s",
@@ -72,11 +87,11 @@ static RUN: [Case; 6] = [
             "--hive",
             "h=1",
         ],
-        Ok(Command::Run(EACH)),
+        asks!(Command::Run(EACH)),
     ),
-    (&["run", "--hive", "h"], USAGE),
-    (&["run", "--script", "s"], USAGE),
-    (&["run"], USAGE),
+    (&["run", "--hive", "h"], no!(Reason::Missing("--script"))),
+    (&["run", "--script", "s"], no!(Reason::Missing("--hive"))),
+    (&["run"], no!(Reason::Missing("--hive"))),
 ];
 
 #[test]
@@ -85,13 +100,16 @@ fn run_takes_two_files_and_five_more_options(rt: HostRuntime) {
 }
 
 static SHOW: [Case; 4] = [
-    (&["show", "--hive", "h"], Ok(Command::Show(SHOWN))),
+    (&["show", "--hive", "h"], asks!(Command::Show(SHOWN))),
     (
         &["show", "--log=--log", "--hive", "h"],
-        Ok(Command::Show(SHOWN_WITH_LOG)),
+        asks!(Command::Show(SHOWN_WITH_LOG)),
     ),
-    (&["show", "--log", "l"], USAGE),
-    (&["show", "--hive", "h", "--script", "s"], USAGE),
+    (&["show", "--log", "l"], no!(Reason::Missing("--hive"))),
+    (
+        &["show", "--hive", "h", "--script", "s"],
+        no!(Reason::UnknownOption("--script")),
+    ),
 ];
 
 #[test]
@@ -102,41 +120,41 @@ fn show_takes_a_hive_and_a_log(rt: HostRuntime) {
 static MAKE: [Case; 13] = [
     (
         &["make", "1"],
-        Ok(Command::Make(MakeWords {
+        asks!(Command::Make(MakeWords {
             count: 1,
             save_hive: None,
         })),
     ),
     (
         &["make", "00040"],
-        Ok(Command::Make(MakeWords {
+        asks!(Command::Make(MakeWords {
             count: 40,
             save_hive: None,
         })),
     ),
     (
         &["make", "10000", "--save-hive", "h"],
-        Ok(Command::Make(MakeWords {
+        asks!(Command::Make(MakeWords {
             count: 10000,
             save_hive: Some("h"),
         })),
     ),
     (
         &["make", "--save-hive=h", "9"],
-        Ok(Command::Make(MakeWords {
+        asks!(Command::Make(MakeWords {
             count: 9,
             save_hive: Some("h"),
         })),
     ),
-    (&["make"], USAGE),
-    (&["make", "--save-hive", "h"], USAGE),
-    (&["make", "0"], USAGE),
-    (&["make", "10001"], USAGE),
-    (&["make", "000001"], USAGE),
-    (&["make", "+4"], USAGE),
-    (&["make", "-"], USAGE),
-    (&["make", "4", "4"], USAGE),
-    (&["make", "--N=4"], USAGE),
+    (&["make"], no!(Reason::Missing("N"))),
+    (&["make", "--save-hive", "h"], no!(Reason::Missing("N"))),
+    (&["make", "0"], no!(Reason::BadValue("N", "0"))),
+    (&["make", "10001"], no!(Reason::BadValue("N", "10001"))),
+    (&["make", "000001"], no!(Reason::BadValue("N", "000001"))),
+    (&["make", "+4"], no!(Reason::BadValue("N", "+4"))),
+    (&["make", "-"], no!(Reason::UnknownOption("-"))),
+    (&["make", "4", "4"], no!(Reason::LeftOver("4"))),
+    (&["make", "--N=4"], no!(Reason::UnknownOption("--N=4"))),
 ];
 
 #[test]
@@ -156,25 +174,28 @@ const SAFE_WITH_EACH: SafeWords<'static> = SafeWords {
     hive: "h",
     log: Some("l"),
     boot_ini: Some("b"),
-    system: "scsi(0)",
+    system: "scsi(0)disk(1)rdisk(0)partition(2)\\WINNT",
 };
 
 static SAFE: [Case; 4] = [
-    (&["safe", "--hive", "h"], Ok(Command::Safe(PLAINLY_SAFE))),
+    (&["safe", "--hive", "h"], asks!(Command::Safe(PLAINLY_SAFE))),
     (
         &[
             "safe",
-            "--system=scsi(0)",
+            "--system=scsi(0)disk(1)rdisk(0)partition(2)\\WINNT",
             "--boot-ini",
             "b",
             "--log=l",
             "--hive",
             "h",
         ],
-        Ok(Command::Safe(SAFE_WITH_EACH)),
+        asks!(Command::Safe(SAFE_WITH_EACH)),
     ),
-    (&["safe", "--boot-ini", "b"], USAGE),
-    (&["safe", "--hive", "h", "--script", "s"], USAGE),
+    (&["safe", "--boot-ini", "b"], no!(Reason::Missing("--hive"))),
+    (
+        &["safe", "--hive", "h", "--script", "s"],
+        no!(Reason::UnknownOption("--script")),
+    ),
 ];
 
 #[test]
@@ -197,14 +218,20 @@ const CONTROLLED_WITH_LOG: ControlWords<'static> = ControlWords {
 static CONTROL: [Case; 4] = [
     (
         &["control", "--commands", "c", "--hive", "h"],
-        Ok(Command::Control(CONTROLLED)),
+        asks!(Command::Control(CONTROLLED)),
     ),
     (
         &["control", "--hive=h", "--log=l", "--commands=-c"],
-        Ok(Command::Control(CONTROLLED_WITH_LOG)),
+        asks!(Command::Control(CONTROLLED_WITH_LOG)),
     ),
-    (&["control", "--hive", "h"], USAGE),
-    (&["control", "--commands", "c"], USAGE),
+    (
+        &["control", "--hive", "h"],
+        no!(Reason::Missing("--commands")),
+    ),
+    (
+        &["control", "--commands", "c"],
+        no!(Reason::Missing("--hive")),
+    ),
 ];
 
 #[test]
@@ -242,10 +269,10 @@ const TWIN_WITH_EACH: TwinWords<'static> = TwinWords {
 };
 
 static TWIN: [Case; 12] = [
-    (&["twin", "--hive", "h"], Ok(Command::Twin(PLAIN_TWIN))),
+    (&["twin", "--hive", "h"], asks!(Command::Twin(PLAIN_TWIN))),
     (
         &["twin", "--hive", "h", "--scheme", "log", "--default", "007"],
-        Ok(Command::Twin(LOGGED_TWIN)),
+        asks!(Command::Twin(LOGGED_TWIN)),
     ),
     (
         &[
@@ -260,17 +287,38 @@ static TWIN: [Case; 12] = [
             "--hive",
             "h",
         ],
-        Ok(Command::Twin(TWIN_WITH_EACH)),
+        asks!(Command::Twin(TWIN_WITH_EACH)),
     ),
-    (&["twin", "--alt", "a"], USAGE),
-    (&["twin", "--hive", "h", "--scheme", "both"], USAGE),
-    (&["twin", "--hive", "h", "--scheme", "Alt"], USAGE),
-    (&["twin", "--hive", "h", "--default", "0"], USAGE),
-    (&["twin", "--hive", "h", "--default", "1000"], USAGE),
-    (&["twin", "--hive", "h", "--default", "0001"], USAGE),
-    (&["twin", "--hive", "h", "--default", "1a"], USAGE),
-    (&["twin", "--hive", "h", "--log", "l"], USAGE),
-    (&["twin", "--hive", "h", "2"], USAGE),
+    (&["twin", "--alt", "a"], no!(Reason::Missing("--hive"))),
+    (
+        &["twin", "--hive", "h", "--scheme", "both"],
+        no!(Reason::BadValue("--scheme", "both")),
+    ),
+    (
+        &["twin", "--hive", "h", "--scheme", "Alt"],
+        no!(Reason::BadValue("--scheme", "Alt")),
+    ),
+    (
+        &["twin", "--hive", "h", "--default", "0"],
+        no!(Reason::BadValue("--default", "0")),
+    ),
+    (
+        &["twin", "--hive", "h", "--default", "1000"],
+        no!(Reason::BadValue("--default", "1000")),
+    ),
+    (
+        &["twin", "--hive", "h", "--default", "0001"],
+        no!(Reason::BadValue("--default", "0001")),
+    ),
+    (
+        &["twin", "--hive", "h", "--default", "1a"],
+        no!(Reason::BadValue("--default", "1a")),
+    ),
+    (
+        &["twin", "--hive", "h", "--log", "l"],
+        no!(Reason::UnknownOption("--log")),
+    ),
+    (&["twin", "--hive", "h", "2"], no!(Reason::LeftOver("2"))),
 ];
 
 #[test]
@@ -311,22 +359,25 @@ const IMPORTED_WITH_EACH: ImportWords<'static> = ImportWords {
 static REG: [Case; 8] = [
     (
         &["export", "--hive", "h", "--reg", "r"],
-        Ok(Command::Export(EXPORTED)),
+        asks!(Command::Export(EXPORTED)),
     ),
     (
         &[
             "export", "--key", "A\\B C", "--reg=r", "--hive=h", "--log=l",
         ],
-        Ok(Command::Export(EXPORTED_BY_PATH)),
+        asks!(Command::Export(EXPORTED_BY_PATH)),
     ),
-    (&["export", "--hive", "h", "--key", "A"], USAGE),
+    (
+        &["export", "--hive", "h", "--key", "A"],
+        no!(Reason::Missing("--reg")),
+    ),
     (
         &["export", "--hive", "h", "--reg", "r", "--key", "-A"],
-        USAGE,
+        no!(Reason::NoValue("--key")),
     ),
     (
         &["import", "--reg", "r", "--hive", "h"],
-        Ok(Command::Import(IMPORTED)),
+        asks!(Command::Import(IMPORTED)),
     ),
     (
         &[
@@ -337,12 +388,12 @@ static REG: [Case; 8] = [
             "--save-hive=sh",
             "--log=l",
         ],
-        Ok(Command::Import(IMPORTED_WITH_EACH)),
+        asks!(Command::Import(IMPORTED_WITH_EACH)),
     ),
-    (&["import", "--hive", "h"], USAGE),
+    (&["import", "--hive", "h"], no!(Reason::Missing("--reg"))),
     (
         &["import", "--hive", "h", "--reg", "r", "--key", "A"],
-        USAGE,
+        no!(Reason::UnknownOption("--key")),
     ),
 ];
 
@@ -352,28 +403,155 @@ fn export_and_import_take_a_hive_and_a_text(rt: HostRuntime) {
 }
 
 static NONE: [Case; 17] = [
-    (&[], USAGE),
-    (&["boot"], USAGE),
-    (&["help"], USAGE),
-    (&["Show", "--hive", "h"], USAGE),
-    (&["--hive", "h", "show"], USAGE),
-    (&["show", "--hive", "h", "--hive", "h"], USAGE),
-    (&["show", "--hive=h", "--hive=h"], USAGE),
-    (&["show", "--hive"], USAGE),
-    (&["show", "--hive", "h", "--log"], USAGE),
-    (&["show", "--hive", "h", "l"], USAGE),
-    (&["show", "--hive", ""], USAGE),
-    (&["show", "--hive="], USAGE),
-    (&["show", "--hive", "-"], USAGE),
-    (&["show", "--hive", "--log", "l"], USAGE),
-    (&["show", "--hive", "h", "--"], USAGE),
-    (&["show", "--hive", "h", "-l"], USAGE),
-    (&["show", "--hive", "h", "--help"], USAGE),
+    (&[], Reading::Refused(None)),
+    (&["boot"], no!(Reason::UnknownCommand("boot"))),
+    (&["help"], Reading::Help(Page::Overview)),
+    (
+        &["Show", "--hive", "h"],
+        no!(Reason::UnknownCommand("Show")),
+    ),
+    (
+        &["--hive", "h", "show"],
+        no!(Reason::UnknownCommand("--hive")),
+    ),
+    (
+        &["show", "--hive", "h", "--hive", "h"],
+        no!(Reason::Twice("--hive")),
+    ),
+    (
+        &["show", "--hive=h", "--hive=h"],
+        no!(Reason::Twice("--hive")),
+    ),
+    (&["show", "--hive"], no!(Reason::NoValue("--hive"))),
+    (
+        &["show", "--hive", "h", "--log"],
+        no!(Reason::NoValue("--log")),
+    ),
+    (&["show", "--hive", "h", "l"], no!(Reason::LeftOver("l"))),
+    (&["show", "--hive", ""], no!(Reason::NoValue("--hive"))),
+    (&["show", "--hive="], no!(Reason::NoValue("--hive"))),
+    (&["show", "--hive", "-"], no!(Reason::NoValue("--hive"))),
+    (
+        &["show", "--hive", "--log", "l"],
+        no!(Reason::NoValue("--hive")),
+    ),
+    (
+        &["show", "--hive", "h", "--"],
+        no!(Reason::UnknownOption("--")),
+    ),
+    (
+        &["show", "--hive", "h", "-l"],
+        no!(Reason::UnknownOption("-l")),
+    ),
+    (
+        &["show", "--hive", "h", "--help"],
+        Reading::Help(Page::Command(CommandName::Show)),
+    ),
 ];
 
 #[test]
 fn words_without_a_reading(rt: HostRuntime) {
     check(&rt, rt.alloc(), NONE.as_slice());
+}
+
+/// Each sort of reason; some of several faults.
+static REASONS: [Case; 12] = [
+    (
+        &["run", "--hive", "hive", "--scrpt=script"],
+        no!(Reason::UnknownOption("--scrpt=script")),
+    ),
+    (
+        &["run", "--hive", "--script", "s"],
+        no!(Reason::NoValue("--hive")),
+    ),
+    (
+        &["show", "x", "--hive", "--log", "a", "--log", "b"],
+        no!(Reason::LeftOver("x")),
+    ),
+    (
+        &["show", "--hive", "a", "--hive=b"],
+        no!(Reason::Twice("--hive")),
+    ),
+    (&["run", "--hive", "hive"], no!(Reason::Missing("--script"))),
+    (&["make", "10001"], no!(Reason::BadValue("N", "10001"))),
+    (
+        &["run", "--system", "C:\\WINDOWS"],
+        no!(Reason::BadValue("--system", "C:\\WINDOWS")),
+    ),
+    (&["show", ""], no!(Reason::LeftOver(""))),
+    (
+        &["show", "--hive", "h", "--json"],
+        no!(Reason::UnknownOption("--json")),
+    ),
+    (&["key", "--json=1"], no!(Reason::UnknownOption("--json=1"))),
+    (
+        &["key", "--hive", "h", "--json", "--json"],
+        no!(Reason::Twice("--json")),
+    ),
+    (
+        &["key", "--hive", "h", "--depth", "1000"],
+        no!(Reason::BadValue("--depth", "1000")),
+    ),
+];
+
+#[test]
+fn the_first_reason_from_the_left_is_named(rt: HostRuntime) {
+    check(&rt, rt.alloc(), REASONS.as_slice());
+}
+
+const KEY: KeyWords<'static> = KeyWords {
+    hive: "h",
+    log: Some("l"),
+    key: Some("A\\B"),
+    depth: 12,
+    security: true,
+};
+
+static KEYS: [Case; 1] = [(
+    &[
+        "key",
+        "--security",
+        "--depth=012",
+        "--key",
+        "A\\B",
+        "--json",
+        "--log=l",
+        "--hive",
+        "h",
+    ],
+    Reading::Command(Command::Key(KEY), true),
+)];
+
+#[test]
+fn key_takes_a_hive_a_path_a_depth_and_two_flags(rt: HostRuntime) {
+    check(&rt, rt.alloc(), KEYS.as_slice());
+}
+
+static ABOUT: [Case; 13] = [
+    (&["help"], Reading::Help(Page::Overview)),
+    (&["--help"], Reading::Help(Page::Overview)),
+    (&["-h"], Reading::Help(Page::Overview)),
+    (
+        &["help", "key"],
+        Reading::Help(Page::Command(CommandName::Key)),
+    ),
+    (&["help", "exits"], Reading::Help(Page::Exits)),
+    (&["help", "run", "-h"], Reading::Help(Page::Help)),
+    (
+        &["run", "x", "--nope", "--help"],
+        Reading::Help(Page::Command(CommandName::Run)),
+    ),
+    (&["help", "run", "show"], Reading::Refused(None)),
+    (&["help", "boot"], Reading::Refused(None)),
+    (&["--help", "run"], Reading::Refused(None)),
+    (&["version"], Reading::Version),
+    (&["version", "--help"], Reading::Help(Page::Version)),
+    (&["--version", "run"], Reading::Refused(None)),
+];
+
+#[test]
+fn help_and_version_are_read(rt: HostRuntime) {
+    check(&rt, rt.alloc(), ABOUT.as_slice());
 }
 
 #[test]
@@ -386,7 +564,7 @@ fn words_are_texts(rt: HostRuntime) -> Result<(), Fail> {
     let texts = texts(alloc, words.as_slice())?;
     assert_eq!(rt;
         read_words(alloc, texts.as_slice()),
-        Ok(Command::Make(MakeWords {
+        asks!(Command::Make(MakeWords {
             count: 7,
             save_hive: None
         }))

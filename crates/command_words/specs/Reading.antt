@@ -1,0 +1,90 @@
+-- What do the words of the command line ask for, or why have they no reading? (this project's own)
+--
+-- The first word is the command. `help`, `--help` and `-h` ask for help, `version` and `--version` for the version. After a command
+-- `--help` or `-h` asks for the command's page, whatever the other words are.
+use Rattle.std.specs.Prelude.{Bool, ◌||◌, false, List, [], ◌∷◌, Option, Some, None, is_some, codes, Result, Ok, Err, bytes_eq, if◌then◌else◌}
+use Rattle.std.specs.Prelude.{option_map}
+use Rattle.std.specs.List.{list_any}
+use Rattle.command_words.specs.declared.asked.Page.{Page}
+use Rattle.command_words.specs.declared.asked.Page.TheVariants as pages
+use Rattle.command_words.specs.Words.{Text, Asked, Reason, Reading, unknown_command, help, version, asks, refused}
+use Rattle.command_words.specs.Walk.{Values, and_then, no_values, walked, value_named}
+use Rattle.command_words.specs.Commands.{CommandRow, asks_of, flag_in, row_named}
+
+-- the word asks for help
+abbrev pub is_help : Text → Bool
+is_help word = bytes_eq word (codes "--help") || bytes_eq word (codes "-h")
+
+-- one of the words asks for help
+abbrev pub asks_help : List Text → Bool
+asks_help words = list_any is_help words
+
+-- the page of a command
+abbrev pub page_of_row : CommandRow → Page
+page_of_row row = pages.Command row.command
+
+-- the page of this name: of `help`, `version`, a topic or a command
+abbrev pub page_named : Text → Option Page
+page_named name =
+    if bytes_eq name (codes "help") then Some pages.Help
+    else if bytes_eq name (codes "version") then Some pages.Version
+    else if bytes_eq name (codes "exits") then Some pages.Exits
+    else if bytes_eq name (codes "script") then Some pages.Script
+    else if bytes_eq name (codes "report") then Some pages.Report
+    else option_map page_of_row (row_named name)
+
+-- a page, where there is one
+abbrev pub page_read : Option Page → Reading
+page_read None = refused None
+page_read (Some page) = help page
+
+-- what a word asks for that stands alone
+abbrev pub alone : Reading → List Text → Reading
+alone reading [] = reading
+alone reading (word ∷ words) = refused None
+
+-- what the words after `help` ask for
+abbrev pub help_topic : List Text → Reading
+help_topic [] = help pages.Overview
+help_topic (name ∷ words) = alone (page_read (page_named name)) words
+
+abbrev pub help_read : List Text → Reading
+help_read words = if asks_help words then help pages.Help else help_topic words
+
+-- what the words after `version` ask for
+abbrev pub version_read : List Text → Reading
+version_read words = if asks_help words then help pages.Version else alone version words
+
+-- what the values ask of the command, and whether for JSON
+abbrev pub asked_by : CommandRow → Values → Result (Asked × Bool) Reason
+asked_by row values =
+    and_then (asks_of row.command (value_named row.options values))
+    (λ asked. Ok (asked, flag_in (value_named row.options values) (codes "--json")))
+
+-- what the words after the command ask of it, or the first reason from the left why they have no reading
+abbrev pub asked_of : CommandRow → List Text → Result (Asked × Bool) Reason
+asked_of row words = and_then (walked row.options (record { values = no_values; waiting = None }) words) (asked_by row)
+
+-- the same as a reading
+abbrev pub asked_read : Result (Asked × Bool) Reason → Reading
+asked_read (Ok asked) = asks asked.0 asked.1
+asked_read (Err reason) = refused (Some reason)
+
+-- what the words after the first ask of the command that it names
+abbrev pub command_read : Text → List Text → Option CommandRow → Reading
+command_read first words None = refused (Some (unknown_command first))
+command_read first words (Some row) = if asks_help words then help (page_of_row row) else asked_read (asked_of row words)
+
+-- what the first word and those after it ask for
+abbrev pub first_read : Text → List Text → Reading
+first_read first words =
+    if bytes_eq first (codes "help") then help_read words
+    else if bytes_eq first (codes "version") then version_read words
+    else if is_help first then alone (help pages.Overview) words
+    else if bytes_eq first (codes "--version") then alone version words
+    else command_read first words (row_named first)
+
+-- what the words ask for
+unfoldable pub reading_of : List Text → Reading
+reading_of [] = refused None
+reading_of (first ∷ words) = first_read first words

@@ -1,0 +1,266 @@
+//! What the values of a command's options ask for.
+
+ghost use Rattle.std.specs.Prelude.{◌≡◌, codes, option_and_then, option_map, Some};
+ghost use Rattle.command_words.specs.Table.{count_of, depth_of};
+ghost use Rattle.command_words.specs.Commands.{needed_in, system_in, set_in, scheme_of, counted, asks_of};
+ghost use Rattle.command_words.specs.Commands.{run_by, show_by, make_by, safe_by, control_by, twin_by, export_by, import_by};
+ghost use Rattle.command_words.specs.Commands.{flag_in, levels_in};
+ghost use Rattle.command_words.specs.Commands.{key_by, replay_by};
+ghost use Rattle.command_words.specs.Views.{Sees, command_seen, look_of};
+
+use crate::asked::{
+    AskedScheme, Command, CommandName, ControlWords, ExportWords, ImportWords, KeyWords, MakeWords,
+    ReplayWords, RunWords, SafeWords, ShowWords, TwinWords, USUAL_SYSTEM,
+};
+use crate::count::{count_in, depth_in, set_number_in};
+use crate::reason::Reason;
+use crate::table::{CommandOption, option_named};
+use crate::walk::{Values, value_at};
+
+/// The options of a command, with the values that were given.
+#[derive(Clone, Copy)]
+pub struct Given<'a> {
+    pub options: &'static [CommandOption],
+    pub values: Values<'a>,
+}
+
+/// The value of the option, where one was given.
+pub fn value<'a>(given: &Given<'a>, name: &str) -> Option<&'a str>
+    ensures { option_map (λ t. t.now) result ≡ look_of given.now name.now }
+{
+    match option_named(name, given.options) {
+        Some(found) => value_at(&given.values, found.place),
+        None => None,
+    }
+}
+
+fn needed<'a>(given: &Given<'a>, name: &'static str) -> Result<&'a str, Reason<'a>>
+    ensures { Sees (λ t. t.now) result (needed_in (look_of given.now) name.now) }
+{
+    match value(given, name) {
+        Some(value) => Ok(value),
+        None => Err(Reason::Missing(name)),
+    }
+}
+
+/// The system that is named, or the usual one.
+fn system<'a>(given: &Given<'a>) -> &'a str
+    ensures { result.now ≡ system_in (look_of given.now) }
+{
+    match value(given, "--system") {
+        Some(system) => system,
+        None => USUAL_SYSTEM,
+    }
+}
+
+/// The number of a set, where one is given.
+fn set_number<'a>(given: &Given<'a>, name: &str) -> Option<u32>
+    ensures { result ≡ set_in (look_of given.now) name.now }
+{
+    match value(given, name) {
+        Some(text) => set_number_in(text.as_bytes()),
+        None => None,
+    }
+}
+
+fn run_words<'a>(given: &Given<'a>) -> Result<Command<'a>, Reason<'a>>
+    ensures { Sees command_seen result (run_by (look_of given.now)) }
+{
+    let hive = needed(given, "--hive")?;
+    let script = needed(given, "--script")?;
+    Ok(Command::Run(RunWords {
+        hive,
+        log: value(given, "--log"),
+        script,
+        boot_ini: value(given, "--boot-ini"),
+        system: system(given),
+        save_hive: value(given, "--save-hive"),
+        save_log: value(given, "--save-log"),
+    }))
+}
+
+fn show_words<'a>(given: &Given<'a>) -> Result<Command<'a>, Reason<'a>>
+    ensures { Sees command_seen result (show_by (look_of given.now)) }
+{
+    let hive = needed(given, "--hive")?;
+    Ok(Command::Show(ShowWords {
+        hive,
+        log: value(given, "--log"),
+    }))
+}
+
+fn counted<'a>(text: &'a str) -> Result<u32, Reason<'a>>
+    ensures { Sees (λ n. n) result (counted text.now (count_of text.now)) }
+{
+    match count_in(text.as_bytes()) {
+        Some(count) => Ok(count),
+        None => Err(Reason::BadValue("N", text)),
+    }
+}
+
+fn make_words<'a>(given: &Given<'a>) -> Result<Command<'a>, Reason<'a>>
+    ensures { Sees command_seen result (make_by (look_of given.now)) }
+{
+    let number = needed(given, "N")?;
+    let count = counted(number)?;
+    Ok(Command::Make(MakeWords {
+        count,
+        save_hive: value(given, "--save-hive"),
+    }))
+}
+
+fn safe_words<'a>(given: &Given<'a>) -> Result<Command<'a>, Reason<'a>>
+    ensures { Sees command_seen result (safe_by (look_of given.now)) }
+{
+    let hive = needed(given, "--hive")?;
+    Ok(Command::Safe(SafeWords {
+        hive,
+        log: value(given, "--log"),
+        boot_ini: value(given, "--boot-ini"),
+        system: system(given),
+    }))
+}
+
+fn control_words<'a>(given: &Given<'a>) -> Result<Command<'a>, Reason<'a>>
+    ensures { Sees command_seen result (control_by (look_of given.now)) }
+{
+    let hive = needed(given, "--hive")?;
+    let commands = needed(given, "--commands")?;
+    Ok(Command::Control(ControlWords {
+        hive,
+        log: value(given, "--log"),
+        commands,
+    }))
+}
+
+fn scheme_named(text: &str) -> AskedScheme
+    ensures { result ≡ scheme_of (Some text.now) }
+{
+    if text == "log" {
+        AskedScheme::Log
+    } else {
+        AskedScheme::Alt
+    }
+}
+
+/// What keeps the hive: a second copy, where it is not said.
+fn scheme(text: Option<&str>) -> AskedScheme
+    ensures { result ≡ scheme_of (option_map (λ t. t.now) text.entry) }
+{
+    match text {
+        Some(text) => scheme_named(text),
+        None => AskedScheme::Alt,
+    }
+}
+
+fn twin_words<'a>(given: &Given<'a>) -> Result<Command<'a>, Reason<'a>>
+    ensures { Sees command_seen result (twin_by (look_of given.now)) }
+{
+    let hive = needed(given, "--hive")?;
+    Ok(Command::Twin(TwinWords {
+        hive,
+        alt: value(given, "--alt"),
+        scheme: scheme(value(given, "--scheme")),
+        default: set_number(given, "--default"),
+        save_hive: value(given, "--save-hive"),
+        save_alt: value(given, "--save-alt"),
+    }))
+}
+
+fn export_words<'a>(given: &Given<'a>) -> Result<Command<'a>, Reason<'a>>
+    ensures { Sees command_seen result (export_by (look_of given.now)) }
+{
+    let hive = needed(given, "--hive")?;
+    let reg = needed(given, "--reg")?;
+    Ok(Command::Export(ExportWords {
+        hive,
+        log: value(given, "--log"),
+        reg,
+        key: value(given, "--key"),
+    }))
+}
+
+fn import_words<'a>(given: &Given<'a>) -> Result<Command<'a>, Reason<'a>>
+    ensures { Sees command_seen result (import_by (look_of given.now)) }
+{
+    let hive = needed(given, "--hive")?;
+    let reg = needed(given, "--reg")?;
+    Ok(Command::Import(ImportWords {
+        hive,
+        log: value(given, "--log"),
+        reg,
+        save_hive: value(given, "--save-hive"),
+        save_log: value(given, "--save-log"),
+    }))
+}
+
+/// Whether the flag is given.
+pub fn flag<'a>(given: &Given<'a>, name: &str) -> bool
+    ensures { result ≡ flag_in (look_of given.now) name.now }
+{
+    value(given, name).is_some()
+}
+
+/// The number of levels that is said, where one is.
+fn levels_said<'a>(given: &Given<'a>) -> Option<u32>
+    ensures { result ≡ option_and_then depth_of (look_of given.now (codes "--depth")) }
+{
+    match value(given, "--depth") {
+        Some(text) => depth_in(text.as_bytes()),
+        None => None,
+    }
+}
+
+/// The number of levels, none where it isn't said.
+fn levels<'a>(given: &Given<'a>) -> u32
+    ensures { result ≡ levels_in (look_of given.now) }
+{
+    match levels_said(given) {
+        Some(levels) => levels,
+        None => 0,
+    }
+}
+
+fn key_words<'a>(given: &Given<'a>) -> Result<Command<'a>, Reason<'a>>
+    ensures { Sees command_seen result (key_by (look_of given.now)) }
+{
+    let hive = needed(given, "--hive")?;
+    Ok(Command::Key(KeyWords {
+        hive,
+        log: value(given, "--log"),
+        key: value(given, "--key"),
+        depth: levels(given),
+        security: flag(given, "--security"),
+    }))
+}
+
+fn replay_words<'a>(given: &Given<'a>) -> Result<Command<'a>, Reason<'a>>
+    ensures { Sees command_seen result (replay_by (look_of given.now)) }
+{
+    let hive = needed(given, "--hive")?;
+    Ok(Command::Replay(ReplayWords {
+        hive,
+        log: value(given, "--log"),
+        log1: value(given, "--log1"),
+        log2: value(given, "--log2"),
+        save_hive: value(given, "--save-hive"),
+    }))
+}
+
+/// What the values ask of the command, or the first that it needs and lacks.
+pub fn command_asked<'a>(name: CommandName, given: &Given<'a>) -> Result<Command<'a>, Reason<'a>>
+    ensures { Sees command_seen result (asks_of name (look_of given.now)) }
+{
+    match name {
+        CommandName::Run => run_words(given),
+        CommandName::Show => show_words(given),
+        CommandName::Make => make_words(given),
+        CommandName::Safe => safe_words(given),
+        CommandName::Control => control_words(given),
+        CommandName::Twin => twin_words(given),
+        CommandName::Export => export_words(given),
+        CommandName::Import => import_words(given),
+        CommandName::Key => key_words(given),
+        CommandName::Replay => replay_words(given),
+    }
+}

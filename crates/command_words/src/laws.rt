@@ -1,0 +1,28 @@
+//! What holds of the walk over the words, and of the table of commands.
+
+ghost use Rattle.std.specs.Prelude.{◌≡◌, ◌∷◌, ◌++◌, Err, false, List, Ok, true};
+ghost use Rattle.std.specs.List.{list_all, list_any};
+ghost use Rattle.command_words.specs.Words.{Reason, Text};
+ghost use Rattle.command_words.specs.Table.{OptionRow, is_free};
+ghost use Rattle.command_words.specs.Walk.{State, walked, with_step};
+ghost use Rattle.command_words.specs.Commands.{commands, has_places};
+ghost use Rattle.command_words.specs.Laws.{names_one, steps};
+
+/// The first fault from the left decides: where the words before a word have none and the word is wrong, what follows it
+/// doesn't matter.
+pub fn the_first_fault_decides()
+    ensures { (rows : List OptionRow) (state reached : State) (before after : List Text) (word : Text) (reason : Reason)
+        → steps rows state before ≡ Ok reached → with_step rows reached.values word reached.waiting ≡ Err reason
+        → walked rows state (before ++ word ∷ after) ≡ Err reason }
+{}
+
+/// More options change nothing for words that name none of them: a command reads those as it did without them.
+pub fn unnamed_options_change_nothing()
+    ensures { (rows extra : List OptionRow) (state : State) (words : List Text) → list_any (names_one extra) words ≡ false
+        → list_any (λ row. is_free row.takes) extra ≡ false → walked (rows ++ extra) state words ≡ walked rows state words }
+{}
+
+/// The value of each option of each command has a place of its own.
+pub fn each_option_has_a_place()
+    ensures { list_all has_places commands ≡ true }
+{}

@@ -1,0 +1,189 @@
+//! What the words of the command line ask for.
+
+ghost use Rattle.std.specs.Prelude.{◌≡◌, ◌∷◌, [], false, Some, map, None, option_map};
+ghost use Rattle.std.specs.List.{list_any};
+ghost use Rattle.command_words.specs.Commands.{row_named};
+ghost use Rattle.command_words.specs.Reading.{page_of_row};
+ghost use Rattle.command_words.specs.Reading.{is_help, asks_help, page_named, page_read, alone, help_topic, help_read, version_read};
+ghost use Rattle.command_words.specs.Reading.{asked_by, asked_of, asked_read, command_read, first_read, reading_of};
+ghost use Rattle.command_words.specs.Views.{Sees, asked_seen, entry_seen, reading_seen, values_seen};
+
+use crate::asked::{Command, Page, Reading};
+use crate::commands::{Given, command_asked, flag};
+use crate::reason::Reason;
+use crate::table::{CommandEntry, entry_named};
+use crate::walk::{Values, walked};
+use std::alloc::Global;
+
+fn is_help(word: &str) -> bool
+    ensures { result ≡ is_help word.now }
+{
+    word == "--help" || word == "-h"
+}
+
+fn asks_help(words: &[&str]) -> bool
+    ensures { result ≡ asks_help (map (λ w. w.now) words.now) }
+{
+    let mut rest = words;
+    'words: while let [word, more @ ..] = rest {
+        if is_help(word) {
+            return true;
+        }
+        rest = more;
+    }
+    false
+}
+
+fn command_page(name: &str) -> Option<Page>
+    ensures { result ≡ option_map page_of_row (row_named name.now) }
+{
+    match entry_named(name) {
+        Some(entry) => Some(Page::Command(entry.command)),
+        None => None,
+    }
+}
+
+/// The page of `help`, `version`, a topic or a command.
+fn page_named(name: &str) -> Option<Page>
+    ensures { result ≡ page_named name.now }
+{
+    if name == "help" {
+        return Some(Page::Help);
+    }
+    if name == "version" {
+        return Some(Page::Version);
+    }
+    if name == "exits" {
+        return Some(Page::Exits);
+    }
+    if name == "script" {
+        return Some(Page::Script);
+    }
+    if name == "report" {
+        return Some(Page::Report);
+    }
+    command_page(name)
+}
+
+fn page_read<'a>(page: Option<Page>) -> Reading<'a>
+    ensures { reading_seen result ≡ page_read page }
+{
+    match page {
+        Some(page) => Reading::Help(page),
+        None => Reading::Refused(None),
+    }
+}
+
+fn alone<'a>(reading: Reading<'a>, words: &[&str]) -> Reading<'a>
+    ensures { reading_seen result ≡ alone (reading_seen reading.entry) (map (λ w. w.now) words.now) }
+{
+    match words {
+        [] => reading,
+        [_, ..] => Reading::Refused(None),
+    }
+}
+
+fn help_topic<'a>(words: &[&str]) -> Reading<'a>
+    ensures { reading_seen result ≡ help_topic (map (λ w. w.now) words.now) }
+{
+    match words {
+        [] => Reading::Help(Page::Overview),
+        [name, more @ ..] => alone(page_read(page_named(name)), more),
+    }
+}
+
+fn help_read<'a>(words: &[&str]) -> Reading<'a>
+    ensures { reading_seen result ≡ help_read (map (λ w. w.now) words.now) }
+{
+    if asks_help(words) {
+        return Reading::Help(Page::Help);
+    }
+    help_topic(words)
+}
+
+fn version_read<'a>(words: &[&str]) -> Reading<'a>
+    ensures { reading_seen result ≡ version_read (map (λ w. w.now) words.now) }
+{
+    if asks_help(words) {
+        return Reading::Help(Page::Version);
+    }
+    alone(Reading::Version, words)
+}
+
+fn asked_by<'a>(entry: CommandEntry, values: Values<'a>) -> Result<(Command<'a>, bool), Reason<'a>>
+    ensures { Sees asked_seen result (asked_by (entry_seen entry) (values_seen values.entry)) }
+{
+    let given = Given {
+        options: entry.options,
+        values,
+    };
+    let command = command_asked(entry.command, &given)?;
+    Ok((command, flag(&given, "--json")))
+}
+
+fn asked_of<'a>(
+    alloc: Global,
+    entry: CommandEntry,
+    words: &'a [&'a str],
+) -> Result<(Command<'a>, bool), Reason<'a>>
+    ensures { Sees asked_seen result (asked_of (entry_seen entry) (map (λ w. w.now) words.now)) }
+{
+    let walk = walked(alloc, entry.options, words)?;
+    asked_by(entry, walk.values)
+}
+
+fn asked_read<'a>(alloc: Global, entry: CommandEntry, words: &'a [&'a str]) -> Reading<'a>
+    ensures { reading_seen result ≡ asked_read (asked_of (entry_seen entry) (map (λ w. w.now) words.now)) }
+{
+    match asked_of(alloc, entry, words) {
+        Ok((command, json)) => Reading::Command(command, json),
+        Err(reason) => Reading::Refused(Some(reason)),
+    }
+}
+
+fn entry_read<'a>(alloc: Global, entry: CommandEntry, words: &'a [&'a str]) -> Reading<'a>
+    ensures { reading_seen result ≡ command_read [] (map (λ w. w.now) words.now) (Some (entry_seen entry)) }
+{
+    if asks_help(words) {
+        return Reading::Help(Page::Command(entry.command));
+    }
+    asked_read(alloc, entry, words)
+}
+
+fn command_read<'a>(alloc: Global, first: &'a str, words: &'a [&'a str]) -> Reading<'a>
+    ensures { reading_seen result ≡ command_read first.now (map (λ w. w.now) words.now) (row_named first.now) }
+{
+    match entry_named(first) {
+        Some(entry) => entry_read(alloc, entry, words),
+        None => Reading::Refused(Some(Reason::UnknownCommand(first))),
+    }
+}
+
+fn first_read<'a>(alloc: Global, first: &'a str, words: &'a [&'a str]) -> Reading<'a>
+    ensures { reading_seen result ≡ first_read first.now (map (λ w. w.now) words.now) }
+{
+    if first == "help" {
+        return help_read(words);
+    }
+    if first == "version" {
+        return version_read(words);
+    }
+    if is_help(first) {
+        return alone(Reading::Help(Page::Overview), words);
+    }
+    if first == "--version" {
+        return alone(Reading::Version, words);
+    }
+    command_read(alloc, first, words)
+}
+
+/// What the words ask for, the program's name left out, or the first reason from the left why they have no reading.
+#[tactic(auto, unfolding(crate::specs::Reading::reading_of))]
+pub fn read_words<'a>(alloc: Global, words: &'a [&'a str]) -> Reading<'a>
+    ensures { reading_seen result ≡ reading_of (map (λ w. w.now) words.now) }
+{
+    match words {
+        [] => Reading::Refused(None),
+        [first, more @ ..] => first_read(alloc, first, more),
+    }
+}

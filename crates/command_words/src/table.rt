@@ -1,0 +1,204 @@
+//! The commands and their options.
+
+ghost use Rattle.std.specs.Prelude.{◌≡◌, map, option_map};
+ghost use Rattle.command_words.specs.Table.{known_from, option_known, free_known, is_flag, is_free};
+ghost use Rattle.command_words.specs.Commands.{commands, row_named};
+ghost use Rattle.command_words.specs.Views.{entry_seen, found_seen, option_seen};
+
+use crate::asked::CommandName;
+
+/// The values that an option takes.
+#[derive(Clone, Copy)]
+pub enum Takes {
+    /// None.
+    Flag,
+    /// Any text.
+    Any,
+    /// The number of services of `make`, in a word without an option.
+    Count,
+    /// An ARC path.
+    System,
+    /// `alt` or `log`.
+    Scheme,
+    /// The number of a set, from 1 to 999.
+    SetNumber,
+    /// A number of levels, from 0 to 999.
+    Depth,
+}
+
+/// An option by its name with the hyphens, or a word without an option by `N` or `NAME`.
+#[derive(Clone, Copy)]
+pub struct CommandOption {
+    pub name: &'static str,
+    pub takes: Takes,
+}
+
+/// A command with its options.
+#[derive(Clone, Copy)]
+pub struct CommandEntry {
+    pub name: &'static str,
+    pub command: CommandName,
+    pub options: &'static [CommandOption],
+}
+
+/// An option, with its place among those of its command.
+#[derive(Clone, Copy)]
+pub struct Found {
+    pub place: usize,
+    pub option: CommandOption,
+}
+
+/// An option that takes these values.
+macro_rules! option {
+    ($name:literal, $takes:ident) => {
+        CommandOption {
+            name: $name,
+            takes: Takes::$takes,
+        }
+    };
+}
+
+const HIVE: CommandOption = option!("--hive", Any);
+
+const SCRIPT: CommandOption = option!("--script", Any);
+
+const LOG: CommandOption = option!("--log", Any);
+
+const BOOT_INI: CommandOption = option!("--boot-ini", Any);
+
+const SYSTEM: CommandOption = option!("--system", System);
+
+const SAVE_HIVE: CommandOption = option!("--save-hive", Any);
+
+const SAVE_LOG: CommandOption = option!("--save-log", Any);
+
+const COUNT: CommandOption = option!("N", Count);
+
+const COMMANDS_FILE: CommandOption = option!("--commands", Any);
+
+const ALT: CommandOption = option!("--alt", Any);
+
+const SCHEME: CommandOption = option!("--scheme", Scheme);
+
+const DEFAULT: CommandOption = option!("--default", SetNumber);
+
+const SAVE_ALT: CommandOption = option!("--save-alt", Any);
+
+const REG: CommandOption = option!("--reg", Any);
+
+const KEY: CommandOption = option!("--key", Any);
+
+const DEPTH: CommandOption = option!("--depth", Depth);
+
+const SECURITY: CommandOption = option!("--security", Flag);
+
+const LOG1: CommandOption = option!("--log1", Any);
+
+const LOG2: CommandOption = option!("--log2", Any);
+
+const JSON: CommandOption = option!("--json", Flag);
+
+/// A command with these options.
+macro_rules! command {
+    ($name:literal, $command:ident, $options:expr) => {
+        CommandEntry {
+            name: $name,
+            command: CommandName::$command,
+            options: $options,
+        }
+    };
+}
+
+/// The commands. What is left out here is no command.
+static COMMANDS: &[CommandEntry] = &[
+    command!(
+        "run",
+        Run,
+        &[HIVE, SCRIPT, LOG, BOOT_INI, SYSTEM, SAVE_HIVE, SAVE_LOG]
+    ),
+    command!("show", Show, &[HIVE, LOG]),
+    command!("make", Make, &[COUNT, SAVE_HIVE]),
+    command!("safe", Safe, &[HIVE, LOG, BOOT_INI, SYSTEM]),
+    command!("control", Control, &[HIVE, LOG, COMMANDS_FILE]),
+    command!(
+        "twin",
+        Twin,
+        &[HIVE, ALT, SCHEME, DEFAULT, SAVE_HIVE, SAVE_ALT]
+    ),
+    command!("export", Export, &[HIVE, LOG, REG, KEY]),
+    command!("import", Import, &[HIVE, LOG, REG, SAVE_HIVE, SAVE_LOG]),
+    command!("key", Key, &[HIVE, LOG, KEY, DEPTH, SECURITY, JSON]),
+    command!("replay", Replay, &[HIVE, LOG, LOG1, LOG2, SAVE_HIVE, JSON]),
+];
+
+/// The table is the one of the definitions.
+fn table() -> &'static [CommandEntry]
+    ensures { map entry_seen result.now ≡ commands }
+{
+    COMMANDS
+}
+
+/// The command of this name.
+pub fn entry_named(name: &str) -> Option<CommandEntry>
+    ensures { option_map entry_seen result ≡ row_named name.now }
+{
+    let mut rest = table();
+    'rows: while let [entry, more @ ..] = rest {
+        if entry.name == name {
+            return Some(*entry);
+        }
+        rest = more;
+    }
+    None
+}
+
+/// Whether it takes no value.
+pub fn is_flag(takes: Takes) -> bool
+    ensures { result ≡ is_flag takes }
+{
+    matches!(takes, Takes::Flag)
+}
+
+fn is_free(takes: Takes) -> bool
+    ensures { result ≡ is_free takes }
+{
+    matches!(takes, Takes::Count)
+}
+
+/// The option of this name, with its place.
+pub fn option_named(name: &str, options: &[CommandOption]) -> Option<Found>
+    ensures { option_map found_seen result ≡ option_known name.now (map option_seen options.now) }
+{
+    let mut rest = options;
+    let mut place = 0;
+    'rows: while let [option, more @ ..] = rest {
+        if option.name == name {
+            return Some(Found {
+                place,
+                option: *option,
+            });
+        }
+        rest = more;
+        place += 1;
+    }
+    None
+}
+
+/// The word without an option, with its place, where the command takes one.
+pub fn free_word(options: &[CommandOption]) -> Option<Found>
+    ensures { option_map found_seen result ≡ free_known (map option_seen options.now) }
+{
+    let mut rest = options;
+    let mut place = 0;
+    'rows: while let [option, more @ ..] = rest {
+        if is_free(option.takes) {
+            return Some(Found {
+                place,
+                option: *option,
+            });
+        }
+        rest = more;
+        place += 1;
+    }
+    None
+}
