@@ -29,6 +29,7 @@ untouched_by statuses.ScriptFault disk is = is
 untouched_by statuses.BootIniFault disk is = is
 untouched_by statuses.HiveFault disk is = is
 untouched_by statuses.RegFault disk is = is
+untouched_by statuses.Found disk is = is
 untouched_by statuses.ReadFault disk is = is
 untouched_by statuses.WriteFault disk is = tt
 untouched_by statuses.Memory disk is = tt
@@ -49,13 +50,14 @@ unchanged saves statuses.ScriptFault held old new undone same = same
 unchanged saves statuses.BootIniFault held old new undone same = same
 unchanged saves statuses.HiveFault held old new undone same = same
 unchanged saves statuses.RegFault held old new undone same = same
+unchanged saves statuses.Found held old new undone same = same
 unchanged saves statuses.ReadFault held old new undone same = same
 unchanged saves statuses.WriteFault held old new undone same = λ q other. ap (λ (f : Files). f q) same
 unchanged saves statuses.Memory held old new undone same = λ q other. ap (λ (f : Files). f q) same
 
 -- ---- a status that was told
 
-refused_open : (r : Refusal) → refusal_status r ≡ statuses.Done → ⊥
+pub refused_open : (r : Refusal) → refusal_status r ≡ statuses.Done → ⊥
 refused_open refusals.Usage e = absurd cc
 refused_open (refusals.NoFile name) e = absurd cc
 refused_open (refusals.ScriptFault fault) e = absurd cc
@@ -101,11 +103,12 @@ not_read statuses.ScriptFault e = absurd cc
 not_read statuses.BootIniFault e = absurd cc
 not_read statuses.HiveFault e = absurd cc
 not_read statuses.RegFault e = absurd cc
+not_read statuses.Found e = absurd cc
 not_read statuses.ReadFault e = refl
 not_read statuses.WriteFault e = absurd cc
 not_read statuses.Memory e = absurd cc
 
-stopped_open : (stop : HostStop) → stopped_as stop ≡ statuses.Done → ⊥
+pub stopped_open : (stop : HostStop) → stopped_as stop ≡ statuses.Done → ⊥
 stopped_open Read e = absurd cc
 stopped_open Write e = absurd cc
 stopped_open Memory e = absurd cc
@@ -119,7 +122,7 @@ pub memory_decides : (ends : Status → List ℕ → List ℕ → Type 0) (saves
 memory_decides ends saves host disk off end = record {
   decides = record {
     leaves = record {
-      keeps = record { tells = refl; quiet = λ q. q };
+      keeps = record { tells = refl; quiet = λ q. q; errors = refl };
       counts = record { reads = refl; writes = refl };
       said = λ tells. end;
     };
@@ -151,7 +154,7 @@ refusal_decides ends saves why status old new disk fresh leaves files told lift 
 }
 
 -- nothing was to be saved
-nothing_saved : (status : Status) (held : Image) (old new : Files) → new ≡ old → FilesAs no_saves status held old new
+pub nothing_saved : (status : Status) (held : Image) (old new : Files) → new ≡ old → FilesAs no_saves status held old new
 nothing_saved statuses.Done held old new same =
     (record { hive = tt; log = tt }, λ q other. ap (λ (f : Files). f q) same)
 nothing_saved statuses.Usage held old new same = same
@@ -160,6 +163,7 @@ nothing_saved statuses.ScriptFault held old new same = same
 nothing_saved statuses.BootIniFault held old new same = same
 nothing_saved statuses.HiveFault held old new same = same
 nothing_saved statuses.RegFault held old new same = same
+nothing_saved statuses.Found held old new same = same
 nothing_saved statuses.ReadFault held old new same = same
 nothing_saved statuses.WriteFault held old new same = λ q other. ap (λ (f : Files). f q) same
 nothing_saved statuses.Memory held old new same = λ q other. ap (λ (f : Files). f q) same

@@ -74,7 +74,7 @@ held-stays n d e still s =
 
 no_write : (old : HostState) → WritesAlone (Ok tt) old old
 no_write old = record {
-  keeps = record { tells = refl; quiet = λ q. q };
+  keeps = record { tells = refl; quiet = λ q. q; errors = refl };
   unsaid = λ tells. refl;
   unasked = refl;
   counts = record { reads = refl; writes = refl };
@@ -89,6 +89,7 @@ saves-none file old d = record {
   still = tt;
   taken = 0;
   few = omega arith;
+  unput = λ tells none q. refl;
   all = refl;
   settles = settles-same d;
 }
@@ -100,7 +101,7 @@ saves-untaken file name old d e is =
     let P : DiskState → Type 0 = λ f. SavesFile file (Some name) (Err Memory) old old d f in
     subst P (sym is) (record {
       host = record {
-        keeps = record { tells = refl; quiet = λ q. q };
+        keeps = record { tells = refl; quiet = λ q. q; errors = refl };
         unsaid = λ tells. refl;
         unasked = refl;
         counts = record { reads = refl; writes = refl };
@@ -111,6 +112,7 @@ saves-untaken file name old d e is =
       still = tt;
       taken = 0;
       few = omega arith;
+      unput = λ tells none q. refl;
       all = tt;
       settles = settles-same d;
     })
@@ -149,6 +151,7 @@ saves-taken file name bytes (Ok u) old new d e image crash is of host puts kept 
       still = ap (λ (s : DiskState). s.flight) is;
       taken = 1;
       few = omega arith;
+      unput = λ tells none q. absurd cc;
       all = refl;
       settles = settles-taken image d e crash is;
     }
@@ -159,6 +162,7 @@ saves-taken file name bytes (Err stop) old new d e image crash is of host puts k
   still = tt;
   taken = 1;
   few = omega arith;
+  unput = λ tells none q. absurd cc;
   all = tt;
   settles = settles-taken image d e crash is;
 }
@@ -200,6 +204,7 @@ saves-stopped saves stop old new d e x = record {
   saved = λ tells. tt;
   taken = x.taken;
   few = omega (arith, x.few);
+  unput = x.unput;
   all = tt;
   settles = x.settles;
 }
@@ -231,6 +236,8 @@ saves-both saves r old mid new d e f x y = record {
   saved = saved-both saves r old mid new d e f x y;
   taken = y.taken + x.taken;
   few = omega (arith, x.few, y.few);
+  unput = λ tells none q. y.unput (x.host.keeps.tells ∙ tells) (omega (arith, none)) q
+      ∙ x.unput tells (omega (arith, none)) q;
   all = all-taken saves r x.taken y.taken x.all y.all;
   settles = settles-then x.taken y.taken d e f x.settles y.settles;
 }

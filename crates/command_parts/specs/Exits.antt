@@ -1,7 +1,7 @@
 -- The exit number of each status. This project's own.
 use Rattle.std.specs.Prelude.{ℕ}
 use Rattle.command_parts.specs.declared.status.Status.{Status}
-use Rattle.command_parts.specs.declared.status.Status.TheVariants.{Done, Usage, NoFile, ScriptFault, BootIniFault, HiveFault, ReadFault, WriteFault, Memory, RegFault}
+use Rattle.command_parts.specs.declared.status.Status.TheVariants.{Done, Usage, NoFile, ScriptFault, BootIniFault, HiveFault, ReadFault, WriteFault, Memory, RegFault, Found}
 
 abbrev pub exit_of : Status → ℕ
 exit_of Done = 0
@@ -12,5 +12,6 @@ exit_of BootIniFault = 4
 exit_of HiveFault = 5
 exit_of ReadFault = 6
 exit_of WriteFault = 7
+exit_of Found = 8
 exit_of Memory = 9
 exit_of RegFault = 10

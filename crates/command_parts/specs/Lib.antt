@@ -7,3 +7,4 @@ pub mod Refusals
 pub mod Placed
 pub mod Saves
 pub mod Decides
+pub mod OnHive

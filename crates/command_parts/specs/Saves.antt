@@ -1,5 +1,5 @@
 -- Which files are saved, and what is in them afterwards? (this project's own)
-use Rattle.std.specs.Prelude.{◌≡◌, ◌⊎◌, ◌≤◌, ◌+◌, ℕ, true, List, [], Option, Some, None, Result, Ok, Err, IfSome, OnOk, IsErrOf}
+use Rattle.std.specs.Prelude.{◌≡◌, ◌⊎◌, ◌≤◌, ◌+◌, ◌++◌, ℕ, true, List, [], Option, Some, None, Result, Ok, Err, IfSome, OnOk, IsErrOf}
 use Rattle.hive_model.specs.Image.{File, Primary, Log, Image, IsFileOf}
 use Rattle.nt_edge.specs.Disk.{DiskState}
 use Rattle.nt_edge.specs.Host.{Files, HostState, KeepsHost, IsUnsaid, AsksNone, CountsFault}
@@ -88,6 +88,7 @@ pub record SavesFile (file : File) (name : Option (List ℕ)) (result : Result (
   pub still : OnOk result (IfSome name (λ n. IsStill after))
   pub taken : ℕ
   pub few : taken ≤ named name
+  pub unput : old.tells ≡ true → taken ≡ 0 → (q : List ℕ) → new.files q ≡ old.files q
   pub all : OnOk result (taken ≡ named name)
   pub settles : Settles taken before after
 
@@ -98,6 +99,7 @@ pub record SavesBoth (saves : Saves) (result : Result (Unit {0}) HostStop) (old 
   pub saved : old.tells ≡ true → OnOk result (HasSaved saves after.held new.files)
   pub taken : ℕ
   pub few : taken ≤ saved_count saves
+  pub unput : old.tells ≡ true → taken ≡ 0 → (q : List ℕ) → new.files q ≡ old.files q
   pub all : OnOk result (taken ≡ saved_count saves)
   pub settles : Settles taken before after
 
@@ -106,7 +108,8 @@ abbrev pub saved_status : Result (Unit {0}) HostStop → Status
 saved_status (Ok u) = Done
 saved_status (Err stop) = stopped_as stop
 
--- a text was said and both files saved; or the one or the other was stopped
+-- a text was said and both files saved; or the one or the other was stopped: no file was put before the whole text was said, and
+-- none for which the disk had no memory
 pub record FinishesAs (text : List ℕ) (saves : Saves) (status : Status) (old new : HostState) (before after : DiskState) : Type 0 where
   pub leaves : Leaves (Ends (record { status = Done; text = text })) status old new
   pub files : old.tells ≡ true → FilesAs saves status after.held old.files new.files
@@ -114,5 +117,7 @@ pub record FinishesAs (text : List ℕ) (saves : Saves) (status : Status) (old n
   pub told : IsToldAs Done status
   pub taken : ℕ
   pub few : taken ≤ saved_count saves
+  pub unput : old.tells ≡ true → taken ≡ 0 → (q : List ℕ) → new.files q ≡ old.files q
+  pub first : old.tells ≡ true → (taken ≡ 0 → ⊥) → new.said ≡ old.said ++ text
   pub all : status ≡ Done → taken ≡ saved_count saves
   pub settles : Settles taken before after

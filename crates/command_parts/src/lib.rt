@@ -2,11 +2,13 @@
 //!
 //! - `inputs`: the files that words name, each asked for once, up to the first obstacle.
 //! - `refusal`, `kinds`, `status`: how the first obstacle is said, and which status the program then has.
+//! - `answering`: how a command ends that answers by what a hive loads as.
 //! - `placing`: a hive with its log, read whole or judged, and placed on a disk.
 //! - `lines`: a line that counts something.
 //! - `saving`: the two files of a disk, saved under the names that the words have for them.
 #![tactic(auto)]
 
+mod answering;
 mod inputs;
 mod kinds;
 mod lines;
@@ -15,6 +17,7 @@ mod refusal;
 mod saving;
 mod status;
 
+pub use answering::{Told, answer};
 pub use inputs::{HiveFiles, bytes_in, file_in, hive_in, ini_in, no_memory, system_in};
 pub use lines::push_count;
 pub use placing::{judge, place, read};

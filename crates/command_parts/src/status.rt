@@ -26,6 +26,8 @@ pub enum Status {
     Memory,
     /// A registry text has a fault. Said: `reg fault LINE KIND`.
     RegFault,
+    /// All was done, and the report tells that something was found. An answer, no refusal.
+    Found,
 }
 
 impl Status {
@@ -42,6 +44,7 @@ impl Status {
             Status::HiveFault => 5,
             Status::ReadFault => 6,
             Status::WriteFault => 7,
+            Status::Found => 8,
             Status::Memory => 9,
             Status::RegFault => 10,
         }
