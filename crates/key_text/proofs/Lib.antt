@@ -1,0 +1,9 @@
+pub mod BlockLemmas
+pub mod DataLemmas
+pub mod DateLemmas
+pub mod LawLemmas
+pub mod MonthLemmas
+pub mod ObjectLemmas
+pub mod PathLemmas
+pub mod PlainLemmas
+pub mod StampLemmas

@@ -1,0 +1,9 @@
+pub mod Blocks
+pub mod Data
+pub mod Dates
+pub mod Found
+pub mod Kinds
+pub mod Lines
+pub mod Months
+pub mod Stamps
+pub mod Words
