@@ -1,0 +1,3 @@
+pub mod Wide
+pub mod Filled
+pub mod Pages

@@ -1,0 +1,4 @@
+pub mod Wholes
+pub mod Going
+pub mod Ending
+pub mod Numbers

@@ -1,0 +1,3 @@
+pub mod AskLemmas
+pub mod AnswerLemmas
+pub mod FileLemmas

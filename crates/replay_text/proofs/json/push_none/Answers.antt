@@ -1,0 +1,11 @@
+use Rattle.std.proofs.Common.{◌≡◌, [], ◌∷◌, ◌++◌}
+use Rattle.std.specs.Prelude.{codes}
+use Rattle.line_text.specs.Objects.{Number, Text, fields_text}
+use Rattle.replay_text.specs.Lines.{log_fields}
+use Rattle.replay_text.proofs.Fields.{more_fields, last_field}
+use Rattle.replay_text.proofs.json.push_none.Goals as goal
+
+pub returns : goal.returns
+returns c =
+    last_field c.push_number_field.result c.args.out.now.items c.push_log.new.out.items c.push_number_field.new.out.items
+    (log_fields c.args.name (codes "new") []) (codes "entries") (Number 0) c.in_ok-push_log.ensures c.push_number_field.ensures
