@@ -1,0 +1,5 @@
+pub mod Whole
+pub mod Loose
+pub mod Layout
+pub mod Seen
+pub mod Ground

@@ -1,0 +1,4 @@
+pub mod UseLemmas
+pub mod WalkLemmas
+pub mod FilterLemmas
+pub mod NameLemmas

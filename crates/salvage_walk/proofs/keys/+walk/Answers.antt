@@ -1,0 +1,33 @@
+use Rattle.std.proofs.Common.{◌-◌, ℕ, List, length, take, drop, get_or, sym, ap, ◌∙◌, arith}
+use Rattle.salvage_bins.specs.Ground.{ground_of}
+use Rattle.salvage_walk.specs.Keys.{judged_key, with_child}
+use Rattle.salvage_walk.specs.Walked.{state_of}
+use Rattle.salvage_walk.proofs.UseLemmas.{none-left, first-and-rest}
+use Rattle.salvage_walk.proofs.WalkLemmas.{keys-end, keys-on}
+use Rattle.salvage_walk.proofs.keys.+walk.Goals as goal
+
+pub keys-returns-in_default : goal.keys-returns-in_default
+keys-returns-in_default t c =
+    let judge = judged_key c.args.left (ground_of c.args.cells.now) in
+    let z = none-left c.children.rest.now c.in_default.len_below in
+    sym (keys-end judge c.args.above.now c.args.path.now c.children.number c.children.rest.now c.children.children
+    (state_of c.children.walk) z) ∙ c.children.invariant.told
+
+pub keys-children-preserved : goal.keys-children-preserved
+keys-children-preserved t c =
+    let judge = judged_key c.args.left (ground_of c.args.cells.now) in
+    let i = c.children.invariant in
+    let w = state_of c.children.walk in
+    let rest = c.children.rest.now in
+    let others = take (length rest - 1) (drop 1 rest) in
+    let r = first-and-rest rest c.in-len1-up.len_at_least in
+    record {
+      told = keys-on judge c.args.above.now c.args.path.now c.children.number (get_or rest 0 0) rest others
+          c.children.children c.add.new.children w (state_of c.key.new.walk) r
+          (c.in_ok-add.ensures.added (state_of c.key.new.walk)
+          ∙ ap (with_child c.children.children) (c.in_ok-child.ensures
+          ∙ ap (λ (ns : List (List ℕ)). judge c.args.above.now c.args.path.now ns c.children.number (get_or rest 0 0) w)
+          i.known)) ∙ i.told;
+      known = c.in_ok-add.ensures.known;
+      few = omega arith;
+    }

@@ -1,0 +1,10 @@
+pub mod Uses
+pub mod Parts
+pub mod Fronts
+pub mod Values
+pub mod Walked
+pub mod Steps
+pub mod Keys
+pub mod FrontSeen
+pub mod Filter
+pub mod Hashed

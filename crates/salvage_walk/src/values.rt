@@ -1,0 +1,160 @@
+//! Values with their data.
+
+ghost use Rattle.std.specs.Prelude.{◌≡◌, []};
+ghost use Rattle.hive_model.specs.Size.{is_big as is_big_data};
+ghost use Rattle.cell_forms.specs.Views.{key_value_of};
+ghost use Rattle.salvage_bins.specs.Ground.{ground_of};
+ghost use Rattle.salvage_walk.specs.Values.{bytes_part, segments_part, big_part, celled_part, data_part, value_part};
+ghost use Rattle.salvage_walk.specs.Walked.{Tries, Takes};
+
+use crate::claims::Used;
+use crate::names::NameSet;
+use crate::parts::{use_big_data, use_bytes, use_offsets, use_value};
+use cell_forms::{VkForm, data_inside};
+use nt_bytes::{Bytes, HiveVersion, ReadStop};
+use reg_tree::Value;
+use salvage_bins::DamagedCells;
+use std::alloc::Global;
+
+// How many bytes a full segment of big data holds.
+const SEGMENT: u32 = 16_344;
+
+/// The first bytes of a cell.
+#[tactic(auto, unfolding(crate::specs::Values::bytes_part))]
+pub(crate) fn take_bytes(
+    alloc: Global,
+    cells: &DamagedCells<'_>,
+    used: &mut Used,
+    count: u32,
+    at: u32,
+) -> Result<Bytes, ReadStop>
+    ensures took { Takes (λ b. b) used.old used.new result (bytes_part count (ground_of cells.now) used.old at) }
+    ensures tried { Tries (λ b. b) used.old used.new result (bytes_part count (ground_of cells.now) used.old at) }
+{
+    use_bytes(alloc, cells, used, count, at)
+}
+
+// The bytes of the segments at these offsets, joined in order.
+fn try_segments(
+    alloc: Global,
+    cells: &DamagedCells<'_>,
+    used: &mut Used,
+    size: u32,
+    offsets: &[u32],
+) -> Result<Bytes, ReadStop>
+    ensures { Tries (λ b. b) used.old used.new result (segments_part (ground_of cells.now) [] size offsets.now used.old) }
+{
+    let mut bytes = Bytes::new(alloc);
+    let mut left = size;
+    let mut rest = offsets;
+    'segments: loop {
+        let [at, more @ ..] = rest else {
+            return Ok(bytes);
+        };
+        let part = take_bytes(alloc, cells, used, SEGMENT.min(left), *at)?;
+        bytes.append(part.as_slice())?;
+        left = left.saturating_sub(SEGMENT);
+        rest = more;
+    }
+}
+
+// Big data of so many bytes.
+#[tactic(auto, using(crate::proofs::UseLemmas::befores), unfolding(crate::specs::Values::big_part))]
+fn try_big(
+    alloc: Global,
+    cells: &DamagedCells<'_>,
+    used: &mut Used,
+    size: u32,
+    at: u32,
+) -> Result<Bytes, ReadStop>
+    ensures { Tries (λ b. b) used.old used.new result (big_part size (ground_of cells.now) used.old at) }
+{
+    let big = use_big_data(cells, used, size, at)?;
+    let offsets = use_offsets(alloc, cells, used, u32::from(big.segments), big.list)?;
+    try_segments(alloc, cells, used, size, offsets.as_slice())
+}
+
+// Data of more bytes than a segment holds are big in version 1.5.
+fn is_big(version: HiveVersion, size: u32) -> bool
+    ensures { result ≡ is_big_data version size }
+{
+    match version {
+        HiveVersion::V3 => false,
+        HiveVersion::V5 => size > SEGMENT,
+    }
+}
+
+// Data in a cell, or big data.
+#[tactic(auto, unfolding(crate::specs::Values::celled_part))]
+fn try_celled(
+    alloc: Global,
+    cells: &DamagedCells<'_>,
+    used: &mut Used,
+    size: u32,
+    at: u32,
+) -> Result<Bytes, ReadStop>
+    ensures { Tries (λ b. b) used.old used.new result (celled_part size (ground_of cells.now) used.old at) }
+{
+    if is_big(cells.version, size) {
+        return try_big(alloc, cells, used, size, at);
+    }
+    take_bytes(alloc, cells, used, size, at)
+}
+
+// A value's data.
+#[tactic(auto, using(crate::proofs::UseLemmas::befores), unfolding(crate::specs::Values::data_part))]
+fn try_data(
+    alloc: Global,
+    cells: &DamagedCells<'_>,
+    used: &mut Used,
+    value: &VkForm,
+) -> Result<Bytes, ReadStop>
+    ensures { Tries (λ b. b) used.old used.new result (data_part (key_value_of value.now) (ground_of cells.now) used.old) }
+{
+    let held = data_inside(alloc, value)?;
+    match held {
+        Some(bytes) => Ok(bytes),
+        None => try_celled(alloc, cells, used, value.size, value.offset),
+    }
+}
+
+// A value with its data. Where a check fails some of its cells may be used.
+#[tactic(auto, using(crate::proofs::UseLemmas::befores), unfolding(crate::specs::Values::value_part))]
+fn try_value(
+    alloc: Global,
+    cells: &DamagedCells<'_>,
+    used: &mut Used,
+    taken: &NameSet,
+    at: u32,
+) -> Result<Value, ReadStop>
+    ensures { Tries (λ v. v) used.old used.new result (value_part taken.now (ground_of cells.now) used.old at) }
+{
+    let form = use_value(alloc, cells, used, taken, at)?;
+    let bytes = try_data(alloc, cells, used, &form)?;
+    Ok(Value {
+        name: form.name,
+        kind: form.kind,
+        bytes,
+    })
+}
+
+/// A value with its data, beside values of these names. Where a check fails none of its cells is used.
+#[tactic(auto, using(crate::proofs::UseLemmas::backs))]
+pub(crate) fn take_value(
+    alloc: Global,
+    cells: &DamagedCells<'_>,
+    used: &mut Used,
+    taken: &NameSet,
+    at: u32,
+) -> Result<Value, ReadStop>
+    ensures { Takes (λ v. v) used.old used.new result (value_part taken.now (ground_of cells.now) used.old at) }
+{
+    let before = used.len();
+    match try_value(alloc, cells, used, taken, at) {
+        Err(ReadStop::Fault(fault)) => {
+            used.back_to(before);
+            Err(ReadStop::Fault(fault))
+        }
+        other => other,
+    }
+}

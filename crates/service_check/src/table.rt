@@ -1,0 +1,172 @@
+//! The entries of a set with their stages, found by name and by group.
+
+ghost use Rattle.std.specs.Prelude.{◌≡◌, ◌++◌, map, IfOk, OnOk};
+ghost use Rattle.std.specs.List.{list_any};
+ghost use Rattle.std.specs.Option.{option_copied, option_to_list};
+ghost use Rattle.nt_bytes.specs.Folding.{folds_same};
+ghost use Rattle.hive_model.specs.Valid.{HoldsKeys};
+ghost use Rattle.start_model.specs.Entries.{entries_of};
+ghost use Rattle.service_check.specs.Stages.{staged_in, rows_of};
+ghost use Rattle.service_check.specs.Needs.{names_of, named, group_upto, groups_upto};
+
+use crate::names::has_name;
+use crate::stage::{Stage, Staged, TakenNames, is_upto};
+use name_places::NamePlaces;
+use nt_bytes::{Names, Units};
+use reg_tree::Key;
+use service_entries::{Entry, entries};
+use std::alloc::{AllocError, Global};
+use std::marker::Model;
+
+/// The entries of a set, in the order of the registry. Contracts see their list.
+#[derive(Drop)]
+pub(crate) struct Table {
+    rows: Vec<Staged>,
+    names: NamePlaces,
+    boot_groups: NamePlaces,
+    system_groups: NamePlaces,
+    taken_groups: NamePlaces,
+}
+
+impl Model for Table {
+    ghost use Rattle.std.specs.Prelude.{List};
+    ghost use Rattle.service_check.specs.declared.stage.Staged.{Staged as StagedEntry};
+    ghost use Rattle.service_check.specs.Indexed.{IsIndexed};
+
+    ghost Value = { List StagedEntry };
+
+    ghost view = { λ a. a.rows.items };
+
+    ghost invariant = { λ a. IsIndexed a.rows.items a.names a.boot_groups a.system_groups a.taken_groups };
+}
+
+impl Table {
+    /// The entries of a set. Takes n log n time in them and their names.
+    pub(crate) fn of(alloc: Global, set: &Key) -> Result<Table, AllocError>
+        requires { HoldsKeys set.now }
+        ensures { IfOk result (λ t. t ≡ rows_of set.now) }
+    {
+        let rows = rows(alloc, set)?;
+        let items = rows.as_slice();
+        let names = NamePlaces::new(alloc, names_of(alloc, items)?)?;
+        let boot_groups = NamePlaces::new(alloc, groups_upto(alloc, Stage::Boot, items)?)?;
+        let system_groups = NamePlaces::new(alloc, groups_upto(alloc, Stage::System, items)?)?;
+        let taken_groups = NamePlaces::new(alloc, groups_upto(alloc, Stage::Automatic, items)?)?;
+        Ok(Table {
+            rows,
+            names,
+            boot_groups,
+            system_groups,
+            taken_groups,
+        })
+    }
+
+    /// The entries.
+    pub(crate) fn rows(&self) -> &[Staged]
+        ensures { result.now ≡ self.now }
+    {
+        self.rows.as_slice()
+    }
+
+    /// The entry of this name.
+    pub(crate) fn named(&self, name: &[u16]) -> Option<&Staged>
+        ensures { option_copied result ≡ named self.now name.now }
+    {
+        let place = self.names.place_of(name)?;
+        self.rows.as_slice().get(place)
+    }
+
+    /// The groups of the entries that are taken by this stage.
+    #[tactic(auto, using(crate::proofs::TableLemmas::same_groups))]
+    pub(crate) fn groups(&self, stage: Stage) -> &NamePlaces
+        ensures { result.now ≡ groups_upto stage self.now }
+    {
+        match stage {
+            Stage::Boot => &self.boot_groups,
+            Stage::System => &self.system_groups,
+            Stage::Automatic | Stage::Demand => &self.taken_groups,
+        }
+    }
+
+    /// Whether an entry of this group is taken by this stage.
+    pub(crate) fn has_group(&self, stage: Stage, group: &Units) -> bool
+        ensures { result ≡ list_any (folds_same group.now) (groups_upto stage self.now) }
+    {
+        has_name(self.groups(stage), group)
+    }
+}
+
+/// The entries with their stages.
+fn rows(alloc: Global, set: &Key) -> Result<Vec<Staged>, AllocError>
+    requires { HoldsKeys set.now }
+    ensures { IfOk result (λ r. r.items ≡ rows_of set.now) }
+{
+    let taken = TakenNames::of(alloc, set)?;
+    let entries = entries(alloc, set)?.into_entries(alloc)?;
+    each_staged(alloc, &taken, entries.into_vec())
+}
+
+fn each_staged(
+    alloc: Global,
+    taken: &TakenNames,
+    entries: Vec<Entry>,
+) -> Result<Vec<Staged>, AllocError>
+    ensures { IfOk result (λ r. r.items ≡ map (staged_in taken.now) entries.items) }
+{
+    entries
+        .into_iter()
+        .map(|entry| staged(taken, entry))
+        .collect(alloc)
+}
+
+fn staged(taken: &TakenNames, entry: Entry) -> Staged
+    ensures { result ≡ staged_in taken.now entry }
+{
+    let stage = taken.stage(&entry);
+    Staged { entry, stage }
+}
+
+/// The names of the entries.
+fn names_of(alloc: Global, rows: &[Staged]) -> Result<Names, AllocError>
+    ensures { IfOk result (λ n. n ≡ names_of rows.now) }
+{
+    let mut names = Names::new(alloc);
+    for row in rows {
+        names.push(row.entry.name.copy(alloc)?)?;
+    }
+    Ok(names)
+}
+
+/// The groups of the entries that are taken by this stage.
+fn groups_upto(alloc: Global, stage: Stage, rows: &[Staged]) -> Result<Names, AllocError>
+    ensures { IfOk result (λ n. n ≡ groups_upto stage rows.now) }
+{
+    let mut groups = Names::new(alloc);
+    for row in rows {
+        put_group(alloc, stage, row, &mut groups)?;
+    }
+    Ok(groups)
+}
+
+fn put_group(
+    alloc: Global,
+    stage: Stage,
+    row: &Staged,
+    groups: &mut Names,
+) -> Result<(), AllocError>
+    ensures { OnOk result (groups.new ≡ groups.old ++ group_upto stage row.now) }
+{
+    if is_upto(stage, row.stage) {
+        return put_own(alloc, &row.entry.group, groups);
+    }
+    Ok(())
+}
+
+fn put_own(alloc: Global, group: &Option<Units>, groups: &mut Names) -> Result<(), AllocError>
+    ensures { OnOk result (groups.new ≡ groups.old ++ option_to_list group.now) }
+{
+    match group {
+        Some(name) => groups.push(name.copy(alloc)?),
+        None => Ok(()),
+    }
+}
