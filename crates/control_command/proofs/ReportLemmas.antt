@@ -1,8 +1,7 @@
 -- What is said of commands, one after the other.
-use Rattle.std.proofs.Common.{◌≡◌, ℕ, ◌+◌, ◌<◌, ◌≤◌, List, ◌∷◌, ◌++◌, length, drop, get_or, Option, Some, None, refl, sym, ap, ◌∙◌, subst, append_assoc}
+use Rattle.std.proofs.Common.{◌≡◌, ℕ, ◌+◌, List, ◌++◌, Option, Some, refl, sym, ap, ◌∙◌, subst}
 use Rattle.std.specs.Prelude.{codes, Result, Ok, Err, OnOk, IfOk}
 use Rattle.std.specs.Option.{option_map_or}
-use Rattle.std.proofs.lemmas.List.{drop_more, drop_all}
 use Rattle.service_control.specs.declared.stop.ControlStop.{ControlStop}
 use Rattle.service_control.specs.declared.stop.ControlStop.TheVariants as stops
 use Rattle.hive_model.specs.Tree.{Tree}
@@ -10,7 +9,7 @@ use Rattle.service_control.specs.State.{ControlState}
 use Rattle.service_control.specs.First.{control_of}
 use Rattle.service_control.specs.Calls.{StopsBy}
 use Rattle.control_command.specs.declared.command.ControlCommand.{ControlCommand}
-use Rattle.control_command.specs.Report.{Answered, Adds, answer_to, answers_to, default_set, report_of, unless, refused_line}
+use Rattle.control_command.specs.Report.{Answered, Adds, answers_to, default_set, report_of, unless, refused_line}
 
 -- a refusal that is no want of memory is the reason
 pub is_reason : (stop : ControlStop) (why : Option ControlStop) → StopsBy why stop → (stop ≡ stops.Memory → ⊥)
@@ -24,15 +23,6 @@ is_reason (stops.NeedDisabled n) why s named = s
 is_reason (stops.InUse n) why s named = s
 is_reason stops.Unmet why s named = s
 is_reason stops.Memory why s named = absurd (named refl)
-
--- the call was done, and its text was said
-pub done_adds : (why : Option ControlStop) (command name : List ℕ) (old control : ControlState) (done : Answered)
-    (before after : List ℕ)
-    → why ≡ None → control ≡ done.state → after ≡ before ++ done.text
-    → Adds (unless why command name old done) control before after
-done_adds why command name old control done before after free state said =
-    let P : Option ControlStop → Type 0 = λ o. Adds (unless o command name old done) control before after in
-    subst P (sym free) (record { state = state; said = said })
 
 -- it was refused, and the refusal was said
 pub refused_adds : (why : Option ControlStop) (command name : List ℕ) (old control : ControlState) (done : Answered)
@@ -64,24 +54,3 @@ report_with tree set commands r found h =
     let P : List ℕ → Type 0 = λ l. IfOk r (λ t. t ≡ l) in
     subst P (ap (λ o. option_map_or (λ s. answers_to (control_of s) commands) o (codes "verdict no-control-set\nend\n"))
     found) h
-
--- one more command was answered
-pub answered_more : (commands : List ControlCommand) (i : ℕ) (command : ControlCommand) (old new : ControlState)
-    (before after total : List ℕ) → i < length commands → command ≡ get_or commands i command
-    → before ++ answers_to old (drop i commands) ≡ total → Adds (answer_to old command) new before after
-    → after ++ answers_to new (drop (i + 1) commands) ≡ total
-answered_more commands i command old new before after total lt is so_far adds =
-    let here : drop i commands ≡ command ∷ drop (i + 1) commands =
-    drop_more commands i command lt ∙ ap (λ c. c ∷ drop (i + 1) commands) (sym is) in
-    (λ j. adds.said j ++ answers_to (adds.state j) (drop (i + 1) commands))
-    ∙ append_assoc before (answer_to old command).text
-    (answers_to (answer_to old command).state (drop (i + 1) commands))
-    ∙ ap (λ l. before ++ answers_to old l) (sym here)
-    ∙ so_far
-
--- all were answered
-pub answered_all : (commands : List ControlCommand) (i : ℕ) (c : ControlState) (before after total : List ℕ)
-    → length commands ≤ i → before ++ answers_to c (drop i commands) ≡ total
-    → after ≡ before ++ codes "end\n" → after ≡ total
-answered_all commands i c before after total all so_far said =
-    said ∙ ap (λ l. before ++ answers_to c l) (sym (drop_all i commands all)) ∙ so_far

@@ -1,9 +1,9 @@
 -- What was saved behind `import` loads as its line tells.
 use Rattle.std.specs.Prelude.{IfSome}
-use Rattle.std.proofs.Common.{◌≡◌, inl, inr, ℕ, true, List, Option, Some, None, Result, Ok, Err, refl, sym, ◌∙◌, ap, subst}
+use Rattle.std.proofs.Common.{◌≡◌, inl, inr, ℕ, true, false, List, Option, Some, None, Result, Ok, Err, refl, sym, ◌∙◌, ap, subst}
 use Rattle.hive_model.specs.Edit.{Step}
 use Rattle.hive_model.specs.Image.{Image, File, Primary, Log, IsFileOf, image_of}
-use Rattle.hive_model.specs.Load.{Loads, LoadsAs}
+use Rattle.hive_model.specs.Load.{Loads}
 use Rattle.hive_model.specs.State.{HiveState}
 use Rattle.nt_edge.specs.Disk.{DiskState}
 use Rattle.nt_edge.specs.Host.{Files, HostState}
@@ -17,7 +17,6 @@ use Rattle.command_words.specs.Words.{ImportAsked}
 use Rattle.command_parts.specs.declared.inputs.HiveFiles.{HiveFiles}
 use Rattle.command_parts.specs.declared.refusal.Refusal.{Refusal}
 use Rattle.command_parts.specs.declared.refusal.Refusal.TheVariants as refusals
-use Rattle.command_parts.specs.declared.status.Status.{Status}
 use Rattle.command_parts.specs.declared.status.Status.TheVariants as statuses
 use Rattle.command_parts.specs.Inputs.{hive_in, file_in}
 use Rattle.command_parts.specs.Placed.{image_in}
@@ -70,8 +69,8 @@ file_got name text (Some bytes) e = ap (λ (b : List ℕ). Some b) (one_text byt
 module _ (words : ImportAsked) (old new : HostState) (disk : DiskState) (hive log : List ℕ)
     (hive_is : IsFileOf disk.held Primary hive) (log_is : IsFileOf disk.held Log log)
     (untorn : HasUntornBlock disk.held) where
-  again : (state : HiveState) → LoadsAs disk.held state → LoadsAs (image_of hive log) state
-  again state loads = (loads.0, files_load disk.held hive log state loads.0 hive_is log_is untorn loads.1)
+  again : (state : HiveState) → Loads disk.held state false → Loads (image_of hive log) state false
+  again state loads = files_load disk.held hive log state false hive_is log_is untorn loads
 
   by_steps : (files : HiveFiles) (placed : Woken) (text : List ℕ) (r : Result (List Step) RegFault)
       → hive_in old.files words.hive words.log ≡ Ok files

@@ -1,128 +1,217 @@
 -- The number of services that words ask for is from 1 to 10000.
-use Rattle.std.proofs.Common.{◌≡◌, ◌≤◌, ◌&&◌, ℕ, Bool, true, false, List, [], ◌∷◌, Option, Some, None, if◌then◌else◌, subst, refl}
-use Rattle.std.specs.Prelude.{IfSome, option_map, option_and_then, find, nat_le, length, bytes_eq, codes}
+use Rattle.std.proofs.Common.{◌≡◌, ◌≤◌, ◌&&◌, ℕ, Bool, true, false, List, [], ◌∷◌, Option, Some, None, Result, Ok, Err, if◌then◌else◌, subst, refl}
+use Rattle.std.specs.Prelude.{IfOk, IfSome, bytes_eq, nat_le, length, codes}
 use Rattle.std.proofs.lemmas.Bool.{leb-true, and_parts}
 use Rattle.std.specs.Str.Parse.{digits_value}
 use Rattle.nt_bytes.specs.Text.{is_digits}
-use Rattle.command_words.specs.Words.{Text, Look, CommandForm, CommandRow, Asked, number_name, count_of, commands, asked_by, named_command, given_value, command_of}
-use Rattle.command_words.specs.Words.{run, show, make, safe, control, twin, export, import, default_of, scheme_of}
-use Rattle.command_words.specs.Words.{run_by, show_by, make_by, safe_by, control_by, twin_by, export_by, import_by}
+use Rattle.command_words.specs.declared.asked.CommandName.{CommandName}
+use Rattle.command_words.specs.declared.asked.CommandName.TheVariants as names
+use Rattle.command_words.specs.declared.asked.Page.{Page}
+use Rattle.command_words.specs.declared.asked.Page.TheVariants as pages
+use Rattle.command_words.specs.Words.{Text, Asked, Reading, Reason, asks, help, version, refused}
+use Rattle.command_words.specs.Words.{run, show, make, safe, control, twin, export, import, key, replay}
+use Rattle.command_words.specs.Table.{count_of}
+use Rattle.command_words.specs.Walk.{Values, and_then, no_values, value_named, walked}
+use Rattle.command_words.specs.Commands.{CommandRow, Look, asks_of, counted as counted_in, row_named}
+use Rattle.command_words.specs.Commands.{flag_in, levels_in, needed_in, scheme_of, set_in, system_in}
+use Rattle.command_words.specs.Reading.{alone, asked_by, asked_of, asked_read, asks_help, command_read, first_read, help_read, help_topic}
+use Rattle.command_words.specs.Reading.{is_help, page_named, page_of_row, page_read, reading_of, version_read}
 
 -- a number to be made is one of those that can be made
 abbrev pub IsCounted : Asked → Type 0
-IsCounted (run w) = Unit {0}
-IsCounted (show w) = Unit {0}
 IsCounted (make w) = (1 ≤ w.count) × (w.count ≤ 10000)
-IsCounted (safe w) = Unit {0}
-IsCounted (control w) = Unit {0}
-IsCounted (twin w) = Unit {0}
-IsCounted (export w) = Unit {0}
-IsCounted (import w) = Unit {0}
+IsCounted other = Unit {0}
 
--- ---- options
+-- the same of what words are read as
+abbrev pub ReadsCounted : Reading → Type 0
+ReadsCounted (asks asked json) = IsCounted asked
+ReadsCounted other = Unit {0}
 
-by_then : {A B : Type 0} (P : B → Type 0) (f : A → Option B) (o : Option A) → ((a : A) → IfSome (f a) P)
-    → IfSome (option_and_then f o) P
-by_then P f None each = tt
-by_then P f (Some a) each = each a
+-- ---- a step after another
 
-by_map : {A B : Type 0} (P : B → Type 0) (Q : A → Type 0) (f : A → B) (o : Option A) → IfSome o Q
-    → ((a : A) → Q a → P (f a)) → IfSome (option_map f o) P
-by_map P Q f None here each = tt
-by_map P Q f (Some a) here each = each a here
+by_then : {A B : Type 0} (P : B → Type 0) (f : A → Result B Reason) (r : Result A Reason) → ((a : A) → IfOk (f a) P)
+    → IfOk (and_then r f) P
+by_then P f (Ok a) each = each a
+by_then P f (Err e) each = tt
 
-by_any : {A B : Type 0} (P : B → Type 0) (f : A → B) (o : Option A) → ((a : A) → P (f a)) → IfSome (option_map f o) P
-by_any P f None each = tt
-by_any P f (Some a) each = each a
+by_found : {A B : Type 0} (Q : A → Type 0) (P : B → Type 0) (f : A → Result B Reason) (r : Result A Reason)
+    → IfOk r Q → ((a : A) → Q a → IfOk (f a) P) → IfOk (and_then r f) P
+by_found Q P f (Ok a) here each = each a here
+by_found Q P f (Err e) here each = tt
 
-by_test : {B : Type 0} (P : B → Type 0) (b : Bool) (x : B) → (b ≡ true → P x) → IfSome (if b then Some x else None) P
-by_test P true x here = here refl
-by_test P false x here = tt
+-- ---- the number
 
--- ---- the words
+abbrev IsInRange : ℕ → Type 0
+IsInRange n = (1 ≤ n) × (n ≤ 10000)
 
-in_range : (a b : Bool) (n : ℕ) → (a && (b && (nat_le 1 n && nat_le n 10000))) ≡ true → (1 ≤ n) × (n ≤ 10000)
+in_range : (a b : Bool) (n : ℕ) → (a && (b && (nat_le 1 n && nat_le n 10000))) ≡ true → IsInRange n
 in_range a b n e =
     let first = and_parts a (b && (nat_le 1 n && nat_le n 10000)) e in
     let second = and_parts b (nat_le 1 n && nat_le n 10000) first.1 in
     let last = and_parts (nat_le 1 n) (nat_le n 10000) second.1 in
     (leb-true 1 n last.0, leb-true n 10000 last.1)
 
-count_counted : (text : Text) → IfSome (count_of text) (λ n. (1 ≤ n) × (n ≤ 10000))
+by_test : (b : Bool) (n : ℕ) → (b ≡ true → IsInRange n) → IfSome (if b then Some n else None) IsInRange
+by_test true n here = here refl
+by_test false n here = tt
+
+count_counted : (text : Text) → IfSome (count_of text) IsInRange
 count_counted text =
     let value : ℕ = digits_value 10 text in
-    by_test (λ n. (1 ≤ n) × (n ≤ 10000))
-    (is_digits text && (nat_le (length text) 5 && (nat_le 1 value && nat_le value 10000))) value
+    by_test (is_digits text && (nat_le (length text) 5 && (nat_le 1 value && nat_le value 10000))) value
     (in_range (is_digits text) (nat_le (length text) 5) value)
 
-run_counted : (look : Look) → IfSome (run_by look) IsCounted
-run_counted look = by_then IsCounted _ (look (codes "hive"))
-    (λ hive. by_any IsCounted _ (look (codes "script")) (λ script. tt))
+number_counted : (text : Text) (o : Option ℕ) → IfSome o IsInRange → IfOk (counted_in text o) IsInRange
+number_counted text (Some n) here = here
+number_counted text None here = tt
 
-show_counted : (look : Look) → IfSome (show_by look) IsCounted
-show_counted look = by_any IsCounted _ (look (codes "hive")) (λ hive. tt)
+-- ---- the commands
 
-make_counted : (look : Look) → IfSome (make_by look) IsCounted
-make_counted look =
-    by_then IsCounted _ (look number_name)
-    (λ text. by_map IsCounted (λ n. (1 ≤ n) × (n ≤ 10000)) _ (count_of text) (count_counted text)
-    (λ n range. range))
+-- a step after a text that was found
+by_text : (look : Look) (name : Text) (f : Text → Result Asked Reason) → ((t : Text) → IfOk (f t) IsCounted)
+    → IfOk (and_then (needed_in look name) f) IsCounted
+by_text look name f each = by_then IsCounted f (needed_in look name) each
 
-safe_counted : (look : Look) → IfSome (safe_by look) IsCounted
-safe_counted look = by_any IsCounted _ (look (codes "hive")) (λ hive. tt)
+-- a command of one text, and one of two
+by_one : (look : Look) (name : Text) (f : Text → Asked) → ((t : Text) → IsCounted (f t))
+    → IfOk (and_then (needed_in look name) (λ t. Ok (f t))) IsCounted
+by_one look name f each = by_text look name (λ t. Ok (f t)) each
 
-control_counted : (look : Look) → IfSome (control_by look) IsCounted
-control_counted look = by_then IsCounted _ (look (codes "hive"))
-    (λ hive. by_any IsCounted _ (look (codes "commands")) (λ commands. tt))
+by_two : (look : Look) (name other : Text) (f : Text → Text → Asked) → ((t u : Text) → IsCounted (f t u))
+    → IfOk (and_then (needed_in look name) (λ t. and_then (needed_in look other) (λ u. Ok (f t u)))) IsCounted
+by_two look name other f each =
+    by_text look name (λ t. and_then (needed_in look other) (λ u. Ok (f t u))) (λ t. by_one look other (f t) (each t))
 
-twin_counted : (look : Look) → IfSome (twin_by look) IsCounted
-twin_counted look = by_then IsCounted _ (look (codes "hive"))
-    (λ hive. by_then IsCounted _ (scheme_of (look (codes "scheme")))
-    (λ scheme. by_any IsCounted _ (default_of (look (codes "default"))) (λ number. tt)))
+make_counted : (look : Look) (text : Text)
+    → IfOk (and_then (counted_in text (count_of text)) (λ n. Ok (make record { count = n; save_hive = look (codes "--save-hive") }))) IsCounted
+make_counted look text =
+    by_found IsInRange IsCounted (λ n. Ok (make record { count = n; save_hive = look (codes "--save-hive") }))
+    (counted_in text (count_of text)) (number_counted text (count_of text) (count_counted text)) (λ n range. range)
 
-export_counted : (look : Look) → IfSome (export_by look) IsCounted
-export_counted look = by_then IsCounted _ (look (codes "hive"))
-    (λ hive. by_any IsCounted _ (look (codes "reg")) (λ reg. tt))
+asks_counted : (command : CommandName) (look : Look) → IfOk (asks_of command look) IsCounted
+asks_counted names.Run look = by_two look (codes "--hive") (codes "--script") (λ hive script. run record {
+  hive = hive;
+  log = look (codes "--log");
+  script = script;
+  boot_ini = look (codes "--boot-ini");
+  system = system_in look;
+  save_hive = look (codes "--save-hive");
+  save_log = look (codes "--save-log");
+}) (λ hive script. tt)
+asks_counted names.Show look =
+    by_one look (codes "--hive") (λ hive. show record { hive = hive; log = look (codes "--log") }) (λ hive. tt)
+asks_counted names.Make look = by_text look (codes "N")
+    (λ text. and_then (counted_in text (count_of text)) (λ n. Ok (make record { count = n; save_hive = look (codes "--save-hive") })))
+    (make_counted look)
+asks_counted names.Safe look = by_one look (codes "--hive") (λ hive. safe record {
+  hive = hive;
+  log = look (codes "--log");
+  boot_ini = look (codes "--boot-ini");
+  system = system_in look;
+}) (λ hive. tt)
+asks_counted names.Control look = by_two look (codes "--hive") (codes "--commands")
+    (λ hive commands. control record { hive = hive; log = look (codes "--log"); commands = commands })
+    (λ hive commands. tt)
+asks_counted names.Twin look = by_one look (codes "--hive") (λ hive. twin record {
+  hive = hive;
+  alt = look (codes "--alt");
+  scheme = scheme_of (look (codes "--scheme"));
+  default = set_in look (codes "--default");
+  save_hive = look (codes "--save-hive");
+  save_alt = look (codes "--save-alt");
+}) (λ hive. tt)
+asks_counted names.Export look = by_two look (codes "--hive") (codes "--reg")
+    (λ hive reg. export record { hive = hive; log = look (codes "--log"); reg = reg; key = look (codes "--key") })
+    (λ hive reg. tt)
+asks_counted names.Import look = by_two look (codes "--hive") (codes "--reg") (λ hive reg. import record {
+  hive = hive;
+  log = look (codes "--log");
+  reg = reg;
+  save_hive = look (codes "--save-hive");
+  save_log = look (codes "--save-log");
+}) (λ hive reg. tt)
+asks_counted names.Key look = by_one look (codes "--hive") (λ hive. key record {
+  hive = hive;
+  log = look (codes "--log");
+  key = look (codes "--key");
+  depth = levels_in look;
+  security = flag_in look (codes "--security");
+}) (λ hive. tt)
+asks_counted names.Replay look = by_one look (codes "--hive") (λ hive. replay record {
+  hive = hive;
+  log = look (codes "--log");
+  log1 = look (codes "--log1");
+  log2 = look (codes "--log2");
+  save_hive = look (codes "--save-hive");
+}) (λ hive. tt)
 
-import_counted : (look : Look) → IfSome (import_by look) IsCounted
-import_counted look = by_then IsCounted _ (look (codes "hive"))
-    (λ hive. by_any IsCounted _ (look (codes "reg")) (λ reg. tt))
+-- ---- the words
 
-asked_counted : (form : CommandForm) (by : Look → Option Asked) (words : List Text)
-    → ((look : Look) → IfSome (by look) IsCounted) → IfSome (asked_by form by words) IsCounted
-asked_counted form by words each = by_then IsCounted _ _ (λ given. each (λ name. given_value name given))
+by_if : (b : Bool) (x y : Reading) → ReadsCounted x → ReadsCounted y → ReadsCounted (if b then x else y)
+by_if true x y p q = p
+by_if false x y p q = q
 
--- each of these commands asks so
-abbrev EachCounted : List CommandRow → Type 0
-EachCounted [] = Unit {0}
-EachCounted (c ∷ cs) = ((look : Look) → IfSome (c.asks look) IsCounted) × EachCounted cs
+-- the same of a command with whether its lines are to be JSON
+abbrev IsPairCounted : Asked × Bool → Type 0
+IsPairCounted pair = IsCounted pair.0
 
-found_counted : (command : Text) (words : List Text) (cs : List CommandRow) → EachCounted cs
-    → IfSome (option_and_then (λ c. asked_by c.form c.asks words) (find (λ c. bytes_eq c.name command) cs)) IsCounted
-found_counted command words [] each = tt
-found_counted command words (c ∷ cs) each = go (bytes_eq c.name command) refl (found_counted command words cs each.1)
-  where
-    go : (b : Bool) → bytes_eq c.name command ≡ b
-        → IfSome (option_and_then (λ c. asked_by c.form c.asks words) (find (λ c. bytes_eq c.name command) cs))
-        IsCounted
-        → IfSome (option_and_then (λ c. asked_by c.form c.asks words) (find (λ c. bytes_eq c.name command) (c ∷ cs)))
-        IsCounted
-    go true e rest = rw e (asked_counted c.form c.asks words each.0)
-    go false e rest = rw e rest
+values_counted : (row : CommandRow) (values : Values) → IfOk (asked_by row values) IsPairCounted
+values_counted row values =
+    let look : Look = value_named row.options values in
+    by_found IsCounted IsPairCounted (λ asked. Ok (asked, flag_in look (codes "--json"))) (asks_of row.command look)
+    (asks_counted row.command look) (λ asked here. here)
 
-named_counted : (command : Text) (words : List Text) → IfSome (named_command command words) IsCounted
-named_counted command words = found_counted command words commands (
-  run_counted,
-  (
-    show_counted,
-    (make_counted, (safe_counted, (control_counted, (twin_counted, (export_counted, (import_counted, tt)))))),
-  ),
-)
+asked_counted : (row : CommandRow) (words : List Text) → IfOk (asked_of row words) IsPairCounted
+asked_counted row words =
+    by_then IsPairCounted (asked_by row) (walked row.options (record { values = no_values; waiting = None }) words)
+    (values_counted row)
 
-all_counted : (words : List Text) → IfSome (command_of words) IsCounted
-unfolding command_of
+read_counted : (r : Result (Asked × Bool) Reason) → IfOk r IsPairCounted → ReadsCounted (asked_read r)
+read_counted (Ok p) here = here
+read_counted (Err e) here = tt
+
+command_counted : (first : Text) (words : List Text) (row : Option CommandRow)
+    → ReadsCounted (command_read first words row)
+command_counted first words None = tt
+command_counted first words (Some row) =
+    by_if (asks_help words) (help (page_of_row row)) (asked_read (asked_of row words)) tt
+    (read_counted (asked_of row words) (asked_counted row words))
+
+alone_counted : (reading : Reading) (words : List Text) → ReadsCounted reading → ReadsCounted (alone reading words)
+alone_counted reading [] here = here
+alone_counted reading (word ∷ words) here = tt
+
+page_counted : (page : Option Page) → ReadsCounted (page_read page)
+page_counted None = tt
+page_counted (Some page) = tt
+
+topic_counted : (words : List Text) → ReadsCounted (help_topic words)
+topic_counted [] = tt
+topic_counted (name ∷ words) = alone_counted (page_read (page_named name)) words (page_counted (page_named name))
+
+help_counted : (words : List Text) → ReadsCounted (help_read words)
+help_counted words = by_if (asks_help words) (help pages.Help) (help_topic words) tt (topic_counted words)
+
+version_counted : (words : List Text) → ReadsCounted (version_read words)
+version_counted words =
+    by_if (asks_help words) (help pages.Version) (alone version words) tt (alone_counted version words tt)
+
+first_counted : (first : Text) (words : List Text) → ReadsCounted (first_read first words)
+first_counted first words =
+    let command : Reading = command_read first words (row_named first) in
+    let numbered : Reading = if bytes_eq first (codes "--version") then alone version words else command in
+    let helped : Reading = if is_help first then alone (help pages.Overview) words else numbered in
+    let versioned : Reading = if bytes_eq first (codes "version") then version_read words else helped in
+    by_if (bytes_eq first (codes "help")) (help_read words) versioned (help_counted words)
+    (by_if (bytes_eq first (codes "version")) (version_read words) helped (version_counted words)
+    (by_if (is_help first) (alone (help pages.Overview) words) numbered (alone_counted (help pages.Overview) words tt)
+    (by_if (bytes_eq first (codes "--version")) (alone version words) command (alone_counted version words tt)
+    (command_counted first words (row_named first)))))
+
+all_counted : (words : List Text) → ReadsCounted (reading_of words)
+unfolding reading_of
 all_counted [] = tt
-all_counted (command ∷ words) = named_counted command words
+all_counted (first ∷ words) = first_counted first words
 
-pub counted : (words : List Text) (asked : Asked) → command_of words ≡ Some asked → IsCounted asked
-counted words asked is = (let P : Option Asked → Type 0 = λ o. IfSome o IsCounted in subst P is (all_counted words))
+pub counted : (words : List Text) (asked : Asked) (json : Bool) → reading_of words ≡ asks asked json → IsCounted asked
+counted words asked json is = subst ReadsCounted is (all_counted words)

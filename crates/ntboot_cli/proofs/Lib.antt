@@ -6,3 +6,5 @@ pub mod UsualLemmas
 pub mod CountedLemmas
 pub mod SavedLemmas
 pub mod TopLemmas
+pub mod GoodLemmas
+pub mod UnreadLemmas

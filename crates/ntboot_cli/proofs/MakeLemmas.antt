@@ -1,16 +1,14 @@
 -- What `make` leaves.
-use Rattle.std.proofs.Common.{◌≡◌, ◌≤◌, ◌+◌, ◌++◌, inl, inr, ℕ, zero, suc, false, List, [], ◌∷◌, Option, None, Some, refl, sym, ap, subst, ◌∙◌, append-nil, arith}
-use Rattle.std.specs.Prelude.{Result, Ok, Err, IfOk, OnErr, alloc_error}
-use Rattle.std.specs.declared.alloc.AllocError.{AllocError}
+use Rattle.std.proofs.Common.{◌≡◌, ◌≤◌, ◌+◌, ◌++◌, inl, inr, ℕ, zero, suc, false, List, [], ◌∷◌, Option, None, Some, refl, sym, ap, subst, ◌∙◌, arith}
+use Rattle.std.specs.Prelude.{Result, Ok, Err, IfOk, OnErr}
 use Rattle.hive_model.specs.Image.{Arming}
 use Rattle.nt_edge.specs.Bench.{KeepsOrders}
 use Rattle.nt_edge.specs.Disk.{DiskState, new_state}
-use Rattle.nt_edge.specs.Host.{HostState, Files, KeepsFiles, AsksNone, SaysFront}
-use Rattle.nt_edge.specs.declared.host.HostStop.{HostStop}
-use Rattle.nt_edge.specs.declared.host.HostStop.TheVariants.{Read, Write, Memory}
+use Rattle.nt_edge.specs.Host.{HostState}
+use Rattle.nt_edge.specs.declared.host.HostStop.TheVariants.{Memory}
 use Rattle.start_model.specs.Fits.{outcomes_of}
 use Rattle.start_model.specs.Orders.{ordered_in}
-use Rattle.start_model.specs.Possible.{Woken, Outcome}
+use Rattle.start_model.specs.Possible.{Outcome}
 use Rattle.start_model.specs.Act.{Note}
 use Rattle.start_model.specs.Boot.{Choice}
 use Rattle.start_model.specs.Summary.{Summary, no_summary, summary_of}
@@ -28,90 +26,17 @@ use Rattle.ntboot_cli.specs.declared.making.Usual.{Usual}
 use Rattle.command_parts.specs.declared.status.Status.{Status}
 use Rattle.command_parts.specs.declared.status.Status.TheVariants as statuses
 use Rattle.ntboot_cli.specs.Answer.{EndsMade, MakesAlone}
-use Rattle.command_parts.specs.Leaves.{Leaves, more, named}
+use Rattle.command_parts.specs.Leaves.{more, named}
 use Rattle.ntboot_cli.specs.Made.{PlaysMade, make_script, made_state, made_going, made_run, made_text, summary_text, told, IsMade, IsPartMade}
-use Rattle.command_parts.specs.Placed.{placed_disk, IsUnrun, IsUntouchedBy}
+use Rattle.command_parts.specs.Placed.{placed_disk, IsUntouchedBy}
 use Rattle.command_parts.specs.Refusals.{Answer, Ends, IsToldAs}
-use Rattle.command_parts.specs.Saves.{Saves, saved_count, saved_status, FilesAs, Settles, SavesBoth, FinishesAs}
-use Rattle.command_parts.proofs.DecideLemmas.{memory_decides, unchanged, told_unused, told_unread}
-use Rattle.command_parts.proofs.LeaveLemmas.{keeps_then, fault_then, no_front}
-use Rattle.command_parts.proofs.SaveLemmas.{files_saved, counts_saved}
-use Rattle.command_parts.proofs.SaveLemmas.{settles-same}
+use Rattle.command_parts.specs.Saves.{Saves, saved_count, Settles, FinishesAs}
+use Rattle.command_parts.proofs.DecideLemmas.{memory_decides, told_unused, told_unread}
+use Rattle.command_parts.proofs.LeaveLemmas.{no_front}
 use Rattle.twin_command.proofs.TwinnedLemmas.{was_said}
-
--- ---- a text that is said, and files that are saved behind it
 
 abbrev pub done_with : List ℕ → Answer
 done_with text = record { status = statuses.Done; text = text }
-
-whole_front : (text old new : List ℕ) → new ≡ old ++ text → SaysFront old new text
-whole_front text old new is = record { front = text; rest = []; cut = sym (append-nil text); said = is }
-
-ends_finished : (r : Result (Unit {0}) HostStop) (saves : Saves) (text : List ℕ) (mid new : HostState)
-    (before after : DiskState) (old : List ℕ) → SavesBoth saves r mid new before after
-    → new.said ≡ old ++ text → Ends (done_with text) (saved_status r) old new.said
-ends_finished (Ok u) saves text mid new before after old s is = inl (refl, is)
-ends_finished (Err Read) saves text mid new before after old s is = absurd (s.host.unread refl)
-ends_finished (Err Write) saves text mid new before after old s is = inr (whole_front text old new.said is)
-ends_finished (Err Memory) saves text mid new before after old s is = inr (whole_front text old new.said is)
-
-told_saved : (r : Result (Unit {0}) HostStop) (saves : Saves) (mid new : HostState) (before after : DiskState)
-    → SavesBoth saves r mid new before after
-    → IsToldAs statuses.Done (saved_status r)
-told_saved (Ok u) saves mid new before after s = inl refl
-told_saved (Err Read) saves mid new before after s = absurd (s.host.unread refl)
-told_saved (Err Write) saves mid new before after s = inr (inl refl)
-told_saved (Err Memory) saves mid new before after s = inr (inr refl)
-
-all_saved : (r : Result (Unit {0}) HostStop) (saves : Saves) (mid new : HostState) (before after : DiskState)
-    (s : SavesBoth saves r mid new before after)
-    → saved_status r ≡ statuses.Done → s.taken ≡ saved_count saves
-all_saved (Ok u) saves mid new before after s e = s.all
-all_saved (Err Read) saves mid new before after s e = absurd cc
-all_saved (Err Write) saves mid new before after s e = absurd cc
-all_saved (Err Memory) saves mid new before after s e = absurd cc
-
-pub finishes_saved : (text : List ℕ) (saves : Saves) (r : Result (Unit {0}) HostStop) (status : Status)
-    (old mid new : HostState) (before after : DiskState)
-    → status ≡ saved_status r → Leaves (Ends (record { status = statuses.Done; text = text })) statuses.Done old mid
-    → KeepsFiles old mid → AsksNone old mid
-    → SavesBoth saves r mid new before after → FinishesAs text saves status old new before after
-finishes_saved text saves r status old mid new before after is leaves files unasked s =
-    let here : FinishesAs text saves (saved_status r) old new before after = record {
-      leaves = record {
-        keeps = keeps_then old mid new leaves.keeps s.host.keeps;
-        counts = counts_saved r old new (fault_then r old mid new leaves.keeps leaves.counts s.host.counts);
-        said = λ tells.
-            ends_finished r saves text mid new before after old.said s
-            (s.host.unsaid (leaves.keeps.tells ∙ tells) ∙ was_said text old.said mid.said (leaves.said tells));
-      };
-      files = λ tells.
-          subst (λ (f : Files). FilesAs saves (saved_status r) after.held f new.files) (files tells)
-          (files_saved saves r mid new before after (leaves.keeps.tells ∙ tells) s);
-      unasked = s.host.unasked ∙ unasked;
-      told = told_saved r saves mid new before after s;
-      taken = s.taken;
-      few = s.few;
-      all = all_saved r saves mid new before after s;
-      settles = s.settles;
-    } in
-    subst (λ (t : Status). FinishesAs text saves t old new before after) (sym is) here
-
--- saying it was stopped
-pub finishes_stopped : (text : List ℕ) (saves : Saves) (status : Status) (old new : HostState) (disk : DiskState)
-    → Leaves (Ends (record { status = statuses.Done; text = text })) status old new → KeepsFiles old new
-    → AsksNone old new → IsToldAs statuses.Done status
-    → (status ≡ statuses.Done → ⊥) → FinishesAs text saves status old new disk disk
-finishes_stopped text saves status old new disk leaves files unasked told undone = record {
-  leaves = leaves;
-  files = λ tells. unchanged saves status disk.held old.files new.files undone (files tells);
-  unasked = unasked;
-  told = told;
-  taken = 0;
-  few = omega arith;
-  all = λ e. absurd (undone e);
-  settles = settles-same disk;
-}
 
 -- ---- the disk
 
@@ -325,32 +250,3 @@ module _ (usual : Usual) (count : ℕ) (primary : List ℕ) (before after : Disk
   played_part (Ok s) p = tt
   played_part (Err e) p = run_part usual count (record { primary = primary; log = None })
       refl before after is keeps p.0 p.1
-
--- what a run on a host of its own said
-pub plays_whole : (usual : Usual) (placed : Woken) (said said' : List ℕ) (s : RunSummary) (before after : DiskState)
-    → said ≡ []
-    → Reports (made_going usual placed) (told said no_summary) (told said' (summary_in s)) before after
-    → PlaysMade {E = AllocError} usual placed before after (Ok s)
-plays_whole usual placed said said' s before after none r = (
-  said',
-  (let P : List ℕ → Type 0 = λ t. Reports (made_going usual placed) (told t no_summary)
-      (told said' (summary_in s)) before after in subst P none r),
-)
-
-pub plays_part : (usual : Usual) (placed : Woken) (said said' : List ℕ) (before after : DiskState) → said ≡ []
-    → ReportsFront (made_going usual placed) said said' before after
-    → PlaysMade {E = AllocError} usual placed before after (Err alloc_error)
-plays_part usual placed said said' before after none r = (
-  said',
-  (let P : List ℕ → Type 0 = λ t. ReportsFront (made_going usual placed) t said' before after in
-      subst P none r),
-)
-
--- nothing was run
-pub unrun_part : (disk : DiskState) → IsUnrun disk → IsPartMade 0 disk
-unrun_part disk u = record {
-  placed = u.few;
-  taken = omega (arith, ap (λ (d : DiskState). d.history.takings) u.alone);
-  unordered = ap (λ (d : DiskState). d.history.armings) u.alone;
-  uncut = ap (λ (d : DiskState). d.history.cut_calls) u.alone;
-}

@@ -1,16 +1,15 @@
 -- What a run leaves: the report, the files that are saved, and the disk.
 use Rattle.nt_bytes.specs.declared.version.HiveVersion.{HiveVersion}
-use Rattle.hive_model.specs.Tree.{Tree}
 use Rattle.hive_store.specs.Checks.{JudgesAs}
 use Rattle.std.proofs.Common.{◌≡◌, ◌⊎◌, inl, inr, ℕ, true, false, List, map, Some, refl, sym, ap, subst, ◌∙◌}
 use Rattle.std.specs.Prelude.{Result, Ok, Err}
 use Rattle.std.specs.Option.{IsSome}
 use Rattle.nt_bytes.specs.declared.fault.HiveFault.{HiveFault}
 use Rattle.hive_model.specs.Image.{Image}
-use Rattle.hive_model.specs.Load.{Loads, LoadFault, state_of}
+use Rattle.hive_model.specs.Load.{Loads, state_of}
 use Rattle.nt_edge.specs.Crash.{EachCrash}
 use Rattle.nt_edge.specs.Disk.{DiskState, new_state}
-use Rattle.nt_edge.specs.Host.{HostState, Files, KeepsFiles, AsksNone}
+use Rattle.nt_edge.specs.Host.{HostState, Files}
 use Rattle.nt_edge.specs.declared.host.HostStop.{HostStop}
 use Rattle.nt_edge.specs.declared.host.HostStop.TheVariants.{Read, Write, Memory}
 use Rattle.boot_machine.specs.Views.{event_in}
@@ -19,7 +18,11 @@ use Rattle.start_model.specs.Possible.{Woken}
 use Rattle.start_model.specs.Run.{run_of}
 use Rattle.start_model.specs.Summary.{no_summary}
 use Rattle.run_parts.specs.Reports.{Reports, ReportsFront, ReportsOr}
+use Rattle.run_parts.specs.Parts.{tally_now}
+use Rattle.start_model.specs.Causes.{Tally}
 use Rattle.order_laws.proofs.QuietLemmas.{reports-said}
+use Rattle.order_laws.proofs.ToldLemmas.{reports-counted}
+use Rattle.ntboot_cli.proofs.GoodLemmas.{whole_good, front_good}
 use Rattle.boot_run.specs.declared.stop.RunStop.{RunStop}
 use Rattle.boot_run.specs.declared.stop.RunStop.TheVariants as stops
 use Rattle.boot_run.specs.declared.summary.Summary.{Summary}
@@ -30,23 +33,22 @@ use Rattle.boot_run.specs.Hosts.{LeavesHost, CountsStop}
 use Rattle.boot_run.specs.Views.{summary_in}
 use Rattle.boot_run.proofs.DiskLemmas.{still_leaves}
 use Rattle.boot_run.proofs.LoadLemmas.{no_fault}
-use Rattle.command_words.specs.Words.{run, RunAsked}
+use Rattle.command_words.specs.Words.{asks, run, RunAsked}
 use Rattle.command_parts.specs.declared.refusal.Obstacle.TheVariants.{Stopped}
 use Rattle.ntboot_cli.specs.Inputs.{inputs_in}
 use Rattle.command_parts.specs.declared.inputs.HiveFiles.{HiveFiles}
 use Rattle.ntboot_cli.specs.declared.inputs.Inputs.{Inputs}
 use Rattle.command_parts.specs.declared.refusal.Refusal.{Refusal}
-use Rattle.command_parts.specs.declared.refusal.Refusal.TheVariants as refusals
 use Rattle.command_parts.specs.declared.status.Status.{Status}
 use Rattle.command_parts.specs.declared.status.Status.TheVariants as statuses
 use Rattle.command_parts.specs.Decides.{Decides, DecidesAlone}
-use Rattle.ntboot_cli.specs.Answer.{IsChecked, saves_of, RunsWhole, EndsRun, EndsHive, EndsInputs, run_in}
-use Rattle.command_parts.specs.Leaves.{Leaves, Looks, CountsBy, stop_in, stopped_as}
+use Rattle.ntboot_cli.specs.Answer.{IsChecked, saves_of, RunsWhole, RunsFront, EndsRun, EndsHive, EndsInputs, run_in}
+use Rattle.command_parts.specs.Leaves.{Looks, CountsBy, stop_in, stopped_as}
 use Rattle.ntboot_cli.specs.Made.{told}
 use Rattle.command_parts.specs.Placed.{image_in, placed_disk, IsUntouchedBy}
-use Rattle.command_parts.specs.Refusals.{Ends, IsToldAs, refusal, refusal_text}
+use Rattle.command_parts.specs.Refusals.{refusal_text}
 use Rattle.command_parts.specs.Saves.{Saves, saved_status, FilesAs, Settles, SavesBoth}
-use Rattle.command_parts.proofs.DecideLemmas.{stopped_decides, refusal_decides, told_unused, refused_unread, unrun}
+use Rattle.command_parts.proofs.DecideLemmas.{stopped_decides, unrun}
 use Rattle.command_parts.proofs.SaveLemmas.{counts_saved, files_saved, untouched_saved, unused_saved, unread_saved}
 use Rattle.command_parts.proofs.LeaveLemmas.{keeps_then, fault_then, no_front}
 
@@ -96,6 +98,15 @@ module _ (inputs : Inputs) (saves : Saves) (w : Woken) (before : DiskState) wher
             reports-said (choices inputs.ini inputs.system) (map event_in inputs.script) w (told old no_summary)
             (told new (summary_in summary)) before left
             all (sym settles.cuts ∙ cuts) (sym settles.faults ∙ faults);
+        counted = λ finished.
+            let same : tally_now left ≡ tally_now before =
+            reports-counted (choices inputs.ini inputs.system) (map event_in inputs.script) w (told old no_summary)
+            (told new (summary_in summary)) before left all finished in (
+              settles.cuts ∙ ap (λ (t : Tally). t.cuts) same,
+              settles.faults ∙ ap (λ (t : Tally). t.faults) same,
+            );
+        good = whole_good (choices inputs.ini inputs.system) (map event_in inputs.script) w (told old no_summary)
+            (told new (summary_in summary)) before left all;
       }
 
   -- and then the files were saved, or that was stopped
@@ -173,10 +184,18 @@ module _ (inputs : Inputs) (saves : Saves) (script : List Event) (old new : Host
       let Q : DiskState → Type 0 = λ d. ReportsFront (run_in inputs any.0) old.said new.said d after in
       subst Q placed (subst P same (report any.0 tells (placed_loads inputs.hive before any.0 placed any.1)))
 
+  front_is : ReportsFront (run_in inputs any.0) old.said new.said (placed_disk inputs.hive) after
+      → RunsFront inputs any.0 (placed_disk inputs.hive) after old.said new.said
+  front_is front = record {
+    reports = front;
+    good = front_good (choices inputs.ini inputs.system) (map event_in inputs.script) any.0 old.said new.said
+        (placed_disk inputs.hive) after front;
+  }
+
   ends_stopped : (stop : RunStop) → ReportsFront (run_in inputs any.0) old.said new.said (placed_disk inputs.hive) after
       → EndsHive inputs saves after (stop_status stop) old.said new.said
-  ends_stopped stops.Write front = inr (inl (any.0, any.1, inl front))
-  ends_stopped stops.Memory front = inr (inl (any.0, any.1, inl front))
+  ends_stopped stops.Write front = inr (inl (any.0, any.1, inl (front_is front)))
+  ends_stopped stops.Memory front = inr (inl (any.0, any.1, inl (front_is front)))
 
   counts_stopped : (stop : RunStop) → CountsStop {T = Summary} (Err stop) old new
       → CountsBy (stop_in (stop_status stop)) old new
@@ -224,20 +243,6 @@ module _ (inputs : Inputs) (saves : Saves) (script : List Event) (old new : Host
 
 -- ---- before the run
 
--- the hive's first fault was said
-pub fault_decides : (inputs : Inputs) (saves : Saves) (fault : HiveFault) (status : Status) (old new : HostState)
-    (disk : DiskState)
-    → LoadFault (image_in inputs.hive) fault → disk ≡ new_state
-    → Leaves (Ends (refusal (refusals.HiveFault fault))) status old new → KeepsFiles old new → AsksNone old new
-    → IsToldAs statuses.HiveFault status → DecidesAlone (EndsHive inputs saves disk) saves status old new disk
-fault_decides inputs saves fault status old new disk is fresh leaves files unasked told = record {
-  decides = refusal_decides (EndsHive inputs saves disk) saves (refusals.HiveFault fault)
-      status old new disk fresh leaves files told (λ o n end. inl (fault, is, end, fresh));
-  unasked = unasked;
-  kept = told_unused statuses.HiveFault status told (λ e. absurd cc);
-  unread = refused_unread (refusals.HiveFault fault) status told;
-}
-
 -- the outside stopped the search for the inputs
 pub unsaid_run : (wanted : Result Inputs Refusal) (saves : Saves) (disk : DiskState) (stop : HostStop)
     (old new : List ℕ) → disk ≡ new_state
@@ -252,10 +257,10 @@ unsaid_run (Ok inputs) saves disk Memory old new fresh same unwritten = inl (inr
 pub unread_run : (words : RunAsked) (stop : HostStop) (status : Status) (old new : HostState) (disk : DiskState)
     → status ≡ stopped_as stop → disk ≡ new_state
     → Looks (inputs_in words old.files) (Err (Stopped stop)) old new
-    → Decides (EndsInputs (inputs_in words old.files) (saves_of (Some (run words))) disk) (saves_of (Some (run words)))
+    → Decides (EndsInputs (inputs_in words old.files) (saves_of (asks (run words) false)) disk) (saves_of (asks (run words) false))
     status old new disk
 unread_run words stop status old new disk is fresh looks =
-    let saves = saves_of (Some (run words)) in
+    let saves = saves_of (asks (run words) false) in
     let wanted = inputs_in words old.files in
     subst (λ (s : Status). Decides (EndsInputs wanted saves disk) saves s old new disk) (sym is)
     (stopped_decides wanted (λ (w : Result Inputs Refusal). EndsInputs w saves disk) saves stop old new disk fresh
@@ -276,6 +281,7 @@ stops_or_done inputs w saves before after statuses.BootIniFault old new ends = a
 stops_or_done inputs w saves before after statuses.HiveFault old new ends = absurd ends
 stops_or_done inputs w saves before after statuses.ReadFault old new ends = absurd ends
 stops_or_done inputs w saves before after statuses.RegFault old new ends = absurd ends
+stops_or_done inputs w saves before after statuses.Found old new ends = absurd ends
 
 stop_is : (status other : Status) → status ≡ other → IsSome (stop_in other) → IsSome (stop_in status)
 stop_is status other is there = (let P : Status → Type 0 = λ s. IsSome (stop_in s) in subst P (sym is) there)

@@ -1,7 +1,7 @@
 -- What the program answers on given words and files. This project's own.
 --
 -- The first obstacle decides, and then the hive with its log, which has a first fault or is what the command is about.
-use Rattle.std.specs.Prelude.{◌≡◌, ◌⊎◌, ◌≤◌, ◌++◌, ℕ, true, false, List, Option, Some, None, map, Result, Ok, Err}
+use Rattle.std.specs.Prelude.{◌≡◌, ◌⊎◌, ◌≤◌, ◌++◌, ℕ, Bool, true, false, if◌then◌else◌, List, Option, Some, None, map, codes, Result, Ok, Err}
 use Rattle.nt_bytes.specs.declared.fault.HiveFault.{HiveFault}
 use Rattle.nt_bytes.specs.declared.fault.ReadStop.{ReadStop}
 use Rattle.nt_bytes.specs.declared.fault.ReadStop.TheVariants as read
@@ -12,17 +12,20 @@ use Rattle.hive_model.specs.Image.{Image}
 use Rattle.hive_model.specs.Load.{Loads, LoadFault}
 use Rattle.hive_model.specs.Size.{bulk_of}
 use Rattle.boot_machine.specs.Views.{event_in}
+use Rattle.start_model.specs.Fits.{outcomes_of, KeepsGood}
 use Rattle.start_model.specs.Lines.{text_of}
 use Rattle.start_model.specs.Report.{Going}
 use Rattle.start_model.specs.Possible.{Woken}
 use Rattle.start_model.specs.Run.{run_of}
 use Rattle.start_model.specs.Quiet.{Quiet, quiet_run_of}
 use Rattle.start_model.specs.Summary.{Summary, no_summary}
+use Rattle.run_laws.specs.Quiet.{AllFinished}
 use Rattle.run_parts.specs.Reports.{Reports, ReportsFront}
 use Rattle.boot_run.specs.Agrees.{LoadsAny}
 use Rattle.boot_run.specs.Choices.{choices}
+use Rattle.help_text.specs.Pages.{page_text}
 use Rattle.tree_text.specs.TreeText.{shown_text}
-use Rattle.command_words.specs.Words.{Asked, export, import, twin, control, safe, run, show, make, RunAsked, ShowAsked, MakeAsked}
+use Rattle.command_words.specs.Words.{Reading, asks, help, refused, version, key, replay, export, import, twin, control, safe, run, show, make, RunAsked, ShowAsked, MakeAsked}
 use Rattle.command_parts.specs.declared.status.Status.{Status}
 use Rattle.command_parts.specs.declared.status.Status.TheVariants as statuses
 use Rattle.command_parts.specs.declared.refusal.Refusal.{Refusal}
@@ -42,12 +45,18 @@ use Rattle.control_command.specs.Inputs.{inputs_in as control_inputs_in}
 use Rattle.twin_command.specs.Twinned.{EndsTwin, stands_by, twin_saves}
 use Rattle.text_commands.specs.Asks.{AsksImport}
 use Rattle.text_commands.specs.Imported.{EndsImport, import_saves}
-use Rattle.text_commands.specs.Exported.{EndsExported, path_in}
+use Rattle.key_text.specs.Words.{path_in}
+use Rattle.text_commands.specs.Exported.{EndsExported}
 use Rattle.ntboot_cli.specs.Made.{told, usual_in, made_text, IsMade, IsPartMade}
 use Rattle.command_parts.specs.Leaves.{Leaves}
+use Rattle.command_parts.specs.OnHive.{EndsOnHive}
+use Rattle.line_text.specs.declared.form.ReportForm.{ReportForm}
+use Rattle.line_text.specs.declared.form.ReportForm.TheVariants.{Text, Json}
+use Rattle.key_command.specs.Answer.{question_in as key_question_in}
+use Rattle.replay_command.specs.Answer.{EndsReplay, report_in}
 use Rattle.command_parts.specs.Placed.{image_in, placed_disk, IsUnrun, IsUntouchedBy}
 use Rattle.command_parts.specs.Refusals.{Answer, Ends, IsToldAs, refusal}
-use Rattle.command_parts.specs.Saves.{Saves, no_saves, saved_count, FilesAs, Settles}
+use Rattle.command_parts.specs.Saves.{Saves, no_saves, saved_count, FilesAs, KeepsUnsaved, Settles}
 
 -- ---- a run
 
@@ -66,18 +75,26 @@ abbrev pub quiet_in : Inputs → Woken → Quiet
 quiet_in inputs placed = quiet_run_of (choices inputs.ini inputs.system) (map event_in inputs.script) placed
 
 -- The whole report was said. The disk as the run left it then settled, and so many files were taken from it. Where it had no
--- cut and no fault, the report is the text of the quiet run.
+-- cut and no fault, the report is the text of the quiet run; and where the report tells no stop, it counted none. LastKnownGood
+-- names a good set in each tree that was held, and in each that the disk may load as.
 pub record RunsWhole (inputs : Inputs) (placed : Woken) (taken : ℕ) (before after : DiskState) (old new : List ℕ) : Type 0 where
   pub summary : Summary
   pub left : DiskState
   pub reports : Reports (run_in inputs placed) (told old no_summary) (told new summary) before left
   pub settles : Settles taken left after
   pub quiet : after.cuts ≡ 0 → after.faults ≡ 0 → new ≡ old ++ text_of (quiet_in inputs placed).lines
+  pub counted : AllFinished (outcomes_of reports.text) → (after.cuts ≡ before.cuts) × (after.faults ≡ before.faults)
+  pub good : let r = run_in inputs placed reports.report.woken (outcomes_of reports.text) in KeepsGood r.notes r.disk
+
+-- A front of the report was said, and LastKnownGood names a good set up to where nothing more happened.
+pub record RunsFront (inputs : Inputs) (placed : Woken) (before after : DiskState) (old new : List ℕ) : Type 0 where
+  pub reports : ReportsFront (run_in inputs placed) old new before after
+  pub good : let r = run_in inputs placed reports.report.woken (outcomes_of reports.text) in KeepsGood r.notes r.disk
 
 -- the run was given up, and a front of its report was said; or the whole report was, and then the saving was given up
 abbrev pub RunsPart : Inputs → Woken → Saves → DiskState → DiskState → List ℕ → List ℕ → Type 0
 RunsPart inputs placed saves before after old new =
-    ReportsFront (run_in inputs placed) old new before after
+    RunsFront inputs placed before after old new
     ⊎ ((taken : ℕ) × (taken ≤ saved_count saves) × RunsWhole inputs placed taken before after old new)
 
 -- the run went from the disk as it was to the disk as it is
@@ -85,7 +102,7 @@ abbrev pub EndsRun : Inputs → Woken → Saves → DiskState → DiskState → 
 EndsRun inputs placed saves before after statuses.Done old new = RunsWhole inputs placed (saved_count saves) before after old new
 EndsRun inputs placed saves before after statuses.WriteFault old new = RunsPart inputs placed saves before after old new
 EndsRun inputs placed saves before after statuses.Memory old new = RunsPart inputs placed saves before after old new
-EndsRun inputs placed saves before after refused old new = ⊥
+EndsRun inputs placed saves before after other old new = ⊥
 
 -- The hive has a first fault, and that is said; or it loads as a state, and the script is run on the disk that holds it; or there
 -- was no memory before anything was said. The disk is this afterwards.
@@ -137,7 +154,7 @@ EndsMade (Err r) count saves disk status old new = Ends (refusal r) status old n
 EndsMade (Ok usual) count saves disk statuses.Done old new = (new ≡ old ++ made_text usual count) × IsMade usual count (saved_count saves) disk
 EndsMade (Ok usual) count saves disk statuses.WriteFault old new = EndsPart usual count saves disk statuses.WriteFault old new
 EndsMade (Ok usual) count saves disk statuses.Memory old new = EndsPart usual count saves disk statuses.Memory old new
-EndsMade (Ok usual) count saves disk refused old new = ⊥
+EndsMade (Ok usual) count saves disk other old new = ⊥
 
 -- the text of the hive's tree, or its first fault, or there was no memory
 abbrev pub ShowsAs : Image → Result (List ℕ) Obstacle → Type 0
@@ -148,43 +165,63 @@ ShowsAs image (Err (Stopped stop)) = stop ≡ NoMemory
 -- ---- a command
 
 -- the files that the words want to be saved
-abbrev pub saves_of : Option Asked → Saves
-saves_of None = no_saves
-saves_of (Some (run words)) = record { hive = words.save_hive; log = words.save_log }
-saves_of (Some (show words)) = no_saves
-saves_of (Some (make words)) = record { hive = words.save_hive; log = None }
-saves_of (Some (safe words)) = no_saves
-saves_of (Some (control words)) = no_saves
-saves_of (Some (twin words)) = twin_saves words
-saves_of (Some (import words)) = import_saves words
-saves_of (Some (export words)) = no_saves
+abbrev pub saves_of : Reading → Saves
+saves_of (refused why) = no_saves
+saves_of (help page) = no_saves
+saves_of version = no_saves
+saves_of (asks (run words) json) = record { hive = words.save_hive; log = words.save_log }
+saves_of (asks (show words) json) = no_saves
+saves_of (asks (make words) json) = record { hive = words.save_hive; log = None }
+saves_of (asks (safe words) json) = no_saves
+saves_of (asks (control words) json) = no_saves
+saves_of (asks (twin words) json) = twin_saves words
+saves_of (asks (import words) json) = import_saves words
+saves_of (asks (export words) json) = no_saves
+saves_of (asks (key words) json) = no_saves
+saves_of (asks (replay words) json) = no_saves
+
+-- the answer with a page of help, or the version
+abbrev pub about : List ℕ → Answer
+about text = record { status = statuses.Done; text = text }
+
+-- the form of a report, by whether its lines are to be JSON
+abbrev pub form_of : Bool → ReportForm
+form_of json = if json then Json else Text
 
 -- words without a reading are bad usage; else the command decides, by the files before and after
-abbrev pub EndsWords : Option Asked → Files → Files → DiskState → Status → List ℕ → List ℕ → Type 0
-EndsWords None files after disk status old new = Ends (refusal Usage) status old new × (disk ≡ new_state)
-EndsWords (Some (run words)) files after disk status old new =
-    EndsInputs (inputs_in words files) (saves_of (Some (run words))) disk status old new
-EndsWords (Some (show words)) files after disk status old new =
+abbrev pub EndsWords : Reading → Files → Files → DiskState → Status → List ℕ → List ℕ → Type 0
+EndsWords (refused why) files after disk status old new = Ends (refusal Usage) status old new × (disk ≡ new_state)
+EndsWords (help page) files after disk status old new = Ends (about (page_text page)) status old new × (disk ≡ new_state)
+EndsWords version files after disk status old new = Ends (about (codes "ntboot 1.0.0\n")) status old new × (disk ≡ new_state)
+EndsWords (asks (run words) json) files after disk status old new =
+    EndsInputs (inputs_in words files) (saves_of (asks (run words) json)) disk status old new
+EndsWords (asks (show words) json) files after disk status old new =
     EndsShown (hive_in files words.hive words.log) status old new × (disk ≡ new_state)
-EndsWords (Some (make words)) files after disk status old new =
-    EndsMade usual_in words.count (saves_of (Some (make words))) disk status old new
-EndsWords (Some (safe words)) files after disk status old new = EndsSafe (safe_inputs_in words files) status old new × (disk ≡ new_state)
-EndsWords (Some (control words)) files after disk status old new = EndsControl (control_inputs_in words files) status old new × (disk ≡ new_state)
-EndsWords (Some (twin words)) files after disk status old new =
+EndsWords (asks (make words) json) files after disk status old new =
+    EndsMade usual_in words.count (saves_of (asks (make words) json)) disk status old new
+EndsWords (asks (safe words) json) files after disk status old new = EndsSafe (safe_inputs_in words files) status old new × (disk ≡ new_state)
+EndsWords (asks (control words) json) files after disk status old new = EndsControl (control_inputs_in words files) status old new × (disk ≡ new_state)
+EndsWords (asks (twin words) json) files after disk status old new =
     EndsTwin (hive_in files words.hive words.alt) (stands_by words.scheme) words.default (twin_saves words) disk status old new
-EndsWords (Some (import words)) files after disk status old new =
+EndsWords (asks (import words) json) files after disk status old new =
     EndsImport (hive_in files words.hive words.log) (import_saves words) (file_in words.reg (files words.reg)) disk status old new
-EndsWords (Some (export words)) files after disk status old new =
+EndsWords (asks (export words) json) files after disk status old new =
     EndsExported (hive_in files words.hive words.log) (path_in words.key) words.reg files after status old new × (disk ≡ new_state)
+EndsWords (asks (key words) json) files after disk status old new =
+    EndsOnHive (key_question_in (form_of json) words files) status old new × (disk ≡ new_state)
+EndsWords (asks (replay words) json) files after disk status old new =
+    EndsReplay (report_in (form_of json) words files) words.save_hive files after status old new × (disk ≡ new_state)
 
 -- as many files are asked for as stand in the written order, up to the first obstacle; for `import` one more, where the hive has no fault
-abbrev pub AsksAs : Option Asked → Status → HostState → HostState → Type 0
-AsksAs (Some (import words)) status old new = AsksImport words status old new
+abbrev pub AsksAs : Reading → Status → HostState → HostState → Type 0
+AsksAs (asks (import words) json) status old new = AsksImport words status old new
 AsksAs asked status old new = AsksSoMany (asks_in asked) status old new
 
--- what becomes of the files: `export` changes the one that it puts alone, every other command those that it saves
-abbrev pub LeavesFiles : Option Asked → Status → Image → Files → Files → Type 0
-LeavesFiles (Some (export words)) status held old new = KeepsOthers old new words.reg
+-- what becomes of the files: `export` changes the one that it puts alone, `replay` the one that it saves alone, every other command
+-- those that it saves
+abbrev pub LeavesFiles : Reading → Status → Image → Files → Files → Type 0
+LeavesFiles (asks (export words) json) status held old new = KeepsOthers old new words.reg
+LeavesFiles (asks (replay words) json) status held old new = KeepsUnsaved (record { hive = words.save_hive; log = None }) old new
 LeavesFiles asked status held old new = FilesAs (saves_of asked) status held old new
 
 -- ---- what a part of the program leaves
@@ -213,7 +250,7 @@ MakesAlone usual words status old new disk =
     DecidesAlone (EndsMade usual words.count saves disk) saves status old new disk
 
 -- all that is said of the whole call
-pub record TopDecides (asked : Option Asked) (status : Status) (old new : HostState) (disk : DiskState) : Type 0 where
+pub record TopDecides (asked : Reading) (status : Status) (old new : HostState) (disk : DiskState) : Type 0 where
   pub leaves : Leaves (EndsWords asked old.files new.files disk) status old new
   pub files : old.tells ≡ true → LeavesFiles asked status disk.held old.files new.files
   pub off : disk.on ≡ false

@@ -9,7 +9,7 @@ use Rattle.arc_path.specs.Reading.{arc_of}
 use Rattle.boot_script.specs.declared.event.Event.{Event}
 use Rattle.boot_script.specs.declared.stop.ScriptFault.{ScriptFault}
 use Rattle.boot_script.specs.Script.{script_of}
-use Rattle.command_words.specs.Words.{Asked, export, import, twin, control, safe, run, show, make, RunAsked, ShowAsked}
+use Rattle.command_words.specs.Words.{Reading, asks, help, refused, version, key, replay, export, import, twin, control, safe, run, show, make, RunAsked, ShowAsked}
 use Rattle.command_parts.specs.declared.refusal.Refusal.{Refusal}
 use Rattle.command_parts.specs.declared.refusal.Refusal.TheVariants.{Usage, ScriptFault as BadScript}
 use Rattle.command_parts.specs.declared.refusal.Obstacle.{Obstacle}
@@ -19,6 +19,8 @@ use Rattle.safe_command.specs.Inputs.{asks_safe, arguments_in as safe_arguments_
 use Rattle.control_command.specs.Inputs.{asks_control}
 use Rattle.twin_command.specs.Twinned.{asks_twin}
 use Rattle.text_commands.specs.Exported.{asks_export}
+use Rattle.key_command.specs.Answer.{asks_key}
+use Rattle.replay_command.specs.Inputs.{asks_replay}
 use Rattle.ntboot_cli.specs.declared.inputs.Inputs.{Inputs}
 
 abbrev pub events_in : Result (List Event) ScriptFault → Result (List Event) Refusal
@@ -37,18 +39,22 @@ inputs_in words files = do
   Ok (record { system = system; ini = ini; script = events; hive = hive })
 
 -- whether the words have a reading, and the system's path, where they have one
-abbrev pub arguments_in : Option Asked → Result (Unit {0}) Refusal
-arguments_in None = Err Usage
-arguments_in (Some (run words)) = do
+abbrev pub arguments_in : Reading → Result (Unit {0}) Refusal
+arguments_in (refused why) = Err Usage
+arguments_in (help page) = Ok tt
+arguments_in version = Ok tt
+arguments_in (asks (run words) json) = do
   system ← system_in (arc_of words.system)
   Ok tt
-arguments_in (Some (show words)) = Ok tt
-arguments_in (Some (make words)) = Ok tt
-arguments_in (Some (safe words)) = safe_arguments_in words
-arguments_in (Some (control words)) = Ok tt
-arguments_in (Some (twin words)) = Ok tt
-arguments_in (Some (import words)) = Ok tt
-arguments_in (Some (export words)) = Ok tt
+arguments_in (asks (show words) json) = Ok tt
+arguments_in (asks (make words) json) = Ok tt
+arguments_in (asks (safe words) json) = safe_arguments_in words
+arguments_in (asks (control words) json) = Ok tt
+arguments_in (asks (twin words) json) = Ok tt
+arguments_in (asks (import words) json) = Ok tt
+arguments_in (asks (export words) json) = Ok tt
+arguments_in (asks (key words) json) = Ok tt
+arguments_in (asks (replay words) json) = Ok tt
 
 -- ---- how many files are asked for, up to the first obstacle
 
@@ -67,16 +73,20 @@ abbrev pub asks_show : ShowAsked → Files → ℕ
 asks_show words files = asks_hive files words.hive words.log
 
 -- for what the words ask for; of `import` its hive alone, whose text is asked for where the hive has no fault
-abbrev pub asks_in : Option Asked → Files → ℕ
-asks_in None files = 0
-asks_in (Some (run words)) files = asks_run words files
-asks_in (Some (show words)) files = asks_show words files
-asks_in (Some (make words)) files = 0
-asks_in (Some (safe words)) files = asks_safe words files
-asks_in (Some (control words)) files = asks_control words files
-asks_in (Some (twin words)) files = asks_twin words files
-asks_in (Some (import words)) files = asks_hive files words.hive words.log
-asks_in (Some (export words)) files = asks_export words files
+abbrev pub asks_in : Reading → Files → ℕ
+asks_in (refused why) files = 0
+asks_in (help page) files = 0
+asks_in version files = 0
+asks_in (asks (run words) json) files = asks_run words files
+asks_in (asks (show words) json) files = asks_show words files
+asks_in (asks (make words) json) files = 0
+asks_in (asks (safe words) json) files = asks_safe words files
+asks_in (asks (control words) json) files = asks_control words files
+asks_in (asks (twin words) json) files = asks_twin words files
+asks_in (asks (import words) json) files = asks_hive files words.hive words.log
+asks_in (asks (export words) json) files = asks_export words files
+asks_in (asks (key words) json) files = asks_key words files
+asks_in (asks (replay words) json) files = asks_replay words files
 
 -- a search for the inputs of a run asked for these files, each once and in their order, up to the first obstacle or stop
 abbrev pub AsksRun : {A : Type 0} → RunAsked → Result A Obstacle → HostState → HostState → Type 0

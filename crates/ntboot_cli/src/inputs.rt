@@ -1,6 +1,6 @@
 //! What a run reads: one step after the other, up to the first obstacle.
 
-ghost use Rattle.std.specs.Prelude.{◌≡◌, Some, Err, IfOk};
+ghost use Rattle.std.specs.Prelude.{◌≡◌, false, Err, IfOk};
 ghost use Rattle.std.specs.List.{All};
 ghost use Rattle.boot_script.specs.Script.{script_of, HasCounts};
 ghost use Rattle.command_parts.specs.Leaves.{Looks, Reads, IsBadUsage};
@@ -48,8 +48,8 @@ pub(crate) fn inputs_in<H: Host>(
     ensures looks { Looks (inputs_in (run_seen words.entry) (H.state host.old).files) result (H.state host.old) (H.state host.new) }
     ensures asks { AsksRun (run_seen words.entry) result (H.state host.old) (H.state host.new) }
     ensures counts { IfOk result (λ inputs. All HasCounts inputs.script) }
-    ensures usage { result ≡ Err (Obstacle.Refused Refusal.Usage) → arguments_in (Some (book.run (run_seen words.entry))) ≡ Err Refusal.Usage }
-    ensures refused { arguments_in (Some (book.run (run_seen words.entry))) ≡ Err Refusal.Usage → IsBadUsage result }
+    ensures usage { result ≡ Err (Obstacle.Refused Refusal.Usage) → arguments_in (book.asks (book.run (run_seen words.entry)) false) ≡ Err Refusal.Usage }
+    ensures refused { arguments_in (book.asks (book.run (run_seen words.entry)) false) ≡ Err Refusal.Usage → IsBadUsage result }
 {
     let system = system_in(alloc, words.system.as_bytes())?;
     let script = file_in(alloc, host, words.script)?;

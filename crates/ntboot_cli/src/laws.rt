@@ -1,6 +1,6 @@
 //! What follows for a run that was said whole, or given up.
 
-ghost use Rattle.std.specs.Prelude.{◌≡◌, ◌⊎◌, ◌+◌, ℕ, List, Option, Ok};
+ghost use Rattle.std.specs.Prelude.{◌≡◌, ◌⊎◌, ◌+◌, false, ℕ, List, Option, Ok};
 ghost use Rattle.std.specs.Option.{IsSome};
 ghost use Rattle.hive_model.specs.Image.{Primary, Log, IsFileOf, image_of};
 ghost use Rattle.hive_model.specs.Load.{Loads};
@@ -8,7 +8,7 @@ ghost use Rattle.nt_edge.specs.Disk.{DiskState};
 ghost use Rattle.start_model.specs.Report.{Going};
 ghost use Rattle.start_model.specs.Events.{Event as BookEvent};
 ghost use Rattle.start_model.specs.Fits.{outcomes_of, KeepsGood, MayLoad};
-ghost use Rattle.start_model.specs.Possible.{Woken};
+ghost use Rattle.start_model.specs.Possible.{Woken, loads_as};
 ghost use Rattle.start_model.specs.Boot.{Choice};
 ghost use Rattle.start_model.specs.Run.{run_of};
 ghost use Rattle.start_model.specs.Summary.{Summary, no_summary};
@@ -18,7 +18,7 @@ ghost use Rattle.command_parts.specs.declared.inputs.HiveFiles.{HiveFiles};
 ghost use Rattle.ntboot_cli.specs.declared.inputs.Inputs.{Inputs};
 ghost use Rattle.ntboot_cli.specs.declared.making.Usual.{Usual};
 ghost use Rattle.command_parts.specs.declared.status.Status.{Status};
-ghost use Rattle.ntboot_cli.specs.Answer.{RunsWhole, EndsInputs};
+ghost use Rattle.ntboot_cli.specs.Answer.{RunsWhole, EndsInputs, quiet_in};
 ghost use Rattle.command_parts.specs.Leaves.{more, named, stop_in};
 ghost use Rattle.ntboot_cli.specs.Made.{told, usual_in, made_run, IsMade};
 ghost use Rattle.command_parts.specs.Placed.{image_in, placed_disk};
@@ -66,6 +66,15 @@ pub fn what_was_saved_loads_as_the_run_says()
     ensures made { (usual : Usual) (count saved : ℕ) (disk : DiskState) (hive log : List ℕ)
         → IsMade usual count saved disk → IsFileOf disk.held Primary hive → IsFileOf disk.held Log log → HasUntornBlock disk.held
         → MayLoad (made_run usual count).state.disk (image_of hive log) }
+{}
+
+/// Behind a run whose disk counts no cut and no fault the hive's file alone, with its log's or any other, loads as the last state
+/// that was settled, without the log; unless no start woke the disk, which is as it was placed then.
+pub fn what_a_quiet_run_saved_loads_as_its_last_tree()
+    ensures { (inputs : Inputs) (placed : Woken) (count : ℕ) (before : DiskState) (after : DiskState) (old new hive log : List ℕ)
+        → RunsWhole inputs placed count before after old new → after.cuts ≡ 0 → after.faults ≡ 0 → IsFileOf after.held Primary hive
+        → Loads (image_of hive log) (quiet_in inputs placed).state.disk.settled false
+        ⊎ ((quiet_in inputs placed).state.disk ≡ loads_as placed) }
 {}
 
 /// The usual system and an empty boot.ini are read, so that `make` has no obstacle.

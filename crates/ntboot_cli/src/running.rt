@@ -1,6 +1,6 @@
 //! `run`: the script played on the disk, and what the disk then holds saved.
 
-ghost use Rattle.std.specs.Prelude.{◌≡◌, Some, Err};
+ghost use Rattle.std.specs.Prelude.{◌≡◌, false, Err};
 ghost use Rattle.std.specs.List.{All};
 ghost use Rattle.boot_script.specs.Script.{HasCounts};
 ghost use Rattle.nt_edge.specs.Disk.{new_state};
@@ -101,8 +101,8 @@ pub(crate) fn run<H: Host, B: Bench>(
     requires fresh { B.state bench.old ≡ new_state }
     ensures decides { DecidesRun (run_seen words.entry) result (H.state host.old) (H.state host.new) (B.state bench.new) }
     ensures asked { AsksSoMany (asks_run (run_seen words.entry)) result (H.state host.old) (H.state host.new) }
-    ensures usage { result ≡ Status.Usage → arguments_in (Some (book.run (run_seen words.entry))) ≡ Err Refusal.Usage }
-    ensures refused { arguments_in (Some (book.run (run_seen words.entry))) ≡ Err Refusal.Usage → IsToldAs Status.Usage result }
+    ensures usage { result ≡ Status.Usage → arguments_in (book.asks (book.run (run_seen words.entry)) false) ≡ Err Refusal.Usage }
+    ensures refused { arguments_in (book.asks (book.run (run_seen words.entry)) false) ≡ Err Refusal.Usage → IsToldAs Status.Usage result }
 {
     let saves = Saves {
         hive: words.save_hive,

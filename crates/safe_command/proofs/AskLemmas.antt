@@ -71,14 +71,3 @@ first_asks A B n p s k e (Err x) g h whole gives unwritten asks is =
     by_kind (Stopped Read) gives unwritten asks = wider 1 p n g h (omega (arith, whole)) asks
     by_kind (Stopped Write) gives unwritten asks = absurd (unwritten refl)
     by_kind (Stopped Memory) gives unwritten asks = wider 0 p n g h (omega (arith, whole)) asks
-
--- a search for one file
-pub one_asked : {A : Type 0} (q : Result A Obstacle) (g h : ℕ) → ((e : Obstacle) → q ≡ Err e → e ≡ Stopped Write → ⊥)
-    → h ≡ more 1 g → AsksUntil 1 q g h
-one_asked (Ok a) g h unwritten asked = asked
-one_asked (Err (Refused r)) g h unwritten asked = asked
-one_asked (Err (Stopped Read)) g h unwritten asked =
-    record { asked = 1; not_less = omega arith; not_more = omega arith; gets = asked }
-one_asked (Err (Stopped Write)) g h unwritten asked = asked
-one_asked (Err (Stopped Memory)) g h unwritten asked =
-    record { asked = 1; not_less = omega arith; not_more = omega arith; gets = asked }

@@ -1,44 +1,38 @@
 -- What becomes of a disk by an import.
-use Rattle.std.proofs.Common.{◌≡◌, ◌⊎◌, inr, ⊎_elim, ℕ, Bool, true, false, not, List, [], ◌++◌, Result, Ok, Err, refl, sym, ap, subst, ◌∙◌, arith, codes, ◌+◌, ◌≤◌}
+use Rattle.std.proofs.Common.{◌≡◌, ◌⊎◌, inr, ⊎_elim, ℕ, Bool, true, false, not, List, [], ◌++◌, Result, Ok, Err, refl, sym, ap, subst, ◌∙◌, arith, codes, ◌+◌}
 use Rattle.std.specs.Prelude.{◌↔◌, IfOk}
 use Rattle.std.specs.Fmt.{decimal}
 use Rattle.std.specs.Bool.{Decides}
 use Rattle.std.proofs.lemmas.Bool.{false≢true}
 use Rattle.hive_model.specs.Base.{Base, version_of}
-use Rattle.hive_model.specs.Edit.{Step, Refusal, no_key, no_value, bad_name, exists, name_too_long, too_deep, data_too_long, full, edited}
+use Rattle.hive_model.specs.Edit.{Step, edited}
 use Rattle.hive_model.specs.Image.{Image, IsCrashImage}
-use Rattle.hive_model.specs.Load.{Loads, LoadsAs, state_of}
+use Rattle.hive_model.specs.Load.{Loads, state_of}
 use Rattle.hive_model.specs.State.{HiveState}
 use Rattle.hive_model.specs.Tree.{Tree, same_tree}
 use Rattle.hive_commit.specs.Stages.{next_number}
-use Rattle.hive_commit.specs.Stops.{IsCommitOn}
-use Rattle.hive_log.specs.Stops.{IsLoadOn}
 use Rattle.hive_store.specs.Commits.{committed_state}
 use Rattle.hive_store.specs.Loading.{loaded_state}
 use Rattle.hive_store.specs.Session.{Session}
 use Rattle.nt_edge.specs.Crash.{EachCrash}
 use Rattle.nt_edge.specs.Disk.{DiskState, History}
-use Rattle.nt_edge.specs.Frames.{GoesOn, GoesFor}
 use Rattle.nt_edge.specs.Bench.{woken}
 use Rattle.nt_edge.proofs.Images.{still_crash}
-use Rattle.reg_tree.specs.declared.stop.EditStop.{EditStop}
-use Rattle.reg_tree.specs.declared.stop.EditStop.TheVariants as stops
-use Rattle.reg_tree.specs.Makes.{IsRefused}
 use Rattle.run_laws.proofs.SameLemmas.{same-Decides}
 use Rattle.command_parts.specs.declared.inputs.HiveFiles.{HiveFiles}
-use Rattle.command_parts.specs.Leaves.{named, IsPartDone}
-use Rattle.command_parts.specs.Placed.{image_in, placed_disk, IsUnrun}
+use Rattle.command_parts.specs.Leaves.{named}
+use Rattle.command_parts.specs.Placed.{image_in, placed_disk}
 use Rattle.text_commands.specs.declared.changing.Done.{Done}
 use Rattle.text_commands.specs.declared.changing.Done.TheVariants as dones
-use Rattle.text_commands.specs.Imported.{Change, refusal_word, change_by, change_of}
-use Rattle.text_commands.specs.Imports.{stop_word, IsRefusedAs, Settles, Makes, Changes, ChangesHeld, ChangesAwake, Unmoved, ImportsOn}
+use Rattle.text_commands.specs.Imported.{Change, change_by, change_of}
+use Rattle.text_commands.specs.Imports.{Settles, Makes, Changes, ChangesHeld, ChangesAwake, ImportsOn}
 
 -- with nothing in flight only what is held may be left
 still_loads : (disk : DiskState) (s : HiveState) (dirty : Bool) → disk.flight ≡ [] → Loads disk.held s dirty
-    → EachCrash disk (λ (c : Image). LoadsAs c s)
+    → EachCrash disk (λ (c : Image). Loads c s dirty)
 still_loads disk s dirty still loads c crash =
-    let P : Image → Type 0 = λ i. LoadsAs i s in
-    let here : P disk.held = (dirty, loads) in
+    let P : Image → Type 0 = λ i. Loads i s dirty in
+    let here : P disk.held = loads in
     subst P (sym (still_crash disk.held c (rw still at crash))) here
 
 -- whether an edit gave another tree is told by a test
@@ -83,12 +77,12 @@ settled_changes h k steps dones.Nothing old new still loads made base unchanged 
     let same : same_tree h.tree k.tree ≡ true = not_flips (same_tree h.tree k.tree) k.changed now settles.0 in
     let change : change_of s steps ≡ record { text = codes "import nothing\n"; state = s } =
     ap (change_by s) made ∙ change_same s k.tree same in
-    let P : DiskState → Type 0 = λ d. EachCrash d (λ (c : Image). LoadsAs c s) in
-    let left : EachCrash new (λ (c : Image). LoadsAs c s) =
+    let P : DiskState → Type 0 = λ d. EachCrash d (λ (c : Image). Loads c s false) in
+    let left : EachCrash new (λ (c : Image). Loads c s false) =
     subst P (sym settles.1) (still_loads old s false still loads) in
     record {
       text = ap (λ (c : Change). c.text) (sym change);
-      loads = subst (λ (c : Change). EachCrash new (λ (i : Image). LoadsAs i c.state)) (sym change) left;
+      loads = subst (λ (c : Change). EachCrash new (λ (i : Image). Loads i c.state false)) (sym change) left;
     }
 settled_changes h k steps (dones.Commit number) old new still loads made base unchanged changed settles =
     let s : HiveState = loaded_state h in
@@ -100,100 +94,17 @@ settled_changes h k steps (dones.Commit number) old new still loads made base un
     let numbered : number ≡ next_number h.base.first = settles.1 ∙ ap (λ (b : Base). next_number b.first) base in
     let state : committed_state k ≡ state_of k.tree (next_number h.base.first) (version_of h.base.minor) =
     ap (λ (b : Base). state_of k.tree (next_number b.first) (version_of b.minor)) base in
-    let left : EachCrash new (λ (c : Image). LoadsAs c
-    (state_of k.tree (next_number h.base.first) (version_of h.base.minor))) =
-    subst (λ (t : HiveState). EachCrash new (λ (c : Image). LoadsAs c t)) state
+    let left : EachCrash new (λ (c : Image). Loads c
+    (state_of k.tree (next_number h.base.first) (version_of h.base.minor)) false) =
+    subst (λ (t : HiveState). EachCrash new (λ (c : Image). Loads c t false)) state
     (still_loads new (committed_state k) false settles.2 settles.3) in
     record {
       text = ap (λ (n : ℕ). codes "commit import " ++ decimal n ++ codes "\n") numbered
           ∙ ap (λ (c : Change). c.text) (sym change);
-      loads = subst (λ (c : Change). EachCrash new (λ (i : Image). LoadsAs i c.state)) (sym change) left;
+      loads = subst (λ (c : Change). EachCrash new (λ (i : Image). Loads i c.state false)) (sym change) left;
     }
-
-refused_by : (s : HiveState) (steps : List Step) (why : Refusal) (stop : EditStop) (disk : DiskState) → disk.flight ≡ []
-    → Loads disk.held s false
-    → stop_word stop ≡ refusal_word why → edited s.version s.tree steps ≡ Err why
-    → Changes s steps disk (dones.Refused stop)
-refused_by s steps why stop disk still loads is made =
-    let change = ap (change_by s) made in
-    record {
-      text = ap (λ (w : List ℕ). codes "import refused " ++ w ++ codes "\n") is
-          ∙ ap (λ (c : Change). c.text) (sym change);
-      loads = subst (λ (c : Change). EachCrash disk (λ (i : Image). LoadsAs i c.state)) (sym change)
-          (still_loads disk s false still loads);
-    }
-
--- the edits were refused
-pub refused_changes : (s : HiveState) (steps : List Step) (stop : EditStop) (disk : DiskState) → disk.flight ≡ []
-    → Loads disk.held s false
-    → IsRefused (edited s.version s.tree steps) stop → (stop ≡ stops.Memory → ⊥)
-    → Changes s steps disk (dones.Refused stop)
-refused_changes s steps stops.NoKey disk still loads is some =
-    refused_by s steps no_key stops.NoKey disk still loads refl is
-refused_changes s steps stops.NoValue disk still loads is some =
-    refused_by s steps no_value stops.NoValue disk still loads refl is
-refused_changes s steps stops.BadName disk still loads is some =
-    refused_by s steps bad_name stops.BadName disk still loads refl is
-refused_changes s steps stops.Exists disk still loads is some =
-    refused_by s steps exists stops.Exists disk still loads refl is
-refused_changes s steps stops.NameTooLong disk still loads is some =
-    refused_by s steps name_too_long stops.NameTooLong disk still loads refl is
-refused_changes s steps stops.TooDeep disk still loads is some =
-    refused_by s steps too_deep stops.TooDeep disk still loads refl is
-refused_changes s steps stops.DataTooLong disk still loads is some =
-    refused_by s steps data_too_long stops.DataTooLong disk still loads refl is
-refused_changes s steps stops.Full disk still loads is some =
-    refused_by s steps full stops.Full disk still loads refl is
-refused_changes s steps stops.Memory disk still loads is some = absurd (some refl)
-
--- the edits were refused, or there was no memory
-pub refused_as : {E : Type 0} (s : HiveState) (steps : List Step) (stop : EditStop) (result : Result Done E)
-    (disk : DiskState) → disk.flight ≡ []
-    → Loads disk.held s false → IsRefused (edited s.version s.tree steps) stop → IsRefusedAs stop result
-    → IfOk result (Changes s steps disk)
-refused_as s steps stop (Ok done) disk still loads is told =
-    subst (Changes s steps disk) (sym told.0) (refused_changes s steps stop disk still loads is told.1)
-refused_as s steps stop (Err e) disk still loads is told = tt
 
 -- ---- what was done from outside
-
--- nothing was done
-pub unmoved_still : {E : Type 0} (result : Result Done E) (disk : DiskState) → Unmoved result disk disk
-unmoved_still (Ok done) disk = record { history = refl; quiet = record { cuts = refl; faults = refl } }
-unmoved_still (Err e) disk = record { history = refl; quiet = tt }
-
--- a commit was stopped
-pub uncommitted : {E : Type 0} (e : E) (old new : DiskState) (lost failed lacked : Type 0)
-    → GoesFor old new lost failed lacked → Unmoved (Err e) old new
-uncommitted e old new lost failed lacked goes = record { history = goes.goes_on.history; quiet = tt }
-
--- a commit was made
-pub committed_quiet : {E T : Type 0} (done : Done) (x : T) (old new : DiskState) → IsCommitOn old new (Ok x)
-    → Unmoved {E = E} (Ok done) old new
-committed_quiet done x old new goes = record {
-  history = goes.goes_on.history;
-  quiet = record {
-    cuts = goes.goes_on.no_cut (λ e. absurd cc);
-    faults = goes.goes_on.no_fault (λ e. absurd cc) (λ e. absurd cc);
-  };
-}
-
--- a load was stopped
-pub unloaded : {E : Type 0} (e : E) (old new : DiskState) (lost failed lacked : Type 0)
-    → GoesOn old new lost failed lacked → Unmoved (Err e) old new
-unloaded e old new lost failed lacked goes = record { history = goes.history; quiet = tt }
-
--- a hive was loaded, and more was done
-pub loaded_unmoved : {E T : Type 0} (result : Result Done E) (x : T) (old mid new : DiskState) → IsLoadOn old mid (Ok x)
-    → Unmoved result mid new → Unmoved result old new
-loaded_unmoved (Ok done) x old mid new goes unmoved = record {
-  history = unmoved.history ∙ goes.history;
-  quiet = record {
-    cuts = unmoved.quiet.cuts ∙ goes.no_cut (λ e. absurd cc);
-    faults = unmoved.quiet.faults ∙ goes.no_fault (λ e. absurd cc) (λ e. absurd cc);
-  };
-}
-loaded_unmoved (Err e) x old mid new goes unmoved = record { history = unmoved.history ∙ goes.history; quiet = tt }
 
 -- the edits were made in what the disk loaded as
 pub loaded_changes : {E : Type 0} (result : Result Done E) (h : Session) (dirty : Bool) (steps : List Step)
@@ -229,7 +140,7 @@ imports_on files steps (Ok done) image old mid new is crash wakes a =
     let here : ChangesHeld (image_in files) steps a.late done =
     subst (λ (i : Image). ChangesHeld i steps a.late done) held a.changed in
     let made : Makes (change_of here.0.state steps) a.late done = here.2 in
-    let P : DiskState → Type 0 = λ d. EachCrash d (λ (c : Image). LoadsAs c (change_of here.0.state steps).state) in
+    let P : DiskState → Type 0 = λ d. EachCrash d (λ (c : Image). Loads c (change_of here.0.state steps).state false) in
     let loads : P new = subst P (sym a.off) made.loads in
     let same : new.history ≡ (woken image (placed_disk files)).history =
     woken_history files steps (Ok done) image old mid new is wakes a in (
@@ -268,34 +179,6 @@ pub imports_any : {E : Type 0} (steps : List Step) (result : Result Done E) (old
 imports_any steps result old mid new wakes a files is =
     imports_on files steps result wakes.0 old mid new is wakes.1 wakes.2 a
 
-pub awake_off : {E : Type 0} (steps : List Step) (result : Result Done E) (old new : DiskState)
-    → ChangesAwake steps result old new → new.on ≡ false
-awake_off steps result old new a = ap (λ (d : DiskState). d.on) a.off
-
--- the disk could not be woken
-pub unwoken : (files : HiveFiles) (disk : DiskState) → disk ≡ placed_disk files → IsPartDone files 0 disk
-unwoken files disk is =
-    let placings : disk.history.placings ≡ 1 + named files.log = ap (λ (d : DiskState). d.history.placings) is in
-    let takings : disk.history.takings ≡ 0 = ap (λ (d : DiskState). d.history.takings) is in
-    record {
-      placed = omega (arith, placings);
-      taken = omega (arith, takings);
-      unordered = ap (λ (d : DiskState). d.history.armings) is;
-      uncut = ap (λ (d : DiskState). d.history.cut_calls) is;
-    }
-
--- the files could not be placed
-pub unplaced : (files : HiveFiles) (disk : DiskState) → IsUnrun disk → IsPartDone files 0 disk
-unplaced files disk u =
-    let placings : disk.history.placings ≤ 1 = u.few in
-    let takings : disk.history.takings ≡ 0 = ap (λ (d : DiskState). d.history.takings) u.alone in
-    record {
-      placed = omega (arith, placings);
-      taken = omega (arith, takings);
-      unordered = ap (λ (d : DiskState). d.history.armings) u.alone;
-      uncut = ap (λ (d : DiskState). d.history.cut_calls) u.alone;
-    }
-
 -- ---- the same of a disk that may tell what it holds
 
 -- the edits were made, and the session was settled
@@ -308,15 +191,6 @@ pub edit_settles : {E : Type 0} (tells : Bool) (result : Result Done E) (h k : S
 edit_settles tells (Ok done) h k steps old new still loads made base unchanged changed settles told =
     settled_changes h k steps done old new (still told) (loads told) made base unchanged changed (settles told)
 edit_settles tells (Err e) h k steps old new still loads made base unchanged changed settles told = tt
-
--- they were refused
-pub edit_refused : (tells : Bool) (h : Session) (steps : List Step) (stop : EditStop) (disk : DiskState)
-    → (tells ≡ true → disk.flight ≡ [])
-    → (tells ≡ true → Loads disk.held (loaded_state h) false)
-    → IsRefused (edited (version_of h.base.minor) h.tree steps) stop → (stop ≡ stops.Memory → ⊥)
-    → tells ≡ true → Changes (loaded_state h) steps disk (dones.Refused stop)
-edit_refused tells h steps stop disk still loads is some told =
-    refused_changes (loaded_state h) steps stop disk (still told) (loads told) is some
 
 -- they were made in what the disk loaded as
 pub change_loads : {E : Type 0} (tells : Bool) (result : Result Done E) (h : Session) (dirty : Bool) (steps : List Step)

@@ -1,23 +1,19 @@
 -- How many files `import` asked for.
-use Rattle.std.proofs.Common.{◌≡◌, ◌+◌, inl, inr, ℕ, true, Option, Some, None, refl, sym, ap, subst, arith}
+use Rattle.std.proofs.Common.{◌≡◌, ◌+◌, inl, inr, ℕ, Option, Some, None, refl, sym, ap, subst, arith}
 use Rattle.std.specs.Prelude.{Result, Ok, Err}
-use Rattle.nt_bytes.specs.declared.fault.HiveFault.{HiveFault}
-use Rattle.hive_model.specs.Load.{LoadFault}
 use Rattle.nt_edge.specs.Host.{HostState}
 use Rattle.nt_edge.specs.declared.host.HostStop.{HostStop}
 use Rattle.nt_edge.specs.declared.host.HostStop.TheVariants.{Read, Write, Memory}
 use Rattle.command_words.specs.Words.{ImportAsked}
 use Rattle.command_parts.specs.declared.inputs.HiveFiles.{HiveFiles}
 use Rattle.command_parts.specs.declared.refusal.Refusal.{Refusal}
-use Rattle.command_parts.specs.declared.refusal.Obstacle.TheVariants.{Refused, Stopped}
+use Rattle.command_parts.specs.declared.refusal.Obstacle.TheVariants.{Stopped}
 use Rattle.command_parts.specs.declared.status.Status.{Status}
 use Rattle.command_parts.specs.declared.status.Status.TheVariants as statuses
 use Rattle.command_parts.specs.Inputs.{hive_in, asks_hive, AsksHive}
 use Rattle.command_parts.specs.Leaves.{Looks, AsksBy, more, stop_in, stopped_as}
-use Rattle.command_parts.specs.Placed.{image_in}
-use Rattle.command_parts.specs.Refusals.{IsToldAs, refusal_status}
 use Rattle.command_parts.proofs.AskLemmas.{asks_on, asks_stop, more_behind, some_behind}
-use Rattle.command_parts.proofs.DecideLemmas.{not_read, refused_unread}
+use Rattle.command_parts.proofs.DecideLemmas.{not_read}
 use Rattle.text_commands.specs.Asks.{AsksBehind, AsksText, AsksImport}
 use Rattle.text_commands.specs.Imports.{IsLoadable}
 
@@ -29,35 +25,6 @@ pub text_asked : (files : HiveFiles) (status : Status) (old mid new : ℕ) → I
     → (status ≡ statuses.ReadFault → ⊥) → AsksBehind files 0 status old new
 text_asked files status old mid new loads asked unasked unread =
     inr (inl (loads.0, loads.1, asks_on 1 (stop_in status) old mid new (λ e. unread (not_read status e)) asked unasked))
-
--- the outside stopped the getting of the text
-stopped_asks : (stop : HostStop) (old new : ℕ) → (stop ≡ Write → ⊥) → new ≡ more 1 old
-    → AsksBy 1 (stop_in (stopped_as stop)) old new
-stopped_asks Read old new unwritten asked =
-    record { asked = 1; not_less = omega arith; not_more = omega arith; gets = asked }
-stopped_asks Write old new unwritten asked = absurd (unwritten refl)
-stopped_asks Memory old new unwritten asked =
-    record { asked = 1; not_less = omega arith; not_more = omega arith; gets = asked }
-
-pub stopped_text_asked : (files : HiveFiles) (stop : HostStop) (old new : ℕ) → IsLoadable files → (stop ≡ Write → ⊥)
-    → new ≡ more 1 old
-    → AsksBehind files 0 (stopped_as stop) old new
-stopped_text_asked files stop old new loads unwritten asked =
-    inr (inl (loads.0, loads.1, stopped_asks stop old new unwritten asked))
-
--- ---- before it
-
--- the hive's fault was said
-pub fault_asked : (files : HiveFiles) (fault : HiveFault) (status : Status) (old new : ℕ)
-    → LoadFault (image_in files) fault → new ≡ old
-    → (status ≡ statuses.ReadFault → ⊥) → AsksBehind files 0 status old new
-fault_asked files fault status old new is unasked unread =
-    inl (fault, is, asks_on 0 (stop_in status) old old new (λ e. unread (not_read status e)) refl unasked)
-
--- there was no memory to check the hive
-pub unchecked_asked : (files : HiveFiles) (gets : ℕ) → AsksBehind files 0 statuses.Memory gets gets
-unchecked_asked files gets =
-    inr (inr (inl refl, record { asked = 0; not_less = omega arith; not_more = omega arith; gets = refl }))
 
 -- ---- behind the search for the hive
 
@@ -91,18 +58,6 @@ found_asked words files status old mid new looks asks behind = λ tells.
     let n : ℕ = asks_hive old.files words.hive words.log in
     subst (λ (w : Result HiveFiles Refusal). AsksText w n status old.gets new.gets) (sym (looks.found tells))
     (behind_asked files n status old.gets mid.gets new.gets (asks tells) behind)
-
--- one is absent
-pub absent_asked : (words : ImportAsked) (why : Refusal) (status : Status) (old mid new : HostState)
-    → Looks (hive_in old.files words.hive words.log) (Err (Refused why)) old mid
-    → AsksHive {A = HiveFiles} words.hive words.log (Err (Refused why)) old mid → new.gets ≡ mid.gets
-    → IsToldAs (refusal_status why) status
-    → AsksImport words status old new
-absent_asked words why status old mid new looks asks unasked told = λ tells.
-    let n : ℕ = asks_hive old.files words.hive words.log in
-    subst (λ (w : Result HiveFiles Refusal). AsksText w n status old.gets new.gets) (sym (looks.found tells))
-    (asks_on n (stop_in status) old.gets mid.gets new.gets (λ e. refused_unread why status told (not_read status e))
-    (asks tells) unasked)
 
 stopped_search : (wanted : Result HiveFiles Refusal) (n : ℕ) (stop : HostStop) (old new : ℕ) → (stop ≡ Write → ⊥)
     → AsksBy n (stop_in (stopped_as stop)) old new → AsksText wanted n (stopped_as stop) old new

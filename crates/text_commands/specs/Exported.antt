@@ -3,15 +3,11 @@
 -- The registry text of the key that the path leads to is put into a file, and then one line is said. Where there is no such
 -- key, or no such text, no file is put.
 use Rattle.std.specs.Prelude.{◌≡◌, ◌⊎◌, ◌++◌, ◌+◌, ℕ, List, [], Option, Some, None, Result, Ok, Err, codes}
-use Rattle.std.specs.List.{flat_map, slice_split}
-use Rattle.std.specs.Char.Escape.{encode_utf16}
-use Rattle.std.specs.Str.{chars}
 use Rattle.std.specs.Fmt.{decimal}
 use Rattle.nt_bytes.specs.declared.fault.HiveFault.{HiveFault}
 use Rattle.nt_edge.specs.Host.{Files, HostState, Puts, KeepsOthers}
 use Rattle.hive_model.specs.Load.{Loads, LoadFault}
-use Rattle.hive_model.specs.Tree.{Tree, key, none, key_count, find_key, item_count}
-use Rattle.nt_bytes.specs.Text.{is_backslash}
+use Rattle.hive_model.specs.Tree.{Tree, key, key_count, find_key, item_count}
 use Rattle.start_model.specs.Possible.{Woken}
 use Rattle.reg_text.specs.declared.stop.RegFault.{RegFault}
 use Rattle.reg_text.specs.declared.stop.RegFaultKind.{RegFaultKind}
@@ -28,17 +24,7 @@ use Rattle.command_parts.specs.Leaves.{Leaves}
 use Rattle.command_parts.specs.Placed.{image_in}
 use Rattle.command_parts.specs.Refusals.{Answer, Ends, refusal}
 use Rattle.nt_bytes.specs.Counts.{capped}
-
--- ---- words
-
--- the units of a text
-abbrev pub units_of : List ℕ → List ℕ
-units_of text = flat_map encode_utf16 (chars text)
-
--- the path that a word names: its parts between backslashes; the root's, where there is no word
-abbrev pub path_in : Option (List ℕ) → List (List ℕ)
-path_in None = []
-path_in (Some text) = slice_split is_backslash (units_of text)
+use Rattle.key_text.specs.Words.{path_in}
 
 -- ---- answers
 
@@ -81,11 +67,12 @@ export_of path root = found_export path (find_key path root)
 
 -- ---- the end
 
--- what was to be put is in the file of this name at the end; every other file is as it was, and a front of the work may have
--- changed that one
+-- What was to be put is in the file of this name at the end. Where a file could not be read no file was changed, and at another
+-- stop that one alone may have been.
 abbrev pub PutsAs : List ℕ → Option (List ℕ) → Status → Files → Files → Type 0
 PutsAs name None status old new = new ≡ old
 PutsAs name (Some text) statuses.Done old new = Puts old new name text
+PutsAs name (Some text) statuses.ReadFault old new = new ≡ old
 PutsAs name (Some text) stopped old new = KeepsOthers old new name
 
 -- The first obstacle of the words' files is said; or the hive has a first fault, and that is said; or it loads as a state, and

@@ -1,7 +1,7 @@
 -- What do the steps of `export` do? (this project's own)
-use Rattle.std.specs.Prelude.{◌≡◌, true, List, ℕ, Option, Result, Ok, Err}
+use Rattle.std.specs.Prelude.{◌≡◌, ◌⊎◌, true, List, ℕ, Option, Result, Ok, Err, IfSome}
 use Rattle.nt_bytes.specs.declared.fault.HiveFault.{HiveFault}
-use Rattle.nt_edge.specs.Host.{HostState, AsksNone}
+use Rattle.nt_edge.specs.Host.{HostState, Puts, AsksNone}
 use Rattle.nt_edge.specs.declared.host.HostStop.TheVariants.{Memory as NoMemory}
 use Rattle.hive_model.specs.Image.{Image}
 use Rattle.hive_model.specs.Load.{Loads, LoadFault}
@@ -34,10 +34,11 @@ ExportsAs image path (Ok e) =
 ExportsAs image path (Err (Refused r)) = (fault : HiveFault) × (LoadFault image fault) × (r ≡ BadHive fault)
 ExportsAs image path (Err (Stopped stop)) = stop ≡ NoMemory
 
--- the export was put and said, or a front of that was done
+-- the export was put and printed, or a prefix of that was done: nothing was printed before the text was put
 pub record PutsExport (name : List ℕ) (e : Export) (status : Status) (old new : HostState) : Type 0 where
   pub leaves : Leaves (Ends e.answer) status old new
   pub files : old.tells ≡ true → PutsAs name e.put status old.files new.files
+  pub first : old.tells ≡ true → IfSome e.put (λ text. (new.said ≡ old.said) ⊎ Puts old.files new.files name text)
   pub unasked : AsksNone old new
   pub told : IsToldAs e.answer.status status
 

@@ -1,14 +1,14 @@
 -- What does `import` do, and what does it say? (this project's own)
 --
 -- The edits of a registry text are made in a hive, all or none, and committed where they gave another tree. One line is said.
-use Rattle.std.specs.Prelude.{◌≡◌, ◌⊎◌, ◌+◌, ◌++◌, ℕ, if◌then◌else◌, List, [], Result, Ok, Err, codes}
+use Rattle.std.specs.Prelude.{◌≡◌, ◌⊎◌, ◌+◌, ◌++◌, ℕ, false, if◌then◌else◌, List, [], Result, Ok, Err, codes}
 use Rattle.std.specs.Fmt.{decimal}
 use Rattle.nt_bytes.specs.declared.fault.HiveFault.{HiveFault}
 use Rattle.nt_edge.specs.Disk.{DiskState, new_state}
 use Rattle.nt_edge.specs.Host.{HostState}
 use Rattle.hive_model.specs.Edit.{Step, Refusal, no_key, no_value, bad_name, exists, name_too_long, too_deep, data_too_long, full, edited}
 use Rattle.hive_model.specs.Image.{Image}
-use Rattle.hive_model.specs.Load.{Loads, LoadsAs, LoadFault}
+use Rattle.hive_model.specs.Load.{Loads, LoadFault}
 use Rattle.hive_model.specs.State.{HiveState}
 use Rattle.hive_model.specs.Tree.{Tree, same_tree}
 use Rattle.hive_commit.specs.Stages.{next_number}
@@ -63,9 +63,10 @@ change_of s steps = change_by s (edited s.version s.tree steps)
 
 -- ---- the disk
 
--- The disk afterwards: each named file was placed and so many taken, no stop was ordered and none came, and it loads as the state.
+-- The disk afterwards: each named file was placed and so many taken, no stop was ordered and none came, and it
+-- loads as the state, clean.
 pub record IsImported (files : HiveFiles) (state : HiveState) (saved : ℕ) (disk : DiskState) : Type 0 where
-  pub loads : (c : Image) → LeftOf disk c → LoadsAs c state
+  pub loads : (c : Image) → LeftOf disk c → Loads c state false
   pub placed : disk.history.placings ≡ 1 + named files.log
   pub taken : disk.history.takings ≡ saved
   pub unordered : disk.history.armings ≡ []

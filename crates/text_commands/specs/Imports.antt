@@ -3,7 +3,7 @@ use Rattle.std.specs.Prelude.{◌≡◌, ◌⊎◌, ◌++◌, true, false, ℕ, 
 use Rattle.std.specs.Fmt.{decimal}
 use Rattle.hive_model.specs.Edit.{Step}
 use Rattle.hive_model.specs.Image.{Image}
-use Rattle.hive_model.specs.Load.{Loads, LoadsAs, LoadFault}
+use Rattle.hive_model.specs.Load.{Loads, LoadFault}
 use Rattle.nt_bytes.specs.declared.fault.ReadStop.{ReadStop}
 use Rattle.nt_bytes.specs.declared.fault.ReadStop.TheVariants as read
 use Rattle.hive_model.specs.State.{HiveState}
@@ -69,7 +69,7 @@ IsRefusedAs stop (Err e) = stop ≡ stops.Memory
 -- the change was made: its line is that of what was done, and whatever a loss of power leaves loads as its state
 pub record Makes (change : Change) (disk : DiskState) (done : Done) : Type 0 where
   pub text : done_text done ≡ change.text
-  pub loads : EachCrash disk (λ (c : Image). LoadsAs c change.state)
+  pub loads : EachCrash disk (λ (c : Image). Loads c change.state false)
 
 -- the edits were made in a hive of this state
 abbrev pub Changes : HiveState → List Step → DiskState → Done → Type 0

@@ -6,16 +6,17 @@ ghost use Rattle.command_words.specs.Views.{export_seen};
 ghost use Rattle.command_parts.specs.Inputs.{AsksSoMany};
 ghost use Rattle.command_parts.specs.Leaves.{stop_in};
 ghost use Rattle.command_parts.specs.Placed.{image_in};
-ghost use Rattle.text_commands.specs.Exported.{path_in, exported_text, export_of, found_export, text_export, asks_export, DecidesExport};
+ghost use Rattle.key_text.specs.Words.{path_in};
+ghost use Rattle.text_commands.specs.Exported.{exported_text, export_of, found_export, text_export, asks_export, DecidesExport};
 ghost use Rattle.text_commands.specs.Exports.{export_with, TreeExports, ExportsAs, PutsExport, DecidesHive};
 
 use crate::counts::{item_count, key_count};
 use crate::fault::fault_line;
-use crate::path::path_in;
 use command_parts::{
     HiveFiles, Obstacle, Refusal, Status, hive_in, no_memory, read, refuse, stopped, tell,
 };
 use command_words::ExportWords;
+use key_text::path_in;
 use nt_bytes::{Bytes, Names, ReadStop};
 use nt_edge::Host;
 use reg_text::{RegFault, RegStop, reg_text};

@@ -6,7 +6,6 @@ mod counts;
 mod exporting;
 mod fault;
 mod importing;
-mod path;
 
 pub use exporting::export;
 pub use importing::import;

@@ -1,33 +1,45 @@
-use Rattle.std.proofs.Common.{map, ap, ◌∙◌}
-use Rattle.std.specs.Prelude.{Some}
-use Rattle.command_words.specs.Views.{command_seen, export_seen}
-use Rattle.command_words.specs.Words.{command_of}
+use Rattle.std.proofs.Common.{map, ap, sym, subst, ◌∙◌}
+use Rattle.command_words.specs.Views.{command_seen, export_seen, replay_seen}
+use Rattle.command_words.specs.Words.{asks}
+use Rattle.command_words.specs.Reading.{reading_of}
 use Rattle.command_words.specs.declared.asked.Command.{Command}
+use Rattle.line_text.specs.declared.form.ReportForm.{ReportForm}
+use Rattle.replay_command.specs.Answer.{DecidesReplay}
 use Rattle.ntboot_cli.proofs.CountedLemmas.{counted}
-use Rattle.ntboot_cli.proofs.TopLemmas.{by_export, by_memory}
+use Rattle.ntboot_cli.proofs.TopLemmas.{by_export, by_replay}
 use Rattle.ntboot_cli.proofs.top.obey.Goals as goal
 
 pub make-requires-clause-some : goal.make-requires-clause-some
 make-requires-clause-some g c =
     let words = map (λ w. w.now) c.args.words.now in
-    let is = c.in-Ok-Make.ensures.reads ∙ ap (λ (x : Command). Some (command_seen x)) c.in-Ok-Make.field-0-is in
-    (counted words _ is).0
+    let arm = c.in-Command-Make-default in
+    let is = sym arm.ensures ∙ ap (λ (x : Command). asks (command_seen x) arm.field-1) arm.field-0-is in
+    (counted words _ _ is).0
 
 pub make-requires-clause-few : goal.make-requires-clause-few
 make-requires-clause-few g c =
     let words = map (λ w. w.now) c.args.words.now in
-    let is = c.in-Ok-Make.ensures.reads ∙ ap (λ (x : Command). Some (command_seen x)) c.in-Ok-Make.field-0-is in
-    (counted words _ is).1
+    let arm = c.in-Command-Make-default in
+    let is = sym arm.ensures ∙ ap (λ (x : Command). asks (command_seen x) arm.field-1) arm.field-0-is in
+    (counted words _ _ is).1
 
-pub returns-in-Ok-Export : goal.returns-in-Ok-Export
-returns-in-Ok-Export g c =
+pub returns-in-Command-Export-default : goal.returns-in-Command-Export-default
+returns-in-Command-Export-default g c =
     let words = map (λ w. w.now) c.args.words.now in
-    let is = c.in-Ok-Export.ensures.reads ∙ ap (λ (x : Command). Some (command_seen x)) c.in-Ok-Export.field-0-is in
-    by_export (command_of words) c.export.result (g.H.Host.state c.args.host.now) (g.H.Host.state c.export.new.host)
-    (g.B.Disk.state c.args.bench.now) (export_seen c.in-Ok-Export.words) is c.requires.fresh
+    let arm = c.in-Command-Export-default in
+    let is = sym arm.ensures ∙ ap (λ (x : Command). asks (command_seen x) arm.field-1) arm.field-0-is in
+    by_export (reading_of words) arm.field-1 c.export.result (g.H.Host.state c.args.host.now)
+    (g.H.Host.state c.export.new.host) (g.B.Disk.state c.args.bench.now) (export_seen arm.words) is c.requires.fresh
     c.export.ensures.decides c.export.ensures.asked c.export.ensures.kept
 
-pub returns-in-Err-Memory : goal.returns-in-Err-Memory
-returns-in-Err-Memory g c =
-    by_memory (command_of (map (λ w. w.now) c.args.words.now)) (g.H.Host.state c.args.host.now)
-    (g.B.Disk.state c.args.bench.now) c.requires.fresh
+pub returns-in-Command-Replay-default : goal.returns-in-Command-Replay-default
+returns-in-Command-Replay-default g c =
+    let words = map (λ w. w.now) c.args.words.now in
+    let arm = c.in-Command-Replay-default in
+    let is = sym arm.ensures ∙ ap (λ (x : Command). asks (command_seen x) arm.json) arm.field-0-is in
+    let old = g.H.Host.state c.args.host.now in
+    let new = g.H.Host.state c.replay.new.host in
+    let decides = subst (λ (f : ReportForm). DecidesReplay f (replay_seen arm.words) c.replay.result old new)
+    c.form-in-Command-Replay-default.ensures c.replay.ensures.decides in
+    by_replay (reading_of words) arm.json c.replay.result old new (g.B.Disk.state c.args.bench.now)
+    (replay_seen arm.words) is c.requires.fresh decides c.replay.ensures.asked c.replay.ensures.kept

@@ -1,7 +1,6 @@
-use Rattle.std.proofs.Common.{map, refl}
+use Rattle.std.proofs.Common.{map}
 use Rattle.reg_tree.specs.Makes.{step_of}
-use Rattle.hive_store.specs.Loading.{loaded_state}
-use Rattle.text_commands.proofs.ChangeLemmas.{edit_settles, refused_changes}
+use Rattle.text_commands.proofs.ChangeLemmas.{edit_settles}
 use Rattle.text_commands.proofs.changing.edit.Goals as goal
 
 pub returns-in-Ok-clause-changed : goal.returns-in-Ok-clause-changed
